@@ -14,6 +14,11 @@ abbrev pub limit_of : Option Rate → Limit
 limit_of None = NotConfigured
 limit_of (Some rate) = AtMost rate
 
+abbrev pub is_configured : Limit → Bool
+is_configured NotConfigured = false
+is_configured Unlimited = true
+is_configured (AtMost rate) = true
+
 -- The lengths of a group's Datagrams in a second.
 abbrev pub lengths_in : ℕ → ℕ → List Record → List ℕ
 lengths_in g s records = map (λ r. length (payload_of r.content)) (filter (λ r. second r.tick == s) (datagrams_of g records))
@@ -35,9 +40,10 @@ is_full_after (Some d) rate records g arrived bytes =
     not (is_admitted (AtMost rate) records g (second d.tick) bytes) && nat_le arrived (second d.tick)
 
 -- The records of a run that began at tick `base` show that the rate refused the item: it is longer than a second's bytes,
--- or the second of the group's last Datagram has no room for it and it did not come later.
+-- or the second of the group's last Datagram has no room for it and it did not come later. Of a group that is not
+-- configured every item is refused.
 abbrev pub is_licensed : Limit → ℕ → List Record → ℕ → Item → Bool
-is_licensed NotConfigured base records g item = false
+is_licensed NotConfigured base records g item = true
 is_licensed Unlimited base records g item = false
 is_licensed (AtMost rate) base records g item =
     nat_lt rate.bytes (length item.bytes)

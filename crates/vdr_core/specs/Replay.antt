@@ -1,0 +1,48 @@
+-- A feed as the recorder takes it: one item after the other, with no queue between.
+use Rattle.std.specs.Prelude.{ℕ, ◌≡◌, ◌≤◌, Bool, List, [], ◌∷◌, ◌++◌, length, fold, if◌then◌else◌}
+use Rattle.vdr_terms.specs.declared.counts.Counts.{Counts}
+use Rattle.vdr_terms.specs.Records.{Item, FeedItem}
+use Rattle.vdr_terms.specs.Datagrams.{verdict, is_yes}
+use Rattle.vdr_history.specs.Accounts.{Accounts}
+use Rattle.vdr_history.specs.Runs.{RunStart, base_of}
+use Rattle.vdr_history.specs.Feed.{items_of, counts_of, feed_records}
+use Rattle.vdr_history.specs.Recorder.{closed_run}
+use Rattle.vdr_history.specs.Taken.{Captured}
+
+-- The items at the end that come after the last recordable one.
+abbrev pub since_yes : List Item → List Item
+since_yes items = fold (λ since i. if is_yes (verdict i.bytes) then [] else since ++ i ∷ []) [] items
+
+-- The item after this part of the feed, with what its group missed since its last recordable item.
+abbrev pub captured_after : List FeedItem → FeedItem → Captured
+captured_after feed x = record {
+  group = x.group;
+  number = length (items_of x.group feed);
+  received = x.item.received;
+  utc = x.item.utc;
+  missed = counts_of (since_yes (items_of x.group feed));
+  bytes = x.item.bytes;
+}
+
+abbrev pub captured_if : Bool → List FeedItem → FeedItem → List Captured
+captured_if is_recordable feed x = if is_recordable then captured_after feed x ∷ [] else []
+
+-- What is taken of these items after this part of the feed.
+abbrev pub taken_of : List FeedItem → List FeedItem → List Captured
+taken_of feed [] = []
+taken_of feed (x ∷ xs) = captured_if (is_yes (verdict x.item.bytes)) feed x ++ taken_of (feed ++ x ∷ []) xs
+
+-- What each group missed at the end.
+abbrev pub rest_after : List FeedItem → ℕ → Counts
+rest_after feed g = counts_of (since_yes (items_of g feed))
+
+-- The feed's history is the run in which its recordable items are taken.
+abbrev pub IsReplay : RunStart → Type 0
+IsReplay start = (feed : List FeedItem) → feed_records start feed ≡ closed_run start (taken_of [] feed) (rest_after feed)
+
+abbrev pub IsOfGroups : List FeedItem → Type 0
+IsOfGroups feed = (g : ℕ) → 16 ≤ g → items_of g feed ≡ []
+
+-- The feed's history accounts for what the feed has of each group.
+abbrev pub FeedAccounts : RunStart → Type 0
+FeedAccounts start = (feed : List FeedItem) → IsOfGroups feed → (g : ℕ) → Accounts (start.limits g) (base_of start) (feed_records start feed) g (items_of g feed)

@@ -1,0 +1,6 @@
+pub mod Runs
+pub mod Taken
+pub mod Histories
+pub mod Recorder
+pub mod Accounts
+pub mod Feed
