@@ -19,7 +19,7 @@ use Rattle.vdr_core.proofs.Ends.{closed, cut}
 
 -- a lane whose port is done, and whose queue has these items
 abbrev pub full_lane : (g : ℕ) (items : List Captured) (rest : Counts) (given : List Item) → Feeds g items rest given → Lane
-full_lane g items rest given f = record { given = given; worker = None; tally = record { taken = length f.inside + length f.since; missed = rest }; queue = items }
+full_lane g items rest given f = record { given = given; worker = None; tally = record { taken = length f.inside + length f.since; missed = rest; totals = rest }; queue = items }
 
 pub full_keeps : (limit : Limit) (base tick g : ℕ) (items : List Captured) (rest : Counts) (given : List Item) (f : Feeds g items rest given)
     → Inv limit base tick g [] no_pending (full_lane g items rest given f)
