@@ -24,7 +24,7 @@ use Rattle.vdr_core.proofs.Lanes.{added_data, gap_no_data}
 abbrev pub yes_of : Item → Bool
 yes_of i = is_yes (verdict i.bytes)
 
-counts_path : (c d : Counts) → c.full ≡ d.full → c.rate ≡ d.rate → c.bad ≡ d.bad → c.large ≡ d.large → c ≡ d
+pub counts_path : (c d : Counts) → c.full ≡ d.full → c.rate ≡ d.rate → c.bad ≡ d.bad → c.large ≡ d.large → c ≡ d
 counts_path c d f r b l = λ i. record { full = f i; rate = r i; bad = b i; large = l i }
 
 -- each item counts once
@@ -360,3 +360,16 @@ along start feed (x ∷ xs) r h =
 
 pub is_replay : (start : RunStart) → IsReplay start
 is_replay start feed = along start [] feed (begun start) (same_begun start)
+
+-- what the recorder has of each group is what the feed says, however far the feed was read
+same_along : (start : RunStart) (feed xs : List FeedItem) (r : Recorder) → Same start feed r → Same start (feed ++ xs) (taken_all start r (taken_of feed xs))
+same_along start feed [] r h = subst (λ (ys : List FeedItem). Same start ys r) (sym (append-nil feed)) h
+same_along start feed (x ∷ xs) r h =
+    let s = step start feed x r h in
+    let now : Recorder = taken_all start r (captured_if (yes_of x.item) feed x) in
+    let later : Same start ((feed ++ x ∷ []) ++ xs) (taken_all start now (taken_of (feed ++ x ∷ []) xs)) = same_along start (feed ++ x ∷ []) xs now s.0 in
+    subst (λ (ys : List FeedItem). Same start ys (taken_all start r (taken_of feed (x ∷ xs)))) (append_assoc feed (x ∷ []) xs)
+    (subst (λ (q : Recorder). Same start ((feed ++ x ∷ []) ++ xs) q) (sym (fold-append (took start) r (captured_if (yes_of x.item) feed x) (taken_of (feed ++ x ∷ []) xs))) later)
+
+pub same_fed : (start : RunStart) (feed : List FeedItem) → Same start feed (taken_all start (begun start) (taken_of [] feed))
+same_fed start feed = same_along start [] feed (begun start) (same_begun start)
