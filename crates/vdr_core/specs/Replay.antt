@@ -1,5 +1,5 @@
 -- A feed as the recorder takes it: one item after the other, with no queue between.
-use Rattle.std.specs.Prelude.{ℕ, suc, ◌+◌, ◌≡◌, ◌≢◌, ◌≤◌, Bool, List, [], ◌∷◌, ◌++◌, length, fold, if◌then◌else◌}
+use Rattle.std.specs.Prelude.{ℕ, suc, ◌+◌, ◌*◌, ◌≡◌, ◌≢◌, ◌≤◌, Bool, List, [], ◌∷◌, ◌++◌, length, fold, if◌then◌else◌}
 use Rattle.vdr_terms.specs.declared.counts.Counts.{Counts}
 use Rattle.vdr_terms.specs.Records.{Item, FeedItem, none_missed, total}
 use Rattle.vdr_terms.specs.declared.datagram.Verdict.{Verdict}
@@ -70,3 +70,7 @@ pub record GoesOn (start : RunStart) (feed : List FeedItem) (x : FeedItem) : Typ
 -- The items of a group are, in number, those before its pending ones, the pending ones, and those that its port missed since.
 abbrev pub NumbersAddUp : RunStart → List FeedItem → ℕ → Type 0
 NumbersAddUp start feed g = next_number ((fed start feed).pending g) + total (rest_after feed g) ≡ length (items_of g feed)
+
+-- An item makes two records at most, its Datagram and the Gap before it, and the run has its Start besides.
+abbrev pub RecordsAreFew : RunStart → List FeedItem → Type 0
+RecordsAreFew start feed = length (fed start feed).made ≤ 2 * length feed + 1

@@ -4,7 +4,7 @@
 ghost use Rattle.std.specs.Prelude.{◌≡◌, List, ℕ};
 ghost use Rattle.vdr_terms.specs.Records.{FeedItem};
 ghost use Rattle.vdr_history.specs.Runs.{RunStart};
-ghost use Rattle.vdr_core.specs.Replay.{FeedAccounts, GoesOn, IsReplay, NumbersAddUp};
+ghost use Rattle.vdr_core.specs.Replay.{FeedAccounts, GoesOn, IsReplay, NumbersAddUp, RecordsAreFew};
 ghost use Rattle.vdr_core.specs.Machine.{Plan, Step, after, empty};
 ghost use Rattle.vdr_core.specs.Law.{
   Admits,
@@ -38,8 +38,9 @@ pub fn law_of_feed()
     ensures accounts { (start : RunStart) → Admits start.limits → FeedAccounts start }
 {}
 
-/// What one more item of a feed changes, and how a group's numbers add up: for those who read a feed item by item.
+/// What one more item of a feed changes, and how a group's numbers add up, and how many records there are at most: for those who read a feed item by item.
 pub fn law_of_item()
     ensures goes_on { (start : RunStart) (feed : List FeedItem) (x : FeedItem) → GoesOn start feed x }
     ensures numbers { (start : RunStart) (feed : List FeedItem) (g : ℕ) → NumbersAddUp start feed g }
+    ensures few { (start : RunStart) (feed : List FeedItem) → RecordsAreFew start feed }
 {}
