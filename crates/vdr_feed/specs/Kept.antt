@@ -1,0 +1,11 @@
+-- The item of a feed that a reader's item stands for.
+use Rattle.std.specs.Prelude.{◌≡◌, List, take}
+use Rattle.vdr_terms.specs.Records.{FeedItem}
+use Rattle.vdr_feed.specs.declared.item.Item.{Item}
+
+-- It holds the feed's item, of whose body the first 1,473 bytes are kept: enough to tell that it is too large.
+pub record Holds (held : Item) (i : FeedItem) : Type 0 where
+  pub group : held.group ≡ i.group
+  pub received : held.received ≡ i.item.received
+  pub utc : held.utc ≡ i.item.utc
+  pub bytes : held.bytes.items ≡ take 1473 i.item.bytes

@@ -1,0 +1,6 @@
+-- The feed file, and what a reader of it tells.
+pub mod Body
+pub mod Feed
+pub mod Kept
+pub mod Law
+pub mod Reader

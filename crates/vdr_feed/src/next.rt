@@ -1,0 +1,74 @@
+// Reading one item.
+ghost use Rattle.std.specs.Prelude.{◌≡◌, ◌≤◌, ◌<◌, None, Some, IfOk, IsErrOf};
+ghost use Rattle.vdr_outside.specs.Causes.{Rose};
+ghost use Rattle.vdr_feed.specs.Feed.{fault_of};
+ghost use Rattle.vdr_feed.specs.Reader.{ReadsItem, IfKnown, IfStopped};
+ghost use Rattle.vdr_feed.specs.declared.fault.Stop.TheVariants.{Failed as StopFailed};
+
+use crate::Item;
+use crate::body::read_body;
+use crate::fault::Stop;
+use crate::fill::fill;
+use crate::head::{fault_of_head, length_of, received_of, utc_of};
+use vdr_outside::Source;
+
+// Reads what stands where no further item may: nothing.
+fn read_past_limit<I: Source>(
+    limit: u64,
+    count: u64,
+    floor: u64,
+    input: &mut I,
+    into: &mut Item,
+) -> Result<Option<u16>, Stop>
+    requires { limit ≤ count }
+    ensures kept { IfOk result (λ len. len ≡ None → into.new ≡ into.old) }
+    ensures read { IfOk result (λ len. ReadsItem (I.left input.old) (I.left input.new) limit count floor into.new len) }
+    ensures refused { IfStopped result (λ number. IfKnown (I.left input.old) (λ bytes. fault_of limit count floor bytes ≡ Some number)) }
+    ensures later { I.faults input.old ≤ I.faults input.new }
+    ensures failed { IsErrOf result StopFailed → Rose (I.faults input.old) (I.faults input.new) }
+{
+    let mut first = [0; 1];
+    let got = fill(input, &mut first)?;
+    if got == 0 {
+        return Ok(None);
+    }
+    Err(Stop::Refused(6))
+}
+
+// Reads the next item and answers the length of its body, or None at the end. It stands after `count` others, the last of which was received at `floor`.
+pub(crate) fn read_item<I: Source>(
+    limit: u64,
+    count: u64,
+    floor: u64,
+    input: &mut I,
+    into: &mut Item,
+) -> Result<Option<u16>, Stop>
+    ensures kept { IfOk result (λ len. len ≡ None → into.new ≡ into.old) }
+    ensures read { IfOk result (λ len. ReadsItem (I.left input.old) (I.left input.new) limit count floor into.new len) }
+    ensures refused { IfStopped result (λ number. IfKnown (I.left input.old) (λ bytes. fault_of limit count floor bytes ≡ Some number)) }
+    ensures later { I.faults input.old ≤ I.faults input.new }
+    ensures failed { IsErrOf result StopFailed → Rose (I.faults input.old) (I.faults input.new) }
+{
+    if count >= limit {
+        return read_past_limit(limit, count, floor, input, into);
+    }
+    let mut head = [0; 19];
+    let got = fill(input, &mut head)?;
+    if got == 0 {
+        return Ok(None);
+    }
+    if got < 19 {
+        return Err(Stop::Refused(2));
+    }
+    if let Some(number) = fault_of_head(&head, floor) {
+        return Err(Stop::Refused(number));
+    }
+    let len = length_of(&head);
+    if !read_body(input, len as usize, &mut into.bytes)? {
+        return Err(Stop::Refused(2));
+    }
+    into.group = head[0];
+    into.received = received_of(&head);
+    into.utc = utc_of(&head) as i64;
+    Ok(Some(len))
+}

@@ -1,0 +1,132 @@
+ghost use Rattle.std.specs.Prelude.{◌≡◌, ◌≢◌, ◌≤◌, ◌<◌, ◌^◌, true, false, None, Some, Err, ℕ, List, length, take, IfOk, IfErr, OnOk, IsErrOf};
+ghost use Rattle.std.specs.Io.KnownBytes.{Consumes};
+ghost use Rattle.vdr_outside.specs.Causes.{Rose};
+ghost use Rattle.vdr_feed.specs.Feed.{feed_header, fault_of};
+ghost use Rattle.vdr_feed.specs.declared.fault.FeedFault.{FeedFault as Stopped};
+ghost use Rattle.vdr_feed.specs.declared.fault.FeedFault.TheVariants.{Fault};
+
+use crate::fault::Stop;
+use crate::head::read_header;
+use crate::next::read_item;
+use crate::{FeedFault, Item};
+use std::marker::Model;
+use vdr_outside::Source;
+
+/// Reads a feed from a source, an item at a time.
+#[derive(Drop)]
+pub struct FeedReader {
+    limit: u64,
+    count: u64,
+    floor: u64,
+    offset: u64,
+    begun: bool,
+    stopped: Option<FeedFault>,
+}
+
+impl Model for FeedReader {
+    ghost use Rattle.std.specs.Prelude.{◌≤◌, ◌<◌, ◌+◌, ◌*◌, ◌^◌};
+    ghost use Rattle.vdr_feed.specs.Reader.{Reading};
+
+    ghost Value = { Reading };
+
+    ghost view = { λ r. record { limit = r.limit; count = r.count; floor = r.floor; offset = r.offset; begun = r.begun; stopped = r.stopped } };
+
+    ghost invariant = { λ r. (r.limit < 2 ^ 32) × (r.count ≤ r.limit) × (r.offset ≤ 8 + 65_554 * r.count) };
+}
+
+impl FeedReader {
+    ghost use Rattle.vdr_feed.specs.Reader.{new_reading, begun_reading, stopped_by, GivesItem, IfKnown, IfRefused};
+
+    /// A reader that gives at most so many items.
+    pub fn new(limit: u64) -> FeedReader
+        requires { limit < 2 ^ 32 }
+        ensures { result ≡ new_reading limit }
+    {
+        FeedReader {
+            limit,
+            count: 0,
+            floor: 0,
+            offset: 0,
+            begun: false,
+            stopped: None,
+        }
+    }
+
+    /// Reads the header of the feed, eight bytes at most. Refused with the number 1 at offset 0 where the first eight bytes
+    /// are not `VDRFEED1`. Nothing was called on the reader before.
+    pub fn header<I: Source>(&mut self, input: &mut I) -> Result<(), FeedFault>
+        requires { self.old ≡ new_reading self.old.limit }
+        ensures bytes { OnOk result (Consumes (I.left input.old) (I.left input.new) feed_header) }
+        ensures ready { OnOk result (self.new ≡ begun_reading self.old.limit) }
+        ensures refused { IfRefused result (λ number offset. (number ≡ 1) × (offset ≡ 0)
+            × IfKnown (I.left input.old) (λ bytes. take 8 bytes ≢ feed_header)) }
+        ensures front { IfRefused result (λ _ _. (front : List ℕ) × (length front ≤ 8) × Consumes (I.left input.old) (I.left input.new) front) }
+        ensures stays { IfErr result (λ e. self.new ≡ stopped_by self.old e) }
+        ensures failed { IsErrOf result Fault → Rose (I.faults input.old) (I.faults input.new) }
+        ensures later { I.faults input.old ≤ I.faults input.new }
+    {
+        self.begun = true;
+        match read_header(input) {
+            Ok(true) => {
+                self.offset = 8;
+                Ok(())
+            }
+            Ok(false) => {
+                let refused = FeedFault::Refused {
+                    number: 1,
+                    offset: 0,
+                };
+                self.stopped = Some(refused);
+                Err(refused)
+            }
+            Err(_) => {
+                self.stopped = Some(FeedFault::Fault);
+                Err(FeedFault::Fault)
+            }
+        }
+    }
+
+    /// Reads the next item, and answers false, with `into` as it was, at the end of the input. Of a body of more than 1,473
+    /// bytes the first 1,473 are kept and all are read. Refused at the offset of the item's first byte: 6 where there are
+    /// more items than the limit, 2 where the input ends inside the item, 3 where `received` is not below 2^48 or the stamp
+    /// is outside 0 to 253,402,300,799,999, 4 where the group is above 15, 5 where `received` is below that of the item
+    /// before; in the order 6, 2 (of the 19 bytes before the body), 3, 4, 5, 2 (of the body).
+    /// The header was asked for. After a fault or a refusal it answers the same again and reads nothing.
+    pub fn item<I: Source>(&mut self, input: &mut I, into: &mut Item) -> Result<bool, FeedFault>
+        requires { self.old.begun ≡ true }
+        ensures gave { IfOk result (λ more. (self.old.stopped ≡ None)
+            × GivesItem (I.left input.old) (I.left input.new) self.old self.new into.new more) }
+        ensures kept { IfOk result (λ more. more ≡ false → into.new ≡ into.old) }
+        ensures refused { self.old.stopped ≡ None → IfRefused result (λ number offset. (offset ≡ self.old.offset)
+            × IfKnown (I.left input.old) (λ bytes. fault_of self.old.limit self.old.count self.old.floor bytes ≡ Some number)) }
+        ensures stays { IfErr result (λ e. self.new ≡ stopped_by self.old e) }
+        ensures again { (e : Stopped) → self.old.stopped ≡ Some e → (result ≡ Err e) × (input.new ≡ input.old) }
+        ensures failed { self.old.stopped ≡ None → IsErrOf result Fault → Rose (I.faults input.old) (I.faults input.new) }
+        ensures later { I.faults input.old ≤ I.faults input.new }
+    {
+        if let Some(stopped) = self.stopped {
+            return Err(stopped);
+        }
+        match read_item(self.limit, self.count, self.floor, input, into) {
+            Ok(Some(len)) => {
+                self.count += 1;
+                self.floor = into.received;
+                self.offset += 19 + len as u64;
+                Ok(true)
+            }
+            Ok(None) => Ok(false),
+            Err(Stop::Refused(number)) => {
+                let refused = FeedFault::Refused {
+                    number,
+                    offset: self.offset,
+                };
+                self.stopped = Some(refused);
+                Err(refused)
+            }
+            Err(Stop::Failed) => {
+                self.stopped = Some(FeedFault::Fault);
+                Err(FeedFault::Fault)
+            }
+        }
+    }
+}
