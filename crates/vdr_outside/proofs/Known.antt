@@ -1,7 +1,8 @@
 -- Known bytes over several calls.
-use Rattle.std.proofs.Common.{◌≡◌, ◌≤◌, ◌+◌, ◌-◌, ◌++◌, ℕ, List, [], take, drop, length, Option, None, Some, Result, Ok, Err, OnOk, refl, sym, ◌∙◌, ap, subst, arith, append_assoc}
+use Rattle.std.proofs.Common.{◌≡◌, ◌≤◌, ◌<◌, ◌∷◌, get_or, add-one, drop-cons, ◌+◌, ◌-◌, ◌++◌, ℕ, List, [], take, drop, length, Option, None, Some, Result, Ok, Err, OnOk, refl, sym, ◌∙◌, ap, subst, arith, append_assoc}
 use Rattle.std.proofs.Math.Seq.{take-add}
-use Rattle.std.proofs.lemmas.Grind.{common_steps}
+use Rattle.std.proofs.lemmas.Grind.{common_steps, flat_map-append}
+use Rattle.std.specs.List.{flat_map}
 use Rattle.std.proofs.lemmas.List.{take-append-drop, take-append-le, take_rest, drop-drop, length-take, nil_from_length, append_cancel_left}
 use Rattle.std.proofs.KnownBytes.{Appends-trans, append_known-moved}
 use Rattle.std.specs.Io.KnownBytes.{Appends, Keeps, WriteAppends, append_known}
@@ -13,6 +14,21 @@ appends-step a b c bytes i n p q = rw take-add (Appends-trans a b c _ _ p (rw ta
 
 pub appends-front : (a b : Option (List ℕ)) (bytes : List ℕ) (n : ℕ) → Appends a b (take n bytes) → AppendsFront a b bytes
 appends-front a b bytes n p = (take n bytes, drop n bytes, sym (take-append-drop n bytes), p)
+
+-- A front of a piece is a front of the whole, once the pieces before it were written.
+pub front-more : (a b c : Option (List ℕ)) (before piece rest whole : List ℕ) → whole ≡ before ++ (piece ++ rest) → Appends a b before → AppendsFront b c piece → AppendsFront a c whole
+front-more a b c before piece rest whole is p f = (
+  before ++ f.0,
+  f.1 ++ rest,
+  is ∙ ap (λ (l : List ℕ). before ++ l) (ap (λ (l : List ℕ). l ++ rest) f.2 ∙ append_assoc f.0 f.1 rest) ∙ sym (append_assoc before f.0 (f.1 ++ rest)),
+  Appends-trans a b c before f.0 p f.3,
+)
+
+-- A text in pieces, split at one of them.
+pub pieces-at : {X A : Type 0} (f : X → List A) (xs : List X) (i : ℕ) (d : X) → i < length xs → flat_map f xs ≡ flat_map f (take i xs) ++ (f (get_or xs i d) ++ flat_map f (drop (i + 1) xs))
+pieces-at f xs i d within =
+    ap (flat_map f) (sym (take-append-drop i xs) ∙ ap (λ l. take i xs ++ l) (rw (add-one, drop-cons xs i d) refl))
+    ∙ flat_map-append f (take i xs) (get_or xs i d ∷ drop (i + 1) xs)
 
 -- What begins with the start still does after more was appended.
 pub begins-appends : (start a b : Option (List ℕ)) (bytes : List ℕ) → BeginsWith start a → Appends a b bytes → BeginsWith start b

@@ -1,0 +1,6 @@
+pub mod Calendar
+pub mod SpellingLemmas
+pub mod PayloadLemmas
+pub mod ReadingLemmas
+pub mod FieldLemmas
+pub mod Rows

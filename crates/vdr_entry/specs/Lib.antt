@@ -1,0 +1,8 @@
+-- Records as values, as bytes on the media, and as printed text.
+pub mod Fields
+pub mod Contents
+pub mod Spelling
+pub mod Reading
+pub mod Utc
+pub mod Escape
+pub mod Lines

@@ -1,0 +1,14 @@
+use vdr_terms::Counts;
+
+/// What a record says.
+#[derive(Clone, Copy, Debug, Drop)]
+pub enum Content<'a> {
+    /// A run of the recorder begins.
+    Start,
+    /// The bytes of a datagram, as they were received.
+    Datagram(&'a [u8]),
+    /// How many items of a group were missed.
+    Gap(Counts),
+    /// A run of the recorder ended as it should.
+    Stop,
+}

@@ -1,0 +1,22 @@
+//! Records: as values, as their bytes on the media, and what they are printed from.
+#![tactic(auto)]
+
+mod content;
+mod kind;
+mod payload;
+mod read;
+mod record;
+mod summary;
+#[cfg(test)]
+mod tests;
+mod utc;
+mod write;
+
+pub use content::Content;
+pub use kind::Kind;
+pub use read::{one_spelling, read_record, record_at};
+pub use record::Record;
+pub use summary::Summary;
+pub use utc::write_utc;
+pub use vdr_terms::Counts;
+pub use write::{put_record, write_record};
