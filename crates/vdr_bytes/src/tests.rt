@@ -15,8 +15,12 @@ fn numbers_are_read_and_written(rt: HostRuntime) {
     put_u16(&mut bytes, 8, 44);
     put_u32(&mut bytes, 10, 8192);
     assert_eq!(rt; bytes, WORKED);
-    put_u64s(&mut bytes[..9], 1, &[0x0807_0605_0403_0201]);
-    assert_eq!(rt; bytes[..10], [0, 1, 2, 3, 4, 5, 6, 7, 8, 0][..]);
     put(&mut bytes, 12, b"ab");
-    assert_eq!(rt; bytes[11..], [0x20, b'a', b'b'][..]);
+    assert_eq!(rt; u32_at(&bytes, 10), 0x6261_2000);
+    let mut numbers = [0; 17];
+    put_u64s(&mut numbers, 1, &[0x0807_0605_0403_0201, 9]);
+    assert_eq!(rt;
+        numbers,
+        [0, 1, 2, 3, 4, 5, 6, 7, 8, 9, 0, 0, 0, 0, 0, 0, 0]
+    );
 }

@@ -11,6 +11,10 @@ use Rattle.vdr_entry.specs.Utc.{utc_text}
 abbrev pub spaced : List (List ℕ) → List ℕ
 spaced = flat_map (λ word. 32 ∷ word)
 
+-- A record of no group.
+abbrev pub mark_words : (mark : List ℕ) → Record → List (List ℕ)
+mark_words mark r = codes "-" ∷ codes "-" ∷ utc_text r.utc ∷ mark ∷ []
+
 -- What stands behind the place:
 --   GROUP NUMBER UTC data LENGTH PAYLOAD
 --   GROUP FIRST UTC gap FULL RATE BAD LARGE
@@ -22,8 +26,8 @@ words_of (Datagram payload) r =
 words_of (Gap missed) r =
     group_name r.group ∷ decimal r.number ∷ utc_text r.utc ∷ codes "gap"
     ∷ decimal missed.full ∷ decimal missed.rate ∷ decimal missed.bad ∷ decimal missed.large ∷ []
-words_of Start r = codes "-" ∷ codes "-" ∷ utc_text r.utc ∷ codes "start" ∷ []
-words_of Stop r = codes "-" ∷ codes "-" ∷ utc_text r.utc ∷ codes "stop" ∷ []
+words_of Start r = mark_words (codes "start") r
+words_of Stop r = mark_words (codes "stop") r
 
 -- The place, these words, and LF.
 unfoldable pub record_line : Record → List ℕ

@@ -1,6 +1,7 @@
 ghost use Rattle.std.specs.Prelude.{◌≡◌, ◌≤◌, ◌<◌, ◌^◌};
 ghost use Rattle.vdr_terms.specs.declared.datagram.Verdict.TheVariants.{Yes};
 ghost use Rattle.vdr_terms.specs.Datagrams.{verdict};
+ghost use Rattle.vdr_terms.specs.Legality.{IsRecord};
 ghost use Rattle.vdr_terms.specs.Records.{total};
 ghost use Rattle.vdr_terms.specs.Records.Content.{Start, Datagram, Gap, Stop};
 ghost use Rattle.vdr_terms.specs.Sizes.{record_size};
@@ -150,7 +151,8 @@ impl Record {
 
     /// What it says: of a Datagram its bytes, and of a Gap its counts.
     pub fn content(&self) -> Content<'_>
-        ensures { said_by result ≡ self.now.content }
+        ensures said { said_by result ≡ self.now.content }
+        ensures legal { IsRecord self.now }
     {
         match self.kind {
             Kind::Start => Content::Start,

@@ -14,3 +14,6 @@ pub use fault::FeedFault;
 pub use item::Item;
 pub use law::law_of_feeds;
 pub use reader::FeedReader;
+
+#[cfg(test)]
+mod tests;

@@ -100,7 +100,7 @@ impl FeedReader {
         ensures refused { self.old.stopped ≡ None → IfRefused result (λ number offset. (offset ≡ self.old.offset)
             × IfKnown (I.left input.old) (λ bytes. fault_of self.old.limit self.old.count self.old.floor bytes ≡ Some number)) }
         ensures stays { IfErr result (λ e. self.new ≡ stopped_by self.old e) }
-        ensures again { (e : Stopped) → self.old.stopped ≡ Some e → (result ≡ Err e) × (input.new ≡ input.old) }
+        ensures again { (e : Stopped) → self.old.stopped ≡ Some e → (result ≡ Err e) × (input.new ≡ input.old) × (into.new ≡ into.old) }
         ensures failed { self.old.stopped ≡ None → IsErrOf result Fault → Rose (I.faults input.old) (I.faults input.new) }
         ensures later { I.faults input.old ≤ I.faults input.new }
     {

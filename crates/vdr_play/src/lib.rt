@@ -1,0 +1,9 @@
+//! Playback: the recording as text.
+#![tactic(auto)]
+
+mod escape;
+mod line;
+mod words;
+
+pub use escape::print_escaped;
+pub use line::print_record;
