@@ -6,7 +6,7 @@ use Rattle.vdr_terms.specs.Legality.{IsBytes}
 use Rattle.vdr_terms.specs.Records.{Record}
 use Rattle.vdr_entry.specs.declared.kind.Kind.{Kind}
 use Rattle.vdr_entry.specs.Fields.{Carries, content_of}
-use Rattle.vdr_entry.specs.Reading.{payload_in, record_in, Suits, AreInRange, Spots}
+use Rattle.vdr_entry.specs.Spotting.{payload_in, record_in, Suits, AreInRange, Spots}
 use Rattle.vdr_entry.proofs.ReadingLemmas.{same_record, spotted_legal}
 
 pub ranged : (p t u p' t' u' : ℕ) → p ≡ p' → t ≡ t' → u ≡ u' → AreInRange p t u → AreInRange p' t' u'

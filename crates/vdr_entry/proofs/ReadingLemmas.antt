@@ -13,7 +13,8 @@ use Rattle.vdr_entry.specs.declared.kind.Kind.{Kind}
 use Rattle.vdr_entry.specs.declared.kind.Kind.TheVariants.{Start as KindStart, Datagram as KindDatagram, Gap as KindGap, Stop as KindStop}
 use Rattle.vdr_entry.specs.Fields.{code_of, content_of}
 use Rattle.vdr_entry.specs.Spelling.{kind_code, payload, numbers, head, record_bytes}
-use Rattle.vdr_entry.specs.Reading.{Begins, payload_in, record_in, Suits, Spots}
+use Rattle.vdr_entry.specs.Reading.{Begins}
+use Rattle.vdr_entry.specs.Spotting.{payload_in, record_in, Suits, Spots}
 use Rattle.vdr_entry.proofs.SpellingLemmas.{length-payload, length-record_bytes, record_short}
 use Rattle.vdr_entry.proofs.PayloadLemmas.{gap_read, code_is, then_number}
 

@@ -3,6 +3,7 @@ pub mod Fields
 pub mod Contents
 pub mod Spelling
 pub mod Reading
+pub mod Spotting
 pub mod Utc
 pub mod Escape
 pub mod Lines

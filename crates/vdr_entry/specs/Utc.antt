@@ -1,4 +1,5 @@
--- The text of a UTC stamp: a date and a time of day in the form of ISO 8601, to the millisecond.
+-- The text of a UTC stamp: a date and a time of day in the form of ISO 8601, to the millisecond, in the Gregorian calendar,
+-- whose years and months have the days that jiff's specification states.
 use Rattle.std.specs.Prelude.{ℕ, zero, suc, ◌+◌, ◌-◌, ◌/◌, ◌%◌, ℤ, pos, unsigned_abs, List, [], ◌∷◌, ◌++◌, nat_lt, if◌then◌else◌, codes}
 use Rattle.jiff.specs.Words.{days_in_year, days_in_month}
 
@@ -21,7 +22,7 @@ abbrev pub last_digits : (count n : ℕ) → List ℕ
 last_digits zero n = []
 last_digits (suc count) n = last_digits count (n / 10) ++ (48 + n % 10) ∷ []
 
--- YYYY-MM-DD
+-- YYYY-MM-DD. Stamps reach 8,029 years after 1970, and a year has 11 months after its first.
 unfoldable pub date_text : (days : ℕ) → List ℕ
 date_text days =
     let year = year_after 8029 1970 days in

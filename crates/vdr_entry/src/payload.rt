@@ -9,10 +9,10 @@ use arrayvec::ArrayVec;
 use vdr_bytes::{put_u64s, u64_at};
 use vdr_terms::Counts;
 
-// The payload of a Gap is five numbers of eight bytes.
+/// The payload of a Gap is five numbers of eight bytes.
 pub(crate) const GAP_SIZE: usize = 40;
 
-// A copy of the bytes.
+/// A copy of the bytes.
 pub(crate) fn kept(bytes: &[u8]) -> ArrayVec<u8, 1472>
     requires { length bytes.now ≤ 1472 }
     ensures { result.items ≡ bytes.now }
@@ -22,7 +22,7 @@ pub(crate) fn kept(bytes: &[u8]) -> ArrayVec<u8, 1472>
     payload
 }
 
-// The payload of a Gap.
+/// The payload of a Gap.
 pub(crate) fn gap_payload(first: u64, missed: Counts) -> [u8; GAP_SIZE]
     ensures bytes { result ≡ gap_payload first missed }
     ensures legal { 0 < total missed → IsMissed missed }
@@ -33,7 +33,7 @@ pub(crate) fn gap_payload(first: u64, missed: Counts) -> [u8; GAP_SIZE]
     bytes
 }
 
-// The counts in the payload of a Gap.
+/// The counts in the payload of a Gap.
 pub(crate) fn missed_in(payload: &[u8]) -> Counts
     requires { 40 ≤ length payload.now }
     ensures { result ≡ missed_in payload.now }

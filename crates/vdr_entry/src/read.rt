@@ -4,7 +4,8 @@ ghost use Rattle.vdr_terms.specs.Records.{Record as Entry, total};
 ghost use Rattle.vdr_terms.specs.Sizes.{record_size};
 ghost use Rattle.vdr_entry.specs.declared.kind.Kind.{Kind as AKind};
 ghost use Rattle.vdr_entry.specs.Fields.{code_of, missed_in};
-ghost use Rattle.vdr_entry.specs.Reading.{AreInRange, Begins, Spots, Suits, payload_in};
+ghost use Rattle.vdr_entry.specs.Reading.{Begins};
+ghost use Rattle.vdr_entry.specs.Spotting.{AreInRange, Spots, Suits, payload_in};
 ghost use Rattle.vdr_entry.specs.Spelling.{gap_payload, record_bytes};
 
 use crate::payload::{GAP_SIZE, kept, missed_in};

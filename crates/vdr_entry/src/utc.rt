@@ -22,7 +22,7 @@ fn text_of(utc: u64) -> [u8; 24]
 {
     let date = date_of(utc / 86_400_000).to_plain();
     let year = date.year.unsigned_abs() as u64;
-    cells(year, date.month as u64, date.day as u64, utc % 86_400_000)
+    characters(year, date.month as u64, date.day as u64, utc % 86_400_000)
 }
 
 // The last digit of a number.
@@ -32,36 +32,37 @@ fn digit(n: u64) -> u8
     b'0' + (n % 10) as u8
 }
 
+// The text of a date and of so many milliseconds since its midnight.
 #[tactic(auto, unfolding(crate::specs::Utc::time_text))]
-fn cells(y: u64, m: u64, d: u64, ms: u64) -> [u8; 24]
-    ensures { result ≡ last_digits 4 y ++ codes "-" ++ last_digits 2 m ++ codes "-" ++ last_digits 2 d ++ codes "T" ++ time_text ms ++ codes "Z" }
+fn characters(year: u64, month: u64, day: u64, millis: u64) -> [u8; 24]
+    ensures { result ≡ last_digits 4 year ++ codes "-" ++ last_digits 2 month ++ codes "-" ++ last_digits 2 day ++ codes "T" ++ time_text millis ++ codes "Z" }
 {
-    let (h, min, s) = (ms / 3_600_000, ms / 60_000 % 60, ms / 1000 % 60);
-    let t = ms % 1000;
+    let (hour, minute) = (millis / 3_600_000, millis / 60_000 % 60);
+    let (second, milli) = (millis / 1000 % 60, millis % 1000);
     [
-        digit(y / 10 / 10 / 10),
-        digit(y / 10 / 10),
-        digit(y / 10),
-        digit(y),
+        digit(year / 10 / 10 / 10),
+        digit(year / 10 / 10),
+        digit(year / 10),
+        digit(year),
         b'-',
-        digit(m / 10),
-        digit(m),
+        digit(month / 10),
+        digit(month),
         b'-',
-        digit(d / 10),
-        digit(d),
+        digit(day / 10),
+        digit(day),
         b'T',
-        digit(h / 10),
-        digit(h),
+        digit(hour / 10),
+        digit(hour),
         b':',
-        digit(min / 10),
-        digit(min),
+        digit(minute / 10),
+        digit(minute),
         b':',
-        digit(s / 10),
-        digit(s),
+        digit(second / 10),
+        digit(second),
         b'.',
-        digit(t / 10 / 10),
-        digit(t / 10),
-        digit(t),
+        digit(milli / 10 / 10),
+        digit(milli / 10),
+        digit(milli),
         b'Z',
     ]
 }

@@ -1,3 +1,3 @@
-mod Fronts
-mod EscapeLemmas
-mod WordLemmas
+pub mod Fronts
+pub mod EscapeLemmas
+pub mod WordLemmas

@@ -42,7 +42,10 @@ fn print_piece<O: Sink>(bytes: &[u8], out: &mut O) -> Result<usize, Failed>
         return Ok(run);
     }
     let byte = bytes[0];
-    write_all(out, &[b'<', hex_digit(byte / 16), hex_digit(byte % 16), b'>'])?;
+    write_all(
+        out,
+        &[b'<', hex_digit(byte / 16), hex_digit(byte % 16), b'>'],
+    )?;
     Ok(1)
 }
 

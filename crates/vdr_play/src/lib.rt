@@ -3,6 +3,8 @@
 
 mod escape;
 mod line;
+#[cfg(test)]
+mod tests;
 mod words;
 
 pub use escape::print_escaped;

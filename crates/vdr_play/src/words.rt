@@ -16,7 +16,7 @@ fn print_word<O: Sink>(word: &[u8], out: &mut O) -> Result<(), Failed>
     write_all(out, word)
 }
 
-// Prints the words with a space before each.
+/// Prints the words with a space before each.
 pub(crate) fn print_words<O: Sink>(words: &[&[u8]], out: &mut O) -> Result<(), Failed>
     ensures all { OnOk result (Appends (O.taken out.old) (O.taken out.new) (spaced (map (λ word. word.now) words.now))) }
     ensures front { AppendsFront (O.taken out.old) (O.taken out.new) (spaced (map (λ word. word.now) words.now)) }

@@ -1,7 +1,7 @@
 use Rattle.std.proofs.Common.{◌≡◌, IsTrue, slice_index, sym, ◌∙◌, subst, arith}
 use Rattle.vdr_bytes.specs.Numbers.{u64_at}
 use Rattle.vdr_entry.specs.declared.kind.Kind.{Kind}
-use Rattle.vdr_entry.specs.Reading.{Suits, payload_in}
+use Rattle.vdr_entry.specs.Spotting.{Suits, payload_in}
 use Rattle.vdr_entry.proofs.ReadingLemmas.{one_kind}
 use Rattle.vdr_entry.proofs.FieldLemmas.{ranged, suited, payload_is_cut}
 use Rattle.vdr_entry.proofs.read.spot.Goals as goal

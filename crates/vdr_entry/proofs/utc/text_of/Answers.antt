@@ -15,4 +15,4 @@ returns c =
     let fits : FitsSigned w16 c.to_plain-date.result.year = omega (arith, signed_arith, bounds) in
     let year = simp to_z-of_z at c.unsigned_abs-year.ensures.value in
     let text = shows c.to_plain-date.result (c.args.utc / 86_400_000) c.unsigned_abs-year.result (ap (λ (d : Date). epoch_day d) c.to_plain-date.ensures ∙ c.date_of.ensures) year in
-    c.cells.ensures ∙ ap (λ (t : List ℕ). t ++ codes "T" ++ time_text (c.args.utc % 86_400_000) ++ codes "Z") (sym text)
+    c.characters.ensures ∙ ap (λ (t : List ℕ). t ++ codes "T" ++ time_text (c.args.utc % 86_400_000) ++ codes "Z") (sym text)

@@ -1,10 +1,10 @@
-use Rattle.std.proofs.Common.{◌≡◌, ◌≤◌, ◌+◌, ◌-◌, ◌++◌, [], length, take, drop, arith, ap, sym, subst, ◌∙◌, List, ℕ}
+use Rattle.std.proofs.Common.{◌≡◌, ◌++◌, [], take, drop, arith, ap, sym, subst, ◌∙◌, List, ℕ}
 use Rattle.std.proofs.lemmas.List.{take_rest, append-nil, length-drop}
 use Rattle.std.proofs.KnownBytes.{Appends-trans}
 use Rattle.std.specs.Io.KnownBytes.{Appends}
 use Rattle.vdr_entry.specs.Escape.{escaped}
 use Rattle.vdr_play.proofs.EscapeLemmas.{escaped-cut, escaped-more}
-use Rattle.vdr_play.proofs.Fronts.{front-later}
+use Rattle.vdr_outside.proofs.Known.{front-more}
 use Rattle.vdr_play.proofs.escape.print_escaped.Goals as goal
 
 pub returns-in_err-done-clause-front : goal.returns-in_err-done-clause-front
@@ -12,7 +12,7 @@ returns-in_err-done-clause-front g c =
     let bytes : List ℕ = c.args.bytes.now in
     let done : ℕ = c.loop-done.done in
     let cut : escaped bytes ≡ escaped (take done bytes) ++ (escaped (drop done bytes) ++ []) = escaped-cut done bytes ∙ ap (λ (xs : List ℕ). escaped (take done bytes) ++ xs) (sym (append-nil (escaped (drop done bytes)))) in
-    front-later _ _ _ (escaped (take done bytes)) (escaped (drop done bytes)) [] (escaped bytes) cut c.loop-done.invariant.written (rw take_rest at c.in_err-done.ensures.front)
+    front-more _ _ _ (escaped (take done bytes)) (escaped (drop done bytes)) [] (escaped bytes) cut c.loop-done.invariant.written (rw take_rest at c.in_err-done.ensures.front)
 
 pub loop-done-preserved : goal.loop-done-preserved
 loop-done-preserved g c =

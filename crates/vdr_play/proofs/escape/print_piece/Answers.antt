@@ -1,4 +1,4 @@
-use Rattle.std.proofs.Common.{◌≡◌, arith, ap, sym, subst, ◌++◌, ◌∙◌, drop, List, ℕ}
+use Rattle.std.proofs.Common.{arith, ap, sym, subst, ◌++◌, ◌∙◌, drop, List, ℕ}
 use Rattle.std.specs.Io.KnownBytes.{Appends}
 use Rattle.vdr_entry.specs.Escape.{escaped}
 use Rattle.vdr_play.proofs.EscapeLemmas.{escaped-cut, escaped-run, escaped-first}
@@ -20,5 +20,5 @@ pub returns-in_err-write_all-2-clause-front : goal.returns-in_err-write_all-2-cl
 returns-in_err-write_all-2-clause-front g c =
     let bytes : List ℕ = c.args.bytes.now in
     let cut = escaped-cut 1 bytes
-        ∙ ap (λ (xs : List ℕ). xs ++ escaped (drop 1 bytes)) (escaped-first bytes c.plain_run-run.result c.hex_digit.result c.hex_digit-2.result c.plain_run-run.ensures (omega (arith, c.if-run-gt0.false)) c.requires c.hex_digit.ensures c.hex_digit-2.ensures) in
+    ∙ ap (λ (xs : List ℕ). xs ++ escaped (drop 1 bytes)) (escaped-first bytes c.plain_run-run.result c.hex_digit.result c.hex_digit-2.result c.plain_run-run.ensures (omega (arith, c.if-run-gt0.false)) c.requires c.hex_digit.ensures c.hex_digit-2.ensures) in
     on_err c.from_residual-in_err-write_all-2.result _ (front-first _ _ _ (escaped (drop 1 bytes)) (escaped bytes) cut c.in_err-write_all-2.ensures.front)

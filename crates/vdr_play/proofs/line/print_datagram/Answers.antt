@@ -1,11 +1,12 @@
-use Rattle.std.proofs.Common.{◌≡◌, rules, sym, ap, List, ℕ, ◌∷◌, ◌++◌, ◌∙◌, [], subst, OnOk}
+use Rattle.std.proofs.Common.{rules, sym, ap, List, ℕ, ◌∷◌, ◌++◌, ◌∙◌, [], subst}
 use Rattle.std.proofs.lemmas.Result.{on_ok_weaker}
 use Rattle.std.proofs.lemmas.List.{append-nil}
 use Rattle.std.proofs.KnownBytes.{Appends-trans}
 use Rattle.std.specs.Io.KnownBytes.{Appends}
 use Rattle.vdr_entry.specs.Escape.{escaped}
-use Rattle.vdr_entry.specs.Lines.{spaced, words_of}
-use Rattle.vdr_play.proofs.Fronts.{front-first, front-later}
+use Rattle.vdr_entry.specs.Lines.{spaced}
+use Rattle.vdr_outside.proofs.Known.{front-more}
+use Rattle.vdr_play.proofs.Fronts.{front-first}
 use Rattle.vdr_play.proofs.WordLemmas.{datagram_front, datagram-words}
 use Rattle.vdr_play.proofs.line.print_datagram.Goals.{After-print_words}
 use Rattle.vdr_play.proofs.line.print_datagram.Goals as goal
@@ -25,4 +26,4 @@ returns-clause-front g c =
     let payload : List ℕ = 32 ∷ escaped c.args.payload.now in
     let words : List ℕ = spaced (datagram_front c.as_bytes.result.now c.as_bytes-2.result.now c.as_slice.result.now c.as_bytes-3.result.now) in
     let same = datagram-words c.args.item.now c.args.payload.now c.as_bytes.result.now c.as_bytes-2.result.now c.as_slice.result.now c.as_bytes-3.result.now c.requires.said (search rules) (search rules) (search rules) (search rules) in
-    front-later _ _ _ words payload [] _ (same ∙ ap (λ (xs : List ℕ). words ++ xs) (sym (append-nil payload))) c.in_ok-print_words.ensures.all c.print_payload.ensures.front
+    front-more _ _ _ words payload [] _ (same ∙ ap (λ (xs : List ℕ). words ++ xs) (sym (append-nil payload))) c.in_ok-print_words.ensures.all c.print_payload.ensures.front

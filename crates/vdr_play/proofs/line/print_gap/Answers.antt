@@ -1,4 +1,4 @@
-use Rattle.std.proofs.Common.{◌≡◌, rules, sym, ap, List, ℕ, ◌∷◌, [], subst}
+use Rattle.std.proofs.Common.{◌≡◌, rules, List, ℕ, ◌∷◌, [], subst}
 use Rattle.std.specs.Prelude.{codes}
 use Rattle.vdr_entry.specs.Lines.{spaced, words_of}
 use Rattle.vdr_outside.specs.Writes.{AppendsFront}

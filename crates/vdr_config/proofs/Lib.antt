@@ -1,0 +1,6 @@
+pub mod Members
+pub mod Elements
+pub mod Repeats
+pub mod Whole
+pub mod Table
+mod Rows

@@ -1,0 +1,26 @@
+//! The recorder's configuration: what it is, its text, and what it needs of its media.
+#![tactic(auto)]
+
+mod bad;
+mod channel;
+mod channels;
+mod config;
+mod fit;
+mod form;
+mod groups;
+mod keys;
+mod media;
+mod profile;
+mod reading;
+mod scope;
+#[cfg(test)]
+mod tests;
+
+pub use bad::{ConfigBad, KeyPath};
+pub use channel::{Channel, ChannelKind};
+pub use config::Config;
+pub use fit::{fits, needs};
+pub use media::{Needs, TooSmall};
+pub use profile::Profile;
+pub use reading::read_config;
+pub use vdr_terms::Rate;

@@ -1,0 +1,2 @@
+-- What a meter knows of what was recorded.
+pub mod Metering

@@ -1,0 +1,8 @@
+//! The meter: which items of a group its rate admits in a second of recording time.
+#![tactic(auto)]
+
+mod meter;
+#[cfg(test)]
+mod tests;
+
+pub use meter::Meter;

@@ -1,0 +1,107 @@
+ghost use Rattle.std.specs.Prelude.{None};
+
+use crate::{print_escaped, print_record};
+use arrayvec::ArrayVec;
+use vdr_entry::{Counts, Record};
+use vdr_outside::{Failed, Sink};
+
+/// A sink that takes one byte a call, and fails from the call on that `room` says.
+#[derive(Drop)]
+struct Paper {
+    bytes: ArrayVec<u8, 200>,
+    room: usize,
+    faults: u64,
+}
+
+impl Paper {
+    fn new(room: usize) -> Paper {
+        Paper {
+            bytes: ArrayVec::new(),
+            room,
+            faults: 0,
+        }
+    }
+}
+
+impl Sink for Paper {
+    ghost taken = { λ s. None };
+
+    ghost faults = { λ s. s.faults };
+
+    fn write(&mut self, bytes: &[u8]) -> Result<usize, Failed> {
+        if self.bytes.is_full() || self.bytes.len() >= self.room {
+            self.faults = self.faults.saturating_add(1);
+            return Err(Failed);
+        }
+        let Some(byte) = bytes.first() else {
+            return Ok(0);
+        };
+        self.bytes.push(*byte);
+        Ok(1)
+    }
+}
+
+fn records() -> [(Record, &'static [u8]); 4] {
+    let sentence = b"UdPbC\0\\s:GP0001,n:7*10\\$GPHDT,123.456,T*32\r\n";
+    let missed = Counts {
+        full: 10,
+        rate: 1,
+        bad: 0,
+        large: 7,
+    };
+    [
+        (
+            Record::datagram(3, 1, 1, 0, 0, 1_704_067_200_000, sentence),
+            b"1 NAVD 0 2024-01-01T00:00:00.000Z data 44 UdPbC<00>\\s:GP0001,n:7*10\\$GPHDT,123.456,T*32<0d><0a>\n",
+        ),
+        (
+            Record::gap(3, 1, 3, 2, 1000, 1000, missed),
+            b"3 NAVD 2 1970-01-01T00:00:01.000Z gap 10 1 0 7\n",
+        ),
+        (
+            Record::start(1, 6, 61_000, 60_000),
+            b"6 - - 1970-01-01T00:01:00.000Z start\n",
+        ),
+        (
+            Record::stop(1, 5, 60_000, 60_000),
+            b"5 - - 1970-01-01T00:01:00.000Z stop\n",
+        ),
+    ]
+}
+
+#[test]
+fn records_print_as_their_lines(rt: HostRuntime) {
+    for (item, line) in &records() {
+        let mut out = Paper::new(200);
+        assert_eq!(rt; print_record(item, &mut out), Ok(()));
+        assert_eq!(rt; out.bytes.as_slice(), *line);
+    }
+}
+
+#[test]
+fn a_failing_sink_holds_a_front_of_the_line(rt: HostRuntime) {
+    for (item, line) in &records() {
+        for room in 0..line.len() {
+            let mut out = Paper::new(room);
+            assert_eq!(rt; print_record(item, &mut out), Err(Failed));
+            assert_eq!(rt; out.bytes.as_slice(), &line[..room]);
+            assert_eq!(rt; out.faults, 1);
+        }
+    }
+}
+
+#[test]
+fn bytes_are_escaped(rt: HostRuntime) {
+    let rows: [(&[u8], &[u8]); 5] = [
+        (b"", b""),
+        (b"plain ~!", b"plain ~!"),
+        (b"\0\x1f\x7f\xab\xff", b"<00><1f><7f><ab><ff>"),
+        (b"a<b>c", b"a<3c>b>c"),
+        (b"\r\nend", b"<0d><0a>end"),
+    ];
+    for (bytes, text) in &rows {
+        let mut out = Paper::new(200);
+        assert_eq!(rt; print_escaped(bytes, &mut out), Ok(()));
+        assert_eq!(rt; out.bytes.as_slice(), *text);
+    }
+}

@@ -1,0 +1,57 @@
+use Rattle.std.proofs.Common.{rules, ◌≡◌, ◌<◌, ◌^◌, ◌∙◌, ℕ, Bool, true, false, List, [], ◌∷◌, ◌++◌, length, Option, Some, None, sym, ap, refl, arith}
+use Rattle.std.specs.Io.KnownBytes.{IsAtEnd}
+use Rattle.std.specs.List.{flat_map}
+use Rattle.vdr_terms.specs.Records.{FeedItem, Record}
+use Rattle.vdr_terms.specs.Rates.Limit.{Unlimited}
+use Rattle.vdr_entry.specs.Lines.{record_line}
+use Rattle.vdr_feed.specs.Kept.{Holds}
+use Rattle.vdr_feed.specs.Reader.{Reading, GivesItem}
+use Rattle.vdr_feed.specs.declared.item.Item.{Item as Held}
+use Rattle.vdr_tool.specs.Review.{IfReviewed, reviewed, review_text}
+use Rattle.vdr_tool.specs.Walks.{Tells}
+use Rattle.vdr_tool.specs.declared.walk.Walk.{Walk}
+use Rattle.vdr_tool.proofs.Stream.{Stands, stands_first, stands_next, reviews}
+use Rattle.vdr_tool.proofs.reading.review.Goals as goal
+
+-- the walk has met the items that the reader has read
+abbrev Walked : Option (List ℕ) → Option (List ℕ) → Reading → Walk → Type 0
+Walked first now r walk = (feed : List FeedItem) × Stands first now r feed × Tells Unlimited walk feed
+
+more : (first before now : Option (List ℕ)) (r r' : Reading) (held : Held) (w w' : Walk) → Walked first before r w → GivesItem before now r r' held true
+    → ((feed : List FeedItem) (x : FeedItem) → Tells Unlimited w feed → Holds held x → Tells Unlimited w' (feed ++ x ∷ []))
+    → Walked first now r' w'
+more first before now r r' held w w' p i add = (
+  p.0 ++ i.0 ∷ [],
+  stands_next first before now r r' held p.0 i.0 p.1 i.1 i.2,
+  add p.0 i.0 p.2 i.1.holds,
+)
+
+gave_true : (before now : Option (List ℕ)) (r r' : Reading) (held : Held) (b : Bool) → b ≡ true → GivesItem before now r r' held b → GivesItem before now r r' held true
+gave_true before now r r' held true is p = p
+gave_true before now r r' held false is p = let none : ⊥ = cc in absurd none
+
+gave_false : (before now : Option (List ℕ)) (r r' : Reading) (held : Held) (b : Bool) → b ≡ false → GivesItem before now r r' held b → GivesItem before now r r' held false
+gave_false before now r r' held false is p = p
+gave_false before now r r' held true is p = let none : ⊥ = cc in absurd none
+
+ends : (first before now : Option (List ℕ)) (r r' : Reading) (held : Held) (w : Walk) (records : List Record) → Walked first before r w → GivesItem before now r r' held false
+    → ((feed : List FeedItem) → Tells Unlimited w feed → records ≡ reviewed Unlimited feed)
+    → IsAtEnd now × IfReviewed first (λ text. flat_map record_line records ≡ text)
+unfolding review_text
+ends first before now r r' held w records p e told =
+    (e.1, reviews first before r p.0 (λ text. flat_map record_line records ≡ text) p.1 e.0 (ap (flat_map record_line) (told p.0 p.2)))
+
+pub loop-item-init : goal.loop-item-init
+loop-item-init g c = record {
+  walked = ([], stands_first _ _ _ c.in-Ok.ensures.bytes (c.in-Ok.ensures.ready ∙ search rules), c.new-walk.ensures Unlimited);
+  later = search rules;
+}
+
+pub loop-item-preserved : goal.loop-item-preserved
+loop-item-preserved g c =
+    let gave = gave_true _ _ _ _ _ c.in-Ok-true.field-0 c.in-Ok-true.field-0-test c.in-Ok-true.ensures.gave.1 in
+    record { walked = more _ _ _ _ _ _ _ _ c.loop-item.invariant.walked gave c.in-Ok-add.ensures; later = search rules }
+
+pub returns-in-Ok-false-clause-text : goal.returns-in-Ok-false-clause-text
+returns-in-Ok-false-clause-text g c =
+    ends _ _ _ _ _ c.item.new.into _ _ c.loop-item.invariant.walked (gave_false _ _ _ _ _ c.in-Ok-false.field-0 c.in-Ok-false.field-0-test c.in-Ok-false.ensures.gave.1) c.in-Ok-finish.ensures

@@ -1,0 +1,8 @@
+use Rattle.std.proofs.Common.{◌≡◌, length}
+use Rattle.vdr_tool.specs.Walks.{ClosesBelow}
+use Rattle.vdr_tool.proofs.walk.Walk.close.Given as goal
+
+abbrev pub invariant-loop-group : goal.invariant-loop-group
+invariant-loop-group l = record {
+  closes : ClosesBelow l.group l.initial.self l.self;
+}

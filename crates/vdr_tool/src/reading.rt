@@ -1,0 +1,63 @@
+// Reading a feed into a review.
+ghost use Rattle.std.specs.Prelude.{◌≡◌, ◌≤◌, IfOk, IsErrOf};
+ghost use Rattle.std.specs.Io.KnownBytes.{IsAtEnd};
+ghost use Rattle.vdr_outside.specs.Causes.{Rose};
+ghost use Rattle.vdr_feed.specs.Feed.{IsRefused};
+ghost use Rattle.vdr_feed.specs.Reader.{IfKnown};
+ghost use Rattle.vdr_tool.specs.Review.{IfReviewed, most_items};
+ghost use Rattle.vdr_tool.specs.Printed.{printed};
+ghost use Rattle.vdr_tool.specs.Stops.{IfRefusedStop};
+ghost use Rattle.vdr_tool.specs.declared.reading.Stop.TheVariants.{Input};
+
+use crate::walk::Walk;
+use crate::window::Review;
+use std::alloc::Global;
+use vdr_feed::{FeedFault, FeedReader, Item};
+use vdr_outside::Source;
+
+/// The greatest number of items of a feed.
+const MOST_ITEMS: u64 = 4_294_967_295;
+
+/// Why a feed has no review.
+#[derive(Drop)]
+pub(crate) enum Stop {
+    Input,
+    Memory,
+    Refused { number: u8, offset: u64 },
+}
+
+/// The review of a feed, which is read to its end.
+pub(crate) fn review<I: Source>(alloc: Global, input: &mut I) -> Result<Review, Stop>
+    ensures text { IfOk result (λ review. IsAtEnd (I.left input.new) × IfReviewed (I.left input.old) (λ text. printed review ≡ text)) }
+    ensures refused { IfRefusedStop result (λ number offset. IfKnown (I.left input.old) (λ bytes. IsRefused most_items bytes number offset)) }
+    ensures failed { IsErrOf result Input → Rose (I.faults input.old) (I.faults input.new) }
+    ensures later { I.faults input.old ≤ I.faults input.new }
+{
+    let mut reader = FeedReader::new(MOST_ITEMS);
+    match reader.header(input) {
+        Ok(()) => {}
+        Err(FeedFault::Fault) => return Err(Stop::Input),
+        Err(FeedFault::Refused { number, offset }) => return Err(Stop::Refused { number, offset }),
+    }
+    let mut walk = Walk::new(alloc);
+    let mut item = Item::new();
+    loop {
+        match reader.item(input, &mut item) {
+            Ok(true) => {
+                let Ok(()) = walk.add(&item) else {
+                    return Err(Stop::Memory);
+                };
+            }
+            Ok(false) => {
+                let Ok(review) = walk.finish() else {
+                    return Err(Stop::Memory);
+                };
+                return Ok(review);
+            }
+            Err(FeedFault::Fault) => return Err(Stop::Input),
+            Err(FeedFault::Refused { number, offset }) => {
+                return Err(Stop::Refused { number, offset });
+            }
+        }
+    }
+}

@@ -1,0 +1,36 @@
+ghost use Rattle.std.specs.Prelude.{◌≡◌};
+
+/// How a command ended.
+#[derive(Clone, Copy, Debug, PartialEq, Eq, Drop)]
+pub enum Status {
+    /// All was done, and the input was read to its end.
+    Done,
+    /// The words ask for nothing that the program does.
+    Words,
+    /// The input failed.
+    InputFault,
+    /// The output failed.
+    OutputFault,
+    /// There was no memory.
+    NoMemory,
+    /// The feed is refused by this number, at the item that begins at this offset.
+    Feed { number: u8, offset: u64 },
+}
+
+impl Status {
+    ghost use Rattle.vdr_tool.specs.StatusLine.{code_of};
+
+    /// The number with which the program ends.
+    pub fn code(&self) -> u8
+        ensures { result ≡ code_of self.now }
+    {
+        match self {
+            Status::Done => 0,
+            Status::Words => 2,
+            Status::InputFault => 7,
+            Status::OutputFault => 8,
+            Status::NoMemory => 9,
+            Status::Feed { .. } => 10,
+        }
+    }
+}
