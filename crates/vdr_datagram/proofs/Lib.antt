@@ -1,0 +1,4 @@
+mod BitLemmas
+mod CutLemmas
+mod LineLemmas
+mod TokenLemmas

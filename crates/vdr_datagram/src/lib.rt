@@ -1,0 +1,25 @@
+//! Datagrams of IEC 61162-450: their tokens, whether they can be recorded, the lines of sentence datagrams, and the channels that select them.
+#![tactic(auto)]
+
+#[cfg(test)]
+mod channel_tests;
+mod channels;
+mod cutting;
+mod front;
+mod laws;
+mod line;
+mod line_iterator;
+mod marks;
+mod sentences;
+#[cfg(test)]
+mod tests;
+mod tokens;
+
+pub use channels::channel_bits;
+pub use front::token;
+pub use laws::law_of_cutting;
+pub use line::{Line, LineVerdict};
+pub use line_iterator::Lines;
+pub use sentences::lines;
+pub use tokens::Token;
+pub use vdr_terms::{Verdict, recordable};

@@ -1,0 +1,5 @@
+pub mod Bodies
+pub mod Readings
+pub mod FieldLemmas
+pub mod Writing
+pub mod Rows

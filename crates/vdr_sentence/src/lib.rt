@@ -1,0 +1,18 @@
+//! Sentences of IEC 61162-1: reading, their fields, and writing.
+#![tactic(auto)]
+
+mod bad;
+mod characters;
+mod frame;
+mod laws;
+mod read;
+mod sentence;
+#[cfg(test)]
+mod tests;
+mod write;
+
+pub use bad::Bad;
+pub use laws::law_of_reading;
+pub use read::read_sentence;
+pub use sentence::Sentence;
+pub use write::write_sentence;

@@ -1,0 +1,10 @@
+pub mod PartLemmas
+pub mod GroupingLemmas
+pub mod ValueLemmas
+pub mod ItemLemmas
+pub mod FrontLemmas
+pub mod BlockLemmas
+pub mod Readings
+pub mod Totality
+pub mod Rows
+pub mod Additions

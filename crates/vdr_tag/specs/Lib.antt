@@ -1,0 +1,7 @@
+-- TAG blocks of IEC 61162-450.
+pub mod Parts
+pub mod Values
+pub mod Items
+pub mod Blocks
+pub mod Fronts
+pub mod Views

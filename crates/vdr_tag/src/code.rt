@@ -1,0 +1,14 @@
+ghost use Rattle.std.specs.Prelude.{◌≡◌};
+
+/// The code of an item.
+#[derive(Clone, Copy, Drop)]
+pub(crate) enum Code {
+    Source,
+    Destination,
+    Line,
+    Group,
+    Time,
+    Relative,
+    Text,
+    Other,
+}
