@@ -1,3 +1,4 @@
 pub mod Grammar
 pub mod Spelled
+pub mod Generated
 pub mod Unique

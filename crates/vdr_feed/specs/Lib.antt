@@ -4,3 +4,4 @@ pub mod Feed
 pub mod Kept
 pub mod Law
 pub mod Reader
+pub mod Trial

@@ -4,7 +4,7 @@ ghost use Rattle.std.specs.Io.KnownBytes.{Consumes, IsAtEnd};
 ghost use Rattle.vdr_outside.specs.Causes.{HasCause};
 ghost use Rattle.vdr_feed.specs.Body.{ReadsBody};
 
-use crate::fill::fill;
+use crate::filling::fill;
 use arrayvec::ArrayVec;
 use vdr_outside::{Failed, Source};
 

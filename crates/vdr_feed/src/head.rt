@@ -7,7 +7,7 @@ ghost use Rattle.std.specs.Int.{w16, w64, from_le_bytes};
 ghost use Rattle.vdr_terms.specs.Legality.{IsBytes};
 ghost use Rattle.vdr_feed.specs.Feed.{group_in, received_in, utc_in, length_in, head_fault, feed_header};
 
-use crate::fill::fill;
+use crate::filling::fill;
 use vdr_outside::{Failed, Source};
 
 /// The last millisecond of the year 9999.

@@ -3,17 +3,20 @@
 
 mod body;
 mod fault;
-mod fill;
+mod filling;
 mod head;
 mod item;
 mod law;
 mod next;
 mod reader;
+mod trial;
 
 pub use fault::FeedFault;
+pub use filling::fill;
 pub use item::Item;
 pub use law::law_of_feeds;
 pub use reader::FeedReader;
+pub use trial::trial_item;
 
 #[cfg(test)]
 mod tests;

@@ -8,7 +8,7 @@ ghost use Rattle.vdr_feed.specs.declared.fault.Stop.TheVariants.{Failed as StopF
 use crate::Item;
 use crate::body::read_body;
 use crate::fault::Stop;
-use crate::fill::fill;
+use crate::filling::fill;
 use crate::head::{fault_of_head, length_of, received_of, utc_of};
 use vdr_outside::Source;
 

@@ -1,6 +1,6 @@
 ghost use Rattle.std.specs.Prelude.{◌≡◌, ◌<◌, ◌^◌};
 
-use super::{FeedFault, FeedReader, Item, law_of_feeds};
+use super::{FeedFault, FeedReader, Item, law_of_feeds, trial_item};
 use std::alloc::{AllocError, Global};
 use std::test::Fail;
 use vdr_memory::MemorySource;
@@ -169,5 +169,29 @@ fn a_fault_of_the_source_ends_the_reading(rt: HostRuntime) -> Result<(), Fail> {
         Err(FeedFault::Fault)
     );
     assert_eq!(rt; source.calls(), 1);
+    Ok(())
+}
+
+#[test]
+fn the_first_generated_items_are_these(rt: HostRuntime) -> Result<(), Fail> {
+    let mut state = 0;
+    let mut item = Item::new();
+    trial_item(&mut state, 0, &mut item);
+    assert_eq!(rt; state, 12_345);
+    assert_eq!(rt;
+        (item.group, item.received, item.utc),
+        (3, 0, 1_704_067_200_000)
+    );
+    assert_eq!(rt; item.bytes.as_slice(), HEADING);
+    trial_item(&mut state, 1, &mut item);
+    assert_eq!(rt; state, 1_406_932_606);
+    assert_eq!(rt;
+        (item.group, item.received, item.utc),
+        (3, 400, 1_704_067_200_400)
+    );
+    assert_eq!(rt;
+        item.bytes.as_slice(),
+        b"UdPbC\0\\s:GP0001,n:001*16\\$GPHDT,220.6,T*33\r\n".as_slice()
+    );
     Ok(())
 }

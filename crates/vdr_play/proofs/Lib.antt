@@ -1,3 +1,5 @@
 pub mod Fronts
 pub mod EscapeLemmas
+mod Rows
+pub mod VerdictLemmas
 pub mod WordLemmas

@@ -3,9 +3,11 @@
 
 mod escape;
 mod line;
+mod records;
 #[cfg(test)]
 mod tests;
+mod verdicts;
 mod words;
 
 pub use escape::print_escaped;
-pub use line::print_record;
+pub use records::print_record;

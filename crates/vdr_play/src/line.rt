@@ -105,14 +105,8 @@ fn print_content<O: Sink>(item: &Record, out: &mut O) -> Result<(), Failed>
     }
 }
 
-/// Prints the line of a record (this project's profile), with its LF. Where a write fails, a front of the line is written.
-///
-/// | Record | Line |
-/// |---|---|
-/// | Datagram | `PLACE GROUP NUMBER UTC data LENGTH PAYLOAD` |
-/// | Gap | `PLACE GROUP FIRST UTC gap FULL RATE BAD LARGE` |
-/// | Start, Stop | `PLACE - - UTC start`, `PLACE - - UTC stop` |
-pub fn print_record<O: Sink>(item: &Record, out: &mut O) -> Result<(), Failed>
+/// Prints the line of a record, with its LF.
+pub(crate) fn print_line<O: Sink>(item: &Record, out: &mut O) -> Result<(), Failed>
     ensures all { OnOk result (Appends (O.taken out.old) (O.taken out.new) (record_line item.now)) }
     ensures front { AppendsFront (O.taken out.old) (O.taken out.new) (record_line item.now) }
     ensures cause { HasCause (O.faults out.old) (O.faults out.new) result }

@@ -1,4 +1,7 @@
-ghost use Rattle.std.specs.Prelude.{None};
+ghost use Rattle.std.specs.Prelude.{None, ◌≡◌};
+ghost use Rattle.vdr_terms.specs.declared.datagram.Verdict.TheVariants.{Yes};
+ghost use Rattle.vdr_terms.specs.Datagrams.{verdict};
+ghost use Rattle.vdr_terms.specs.Stamps.{IsStamp};
 
 use crate::{print_escaped, print_record};
 use arrayvec::ArrayVec;
@@ -41,8 +44,15 @@ impl Sink for Paper {
     }
 }
 
-fn records() -> [(Record, &'static [u8]); 4] {
-    let sentence = b"UdPbC\0\\s:GP0001,n:7*10\\$GPHDT,123.456,T*32\r\n";
+/// A datagram of group 3, at place 1.
+fn datagram(utc: i64, bytes: &[u8]) -> Record
+    requires utc { IsStamp utc }
+    requires recordable { verdict bytes.now ≡ Yes }
+{
+    Record::datagram(3, 1, 1, 0, 0, utc, bytes)
+}
+
+fn records() -> [(Record, &'static [u8]); 8] {
     let missed = Counts {
         full: 10,
         rate: 1,
@@ -51,8 +61,33 @@ fn records() -> [(Record, &'static [u8]); 4] {
     };
     [
         (
-            Record::datagram(3, 1, 1, 0, 0, 1_704_067_200_000, sentence),
-            b"1 NAVD 0 2024-01-01T00:00:00.000Z data 44 UdPbC<00>\\s:GP0001,n:7*10\\$GPHDT,123.456,T*32<0d><0a>\n",
+            datagram(
+                1_704_067_200_000,
+                b"UdPbC\0\\s:GP0001,n:7*10\\$GPHDT,123.456,T*32\r\n",
+            ),
+            b"1 NAVD 0 2024-01-01T00:00:00.000Z data 44 UdPbC<00>\\s:GP0001,n:7*10\\$GPHDT,123.456,T*32<0d><0a>\n  good GP0001 7 GPHDT -\n",
+        ),
+        (
+            datagram(
+                1_704_067_200_000,
+                b"UdPbC\0\\s:GP0001,n:7*10\\$GPHDT,123.456,T*33\r\n",
+            ),
+            b"1 NAVD 0 2024-01-01T00:00:00.000Z data 44 UdPbC<00>\\s:GP0001,n:7*10\\$GPHDT,123.456,T*33<0d><0a>\n  sentence 6 33 32\n",
+        ),
+        (
+            datagram(
+                0,
+                b"UdPbC\0\\s:GP0001,n:7*11\\$GPHDT,123.456,T*32\r\n$GPHDT,123.456,T*32",
+            ),
+            b"1 NAVD 0 1970-01-01T00:00:00.000Z data 63 UdPbC<00>\\s:GP0001,n:7*11\\$GPHDT,123.456,T*32<0d><0a>$GPHDT,123.456,T*32\n  tag 3 11 10\n  sentence 2\n",
+        ),
+        (
+            datagram(0, b"AbCdE\0"),
+            b"1 NAVD 0 1970-01-01T00:00:00.000Z data 6 AbCdE<00>\n  opaque\n",
+        ),
+        (
+            datagram(0, b"UdPbC\0"),
+            b"1 NAVD 0 1970-01-01T00:00:00.000Z data 6 UdPbC<00>\n",
         ),
         (
             Record::gap(3, 1, 3, 2, 1000, 1000, missed),
@@ -70,21 +105,21 @@ fn records() -> [(Record, &'static [u8]); 4] {
 }
 
 #[test]
-fn records_print_as_their_lines(rt: HostRuntime) {
-    for (item, line) in &records() {
+fn records_print_as_their_text(rt: HostRuntime) {
+    for (item, text) in &records() {
         let mut out = Paper::new(200);
         assert_eq!(rt; print_record(item, &mut out), Ok(()));
-        assert_eq!(rt; out.bytes.as_slice(), *line);
+        assert_eq!(rt; out.bytes.as_slice(), *text);
     }
 }
 
 #[test]
-fn a_failing_sink_holds_a_front_of_the_line(rt: HostRuntime) {
-    for (item, line) in &records() {
-        for room in 0..line.len() {
+fn a_failing_sink_holds_a_front_of_the_text(rt: HostRuntime) {
+    for (item, text) in &records() {
+        for room in 0..text.len() {
             let mut out = Paper::new(room);
             assert_eq!(rt; print_record(item, &mut out), Err(Failed));
-            assert_eq!(rt; out.bytes.as_slice(), &line[..room]);
+            assert_eq!(rt; out.bytes.as_slice(), &text[..room]);
             assert_eq!(rt; out.faults, 1);
         }
     }

@@ -7,7 +7,7 @@ use Rattle.vdr_entry.specs.Lines.{spaced, words_of}
 use Rattle.vdr_outside.proofs.Known.{front-more}
 use Rattle.vdr_play.proofs.Fronts.{front-first}
 use Rattle.vdr_play.proofs.WordLemmas.{line-parts}
-use Rattle.vdr_play.proofs.line.print_record.Goals as goal
+use Rattle.vdr_play.proofs.line.print_line.Goals as goal
 
 pub returns-in_err-write_all-clause-front : goal.returns-in_err-write_all-clause-front
 returns-in_err-write_all-clause-front g c =

@@ -1,0 +1,3 @@
+-- The recording as text.
+pub mod Verdicts
+pub mod Texts
