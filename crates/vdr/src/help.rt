@@ -14,14 +14,29 @@ FOLDER holds the media. A command that uses no media takes any folder, such as `
 
 Commands:
   review    Reads a feed of captured datagrams from standard input, to its end, and
-            prints the Datagram and Gap records of its last 48 hours.
+            prints the Datagram and Gap records of its last 48 hours, and below each
+            datagram what its lines are: good, or refused by a TAG block or as a sentence.
+  review D B
+            The same, where each transmission group has at most D datagrams (1 to
+            10,000) and B bytes of them (6 to 10,000,000) in a second of recording
+            time. What the rate refuses stands in a Gap record.
+  check     Reads a configuration from standard input and prints what it needs: the
+            number of groups, the cost of a second and the usable bytes of a segment,
+            and the slots of the capsule and of the long-term medium.
 
-Example:
+Examples:
   vdr . review < examples/harbour.feed
+  vdr . review 2 200 < examples/harbour.feed
+  vdr . check < examples/ship.json
 
 Exit status, with the line that ends the output:
   0   all was done
   2   `status 2 words`: the words ask for nothing that vdr does
+  3   `status 3 config N KEY`: the configuration is refused at the value with the path
+      KEY: 1 no JSON object, 2 a key is missing, 3 a key is unknown, 4 a value has
+      another type or is out of its range, 5 a name is given twice, 6 a ship's window
+      is too short, 7 a segment is below four batches, 8 more than 16,380 bytes (at 1
+      and 8 KEY is `-`)
   7   `status 7 input`: the input could not be read
   8   the output could not be written
   9   `status 9 memory`: there was not enough memory

@@ -8,16 +8,16 @@ use Rattle.std.proofs.lemmas.List.Elements.{filter-append}
 use Rattle.vdr_terms.specs.Records.{Record, second}
 use Rattle.vdr_terms.specs.Windows.{in_window}
 use Rattle.vdr_outside.specs.Writes.{AppendsFront}
-use Rattle.vdr_entry.specs.Lines.{record_line}
+use Rattle.vdr_play.specs.Texts.{record_text}
 use Rattle.vdr_tool.specs.Review.{review_seconds, shown_records}
 
 abbrev text : ℕ → List Record → List ℕ
-text last records = flat_map record_line (shown_records last records)
+text last records = flat_map record_text (shown_records last records)
 
 text-append : (last : ℕ) (xs ys : List Record) → text last (xs ++ ys) ≡ text last xs ++ text last ys
 text-append last xs ys =
-    ap (flat_map record_line) (filter-append (λ (r : Record). in_window (second r.tick) last review_seconds) xs ys)
-    ∙ flat_map-append record_line (shown_records last xs) (shown_records last ys)
+    ap (flat_map record_text) (filter-append (λ (r : Record). in_window (second r.tick) last review_seconds) xs ys)
+    ∙ flat_map-append record_text (shown_records last xs) (shown_records last ys)
 
 -- so many were printed, and these are left
 pub record Printed (old now : Option (List ℕ)) (last : ℕ) (all rest : List Record) : Type 0 where

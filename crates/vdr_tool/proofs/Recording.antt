@@ -9,20 +9,21 @@ use Rattle.vdr_terms.specs.declared.datagram.Verdict.TheVariants.{Yes, Bad, Larg
 use Rattle.vdr_terms.specs.Datagrams.{verdict, is_yes, largest}
 use Rattle.vdr_terms.specs.Records.{Record, Item as VItem, FeedItem, has_items, second, total}
 use Rattle.vdr_terms.specs.Rates.{Limit}
-use Rattle.vdr_terms.specs.Counting.{Pending, with_missed, past_datagram}
+use Rattle.vdr_terms.specs.Counting.{Pending, with_missed, past_datagram, past_refusal}
 use Rattle.vdr_terms.specs.Channels.{no_channels}
 use Rattle.vdr_history.specs.Runs.{RunStart}
 use Rattle.vdr_history.specs.Taken.{Captured}
 use Rattle.vdr_history.specs.Feed.{items_of, counts_of}
 use Rattle.vdr_history.specs.Recorder.{Recorder, make, next_in, gap_of, gap_unless_none, datagram_of, with_datagram, passed, tick_with, admits, took, taken_all, with_pending}
 use Rattle.vdr_core.specs.Replay.{since_yes, captured_after, captured_if, fed, rest_after, missed_with, GoesOn}
+use Rattle.vdr_meter.specs.Metering.{Metering}
 use Rattle.vdr_feed.specs.Kept.{Holds}
 use Rattle.vdr_tool.specs.declared.account.Account.{Account}
 use Rattle.vdr_feed.specs.declared.item.Item.{Item}
 use Rattle.vdr_tool.specs.declared.walk.Walk.{Walk}
 use Rattle.vdr_tool.specs.Review.{review_start, review_seconds}
-use Rattle.vdr_tool.specs.Accounts.{no_account, IsAccount, recorded_account, gap_told, gap_unless_empty, gap_records, datagram_told}
-use Rattle.vdr_tool.specs.Walks.{recorder_of, KeepsWindow, Tells, records_at, RecordsItem}
+use Rattle.vdr_tool.specs.Accounts.{no_account, IsAccount, settled_account, recorded_account, refused_account, gap_told, gap_unless_empty, gap_records, datagram_told}
+use Rattle.vdr_tool.specs.Walks.{recorder_of, KeepsWindow, IsMeter, Tells, records_at, RecordsItem}
 
 -- the first 1,473 bytes tell the verdict, and a recordable datagram has no more
 pub same_verdict : (b : List ℕ) → verdict (take 1473 b) ≡ verdict b
@@ -82,6 +83,14 @@ keeps_more before after made kept more now le k whole g = record {
   old = All-append (λ (r : Record). second r.tick + review_seconds ≤ after) k.gone g.0 (λ i d l. let h = k.old i d l in omega (arith, h, le)) g.2;
 }
 
+-- nothing was made, and the window ends later
+pub keeps_later : (before after : ℕ) (made kept : List Record) → before ≤ after → KeepsWindow before made kept → KeepsWindow after made kept
+keeps_later before after made kept le k = record {
+  gone = k.gone;
+  order = k.order;
+  old = λ i d l. let h = k.old i d l in omega (arith, h, le);
+}
+
 -- the gap and the Datagram by what they are made of
 abbrev made_of : ℕ → ℕ → ℕ → ℤ → List ℕ → ℕ → Counts → Pending → List Record
 made_of g place tick utc bytes taken missed pending =
@@ -126,7 +135,7 @@ module _ (limit : Limit) (feed : List FeedItem) (x : FeedItem) (walk new : Walk)
   p : Pending
   p = with_missed c.missed (r.pending x.group)
 
-  tick_is : max walk.greatest item.received ≡ tick_with (review_start limit) r c
+  pub tick_is : max walk.greatest item.received ≡ tick_with (review_start limit) r c
   unfolding recorder_of
   tick_is = ap (λ (n : ℕ). max n item.received) t.greatest ∙ (ap (λ (n : ℕ). max r.greatest n) holds.received ∙ sym (zero-add (max r.greatest x.item.received)))
 
@@ -146,84 +155,149 @@ module _ (limit : Limit) (feed : List FeedItem) (x : FeedItem) (walk new : Walk)
       mine.taken mine.missed mine.pending
       ∙ made_is limit c (tick_with (review_start limit) r c) r.made (r.pending c.group)
 
-  module _ (admitted : admits (review_start limit) r c ≡ true) (records : RecordsItem walk new item) where
-    now : Recorder
-    now = passed true (review_start limit) c (tick_with (review_start limit) r c) r (with_missed c.missed (r.pending c.group))
+  taken_now : recorder_of limit (feed ++ x ∷ []) ≡ took (review_start limit) r c
+  unfolding recorder_of
+  taken_now = goes.recorder ∙ ap (λ (b : Bool). taken_all (review_start limit) r (captured_if b feed x)) (ap is_yes is_recordable)
 
-    recorder_is : recorder_of limit (feed ++ x ∷ []) ≡ now
-    unfolding recorder_of now
-    recorder_is = goes.recorder
-        ∙ (ap (λ (b : Bool). taken_all (review_start limit) r (captured_if b feed x)) (ap is_yes is_recordable)
-        ∙ ap (λ (b : Bool). passed b (review_start limit) c (tick_with (review_start limit) r c) r (with_missed c.missed (r.pending c.group))) admitted)
+  passed_now : (b : Bool) → admits (review_start limit) r c ≡ b → recorder_of limit (feed ++ x ∷ []) ≡ passed b (review_start limit) c (tick_with (review_start limit) r c) r p
+  unfolding p
+  passed_now b e = taken_now ∙ ap (λ (b : Bool). passed b (review_start limit) c (tick_with (review_start limit) r c) r p) e
 
-    made_now : now.made ≡ r.made ++ records_at walk item
-    unfolding now new_records
-    made_now = ap (λ (more : List Record). r.made ++ more) (sym records_are)
+  pub bytes_are : item.bytes.items ≡ c.bytes
+  bytes_are = holds.bytes ∙ whole_bytes x.item.bytes (ap verdict (sym holds.bytes) ∙ yes)
 
-    greatest_is : new.greatest ≡ now.greatest
-    unfolding now recorder_of
-    greatest_is = records.greatest ∙ (ap (λ (n : ℕ). max n item.received) t.greatest ∙ ap (λ (n : ℕ). max r.greatest n) holds.received)
+  pub meter_was : IsMeter limit (second walk.greatest) (fed (review_start limit) feed).made walk.meter
+  unfolding recorder_of
+  meter_was = t.meter
 
-    grows : second walk.greatest ≤ second new.greatest
-    grows = let e = records.greatest in omega (arith, e)
+  -- what the walk's tick is once the item was taken
+  greatest_now : max walk.greatest item.received ≡ max r.greatest c.received
+  unfolding recorder_of
+  greatest_now = ap (λ (n : ℕ). max n item.received) t.greatest ∙ ap (λ (n : ℕ). max r.greatest n) holds.received
 
-    -- the account of the item's own group, and those of the others
-    own_account : IsAccount (slice_index_or new.accounts item.group no_account) (length (items_of x.group (feed ++ x ∷ []))) (rest_after (feed ++ x ∷ []) x.group) (now.pending x.group)
-    unfolding now
+  grows : second walk.greatest ≤ second (max walk.greatest item.received)
+  grows = omega arith
+
+  kept_now : KeepsWindow (second walk.greatest) r.made walk.window
+  unfolding recorder_of
+  kept_now = t.window
+
+  -- the accounts, where the item's own is settled so
+  module _ (settle : Pending → Pending) (accounts : new.accounts ≡ slice_set walk.accounts item.group (settled_account settle (slice_index_or walk.accounts item.group no_account))) where
+    pending_now : ℕ → Pending
+    pending_now = with_pending r.pending x.group (settle p)
+
+    own_account : IsAccount (slice_index_or new.accounts item.group no_account) (length (items_of x.group (feed ++ x ∷ []))) (rest_after (feed ++ x ∷ []) x.group) (pending_now x.group)
+    unfolding pending_now p
     own_account =
         let l : item.group < length walk.accounts = omega (arith, t.sixteen, sixteen) in
-        let is : slice_index_or new.accounts item.group no_account ≡ recorded_account (slice_index_or walk.accounts item.group no_account) =
-        ap (λ (xs : List Account). slice_index_or xs item.group no_account) records.accounts ∙ set_same walk.accounts item.group (recorded_account (slice_index_or walk.accounts item.group no_account)) l in
+        let is : slice_index_or new.accounts item.group no_account ≡ settled_account settle (slice_index_or walk.accounts item.group no_account) =
+        ap (λ (xs : List Account). slice_index_or xs item.group no_account) accounts ∙ set_same walk.accounts item.group (settled_account settle (slice_index_or walk.accounts item.group no_account)) l in
         record {
           taken = ap (λ (a : Account). a.tally.taken) is ∙ (ap suc mine.taken ∙ sym goes.own_count);
           missed = ap (λ (a : Account). a.tally.missed) is ∙ sym (goes.own_missed ∙ ap (λ (v : Verdict). missed_with v (rest_after feed x.group)) is_recordable);
           pending = ap (λ (a : Account). a.pending) is
-              ∙ (ap (λ (m : Counts). past_datagram (with_missed m (slice_index_or walk.accounts item.group no_account).pending)) mine.missed
-              ∙ (ap (λ (q : Pending). past_datagram (with_missed (rest_after feed x.group) q)) mine.pending
-              ∙ sym (cond-true (x.group == x.group) (past_datagram (with_missed c.missed (r.pending x.group))) (r.pending x.group) (eq-eqb x.group x.group refl))));
+              ∙ (ap (λ (m : Counts). settle (with_missed m (slice_index_or walk.accounts item.group no_account).pending)) mine.missed
+              ∙ (ap (λ (q : Pending). settle (with_missed (rest_after feed x.group) q)) mine.pending
+              ∙ sym (cond-true (x.group == x.group) (settle (with_missed c.missed (r.pending x.group))) (r.pending x.group) (eq-eqb x.group x.group refl))));
         }
 
-    other_account : (g : ℕ) → g < 16 → x.group ≢ g → IsAccount (slice_index_or new.accounts g no_account) (length (items_of g (feed ++ x ∷ []))) (rest_after (feed ++ x ∷ []) g) (now.pending g)
-    unfolding now recorder_of
+    other_account : (g : ℕ) → g < 16 → x.group ≢ g → IsAccount (slice_index_or new.accounts g no_account) (length (items_of g (feed ++ x ∷ []))) (rest_after (feed ++ x ∷ []) g) (pending_now g)
+    unfolding pending_now recorder_of
     other_account g l ne =
         let off : g ≢ item.group = λ e. ne (sym (e ∙ holds.group)) in
         let is : slice_index_or new.accounts g no_account ≡ slice_index_or walk.accounts g no_account =
-        ap (λ (xs : List Account). slice_index_or xs g no_account) records.accounts ∙ set_other walk.accounts item.group g (recorded_account (slice_index_or walk.accounts item.group no_account)) off in
+        ap (λ (xs : List Account). slice_index_or xs g no_account) accounts ∙ set_other walk.accounts item.group g (settled_account settle (slice_index_or walk.accounts item.group no_account)) off in
         let a = t.accounts g l in
         let items = goes.others g ne in
         record {
           taken = ap (λ (a : Account). a.tally.taken) is ∙ (a.taken ∙ ap (λ (is : List VItem). length is) (sym items));
           missed = ap (λ (a : Account). a.tally.missed) is ∙ (a.missed ∙ ap (λ (is : List VItem). counts_of (since_yes is)) (sym items));
           pending = ap (λ (a : Account). a.pending) is ∙ (a.pending
-              ∙ sym (cond-false (g == x.group) (past_datagram (with_missed c.missed (r.pending x.group))) (r.pending g) (ne_eqb g x.group (λ q. ne (sym q)))));
+              ∙ sym (cond-false (g == x.group) (settle p) (r.pending g) (ne_eqb g x.group (λ q. ne (sym q)))));
         }
 
-    pub recorded_tells : Tells limit new (feed ++ x ∷ [])
-    unfolding recorder_of now
-    recorded_tells = record {
-      greatest = greatest_is ∙ ap (λ (q : Recorder). q.greatest) (sym recorder_is);
-      utc = records.utc ∙ (holds.utc ∙ ap (λ (q : Recorder). q.utc) (sym recorder_is));
-      place = place_is ∙ ap (λ (q : Recorder). length q.made) (sym recorder_is);
-      sixteen = ap (λ (xs : List Account). length xs) records.accounts ∙ (simp length-set t.sixteen);
-      accounts = λ g l. subst (λ (q : Recorder). IsAccount (slice_index_or new.accounts g no_account) (length (items_of g (feed ++ x ∷ []))) (rest_after (feed ++ x ∷ []) g) (q.pending g)) (sym recorder_is)
-          (⊎_elim
-          (λ (e : x.group ≡ g). subst (λ (h : ℕ). IsAccount (slice_index_or new.accounts h no_account) (length (items_of h (feed ++ x ∷ []))) (rest_after (feed ++ x ∷ []) h) (now.pending h)) e
-          (subst (λ (h : ℕ). IsAccount (slice_index_or new.accounts h no_account) (length (items_of x.group (feed ++ x ∷ []))) (rest_after (feed ++ x ∷ []) x.group) (now.pending x.group)) holds.group own_account))
-          (λ (ne : x.group ≢ g). other_account g l ne)
-          (cases_eq x.group g));
-      window = subst (λ (made : List Record). KeepsWindow (second new.greatest) made new.window) (sym (ap (λ (q : Recorder). q.made) recorder_is ∙ made_now))
-          (keeps_more (second walk.greatest) (second new.greatest) r.made walk.window (records_at walk item) new.window grows kept_now (all_kept walk item) records.window);
-    }
-      where
-        kept_now : KeepsWindow (second walk.greatest) r.made walk.window
-        kept_now = t.window
+    all_accounts : (g : ℕ) → g < 16 → IsAccount (slice_index_or new.accounts g no_account) (length (items_of g (feed ++ x ∷ []))) (rest_after (feed ++ x ∷ []) g) (pending_now g)
+    all_accounts g l = ⊎_elim
+        (λ (e : x.group ≡ g). subst (λ (h : ℕ). IsAccount (slice_index_or new.accounts h no_account) (length (items_of h (feed ++ x ∷ []))) (rest_after (feed ++ x ∷ []) h) (pending_now h)) e
+        (subst (λ (h : ℕ). IsAccount (slice_index_or new.accounts h no_account) (length (items_of x.group (feed ++ x ∷ []))) (rest_after (feed ++ x ∷ []) x.group) (pending_now x.group)) holds.group own_account))
+        (λ (ne : x.group ≢ g). other_account g l ne)
+        (cases_eq x.group g)
 
-        place_is : new.place ≡ length now.made
-        place_is =
-            let e = records.place in let f : walk.place ≡ length r.made = t.place in
-            let g = length-append r.made (records_at walk item) in
-            let h = ap (λ (xs : List Record). length xs) made_now in
-            omega (arith, e, f, g, h)
+  -- what the meter knows once it has decided
+  meter_now : IsMeter limit (second (max walk.greatest item.received)) (took (review_start limit) r c).made new.meter
+      → IsMeter limit (second (max walk.greatest item.received)) (recorder_of limit (feed ++ x ∷ [])).made new.meter
+  meter_now m = subst (λ (q : Recorder). IsMeter limit (second (max walk.greatest item.received)) q.made new.meter) (sym taken_now) m
+
+  module _ (metered : IsMeter limit (second (max walk.greatest item.received)) (took (review_start limit) r c).made new.meter) where
+    -- An admitted item is recorded.
+    module _ (admitted : admits (review_start limit) r c ≡ true) (records : RecordsItem walk new item) where
+      now : Recorder
+      now = passed true (review_start limit) c (tick_with (review_start limit) r c) r p
+
+      now_is : recorder_of limit (feed ++ x ∷ []) ≡ now
+      unfolding now
+      now_is = passed_now true admitted
+
+      made_now : now.made ≡ r.made ++ records_at walk item
+      unfolding now new_records p
+      made_now = ap (λ (more : List Record). r.made ++ more) (sym records_are)
+
+      pub recorded_tells : Tells limit new (feed ++ x ∷ [])
+      unfolding now pending_now recorder_of
+      recorded_tells = record {
+        greatest = records.greatest ∙ (greatest_now ∙ ap (λ (q : Recorder). q.greatest) (sym now_is));
+        utc = records.utc ∙ (holds.utc ∙ ap (λ (q : Recorder). q.utc) (sym now_is));
+        place = place_is ∙ ap (λ (q : Recorder). length q.made) (sym now_is);
+        sixteen = ap (λ (xs : List Account). length xs) records.accounts ∙ (simp length-set t.sixteen);
+        accounts = λ g l. subst (λ (q : Recorder). IsAccount (slice_index_or new.accounts g no_account) (length (items_of g (feed ++ x ∷ []))) (rest_after (feed ++ x ∷ []) g) (q.pending g)) (sym now_is)
+            (all_accounts past_datagram records.accounts g l);
+        window = subst (λ (made : List Record). KeepsWindow (second new.greatest) made new.window) (sym (ap (λ (q : Recorder). q.made) now_is ∙ made_now))
+            (keeps_more (second walk.greatest) (second new.greatest) r.made walk.window (records_at walk item) new.window
+            (subst (λ (n : ℕ). second walk.greatest ≤ second n) (sym records.greatest) grows) kept_now (all_kept walk item) records.window);
+        meter = subst (λ (n : ℕ). IsMeter limit (second n) (recorder_of limit (feed ++ x ∷ [])).made new.meter) (sym records.greatest) (meter_now metered);
+      }
+        where
+          place_is : new.place ≡ length now.made
+          place_is =
+              let e = records.place in let f : walk.place ≡ length r.made = t.place in
+              let g = length-append r.made (records_at walk item) in
+              let h = ap (λ (xs : List Record). length xs) made_now in
+              omega (arith, e, f, g, h)
+
+    -- A refused item is counted, and no record is made.
+    module _ (refused : admits (review_start limit) r c ≡ false)
+        (greatest : new.greatest ≡ max walk.greatest item.received) (utc : new.utc ≡ item.utc) (place : new.place ≡ walk.place) (window : new.window ≡ walk.window)
+        (accounts : new.accounts ≡ slice_set walk.accounts item.group (refused_account (slice_index_or walk.accounts item.group no_account))) where
+      left_out : Recorder
+      left_out = passed false (review_start limit) c (tick_with (review_start limit) r c) r p
+
+      left_is : recorder_of limit (feed ++ x ∷ []) ≡ left_out
+      unfolding left_out
+      left_is = passed_now false refused
+
+      made_same : (recorder_of limit (feed ++ x ∷ [])).made ≡ r.made
+      unfolding left_out
+      made_same = ap (λ (q : Recorder). q.made) left_is
+
+      pub refused_tells : Tells limit new (feed ++ x ∷ [])
+      unfolding left_out pending_now recorder_of
+      refused_tells = record {
+        greatest = greatest ∙ (greatest_now ∙ ap (λ (q : Recorder). q.greatest) (sym left_is));
+        utc = utc ∙ (holds.utc ∙ ap (λ (q : Recorder). q.utc) (sym left_is));
+        place = place ∙ (place_was ∙ ap (λ (xs : List Record). length xs) (sym made_same));
+        sixteen = ap (λ (xs : List Account). length xs) accounts ∙ (simp length-set t.sixteen);
+        accounts = λ g l. subst (λ (q : Recorder). IsAccount (slice_index_or new.accounts g no_account) (length (items_of g (feed ++ x ∷ []))) (rest_after (feed ++ x ∷ []) g) (q.pending g)) (sym left_is)
+            (all_accounts past_refusal accounts g l);
+        window = subst (λ (n : ℕ). KeepsWindow (second n) (recorder_of limit (feed ++ x ∷ [])).made new.window) (sym greatest)
+            (subst (λ (kept : List Record). KeepsWindow (second (max walk.greatest item.received)) (recorder_of limit (feed ++ x ∷ [])).made kept) (sym window)
+            (subst (λ (made : List Record). KeepsWindow (second (max walk.greatest item.received)) made walk.window) (sym made_same)
+            (keeps_later (second walk.greatest) (second (max walk.greatest item.received)) r.made walk.window grows kept_now)));
+        meter = subst (λ (n : ℕ). IsMeter limit (second n) (recorder_of limit (feed ++ x ∷ [])).made new.meter) (sym greatest) (meter_now metered);
+      }
+        where
+          place_was : walk.place ≡ length r.made
+          place_was = t.place
 
 -- An item that is not recordable is counted in its group, and nothing else changes.
 module _ (limit : Limit) (feed : List FeedItem) (x : FeedItem) (walk new : Walk) (item : Item) (account : Account)
@@ -233,7 +307,7 @@ module _ (limit : Limit) (feed : List FeedItem) (x : FeedItem) (walk new : Walk)
     (missed_is : account.tally.missed ≡ missed_with (verdict x.item.bytes) (slice_index_or walk.accounts item.group no_account).tally.missed)
     (pending_is : account.pending ≡ (slice_index_or walk.accounts item.group no_account).pending)
     (greatest : new.greatest ≡ walk.greatest) (utc : new.utc ≡ walk.utc) (place : new.place ≡ walk.place) (window : new.window ≡ walk.window)
-    (accounts : new.accounts ≡ slice_set walk.accounts item.group account) where
+    (accounts : new.accounts ≡ slice_set walk.accounts item.group account) (meter : new.meter ≡ walk.meter) where
   same_recorder : recorder_of limit (feed ++ x ∷ []) ≡ recorder_of limit feed
   unfolding recorder_of
   same_recorder = goes.recorder ∙ ap (λ (b : Bool). taken_all (review_start limit) (fed (review_start limit) feed) (captured_if b feed x)) missed
@@ -278,4 +352,7 @@ module _ (limit : Limit) (feed : List FeedItem) (x : FeedItem) (walk new : Walk)
     window = subst (λ (n : ℕ). KeepsWindow (second n) (recorder_of limit (feed ++ x ∷ [])).made new.window) (sym greatest)
         (subst (λ (kept : List Record). KeepsWindow (second walk.greatest) (recorder_of limit (feed ++ x ∷ [])).made kept) (sym window)
         (subst (λ (made : List Record). KeepsWindow (second walk.greatest) made walk.window) (ap (λ (q : Recorder). q.made) (sym same_recorder)) t.window));
+    meter = subst (λ (n : ℕ). IsMeter limit (second n) (recorder_of limit (feed ++ x ∷ [])).made new.meter) (sym greatest)
+        (subst (λ (m : Option Metering). IsMeter limit (second walk.greatest) (recorder_of limit (feed ++ x ∷ [])).made m) (sym meter)
+        (subst (λ (made : List Record). IsMeter limit (second walk.greatest) made walk.meter) (ap (λ (q : Recorder). q.made) (sym same_recorder)) t.meter));
   }

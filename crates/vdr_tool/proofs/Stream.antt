@@ -10,7 +10,7 @@ use Rattle.vdr_feed.specs.Feed.{feed, feed_header, spelling, IsItem, AreItems, r
 use Rattle.vdr_feed.specs.Reader.{Reading, GivesItem, IsNext, past_item, begun_reading, IfKnown}
 use Rattle.vdr_feed.specs.declared.item.Item.{Item as Held}
 use Rattle.vdr_tool.specs.Review.{most_items, IfReviewed, review_text}
-use Rattle.vdr_terms.specs.Rates.Limit.{Unlimited}
+use Rattle.vdr_terms.specs.Rates.{Limit}
 
 -- the reader has read these items, in their order
 pub record Stands (first now : Option (List ℕ)) (r : Reading) (items : List FeedItem) : Type 0 where
@@ -74,10 +74,10 @@ stands_next first before now r r' held items i s n is =
     }
 
 -- at the end of the input the bytes are a feed of the items
-pub reviews : (first now : Option (List ℕ)) (r : Reading) (items : List FeedItem) (P : List ℕ → Type 0) → Stands first now r items → IsAtEnd now → P (review_text Unlimited items) → IfReviewed first P
-reviews None now r items P s end p = tt
-reviews (Some bytes) None r items P s end p = absurd s.read
-reviews (Some bytes) (Some rest) r items P s end p =
+pub reviews : (limit : Limit) (first now : Option (List ℕ)) (r : Reading) (items : List FeedItem) (P : List ℕ → Type 0) → Stands first now r items → IsAtEnd now → P (review_text limit items) → IfReviewed limit first P
+reviews limit None now r items P s end p = tt
+reviews limit (Some bytes) None r items P s end p = absurd s.read
+reviews limit (Some bytes) (Some rest) r items P s end p =
     (items, record { spelled = s.read ∙ ap (λ (t : List ℕ). feed items ++ t) end; legal = s.legal; few = s.few }, p)
 
 -- a refusal is that of the whole input

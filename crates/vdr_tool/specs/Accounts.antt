@@ -5,7 +5,7 @@ use Rattle.vdr_terms.specs.Records.{Record, total}
 use Rattle.vdr_terms.specs.Records.Content.{Datagram, Gap}
 use Rattle.vdr_terms.specs.Stamps.{IsStamp}
 use Rattle.vdr_terms.specs.Channels.{no_channels}
-use Rattle.vdr_terms.specs.Counting.{Pending, no_tally, no_pending, pushed, with_missed, past_datagram}
+use Rattle.vdr_terms.specs.Counting.{Pending, no_tally, no_pending, pushed, with_missed, past_datagram, past_refusal}
 use Rattle.vdr_history.specs.Recorder.{make}
 use Rattle.vdr_tool.specs.declared.account.Account.{Account}
 use Rattle.vdr_feed.specs.declared.item.Item.{Item}
@@ -26,9 +26,15 @@ pub record IsLegalItem (item : Item) : Type 0 where
   pub received : item.received < 2 ^ 48
   pub utc : IsStamp item.utc
 
--- A group's account once its item is taken and recorded.
+-- A group's account once its item is taken, and then recorded or refused.
+abbrev pub settled_account : (Pending → Pending) → Account → Account
+settled_account settle a = record { tally = pushed a.tally; pending = settle (with_missed a.tally.missed a.pending) }
+
 abbrev pub recorded_account : Account → Account
-recorded_account a = record { tally = pushed a.tally; pending = past_datagram (with_missed a.tally.missed a.pending) }
+recorded_account = settled_account past_datagram
+
+abbrev pub refused_account : Account → Account
+refused_account = settled_account past_refusal
 
 -- What a gap says, unless nothing was missed.
 abbrev pub gap_unless_empty : ℕ → Counts → ℕ → Option (ℕ × Counts)

@@ -1,6 +1,7 @@
 -- What the program answers.
 pub mod Accounts
 pub mod Answers
+pub mod Check
 pub mod Printed
 pub mod Review
 pub mod Said

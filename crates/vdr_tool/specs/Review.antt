@@ -1,20 +1,26 @@
 -- What `review` prints of a feed (this project's profile).
-use Rattle.std.specs.Prelude.{ℕ, ◌+◌, ◌≤◌, ◌≡◌, Bool, true, false, List, [], ◌∷◌, filter, Option, None}
+use Rattle.std.specs.Prelude.{ℕ, ◌+◌, ◌≤◌, ◌≡◌, Bool, true, false, List, [], ◌∷◌, filter, Option, None, Some}
 use Rattle.std.specs.List.{flat_map}
 use Rattle.vdr_terms.specs.Records.{Record, FeedItem, has_items, second}
 use Rattle.vdr_terms.specs.Rates.{Limit}
-use Rattle.vdr_terms.specs.Rates.Limit.{Unlimited}
+use Rattle.vdr_terms.specs.Rates.Limit.{Unlimited, AtMost}
+use Rattle.vdr_terms.specs.declared.rate.Rate.{Rate}
 use Rattle.vdr_terms.specs.Channels.{no_channels}
 use Rattle.vdr_terms.specs.Windows.{window, in_window}
 use Rattle.vdr_history.specs.Runs.{RunStart}
 use Rattle.vdr_history.specs.Feed.{feed_records}
-use Rattle.vdr_entry.specs.Lines.{record_line}
+use Rattle.vdr_play.specs.Texts.{record_text}
 use Rattle.vdr_feed.specs.Feed.{IsFeed}
 use Rattle.vdr_feed.specs.Reader.{IfKnown}
 
 -- The window of a review: 48 hours, as the fixed medium keeps them (IEC 61996-1).
 abbrev pub review_seconds : ℕ
 review_seconds = 172_800
+
+-- The limit of each group: there is none where no rate is asked for.
+abbrev pub limit_asked : Option Rate → Limit
+limit_asked None = Unlimited
+limit_asked (Some rate) = AtMost rate
 
 -- A review begins with nothing recorded, and has no channels. Each group has the same limit.
 abbrev pub review_start : Limit → RunStart
@@ -36,15 +42,15 @@ PopsOld last false old new = new ≡ old
 
 -- What `review` prints.
 unfoldable pub review_text : Limit → List FeedItem → List ℕ
-review_text limit items = flat_map record_line (reviewed limit items)
+review_text limit items = flat_map record_text (reviewed limit items)
 
 -- The greatest number of items of a feed.
 abbrev pub most_items : ℕ
 most_items = 4_294_967_295
 
--- The bytes, where they are known, are a feed, and P holds of what `review` prints of it.
-abbrev pub IfReviewed : Option (List ℕ) → (List ℕ → Type 0) → Type 0
-IfReviewed left P = IfKnown left (λ bytes. (items : List FeedItem) × IsFeed most_items bytes items × P (review_text Unlimited items))
+-- The bytes, where they are known, are a feed, and P holds of what `review` prints of it by this limit.
+abbrev pub IfReviewed : Limit → Option (List ℕ) → (List ℕ → Type 0) → Type 0
+IfReviewed limit left P = IfKnown left (λ bytes. (items : List FeedItem) × IsFeed most_items bytes items × P (review_text limit items))
 
 -- The records of a window that ends in this second.
 abbrev pub shown_records : ℕ → List Record → List Record

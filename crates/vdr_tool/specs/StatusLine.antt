@@ -4,21 +4,24 @@ use Rattle.std.specs.Io.KnownBytes.{Appends}
 use Rattle.vdr_outside.specs.Causes.{Rose}
 use Rattle.vdr_outside.specs.Writes.{AppendsFront}
 use Rattle.vdr_tool.specs.declared.status.Status.{Status}
-use Rattle.vdr_tool.specs.declared.status.Status.TheVariants.{Done, Words, InputFault, OutputFault, NoMemory, Feed}
+use Rattle.vdr_tool.specs.declared.status.Status.TheVariants.{Done, Words, Config, InputFault, OutputFault, NoMemory, Feed}
 
 -- The program's exit status.
 abbrev pub code_of : Status → ℕ
 code_of Done = 0
 code_of Words = 2
+code_of (Config number) = 3
 code_of InputFault = 7
 code_of OutputFault = 8
 code_of NoMemory = 9
 code_of (Feed number offset) = 10
 
--- The line with which the output ends. Done says nothing, and where the output failed nothing can be said.
+-- The line with which the output ends. Done says nothing, and where the output failed nothing can be said. The line of a
+-- configuration's refusal names its key too: it is `refusal_line`.
 abbrev pub status_line : Status → List ℕ
 status_line Done = []
 status_line OutputFault = []
+status_line (Config number) = []
 status_line Words = codes "status 2 words\n"
 status_line InputFault = codes "status 7 input\n"
 status_line NoMemory = codes "status 9 memory\n"
@@ -29,13 +32,19 @@ pub record Wrote (text : List ℕ) (old new : Option (List ℕ)) (before now : �
   pub front : AppendsFront old new text
   pub all : Appends old new text ⊎ Rose before now
 
--- A status other than Done and OutputFault has written its line, and nothing else.
+-- A status other than Done, Config and OutputFault has written its line, and nothing else.
 abbrev pub WroteLine : Status → Option (List ℕ) → Option (List ℕ) → ℕ → ℕ → Type 0
 WroteLine Done old new before now = ⊤
 WroteLine OutputFault old new before now = ⊤
+WroteLine (Config number) old new before now = ⊤
 WroteLine status old new before now = Wrote (status_line status) old new before now
 
 -- What is said of a feed's refusal.
 abbrev pub IfFeed : Status → (ℕ → ℕ → Type 0) → Type 0
 IfFeed (Feed number offset) P = P number offset
 IfFeed status P = ⊤
+
+-- What is said of a configuration's refusal.
+abbrev pub IfConfig : Status → (ℕ → Type 0) → Type 0
+IfConfig (Config number) P = P number
+IfConfig status P = ⊤

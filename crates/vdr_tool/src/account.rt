@@ -2,7 +2,7 @@
 ghost use Rattle.std.specs.Prelude.{◌≡◌, ◌<◌, ◌+◌, ◌^◌, IfSome};
 ghost use Rattle.vdr_terms.specs.Records.{total};
 ghost use Rattle.vdr_terms.specs.Legality.{IsMissed};
-ghost use Rattle.vdr_terms.specs.Counting.{no_tally, no_pending, tallied, pushed, one_bad, one_large, with_missed, past_datagram, next_number};
+ghost use Rattle.vdr_terms.specs.Counting.{no_tally, no_pending, tallied, pushed, one_bad, one_large, with_missed, past_datagram, past_refusal, next_number};
 
 use vdr_gap::{Counts, Pending, Tally};
 
@@ -64,6 +64,14 @@ impl Account {
         let gap = self.pending.take();
         self.pending.datagram();
         gap
+    }
+
+    /// The taken item is refused by the rate.
+    pub(crate) fn refuse(&mut self)
+        requires { next_number self.old.pending + 1 < 2 ^ 63 }
+        ensures { self.new ≡ record self.old { pending = past_refusal self.old.pending } }
+    {
+        self.pending.rate();
     }
 
     /// The run is closed. Answers the closing gap, if anything was missed since the group's last record.

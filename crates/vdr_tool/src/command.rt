@@ -1,22 +1,30 @@
-ghost use Rattle.std.specs.Prelude.{◌≡◌, ◌≤◌};
+ghost use Rattle.std.specs.Prelude.{◌≡◌, ◌≤◌, IfSome};
 ghost use Rattle.std.specs.Io.KnownBytes.{IsAtEnd, Appends};
+ghost use Rattle.vdr_config.specs.Configuration.{IsRate};
 ghost use Rattle.vdr_outside.specs.Causes.{Rose};
 ghost use Rattle.vdr_outside.specs.Writes.{AppendsFront};
 ghost use Rattle.vdr_feed.specs.Feed.{IsRefused};
 ghost use Rattle.vdr_feed.specs.Reader.{IfKnown};
-ghost use Rattle.vdr_tool.specs.Answers.{IsComplete};
-ghost use Rattle.vdr_tool.specs.Review.{IfReviewed, most_items};
-ghost use Rattle.vdr_tool.specs.StatusLine.{IfFeed, WroteLine};
-ghost use Rattle.vdr_tool.specs.Words.{IsReview};
+ghost use Rattle.vdr_tool.specs.Answers.{IfAnswered, RefusesFeed, RefusesConfig, IsComplete};
+ghost use Rattle.vdr_tool.specs.Check.{IfChecked, number_of, refusal_line};
+ghost use Rattle.vdr_tool.specs.Review.{IfReviewed, limit_asked, most_items};
+ghost use Rattle.vdr_tool.specs.StatusLine.{IfFeed, IfConfig, Wrote, WroteLine};
+ghost use Rattle.vdr_tool.specs.Words.{Asks, IsLegal};
+ghost use Rattle.vdr_config.specs.declared.bad.ConfigBad.{ConfigBad as Bad};
+ghost use Rattle.vdr_tool.specs.declared.words.Command.{Command as Asked};
+ghost use Rattle.vdr_tool.specs.declared.words.Command.TheVariants.{Check};
 ghost use Rattle.vdr_tool.specs.declared.status.Status.TheVariants.{Done, Words, InputFault, OutputFault};
 
 use crate::Status;
+use crate::checking::{CheckStop, check};
 use crate::reading::{Stop, review};
+use crate::refusal::{number_of, report_refusal};
 use crate::reports::report;
-use crate::words::is_review;
+use crate::words::{Command, command_of};
 use std::alloc::Global;
+use vdr_config::Rate;
 use vdr_feed::law_of_feeds;
-use vdr_outside::{Sink, Source, print_buffered};
+use vdr_outside::{Sink, Source, print_buffered, write_all};
 
 /// What the program reaches outside.
 #[derive(Drop)]
@@ -26,17 +34,23 @@ pub struct World<I: Drop, O: Drop> {
 }
 
 // Reads the feed to its end and prints its review. A feed that is refused, or not read, prints its status line alone.
-fn answer<I: Source + Drop, O: Sink + Drop>(alloc: Global, world: &mut World<I, O>) -> Status
+fn answer_review<I: Source + Drop, O: Sink + Drop>(
+    alloc: Global,
+    rate: Option<Rate>,
+    world: &mut World<I, O>,
+) -> Status
+    requires rate { IfSome rate IsRate }
     ensures words { result ≡ Words → ⊥ }
-    ensures done { result ≡ Done → IsAtEnd (I.left world.new.input) × IfReviewed (I.left world.old.input)
+    ensures done { result ≡ Done → IsAtEnd (I.left world.new.input) × IfReviewed (limit_asked rate) (I.left world.old.input)
         (λ text. Appends (O.taken world.old.output) (O.taken world.new.output) text) }
     ensures feed { IfFeed result (λ number offset. IfKnown (I.left world.old.input) (λ bytes. IsRefused most_items bytes number offset)) }
+    ensures config { IfConfig result (λ number. ⊥) }
     ensures input { result ≡ InputFault → Rose (I.faults world.old.input) (I.faults world.new.input) }
     ensures output { result ≡ OutputFault → Rose (O.faults world.old.output) (O.faults world.new.output)
-        × IfReviewed (I.left world.old.input) (λ text. AppendsFront (O.taken world.old.output) (O.taken world.new.output) text) }
+        × IfReviewed (limit_asked rate) (I.left world.old.input) (λ text. AppendsFront (O.taken world.old.output) (O.taken world.new.output) text) }
     ensures line { WroteLine result (O.taken world.old.output) (O.taken world.new.output) (O.faults world.old.output) (O.faults world.new.output) }
 {
-    let status = match review(alloc, &mut world.input) {
+    let status = match review(alloc, rate, &mut world.input) {
         Ok(review) => {
             return match print_buffered(&review, &mut world.output) {
                 Ok(()) => Status::Done,
@@ -51,10 +65,72 @@ fn answer<I: Source + Drop, O: Sink + Drop>(alloc: Global, world: &mut World<I, 
     status
 }
 
+// Reads a configuration and prints what it needs. One that is refused, or not read, prints its status line alone.
+fn answer_check<I: Source + Drop, O: Sink + Drop>(alloc: Global, world: &mut World<I, O>) -> Status
+    ensures words { result ≡ Words → ⊥ }
+    ensures done { result ≡ Done → IsAtEnd (I.left world.new.input) × IfChecked (I.left world.old.input)
+        (λ text. Appends (O.taken world.old.output) (O.taken world.new.output) text) }
+    ensures feed { IfFeed result (λ number offset. ⊥) }
+    ensures config { IfConfig result (λ number. (bad : Bad) × (number_of bad ≡ number) × RefusesConfig Check (I.left world.old.input) bad
+        × Wrote (refusal_line bad) (O.taken world.old.output) (O.taken world.new.output) (O.faults world.old.output) (O.faults world.new.output)) }
+    ensures input { result ≡ InputFault → Rose (I.faults world.old.input) (I.faults world.new.input) }
+    ensures output { result ≡ OutputFault → Rose (O.faults world.old.output) (O.faults world.new.output)
+        × IfChecked (I.left world.old.input) (λ text. AppendsFront (O.taken world.old.output) (O.taken world.new.output) text) }
+    ensures line { WroteLine result (O.taken world.old.output) (O.taken world.new.output) (O.faults world.old.output) (O.faults world.new.output) }
+{
+    let status = match check(alloc, &mut world.input) {
+        Ok(text) => {
+            return match write_all(&mut world.output, text.as_slice()) {
+                Ok(()) => Status::Done,
+                Err(_) => Status::OutputFault,
+            };
+        }
+        Err(CheckStop::Refused(bad)) => {
+            report_refusal(&bad, &mut world.output);
+            return Status::Config {
+                number: number_of(&bad),
+            };
+        }
+        Err(CheckStop::Input) => Status::InputFault,
+        Err(CheckStop::Memory) => Status::NoMemory,
+    };
+    report(status, &mut world.output);
+    status
+}
+
+// Does what a command asks for.
+fn answer<I: Source + Drop, O: Sink + Drop>(
+    alloc: Global,
+    command: Command,
+    world: &mut World<I, O>,
+) -> Status
+    requires legal { IsLegal command }
+    ensures words { result ≡ Words → ⊥ }
+    ensures done { result ≡ Done → IsAtEnd (I.left world.new.input) × IfAnswered command (I.left world.old.input)
+        (λ text. Appends (O.taken world.old.output) (O.taken world.new.output) text) }
+    ensures feed { IfFeed result (λ number offset. RefusesFeed command (I.left world.old.input) number offset) }
+    ensures config { IfConfig result (λ number. (bad : Bad) × (number_of bad ≡ number) × RefusesConfig command (I.left world.old.input) bad
+        × Wrote (refusal_line bad) (O.taken world.old.output) (O.taken world.new.output) (O.faults world.old.output) (O.faults world.new.output)) }
+    ensures input { result ≡ InputFault → Rose (I.faults world.old.input) (I.faults world.new.input) }
+    ensures output { result ≡ OutputFault → Rose (O.faults world.old.output) (O.faults world.new.output)
+        × IfAnswered command (I.left world.old.input) (λ text. AppendsFront (O.taken world.old.output) (O.taken world.new.output) text) }
+    ensures line { WroteLine result (O.taken world.old.output) (O.taken world.new.output) (O.faults world.old.output) (O.faults world.new.output) }
+{
+    match command {
+        Command::Review { rate } => answer_review(alloc, rate, world),
+        Command::Check => answer_check(alloc, world),
+    }
+}
+
 /// Does what the words ask for, and tells how it ended.
 ///
-/// `review` reads a feed from the input to its end and prints the Datagram and Gap records of the last 172,800 seconds of
-/// its recording, which has no rates and no channels. Any other words end with `Words`.
+/// - `review` reads a feed from the input to its end and prints the Datagram and Gap records of the last 172,800 seconds
+///   of its recording, which has no channels.
+/// - `review D B` does so with D datagrams (1 to 10,000) and B bytes (6 to 10,000,000) a second for each group.
+/// - `check` reads a configuration from the input and prints what it needs: `groups`, `cost`, `usable`, `capsule` and
+///   `longterm`, each with its number in a line. Of a text that is too long it reads 16,381 bytes.
+///
+/// Any other words end with `Words`. A number is decimal digits without a sign and without a leading zero.
 ///
 /// For each status but `Done` and `OutputFault` the output ends with a status line, and here has nothing else.
 pub fn run<I: Source + Drop, O: Sink + Drop>(
@@ -62,28 +138,34 @@ pub fn run<I: Source + Drop, O: Sink + Drop>(
     words: &[String],
     world: &mut World<I, O>,
 ) -> Status
-    ensures words { (result ≡ Words → IsReview words.now → ⊥) × ((IsReview words.now → ⊥) → result ≡ Words) }
+    ensures words { (result ≡ Words → (command : Asked) → Asks words.now command → ⊥)
+        × (((command : Asked) → Asks words.now command → ⊥) → result ≡ Words) }
     ensures untouched { result ≡ Words → world.new.input ≡ world.old.input }
 
-    // All was done: the input was a feed that was read to its end, and the output is its review.
-    ensures done { result ≡ Done → IsAtEnd (I.left world.new.input) × IfReviewed (I.left world.old.input)
+    // All was done: the input was read to its end, and the output is what the command prints of it.
+    ensures done { result ≡ Done → IsAtEnd (I.left world.new.input)
+        × (command : Asked) × Asks words.now command × IfAnswered command (I.left world.old.input)
         (λ text. Appends (O.taken world.old.output) (O.taken world.new.output) text) }
 
     // Refusals and failures come only with their cause.
-    ensures feed { IfFeed result (λ number offset. IfKnown (I.left world.old.input) (λ bytes. IsRefused most_items bytes number offset)) }
+    ensures feed { IfFeed result (λ number offset. (command : Asked) × Asks words.now command × RefusesFeed command (I.left world.old.input) number offset) }
+    ensures config { IfConfig result (λ number. (command : Asked) × Asks words.now command
+        × (bad : Bad) × (number_of bad ≡ number) × RefusesConfig command (I.left world.old.input) bad
+        × Wrote (refusal_line bad) (O.taken world.old.output) (O.taken world.new.output) (O.faults world.old.output) (O.faults world.new.output)) }
     ensures input { result ≡ InputFault → Rose (I.faults world.old.input) (I.faults world.new.input) }
     ensures output { result ≡ OutputFault → Rose (O.faults world.old.output) (O.faults world.new.output)
-        × IfReviewed (I.left world.old.input) (λ text. AppendsFront (O.taken world.old.output) (O.taken world.new.output) text) }
+        × (command : Asked) × Asks words.now command × IfAnswered command (I.left world.old.input)
+        (λ text. AppendsFront (O.taken world.old.output) (O.taken world.new.output) text) }
     ensures line { WroteLine result (O.taken world.old.output) (O.taken world.new.output) (O.faults world.old.output) (O.faults world.new.output) }
 
-    // And nothing else comes in the place of a review, or of a feed's refusal, but want of memory.
-    ensures complete { IsReview words.now → (Rose (I.faults world.old.input) (I.faults world.new.input) → ⊥)
-        → (Rose (O.faults world.old.output) (O.faults world.new.output) → ⊥) → IsComplete (I.left world.old.input) result }
+    // And nothing else comes in the place of what a command prints, or of a refusal, but want of memory.
+    ensures complete { (command : Asked) → Asks words.now command → (Rose (I.faults world.old.input) (I.faults world.new.input) → ⊥)
+        → (Rose (O.faults world.old.output) (O.faults world.new.output) → ⊥) → IsComplete command (I.left world.old.input) result }
 {
-    if !is_review(words) {
+    let Some(command) = command_of(words) else {
         report(Status::Words, &mut world.output);
         return Status::Words;
-    }
+    };
     law_of_feeds();
-    answer(alloc, world)
+    answer(alloc, command, world)
 }

@@ -2,9 +2,12 @@
 #![tactic(auto)]
 
 mod account;
+mod checking;
 mod command;
 mod kept;
+mod metering;
 mod reading;
+mod refusal;
 mod reports;
 mod status;
 mod walk;

@@ -1,10 +1,11 @@
 // Reading a feed into a review.
-ghost use Rattle.std.specs.Prelude.{◌≡◌, ◌≤◌, IfOk, IsErrOf};
+ghost use Rattle.std.specs.Prelude.{◌≡◌, ◌≤◌, IfOk, IfSome, IsErrOf};
 ghost use Rattle.std.specs.Io.KnownBytes.{IsAtEnd};
+ghost use Rattle.vdr_config.specs.Configuration.{IsRate};
 ghost use Rattle.vdr_outside.specs.Causes.{Rose};
 ghost use Rattle.vdr_feed.specs.Feed.{IsRefused};
 ghost use Rattle.vdr_feed.specs.Reader.{IfKnown};
-ghost use Rattle.vdr_tool.specs.Review.{IfReviewed, most_items};
+ghost use Rattle.vdr_tool.specs.Review.{IfReviewed, limit_asked, most_items};
 ghost use Rattle.vdr_tool.specs.Printed.{printed};
 ghost use Rattle.vdr_tool.specs.Stops.{IfRefusedStop};
 ghost use Rattle.vdr_tool.specs.declared.reading.Stop.TheVariants.{Input};
@@ -12,6 +13,7 @@ ghost use Rattle.vdr_tool.specs.declared.reading.Stop.TheVariants.{Input};
 use crate::walk::Walk;
 use crate::window::Review;
 use std::alloc::Global;
+use vdr_config::Rate;
 use vdr_feed::{FeedFault, FeedReader, Item};
 use vdr_outside::Source;
 
@@ -26,9 +28,14 @@ pub(crate) enum Stop {
     Refused { number: u8, offset: u64 },
 }
 
-/// The review of a feed, which is read to its end.
-pub(crate) fn review<I: Source>(alloc: Global, input: &mut I) -> Result<Review, Stop>
-    ensures text { IfOk result (λ review. IsAtEnd (I.left input.new) × IfReviewed (I.left input.old) (λ text. printed review ≡ text)) }
+/// The review of a feed, which is read to its end, by this rate if there is one.
+pub(crate) fn review<I: Source>(
+    alloc: Global,
+    rate: Option<Rate>,
+    input: &mut I,
+) -> Result<Review, Stop>
+    requires rate { IfSome rate IsRate }
+    ensures text { IfOk result (λ review. IsAtEnd (I.left input.new) × IfReviewed (limit_asked rate) (I.left input.old) (λ text. printed review ≡ text)) }
     ensures refused { IfRefusedStop result (λ number offset. IfKnown (I.left input.old) (λ bytes. IsRefused most_items bytes number offset)) }
     ensures failed { IsErrOf result Input → Rose (I.faults input.old) (I.faults input.new) }
     ensures later { I.faults input.old ≤ I.faults input.new }
@@ -39,7 +46,7 @@ pub(crate) fn review<I: Source>(alloc: Global, input: &mut I) -> Result<Review, 
         Err(FeedFault::Fault) => return Err(Stop::Input),
         Err(FeedFault::Refused { number, offset }) => return Err(Stop::Refused { number, offset }),
     }
-    let mut walk = Walk::new(alloc);
+    let mut walk = Walk::new(alloc, rate);
     let mut item = Item::new();
     loop {
         match reader.item(input, &mut item) {

@@ -7,8 +7,11 @@ use arrayvec::ArrayVec;
 use itoa::Buffer;
 use vdr_outside::{Sink, write_all};
 
-fn push_text(line: &mut ArrayVec<u8, 64>, text: &[u8])
-    requires { array_vec_len line.old + length text.now ≤ 64 }
+/// Room for the longest text that is written in one piece.
+pub(crate) const ROOM: usize = 160;
+
+pub(crate) fn push_text(line: &mut ArrayVec<u8, ROOM>, text: &[u8])
+    requires { array_vec_len line.old + length text.now ≤ 160 }
     ensures { line.new.items ≡ line.old.items ++ text.now }
 {
     for byte in text {
@@ -16,13 +19,14 @@ fn push_text(line: &mut ArrayVec<u8, 64>, text: &[u8])
     }
 }
 
-fn line_of(status: Status) -> ArrayVec<u8, 64>
+fn line_of(status: Status) -> ArrayVec<u8, ROOM>
     ensures { result.items ≡ status_line status }
 {
     let mut line = ArrayVec::new();
     match status {
         Status::Done => {}
         Status::OutputFault => {}
+        Status::Config { .. } => {}
         Status::Words => push_text(&mut line, b"status 2 words\n"),
         Status::InputFault => push_text(&mut line, b"status 7 input\n"),
         Status::NoMemory => push_text(&mut line, b"status 9 memory\n"),

@@ -7,6 +7,10 @@ pub enum Status {
     Done,
     /// The words ask for nothing that the program does.
     Words,
+    /// The configuration is refused by this number: 1 no JSON object, 2 a key is missing, 3 a key is unknown, 4 a value has
+    /// another type or is out of its range, 5 a name is given twice, 6 a ship's window is too short, 7 a segment is below
+    /// four batches, 8 more than 16,380 bytes. The key stands in the status line.
+    Config { number: u8 },
     /// The input failed.
     InputFault,
     /// The output failed.
@@ -27,6 +31,7 @@ impl Status {
         match self {
             Status::Done => 0,
             Status::Words => 2,
+            Status::Config { .. } => 3,
             Status::InputFault => 7,
             Status::OutputFault => 8,
             Status::NoMemory => 9,

@@ -1,28 +1,31 @@
 // The walk over the items of a feed.
-ghost use Rattle.std.specs.Prelude.{◌≡◌, ◌≤◌, ◌<◌, ◌+◌, ◌^◌, [], ◌∷◌, ◌++◌, List, length, replicate, slice_index_or, slice_set, Option, None, Some, OnOk, IfOk, IfSome};
+ghost use Rattle.std.specs.Prelude.{◌≡◌, ◌≤◌, ◌<◌, ◌+◌, ◌^◌, [], ◌∷◌, ◌++◌, List, length, replicate, slice_index_or, slice_set, max, Option, None, Some, OnOk, IfOk, IfSome};
 ghost use Rattle.vdr_terms.specs.Records.{FeedItem, total};
 ghost use Rattle.vdr_terms.specs.Counting.{next_number};
 ghost use Rattle.vdr_terms.specs.Stamps.{IsStamp};
 ghost use Rattle.vdr_terms.specs.Legality.{IsMissed};
+ghost use Rattle.vdr_config.specs.Configuration.{IsRate};
 ghost use Rattle.vdr_terms.specs.Rates.{Limit};
-ghost use Rattle.vdr_terms.specs.Rates.Limit.{Unlimited};
 ghost use Rattle.vdr_terms.specs.declared.datagram.Verdict.TheVariants.{Yes};
 ghost use Rattle.vdr_terms.specs.Datagrams.{verdict};
 ghost use Rattle.vdr_feed.specs.Kept.{Holds};
-ghost use Rattle.vdr_tool.specs.Review.{reviewed, shown_records};
+ghost use Rattle.vdr_tool.specs.Review.{limit_asked, reviewed, shown_records};
 ghost use Rattle.vdr_tool.specs.Accounts.{no_account, recorded_account, gap_told, gap_records, datagram_told, IsLegalItem};
 
 use crate::account::Account;
 use crate::kept::{Kept, Spot};
+use crate::metering::{admit, meter_of};
 use crate::window::{Review, Window};
 use std::alloc::{AllocError, Global};
+use vdr_config::Rate;
 use vdr_core::{law_of_feed, law_of_item};
 use vdr_feed::Item;
 use vdr_gap::Counts;
+use vdr_meter::Meter;
 use vdr_terms::{Verdict, recordable};
 
 /// What was met so far: the greatest `received` and the last stamp of the recordable items, the next place, what is
-/// counted of each group, and the records that may be printed.
+/// counted of each group, the meter of a review with a rate, and the records that may be printed.
 #[derive(Drop)]
 pub(crate) struct Walk {
     pub(crate) alloc: Global,
@@ -30,6 +33,7 @@ pub(crate) struct Walk {
     pub(crate) utc: i64,
     pub(crate) place: u64,
     pub(crate) accounts: [Account; 16],
+    pub(crate) meter: Option<Meter>,
     pub(crate) window: Window,
     ghost in_time: { greatest < 2 ^ 48 },
     ghost stamp: { IsStamp utc },
@@ -60,11 +64,12 @@ fn accounts() -> [Account; 16]
 }
 
 impl Walk {
-    ghost use Rattle.vdr_tool.specs.Walks.{Tells, RecordsItem, ClosesBelow};
+    ghost use Rattle.vdr_tool.specs.Walks.{Tells, RecordsItem, ClosesBelow, RefusesItem};
 
     /// Nothing is met, and the Start record has place 0.
-    pub(crate) fn new(alloc: Global) -> Walk
-        ensures { (limit : Limit) → Tells limit result [] }
+    pub(crate) fn new(alloc: Global, rate: Option<Rate>) -> Walk
+        requires { IfSome rate IsRate }
+        ensures { Tells (limit_asked rate) result [] }
     {
         Walk {
             alloc,
@@ -72,6 +77,7 @@ impl Walk {
             utc: 0,
             place: 1,
             accounts: accounts(),
+            meter: meter_of(alloc, rate),
             window: Window::new(alloc),
         }
     }
@@ -137,17 +143,38 @@ impl Walk {
         Ok(())
     }
 
-    // Takes a recordable item: its gap and its Datagram are kept.
+    // The tick at which an item is taken: it never falls.
+    fn tick_with(&self, item: &Item) -> u64
+        ensures { result ≡ max self.now.greatest item.now.received }
+    {
+        self.greatest.max(item.received)
+    }
+
+    // Counts a recordable item that the rate refuses.
+    fn refuse(&mut self, item: &Item)
+        requires legal { IsLegalItem item.now }
+        requires taken { (slice_index_or self.old.accounts item.now.group no_account).tally.taken + 1 < 2 ^ 63 }
+        requires sums { let account = slice_index_or self.old.accounts item.now.group no_account in next_number account.pending + total account.tally.missed + 1 < 2 ^ 63 }
+        ensures { RefusesItem self.old self.new item.now }
+    {
+        let account = &mut self.accounts[item.group as usize];
+        let _ = account.take();
+        account.refuse();
+        self.greatest = self.tick_with(item);
+        self.utc = item.utc;
+    }
+
+    // Records a recordable item: its gap and its Datagram are kept.
     fn record(&mut self, item: &Item) -> Result<(), AllocError>
         requires legal { IsLegalItem item.now }
         requires bytes { verdict item.now.bytes.items ≡ Yes }
         requires taken { (slice_index_or self.old.accounts item.now.group no_account).tally.taken + 1 < 2 ^ 63 }
         requires sums { let account = slice_index_or self.old.accounts item.now.group no_account in next_number account.pending + total account.tally.missed + 1 < 2 ^ 63 }
         requires place { self.old.place + 2 < 2 ^ 63 }
-        ensures { OnOk result (RecordsItem self.old self.new item.now) }
+        ensures { OnOk result (RecordsItem self.old self.new item.now × (self.new.meter ≡ self.old.meter)) }
     {
         let (number, gap) = self.count(item.group);
-        self.greatest = self.greatest.max(item.received);
+        self.greatest = self.tick_with(item);
         self.utc = item.utc;
         self.keep_gap(item.group, gap)?;
         self.keep_datagram(item, number)?;
@@ -155,16 +182,35 @@ impl Walk {
         Ok(())
     }
 
+    // Takes a recordable item, which the rate may refuse.
+    fn take(&mut self, item: &Item) -> Result<(), AllocError>
+        requires legal { IsLegalItem item.now }
+        requires bytes { verdict item.now.bytes.items ≡ Yes }
+        requires told { (limit : Limit) × (feed : List FeedItem) × Tells limit self.old feed × (length feed < 2 ^ 32) }
+        ensures { OnOk result ((limit : Limit) (feed : List FeedItem) (x : FeedItem) → Tells limit self.old feed → Holds item.now x
+            → Tells limit self.new (feed ++ x ∷ [])) }
+    {
+        law_of_item();
+        let tick = self.tick_with(item);
+        let len = item.bytes.len() as u16;
+        if admit(&mut self.meter, item.group, tick, len) {
+            self.record(item)
+        } else {
+            self.refuse(item);
+            Ok(())
+        }
+    }
+
     /// Takes the next item of the feed.
     pub(crate) fn add(&mut self, item: &Item) -> Result<(), AllocError>
         requires legal { IsLegalItem item.now }
-        requires told { (feed : List FeedItem) × Tells Unlimited self.old feed × (length feed < 2 ^ 32) }
-        ensures { OnOk result ((feed : List FeedItem) (x : FeedItem) → Tells Unlimited self.old feed → Holds item.now x
-            → Tells Unlimited self.new (feed ++ x ∷ [])) }
+        requires told { (limit : Limit) × (feed : List FeedItem) × Tells limit self.old feed × (length feed < 2 ^ 32) }
+        ensures { OnOk result ((limit : Limit) (feed : List FeedItem) (x : FeedItem) → Tells limit self.old feed → Holds item.now x
+            → Tells limit self.new (feed ++ x ∷ [])) }
     {
         law_of_item();
         match recordable(item.bytes.as_slice()) {
-            Verdict::Yes => self.record(item),
+            Verdict::Yes => self.take(item),
             Verdict::Bad => {
                 self.accounts[item.group as usize].bad();
                 Ok(())
@@ -178,7 +224,7 @@ impl Walk {
 
     // Closes the run: each group that missed anything since its last record has a closing gap, in order of group.
     fn close(&mut self) -> Result<(), AllocError>
-        requires told { (feed : List FeedItem) × Tells Unlimited self.old feed × (length feed < 2 ^ 32) }
+        requires told { (limit : Limit) × (feed : List FeedItem) × Tells limit self.old feed × (length feed < 2 ^ 32) }
         ensures { OnOk result (ClosesBelow 16 self.old self.new) }
     {
         law_of_item();
@@ -191,9 +237,9 @@ impl Walk {
 
     /// Closes the run. What is left is printed.
     pub(crate) fn finish(mut self) -> Result<Review, AllocError>
-        requires told { (feed : List FeedItem) × Tells Unlimited self feed × (length feed < 2 ^ 32) }
-        ensures { IfOk result (λ review. (feed : List FeedItem) → Tells Unlimited self feed
-            → shown_records review.last review.window ≡ reviewed Unlimited feed) }
+        requires told { (limit : Limit) × (feed : List FeedItem) × Tells limit self feed × (length feed < 2 ^ 32) }
+        ensures { IfOk result (λ review. (limit : Limit) (feed : List FeedItem) → Tells limit self feed
+            → shown_records review.last review.window ≡ reviewed limit feed) }
     {
         law_of_feed();
         self.close()?;

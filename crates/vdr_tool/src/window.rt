@@ -5,7 +5,7 @@ ghost use Rattle.std.specs.Io.KnownBytes.{Appends};
 ghost use Rattle.vdr_terms.specs.Records.{Record as Told, second};
 ghost use Rattle.vdr_outside.specs.Causes.{HasCause};
 ghost use Rattle.vdr_outside.specs.Writes.{AppendsFront};
-ghost use Rattle.vdr_entry.specs.Lines.{record_line};
+ghost use Rattle.vdr_play.specs.Texts.{record_text};
 ghost use Rattle.vdr_tool.specs.Review.{review_seconds, OnFirst, PopsOld, shown_records};
 
 use crate::kept::Kept;
@@ -26,8 +26,8 @@ pub(crate) struct Window {
 
 // Prints a record that is in the window which ends with this second, and no other.
 fn print_shown<O: Sink>(kept: &Kept, last: u64, out: &mut O) -> Result<(), Failed>
-    ensures all { OnOk result (Appends (O.taken out.old) (O.taken out.new) (flat_map record_line (shown_records last (kept.now ∷ [])))) }
-    ensures front { AppendsFront (O.taken out.old) (O.taken out.new) (flat_map record_line (shown_records last (kept.now ∷ []))) }
+    ensures all { OnOk result (Appends (O.taken out.old) (O.taken out.new) (flat_map record_text (shown_records last (kept.now ∷ [])))) }
+    ensures front { AppendsFront (O.taken out.old) (O.taken out.new) (flat_map record_text (shown_records last (kept.now ∷ []))) }
     ensures cause { HasCause (O.faults out.old) (O.faults out.new) result }
 {
     if has_left(kept, last) {
@@ -90,8 +90,8 @@ impl Window {
 
     /// Prints the records of the window that ends with this second.
     pub(crate) fn print<O: Sink>(&self, last: u64, out: &mut O) -> Result<(), Failed>
-        ensures all { OnOk result (Appends (O.taken out.old) (O.taken out.new) (flat_map record_line (shown_records last self.now))) }
-        ensures front { AppendsFront (O.taken out.old) (O.taken out.new) (flat_map record_line (shown_records last self.now)) }
+        ensures all { OnOk result (Appends (O.taken out.old) (O.taken out.new) (flat_map record_text (shown_records last self.now))) }
+        ensures front { AppendsFront (O.taken out.old) (O.taken out.new) (flat_map record_text (shown_records last self.now)) }
         ensures cause { HasCause (O.faults out.old) (O.faults out.new) result }
     {
         for kept in &self.kept {

@@ -1,13 +1,84 @@
 // The words that ask for a command.
-ghost use Rattle.std.specs.Prelude.{◌↔◌, IsTrue};
-ghost use Rattle.vdr_tool.specs.Words.{IsReview};
+ghost use Rattle.std.specs.Prelude.{◌≡◌, ◌≤◌, ◌∷◌, [], ℕ, Some, IfSome, decimal};
+ghost use Rattle.vdr_terms.specs.declared.rate.Rate.{Rate as RateTold};
+ghost use Rattle.vdr_config.specs.Configuration.{IsRate};
+ghost use Rattle.vdr_tool.specs.Words.{Asks, Spells};
+ghost use Rattle.vdr_tool.specs.declared.words.Command.{Command as Asked};
 
-/// The one word `review`.
-pub(crate) fn is_review(words: &[String]) -> bool
-    ensures { IsTrue result ↔ IsReview words.now }
+use itoa::Buffer;
+use vdr_config::Rate;
+
+/// What the words ask for.
+#[derive(Clone, Copy, Drop)]
+pub(crate) enum Command {
+    /// A review, in which each group has this rate if there is one.
+    Review { rate: Option<Rate> },
+    /// What a configuration needs.
+    Check,
+}
+
+// A number within these limits, in decimal digits without a sign and without a leading zero.
+fn number_of(word: &str, least: u32, most: u32) -> Option<u32>
+    ensures found { (n : ℕ) → least ≤ n → n ≤ most → word.now ≡ decimal n → result ≡ Some n }
+    ensures only { IfSome result (λ n. (least ≤ n) × (n ≤ most) × (word.now ≡ decimal n)) }
+{
+    let Ok(n) = word.parse::<u32>() else {
+        return None;
+    };
+    if n < least || most < n {
+        return None;
+    }
+    if Buffer::new().format(n) == word {
+        Some(n)
+    } else {
+        None
+    }
+}
+
+fn rate_of(datagrams: &str, bytes: &str) -> Option<Rate>
+    ensures found { (rate : RateTold) → IsRate rate → datagrams.now ≡ decimal rate.datagrams → bytes.now ≡ decimal rate.bytes → result ≡ Some rate }
+    ensures only { IfSome result (λ rate. IsRate rate × (datagrams.now ≡ decimal rate.datagrams) × (bytes.now ≡ decimal rate.bytes)) }
+{
+    let datagrams = number_of(datagrams, 1, 10_000)?;
+    let bytes = number_of(bytes, 6, 10_000_000)?;
+    Some(Rate { datagrams, bytes })
+}
+
+fn one_word(word: &str) -> Option<Command>
+    ensures found { (command : Asked) → Spells (word.now ∷ []) command → result ≡ Some command }
+    ensures only { IfSome result (λ command. Spells (word.now ∷ []) command) }
+{
+    if word == "review" {
+        return Some(Command::Review { rate: None });
+    }
+    if word == "check" {
+        Some(Command::Check)
+    } else {
+        None
+    }
+}
+
+fn three_words(word: &str, datagrams: &str, bytes: &str) -> Option<Command>
+    ensures found { (command : Asked) → Spells (word.now ∷ datagrams.now ∷ bytes.now ∷ []) command → result ≡ Some command }
+    ensures only { IfSome result (λ command. Spells (word.now ∷ datagrams.now ∷ bytes.now ∷ []) command) }
+{
+    if word != "review" {
+        return None;
+    }
+    let rate = rate_of(datagrams, bytes)?;
+    Some(Command::Review { rate: Some(rate) })
+}
+
+/// The command that these words ask for, None where they ask for none.
+pub(crate) fn command_of(words: &[String]) -> Option<Command>
+    ensures found { (command : Asked) → Asks words.now command → result ≡ Some command }
+    ensures only { IfSome result (λ command. Asks words.now command) }
 {
     match words {
-        [word] => word.as_str() == "review",
-        _ => false,
+        [word] => one_word(word.as_str()),
+        [word, datagrams, bytes] => {
+            three_words(word.as_str(), datagrams.as_str(), bytes.as_str())
+        }
+        _ => None,
     }
 }

@@ -2,7 +2,6 @@ use Rattle.std.proofs.Common.{◌≡◌, ◌<◌, ◌≤◌, ◌+◌, ◌^◌, �
 use Rattle.std.proofs.lemmas.List.{get_or_default}
 use Rattle.vdr_terms.specs.Records.{total}
 use Rattle.vdr_terms.specs.Counting.{next_number}
-use Rattle.vdr_terms.specs.Rates.Limit.{Unlimited}
 use Rattle.vdr_tool.specs.declared.account.Account.{Account}
 use Rattle.vdr_tool.specs.declared.walk.Walk.{Walk}
 use Rattle.vdr_tool.specs.Accounts.{no_account, gap_told}
@@ -14,8 +13,8 @@ use Rattle.vdr_tool.proofs.walk.Walk.close.Goals as goal
 pub close-gap-requires : goal.close-gap-requires
 close-gap-requires c =
     let n : ℕ = c.loop-group.group in
-    let room : HasRoom c.args.self.now n = has_room Unlimited c.args.self.now n c.requires.told.0 c.requires.told.1 c.requires.told.2 (omega arith)
-    (c.law_of_item.ensures.numbers (review_start Unlimited) c.requires.told.0 n) (c.law_of_item.ensures.few (review_start Unlimited) c.requires.told.0) in
+    let room : HasRoom c.args.self.now n = has_room c.requires.told.0 c.args.self.now n c.requires.told.1 c.requires.told.2 c.requires.told.3 (omega arith)
+    (c.law_of_item.ensures.numbers (review_start c.requires.told.0) c.requires.told.1 n) (c.law_of_item.ensures.few (review_start c.requires.told.0) c.requires.told.1) in
     let sums = room.sums in
     let short : next_number (slice_index_or c.args.self.now.accounts n no_account).pending + total (slice_index_or c.args.self.now.accounts n no_account).tally.missed < 2 ^ 63 = omega (arith, sums) in
     subst (λ (a : Account). next_number a.pending + total a.tally.missed < 2 ^ 63)
@@ -25,8 +24,8 @@ close-gap-requires c =
 pub keep_gap-requires-clause-place : goal.keep_gap-requires-clause-place
 keep_gap-requires-clause-place c =
     let n : ℕ = c.loop-group.group in
-    let room : HasRoom c.args.self.now n = has_room Unlimited c.args.self.now n c.requires.told.0 c.requires.told.1 c.requires.told.2 (omega arith)
-    (c.law_of_item.ensures.numbers (review_start Unlimited) c.requires.told.0 n) (c.law_of_item.ensures.few (review_start Unlimited) c.requires.told.0) in
+    let room : HasRoom c.args.self.now n = has_room c.requires.told.0 c.args.self.now n c.requires.told.1 c.requires.told.2 c.requires.told.3 (omega arith)
+    (c.law_of_item.ensures.numbers (review_start c.requires.told.0) c.requires.told.1 n) (c.law_of_item.ensures.few (review_start c.requires.told.0) c.requires.told.1) in
     let place = room.place in
     let here = c.loop-group.invariant.closes.place in
     let few = few_gaps n c.args.self.now in

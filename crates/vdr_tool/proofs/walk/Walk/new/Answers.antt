@@ -5,6 +5,7 @@ use Rattle.vdr_terms.specs.Records.{Record, second}
 use Rattle.vdr_tool.specs.Review.{review_seconds}
 use Rattle.vdr_tool.specs.Walks.{recorder_of}
 use Rattle.vdr_tool.specs.Accounts.{no_account, IsAccount}
+use Rattle.vdr_tool.proofs.Meters.{no_datagram}
 use Rattle.vdr_tool.specs.declared.account.Account.{Account}
 use Rattle.vdr_tool.proofs.walk.Walk.new.Goals as goal
 
@@ -13,7 +14,7 @@ fresh xs g l e = ap (λ (ys : List Account). slice_index_or ys g no_account) e �
 
 pub returns : goal.returns
 unfolding recorder_of
-returns c = λ limit. record {
+returns c = record {
   greatest = refl;
   utc = refl;
   place = refl;
@@ -24,4 +25,5 @@ returns c = λ limit. record {
     pending = ap (λ (a : Account). a.pending) (fresh c.accounts.result g l c.accounts.ensures);
   };
   window = record { gone = []; order = sym c.new.ensures; old = All-nil (λ (r : Record). second r.tick + review_seconds ≤ 0) };
+  meter = c.meter_of.ensures _ (no_datagram _ refl);
 }

@@ -1,0 +1,79 @@
+-- The text of a configuration, as far as it is read, and what is printed of it.
+use Rattle.std.proofs.Common.{◌≡◌, ◌≤◌, ◌<◌, ◌+◌, ℕ, List, [], ◌∷◌, ◌++◌, length, Option, None, Some, Result, Ok, Err, codes, refl, sym, ap, ◌∙◌, subst, arith, ⊎_elim, append-nil, append_assoc, length-append}
+use Rattle.std.specs.Prelude.{decimal}
+use Rattle.std.specs.Io.KnownBytes.{Consumes, IsAtEnd, Appends}
+use Rattle.std.proofs.KnownBytes.{Appends-trans}
+use Rattle.std.proofs.lemmas.Bool.{cases_lt, cond-true, lt-ltb}
+use Rattle.vdr_outside.specs.Writes.{AppendsFront}
+use Rattle.vdr_entry.specs.Escape.{escaped}
+use Rattle.vdr_feed.specs.Reader.{IfKnown}
+use Rattle.vdr_config.specs.declared.bad.ConfigBad.{ConfigBad}
+use Rattle.vdr_config.specs.declared.bad.ConfigBad.TheVariants.{TooLong}
+use Rattle.vdr_config.specs.Configuration.{Configuration}
+use Rattle.vdr_config.specs.Grammar.{configuration}
+use Rattle.vdr_tool.specs.declared.checking.CheckStop.{CheckStop}
+use Rattle.vdr_tool.specs.declared.checking.CheckStop.TheVariants.{Input, Memory, Refused}
+use Rattle.vdr_tool.specs.Check.{IfChecked, IfRefusedStop, check_text, number_of, key_of, refusal_line}
+
+too_long : (text : List ℕ) → 16380 < length text → configuration text ≡ Err TooLong
+unfolding configuration
+too_long text l = cond-true _ (Err TooLong) _ (lt-ltb 16380 (length text) l)
+
+-- what was read tells all of the input
+pub whole_text : (first now : Option (List ℕ)) (text : List ℕ) → Consumes first now text → (length text < 16381 → IsAtEnd now)
+    → IfKnown first (λ bytes. configuration bytes ≡ configuration text)
+whole_text None now text read end = tt
+whole_text (Some bytes) None text read end = absurd read
+whole_text (Some bytes) (Some rest) text read end = ⊎_elim
+    (λ (long : 16380 < length text).
+    let more = length-append text rest in
+    let same : length bytes ≡ length (text ++ rest) = ap (λ (b : List ℕ). length b) read in
+    too_long bytes (omega (arith, long, more, same)) ∙ sym (too_long text long))
+    (λ (short : length text ≤ 16380).
+    let at_end : rest ≡ [] = end (omega (arith, short)) in
+    ap configuration (read ∙ (ap (λ (r : List ℕ). text ++ r) at_end ∙ append-nil text)))
+    (cases_lt 16380 (length text))
+
+pub told_text : (first : Option (List ℕ)) (text : List ℕ) (r : Result Configuration ConfigBad) → IfKnown first (λ bytes. configuration bytes ≡ configuration text)
+    → configuration text ≡ r → IfKnown first (λ bytes. configuration bytes ≡ r)
+told_text None text r same is = tt
+told_text (Some bytes) text r same is = same ∙ is
+
+pub checked_text : (first : Option (List ℕ)) (text needs : List ℕ) (c : Configuration) → IfKnown first (λ bytes. configuration bytes ≡ configuration text)
+    → configuration text ≡ Ok c → needs ≡ check_text c → IfChecked first (λ t. needs ≡ t)
+checked_text None text needs c same is prints = tt
+checked_text (Some bytes) text needs c same is prints = (c, same ∙ is, prints)
+
+pub short_text : (text : List ℕ) (c : Configuration) → configuration text ≡ Ok c → length text < 16381
+short_text text c is = ⊎_elim
+    (λ (long : 16380 < length text). let clash : Ok c ≡ Err TooLong = sym is ∙ too_long text long in let none : ⊥ = cc in absurd none)
+    (λ (short : length text ≤ 16380). omega (arith, short))
+    (cases_lt 16380 (length text))
+
+pub stop_weaker : (s : CheckStop) (P Q : ConfigBad → Type 0) → ((b : ConfigBad) → P b → Q b) → IfRefusedStop s P → IfRefusedStop s Q
+stop_weaker Input P Q f h = tt
+stop_weaker Memory P Q f h = tt
+stop_weaker (Refused bad) P Q f h = f bad h
+
+-- the line up to the key, the key, and LF
+pub refusal_parts : (bad : ConfigBad) (front key : List ℕ) (n : ℕ) → n ≡ number_of bad → front ≡ codes "status 3 config " ++ decimal n ++ codes " " → key ≡ key_of bad
+    → refusal_line bad ≡ front ++ (escaped key ++ codes "\n")
+unfolding refusal_line
+refusal_parts bad front key n number is path =
+    append_assoc (codes "status 3 config " ++ decimal (number_of bad) ++ codes " ") (escaped (key_of bad)) (codes "\n")
+    ∙ (ap (λ (f : List ℕ). f ++ (escaped (key_of bad) ++ codes "\n")) (sym (is ∙ ap (λ (m : ℕ). codes "status 3 config " ++ decimal m ++ codes " ") number))
+    ∙ ap (λ (k : List ℕ). front ++ (escaped k ++ codes "\n")) (sym path))
+
+-- a front of the text's first piece
+pub front_first : (old new : Option (List ℕ)) (piece rest text : List ℕ) → text ≡ piece ++ rest → AppendsFront old new piece → AppendsFront old new text
+front_first old new piece rest text is f =
+    (f.0, f.1 ++ rest, is ∙ ap (λ (xs : List ℕ). xs ++ rest) f.2 ∙ append_assoc f.0 f.1 rest, f.3)
+
+-- a front of a later piece, once those before it were written
+pub front_later : (old now new : Option (List ℕ)) (before piece rest text : List ℕ) → text ≡ before ++ (piece ++ rest) → Appends old now before → AppendsFront now new piece → AppendsFront old new text
+front_later old now new before piece rest text is p f = (
+  before ++ f.0,
+  f.1 ++ rest,
+  is ∙ ap (λ (xs : List ℕ). before ++ xs) (ap (λ (xs : List ℕ). xs ++ rest) f.2 ∙ append_assoc f.0 f.1 rest) ∙ sym (append_assoc before f.0 (f.1 ++ rest)),
+  Appends-trans old now new before f.0 p f.3,
+)

@@ -1,0 +1,92 @@
+// What a configuration needs, read from its text.
+ghost use Rattle.std.specs.Prelude.{◌≡◌, ◌≤◌, ◌+◌, ◌++◌, Result, Ok, Err, length, IfOk, IsErrOf};
+ghost use Rattle.std.specs.Io.KnownBytes.{IsAtEnd};
+ghost use Rattle.arrayvec.specs.ArrayVec.{array_vec_len};
+ghost use Rattle.vdr_outside.specs.Causes.{Rose};
+ghost use Rattle.vdr_feed.specs.Reader.{IfKnown};
+ghost use Rattle.vdr_config.specs.declared.bad.ConfigBad.{ConfigBad as Bad};
+ghost use Rattle.vdr_config.specs.Configuration.{Configuration};
+ghost use Rattle.vdr_config.specs.Grammar.{configuration, Refuses};
+ghost use Rattle.vdr_tool.specs.Check.{IfChecked, IfRefusedStop, IfRefusedText, check_text, groups_of, need_line};
+ghost use Rattle.vdr_tool.specs.declared.checking.CheckStop.TheVariants.{Input};
+
+use crate::reports::{ROOM, push_text};
+use arrayvec::ArrayVec;
+use itoa::Buffer;
+use std::alloc::Global;
+use vdr_config::{Config, ConfigBad, needs, read_config};
+use vdr_feed::fill;
+use vdr_outside::Source;
+
+// So many bytes tell that a text is longer than the longest configuration.
+const ENOUGH: usize = 16_381;
+
+/// Why a text has no needs.
+#[derive(Drop)]
+pub(crate) enum CheckStop {
+    Input,
+    Memory,
+    Refused(ConfigBad),
+}
+
+// A name and a number.
+fn push_line(text: &mut ArrayVec<u8, ROOM>, name: &[u8], number: u64)
+    requires { array_vec_len text.old + length name.now + 22 ≤ 160 }
+    ensures line { text.new.items ≡ text.old.items ++ need_line name.now number }
+    ensures short { array_vec_len text.new ≤ array_vec_len text.old + length name.now + 22 }
+{
+    push_text(text, name);
+    push_text(text, b" ");
+    push_text(text, Buffer::new().format(number).as_bytes());
+    push_text(text, b"\n");
+}
+
+fn groups_of(config: &Config) -> usize
+    ensures { result ≡ groups_of config.now }
+{
+    config.groups.iter().filter(|rate| rate.is_some()).count()
+}
+
+fn text_of(config: &Config) -> ArrayVec<u8, ROOM>
+    ensures { result.items ≡ check_text config.now }
+{
+    let needs = needs(config);
+    let mut text = ArrayVec::new();
+    push_line(&mut text, b"groups", groups_of(config) as u64);
+    push_line(&mut text, b"cost", needs.cost);
+    push_line(&mut text, b"usable", needs.usable);
+    push_line(&mut text, b"capsule", needs.capsule_slots);
+    push_line(&mut text, b"longterm", needs.long_slots);
+    text
+}
+
+// What a reading of a configuration ended with.
+fn stopped_by(bad: ConfigBad) -> CheckStop
+    ensures refused { (grammar : Result Configuration Bad) → Refuses bad grammar → IfRefusedStop result (λ b. grammar ≡ Err b) }
+    ensures read { result ≡ Input → ⊥ }
+{
+    match bad {
+        ConfigBad::NoMemory => CheckStop::Memory,
+        bad => CheckStop::Refused(bad),
+    }
+}
+
+/// What the configuration that the input is needs. The input is read to its end, unless it is too long.
+pub(crate) fn check<I: Source>(
+    alloc: Global,
+    input: &mut I,
+) -> Result<ArrayVec<u8, ROOM>, CheckStop>
+    ensures text { IfOk result (λ text. IsAtEnd (I.left input.new) × IfChecked (I.left input.old) (λ needs. text.items ≡ needs)) }
+    ensures refused { IfRefusedText result (λ bad. IfKnown (I.left input.old) (λ bytes. configuration bytes ≡ Err bad)) }
+    ensures failed { IsErrOf result Input → Rose (I.faults input.old) (I.faults input.new) }
+    ensures later { I.faults input.old ≤ I.faults input.new }
+{
+    let mut text = [0; ENOUGH];
+    let Ok(count) = fill(input, &mut text) else {
+        return Err(CheckStop::Input);
+    };
+    match read_config(alloc, &text[..count]) {
+        Ok(config) => Ok(text_of(&config)),
+        Err(bad) => Err(stopped_by(bad)),
+    }
+}
