@@ -10,6 +10,7 @@ pub(crate) struct StdIn<R: Read + Drop> {
 }
 
 impl<R: Read + Drop> StdIn<R> {
+    /// A source over a reader, of which nothing has failed.
     pub(crate) fn new(reader: R) -> StdIn<R> {
         StdIn { reader, faults: 0 }
     }
@@ -39,6 +40,7 @@ pub(crate) struct StdOut<W: Write + Drop> {
 }
 
 impl<W: Write + Drop> StdOut<W> {
+    /// A sink over a writer, of which nothing has failed.
     pub(crate) fn new(writer: W) -> StdOut<W> {
         StdOut { writer, faults: 0 }
     }

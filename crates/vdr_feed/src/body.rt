@@ -37,7 +37,7 @@ fn refill(into: &mut ArrayVec<u8, 1473>, bytes: &[u8])
     let _ = into.try_extend_from_slice(bytes);
 }
 
-// Reads a body of so many bytes, of which the first 1,473 are kept. It answers false where the input ends before.
+/// Reads a body of so many bytes, of which the first 1,473 are kept. It answers false where the input ends before.
 pub(crate) fn read_body<I: Source>(
     input: &mut I,
     len: usize,

@@ -24,6 +24,7 @@ fn u64_of(bytes: &[u8]) -> u64
     ])
 }
 
+/// The milliseconds since capture began.
 pub(crate) fn received_of(head: &[u8]) -> u64
     requires { length head.now ≡ 19 }
     ensures { result ≡ received_in head.now }
@@ -31,6 +32,7 @@ pub(crate) fn received_of(head: &[u8]) -> u64
     u64_of(&head[1..9])
 }
 
+/// The UTC stamp as a natural number; a negative one is 2^63 or more.
 pub(crate) fn utc_of(head: &[u8]) -> u64
     requires { length head.now ≡ 19 }
     ensures { result ≡ utc_in head.now }
@@ -38,6 +40,7 @@ pub(crate) fn utc_of(head: &[u8]) -> u64
     u64_of(&head[9..17])
 }
 
+/// The length of the body, in bytes.
 pub(crate) fn length_of(head: &[u8]) -> u16
     requires { length head.now ≡ 19 }
     ensures { result ≡ length_in head.now }
@@ -46,7 +49,7 @@ pub(crate) fn length_of(head: &[u8]) -> u16
     u16::from_le_bytes([tail[0], tail[1]])
 }
 
-// The number of the first fault of a head, where the item before was received at `floor`.
+/// The number of the first fault of a head, where the item before was received at `floor`.
 pub(crate) fn fault_of_head(head: &[u8], floor: u64) -> Option<u8>
     requires { length head.now ≡ 19 }
     ensures fault { result ≡ head_fault floor head.now }
@@ -65,7 +68,7 @@ pub(crate) fn fault_of_head(head: &[u8], floor: u64) -> Option<u8>
     None
 }
 
-// Whether the input begins with the header of a feed, which is then passed.
+/// Whether the input begins with the header of a feed, which is then passed.
 pub(crate) fn read_header<I: Source>(input: &mut I) -> Result<bool, Failed>
     ensures yes { IfOk result (λ yes. yes ≡ true → Consumes (I.left input.old) (I.left input.new) feed_header) }
     ensures front { IfOk result (λ _. (front : List ℕ) × (length front ≤ 8) × Consumes (I.left input.old) (I.left input.new) front) }

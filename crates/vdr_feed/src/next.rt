@@ -35,7 +35,8 @@ fn read_past_limit<I: Source>(
     Err(Stop::Refused(6))
 }
 
-// Reads the next item and answers the length of its body, or None at the end. It stands after `count` others, the last of which was received at `floor`.
+/// Reads the next item and answers the length of its body, or None at the end. It stands after `count` others, the last of which
+/// was received at `floor`.
 pub(crate) fn read_item<I: Source>(
     limit: u64,
     count: u64,

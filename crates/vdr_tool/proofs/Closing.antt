@@ -1,5 +1,5 @@
 -- The closing gaps, group by group.
-use Rattle.std.proofs.Common.{◌≡◌, ◌≢◌, ◌≤◌, ◌<◌, ◌+◌, ◌^◌, ℕ, zero, suc, ℤ, List, [], ◌∷◌, ◌++◌, length, Option, Some, None, slice_index_or, slice_set, refl, sym, ap, ◌∙◌, subst, arith, add-one, append_assoc, append-nil, length-append}
+use Rattle.std.proofs.Common.{◌≡◌, ◌≤◌, ◌+◌, ℕ, zero, suc, ℤ, List, ◌++◌, length, Option, Some, None, slice_index_or, slice_set, sym, ap, ◌∙◌, subst, arith, add-one, append_assoc, length-append}
 use Rattle.vdr_terms.specs.declared.counts.Counts.{Counts}
 use Rattle.vdr_terms.specs.Records.{Record}
 use Rattle.vdr_tool.specs.declared.account.Account.{Account}

@@ -5,7 +5,7 @@ use Rattle.vdr_terms.specs.Rates.{Limit}
 use Rattle.vdr_feed.specs.Feed.{IsFeed, IsRefused}
 use Rattle.vdr_feed.specs.Reader.{IfKnown}
 use Rattle.vdr_feed.specs.Law.{NoFeedIsRefused, OneRefusal}
-use Rattle.vdr_tool.specs.Answers.{IsDone, IsRefusal, ReviewsAll, IfAnswered, RefusesFeed, RefusesConfig, ChecksAll, IsComplete}
+use Rattle.vdr_tool.specs.Answers.{ReviewsAll, IfAnswered, RefusesFeed, RefusesConfig, ChecksAll, IsComplete}
 use Rattle.vdr_tool.specs.Review.{most_items, limit_asked, IfReviewed}
 use Rattle.vdr_tool.specs.StatusLine.{IfFeed, IfConfig}
 use Rattle.vdr_config.specs.declared.bad.ConfigBad.{ConfigBad}

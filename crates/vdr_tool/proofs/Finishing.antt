@@ -1,17 +1,16 @@
 -- What is kept when the run is closed is, within the window, what a review prints.
-use Rattle.std.proofs.Common.{◌≡◌, ◌≤◌, ◌<◌, ◌+◌, ℕ, zero, suc, ℤ, List, [], ◌∷◌, ◌++◌, length, filter, All, Bool, true, false, cond, ◌&&◌, nat_lt, Option, Some, None, slice_index_or, refl, sym, ap, ◌∙◌, subst, arith, zero-add, append_assoc, append-nil}
-use Rattle.std.proofs.lemmas.Bool.{cases_Bool, cond-true, cond-false, le-ltb}
+use Rattle.std.proofs.Common.{◌≡◌, ◌≤◌, ◌<◌, ◌+◌, ℕ, zero, suc, ℤ, List, [], ◌∷◌, ◌++◌, length, filter, All, Bool, true, false, cond, Option, Some, slice_index_or, refl, sym, ap, ◌∙◌, subst, arith, zero-add, append_assoc, append-nil}
+use Rattle.std.proofs.lemmas.Bool.{cond-false, le-ltb}
 use Rattle.std.proofs.lemmas.List.Elements.{All-head, All-tail, filter-append}
 use Rattle.vdr_terms.specs.declared.counts.Counts.{Counts}
 use Rattle.vdr_terms.specs.Records.{Record, FeedItem, has_items, second, total, last, last_after}
-use Rattle.vdr_terms.specs.Records.Content.{Stop}
 use Rattle.vdr_terms.specs.Rates.{Limit}
 use Rattle.vdr_terms.specs.Counting.{Pending, with_missed}
 use Rattle.vdr_terms.specs.Windows.{in_window, window, window_before}
 use Rattle.vdr_history.specs.Runs.{RunStart}
 use Rattle.vdr_history.specs.Feed.{feed_records}
-use Rattle.vdr_history.specs.Recorder.{Recorder, next_in, tick_of, gap_of, gap_unless_none, gaps_below, stop_of, closed_run}
-use Rattle.vdr_core.specs.Replay.{fed, taken_of, rest_after, IsReplay}
+use Rattle.vdr_history.specs.Recorder.{Recorder, next_in, tick_of, gap_of, gap_unless_none, gaps_below, stop_of}
+use Rattle.vdr_core.specs.Replay.{fed, rest_after, IsReplay}
 use Rattle.vdr_tool.specs.declared.walk.Walk.{Walk}
 use Rattle.vdr_tool.specs.Accounts.{no_account, gap_of_pending, gap_records}
 use Rattle.vdr_tool.specs.Review.{review_start, review_seconds, reviewed}

@@ -1,11 +1,11 @@
 -- What a walk's meter knows, and what it decides.
-use Rattle.std.proofs.Common.{◌≡◌, ◌≤◌, ◌<◌, ◌+◌, ◌∷◌, [], ℕ, ℤ, zero, suc, Bool, true, false, List, length, replicate, Option, Some, None, slice_index_or, refl, sym, ap, ◌∙◌, subst, arith}
+use Rattle.std.proofs.Common.{◌≡◌, ◌≤◌, ◌<◌, ◌∷◌, [], ℕ, ℤ, zero, suc, Bool, true, false, List, replicate, Option, Some, None, refl, sym, ap, ◌∙◌, subst, arith}
 use Rattle.std.proofs.lemmas.List.{get_or-replicate}
 use Rattle.std.specs.Prelude.{IfSome}
 use Rattle.std.specs.Bool.{OnTrue, OnFalse}
 use Rattle.vdr_terms.specs.declared.counts.Counts.{Counts}
 use Rattle.vdr_terms.specs.declared.rate.Rate.{Rate}
-use Rattle.vdr_terms.specs.Records.{Record, is_datagram, second}
+use Rattle.vdr_terms.specs.Records.{Record, is_datagram}
 use Rattle.vdr_terms.specs.Rates.{Limit}
 use Rattle.vdr_terms.specs.Rates.Limit.{NotConfigured, Unlimited, AtMost}
 use Rattle.vdr_terms.specs.Counting.{Pending}

@@ -1,20 +1,18 @@
 -- A walk that has recorded an item has met it.
-use Rattle.std.proofs.Common.{◌≡◌, ◌≢◌, ◌≤◌, ◌<◌, ◌+◌, ◌/◌, ℕ, zero, suc, ℤ, max, List, [], ◌∷◌, ◌++◌, length, take, filter, All, Bool, true, false, cond, ◌==◌, Option, Some, None, slice_index_or, slice_set, refl, sym, ap, ◌∙◌, subst, arith, zero-add, ⊎_elim, append-nil, append_assoc, length-append, get_or-set_same, get_or-set_other, length-set}
+use Rattle.std.proofs.Common.{◌≡◌, ◌≢◌, ◌≤◌, ◌<◌, ◌+◌, ℕ, zero, suc, ℤ, max, List, [], ◌∷◌, ◌++◌, length, take, filter, All, Bool, true, false, ◌==◌, Option, Some, None, slice_index_or, slice_set, refl, sym, ap, ◌∙◌, subst, arith, zero-add, ⊎_elim, append_assoc, length-append, get_or-set_same, get_or-set_other, length-set}
 use Rattle.std.proofs.lemmas.Bool.{cases_eq, cases_lt, eq-eqb, ne_eqb, cond-true, cond-false, lt-ltb}
 use Rattle.std.proofs.lemmas.List.{take_all, length-take-le}
 use Rattle.std.proofs.lemmas.List.Elements.{All-append, filter-append}
 use Rattle.vdr_terms.specs.declared.counts.Counts.{Counts}
 use Rattle.vdr_terms.specs.declared.datagram.Verdict.{Verdict}
-use Rattle.vdr_terms.specs.declared.datagram.Verdict.TheVariants.{Yes, Bad, Large}
+use Rattle.vdr_terms.specs.declared.datagram.Verdict.TheVariants.{Yes, Large}
 use Rattle.vdr_terms.specs.Datagrams.{verdict, is_yes, largest}
 use Rattle.vdr_terms.specs.Records.{Record, Item as VItem, FeedItem, has_items, second, total}
 use Rattle.vdr_terms.specs.Rates.{Limit}
 use Rattle.vdr_terms.specs.Counting.{Pending, with_missed, past_datagram, past_refusal}
-use Rattle.vdr_terms.specs.Channels.{no_channels}
-use Rattle.vdr_history.specs.Runs.{RunStart}
 use Rattle.vdr_history.specs.Taken.{Captured}
 use Rattle.vdr_history.specs.Feed.{items_of, counts_of}
-use Rattle.vdr_history.specs.Recorder.{Recorder, make, next_in, gap_of, gap_unless_none, datagram_of, with_datagram, passed, tick_with, admits, took, taken_all, with_pending}
+use Rattle.vdr_history.specs.Recorder.{Recorder, next_in, gap_of, gap_unless_none, datagram_of, passed, tick_with, admits, took, taken_all, with_pending}
 use Rattle.vdr_core.specs.Replay.{since_yes, captured_after, captured_if, fed, rest_after, missed_with, GoesOn}
 use Rattle.vdr_meter.specs.Metering.{Metering}
 use Rattle.vdr_feed.specs.Kept.{Holds}
@@ -22,7 +20,7 @@ use Rattle.vdr_tool.specs.declared.account.Account.{Account}
 use Rattle.vdr_feed.specs.declared.item.Item.{Item}
 use Rattle.vdr_tool.specs.declared.walk.Walk.{Walk}
 use Rattle.vdr_tool.specs.Review.{review_start, review_seconds}
-use Rattle.vdr_tool.specs.Accounts.{no_account, IsAccount, settled_account, recorded_account, refused_account, gap_told, gap_unless_empty, gap_records, datagram_told}
+use Rattle.vdr_tool.specs.Accounts.{no_account, IsAccount, settled_account, refused_account, gap_told, gap_unless_empty, gap_records, datagram_told}
 use Rattle.vdr_tool.specs.Walks.{recorder_of, KeepsWindow, IsMeter, Tells, records_at, RecordsItem}
 
 -- the first 1,473 bytes tell the verdict, and a recordable datagram has no more

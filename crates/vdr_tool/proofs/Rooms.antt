@@ -1,10 +1,9 @@
 -- The numbers of a walk stay far below the ends of their types.
-use Rattle.std.proofs.Common.{◌≡◌, ◌≤◌, ◌<◌, ◌+◌, ◌^◌, ℕ, List, [], ◌∷◌, length, map, filter, Bool, true, false, cond, ◌==◌, slice_index_or, sym, ap, ◌∙◌, arith, ⊎_elim}
+use Rattle.std.proofs.Common.{◌≡◌, ◌≤◌, ◌<◌, ◌+◌, ◌^◌, ℕ, List, [], ◌∷◌, length, map, filter, true, false, ◌==◌, slice_index_or, ap, arith, ⊎_elim}
 use Rattle.std.proofs.lemmas.Bool.{cases_Bool, cond-true, cond-false}
-use Rattle.vdr_terms.specs.declared.counts.Counts.{Counts}
-use Rattle.vdr_terms.specs.Records.{FeedItem, Item, total}
+use Rattle.vdr_terms.specs.Records.{FeedItem, total}
 use Rattle.vdr_terms.specs.Rates.{Limit}
-use Rattle.vdr_terms.specs.Counting.{Pending, next_number}
+use Rattle.vdr_terms.specs.Counting.{next_number}
 use Rattle.vdr_history.specs.Feed.{items_of}
 use Rattle.vdr_core.specs.Replay.{NumbersAddUp, RecordsAreFew}
 use Rattle.vdr_tool.specs.declared.walk.Walk.{Walk}

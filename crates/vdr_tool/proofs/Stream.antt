@@ -1,13 +1,13 @@
 -- Where a reader stands in a feed after some items.
-use Rattle.std.proofs.Common.{◌≡◌, ◌≢◌, ◌≤◌, ◌<◌, ◌+◌, ◌^◌, ◌⊎◌, inl, inr, ℕ, Bool, true, false, List, [], ◌∷◌, ◌++◌, length, take, Option, None, Some, refl, ap, ◌∙◌, sym, subst, arith, reverse}
+use Rattle.std.proofs.Common.{◌≡◌, ◌≢◌, ◌≤◌, ◌<◌, ◌+◌, inl, inr, ℕ, true, List, [], ◌∷◌, ◌++◌, length, take, Option, None, Some, refl, ap, ◌∙◌, sym, subst, arith}
 use Rattle.std.specs.List.{flat_map}
 use Rattle.std.specs.Io.KnownBytes.{Consumes, IsAtEnd}
 use Rattle.std.proofs.KnownBytes.{Consumes-trans}
-use Rattle.std.proofs.lemmas.Grind.{flat_map-append, reverse_onto}
-use Rattle.std.proofs.lemmas.List.{append_assoc, append-nil, length-append, length-reverse}
+use Rattle.std.proofs.lemmas.Grind.{flat_map-append}
+use Rattle.std.proofs.lemmas.List.{append_assoc, append-nil, length-append}
 use Rattle.vdr_terms.specs.Records.{FeedItem}
-use Rattle.vdr_feed.specs.Feed.{feed, feed_header, spelling, IsItem, AreItems, received_after, fault_of, Reaches, IsFeed, IsRefused, IsRefusedAfter}
-use Rattle.vdr_feed.specs.Reader.{Reading, GivesItem, IsNext, past_item, begun_reading, IfKnown}
+use Rattle.vdr_feed.specs.Feed.{feed, feed_header, spelling, IsItem, AreItems, received_after, fault_of, IsRefused}
+use Rattle.vdr_feed.specs.Reader.{Reading, IsNext, past_item, begun_reading, IfKnown}
 use Rattle.vdr_feed.specs.declared.item.Item.{Item as Held}
 use Rattle.vdr_tool.specs.Review.{most_items, IfReviewed, review_text}
 use Rattle.vdr_terms.specs.Rates.{Limit}

@@ -1,5 +1,5 @@
 -- What `check` prints of a configuration, and how its refusal is told (this project's profile).
-use Rattle.std.specs.Prelude.{◌≡◌, ℕ, List, [], ◌∷◌, ◌++◌, length, filter, is_some, codes, decimal, Option, Result, Ok, Err, ⊤}
+use Rattle.std.specs.Prelude.{◌≡◌, ℕ, List, ◌++◌, length, filter, is_some, codes, decimal, Option, Result, Ok, Err, ⊤}
 use Rattle.vdr_terms.specs.Needs.{cost, usable, needed_slots}
 use Rattle.vdr_entry.specs.Escape.{escaped}
 use Rattle.vdr_feed.specs.Reader.{IfKnown}

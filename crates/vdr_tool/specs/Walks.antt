@@ -1,5 +1,5 @@
 -- What the walk over a feed holds after some items.
-use Rattle.std.specs.Prelude.{◌≡◌, ◌≤◌, ◌<◌, ◌+◌, ℕ, zero, suc, List, length, filter, replicate, All, ◌++◌, ◌∷◌, [], max, take, slice_index_or, slice_set, Option, None, Some, ⊤}
+use Rattle.std.specs.Prelude.{◌≡◌, ◌≤◌, ◌<◌, ◌+◌, ℕ, zero, suc, List, length, filter, replicate, All, ◌++◌, ◌∷◌, [], max, slice_index_or, slice_set, Option, None, Some, ⊤}
 use Rattle.vdr_terms.specs.Records.{Record, FeedItem, has_items, second}
 use Rattle.vdr_terms.specs.Rates.{Limit}
 use Rattle.vdr_terms.specs.Rates.Limit.{NotConfigured, Unlimited, AtMost}

@@ -16,6 +16,7 @@ pub(crate) struct Account {
 impl Account {
     ghost use Rattle.vdr_tool.specs.Accounts.{gap_of_pending, gap_told};
 
+    /// Nothing was taken of the group.
     pub(crate) fn new() -> Account
         ensures { result ≡ record { tally = no_tally; pending = no_pending } }
     {

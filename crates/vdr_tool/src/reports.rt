@@ -10,6 +10,7 @@ use vdr_outside::{Sink, write_all};
 /// Room for the longest text that is written in one piece.
 pub(crate) const ROOM: usize = 160;
 
+/// Appends a text, for which there is room.
 pub(crate) fn push_text(line: &mut ArrayVec<u8, ROOM>, text: &[u8])
     requires { array_vec_len line.old + length text.now ≤ 160 }
     ensures { line.new.items ≡ line.old.items ++ text.now }

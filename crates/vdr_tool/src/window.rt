@@ -53,6 +53,7 @@ impl Model for Window {
 }
 
 impl Window {
+    /// A window without a record.
     pub(crate) fn new(alloc: Global) -> Window
         ensures { result ≡ [] }
     {

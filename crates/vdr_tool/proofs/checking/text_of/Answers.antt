@@ -1,5 +1,5 @@
-use Rattle.std.proofs.Common.{◌≡◌, ◌++◌, ℕ, List, codes, refl, ap, ◌∙◌}
-use Rattle.vdr_tool.specs.Check.{check_text, need_line}
+use Rattle.std.proofs.Common.{refl}
+use Rattle.vdr_tool.specs.Check.{check_text}
 use Rattle.vdr_tool.proofs.checking.text_of.Goals as goal
 
 pub returns : goal.returns

@@ -1,4 +1,4 @@
-use Rattle.std.proofs.Common.{◌≡◌, Option, Some, sym, ◌∙◌, subst}
+use Rattle.std.proofs.Common.{◌≡◌, Some, sym, ◌∙◌, subst}
 use Rattle.std.specs.Io.KnownBytes.{Appends}
 use Rattle.vdr_tool.specs.Answers.{IsComplete, RefusesConfig}
 use Rattle.vdr_tool.specs.Check.{number_of, refusal_line}

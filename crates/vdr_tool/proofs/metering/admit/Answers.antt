@@ -1,4 +1,4 @@
-use Rattle.std.proofs.Common.{◌≡◌, ◌≤◌, ◌<◌, ◌∷◌, [], ℕ, List, Option, Some, Bool, true, false, length, refl, sym, ap, ◌∙◌, subst}
+use Rattle.std.proofs.Common.{◌≡◌, Option, Some, refl, sym, ◌∙◌, subst}
 use Rattle.vdr_terms.specs.Records.{second}
 use Rattle.vdr_terms.specs.Counting.{with_missed}
 use Rattle.vdr_history.specs.Recorder.{admits, tick_with}
@@ -6,7 +6,7 @@ use Rattle.vdr_config.specs.Sizes.{limits_in}
 use Rattle.vdr_meter.specs.Metering.{Metering, Measures}
 use Rattle.vdr_tool.specs.Review.{review_start}
 use Rattle.vdr_tool.specs.Walks.{IsMeter}
-use Rattle.vdr_tool.proofs.Meters.{no_datagram, gap_alone, measures_passed, metered, new_second}
+use Rattle.vdr_tool.proofs.Meters.{gap_alone, measures_passed, metered, new_second}
 use Rattle.vdr_tool.proofs.metering.admit.Goals as goal
 
 pub returns-in-Some-clause-measures : goal.returns-in-Some-clause-measures

@@ -1,17 +1,15 @@
-use Rattle.std.proofs.Common.{◌≡◌, ◌<◌, ◌+◌, ◌^◌, ◌++◌, ◌∷◌, [], ℕ, zero, suc, List, length, slice_index_or, Bool, true, false, Result, Ok, Err, OnOk, refl, sym, ap, ◌∙◌, subst, arith}
+use Rattle.std.proofs.Common.{◌≡◌, ◌<◌, ◌+◌, ◌^◌, suc, slice_index_or, refl, sym, ap, ◌∙◌, subst, arith}
 use Rattle.std.proofs.lemmas.List.{get_or_default}
-use Rattle.std.proofs.lemmas.Result.{on_ok_weaker}
-use Rattle.vdr_terms.specs.Records.{FeedItem}
 use Rattle.vdr_terms.specs.Counting.{one_bad, one_large}
 use Rattle.vdr_terms.specs.declared.datagram.Verdict.{Verdict}
-use Rattle.vdr_terms.specs.declared.datagram.Verdict.TheVariants.{Yes, Bad, Large}
+use Rattle.vdr_terms.specs.declared.datagram.Verdict.TheVariants.{Bad, Large}
 use Rattle.vdr_terms.specs.Datagrams.{verdict, is_yes}
 use Rattle.vdr_core.specs.Replay.{missed_with}
 use Rattle.vdr_tool.specs.declared.account.Account.{Account}
 use Rattle.vdr_tool.specs.Accounts.{no_account}
 use Rattle.vdr_tool.specs.Review.{review_start}
 use Rattle.vdr_tool.proofs.Recording.{same_verdict, counted_tells}
-use Rattle.vdr_tool.proofs.Rooms.{HasRoom, has_room}
+use Rattle.vdr_tool.proofs.Rooms.{has_room}
 use Rattle.vdr_tool.proofs.walk.Walk.add.Goals as goal
 
 pub bad-requires : goal.bad-requires

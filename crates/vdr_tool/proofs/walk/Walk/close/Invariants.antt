@@ -1,4 +1,3 @@
-use Rattle.std.proofs.Common.{◌≡◌, length}
 use Rattle.vdr_tool.specs.Walks.{ClosesBelow}
 use Rattle.vdr_tool.proofs.walk.Walk.close.Given as goal
 

@@ -1,10 +1,10 @@
-use Rattle.std.proofs.Common.{◌≡◌, ◌≤◌, ◌+◌, ◌<◌, ◌∙◌, ℕ, suc, zero, List, [], ◌∷◌, length, replicate, slice_index_or, refl, sym, ap, All}
+use Rattle.std.proofs.Common.{◌≡◌, ◌≤◌, ◌+◌, ◌<◌, ◌∙◌, ℕ, List, [], length, replicate, slice_index_or, refl, sym, ap}
 use Rattle.std.proofs.lemmas.List.{get_or-replicate}
 use Rattle.std.proofs.lemmas.List.Elements.{All-nil}
 use Rattle.vdr_terms.specs.Records.{Record, second}
 use Rattle.vdr_tool.specs.Review.{review_seconds}
 use Rattle.vdr_tool.specs.Walks.{recorder_of}
-use Rattle.vdr_tool.specs.Accounts.{no_account, IsAccount}
+use Rattle.vdr_tool.specs.Accounts.{no_account}
 use Rattle.vdr_tool.proofs.Meters.{no_datagram}
 use Rattle.vdr_tool.specs.declared.account.Account.{Account}
 use Rattle.vdr_tool.proofs.walk.Walk.new.Goals as goal

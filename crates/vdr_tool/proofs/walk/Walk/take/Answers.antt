@@ -1,17 +1,15 @@
-use Rattle.std.proofs.Common.{◌≡◌, ◌≤◌, ◌<◌, ◌+◌, ◌^◌, ◌++◌, ◌∷◌, [], ℕ, max, List, length, Option, Bool, true, false, refl, sym, ap, ◌∙◌, subst, arith}
+use Rattle.std.proofs.Common.{◌≡◌, ◌≤◌, ℕ, max, List, length, Option, sym, ap, ◌∙◌, subst, arith}
 use Rattle.std.proofs.lemmas.Result.{on_ok_weaker}
-use Rattle.vdr_terms.specs.Records.{FeedItem, second}
-use Rattle.vdr_terms.specs.Rates.{Limit}
-use Rattle.vdr_history.specs.Recorder.{admits, took, tick_with}
+use Rattle.vdr_terms.specs.Records.{second}
+use Rattle.vdr_history.specs.Recorder.{took, tick_with}
 use Rattle.vdr_core.specs.Replay.{fed, captured_after, GoesOn}
 use Rattle.vdr_meter.specs.Metering.{Metering}
-use Rattle.vdr_feed.specs.Kept.{Holds}
 use Rattle.vdr_feed.specs.declared.item.Item.{Item}
 use Rattle.vdr_tool.specs.Review.{review_start}
-use Rattle.vdr_tool.specs.Walks.{IsMeter, Tells, RecordsItem, RefusesItem}
+use Rattle.vdr_tool.specs.Walks.{IsMeter}
 use Rattle.vdr_tool.specs.declared.walk.Walk.{Walk}
 use Rattle.vdr_tool.proofs.Recording.{recorded_tells, refused_tells, tick_is, bytes_are, meter_was}
-use Rattle.vdr_tool.proofs.Rooms.{HasRoom, has_room}
+use Rattle.vdr_tool.proofs.Rooms.{has_room}
 use Rattle.vdr_tool.proofs.walk.Walk.take.Goals as goal
 
 pub record-requires-clause-taken : goal.record-requires-clause-taken
