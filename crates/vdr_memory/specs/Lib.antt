@@ -2,3 +2,13 @@
 pub mod Calls
 pub mod Sinks
 pub mod Sources
+pub mod Contents
+pub mod Steps
+pub mod Laws
+pub mod Disks
+pub mod Counts
+pub mod Traces
+pub mod Media
+pub mod Images
+pub mod Law
+pub mod Ports

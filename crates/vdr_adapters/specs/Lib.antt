@@ -1,0 +1,1 @@
+-- Nothing is defined here: its objects meet the definitions of vdr_outside.

@@ -1,0 +1,13 @@
+//! The objects of the outside over the operating system: the standard streams, and the media as files. They tell no
+//! content, and count their faults.
+#![tactic(auto)]
+
+mod file;
+mod media;
+mod streams;
+
+pub use media::FileMedia;
+pub use streams::{StdIn, StdOut};
+
+#[cfg(test)]
+mod tests;
