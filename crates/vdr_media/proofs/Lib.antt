@@ -1,0 +1,11 @@
+pub mod Positions
+pub mod Behind
+pub mod Closing
+pub mod Spelling
+pub mod Rooms
+pub mod Causes
+pub mod LaidOut
+pub mod Opening
+pub mod Two
+pub mod Unformatted
+pub mod Formats

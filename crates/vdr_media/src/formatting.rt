@@ -1,0 +1,85 @@
+ghost use Rattle.std.specs.Prelude.{◌≡◌, ◌<◌, ◌≤◌, true, false, length, Ok, All, OnOk, IfOk};
+ghost use Rattle.vdr_outside.specs.Causes.{HasCauseOn};
+ghost use Rattle.vdr_outside.specs.Disk.{Durable, Unchanged};
+ghost use Rattle.vdr_outside.specs.Moments.{AtEachMoment, Settled};
+ghost use Rattle.vdr_config.specs.Configuration.{Configuration};
+ghost use Rattle.vdr_config.specs.Grammar.{configuration};
+ghost use Rattle.vdr_media.specs.Medium.{IsEmptyMedium};
+ghost use Rattle.vdr_media.specs.Formatted.{members, IsEmptyHistoryOf, SameBeside};
+ghost use Rattle.vdr_media.specs.Answers.{TextTested, FormattedTested, RoomTested, IfRefused, IfTextRefused, KnownFormatted, KnownUnformatted, HasFaultCause, ReadsOneByte, room};
+ghost use Rattle.vdr_media.specs.Formatting.{FormatsAtEachMoment};
+
+use crate::emptying::make_all_empty;
+use crate::layout::SEGMENTS_FROM;
+use crate::refused::FormatRefused;
+use std::alloc::Global;
+use vdr_config::{fits, read_config};
+use vdr_outside::{Failed, Media};
+use vdr_segment::OPEN_GATE;
+
+// Whether the media are formatted. It reads one byte of medium 0, or none where that has no room for a superblock.
+fn are_formatted<M: Media>(media: &mut M) -> Result<bool, Failed>
+    requires { 0 < length (M.disk media.old).sizes }
+    ensures formatted { IfOk result (λ yes. yes ≡ true → KnownFormatted (M.disk media.old)) }
+    ensures unformatted { IfOk result (λ yes. yes ≡ false → KnownUnformatted (M.disk media.old)) }
+    ensures unchanged { Unchanged (M.disk media.old) (M.disk media.new) }
+    ensures counts { ReadsOneByte (M.bytes_read media.old) (M.bytes_read media.new) }
+    ensures cause { HasCauseOn 0 (M.faults media.old) (M.faults media.new) result }
+{
+    if media.size(0) < SEGMENTS_FROM {
+        return Ok(false);
+    }
+    let mut gate = [0];
+    media.read(0, 0, &mut gate)?;
+    Ok(gate[0] == OPEN_GATE)
+}
+
+/// Formats the capsule and the long-term medium with the configuration that the text is, so that they hold an empty history.
+///
+/// The media have two or three members; a third one is left alone. Refusals are tested in the order of `FormatRefused`, before any
+/// byte is changed: media that are formatted are refused unless they are to be formatted `again`.
+///
+/// The gate of medium 0, its byte 0, is closed first and opened last, so that a stop in between leaves media that are not formatted.
+pub fn format<M: Media>(
+    alloc: Global,
+    media: &mut M,
+    text: &[u8],
+    again: bool,
+) -> Result<(), FormatRefused>
+    requires two { 2 ≤ length (M.disk media.old).sizes }
+    requires three { length (M.disk media.old).sizes ≤ 3 }
+
+    // The three tests, in their order.
+    ensures config { TextTested result (configuration text.now) }
+    ensures formatted { FormattedTested result again (KnownFormatted (M.disk media.old)) (KnownUnformatted (M.disk media.old)) (Unchanged (M.disk media.old) (M.disk media.new)) }
+    ensures small { (c : Configuration) → configuration text.now ≡ Ok c
+        → RoomTested result (room c (M.disk media.old).sizes) (Unchanged (M.disk media.old) (M.disk media.new)) }
+
+    // What a refusal leaves: the object itself where only the text was looked at, else all that it tells.
+    ensures unasked { IfTextRefused result (media.new ≡ media.old) }
+    ensures untouched { IfRefused result (Unchanged (M.disk media.old) (M.disk media.new)) }
+
+    // What a success leaves, and a stop after it.
+    ensures done { OnOk result ((c : Configuration)
+        × All (λ m. Settled m (IsEmptyMedium m c text.now) (M.disk media.new)) (members (M.disk media.old).sizes)) }
+
+    // What a stop leaves at each moment, where nothing of medium 0 is unsynced at entry.
+    ensures moments { Durable 0 (M.disk media.old)
+        → FormatsAtEachMoment (M.disk media.old) (M.disk media.new) result (IsEmptyHistoryOf (members (M.disk media.old).sizes) text.now) }
+
+    // Other media are as before, as they read and as a stop leaves them.
+    ensures others { M.tells → SameBeside (members (M.disk media.old).sizes) (λ image. image ≡ (M.disk media.old).reads) (M.disk media.new).reads }
+    ensures others_meanwhile { AtEachMoment (M.disk media.old) (M.disk media.new) (SameBeside (members (M.disk media.old).sizes) (M.disk media.old).now) }
+    ensures sizes { (M.disk media.new).sizes ≡ (M.disk media.old).sizes }
+    ensures counts { ReadsOneByte (M.bytes_read media.old) (M.bytes_read media.new) }
+    ensures cause { HasFaultCause (members (M.disk media.old).sizes) (M.faults media.old) (M.faults media.new) result }
+{
+    let config = read_config(alloc, text)?;
+    let formatted = are_formatted(media)?;
+    if formatted && !again {
+        return Err(FormatRefused::AlreadyFormatted);
+    }
+    fits(&config, media.size(0), media.size(1))?;
+    make_all_empty(media, formatted, &config, text)?;
+    Ok(())
+}

@@ -1,0 +1,9 @@
+pub mod NumberListLemmas
+pub mod GateLemmas
+pub mod HeaderLemmas
+pub mod BatchLemmas
+pub mod WalkLemmas
+pub mod BatchListLemmas
+pub mod SegmentLemmas
+pub mod ChangeLemmas
+pub mod Rows
