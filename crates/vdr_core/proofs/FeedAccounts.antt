@@ -8,12 +8,13 @@ use Rattle.vdr_terms.specs.declared.datagram.Verdict.TheVariants.{Yes, Bad, Larg
 use Rattle.vdr_history.specs.Accounts.{Accounts}
 use Rattle.vdr_history.specs.Runs.{RunStart, base_of}
 use Rattle.vdr_history.specs.Feed.{items_of}
-use Rattle.vdr_core.specs.Law.{Admits}
+use Rattle.vdr_core.specs.Law.{Admits, IsRun}
 use Rattle.vdr_history.specs.Taken.{AllFeed, AreCounted, AreQueued, Captured, of_group}
-use Rattle.vdr_core.specs.Replay.{since_yes, captured_after, captured_if, taken_of, rest_after, IsOfGroups, FeedAccounts}
+use Rattle.vdr_core.specs.Replay.{since_yes, captured_after, captured_if, taken_of, rest_after, IsOfGroups, FeedAccounts, FeedsAreRuns}
 use Rattle.vdr_core.proofs.Counted.{count_no, length_snoc}
 use Rattle.vdr_core.proofs.Feeding.{yes_of, items_own, items_other, since_more, total_counts, is_replay}
 use Rattle.vdr_core.proofs.Taken.{closed_runs}
+use Rattle.vdr_core.proofs.Ticking.{are_runs}
 
 is_yes_of : (v : Verdict) → is_yes v ≡ true → v ≡ Yes
 is_yes_of Yes e = refl
@@ -119,7 +120,7 @@ feeds_on g feed (x ∷ xs) n s = ⊎_elim
       moved g feed x xs f.1 f.4,
     )
 
-all_feed : (feed : List FeedItem) → IsOfGroups feed → AllFeed (taken_of [] feed) (rest_after feed) (λ g. items_of g feed)
+pub all_feed : (feed : List FeedItem) → IsOfGroups feed → AllFeed (taken_of [] feed) (rest_after feed) (λ g. items_of g feed)
 all_feed feed small = record {
   lanes = λ g. let f = feeds_on g [] feed 0 (record { place = refl; none = refl }) in
       record { inside = f.0; since = f.1; order = f.2; is_queued = f.3; is_counted = f.4 };
@@ -130,3 +131,8 @@ pub feed_accounts : (start : RunStart) → Admits start.limits → FeedAccounts 
 feed_accounts start ok feed small g =
     subst (λ (records : List Record). Accounts (start.limits g) (base_of start) records g (items_of g feed)) (sym (is_replay start feed))
     (closed_runs start ok (taken_of [] feed) (rest_after feed) (λ g. items_of g feed) (all_feed feed small) g)
+
+pub feed_is_run : (start : RunStart) → Admits start.limits → FeedsAreRuns start
+feed_is_run start ok feed small =
+    subst (λ (records : List Record). IsRun start (λ g. items_of g feed) records) (sym (is_replay start feed))
+    (are_runs start ok (taken_of [] feed) (rest_after feed) (λ g. items_of g feed) (all_feed feed small))

@@ -1,5 +1,5 @@
 -- What one more item of a feed changes.
-use Rattle.std.proofs.Common.{◌≡◌, ◌≤◌, ◌+◌, ◌*◌, ℕ, zero, suc, ℤ, List, [], ◌∷◌, ◌++◌, length, drop, count_by, Bool, true, false, refl, sym, ap, ◌∙◌, arith, append-nil, append_assoc, length-drop, length-append}
+use Rattle.std.proofs.Common.{◌≡◌, ◌≤◌, ◌+◌, ◌*◌, ℕ, zero, suc, ℤ, List, [], ◌∷◌, ◌++◌, length, Bool, true, false, refl, sym, ap, ◌∙◌, arith, append-nil, append_assoc, length-drop, length-append}
 use Rattle.std.proofs.lemmas.List.Sums.{fold-append}
 use Rattle.vdr_terms.specs.declared.counts.Counts.{Counts}
 use Rattle.vdr_terms.specs.declared.datagram.Verdict.{Verdict}
@@ -11,7 +11,7 @@ use Rattle.vdr_history.specs.Runs.{RunStart}
 use Rattle.vdr_history.specs.Taken.{Captured}
 use Rattle.vdr_history.specs.Feed.{items_of, counts_of, number_after, missed_since}
 use Rattle.vdr_history.specs.Recorder.{Recorder, begun, took, taken_all, passed, admits, tick_with, next_in, gap_of, gap_unless_none, datagram_of}
-use Rattle.vdr_core.specs.Replay.{since_yes, captured_after, captured_if, taken_of, rest_after, fed, missed_with, GoesOn, NumbersAddUp, RecordsAreFew}
+use Rattle.vdr_core.specs.Replay.{since_yes, captured_if, taken_of, fed, missed_with, GoesOn, NumbersAddUp, RecordsAreFew}
 use Rattle.vdr_core.proofs.Counted.{count_yes, count_no, length_snoc}
 use Rattle.vdr_core.proofs.Feeding.{yes_of, counts_path, items_own, items_other, since_more, total_counts, same_fed}
 

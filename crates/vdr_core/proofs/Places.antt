@@ -3,7 +3,10 @@ use Rattle.std.proofs.Common.{◌≡◌, ◌+◌, ℕ, zero, suc, ℤ, List, [],
 use Rattle.vdr_terms.specs.declared.counts.Counts.{Counts}
 use Rattle.vdr_terms.specs.Records.{Record}
 use Rattle.vdr_terms.specs.Channels.{Channels}
-use Rattle.vdr_history.specs.Runs.{RunStart}
+use Rattle.std.specs.List.{AllByRecursion}
+use Rattle.vdr_terms.specs.Order.{NeverFalls}
+use Rattle.vdr_history.specs.Runs.{RunStart, TickOf, base_of}
+use Rattle.vdr_core.specs.Law.{FrontsOfRuns}
 use Rattle.vdr_history.specs.Histories.{Continues}
 use Rattle.vdr_history.specs.Taken.{Captured}
 use Rattle.vdr_terms.specs.Counting.{Pending, merged, with_missed}
@@ -53,3 +56,23 @@ closed_continues start items rest =
         → Continues start.channels (next_in start (recorder_after start items).made) (gaps_below n start (recorder_after start items) rest ++ stop ∷ [])
     with_stop n stop e h = continues_append start.channels (next_in start (recorder_after start items).made) (gaps_below n start (recorder_after start items) rest) (stop ∷ [])
         (gaps_continue start (recorder_after start items) rest n) (subst (λ (p : ℕ). Continues start.channels p (stop ∷ [])) e h)
+
+-- the first records of a run
+continues_front : (channels : Channels) (place : ℕ) (xs ys : List Record) → Continues channels place (xs ++ ys) → Continues channels place xs
+continues_front channels place [] ys h = tt
+continues_front channels place (x ∷ xs) ys (p, b, more) = (p, b, continues_front channels (suc place) xs ys more)
+
+falls_front : (from : ℕ) (xs ys : List Record) → NeverFalls from (xs ++ ys) → NeverFalls from xs
+falls_front from [] ys h = tt
+falls_front from (x ∷ xs) ys h = (h.0, falls_front x.tick xs ys h.1)
+
+each_front : (P : Record → Type 0) (xs ys : List Record) → AllByRecursion P (xs ++ ys) → AllByRecursion P xs
+each_front P [] ys h = tt
+each_front P (x ∷ xs) ys h = (h.0, each_front P xs ys h.1)
+
+pub fronts : (start : RunStart) → FrontsOfRuns start
+fronts start given front back h = record {
+  places = continues_front start.channels start.place front back h.places;
+  rising = falls_front (base_of start) front back h.ticks.rising;
+  each = each_front (λ r. TickOf (base_of start) given r r.content) front back h.ticks.each;
+}

@@ -1,5 +1,5 @@
 -- Each step of the machine keeps what the law says.
-use Rattle.std.proofs.Common.{Bool, List, None, Option, Some, [], ap, append-nil, append_assoc, arith, cond, drop, false, flat_map, is_none, length, nat_lt, refl, subst, suc, sym, true, true≢false, zero, ℕ, ⊎_elim, ◌&&◌, ◌++◌, ◌+◌, ◌<◌, ◌==◌, ◌∙◌, ◌∷◌, ◌≡◌, ◌≤◌}
+use Rattle.std.proofs.Common.{Bool, ℕ, List, None, Option, Some, [], ap, append-nil, append_assoc, arith, cond, drop, false, flat_map, is_none, length, nat_lt, refl, subst, suc, sym, true, true≢false, zero, ⊎_elim, ◌&&◌, ◌++◌, ◌+◌, ◌<◌, ◌==◌, ◌∙◌, ◌∷◌, ◌≡◌, ◌≤◌}
 use Rattle.std.proofs.lemmas.Bool.{cases_eq, and_parts, eq-eqb, ne_eqb, eqb-true, ltb-true, cond-true, cond-false, cond_both}
 use Rattle.std.proofs.lemmas.List.Elements.{All-push, All-nil}
 use Rattle.std.proofs.lemmas.Grind.{flat_map-append}
@@ -9,12 +9,12 @@ use Rattle.vdr_terms.specs.declared.datagram.Verdict.{Verdict}
 use Rattle.vdr_terms.specs.Datagrams.{verdict}
 use Rattle.vdr_terms.specs.declared.datagram.Verdict.TheVariants.{Yes, Bad, Large}
 use Rattle.vdr_terms.specs.Rates.{Limit, is_configured}
-use Rattle.vdr_history.specs.Runs.{base_of}
+use Rattle.vdr_history.specs.Runs.{Stamp, base_of}
 use Rattle.vdr_history.specs.Histories.{Act, records_of_act}
 use Rattle.vdr_history.specs.Histories.Act.{Commit}
 use Rattle.vdr_terms.specs.Counting.{Pending, one_full, one_bad, one_large}
 use Rattle.vdr_history.specs.Recorder.{begun, Recorder, tick_of, recorder_after, closing}
-use Rattle.vdr_core.specs.Machine.{Plan, Lane, Ended, State, Step, idle, empty, start_of, recorder, committed, takes_from, with_lane, with_item, counted, queued, dropped, drops, offered, pushes, turned_away, fulls, with_queue, popped, pops, all_quiet, rest_of, ends, closes, puts, adds, restarts, state_after, after}
+use Rattle.vdr_core.specs.Machine.{Plan, Lane, Ended, State, Step, idle, opened, start_of, recorder, committed, takes_from, with_lane, with_item, counted, queued, dropped, drops, offered, pushes, was_full, turned_away, fulls, with_queue, popped, pops, all_quiet, rest_of, run_of, ends, closes, puts, adds, restarts, state_after, after}
 use Rattle.vdr_core.specs.Machine.Step.{Save, Release, Look, Take, Drop, Push, Full, Pop, Commit, CloseRun, PowerFails, Restart}
 use Rattle.vdr_core.specs.Law.{Admits, EachItemHasItsPlace, RunAccounts, AllRunsAccount, HistoryIsRuns}
 use Rattle.vdr_history.specs.Taken.{AreQueued, Captured}
@@ -37,7 +37,7 @@ lane_there : (lanes : ℕ → Lane) (g : ℕ) (l : Lane) (h : ℕ) → (g ≡ h 
 lane_there lanes g l h ne = cond-false (h == g) l (lanes h) (ne_eqb h g (λ q. ne (sym q)))
 
 -- a lane's fact, where one lane was changed
-with_lane_keeps : (P : ℕ → Lane → Type 0) (lanes : ℕ → Lane) (g : ℕ) (l : Lane) → P g l → ((h : ℕ) → (g ≡ h → ⊥) → P h (lanes h)) → (h : ℕ) → P h (with_lane lanes g l h)
+pub with_lane_keeps : (P : ℕ → Lane → Type 0) (lanes : ℕ → Lane) (g : ℕ) (l : Lane) → P g l → ((h : ℕ) → (g ≡ h → ⊥) → P h (lanes h)) → (h : ℕ) → P h (with_lane lanes g l h)
 with_lane_keeps P lanes g l mine others h =
     ⊎_elim
     (λ (e : g ≡ h). subst (λ (k : ℕ). P k (with_lane lanes g l k)) e (subst (P g) (sym (lane_here lanes g l)) mine))
@@ -76,10 +76,26 @@ module _ (limit : Limit) (base tick g : ℕ) (rs : List Record) (p : Pending) (l
   pushes_keep capacity None k h = h
   pushes_keep capacity (Some i) k h = offered_keeps capacity i (verdict i.bytes) refl k h
 
+  inv_was_full : Inv limit base tick g rs p (counted one_full l) → Inv limit base tick g rs p (was_full l)
+  inv_was_full h = record {
+    used = h.used;
+    waiting = h.waiting;
+    inside = h.inside;
+    since = h.since;
+    order = h.order;
+    recorded = h.recorded;
+    is_pending = h.is_pending;
+    first = h.first;
+    is_queued = h.is_queued;
+    is_counted = h.is_counted;
+    taken = h.taken;
+    latest = h.latest;
+  }
+
   turned_away_keeps : (capacity : ℕ) (i : Item) (v : Verdict) → verdict i.bytes ≡ v → l.worker ≡ Some i → Inv limit base tick g rs p l → Inv limit base tick g rs p (turned_away capacity v l)
   turned_away_keeps capacity i Yes e k h =
-      cond_both (nat_lt (length l.queue) capacity) l (counted one_full l) (Inv limit base tick g rs p) (λ _. h)
-      (λ _. inv_counted limit base g tick rs p l one_full i k (λ c items a. counts_full c items i a e) h)
+      cond_both (nat_lt (length l.queue) capacity) l (was_full l) (Inv limit base tick g rs p) (λ _. h)
+      (λ _. inv_was_full (inv_counted limit base g tick rs p l one_full i k (λ c items a. counts_full c items i a e) h))
   turned_away_keeps capacity i Bad e k h = h
   turned_away_keeps capacity i Large e k h = h
 
@@ -87,11 +103,11 @@ module _ (limit : Limit) (base tick g : ℕ) (rs : List Record) (p : Pending) (l
   fulls_keep capacity None k h = h
   fulls_keep capacity (Some i) k h = turned_away_keeps capacity i (verdict i.bytes) refl k h
 
-nobody : (o : Option Item) → is_none o ≡ true → o ≡ None
+pub nobody : (o : Option Item) → is_none o ≡ true → o ≡ None
 nobody None e = refl
 nobody (Some i) e = absurd (true≢false (sym e))
 
-no_items : (xs : List Captured) → length xs ≡ 0 → xs ≡ []
+pub no_items : (xs : List Captured) → length xs ≡ 0 → xs ≡ []
 no_items [] e = refl
 no_items (x ∷ xs) e = absurd (omega (arith, e))
 
@@ -109,7 +125,7 @@ take_keeps plan w g i h =
     near a b = omega arith
 
 -- the front of a queue is of the queue's group
-front_group : (plan : Plan) (w : State) (g : ℕ) (c : Captured) (rest : List Captured) → (w.lanes g).queue ≡ c ∷ rest → Good plan w → c.group ≡ g
+pub front_group : (plan : Plan) (w : State) (g : ℕ) (c : Captured) (rest : List Captured) → (w.lanes g).queue ≡ c ∷ rest → Good plan w → c.group ≡ g
 front_group plan w g c rest e h =
     let i : Inv (plan.limits g) (base_of (start_of plan w)) (tick_of (start_of plan w) (recorder plan w)) g (records_of g (recorder plan w).made) ((recorder plan w).pending g) (w.lanes g) = h.lanes g in
     let q : AreQueued g (length i.used + length i.waiting) (c ∷ rest) i.inside = subst (λ (q : List Captured). AreQueued g (length i.used + length i.waiting) q i.inside) e i.is_queued in
@@ -145,7 +161,7 @@ running_history plan w e h = h.history ∙ ap (λ (xs : List Record). ended_reco
 put_tail : (a m rest : List Record) → m ≡ a ++ rest → a ++ (drop (length a) m ++ []) ≡ m
 put_tail a m rest e = ap (λ (m : List Record). a ++ (drop (length a) m ++ [])) e ∙ (ap (λ (xs : List Record). a ++ (xs ++ [])) (drop-append_seam a rest) ∙ (ap (λ (xs : List Record). a ++ xs) (append-nil rest) ∙ sym e))
 
-more_made : (plan : Plan) (w : State) → (rest : List Record) × ((recorder plan w).made ≡ committed plan w ++ rest)
+pub more_made : (plan : Plan) (w : State) → (rest : List Record) × ((recorder plan w).made ≡ committed plan w ++ rest)
 more_made plan w =
     let p = all_grows (start_of plan w) (recorder_after (start_of plan w) w.taken) w.hand in
     (p.0, ap (λ (r : Recorder). r.made) (more_taken (start_of plan w) w.taken w.hand) ∙ p.1)
@@ -170,19 +186,19 @@ put_keeps plan w h =
 
 -- a run that has ended leaves idle lanes
 ended_keeps : (plan : Plan) (w : State) (is_closed : Bool) (records : List Record) (acts : List Act) → Good plan w
-    → RunAccounts plan is_closed (record { base = base_of (start_of plan w); records = records; given = λ g. (w.lanes g).given; closed = is_closed })
+    → RunAccounts plan is_closed (run_of plan is_closed records w)
     → flat_map records_of_act (w.history ++ acts) ≡ flat_map (λ run. run.records) w.ended ++ records
     → Good plan (ends plan is_closed records acts w)
 ended_keeps plan w is_closed records acts h run same = record {
   lanes = begun_lanes (start_of plan (ends plan is_closed records acts w));
   beyond = λ g far. refl;
-  ended = All-push (λ (r : Ended). RunAccounts plan r.closed r) w.ended (record { base = base_of (start_of plan w); records = records; given = λ g. (w.lanes g).given; closed = is_closed }) h.ended run;
+  ended = All-push (λ (r : Ended). RunAccounts plan r.closed r) w.ended (run_of plan is_closed records w) h.ended run;
   history = same ∙ (ap (λ (xs : List Record). flat_map (λ (run : Ended). run.records) w.ended ++ xs) (sym (append-nil records))
-      ∙ (sym (flat_map-append (λ (run : Ended). run.records) w.ended (record { base = base_of (start_of plan w); records = records; given = λ g. (w.lanes g).given; closed = is_closed } ∷ []))
-      ∙ sym (append-nil (flat_map (λ (run : Ended). run.records) (w.ended ++ record { base = base_of (start_of plan w); records = records; given = λ g. (w.lanes g).given; closed = is_closed } ∷ [])))));
+      ∙ (sym (flat_map-append (λ (run : Ended). run.records) w.ended (run_of plan is_closed records w ∷ []))
+      ∙ sym (append-nil (flat_map (λ (run : Ended). run.records) (w.ended ++ run_of plan is_closed records w ∷ [])))));
 }
 
-quiet_at : (n : ℕ) (lanes : ℕ → Lane) (g : ℕ) → g < n → all_quiet n lanes ≡ true → ((lanes g).worker ≡ None) × ((lanes g).queue ≡ [])
+pub quiet_at : (n : ℕ) (lanes : ℕ → Lane) (g : ℕ) → g < n → all_quiet n lanes ≡ true → ((lanes g).worker ≡ None) × ((lanes g).queue ≡ [])
 quiet_at zero lanes g l e = absurd (omega arith)
 quiet_at (suc n) lanes g l e =
     let p = and_parts (all_quiet n lanes) (is_none (lanes n).worker && length (lanes n).queue == 0) e in
@@ -247,7 +263,7 @@ adds_keep plan w act none h = record {
   history = flat_map-append records_of_act w.history (act ∷ []) ∙ (ap (λ (xs : List Record). flat_map records_of_act w.history ++ (xs ++ [])) none ∙ (append-nil (flat_map records_of_act w.history) ∙ h.history));
 }
 
-step_keeps : (plan : Plan) → Admits plan.limits → (w : State) (step : Step) → Good plan w → Good plan (state_after plan w step)
+pub step_keeps : (plan : Plan) → Admits plan.limits → (w : State) (step : Step) → Good plan w → Good plan (state_after plan w step)
 step_keeps plan ok w (Take g i) h = take_keeps plan w g i h
 step_keeps plan ok w (Drop g) h =
     one_lane plan w g (λ l. drops l.worker l) h (λ _. refl)
@@ -267,15 +283,15 @@ step_keeps plan ok w CloseRun h = close_keeps plan w h
 step_keeps plan ok w PowerFails h = cut_keeps plan w h
 step_keeps plan ok w Restart h = restart_keeps plan w h
 
-good_empty : (plan : Plan) → Good plan empty
-good_empty plan = record { lanes = begun_lanes (start_of plan empty); beyond = λ g far. refl; ended = All-nil (λ (r : Ended). RunAccounts plan r.closed r); history = refl }
+pub good_opened : (plan : Plan) (place : ℕ) (last : Option Stamp) → Good plan (opened place last)
+good_opened plan place last = record { lanes = begun_lanes (start_of plan (opened place last)); beyond = λ g far. refl; ended = All-nil (λ (r : Ended). RunAccounts plan r.closed r); history = refl }
 
 steps_keep : (plan : Plan) → Admits plan.limits → (steps : List Step) (w : State) → Good plan w → Good plan (after plan steps w)
 steps_keep plan ok [] w h = h
 steps_keep plan ok (step ∷ steps) w h = steps_keep plan ok steps (state_after plan w step) (step_keeps plan ok w step h)
 
-pub always : (plan : Plan) → Admits plan.limits → (steps : List Step) → Good plan (after plan steps empty)
-always plan ok steps = steps_keep plan ok steps empty (good_empty plan)
+pub always : (plan : Plan) → Admits plan.limits → (place : ℕ) (last : Option Stamp) (steps : List Step) → Good plan (after plan steps (opened place last))
+always plan ok place last steps = steps_keep plan ok steps (opened place last) (good_opened plan place last)
 
 pub places : (plan : Plan) (w : State) → Good plan w → EachItemHasItsPlace plan w
 places plan w h g =

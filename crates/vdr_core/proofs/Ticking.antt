@@ -2,8 +2,9 @@
 use Rattle.std.proofs.Common.{◌≡◌, ◌≤◌, ◌<◌, ◌+◌, ◌⊎◌, ℕ, zero, suc, ℤ, max, List, [], ◌∷◌, ◌++◌, length, Bool, true, false, ◌==◌, slice_get, Option, Some, None, option_to_list, refl, sym, ap, ◌∙◌, subst, arith, inl, inr, ⊎_elim, append-nil, append_assoc, length-append, true≢false}
 use Rattle.std.specs.List.{AllByRecursion}
 use Rattle.std.proofs.lemmas.Bool.{eq-eqb, cond-true, cases_lt}
+use Rattle.std.proofs.lemmas.List.Elements.{filter-append}
 use Rattle.vdr_terms.specs.declared.counts.Counts.{Counts}
-use Rattle.vdr_terms.specs.Records.{Record, Item, is_gap, total}
+use Rattle.vdr_terms.specs.Records.{Record, Item, is_gap, total, records_of}
 use Rattle.vdr_terms.specs.Records.Content.{Stop}
 use Rattle.vdr_terms.specs.Rates.{Limit}
 use Rattle.vdr_terms.specs.Order.{NeverFalls}
@@ -11,12 +12,12 @@ use Rattle.vdr_history.specs.Runs.{RunStart, base_of, IsGiven, SameStamp, GapSta
 use Rattle.vdr_terms.specs.Counting.{Pending, merged, with_missed}
 use Rattle.vdr_history.specs.Recorder.{Recorder, begun, next_in, tick_of, tick_with, gap_unless_none, gap_of, datagram_of, passed, admits, took, taken_all, recorder_after, gaps_below, stop_of}
 use Rattle.vdr_core.specs.Machine.{Lane, with_queue}
-use Rattle.vdr_core.specs.Law.{Admits, ClosedRunsAreRuns}
-use Rattle.vdr_history.specs.Taken.{AllFeed, AreQueued, Captured, of_group}
+use Rattle.vdr_core.specs.Law.{Admits, ClosedRunsAreRuns, CutRunsAreRuns, IsRun}
+use Rattle.vdr_history.specs.Taken.{AreQueued, Captured, Feeds, of_group}
 use Rattle.vdr_core.proofs.Lanes.{Inv}
 use Rattle.vdr_core.proofs.Taking.{AllLanes}
-use Rattle.vdr_core.proofs.Taken.{taken_keeps, full_lane, full_keeps}
-use Rattle.vdr_core.proofs.Places.{closed_continues}
+use Rattle.vdr_core.proofs.Taken.{taken_keeps, lane_of, first_lanes, feeds_first, feeds_all}
+use Rattle.vdr_core.proofs.Places.{all_continue, closed_continues}
 
 get_at : {A : Type 0} (xs : List A) (x : A) (ys : List A) → slice_get (xs ++ x ∷ ys) (length xs) ≡ Some x
 get_at [] x ys = refl
@@ -45,12 +46,12 @@ each_append : (P : Record → Type 0) (xs ys : List Record) → AllByRecursion P
 each_append P [] ys h k = k
 each_append P (x ∷ xs) ys h k = (h.0, each_append P xs ys h.1 k)
 
-lower : (t u : ℕ) (ys : List Record) → t ≤ u → NeverFalls u ys → NeverFalls t ys
+pub lower : (t u : ℕ) (ys : List Record) → t ≤ u → NeverFalls u ys → NeverFalls t ys
 lower t u [] l h = tt
 lower t u (y ∷ ys) l h = (omega (arith, h.0), h.1)
 
 -- a Gap and what follows it
-gap_ticks : (start : RunStart) (g place first tick : ℕ) (utc : ℤ) (m : Counts) (k : ℕ) → AllByRecursion (λ (x : Record). (x.tick ≡ tick) × (x.utc ≡ utc)) (gap_unless_none start g place first tick utc m k)
+pub gap_ticks : (start : RunStart) (g place first tick : ℕ) (utc : ℤ) (m : Counts) (k : ℕ) → AllByRecursion (λ (x : Record). (x.tick ≡ tick) × (x.utc ≡ utc)) (gap_unless_none start g place first tick utc m k)
 gap_ticks start g place first tick utc m zero = tt
 gap_ticks start g place first tick utc m (suc k) = ((refl, refl), tt)
 
@@ -62,7 +63,7 @@ gap_stamps_new : (start : RunStart) (g place first tick : ℕ) (utc : ℤ) (m : 
 gap_stamps_new start g place first tick utc m zero d e t u = ((λ q. absurd (true≢false (sym q ∙ e))), tt)
 gap_stamps_new start g place first tick utc m (suc k) d e t u = ((λ _. (sym t, sym u)), ((λ q. absurd (true≢false (sym q ∙ e))), tt))
 
-rising_new : (from tick : ℕ) → from ≤ tick → (utc : ℤ) (gap : List Record) (d : Record) (ys : List Record) → d.tick ≡ tick → AllByRecursion (λ (x : Record). (x.tick ≡ tick) × (x.utc ≡ utc)) gap → NeverFalls tick ys → NeverFalls from ((gap ++ d ∷ []) ++ ys)
+pub rising_new : (from tick : ℕ) → from ≤ tick → (utc : ℤ) (gap : List Record) (d : Record) (ys : List Record) → d.tick ≡ tick → AllByRecursion (λ (x : Record). (x.tick ≡ tick) × (x.utc ≡ utc)) gap → NeverFalls tick ys → NeverFalls from ((gap ++ d ∷ []) ++ ys)
 rising_new from tick l utc [] d ys e a k = (omega (arith, e, l), lower d.tick tick ys (omega (arith, e)) k)
 rising_new from tick l utc (x ∷ gap) d ys e a k = (omega (arith, a.0.0, l), rising_new x.tick tick (omega (arith, a.0.0)) utc gap d ys e a.1 k)
 
@@ -72,7 +73,7 @@ one_stamp tick utc [] stop e t u a = ((λ q. absurd (true≢false (sym q ∙ e))
 one_stamp tick utc (x ∷ []) stop e t u a = ((λ _. (a.0.0 ∙ sym t, a.0.1 ∙ sym u)), one_stamp tick utc [] stop e t u a.1)
 one_stamp tick utc (x ∷ y ∷ gaps) stop e t u a = ((λ _. (a.0.0 ∙ sym a.1.0.0, a.0.1 ∙ sym a.1.0.1)), one_stamp tick utc (y ∷ gaps) stop e t u a.1)
 
-closing_ticks : (start : RunStart) (r : Recorder) (rest : ℕ → Counts) (n : ℕ) → AllByRecursion (λ (x : Record). (x.tick ≡ tick_of start r) × (x.utc ≡ r.utc)) (gaps_below n start r rest)
+pub closing_ticks : (start : RunStart) (r : Recorder) (rest : ℕ → Counts) (n : ℕ) → AllByRecursion (λ (x : Record). (x.tick ≡ tick_of start r) × (x.utc ≡ r.utc)) (gaps_below n start r rest)
 closing_ticks start r rest zero = tt
 closing_ticks start r rest (suc n) = each_append (λ (x : Record). (x.tick ≡ tick_of start r) × (x.utc ≡ r.utc)) (gaps_below n start r rest) _ (closing_ticks start r rest n)
     (gap_ticks start n (next_in start r.made + length (gaps_below n start r rest)) (r.pending n).first (tick_of start r) r.utc (merged (r.pending n).missed (rest n)) _)
@@ -153,13 +154,16 @@ module _ (start : RunStart) (given : ℕ → List Item) (r : Recorder) (c : Capt
       }
 
 -- the ticks along what is taken
-ticks_keep : (start : RunStart) → Admits start.limits → (given : ℕ → List Item) (r : Recorder) (items more : List Captured) (lanes : ℕ → Lane) → ((g : ℕ) → (lanes g).given ≡ given g)
-    → AllLanes start r (λ g. with_queue (of_group g (items ++ more)) (lanes g)) → Ticking start given r → Ticking start given (taken_all start r items)
-ticks_keep start ok given r [] more lanes e all h = h
-ticks_keep start ok given r (c ∷ items) more lanes e all h =
-    ticks_keep start ok given (took start r c) items more lanes e (taken_keeps start ok r (c ∷ []) (items ++ more) lanes all)
-    (let f = front_item (start.limits c.group) (base_of start) (tick_of start r) c.group _ (r.pending c.group) (with_queue (of_group c.group (c ∷ items ++ more)) (lanes c.group)) c (of_group c.group (items ++ more)) (all c.group)
-    (cond-true (c.group == c.group) (c ∷ of_group c.group (items ++ more)) (of_group c.group (items ++ more)) (eq-eqb c.group c.group refl)) in
+ticks_keep : (start : RunStart) → Admits start.limits → (given : ℕ → List Item) (r : Recorder) (items : List Captured) (queues : ℕ → List Captured) (lanes : ℕ → Lane) → ((g : ℕ) → (lanes g).given ≡ given g)
+    → AllLanes start r (λ g. with_queue (of_group g items ++ queues g) (lanes g)) → Ticking start given r → Ticking start given (taken_all start r items)
+ticks_keep start ok given r [] queues lanes e all h = h
+ticks_keep start ok given r (c ∷ items) queues lanes e all h =
+    ticks_keep start ok given (took start r c) items queues lanes e
+    (taken_keeps start ok r (c ∷ []) (λ g. of_group g items ++ queues g) lanes
+    (λ g. subst (λ (cs : List Captured). Inv (start.limits g) (base_of start) (tick_of start r) g (records_of g r.made) (r.pending g) (with_queue cs (lanes g)))
+    (ap (λ (cs : List Captured). cs ++ queues g) (filter-append (λ (c : Captured). c.group == g) (c ∷ []) items) ∙ append_assoc (of_group g (c ∷ [])) (of_group g items) (queues g)) (all g)))
+    (let f = front_item (start.limits c.group) (base_of start) (tick_of start r) c.group _ (r.pending c.group) (with_queue (of_group c.group (c ∷ items) ++ queues c.group) (lanes c.group)) c (of_group c.group items ++ queues c.group) (all c.group)
+    (ap (λ (cs : List Captured). cs ++ queues c.group) (cond-true (c.group == c.group) (c ∷ of_group c.group items) (of_group c.group items) (eq-eqb c.group c.group refl))) in
     took_ticking start given r c f.0 (ap (λ (is : List Item). slice_get is c.number) (sym (e c.group)) ∙ f.1) f.2 h)
 
 closed_ticks : (start : RunStart) (given : ℕ → List Item) (r : Recorder) (rest : ℕ → Counts) → Ticking start given r → (n : ℕ) (stop : Record) → stop.content ≡ Stop → stop.tick ≡ tick_of start r → stop.utc ≡ r.utc
@@ -181,12 +185,31 @@ closed_ticks start given r rest h n stop e t u = record {
 
 pub are_runs : (start : RunStart) → Admits start.limits → ClosedRunsAreRuns start
 are_runs start ok items rest given feed =
-    let whole : AllFeed (items ++ []) rest given = subst (λ (xs : List Captured). AllFeed xs rest given) (sym (append-nil items)) feed in
+    let feeds : (g : ℕ) → Feeds g (of_group g items ++ []) (rest g) (given g) = feeds_all items rest given feed in
     record {
       places = closed_continues start items rest;
       ticks = closed_ticks start given (recorder_after start items) rest
-          (ticks_keep start ok given (begun start) items [] (λ g. full_lane g (of_group g (items ++ [])) (rest g) (given g) (whole.lanes g)) (λ g. refl)
-          (λ g. full_keeps (start.limits g) (base_of start) (tick_of start (begun start)) g (of_group g (items ++ [])) (rest g) (given g) (whole.lanes g))
-          (begun_ticking start given))
+          (ticks_keep start ok given (begun start) items (λ g. []) (lane_of start ok items (λ g. []) rest given feeds) (λ g. refl)
+          (first_lanes start ok items (λ g. []) rest given feeds) (begun_ticking start given))
           16 (stop_of start (recorder_after start items) rest) refl refl refl;
     }
+
+-- a run that is open, whatever its lanes have besides
+pub open_is_run : (start : RunStart) → Admits start.limits → (given : ℕ → List Item) (items : List Captured) (queues : ℕ → List Captured) (lanes : ℕ → Lane) → ((g : ℕ) → (lanes g).given ≡ given g)
+    → AllLanes start (begun start) (λ g. with_queue (of_group g items ++ queues g) (lanes g)) → IsRun start given (recorder_after start items).made
+open_is_run start ok given items queues lanes e all =
+    let h : Ticking start given (recorder_after start items) = ticks_keep start ok given (begun start) items queues lanes e all (begun_ticking start given) in
+    let made : List Record = (recorder_after start items).made in
+    record {
+      places = all_continue start (begun start) items (refl, refl, tt);
+      ticks = record {
+        rising = subst (NeverFalls (base_of start)) (append-nil made) (h.rising [] tt);
+        gaps = h.gaps;
+        each = h.each;
+      };
+    }
+
+pub cut_are_runs : (start : RunStart) → Admits start.limits → CutRunsAreRuns start
+cut_are_runs start ok items more rest given feed =
+    open_is_run start ok given items (λ g. of_group g more) (lane_of start ok items (λ g. of_group g more) rest given (feeds_first items more rest given feed)) (λ g. refl)
+    (first_lanes start ok items (λ g. of_group g more) rest given (feeds_first items more rest given feed))

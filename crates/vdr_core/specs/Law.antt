@@ -8,7 +8,9 @@ use Rattle.vdr_terms.specs.Rates.Limit.{AtMost}
 use Rattle.vdr_history.specs.Accounts.{AreMissed, AllAccounted, Accounts, AccountsPrefix}
 use Rattle.vdr_history.specs.Histories.{Continues, records_of_act}
 use Rattle.vdr_history.specs.Taken.{Captured, AreCounted, AreQueued, AllFeed}
-use Rattle.vdr_history.specs.Runs.{RunStart, Ticks, base_of}
+use Rattle.vdr_history.specs.Runs.{RunStart, TickOf, Ticks, base_of}
+use Rattle.vdr_terms.specs.Order.{NeverFalls}
+use Rattle.std.specs.List.{AllByRecursion}
 use Rattle.vdr_terms.specs.Counting.{Pending}
 use Rattle.vdr_history.specs.Recorder.{recorder_after, closed_run}
 use Rattle.vdr_core.specs.Machine.{Plan, Lane, Ended, State, start_of, recorder, committed}
@@ -34,8 +36,8 @@ EachItemHasItsPlace plan w = (g : ℕ) → Conserved (plan.limits g) (base_of (s
 
 -- A closed run accounts for all that each port gave, one that was cut off for the first of it.
 abbrev pub RunAccounts : Plan → Bool → Ended → Type 0
-RunAccounts plan true run = (g : ℕ) → Accounts (plan.limits g) run.base run.records g (run.given g)
-RunAccounts plan false run = (g : ℕ) → AccountsPrefix (plan.limits g) run.base run.records g (run.given g)
+RunAccounts plan true run = (g : ℕ) → Accounts (plan.limits g) (base_of run.start) run.records g (run.given g)
+RunAccounts plan false run = (g : ℕ) → AccountsPrefix (plan.limits g) (base_of run.start) run.records g (run.given g)
 
 abbrev pub AllRunsAccount : Plan → State → Type 0
 AllRunsAccount plan w = All (λ run. RunAccounts plan run.closed run) w.ended
@@ -49,13 +51,26 @@ abbrev pub CutRunsAccount : RunStart → Type 0
 CutRunsAccount start = (items more : List Captured) (rest : ℕ → Counts) (given : ℕ → List Item) → AllFeed (items ++ more) rest given
     → (g : ℕ) → AccountsPrefix (start.limits g) (base_of start) (recorder_after start items).made g (given g)
 
--- The records of a closed run have the next places and their bits, and the ticks of what was given.
+-- The records of a run have the next places and their bits, and the ticks of what was given.
 pub record IsRun (start : RunStart) (given : ℕ → List Item) (run : List Record) : Type 0 where
   pub places : Continues start.channels start.place run
   pub ticks : Ticks (base_of start) given run
 
 abbrev pub ClosedRunsAreRuns : RunStart → Type 0
 ClosedRunsAreRuns start = (items : List Captured) (rest : ℕ → Counts) (given : ℕ → List Item) → AllFeed items rest given → IsRun start given (closed_run start items rest)
+
+-- The same of a run that was cut off when some of the items were taken.
+abbrev pub CutRunsAreRuns : RunStart → Type 0
+CutRunsAreRuns start = (items more : List Captured) (rest : ℕ → Counts) (given : ℕ → List Item) → AllFeed (items ++ more) rest given → IsRun start given (recorder_after start items).made
+
+-- The first records of a run, wherever it was cut off: their places, bits and ticks are the run's.
+pub record IsFront (start : RunStart) (given : ℕ → List Item) (front : List Record) : Type 0 where
+  pub places : Continues start.channels start.place front
+  pub rising : NeverFalls (base_of start) front
+  pub each : AllByRecursion (λ r. TickOf (base_of start) given r r.content) front
+
+abbrev pub FrontsOfRuns : RunStart → Type 0
+FrontsOfRuns start = (given : ℕ → List Item) (front back : List Record) → IsRun start given (front ++ back) → IsFront start given front
 
 -- The history's records are those of the runs that have ended and of the present one, in order.
 abbrev pub HistoryIsRuns : Plan → State → Type 0

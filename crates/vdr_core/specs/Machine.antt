@@ -7,7 +7,7 @@ use Rattle.vdr_terms.specs.Datagrams.{verdict}
 use Rattle.vdr_terms.specs.declared.datagram.Verdict.TheVariants.{Yes, Bad, Large}
 use Rattle.vdr_terms.specs.Rates.{Limit, is_configured}
 use Rattle.vdr_terms.specs.Channels.{Channels}
-use Rattle.vdr_history.specs.Runs.{Stamp, RunStart, base_of}
+use Rattle.vdr_history.specs.Runs.{Stamp, RunStart}
 use Rattle.vdr_history.specs.Histories.{Act, stamp_of}
 use Rattle.vdr_history.specs.Taken.{Captured}
 use Rattle.vdr_terms.specs.Counting.{Tally, no_tally, tallied, pushed, one_full, one_bad, one_large}
@@ -19,21 +19,25 @@ pub record Plan : Type 0 where
   pub channels : Channels
   pub capacity : ℕ
 
--- One port: what it gave in the run, the item that its worker has, what the worker counted, and its queue.
+-- One port: what it gave in the run, the item that its worker has, what the worker counted, its queue, and how often its
+-- feeder found the queue full.
 pub record Lane : Type 0 where
   pub given : List Item
   pub worker : Option Item
   pub tally : Tally
   pub queue : List Captured
+  pub full_steps : ℕ
 
 abbrev pub idle : Lane
-idle = record { given = []; worker = None; tally = no_tally; queue = [] }
+idle = record { given = []; worker = None; tally = no_tally; queue = []; full_steps = 0 }
 
--- A run that has ended: by its close, or cut off.
+-- A run that has ended: by its close, or cut off. It has what was popped in it, committed or not, and each group's full steps.
 pub record Ended : Type 0 where
-  pub base : ℕ
+  pub start : RunStart
   pub records : List Record
   pub given : ℕ → List Item
+  pub popped : List Captured
+  pub full_steps : ℕ → ℕ
   pub closed : Bool
 
 pub record State : Type 0 where
@@ -46,8 +50,9 @@ pub record State : Type 0 where
   pub ended : List Ended
   pub history : List Act
 
-abbrev pub empty : State
-empty = record { running = false; place = 0; last = None; lanes = λ g. idle; taken = []; hand = []; ended = []; history = [] }
+-- The media were opened: this is the next place, and this the stamp of the last record.
+abbrev pub opened : ℕ → Option Stamp → State
+opened place last = record { running = false; place = place; last = last; lanes = λ g. idle; taken = []; hand = []; ended = []; history = [] }
 
 -- One step of one actor.
 pub data Step : Type 0 where
@@ -64,8 +69,12 @@ pub data Step : Type 0 where
   PowerFails : Step  -- power fails. An event in progress either came before, or never
   Restart : Step  -- a new run begins
 
+-- A run that begins at this place, after a record of this stamp.
+abbrev pub start_at : Plan → ℕ → Option Stamp → RunStart
+start_at plan place last = record { limits = plan.limits; channels = plan.channels; place = place; last = last }
+
 abbrev pub start_of : Plan → State → RunStart
-start_of plan w = record { limits = plan.limits; channels = plan.channels; place = w.place; last = w.last }
+start_of plan w = start_at plan w.place w.last
 
 -- What the recorder has: all that was popped counts, committed or not.
 abbrev pub recorder : Plan → State → Recorder
@@ -114,8 +123,12 @@ abbrev pub pushes : ℕ → ℕ → Option Item → Lane → Lane
 pushes capacity g None l = l
 pushes capacity g (Some item) l = offered capacity g item (verdict item.bytes) l
 
+-- The queue is full: the feeder counts the step, and the worker its item.
+abbrev pub was_full : Lane → Lane
+was_full l = record l { worker = None; tally = tallied one_full l.tally; full_steps = suc l.full_steps }
+
 abbrev pub turned_away : ℕ → Verdict → Lane → Lane
-turned_away capacity Yes l = cond (nat_lt (length l.queue) capacity) l (counted one_full l)
+turned_away capacity Yes l = cond (nat_lt (length l.queue) capacity) l (was_full l)
 turned_away capacity Bad l = l
 turned_away capacity Large l = l
 
@@ -142,6 +155,17 @@ all_quiet (suc g) lanes = all_quiet g lanes && (is_none (lanes g).worker && leng
 abbrev pub rest_of : State → ℕ → Counts
 rest_of w g = (w.lanes g).tally.missed
 
+-- The run as it ends with these records.
+abbrev pub run_of : Plan → Bool → List Record → State → Ended
+run_of plan closed records w = record {
+  start = start_of plan w;
+  records = records;
+  given = λ g. (w.lanes g).given;
+  popped = w.taken ++ w.hand;
+  full_steps = λ g. (w.lanes g).full_steps;
+  closed = closed;
+}
+
 -- The run is over, with these records; what it holds besides is gone.
 abbrev pub ends : Plan → Bool → List Record → List Act → State → State
 ends plan closed records acts w = record w {
@@ -151,7 +175,7 @@ ends plan closed records acts w = record w {
   lanes = λ g. idle;
   taken = [];
   hand = [];
-  ended = w.ended ++ record { base = base_of (start_of plan w); records = records; given = λ g. (w.lanes g).given; closed = closed } ∷ [];
+  ended = w.ended ++ run_of plan closed records w ∷ [];
   history = w.history ++ acts;
 }
 

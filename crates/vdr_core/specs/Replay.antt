@@ -10,7 +10,8 @@ use Rattle.vdr_history.specs.Accounts.{Accounts}
 use Rattle.vdr_history.specs.Runs.{RunStart, base_of}
 use Rattle.vdr_history.specs.Feed.{items_of, counts_of, feed_records}
 use Rattle.vdr_history.specs.Recorder.{Recorder, recorder_after, taken_all, closed_run}
-use Rattle.vdr_history.specs.Taken.{Captured}
+use Rattle.vdr_history.specs.Taken.{Captured, AllFeed}
+use Rattle.vdr_core.specs.Law.{IsRun}
 
 -- The items at the end that come after the last recordable one.
 abbrev pub since_yes : List Item → List Item
@@ -46,9 +47,17 @@ IsReplay start = (feed : List FeedItem) → feed_records start feed ≡ closed_r
 abbrev pub IsOfGroups : List FeedItem → Type 0
 IsOfGroups feed = (g : ℕ) → 16 ≤ g → items_of g feed ≡ []
 
+-- What is taken of the feed, and counted at its end, is what the feed has of each group.
+abbrev pub IsAllTaken : List FeedItem → Type 0
+IsAllTaken feed = AllFeed (taken_of [] feed) (rest_after feed) (λ g. items_of g feed)
+
 -- The feed's history accounts for what the feed has of each group.
 abbrev pub FeedAccounts : RunStart → Type 0
 FeedAccounts start = (feed : List FeedItem) → IsOfGroups feed → (g : ℕ) → Accounts (start.limits g) (base_of start) (feed_records start feed) g (items_of g feed)
+
+-- The feed's history has the next places, its bits, and the ticks of what the feed gave.
+abbrev pub FeedsAreRuns : RunStart → Type 0
+FeedsAreRuns start = (feed : List FeedItem) → IsOfGroups feed → IsRun start (λ g. items_of g feed) (feed_records start feed)
 
 -- The recorder after this part of a feed.
 abbrev pub fed : RunStart → List FeedItem → Recorder

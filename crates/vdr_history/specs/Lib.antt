@@ -4,3 +4,7 @@ pub mod Histories
 pub mod Recorder
 pub mod Accounts
 pub mod Feed
+pub mod Sums
+pub mod Shapes
+pub mod FullCounts
+pub mod RunStates
