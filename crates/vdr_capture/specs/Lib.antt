@@ -1,0 +1,4 @@
+-- What a capture did.
+pub mod Gives
+pub mod Items
+pub mod Captures

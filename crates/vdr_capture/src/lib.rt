@@ -1,0 +1,14 @@
+//! The worker of a port: it takes what the port gives in its run, pushes what is recordable and counts the rest.
+#![tactic(auto)]
+
+mod item;
+mod lane;
+mod sums;
+#[cfg(test)]
+mod tests;
+mod work;
+
+pub use lane::{Cause, Lane};
+pub use sums::{GroupSums, Outcome};
+pub use vdr_terms::Counts;
+pub use work::capture;

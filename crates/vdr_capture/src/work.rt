@@ -1,0 +1,88 @@
+ghost use Rattle.std.specs.Prelude.{◌≡◌, ◌≤◌, [], Some};
+ghost use Rattle.vdr_terms.specs.Counting.{no_tally};
+ghost use Rattle.vdr_outside.specs.Causes.{Rose};
+ghost use Rattle.vdr_intake.specs.Ends.{Feeding};
+ghost use Rattle.vdr_intake.specs.Items.{most_items};
+ghost use Rattle.vdr_capture.specs.declared.lane.Cause.{Cause as CauseTold};
+ghost use Rattle.vdr_capture.specs.declared.lane.Cause.TheVariants.{Ended, Failed};
+ghost use Rattle.vdr_capture.specs.Captures.{IsCapture};
+ghost use Rattle.vdr_capture.specs.Gives.{NothingLeft};
+
+use crate::item::keep;
+use crate::{Cause, Lane};
+use arrayvec::ArrayVec;
+use std::sync::Wait;
+use vdr_gap::Tally;
+use vdr_intake::{Feeder, Intake};
+use vdr_outside::{Port, Taken};
+
+// Takes from the port until it answers that none is left or that it failed, or so many takes were made.
+fn take_all<P: Port, R: Wait>(
+    rt: &R,
+    port: &mut P,
+    queue: &Intake,
+    feeder: &mut Feeder,
+    tally: &mut Tally,
+    turns: u64,
+) -> Cause
+    requires queue { feeder.old.queue ≡ queue.now }
+    requires new { (feeder.old.pushed ≡ []) × (feeder.old.full ≡ 0) × (tally.old ≡ no_tally) }
+    requires turns { turns ≤ most_items }
+    ensures queue { feeder.new.queue ≡ feeder.old.queue }
+    ensures captured { IsCapture turns queue.now.group
+        (record { standing = P.standing port.old; asked = P.asked port.old })
+        (record { standing = P.standing port.new; asked = P.asked port.new })
+        feeder.new tally.new result }
+    ensures faults { P.faults port.old ≤ P.faults port.new }
+    ensures failed { result ≡ Failed → Rose (P.faults port.old) (P.faults port.new) }
+    ensures ended { result ≡ Ended → NothingLeft (P.standing port.old).left (P.standing port.new).left }
+{
+    let mut bytes = ArrayVec::new();
+    for _turn in 0..turns {
+        match port.take(&mut bytes) {
+            Taken::Datagram { received, utc } => {
+                keep(rt, queue, feeder, tally, received, utc, bytes.as_slice());
+            }
+            Taken::Quiet => {}
+            Taken::Ended => return Cause::Ended,
+            Taken::Failed => return Cause::Failed,
+        }
+    }
+    Cause::Turns
+}
+
+/// Takes from the lane's port, at most so many times, until it answers that none is left or that it failed. Each item is
+/// pushed into the queue once, in the port's order, or counted: as bad or large (IEC 61162-450), or as full where the queue was
+/// full, by a full step of the lane's feeder.
+///
+/// It takes no memory, and it has neither the media nor what guards them, so that it never waits for a commit.
+pub fn capture<P: Port, R: Wait>(rt: &R, lane: &mut Lane<P>, turns: u64, queue: &Intake)
+    requires group { queue.now.group ≡ lane.old.group }
+    requires feeder { lane.old.feeder ≡ Some (record { queue = queue.now; pushed = []; full = 0 }) }
+    requires tally { lane.old.tally ≡ no_tally }
+    requires turns { turns ≤ most_items }
+    ensures group { lane.new.group ≡ lane.old.group }
+    ensures captured { (feeder : Feeding) × (cause : CauseTold)
+        × (lane.new.feeder ≡ Some feeder) × (feeder.queue ≡ queue.now) × (lane.new.cause ≡ Some cause)
+        × IsCapture turns lane.old.group
+        (record { standing = P.standing lane.old.port; asked = P.asked lane.old.port })
+        (record { standing = P.standing lane.new.port; asked = P.asked lane.new.port })
+        feeder lane.new.tally cause }
+    ensures faults { P.faults lane.old.port ≤ P.faults lane.new.port }
+    ensures failed { lane.new.cause ≡ Some Failed → Rose (P.faults lane.old.port) (P.faults lane.new.port) }
+    ensures ended { lane.new.cause ≡ Some Ended → NothingLeft (P.standing lane.old.port).left (P.standing lane.new.port).left }
+{
+    let Some(mut feeder) = lane.feeder.take() else {
+        unreachable!()
+    };
+    let cause = take_all(
+        rt,
+        &mut lane.port,
+        queue,
+        &mut feeder,
+        &mut lane.tally,
+        turns,
+    );
+    lane.feeder = Some(feeder);
+    lane.cause = Some(cause);
+}

@@ -1,0 +1,5 @@
+-- What a queue of captured items keeps, and what contracts see of it.
+pub mod Items
+pub mod Rule
+pub mod Ends
+pub mod Passes

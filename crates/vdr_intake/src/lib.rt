@@ -1,0 +1,16 @@
+//! The bounded queue of one transmission group, between the worker that captures from its port and the recorder.
+//! In any schedule of the two, what was popped and then what is queued are the items that were pushed, in order.
+#![tactic(auto)]
+
+mod ends;
+mod intake;
+mod item;
+mod rule;
+#[cfg(test)]
+mod tests;
+mod view;
+
+pub use ends::{Feeder, Taker};
+pub use intake::{Intake, NoMemory};
+pub use item::Captured;
+pub use vdr_terms::Counts;
