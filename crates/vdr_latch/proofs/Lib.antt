@@ -1,0 +1,9 @@
+pub mod Prefixes
+pub mod Seats
+pub mod Stepping
+pub mod Drawing
+pub mod Looking
+pub mod Serving
+pub mod Splitting
+pub mod Joining
+pub mod Ends
