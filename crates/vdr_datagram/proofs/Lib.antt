@@ -1,4 +1,5 @@
 mod BitLemmas
 mod CutLemmas
 mod LineLemmas
+mod MarkLemmas
 mod TokenLemmas

@@ -1,6 +1,6 @@
 -- Which channels the lines of a datagram are of.
 use Rattle.std.proofs.Common.{◌≡◌, ℕ, Bool, true, false, not, ◌&&◌, ◌||◌, ◌==◌, List, [], ◌∷◌, refl, sym, ap, ap₂, ◌∙◌}
-use Rattle.std.specs.Prelude.{bit_or}
+use Rattle.std.specs.Prelude.{bit_or, is_none}
 use Rattle.std.specs.List.{list_any}
 use Rattle.vdr_tag.specs.declared.bad.BadTag.{BadTag}
 use Rattle.vdr_tag.specs.Values.{TagValues}
@@ -13,12 +13,15 @@ use Rattle.vdr_datagram.specs.Views.{verdict_of}
 use Rattle.vdr_sentence.specs.declared.bad.Bad.{Bad}
 use Rattle.vdr_config.specs.Configuration.{Selector, Selection}
 use Rattle.vdr_config.specs.Configuration.Selection.{Sentence, Image, Pcm, Opaque}
+use Rattle.vdr_image.specs.Images.{image_in}
+use Rattle.vdr_pcm.specs.Datagrams.{pcm_in}
 use Rattle.vdr_datagram.specs.declared.tokens.Token.{Token}
 use Rattle.vdr_datagram.specs.declared.tokens.Token.TheVariants as tokens
 use Rattle.vdr_datagram.specs.Tokens.{token}
-use Rattle.vdr_datagram.specs.Verdicts.{LineReading, LineSpan, Tag, Sentence as Refused, line_spans, spans_under}
-use Rattle.vdr_datagram.specs.Channels.{bits_where, holds_sentences, is_line_of, selects}
-use Rattle.vdr_datagram.specs.Marks.{is_opaque, takes_line}
+use Rattle.vdr_datagram.specs.Verdicts.{LineReading, LineSpan, Tag, Sentence as Refused, line_spans}
+use Rattle.vdr_datagram.specs.Channels.{bits_where, holds_sentences, is_frame_of, is_image_of, selects}
+use Rattle.vdr_datagram.specs.Marks.{takes_line}
+use Rattle.vdr_datagram.proofs.TokenLemmas.{no_frame-of_sentences, no_image-of_sentences}
 use Rattle.vdr_datagram.proofs.BitLemmas.{bits_same, bits_none, bits_or}
 
 and_false : (a : Bool) → (a && false) ≡ false
@@ -98,41 +101,10 @@ none_taken (line ∷ lines) = none_taken lines
 selected_for_lines : (kind : Selection) (bytes : List ℕ) → token bytes ≡ tokens.Sentences
     → list_any (λ line. takes_line line.verdict kind) (line_spans bytes) ≡ selects kind bytes
 selected_for_lines (Sentence formatter source) bytes sentences = refl
-selected_for_lines (Image source) bytes sentences = none_taken (line_spans bytes)
-selected_for_lines (Pcm microphone) bytes sentences = none_taken (line_spans bytes)
-selected_for_lines Opaque bytes sentences = none_taken (line_spans bytes) ∙ ap (λ (kind : Token). not (holds_sentences kind)) (sym sentences)
-
--- what a channel selects of a datagram with this token
-abbrev selects_under : Token → Selection → List ℕ → Bool
-selects_under kind (Sentence formatter source) bytes = list_any (λ line. is_line_of formatter source line.verdict) (spans_under kind bytes)
-selects_under kind (Image source) bytes = false
-selects_under kind (Pcm microphone) bytes = false
-selects_under kind Opaque bytes = not (holds_sentences kind)
-
-by_token : (kind : Selection) (bytes : List ℕ) → selects kind bytes ≡ selects_under (token bytes) kind bytes
-by_token (Sentence formatter source) bytes = refl
-by_token (Image source) bytes = refl
-by_token (Pcm microphone) bytes = refl
-by_token Opaque bytes = refl
-
-other_selected : (found : Token) (kind : Selection) (bytes : List ℕ) → (found ≡ tokens.Sentences → ⊥) → is_opaque kind ≡ selects_under found kind bytes
-other_selected tokens.Sentences kind bytes other = absurd (other refl)
-other_selected tokens.Image (Sentence formatter source) bytes other = refl
-other_selected tokens.Image (Image source) bytes other = refl
-other_selected tokens.Image (Pcm microphone) bytes other = refl
-other_selected tokens.Image Opaque bytes other = refl
-other_selected tokens.Pcm (Sentence formatter source) bytes other = refl
-other_selected tokens.Pcm (Image source) bytes other = refl
-other_selected tokens.Pcm (Pcm microphone) bytes other = refl
-other_selected tokens.Pcm Opaque bytes other = refl
-other_selected tokens.Other (Sentence formatter source) bytes other = refl
-other_selected tokens.Other (Image source) bytes other = refl
-other_selected tokens.Other (Pcm microphone) bytes other = refl
-other_selected tokens.Other Opaque bytes other = refl
-other_selected tokens.NoToken (Sentence formatter source) bytes other = refl
-other_selected tokens.NoToken (Image source) bytes other = refl
-other_selected tokens.NoToken (Pcm microphone) bytes other = refl
-other_selected tokens.NoToken Opaque bytes other = refl
+selected_for_lines (Image source) bytes sentences = none_taken (line_spans bytes) ∙ ap (is_image_of source) (sym (no_image-of_sentences bytes sentences))
+selected_for_lines (Pcm microphone) bytes sentences = none_taken (line_spans bytes) ∙ ap (is_frame_of microphone) (sym (no_frame-of_sentences bytes sentences))
+selected_for_lines Opaque bytes sentences =
+    none_taken (line_spans bytes) ∙ ap (λ (kind : Token). not (holds_sentences kind) && is_none (image_in bytes) && is_none (pcm_in bytes)) (sym sentences)
 
 -- the bits of a sentence datagram
 pub bits_of_sentences : (group : ℕ) (bytes : List ℕ) (channels : List Selector) → token bytes ≡ tokens.Sentences
@@ -141,8 +113,8 @@ pub bits_of_sentences : (group : ℕ) (bytes : List ℕ) (channels : List Select
 bits_of_sentences group bytes channels sentences =
     bits_same _ _ (λ c. ap (λ (b : Bool). (c.group == group) && b) (selected_for_lines c.kind bytes sentences)) channels
 
--- the bits of any other
-pub bits_of_others : (group : ℕ) (bytes : List ℕ) (channels : List Selector) → (token bytes ≡ tokens.Sentences → ⊥)
-    → bits_where (λ c. (c.group == group) && is_opaque c.kind) channels ≡ bits_where (λ c. (c.group == group) && selects c.kind bytes) channels
-bits_of_others group bytes channels other =
-    bits_same _ _ (λ c. ap (λ (b : Bool). (c.group == group) && b) (other_selected (token bytes) c.kind bytes other ∙ sym (by_token c.kind bytes))) channels
+-- the bits of any other, whose mark is shown
+pub bits_of_others : (group : ℕ) (bytes : List ℕ) (shown : Selection → Bool) (channels : List Selector) → ((kind : Selection) → shown kind ≡ selects kind bytes)
+    → bits_where (λ c. (c.group == group) && shown c.kind) channels ≡ bits_where (λ c. (c.group == group) && selects c.kind bytes) channels
+bits_of_others group bytes shown channels same =
+    bits_same _ _ (λ c. ap (λ (b : Bool). (c.group == group) && b) (same c.kind)) channels

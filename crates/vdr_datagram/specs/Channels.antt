@@ -1,10 +1,14 @@
 -- Which datagrams the channels of a configuration select (this project's profile).
-use Rattle.std.specs.Prelude.{ℕ, ◌+◌, ◌-◌, ◌*◌, Bool, true, false, not, ◌&&◌, ◌==◌, List, [], ◌∷◌, length, map, drop, slice_index, bytes_eq, Option, Some, None, if◌then◌else◌}
+use Rattle.std.specs.Prelude.{ℕ, ◌+◌, ◌-◌, ◌*◌, Bool, true, false, not, ◌&&◌, ◌==◌, List, [], ◌∷◌, length, map, drop, slice_index, bytes_eq, Option, Some, None, is_none, if◌then◌else◌}
 use Rattle.std.specs.List.{list_any}
 use Rattle.vdr_terms.specs.Channels.{Channels}
 use Rattle.vdr_config.specs.Configuration.{Configuration, Selector, Selection}
 use Rattle.vdr_config.specs.Configuration.Selection.{Sentence, Image, Pcm, Opaque}
 use Rattle.vdr_sentence.specs.Addresses.{address_of}
+use Rattle.vdr_image.specs.Headers.{Header}
+use Rattle.vdr_image.specs.Images.{image_in}
+use Rattle.vdr_pcm.specs.Frames.{Frame}
+use Rattle.vdr_pcm.specs.Datagrams.{pcm_in}
 use Rattle.vdr_datagram.specs.declared.tokens.Token.{Token}
 use Rattle.vdr_datagram.specs.declared.tokens.Token.TheVariants as tokens
 use Rattle.vdr_datagram.specs.Tokens.{token}
@@ -33,12 +37,22 @@ holds_sentences tokens.Pcm = false
 holds_sentences tokens.Other = false
 holds_sentences tokens.NoToken = false
 
--- The datagram is one that the channel selects of its group. Channels of images and of sound select nothing yet.
+-- An image datagram, and of the source that is asked for, where one is.
+abbrev pub is_image_of : (source : Option (List ℕ)) → Option Header → Bool
+is_image_of source None = false
+is_image_of source (Some header) = is_asked source (Some header.source)
+
+-- A PCM frame of the microphone.
+abbrev pub is_frame_of : (microphone : ℕ) → Option Frame → Bool
+is_frame_of microphone None = false
+is_frame_of microphone (Some frame) = microphone == frame.microphone
+
+-- The datagram is one that the channel selects of its group. What is neither sentences nor an image nor a PCM frame is opaque.
 abbrev pub selects : Selection → (bytes : List ℕ) → Bool
 selects (Sentence formatter source) bytes = list_any (λ line. is_line_of formatter source line.verdict) (line_spans bytes)
-selects (Image source) bytes = false
-selects (Pcm microphone) bytes = false
-selects Opaque bytes = not (holds_sentences (token bytes))
+selects (Image source) bytes = is_image_of source (image_in bytes)
+selects (Pcm microphone) bytes = is_frame_of microphone (pcm_in bytes)
+selects Opaque bytes = not (holds_sentences (token bytes)) && is_none (image_in bytes) && is_none (pcm_in bytes)
 
 -- Bit k for each channel k that passes.
 abbrev pub bits_where : (Selector → Bool) → List Selector → ℕ

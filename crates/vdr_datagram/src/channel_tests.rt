@@ -14,11 +14,11 @@ const HEADING_AND_TURN: &str =
 const OF_SOURCE: &str =
     "{\"name\":\"gyro\",\"group\":\"NAVD\",\"kind\":\"sentence\",\"formatter\":\"HDT\",\"source\":\"GP0001\"},{\"name\":\"unit\",\"group\":\"NAVD\",\"kind\":\"sentence\",\"source\":\"GP0001\"},{\"name\":\"any\",\"group\":\"NAVD\",\"kind\":\"sentence\"}";
 
-const OTHER_KINDS: &str =
-    "{\"name\":\"radar\",\"group\":\"NAVD\",\"kind\":\"image\"},{\"name\":\"bridge\",\"group\":\"NAVD\",\"kind\":\"pcm\",\"microphone\":1},{\"name\":\"rest\",\"group\":\"NAVD\",\"kind\":\"opaque\"}";
+const FOUR_KINDS: &str =
+    "{\"name\":\"heading\",\"group\":\"NAVD\",\"kind\":\"sentence\",\"formatter\":\"HDT\"},{\"name\":\"radar\",\"group\":\"NAVD\",\"kind\":\"image\"},{\"name\":\"chart\",\"group\":\"NAVD\",\"kind\":\"image\",\"source\":\"EI0001\"},{\"name\":\"bridge\",\"group\":\"NAVD\",\"kind\":\"pcm\",\"microphone\":1},{\"name\":\"rest\",\"group\":\"NAVD\",\"kind\":\"opaque\"}";
 
 // The channels, the group and the bytes of a datagram, and its bits. NAVD is group 3 and VDRD group 4.
-const ROWS: [(&str, u8, &[u8], u64); 26] = [
+const ROWS: [(&str, u8, &[u8], u64); 34] = [
     ("", 3, b"UdPbC\0$GPHDT,123.456,T*32\r\n", 0),
     (HEADING, 3, b"UdPbC\0$GPHDT,123.456,T*32\r\n", 1),
     (HEADING, 3, b"UdPbC\0$HEHDT,90.0,T*16\r\n", 1),
@@ -78,13 +78,63 @@ const ROWS: [(&str, u8, &[u8], u64); 26] = [
         6,
     ),
     (OF_SOURCE, 3, b"UdPbC\0\\s:GP0001*5F\\$PAHDT,1,T*2C\r\n", 6),
-    (OTHER_KINDS, 3, b"AbCdE\0", 4),
-    (OTHER_KINDS, 3, b"UdPbC\0", 0),
-    (OTHER_KINDS, 3, b"RaUdP\0\x01\0", 4),
-    (OTHER_KINDS, 3, b"PcmFr\0\x01\0", 4),
-    (OTHER_KINDS, 4, b"AbCdE\0", 0),
+    (FOUR_KINDS, 3, b"UdPbC\0$GPHDT,123.456,T*32\r\n", 1),
+    (FOUR_KINDS, 3, b"UdPbC\0", 0),
+    // Images of two sources, one of another group, and bytes outside the profile: version 2, and 31 bytes.
+    (
+        FOUR_KINDS,
+        3,
+        b"RaUdP\0\x01\0EI0001VR0001\x05\0\0\0\x01\0\0\0\x03\0\0\0\xff",
+        6,
+    ),
+    (
+        FOUR_KINDS,
+        3,
+        b"RrUdP\0\x01\0EI0002VR0001\x05\0\0\0\x01\0\0\0\x03\0\0\0\xff",
+        2,
+    ),
+    (
+        FOUR_KINDS,
+        4,
+        b"RaUdP\0\x01\0EI0001VR0001\x05\0\0\0\x01\0\0\0\x03\0\0\0\xff",
+        0,
+    ),
+    (
+        FOUR_KINDS,
+        3,
+        b"RaUdP\0\x02\0EI0001VR0001\x05\0\0\0\x01\0\0\0\x03\0\0\0\xff",
+        16,
+    ),
+    (
+        FOUR_KINDS,
+        3,
+        b"RaUdP\0\x01\0EI0001VR0001\x05\0\0\0\x01\0\0\0\x03\0\0",
+        16,
+    ),
+    // Frames of two microphones, and one with half a sample more.
+    (
+        FOUR_KINDS,
+        3,
+        b"PcmFr\0\x01\0\0\0\0\x40\x1f\0\0\x01\0\x01\0",
+        8,
+    ),
+    (
+        FOUR_KINDS,
+        3,
+        b"PcmFr\0\x02\0\0\0\0\x40\x1f\0\0\x01\0\x01\0",
+        0,
+    ),
+    (
+        FOUR_KINDS,
+        3,
+        b"PcmFr\0\x01\0\0\0\0\x40\x1f\0\0\x01\0\x01\0\x02",
+        16,
+    ),
+    (FOUR_KINDS, 3, b"AbCdE\0", 16),
+    (FOUR_KINDS, 4, b"AbCdE\0", 0),
     // No datagram that is recorded.
-    (OTHER_KINDS, 3, b"", 4),
+    (FOUR_KINDS, 3, b"Ab1dE\0", 16),
+    (FOUR_KINDS, 3, b"", 16),
 ];
 
 #[test]

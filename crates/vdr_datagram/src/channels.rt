@@ -9,7 +9,7 @@ ghost use Rattle.vdr_datagram.specs.Views.{verdict_of};
 
 use crate::front::token;
 use crate::line::LineVerdict;
-use crate::marks::{Mark, formatter_of, shows};
+use crate::marks::{Mark, formatter_of, mark_of, shows};
 use crate::sentences::lines;
 use crate::tokens::Token;
 use vdr_config::{Channel, Config};
@@ -58,10 +58,14 @@ fn bits_of_lines(channels: &[Channel], group: u8, bytes: &[u8]) -> u64
 }
 
 /// Bit k exactly where channel k of the configuration selects this datagram of the group with this number (this project's
-/// profile). A channel selects datagrams of its own group alone. A channel of sentences selects a sentence datagram that has
-/// some good line with the channel's formatter and source, each where it is given. An opaque channel selects each datagram
-/// that is no sentence datagram. Channels of images and of sound select nothing yet. The bytes may be any, and a line is
-/// read once for all channels.
+/// profile). A channel selects datagrams of its own group alone:
+///
+/// - a channel of sentences, a sentence datagram that has some good line with the channel's formatter and source, each where it is given;
+/// - a channel of images, an image datagram of the profile, of the channel's source where it is given;
+/// - a channel of sound, a PCM frame of the channel's microphone;
+/// - an opaque channel, a datagram that is none of these three.
+///
+/// The bytes may be any, and are read once for all channels.
 pub fn channel_bits(config: &Config, group: u8, bytes: &[u8]) -> u64
     ensures bits { result ≡ channel_bits config.now.channels group bytes.now }
 
@@ -72,6 +76,6 @@ pub fn channel_bits(config: &Config, group: u8, bytes: &[u8]) -> u64
 {
     match token(bytes) {
         Token::Sentences => bits_of_lines(&config.channels, group, bytes),
-        _ => bits_of_mark(&config.channels, group, &Mark::NoSentences),
+        _ => bits_of_mark(&config.channels, group, &mark_of(bytes)),
     }
 }

@@ -17,7 +17,7 @@ mod tokens;
 
 pub use channels::channel_bits;
 pub use front::token;
-pub use laws::law_of_cutting;
+pub use laws::{law_of_cutting, law_of_kinds};
 pub use line::{Line, LineVerdict};
 pub use line_iterator::Lines;
 pub use sentences::lines;

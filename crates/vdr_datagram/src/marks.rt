@@ -1,9 +1,14 @@
-ghost use Rattle.std.specs.Prelude.{◌≡◌, option_copied};
+ghost use Rattle.std.specs.Prelude.{◌≡◌, ◌≢◌, option_copied};
+ghost use Rattle.vdr_config.specs.Configuration.{Selection};
 ghost use Rattle.vdr_config.specs.Kinds.{selection_of};
-ghost use Rattle.vdr_datagram.specs.Channels.{formatter_of, is_asked};
-ghost use Rattle.vdr_datagram.specs.Marks.{asks_for, shows};
+ghost use Rattle.vdr_datagram.specs.declared.tokens.Token.TheVariants.{Sentences};
+ghost use Rattle.vdr_datagram.specs.Channels.{formatter_of, is_asked, selects};
+ghost use Rattle.vdr_datagram.specs.Marks.{shows};
+ghost use Rattle.vdr_datagram.specs.Tokens.{token};
 
 use vdr_config::ChannelKind;
+use vdr_image::read_image;
+use vdr_pcm::read_pcm;
 
 /// What of a datagram shows that a channel selects it.
 #[derive(Clone, Copy, Drop)]
@@ -13,8 +18,35 @@ pub(crate) enum Mark<'a> {
         formatter: Option<&'a [u8]>,
         source: Option<&'a [u8]>,
     },
-    /// That it is no sentence datagram.
-    NoSentences,
+    /// That it is an image datagram: the source of its header.
+    Image {
+        source: &'a [u8],
+    },
+    /// That it is a PCM frame: its microphone.
+    Pcm {
+        microphone: u8,
+    },
+    /// That it is neither of these nor a sentence datagram.
+    Opaque,
+}
+
+/// The mark of a datagram that is no sentence datagram.
+pub(crate) fn mark_of(bytes: &[u8]) -> Mark<'_>
+    ensures { (kind : Selection) → token bytes.now ≢ Sentences → shows result kind ≡ selects kind bytes.now }
+{
+    if let Some(header) = read_image(bytes) {
+        return Mark::Image {
+            source: header.source,
+        };
+    }
+    match read_pcm(bytes) {
+        Some(frame) => {
+            Mark::Pcm {
+                microphone: frame.microphone,
+            }
+        }
+        None => Mark::Opaque,
+    }
 }
 
 /// The formatter of an address, None where the address is proprietary.
@@ -53,7 +85,11 @@ pub(crate) fn shows(mark: &Mark<'_>, kind: &ChannelKind) -> bool
             is_asked(asked.as_ref().map(|text| text.as_slice()), formatter)
                 && is_asked(from.as_ref().map(|text| text.as_slice()), source)
         }
-        (Mark::NoSentences, ChannelKind::Opaque) => true,
+        (Mark::Image { source }, ChannelKind::Image { source: from }) => {
+            is_asked(from.as_ref().map(|text| text.as_slice()), Some(source))
+        }
+        (Mark::Pcm { microphone }, ChannelKind::Pcm { microphone: asked }) => *asked == microphone,
+        (Mark::Opaque, ChannelKind::Opaque) => true,
         _ => false,
     }
 }

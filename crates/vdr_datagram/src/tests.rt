@@ -97,5 +97,6 @@ fn lines_of_sentence_datagrams(rt: HostRuntime) -> Result<(), Fail> {
         assert_eq!(rt; found.as_slice(), *expected);
     }
     law_of_cutting();
+    law_of_kinds();
     Ok(())
 }

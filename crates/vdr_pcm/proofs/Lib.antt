@@ -1,0 +1,2 @@
+pub mod PcmLemmas
+mod Rows

@@ -1,0 +1,10 @@
+pub mod Places
+pub mod Cuts
+pub mod Along
+pub mod Legal
+pub mod Kept
+pub mod Trims
+pub mod Pieces
+pub mod Lengths
+pub mod Short
+pub mod ByNumber

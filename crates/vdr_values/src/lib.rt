@@ -1,0 +1,29 @@
+//! Readings of the sentences of IEC 61162-1 whose fields are known: what each field says, and the text that this is printed as.
+#![tactic(auto)]
+
+mod bad;
+mod escape;
+mod fields;
+mod form;
+mod formatter;
+mod kinds;
+mod laws;
+mod place;
+mod print;
+mod read;
+mod reading;
+mod spelling;
+mod table;
+#[cfg(test)]
+mod tests;
+mod text;
+mod value;
+mod variants;
+
+pub use bad::BadField;
+pub use fields::Fields;
+pub use formatter::Formatter;
+pub use laws::law_of_reading;
+pub use print::{print_reading, print_value};
+pub use reading::{Reading, read_value};
+pub use value::{Angle, Num, Time};

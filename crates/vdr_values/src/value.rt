@@ -1,0 +1,50 @@
+ghost use Rattle.std.specs.Prelude.{◌≤◌, ◌<◌, ◌^◌};
+
+/// A decimal number of up to nine digits before the point and six behind it.
+#[derive(Clone, Copy, Debug, PartialEq, Eq, Drop)]
+pub struct Num {
+    /// Whether a minus sign stands before it, also before zero.
+    pub negative: bool,
+    /// The number without its sign, in millionths: below 10^15.
+    pub millionths: u64,
+    pub ghost in_range: { millionths < 10 ^ 15 },
+}
+
+/// A time of day, UTC where the sentence says no other.
+#[derive(Clone, Copy, Debug, PartialEq, Eq, Drop)]
+pub struct Time {
+    /// 0 to 23.
+    pub hour: u8,
+    /// 0 to 59.
+    pub minute: u8,
+    /// 0 to 60, as a leap second has it.
+    pub second: u8,
+    /// The millionths of the second: below 1,000,000.
+    pub millionths: u32,
+    pub ghost hours: { hour ≤ 23 },
+    pub ghost minutes: { minute ≤ 59 },
+    pub ghost seconds: { second ≤ 60 },
+    pub ghost below_second: { millionths < 1_000_000 },
+}
+
+/// A latitude or a longitude without its hemisphere.
+#[derive(Clone, Copy, Debug, PartialEq, Eq, Drop)]
+pub struct Angle {
+    /// 0 to 90 of a latitude, 0 to 180 of a longitude.
+    pub degrees: u8,
+    /// The millionths of minutes: below 60,000,000.
+    pub millionths: u32,
+    pub ghost half_circle: { degrees ≤ 180 },
+    pub ghost below_degree: { millionths < 60_000_000 },
+}
+
+/// What a field says.
+#[derive(Clone, Copy, Debug, Drop)]
+pub(crate) enum Value<'a> {
+    Number(Num),
+    Time(Time),
+    Angle(Angle),
+    Digits(u32),
+    Letter(u8),
+    Raw(&'a [u8]),
+}
