@@ -22,12 +22,20 @@ Commands:
             time. What the rate refuses stands in a Gap record.
   check     Reads a configuration from standard input and prints what it needs: the
             number of groups, the cost of a second and the usable bytes of a segment,
-            and the slots of the capsule and of the long-term medium.
+            and the slots of the capsule and of the long-term medium. A medium of N
+            slots has 32,768 bytes and N segments.
+  format    Reads a configuration from standard input and formats the media, which are
+            the files capsule.vdr and longterm.vdr in FOLDER. They have to be there, as
+            large as `check` says. Media that are formatted already are left as they are.
+  reformat  The same, also where the media are formatted already: what they hold is lost.
 
 Examples:
   vdr . review < examples/harbour.feed
   vdr . review 2 200 < examples/harbour.feed
   vdr . check < examples/ship.json
+  truncate -s 122880 bench/capsule.vdr
+  truncate -s 712704 bench/longterm.vdr
+  vdr bench format < examples/bench.json
 
 Exit status, with the line that ends the output:
   0   all was done
@@ -37,6 +45,10 @@ Exit status, with the line that ends the output:
       another type or is out of its range, 5 a name is given twice, 6 a ship's window
       is too short, 7 a segment is below four batches, 8 more than 16,380 bytes (at 1
       and 8 KEY is `-`)
+  3   `status 3 small MEDIUM need N have N`: this medium, capsule or longterm, has fewer
+      slots than the configuration needs; nothing was written
+  4   `status 4 formatted`: the media are formatted already; nothing was written
+  5   `status 5 media`: a medium could not be read, written or synced
   7   `status 7 input`: the input could not be read
   8   the output could not be written
   9   `status 9 memory`: there was not enough memory

@@ -2,13 +2,12 @@
 #![tactic(auto)]
 
 mod help;
-mod streams;
 
 use help::{HELP, VERSION};
 use std::env;
 use std::io::BufReader;
 use std::process::ExitCode;
-use streams::{StdIn, StdOut};
+use vdr_adapters::{FileMedia, StdIn, StdOut};
 use vdr_tool::{Status, World, run};
 
 /// How many bytes the input is read ahead.
@@ -40,14 +39,22 @@ fn main(rt: HostRuntime) -> ExitCode {
     let Ok(input) = BufReader::with_capacity(rt.alloc(), READ_AHEAD, rt.stdin()) else {
         return ExitCode::from(Status::NoMemory.code());
     };
-    let mut world = World {
-        input: StdIn::new(input),
-        output: StdOut::new(rt.stdout()),
+    // The first word names the folder of the media.
+    let folder = match words.as_slice() {
+        [folder, ..] => folder.as_str(),
+        [] => ".",
     };
-    // The first word names the folder of the media, which no command needs yet.
     let command = match words.as_slice() {
         [_, command @ ..] => command,
         [] => &[],
+    };
+    let Ok(media) = FileMedia::open(&rt, folder) else {
+        return ExitCode::from(Status::NoMemory.code());
+    };
+    let mut world = World {
+        input: StdIn::new(input),
+        output: StdOut::new(rt.stdout()),
+        media,
     };
     let status = run(rt.alloc(), command, &mut world);
     ExitCode::from(status.code())

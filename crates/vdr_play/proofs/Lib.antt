@@ -3,3 +3,5 @@ pub mod EscapeLemmas
 mod Rows
 pub mod VerdictLemmas
 pub mod WordLemmas
+pub mod RecordLemmas
+pub mod TrackLemmas

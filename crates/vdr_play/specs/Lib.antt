@@ -1,3 +1,4 @@
 -- The recording as text.
 pub mod Verdicts
+pub mod Streams
 pub mod Texts

@@ -8,6 +8,8 @@ use Rattle.vdr_tag.specs.declared.bad.BadTag.{BadTag}
 use Rattle.vdr_tag.specs.declared.bad.BadTag.TheVariants.{Unclosed, Missing as NoChecksum, Wrong as WrongTag, Field, Value}
 use Rattle.vdr_datagram.specs.Verdicts.{LineReading}
 use Rattle.vdr_datagram.specs.Verdicts.LineReading.{Good, Tag, Sentence}
+use Rattle.vdr_values.specs.Readings.{reading}
+use Rattle.vdr_values.specs.Texts.{reading_word}
 use Rattle.vdr_entry.specs.Lines.{spaced}
 
 -- A word for what may be absent.
@@ -31,11 +33,11 @@ sentence_words Missing = codes "5" ∷ []
 sentence_words (Wrong written computed) = codes "6" ∷ upper_digits written ∷ upper_digits computed ∷ []
 
 -- The words of a line:
---   good SOURCE COUNT ADDRESS -
+--   good SOURCE COUNT ADDRESS READING
 --   tag NUMBER, and at a wrong checksum WRITTEN COMPUTED
 --   sentence NUMBER, and at a wrong checksum WRITTEN COMPUTED
 abbrev pub verdict_words : LineReading → List (List ℕ)
-verdict_words (Good tags sentence) = codes "good" ∷ or_dash tags.source ∷ or_dash (option_map decimal tags.line) ∷ address_of sentence.content ∷ codes "-" ∷ []
+verdict_words (Good tags sentence) = codes "good" ∷ or_dash tags.source ∷ or_dash (option_map decimal tags.line) ∷ address_of sentence.content ∷ reading_word (reading sentence.content) ∷ []
 verdict_words (Tag bad) = codes "tag" ∷ tag_words bad
 verdict_words (Sentence tags bad) = codes "sentence" ∷ sentence_words bad
 

@@ -4,10 +4,13 @@
 mod escape;
 mod line;
 mod records;
+mod streams;
 #[cfg(test)]
 mod tests;
+mod tracks;
 mod verdicts;
 mod words;
 
 pub use escape::print_escaped;
 pub use records::print_record;
+pub use tracks::Tracks;

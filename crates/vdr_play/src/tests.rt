@@ -3,7 +3,7 @@ ghost use Rattle.vdr_terms.specs.declared.datagram.Verdict.TheVariants.{Yes};
 ghost use Rattle.vdr_terms.specs.Datagrams.{verdict};
 ghost use Rattle.vdr_terms.specs.Stamps.{IsStamp};
 
-use crate::{print_escaped, print_record};
+use crate::{Tracks, print_escaped, print_record};
 use arrayvec::ArrayVec;
 use vdr_entry::{Counts, Record};
 use vdr_outside::{Failed, Sink};
@@ -11,7 +11,7 @@ use vdr_outside::{Failed, Sink};
 /// A sink that takes one byte a call, and fails from the call on that `room` says.
 #[derive(Drop)]
 struct Paper {
-    bytes: ArrayVec<u8, 200>,
+    bytes: ArrayVec<u8, 400>,
     room: usize,
     faults: u64,
 }
@@ -65,7 +65,7 @@ fn records() -> [(Record, &'static [u8]); 8] {
                 1_704_067_200_000,
                 b"UdPbC\0\\s:GP0001,n:7*10\\$GPHDT,123.456,T*32\r\n",
             ),
-            b"1 NAVD 0 2024-01-01T00:00:00.000Z data 44 UdPbC<00>\\s:GP0001,n:7*10\\$GPHDT,123.456,T*32<0d><0a>\n  good GP0001 7 GPHDT -\n",
+            b"1 NAVD 0 2024-01-01T00:00:00.000Z data 44 UdPbC<00>\\s:GP0001,n:7*10\\$GPHDT,123.456,T*32<0d><0a>\n  good GP0001 7 GPHDT heading 123.456\n",
         ),
         (
             datagram(
@@ -107,8 +107,8 @@ fn records() -> [(Record, &'static [u8]); 8] {
 #[test]
 fn records_print_as_their_text(rt: HostRuntime) {
     for (item, text) in &records() {
-        let mut out = Paper::new(200);
-        assert_eq!(rt; print_record(item, &mut out), Ok(()));
+        let mut out = Paper::new(400);
+        assert_eq!(rt; print_record(item, &mut Tracks::new(), &mut out), Ok(()));
         assert_eq!(rt; out.bytes.as_slice(), *text);
     }
 }
@@ -118,10 +118,70 @@ fn a_failing_sink_holds_a_front_of_the_text(rt: HostRuntime) {
     for (item, text) in &records() {
         for room in 0..text.len() {
             let mut out = Paper::new(room);
-            assert_eq!(rt; print_record(item, &mut out), Err(Failed));
+            assert_eq!(rt;
+                print_record(item, &mut Tracks::new(), &mut out),
+                Err(Failed)
+            );
             assert_eq!(rt; out.bytes.as_slice(), &text[..room]);
             assert_eq!(rt; out.faults, 1);
         }
+    }
+}
+
+// Datagrams that are printed one after the other, and what stands under the line of each.
+fn streams() -> [(Record, &'static [u8]); 8] {
+    [
+        (
+            datagram(
+                0,
+                b"RaUdP\0\x01\0EI0001VR0001\x05\0\0\0\x01\0\0\0\x03\0\0\0abcd",
+            ),
+            b"abcd\n  image EI0001 5 1 3 4 first\n",
+        ),
+        (
+            datagram(
+                0,
+                b"RrUdP\0\x01\0EI0001VR0001\x05\0\0\0\x02\0\0\0\x03\0\0\0abcd",
+            ),
+            b"abcd\n  image EI0001 5 2 3 4 next\n",
+        ),
+        (
+            datagram(0, b"PcmFr\0\x01\0\0\0\0\x40\x1f\0\0\x02\0\0\0\0\0"),
+            b">\n  pcm 1 0 8000 2 first\n",
+        ),
+        (
+            datagram(
+                0,
+                b"RaUdP\0\x01\0EI0001VR0001\x06\0\0\0\x01\0\0\0\x02\0\0\0abcd",
+            ),
+            b"abcd\n  image EI0001 6 1 2 4 break\n",
+        ),
+        (
+            datagram(0, b"PcmFr\0\x01\x01\0\0\0\x40\x1f\0\0\x02\0\0\0\0\0"),
+            b">\n  pcm 1 1 8000 2 missing 0\n",
+        ),
+        (
+            datagram(0, b"RaUdP\0\x01\0EI0001VR0001\x06\0\0\0\x01\0\0\0\x02\0\0"),
+            b"<00>\n  opaque\n",
+        ),
+        (
+            datagram(0, b"PcmFr\0\x01\x04\0\0\0\x40\x1f\0\0\x02\0\0\0\0\0"),
+            b">\n  pcm 1 4 8000 2 missing 2\n",
+        ),
+        (
+            datagram(0, b"PcmFr\0\x01\x02\0\0\0\x40\x1f\0\0\x02\0\0\0\0\0"),
+            b">\n  pcm 1 2 8000 2 back\n",
+        ),
+    ]
+}
+
+#[test]
+fn parts_of_images_and_frames_follow_one_another(rt: HostRuntime) {
+    let mut tracks = Tracks::new();
+    for (item, under) in &streams() {
+        let mut out = Paper::new(400);
+        assert_eq!(rt; print_record(item, &mut tracks, &mut out), Ok(()));
+        assert!(rt; out.bytes.as_slice().ends_with(under));
     }
 }
 
@@ -135,7 +195,7 @@ fn bytes_are_escaped(rt: HostRuntime) {
         (b"\r\nend", b"<0d><0a>end"),
     ];
     for (bytes, text) in &rows {
-        let mut out = Paper::new(200);
+        let mut out = Paper::new(400);
         assert_eq!(rt; print_escaped(bytes, &mut out), Ok(()));
         assert_eq!(rt; out.bytes.as_slice(), *text);
     }

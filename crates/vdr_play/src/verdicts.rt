@@ -10,18 +10,25 @@ ghost use Rattle.vdr_tag.specs.Views.{values_of};
 ghost use Rattle.vdr_outside.specs.Causes.{HasCause};
 ghost use Rattle.vdr_outside.specs.Writes.{AppendsFront};
 ghost use Rattle.vdr_play.specs.Verdicts.{indented, sentence_words, tag_words, verdict_words};
+ghost use Rattle.vdr_play.specs.Streams.{seen_under};
 ghost use Rattle.vdr_play.specs.Texts.{text_under, verdict_text};
+ghost use Rattle.vdr_values.specs.Readings.{reading};
+ghost use Rattle.vdr_values.specs.Texts.{reading_word};
 
+use crate::streams::{print_image, print_opaque, print_pcm};
+use crate::tracks::Tracks;
 use crate::words::print_words;
+use arrayvec::ArrayVec;
 use itoa::Buffer;
 use vdr_datagram::{LineVerdict, Token, lines, token};
 use vdr_digits::upper_digits;
 use vdr_outside::{Failed, Sink, write_all};
 use vdr_sentence::{Bad, Sentence};
 use vdr_tag::{BadTag, Tags};
+use vdr_values::print_reading;
 
-// Prints a line of these words under a record's line.
-fn print_indented<O: Sink>(words: &[&[u8]], out: &mut O) -> Result<(), Failed>
+/// Prints a line of these words under a record's line.
+pub(crate) fn print_indented<O: Sink>(words: &[&[u8]], out: &mut O) -> Result<(), Failed>
     ensures all { OnOk result (Appends (O.taken out.old) (O.taken out.new) (indented (map (λ word. word.now) words.now))) }
     ensures front { AppendsFront (O.taken out.old) (O.taken out.new) (indented (map (λ word. word.now) words.now)) }
     ensures cause { HasCause (O.faults out.old) (O.faults out.new) result }
@@ -31,18 +38,35 @@ fn print_indented<O: Sink>(words: &[&[u8]], out: &mut O) -> Result<(), Failed>
     write_all(out, b"\n")
 }
 
-// Prints the line of a sentence: where it comes from, its line count and its address.
-fn print_sentence<O: Sink>(
+// The words are arguments of their own, so that they stand at one lifetime.
+fn print_good_words<O: Sink>(
     source: &[u8],
     count: &[u8],
     address: &[u8],
+    word: &[u8],
     out: &mut O,
 ) -> Result<(), Failed>
-    ensures all { OnOk result (Appends (O.taken out.old) (O.taken out.new) (indented (codes "good" ∷ source.now ∷ count.now ∷ address.now ∷ codes "-" ∷ []))) }
-    ensures front { AppendsFront (O.taken out.old) (O.taken out.new) (indented (codes "good" ∷ source.now ∷ count.now ∷ address.now ∷ codes "-" ∷ [])) }
+    ensures all { OnOk result (Appends (O.taken out.old) (O.taken out.new) (indented (codes "good" ∷ source.now ∷ count.now ∷ address.now ∷ word.now ∷ []))) }
+    ensures front { AppendsFront (O.taken out.old) (O.taken out.new) (indented (codes "good" ∷ source.now ∷ count.now ∷ address.now ∷ word.now ∷ [])) }
     ensures cause { HasCause (O.faults out.old) (O.faults out.new) result }
 {
-    print_indented(&[b"good", source, count, address, b"-"], out)
+    print_indented(&[b"good", source, count, address, word], out)
+}
+
+// Prints the line of a sentence: where it comes from, its line count, its address and what it reads as.
+fn print_sentence<O: Sink>(
+    source: &[u8],
+    count: &[u8],
+    sentence: &Sentence<'_>,
+    out: &mut O,
+) -> Result<(), Failed>
+    ensures all { OnOk result (Appends (O.taken out.old) (O.taken out.new) (indented (codes "good" ∷ source.now ∷ count.now ∷ sentence.now.address.now ∷ reading_word (reading sentence.now.content.now) ∷ []))) }
+    ensures front { AppendsFront (O.taken out.old) (O.taken out.new) (indented (codes "good" ∷ source.now ∷ count.now ∷ sentence.now.address.now ∷ reading_word (reading sentence.now.content.now) ∷ [])) }
+    ensures cause { HasCause (O.faults out.old) (O.faults out.new) result }
+{
+    let mut word = ArrayVec::new();
+    print_reading(sentence, &mut word);
+    print_good_words(source, count, sentence.address, word.as_slice(), out)
 }
 
 fn print_good<O: Sink>(tags: &Tags<'_>, sentence: &Sentence<'_>, out: &mut O) -> Result<(), Failed>
@@ -54,14 +78,9 @@ fn print_good<O: Sink>(tags: &Tags<'_>, sentence: &Sentence<'_>, out: &mut O) ->
     match tags.line {
         Some(count) => {
             let mut buffer = Buffer::new();
-            print_sentence(
-                source,
-                buffer.format(count).as_bytes(),
-                sentence.address,
-                out,
-            )
+            print_sentence(source, buffer.format(count).as_bytes(), sentence, out)
         }
-        None => print_sentence(source, b"-", sentence.address, out),
+        None => print_sentence(source, b"-", sentence, out),
     }
 }
 
@@ -134,17 +153,21 @@ fn print_lines<O: Sink>(payload: &[u8], out: &mut O) -> Result<(), Failed>
     Ok(())
 }
 
-/// Prints what stands under the line of a datagram: a line for each line of a sentence datagram, `opaque` for any other.
-pub(crate) fn print_under<O: Sink>(payload: &[u8], out: &mut O) -> Result<(), Failed>
-    ensures all { OnOk result (Appends (O.taken out.old) (O.taken out.new) (text_under (token payload.now) payload.now)) }
-    ensures front { AppendsFront (O.taken out.old) (O.taken out.new) (text_under (token payload.now) payload.now) }
+/// Prints what stands under the line of a datagram, and steps over what it holds.
+pub(crate) fn print_under<O: Sink>(
+    payload: &[u8],
+    tracks: &mut Tracks,
+    out: &mut O,
+) -> Result<(), Failed>
+    ensures all { OnOk result (Appends (O.taken out.old) (O.taken out.new) (text_under tracks.old (token payload.now) payload.now)) }
+    ensures front { AppendsFront (O.taken out.old) (O.taken out.new) (text_under tracks.old (token payload.now) payload.now) }
+    ensures seen { tracks.new ≡ seen_under tracks.old (token payload.now) payload.now }
     ensures cause { HasCause (O.faults out.old) (O.faults out.new) result }
 {
     match token(payload) {
         Token::Sentences => print_lines(payload, out),
-        Token::Image | Token::Pcm | Token::Other | Token::NoToken => print_indented(
-            &[b"opaque"],
-            out,
-        ),
+        Token::Image => print_image(payload, &mut tracks.image, out),
+        Token::Pcm => print_pcm(payload, &mut tracks.pcm, out),
+        Token::Other | Token::NoToken => print_opaque(out),
     }
 }

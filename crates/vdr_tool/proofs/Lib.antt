@@ -1,10 +1,3 @@
-pub mod Closing
 pub mod Completeness
-pub mod Finishing
-pub mod Meters
-pub mod Olds
-pub mod Printing
-pub mod Recording
-pub mod Rooms
-pub mod Stream
+pub mod FormatLemmas
 pub mod Texts

@@ -50,6 +50,14 @@ short_text text c is = ⊎_elim
     (λ (short : length text ≤ 16380). omega (arith, short))
     (cases_lt 16380 (length text))
 
+-- A configuration that was read is all of the input.
+pub read_whole : (first now : Option (List ℕ)) (text : List ℕ) → Consumes first now text → (length text < 16381 → IsAtEnd now) → (c : Configuration) → configuration text ≡ Ok c → IfKnown first (λ bytes. bytes ≡ text)
+read_whole None now text read end c is = tt
+read_whole (Some bytes) None text read end c is = absurd read
+read_whole (Some bytes) (Some rest) text read end c is =
+    let at_end : rest ≡ [] = end (short_text text c is) in
+    read ∙ (ap (λ (r : List ℕ). text ++ r) at_end ∙ append-nil text)
+
 pub stop_weaker : (s : CheckStop) (P Q : ConfigBad → Type 0) → ((b : ConfigBad) → P b → Q b) → IfRefusedStop s P → IfRefusedStop s Q
 stop_weaker Input P Q f h = tt
 stop_weaker Memory P Q f h = tt

@@ -1,20 +1,31 @@
 -- How a status is told (this project's profile).
-use Rattle.std.specs.Prelude.{◌⊎◌, ℕ, List, [], ◌∷◌, ◌++◌, codes, decimal, Option, ⊤}
+use Rattle.std.specs.Prelude.{◌⊎◌, ◌==◌, if◌then◌else◌, ℕ, List, [], ◌∷◌, ◌++◌, codes, decimal, Option, ⊤}
 use Rattle.std.specs.Io.KnownBytes.{Appends}
 use Rattle.vdr_outside.specs.Causes.{Rose}
 use Rattle.vdr_outside.specs.Writes.{AppendsFront}
 use Rattle.vdr_tool.specs.declared.status.Status.{Status}
-use Rattle.vdr_tool.specs.declared.status.Status.TheVariants.{Done, Words, Config, InputFault, OutputFault, NoMemory, Feed}
+use Rattle.vdr_config.specs.declared.media.TooSmall.{TooSmall}
+use Rattle.vdr_tool.specs.declared.status.Status.TheVariants.{Done, Words, Config, Small, Formatted, MediaFault, InputFault, OutputFault, NoMemory, Feed}
 
 -- The program's exit status.
 abbrev pub code_of : Status → ℕ
 code_of Done = 0
 code_of Words = 2
 code_of (Config number) = 3
+code_of (Small small) = 3
+code_of Formatted = 4
+code_of MediaFault = 5
 code_of InputFault = 7
 code_of OutputFault = 8
 code_of NoMemory = 9
 code_of (Feed number offset) = 10
+
+-- The names of the media in texts.
+abbrev pub medium_name : ℕ → List ℕ
+medium_name m = if m == 0 then codes "capsule" else codes "longterm"
+
+abbrev pub small_line : TooSmall → List ℕ
+small_line t = codes "status 3 small " ++ medium_name t.medium ++ codes " need " ++ decimal t.need ++ codes " have " ++ decimal t.have ++ codes "\n"
 
 -- The line with which the output ends. Done says nothing, and where the output failed nothing can be said. The line of a
 -- configuration's refusal names its key too: it is `refusal_line`.
@@ -23,6 +34,9 @@ status_line Done = []
 status_line OutputFault = []
 status_line (Config number) = []
 status_line Words = codes "status 2 words\n"
+status_line (Small small) = small_line small
+status_line Formatted = codes "status 4 formatted\n"
+status_line MediaFault = codes "status 5 media\n"
 status_line InputFault = codes "status 7 input\n"
 status_line NoMemory = codes "status 9 memory\n"
 status_line (Feed number offset) = codes "status 10 feed " ++ decimal number ++ codes " at " ++ decimal offset ++ 10 ∷ []
@@ -43,6 +57,11 @@ WroteLine status old new before now = Wrote (status_line status) old new before 
 abbrev pub IfFeed : Status → (ℕ → ℕ → Type 0) → Type 0
 IfFeed (Feed number offset) P = P number offset
 IfFeed status P = ⊤
+
+-- What is said of a medium that is too small.
+abbrev pub IfSmall : Status → (TooSmall → Type 0) → Type 0
+IfSmall (Small small) P = P small
+IfSmall status P = ⊤
 
 -- What is said of a configuration's refusal.
 abbrev pub IfConfig : Status → (ℕ → Type 0) → Type 0

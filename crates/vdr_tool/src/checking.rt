@@ -18,8 +18,8 @@ use vdr_config::{Config, ConfigBad, needs, read_config};
 use vdr_feed::fill;
 use vdr_outside::Source;
 
-// So many bytes tell that a text is longer than the longest configuration.
-const ENOUGH: usize = 16_381;
+/// So many bytes tell that a text is longer than the longest configuration.
+pub(crate) const ENOUGH: usize = 16_381;
 
 /// Why a text has no needs.
 #[derive(Drop)]

@@ -1,4 +1,4 @@
-ghost use Rattle.std.specs.Prelude.{◌≡◌, ◌≤◌, IfSome};
+ghost use Rattle.std.specs.Prelude.{◌≡◌, ◌≤◌, ◌⊎◌, Bool, length, sum, IfSome};
 ghost use Rattle.std.specs.Io.KnownBytes.{IsAtEnd, Appends};
 ghost use Rattle.vdr_config.specs.Configuration.{IsRate};
 ghost use Rattle.vdr_outside.specs.Causes.{Rose};
@@ -7,37 +7,44 @@ ghost use Rattle.vdr_feed.specs.Feed.{IsRefused};
 ghost use Rattle.vdr_feed.specs.Reader.{IfKnown};
 ghost use Rattle.vdr_tool.specs.Answers.{IfAnswered, RefusesFeed, RefusesConfig, IsComplete};
 ghost use Rattle.vdr_tool.specs.Check.{IfChecked, number_of, refusal_line};
-ghost use Rattle.vdr_tool.specs.Review.{IfReviewed, limit_asked, most_items};
+ghost use Rattle.vdr_tool.specs.Formats.{FormatAnswers, IfFormat, UsesMedia};
+ghost use Rattle.vdr_tool.specs.Endings.{IsTextAlone};
+ghost use Rattle.vdr_review.specs.Review.{IfReviewed, limit_asked, most_items};
 ghost use Rattle.vdr_tool.specs.StatusLine.{IfFeed, IfConfig, Wrote, WroteLine};
 ghost use Rattle.vdr_tool.specs.Words.{Asks, IsLegal};
 ghost use Rattle.vdr_config.specs.declared.bad.ConfigBad.{ConfigBad as Bad};
 ghost use Rattle.vdr_tool.specs.declared.words.Command.{Command as Asked};
-ghost use Rattle.vdr_tool.specs.declared.words.Command.TheVariants.{Check};
+ghost use Rattle.vdr_tool.specs.declared.words.Command.TheVariants.{Check, Format};
 ghost use Rattle.vdr_tool.specs.declared.status.Status.TheVariants.{Done, Words, InputFault, OutputFault};
 
 use crate::Status;
 use crate::checking::{CheckStop, check};
-use crate::reading::{Stop, review};
+use crate::formatting::answer_format;
 use crate::refusal::{number_of, report_refusal};
 use crate::reports::report;
 use crate::words::{Command, command_of};
 use std::alloc::Global;
 use vdr_config::Rate;
 use vdr_feed::law_of_feeds;
-use vdr_outside::{Sink, Source, print_buffered, write_all};
+use vdr_outside::{Media, Sink, Source, print_buffered, write_all};
+use vdr_review::{Stop, review};
 
 /// What the program reaches outside.
 #[derive(Drop)]
-pub struct World<I: Drop, O: Drop> {
+pub struct World<I: Drop, O: Drop, M: Drop> {
+    /// The standard input.
     pub input: I,
+    /// The standard output.
     pub output: O,
+    /// The capsule and the long-term medium, in this order.
+    pub media: M,
 }
 
 // Reads the feed to its end and prints its review. A feed that is refused, or not read, prints its status line alone.
-fn answer_review<I: Source + Drop, O: Sink + Drop>(
+fn answer_review<I: Source + Drop, O: Sink + Drop, M: Media + Drop>(
     alloc: Global,
     rate: Option<Rate>,
-    world: &mut World<I, O>,
+    world: &mut World<I, O, M>,
 ) -> Status
     requires rate { IfSome rate IsRate }
     ensures words { result ≡ Words → ⊥ }
@@ -49,6 +56,9 @@ fn answer_review<I: Source + Drop, O: Sink + Drop>(
     ensures output { result ≡ OutputFault → Rose (O.faults world.old.output) (O.faults world.new.output)
         × IfReviewed (limit_asked rate) (I.left world.old.input) (λ text. AppendsFront (O.taken world.old.output) (O.taken world.new.output) text) }
     ensures line { WroteLine result (O.taken world.old.output) (O.taken world.new.output) (O.faults world.old.output) (O.faults world.new.output) }
+    ensures media { world.new.media ≡ world.old.media }
+    ensures kept { IsTextAlone result }
+    ensures sizes { (M.disk world.new.media).sizes ≡ (M.disk world.old.media).sizes }
 {
     let status = match review(alloc, rate, &mut world.input) {
         Ok(review) => {
@@ -66,7 +76,10 @@ fn answer_review<I: Source + Drop, O: Sink + Drop>(
 }
 
 // Reads a configuration and prints what it needs. One that is refused, or not read, prints its status line alone.
-fn answer_check<I: Source + Drop, O: Sink + Drop>(alloc: Global, world: &mut World<I, O>) -> Status
+fn answer_check<I: Source + Drop, O: Sink + Drop, M: Media + Drop>(
+    alloc: Global,
+    world: &mut World<I, O, M>,
+) -> Status
     ensures words { result ≡ Words → ⊥ }
     ensures done { result ≡ Done → IsAtEnd (I.left world.new.input) × IfChecked (I.left world.old.input)
         (λ text. Appends (O.taken world.old.output) (O.taken world.new.output) text) }
@@ -77,6 +90,9 @@ fn answer_check<I: Source + Drop, O: Sink + Drop>(alloc: Global, world: &mut Wor
     ensures output { result ≡ OutputFault → Rose (O.faults world.old.output) (O.faults world.new.output)
         × IfChecked (I.left world.old.input) (λ text. AppendsFront (O.taken world.old.output) (O.taken world.new.output) text) }
     ensures line { WroteLine result (O.taken world.old.output) (O.taken world.new.output) (O.faults world.old.output) (O.faults world.new.output) }
+    ensures media { world.new.media ≡ world.old.media }
+    ensures kept { IsTextAlone result }
+    ensures sizes { (M.disk world.new.media).sizes ≡ (M.disk world.old.media).sizes }
 {
     let status = match check(alloc, &mut world.input) {
         Ok(text) => {
@@ -99,12 +115,14 @@ fn answer_check<I: Source + Drop, O: Sink + Drop>(alloc: Global, world: &mut Wor
 }
 
 // Does what a command asks for.
-fn answer<I: Source + Drop, O: Sink + Drop>(
+fn answer<I: Source + Drop, O: Sink + Drop, M: Media + Drop>(
     alloc: Global,
     command: Command,
-    world: &mut World<I, O>,
+    world: &mut World<I, O, M>,
 ) -> Status
     requires legal { IsLegal command }
+    requires two { 2 ≤ length (M.disk world.old.media).sizes }
+    requires three { length (M.disk world.old.media).sizes ≤ 3 }
     ensures words { result ≡ Words → ⊥ }
     ensures done { result ≡ Done → IsAtEnd (I.left world.new.input) × IfAnswered command (I.left world.old.input)
         (λ text. Appends (O.taken world.old.output) (O.taken world.new.output) text) }
@@ -115,10 +133,15 @@ fn answer<I: Source + Drop, O: Sink + Drop>(
     ensures output { result ≡ OutputFault → Rose (O.faults world.old.output) (O.faults world.new.output)
         × IfAnswered command (I.left world.old.input) (λ text. AppendsFront (O.taken world.old.output) (O.taken world.new.output) text) }
     ensures line { WroteLine result (O.taken world.old.output) (O.taken world.new.output) (O.faults world.old.output) (O.faults world.new.output) }
+    ensures media { UsesMedia command ⊎ ((world.new.media ≡ world.old.media) × IsTextAlone result) }
+    ensures sizes { (M.disk world.new.media).sizes ≡ (M.disk world.old.media).sizes }
+    ensures formats { IfFormat command (λ again. FormatAnswers again (I.left world.old.input) (M.disk world.old.media) (M.disk world.new.media)
+        (M.faults world.old.media) (M.faults world.new.media) result) }
 {
     match command {
         Command::Review { rate } => answer_review(alloc, rate, world),
         Command::Check => answer_check(alloc, world),
+        Command::Format { again } => answer_format(alloc, again, world),
     }
 }
 
@@ -129,18 +152,22 @@ fn answer<I: Source + Drop, O: Sink + Drop>(
 /// - `review D B` does so with D datagrams (1 to 10,000) and B bytes (6 to 10,000,000) a second for each group.
 /// - `check` reads a configuration from the input and prints what it needs: `groups`, `cost`, `usable`, `capsule` and
 ///   `longterm`, each with its number in a line. Of a text that is too long it reads 16,381 bytes.
+/// - `format` reads a configuration so, and formats the capsule and the long-term medium with it, unless they are formatted
+///   already. `reformat` formats them in any case. What they held is lost. They print nothing.
 ///
 /// Any other words end with `Words`. A number is decimal digits without a sign and without a leading zero.
 ///
 /// For each status but `Done` and `OutputFault` the output ends with a status line, and here has nothing else.
-pub fn run<I: Source + Drop, O: Sink + Drop>(
+pub fn run<I: Source + Drop, O: Sink + Drop, M: Media + Drop>(
     alloc: Global,
     words: &[String],
-    world: &mut World<I, O>,
+    world: &mut World<I, O, M>,
 ) -> Status
+    requires two { 2 ≤ length (M.disk world.old.media).sizes }
+    requires three { length (M.disk world.old.media).sizes ≤ 3 }
     ensures words { (result ≡ Words → (command : Asked) → Asks words.now command → ⊥)
         × (((command : Asked) → Asks words.now command → ⊥) → result ≡ Words) }
-    ensures untouched { result ≡ Words → world.new.input ≡ world.old.input }
+    ensures untouched { result ≡ Words → (world.new.input ≡ world.old.input) × (world.new.media ≡ world.old.media) }
 
     // All was done: the input was read to its end, and the output is what the command prints of it.
     ensures done { result ≡ Done → IsAtEnd (I.left world.new.input)
@@ -158,9 +185,17 @@ pub fn run<I: Source + Drop, O: Sink + Drop>(
         (λ text. AppendsFront (O.taken world.old.output) (O.taken world.new.output) text) }
     ensures line { WroteLine result (O.taken world.old.output) (O.taken world.new.output) (O.faults world.old.output) (O.faults world.new.output) }
 
+    // Only a command that formats them touches the media, and none changes their sizes.
+    ensures media { (command : Asked) → Asks words.now command → UsesMedia command ⊎ ((world.new.media ≡ world.old.media) × IsTextAlone result) }
+    ensures sizes { (M.disk world.new.media).sizes ≡ (M.disk world.old.media).sizes }
+    ensures formats { (again : Bool) → Asks words.now (Format again) → FormatAnswers again (I.left world.old.input) (M.disk world.old.media) (M.disk world.new.media)
+        (M.faults world.old.media) (M.faults world.new.media) result }
+
     // And nothing else comes in the place of what a command prints, or of a refusal, but want of memory.
     ensures complete { (command : Asked) → Asks words.now command → (Rose (I.faults world.old.input) (I.faults world.new.input) → ⊥)
-        → (Rose (O.faults world.old.output) (O.faults world.new.output) → ⊥) → IsComplete command (I.left world.old.input) result }
+        → (Rose (O.faults world.old.output) (O.faults world.new.output) → ⊥)
+        → (Rose (sum (M.faults world.old.media)) (sum (M.faults world.new.media)) → ⊥)
+        → IsComplete command (I.left world.old.input) (M.disk world.old.media) result }
 {
     let Some(command) = command_of(words) else {
         report(Status::Words, &mut world.output);

@@ -1,17 +1,12 @@
 //! The commands of the voyage data recorder.
 #![tactic(auto)]
 
-mod account;
 mod checking;
 mod command;
-mod kept;
-mod metering;
-mod reading;
+mod formatting;
 mod refusal;
 mod reports;
 mod status;
-mod walk;
-mod window;
 mod words;
 
 pub use command::{World, run};

@@ -1,10 +1,11 @@
 ghost use Rattle.std.specs.Prelude.{◌≡◌, ◌≤◌, ◌+◌, ◌++◌, length};
 ghost use Rattle.arrayvec.specs.ArrayVec.{array_vec_len};
-ghost use Rattle.vdr_tool.specs.StatusLine.{status_line, Wrote};
+ghost use Rattle.vdr_tool.specs.StatusLine.{medium_name, small_line, status_line, Wrote};
 
 use crate::Status;
 use arrayvec::ArrayVec;
 use itoa::Buffer;
+use vdr_config::TooSmall;
 use vdr_outside::{Sink, write_all};
 
 /// Room for the longest text that is written in one piece.
@@ -20,6 +21,26 @@ pub(crate) fn push_text(line: &mut ArrayVec<u8, ROOM>, text: &[u8])
     }
 }
 
+fn medium_name(medium: u8) -> &'static [u8]
+    ensures { result.now ≡ medium_name medium }
+{
+    if medium == 0 { b"capsule" } else { b"longterm" }
+}
+
+// Which medium is too small.
+fn push_small(line: &mut ArrayVec<u8, ROOM>, small: TooSmall)
+    requires { array_vec_len line.old ≡ 0 }
+    ensures { line.new.items ≡ line.old.items ++ small_line small }
+{
+    push_text(line, b"status 3 small ");
+    push_text(line, medium_name(small.medium));
+    push_text(line, b" need ");
+    push_text(line, Buffer::new().format(small.need).as_bytes());
+    push_text(line, b" have ");
+    push_text(line, Buffer::new().format(small.have).as_bytes());
+    push_text(line, b"\n");
+}
+
 fn line_of(status: Status) -> ArrayVec<u8, ROOM>
     ensures { result.items ≡ status_line status }
 {
@@ -29,6 +50,9 @@ fn line_of(status: Status) -> ArrayVec<u8, ROOM>
         Status::OutputFault => {}
         Status::Config { .. } => {}
         Status::Words => push_text(&mut line, b"status 2 words\n"),
+        Status::Small(small) => push_small(&mut line, small),
+        Status::Formatted => push_text(&mut line, b"status 4 formatted\n"),
+        Status::MediaFault => push_text(&mut line, b"status 5 media\n"),
         Status::InputFault => push_text(&mut line, b"status 7 input\n"),
         Status::NoMemory => push_text(&mut line, b"status 9 memory\n"),
         Status::Feed { number, offset } => {

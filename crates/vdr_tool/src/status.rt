@@ -1,5 +1,7 @@
 ghost use Rattle.std.specs.Prelude.{◌≡◌};
 
+use vdr_config::TooSmall;
+
 /// How a command ended.
 #[derive(Clone, Copy, Debug, PartialEq, Eq, Drop)]
 pub enum Status {
@@ -11,6 +13,12 @@ pub enum Status {
     /// another type or is out of its range, 5 a name is given twice, 6 a ship's window is too short, 7 a segment is below
     /// four batches, 8 more than 16,380 bytes. The key stands in the status line.
     Config { number: u8 },
+    /// This medium has fewer slots than the configuration needs.
+    Small(TooSmall),
+    /// The media are formatted already.
+    Formatted,
+    /// The media failed.
+    MediaFault,
     /// The input failed.
     InputFault,
     /// The output failed.
@@ -31,7 +39,9 @@ impl Status {
         match self {
             Status::Done => 0,
             Status::Words => 2,
-            Status::Config { .. } => 3,
+            Status::Config { .. } | Status::Small(_) => 3,
+            Status::Formatted => 4,
+            Status::MediaFault => 5,
             Status::InputFault => 7,
             Status::OutputFault => 8,
             Status::NoMemory => 9,

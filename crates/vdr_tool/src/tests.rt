@@ -1,10 +1,12 @@
-ghost use Rattle.std.specs.Prelude.{◌≤◌};
+ghost use Rattle.std.specs.Prelude.{◌≡◌, ◌≤◌, length, IfOk};
+ghost use Rattle.vdr_outside.specs.Disk.{Disk};
 
 use super::*;
 use std::alloc::{AllocError, Global};
 use std::test::Fail;
 use vdr_feed::{Item, trial_item};
-use vdr_memory::{MemorySink, MemorySource};
+use vdr_memory::{MemoryMedia, MemorySink, MemorySource, RamMedia};
+use vdr_outside::Media;
 
 const NAVD: u8 = 3;
 
@@ -40,6 +42,30 @@ fn generated(alloc: Global, count: u64) -> Result<Vec<u8>, AllocError>
     Ok(feed)
 }
 
+fn words_of(alloc: Global, words: &[&str]) -> Result<Vec<String>, AllocError> {
+    let mut texts = Vec::new(alloc);
+    for word in words {
+        texts.push(String::from_str(alloc, word)?)?;
+    }
+    Ok(texts)
+}
+
+fn zeros(alloc: Global, size: usize) -> Result<Vec<u8>, AllocError> {
+    let mut medium = Vec::new(alloc);
+    medium.resize(size, 0)?;
+    Ok(medium)
+}
+
+// Two media of these sizes, all zeros.
+fn blank(alloc: Global, capsule: usize, long_term: usize) -> Result<Vec<Vec<u8>>, AllocError>
+    ensures { IfOk result (λ media. length media.items ≡ 2) }
+{
+    let mut media = Vec::new(alloc);
+    media.push(zeros(alloc, capsule)?)?;
+    media.push(zeros(alloc, long_term)?)?;
+    Ok(media)
+}
+
 // What `run` answers and prints of an input, where these calls of the input and of the output fail.
 fn answered(
     alloc: Global,
@@ -48,13 +74,11 @@ fn answered(
     failing_reads: &[u64],
     failing_writes: &[u64],
 ) -> Result<(Status, Vec<u8>), AllocError> {
-    let mut texts = Vec::new(alloc);
-    for word in words {
-        texts.push(String::from_str(alloc, word)?)?;
-    }
+    let texts = words_of(alloc, words)?;
     let mut world = World {
         input: MemorySource::new(input, 4096, failing_reads.to_vec(alloc)?),
         output: MemorySink::new(alloc, failing_writes.to_vec(alloc)?),
+        media: RamMedia::new(blank(alloc, 0, 0)?),
     };
     let status = run(alloc, texts.as_slice(), &mut world);
     Ok((status, world.output.taken().to_vec(alloc)?))
@@ -72,7 +96,7 @@ fn a_review_prints_the_datagrams_and_gaps_of_48_hours(rt: HostRuntime) -> Result
         (&[], ""),
         (
             &[(0, 1_704_067_200_000, HEADING)],
-            "1 NAVD 0 2024-01-01T00:00:00.000Z data 44 UdPbC<00>\\s:GP0001,n:7*10\\$GPHDT,123.456,T*32<0d><0a>\n  good GP0001 7 GPHDT -\n",
+            "1 NAVD 0 2024-01-01T00:00:00.000Z data 44 UdPbC<00>\\s:GP0001,n:7*10\\$GPHDT,123.456,T*32<0d><0a>\n  good GP0001 7 GPHDT heading 123.456\n",
         ),
         (
             &[(0, 1_704_067_200_000, WRONG_CHECKSUM)],
@@ -351,6 +375,87 @@ fn a_configuration_has_at_most_16_380_bytes(rt: HostRuntime) -> Result<(), Fail>
         if code != 0 {
             assert_eq!(rt; printed.as_slice(), b"status 3 config 8 -\n".as_slice());
         }
+    }
+    Ok(())
+}
+
+// What `run` answers and prints of the bench configuration over these media, and the media afterwards.
+fn formatted<M: Media + Drop>(
+    alloc: Global,
+    word: &str,
+    media: M,
+) -> Result<(Status, Vec<u8>, M), AllocError>
+    requires { length (M.disk media).sizes ≡ 2 }
+    ensures { IfOk result (λ r. length (M.disk r.2).sizes ≡ 2) }
+{
+    let texts = words_of(alloc, &[word])?;
+    let mut world = World {
+        input: MemorySource::new(BENCH.as_bytes().to_vec(alloc)?, 4096, Vec::new(alloc)),
+        output: MemorySink::new(alloc, Vec::new(alloc)),
+        media,
+    };
+    let status = run(alloc, texts.as_slice(), &mut world);
+    let World {
+        input: _,
+        output,
+        media,
+    } = world;
+    Ok((status, output.taken().to_vec(alloc)?, media))
+}
+
+#[test]
+fn media_are_formatted_once_unless_it_is_to_be_done_again(rt: HostRuntime) -> Result<(), Fail> {
+    const FRONT: [u8; 23] =
+        *b"\xa5VDRM\x01\x00\x00\xe0\x01\x00\x00\x00\x00\x00\x00\x20\x00\x00\x0b\x00\x00\x00";
+    let media = RamMedia::new(blank(rt.alloc(), 122_880, 712_704)?);
+    let (status, printed, media) = formatted(rt.alloc(), "format", media)?;
+    assert_eq!(rt; (status, printed.len()), (Status::Done, 0));
+    assert!(rt; media.contents(0).starts_with(&FRONT));
+    let (status, printed, media) = formatted(rt.alloc(), "format", media)?;
+    assert_eq!(rt; status, Status::Formatted);
+    assert_eq!(rt; printed.as_slice(), b"status 4 formatted\n".as_slice());
+    assert!(rt; media.contents(0).starts_with(&FRONT));
+    let (status, printed, _) = formatted(rt.alloc(), "reformat", media)?;
+    assert_eq!(rt; (status, printed.len()), (Status::Done, 0));
+    Ok(())
+}
+
+#[test]
+fn media_that_are_too_small_stay_as_they_are(rt: HostRuntime) -> Result<(), Fail> {
+    let rows = [
+        (114_688, 712_704, "status 3 small capsule need 11 have 10\n"),
+        (
+            122_880,
+            704_512,
+            "status 3 small longterm need 83 have 82\n",
+        ),
+        (0, 0, "status 3 small capsule need 11 have 0\n"),
+    ];
+    for (capsule, long_term, line) in rows {
+        let media = RamMedia::new(blank(rt.alloc(), capsule, long_term)?);
+        let (status, printed, media) = formatted(rt.alloc(), "format", media)?;
+        assert_eq!(rt; status.code(), 3);
+        assert_eq!(rt; printed.as_slice(), line.as_bytes());
+        assert!(rt; media.contents(0).iter().all(|byte| *byte == 0));
+        assert!(rt; media.contents(1).iter().all(|byte| *byte == 0));
+    }
+    Ok(())
+}
+
+#[test]
+fn a_fault_of_the_media_is_told(rt: HostRuntime) -> Result<(), Fail> {
+    for failing in [0, 1, 50] {
+        let mut calls = Vec::new(rt.alloc());
+        calls.push(failing)?;
+        let media = MemoryMedia::new(
+            rt.alloc(),
+            blank(rt.alloc(), 122_880, 712_704)?,
+            calls,
+            None,
+        )?;
+        let (status, printed, _) = formatted(rt.alloc(), "format", media)?;
+        assert_eq!(rt; status, Status::MediaFault);
+        assert_eq!(rt; printed.as_slice(), b"status 5 media\n".as_slice());
     }
     Ok(())
 }

@@ -15,6 +15,8 @@ pub(crate) enum Command {
     Review { rate: Option<Rate> },
     /// What a configuration needs.
     Check,
+    /// The media are formatted, also where they are formatted already if it is to be done again.
+    Format { again: bool },
 }
 
 // A number within these limits, in decimal digits without a sign and without a leading zero.
@@ -52,7 +54,13 @@ fn one_word(word: &str) -> Option<Command>
         return Some(Command::Review { rate: None });
     }
     if word == "check" {
-        Some(Command::Check)
+        return Some(Command::Check);
+    }
+    if word == "format" {
+        return Some(Command::Format { again: false });
+    }
+    if word == "reformat" {
+        Some(Command::Format { again: true })
     } else {
         None
     }

@@ -1,0 +1,69 @@
+// Reading a feed into a review.
+ghost use Rattle.std.specs.Prelude.{◌≡◌, ◌≤◌, IfOk, IfSome, IsErrOf};
+ghost use Rattle.std.specs.Io.KnownBytes.{IsAtEnd};
+ghost use Rattle.vdr_config.specs.Configuration.{IsRate};
+ghost use Rattle.vdr_outside.specs.Causes.{Rose};
+ghost use Rattle.vdr_feed.specs.Feed.{IsRefused};
+ghost use Rattle.vdr_feed.specs.Reader.{IfKnown};
+ghost use Rattle.vdr_review.specs.Review.{IfReviewed, limit_asked, most_items};
+ghost use Rattle.vdr_review.specs.Printed.{printed};
+ghost use Rattle.vdr_review.specs.Stops.{IfRefusedStop};
+ghost use Rattle.vdr_review.specs.declared.reading.Stop.TheVariants.{Input};
+
+use crate::walk::Walk;
+use crate::window::Review;
+use std::alloc::Global;
+use vdr_config::Rate;
+use vdr_feed::{FeedFault, FeedReader, Item};
+use vdr_outside::Source;
+
+/// The greatest number of items of a feed.
+const MOST_ITEMS: u64 = 4_294_967_295;
+
+/// Why a feed has no review.
+#[derive(Drop)]
+pub enum Stop {
+    /// The source failed, and its count of faults rose.
+    Input,
+    /// There was no memory.
+    Memory,
+    /// The feed is refused by this number, at the item that begins at this offset in bytes.
+    Refused { number: u8, offset: u64 },
+}
+
+/// The review of a feed, which is read to its end, by this rate for each transmission group if there is one.
+pub fn review<I: Source>(alloc: Global, rate: Option<Rate>, input: &mut I) -> Result<Review, Stop>
+    requires rate { IfSome rate IsRate }
+    ensures text { IfOk result (λ review. IsAtEnd (I.left input.new) × IfReviewed (limit_asked rate) (I.left input.old) (λ text. printed review ≡ text)) }
+    ensures refused { IfRefusedStop result (λ number offset. IfKnown (I.left input.old) (λ bytes. IsRefused most_items bytes number offset)) }
+    ensures failed { IsErrOf result Input → Rose (I.faults input.old) (I.faults input.new) }
+    ensures later { I.faults input.old ≤ I.faults input.new }
+{
+    let mut reader = FeedReader::new(MOST_ITEMS);
+    match reader.header(input) {
+        Ok(()) => {}
+        Err(FeedFault::Fault) => return Err(Stop::Input),
+        Err(FeedFault::Refused { number, offset }) => return Err(Stop::Refused { number, offset }),
+    }
+    let mut walk = Walk::new(alloc, rate);
+    let mut item = Item::new();
+    loop {
+        match reader.item(input, &mut item) {
+            Ok(true) => {
+                let Ok(()) = walk.add(&item) else {
+                    return Err(Stop::Memory);
+                };
+            }
+            Ok(false) => {
+                let Ok(review) = walk.finish() else {
+                    return Err(Stop::Memory);
+                };
+                return Ok(review);
+            }
+            Err(FeedFault::Fault) => return Err(Stop::Input),
+            Err(FeedFault::Refused { number, offset }) => {
+                return Err(Stop::Refused { number, offset });
+            }
+        }
+    }
+}

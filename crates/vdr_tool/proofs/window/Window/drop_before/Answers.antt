@@ -1,5 +1,0 @@
-use Rattle.vdr_tool.proofs.Olds.{gone_more}
-use Rattle.vdr_tool.proofs.window.Window.drop_before.Goals as goal
-
-pub loop-preserved : goal.loop-preserved
-loop-preserved c = gone_more c.args.last c.args.self.now c.loop.self c.pop_before.new.self c.loop.invariant c.loop-test.ensures

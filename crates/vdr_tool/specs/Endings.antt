@@ -1,0 +1,31 @@
+-- How a command ended, where nothing failed outside.
+use Rattle.std.specs.Prelude.{◌≡◌, ℕ, ⊤}
+use Rattle.vdr_config.specs.declared.bad.ConfigBad.{ConfigBad}
+use Rattle.vdr_tool.specs.Check.{number_of}
+use Rattle.vdr_tool.specs.declared.status.Status.{Status}
+use Rattle.vdr_tool.specs.declared.status.Status.TheVariants.{Done, Config, Small, Formatted, MediaFault, NoMemory, Feed}
+
+-- All was done, or there was no memory.
+abbrev pub IsDone : Status → Type 0
+IsDone Done = ⊤
+IsDone NoMemory = ⊤
+IsDone status = ⊥
+
+-- The feed was refused so, or there was no memory.
+abbrev pub IsRefusal : ℕ → ℕ → Status → Type 0
+IsRefusal number offset (Feed n at) = (n ≡ number) × (at ≡ offset)
+IsRefusal number offset NoMemory = ⊤
+IsRefusal number offset status = ⊥
+
+-- The configuration was refused so, or there was no memory.
+abbrev pub IsConfigRefusal : ConfigBad → Status → Type 0
+IsConfigRefusal bad (Config number) = number ≡ number_of bad
+IsConfigRefusal bad NoMemory = ⊤
+IsConfigRefusal bad status = ⊥
+
+-- No medium is spoken of.
+abbrev pub IsTextAlone : Status → Type 0
+IsTextAlone (Small small) = ⊥
+IsTextAlone Formatted = ⊥
+IsTextAlone MediaFault = ⊥
+IsTextAlone status = ⊤
