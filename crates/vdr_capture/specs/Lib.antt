@@ -2,3 +2,4 @@
 pub mod Gives
 pub mod Items
 pub mod Captures
+pub mod Lanes

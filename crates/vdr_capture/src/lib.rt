@@ -3,12 +3,14 @@
 
 mod item;
 mod lane;
+mod lanes;
 mod sums;
 #[cfg(test)]
 mod tests;
 mod work;
 
 pub use lane::{Cause, Lane};
+pub use lanes::capture_all;
 pub use sums::{GroupSums, Outcome};
 pub use vdr_terms::Counts;
 pub use work::capture;

@@ -1,5 +1,6 @@
 ghost use Rattle.std.specs.Prelude.{◌≡◌, ◌≤◌, ◌<◌};
 
+mod beside;
 mod script;
 
 use crate::{Cause, Counts, Lane, capture};

@@ -6,6 +6,7 @@ ghost use Rattle.vdr_intake.specs.Items.{most_items};
 ghost use Rattle.vdr_capture.specs.declared.lane.Cause.{Cause as CauseTold};
 ghost use Rattle.vdr_capture.specs.declared.lane.Cause.TheVariants.{Ended, Failed};
 ghost use Rattle.vdr_capture.specs.Captures.{IsCapture};
+ghost use Rattle.vdr_capture.specs.Lanes.{IsReady, Captures};
 ghost use Rattle.vdr_capture.specs.Gives.{NothingLeft};
 
 use crate::item::keep;
@@ -57,20 +58,9 @@ fn take_all<P: Port, R: Wait>(
 ///
 /// It takes no memory, and it has neither the media nor what guards them, so that it never waits for a commit.
 pub fn capture<P: Port, R: Wait>(rt: &R, lane: &mut Lane<P>, turns: u64, queue: &Intake)
-    requires group { queue.now.group ≡ lane.old.group }
-    requires feeder { lane.old.feeder ≡ Some (record { queue = queue.now; pushed = []; full = 0 }) }
-    requires tally { lane.old.tally ≡ no_tally }
     requires turns { turns ≤ most_items }
-    ensures group { lane.new.group ≡ lane.old.group }
-    ensures captured { (feeder : Feeding) × (cause : CauseTold)
-        × (lane.new.feeder ≡ Some feeder) × (feeder.queue ≡ queue.now) × (lane.new.cause ≡ Some cause)
-        × IsCapture turns lane.old.group
-        (record { standing = P.standing lane.old.port; asked = P.asked lane.old.port })
-        (record { standing = P.standing lane.new.port; asked = P.asked lane.new.port })
-        feeder lane.new.tally cause }
-    ensures faults { P.faults lane.old.port ≤ P.faults lane.new.port }
-    ensures failed { lane.new.cause ≡ Some Failed → Rose (P.faults lane.old.port) (P.faults lane.new.port) }
-    ensures ended { lane.new.cause ≡ Some Ended → NothingLeft (P.standing lane.old.port).left (P.standing lane.new.port).left }
+    requires ready { IsReady queue.now lane.old }
+    ensures { Captures P.Port turns queue.now lane.old lane.new }
 {
     let Some(mut feeder) = lane.feeder.take() else {
         unreachable!()
