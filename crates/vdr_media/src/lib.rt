@@ -8,6 +8,8 @@ mod laying;
 mod layout;
 mod refused;
 mod superblock;
+#[cfg(test)]
+mod tests;
 
 pub use formatting::format;
 pub use refused::FormatRefused;
