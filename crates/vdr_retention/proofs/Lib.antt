@@ -1,0 +1,13 @@
+pub mod Lists
+pub mod Retained
+pub mod Ordered
+pub mod Following
+pub mod Bytes
+pub mod Touched
+pub mod Needed
+pub mod Victims
+pub mod Paced
+pub mod Summed
+pub mod Choice
+pub mod Appended
+pub mod Worked

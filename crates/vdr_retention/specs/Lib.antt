@@ -1,0 +1,4 @@
+pub mod Layout
+pub mod Retention
+pub mod Regular
+pub mod Victims
