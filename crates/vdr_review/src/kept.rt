@@ -80,7 +80,8 @@ impl Kept {
 
     /// Its second of recording time.
     pub(crate) fn second(&self) -> u64
-        ensures { result ≡ second self.now.tick }
+        ensures second { result ≡ second self.now.tick }
+        ensures small { result < 2 ^ 54 }
     {
         self.spot.tick / 1000
     }
