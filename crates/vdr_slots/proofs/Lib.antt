@@ -1,0 +1,6 @@
+pub mod Gates
+pub mod Segments
+pub mod Holding
+pub mod Writes
+pub mod Opening
+pub mod Results

@@ -1,0 +1,14 @@
+//! The slots of a medium: how they are read, closed, begun and appended to, and what each write leaves of them.
+#![tactic(auto)]
+
+mod area;
+mod law;
+mod reading;
+#[cfg(test)]
+mod tests;
+mod writing;
+
+pub use area::Area;
+pub use law::law_of_slots;
+pub use reading::{read_front, read_slot};
+pub use writing::{append_batch, begin_segment, close_slot};

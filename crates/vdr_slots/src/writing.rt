@@ -1,0 +1,109 @@
+ghost use Rattle.std.specs.Prelude.{◌≡◌, ◌≢◌, ◌+◌, ◌<◌, ◌≤◌, [], ◌∷◌, ◌++◌, List, length, drop, slice_get, Option, None, Some, OnOk};
+ghost use Rattle.vdr_terms.specs.Records.{Record as Entry};
+ghost use Rattle.vdr_outside.specs.Causes.{HasCauseOn};
+ghost use Rattle.vdr_outside.specs.Disk.{Rises, SameBut};
+ghost use Rattle.vdr_outside.specs.Moments.{ChangesOnly, Settled};
+ghost use Rattle.vdr_segment.specs.Gates.{closed_gate};
+ghost use Rattle.vdr_segment.specs.Headers.{new_header};
+ghost use Rattle.vdr_segment.specs.Batches.{IsBatch, batch_bytes};
+ghost use Rattle.vdr_segment.specs.Segments.{Segment, end_of};
+ghost use Rattle.vdr_slots.specs.Slots.{HoldsSlots, HoldsEither, slots_closed, slots_begun, slots_with_batch};
+ghost use Rattle.vdr_slots.specs.Areas.{HasRoom};
+
+use crate::Area;
+use vdr_bytes::put;
+use vdr_outside::{Fault, Media, write_through};
+use vdr_segment::{CLOSED_GATE, HEADER_SIZE, OPEN_GATE, write_header};
+
+/// Closes a slot, so that it holds no segment: writes its gate, byte 0, and syncs.
+///
+/// At every moment a stop leaves the slots as they were, or this one closed. That is promised only where the slot isn't
+/// closed already: a torn write may open a gate that was closed.
+pub fn close_slot<M: Media>(media: &mut M, area: Area, slot: u32) -> Result<(), Fault>
+    requires room { HasRoom area (M.disk media.old).sizes }
+    requires within { slot < area.slots }
+    ensures moments { (slots : List (Option Segment)) → Settled area.medium (HoldsSlots area.segment slots) (M.disk media.old) → slice_get slots slot ≢ Some None
+        → ChangesOnly area.medium (HoldsEither area.segment slots (slots_closed slots slot)) (M.disk media.old) (M.disk media.new) }
+    ensures settled { (slots : List (Option Segment)) → Settled area.medium (HoldsSlots area.segment slots) (M.disk media.old)
+        → OnOk result (Settled area.medium (HoldsSlots area.segment (slots_closed slots slot)) (M.disk media.new)) }
+    ensures others { M.tells → SameBut area.medium (M.disk media.old).reads (M.disk media.new).reads }
+    ensures sizes { (M.disk media.new).sizes ≡ (M.disk media.old).sizes }
+    ensures rises { Rises (M.disk media.old) (M.disk media.new) }
+    ensures counts { M.bytes_read media.new ≡ M.bytes_read media.old }
+    ensures cause { HasCauseOn area.medium (M.faults media.old) (M.faults media.new) result }
+{
+    write_through(media, area.medium, area.place_of(slot), &[CLOSED_GATE])
+}
+
+// What stands behind the gate of a new segment: its header, and the closed gate of its first batch.
+fn behind_gate(seq: u64, first: u64) -> [u8; HEADER_SIZE]
+    ensures { result ≡ drop 1 (new_header seq first) ++ closed_gate ∷ [] }
+{
+    let mut header = [0; HEADER_SIZE];
+    write_header(seq, first, &mut header);
+    let mut bytes = [CLOSED_GATE; HEADER_SIZE];
+    put(&mut bytes, 0, &header[1..]);
+    bytes
+}
+
+/// Begins a segment in a closed slot, with this sequence number and this place of its first record, and no batch.
+/// Writes bytes 1 to 64, which are the header behind its gate and the closed gate of the first batch, and syncs; then
+/// opens the segment's gate, byte 0, and syncs.
+///
+/// At every moment a stop leaves the slots as they were, or with the new segment.
+pub fn begin_segment<M: Media>(
+    media: &mut M,
+    area: Area,
+    slot: u32,
+    seq: u64,
+    first: u64,
+) -> Result<(), Fault>
+    requires room { HasRoom area (M.disk media.old).sizes }
+    requires within { slot < area.slots }
+    ensures moments { (slots : List (Option Segment)) → Settled area.medium (HoldsSlots area.segment slots) (M.disk media.old) → slice_get slots slot ≡ Some None
+        → ChangesOnly area.medium (HoldsEither area.segment slots (slots_begun slots slot seq first)) (M.disk media.old) (M.disk media.new) }
+    ensures settled { (slots : List (Option Segment)) → Settled area.medium (HoldsSlots area.segment slots) (M.disk media.old) → slice_get slots slot ≡ Some None
+        → OnOk result (Settled area.medium (HoldsSlots area.segment (slots_begun slots slot seq first)) (M.disk media.new)) }
+    ensures others { M.tells → SameBut area.medium (M.disk media.old).reads (M.disk media.new).reads }
+    ensures sizes { (M.disk media.new).sizes ≡ (M.disk media.old).sizes }
+    ensures rises { Rises (M.disk media.old) (M.disk media.new) }
+    ensures counts { M.bytes_read media.new ≡ M.bytes_read media.old }
+    ensures cause { HasCauseOn area.medium (M.faults media.old) (M.faults media.new) result }
+{
+    let place = area.place_of(slot);
+    write_through(media, area.medium, place + 1, &behind_gate(seq, first))?;
+    write_through(media, area.medium, place, &[OPEN_GATE])
+}
+
+/// Appends a batch to a segment at `at`, where its last batch ends, in bytes from the slot's beginning. `batch` is what
+/// `vdr_segment::write_batch` made: the batch, its gate open, and a closed gate behind it. Writes all of it but the first
+/// byte and syncs; then writes that one, the batch's gate, and syncs.
+///
+/// At every moment a stop leaves the slots as they were, or with the batch behind the others of its segment.
+pub fn append_batch<M: Media>(
+    media: &mut M,
+    area: Area,
+    slot: u32,
+    at: usize,
+    batch: &[u8],
+) -> Result<(), Fault>
+    requires room { HasRoom area (M.disk media.old).sizes }
+    requires within { slot < area.slots }
+    requires fits { at + length batch.now ≤ area.segment }
+    requires some { 0 < length batch.now }
+    ensures moments { (slots : List (Option Segment)) (s : Segment) (records : List Entry) → Settled area.medium (HoldsSlots area.segment slots) (M.disk media.old) → slice_get slots slot ≡ Some (Some s)
+        → end_of s ≡ at → batch.now ≡ batch_bytes records ++ closed_gate ∷ [] → IsBatch records
+        → ChangesOnly area.medium (HoldsEither area.segment slots (slots_with_batch slots slot s records)) (M.disk media.old) (M.disk media.new) }
+    ensures settled { (slots : List (Option Segment)) (s : Segment) (records : List Entry) → Settled area.medium (HoldsSlots area.segment slots) (M.disk media.old) → slice_get slots slot ≡ Some (Some s)
+        → end_of s ≡ at → batch.now ≡ batch_bytes records ++ closed_gate ∷ [] → IsBatch records
+        → OnOk result (Settled area.medium (HoldsSlots area.segment (slots_with_batch slots slot s records)) (M.disk media.new)) }
+    ensures others { M.tells → SameBut area.medium (M.disk media.old).reads (M.disk media.new).reads }
+    ensures sizes { (M.disk media.new).sizes ≡ (M.disk media.old).sizes }
+    ensures rises { Rises (M.disk media.old) (M.disk media.new) }
+    ensures counts { M.bytes_read media.new ≡ M.bytes_read media.old }
+    ensures cause { HasCauseOn area.medium (M.faults media.old) (M.faults media.new) result }
+{
+    let gate = area.place_of(slot) + at as u64;
+    write_through(media, area.medium, gate + 1, &batch[1..])?;
+    write_through(media, area.medium, gate, &batch[..1])
+}
