@@ -1,0 +1,6 @@
+pub mod OrderLemmas
+pub mod StretchLemmas
+pub mod SurveyLemmas
+pub mod SpanLemmas
+pub mod WalkLemmas
+pub mod StepLemmas

@@ -1,0 +1,5 @@
+-- What the batches of a segment come to, and the records ahead of a reader.
+pub mod Extents
+pub mod Surveys
+pub mod Stretches
+pub mod Positions

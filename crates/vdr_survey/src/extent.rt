@@ -1,0 +1,124 @@
+ghost use Rattle.std.specs.Prelude.{◌≡◌, ◌↔◌, ◌<◌, ◌+◌, ◌^◌, ◌∷◌, [], ◌++◌, ℕ, List, length, IsTrue};
+ghost use Rattle.vdr_terms.specs.Records.{Record as Entry};
+ghost use Rattle.vdr_terms.specs.Sizes.{batch_size, records_size};
+ghost use Rattle.vdr_survey.specs.Stretches.{ComesTo, GoesOn, grown};
+ghost use Rattle.vdr_survey.specs.Surveys.{Surveys};
+
+use crate::stretch::{Mark, Stretch, stretch_of};
+use vdr_entry::Record;
+use vdr_segment::{BATCH_HEAD, HEADER_SIZE};
+
+/// From where to where the records of some batches reach.
+#[derive(Clone, Copy, Debug, PartialEq, Eq, Drop)]
+pub struct Extent {
+    /// The tick of the first record: recording time, in milliseconds.
+    pub first_tick: u64,
+    /// The place of the last record.
+    pub last_place: u64,
+    /// The tick of the last record, in milliseconds.
+    pub last_tick: u64,
+    /// The stamp of the last record, in milliseconds since 1970.
+    pub last_utc: i64,
+    /// The place of the first record of the last batch.
+    pub last_batch: u64,
+}
+
+impl Extent {
+    fn last(self) -> Mark
+        ensures { result ≡ record { place = self.last_place; tick = self.last_tick; utc = self.last_utc } }
+    {
+        Mark {
+            place: self.last_place,
+            tick: self.last_tick,
+            utc: self.last_utc,
+        }
+    }
+}
+
+/// What the batches of a segment come to.
+#[derive(Clone, Copy, Debug, PartialEq, Eq, Drop)]
+pub struct Survey {
+    /// Where the gate behind the last batch stands: an offset in the segment, from 64 on.
+    pub end: usize,
+    /// None where there is no record.
+    pub extent: Option<Extent>,
+    /// Places run on from the segment's first place, and ticks never fall.
+    pub in_order: bool,
+}
+
+// How many bytes the records take.
+fn size_of_all(records: &[Record]) -> usize
+    requires { records_size records.now < 2 ^ 64 }
+    ensures { result ≡ records_size records.now }
+{
+    records.iter().map(|item| item.size()).sum()
+}
+
+// A record goes on from where the extent ends, or is the first one and has the first place.
+fn goes_on(extent: Option<Extent>, first: u64, next: Mark) -> bool
+    ensures { IsTrue result ↔ GoesOn first extent next }
+{
+    match extent {
+        Some(before) => next.follows(before.last()),
+        None => next.place == first,
+    }
+}
+
+// The extent with one batch more, whose records come to this.
+fn grown(extent: Option<Extent>, stretch: Stretch) -> Extent
+    ensures { result ≡ grown extent stretch.first stretch.last }
+{
+    let Mark { place, tick, utc } = stretch.last;
+    Extent {
+        first_tick: extent.map_or(stretch.first.tick, |before| before.first_tick),
+        last_place: place,
+        last_tick: tick,
+        last_utc: utc,
+        last_batch: stretch.first.place,
+    }
+}
+
+impl Survey {
+    /// The survey of a segment that has no batch yet.
+    pub fn empty() -> Survey
+        ensures end { result.end ≡ 64 }
+        ensures survey { (first : ℕ) → Surveys first [] result }
+    {
+        Survey {
+            end: HEADER_SIZE,
+            extent: None,
+            in_order: true,
+        }
+    }
+
+    /// The survey with one batch more, of these records, in a segment whose first place is `first`.
+    pub fn extended(self, first: u64, records: &[Record]) -> Survey
+        requires some { 0 < length records.now }
+        requires fits { self.end + batch_size records.now < 2 ^ 64 }
+        ensures end { result.end ≡ self.end + batch_size records.now }
+        ensures survey { (batches : List (List Entry)) → Surveys first batches self → Surveys first (batches ++ records.now ∷ []) result }
+    {
+        let end = self.end + BATCH_HEAD + size_of_all(records);
+        self.joined(first, stretch_of(records), end)
+    }
+
+    // Places and ticks are in order with those of the stretch behind.
+    fn goes_on_with(self, first: u64, stretch: Stretch) -> bool
+        ensures { IsTrue result ↔ (IsTrue self.in_order × GoesOn first self.extent stretch.first × IsTrue stretch.in_order) }
+    {
+        self.in_order && goes_on(self.extent, first, stretch.first) && stretch.in_order
+    }
+
+    // With one batch more, whose records come to this and whose end is there.
+    pub(crate) fn joined(self, first: u64, stretch: Stretch, end: usize) -> Survey
+        ensures end { result.end ≡ end }
+        ensures survey { (batches : List (List Entry)) (records : List Entry) → Surveys first batches self → ComesTo records stretch
+            → end ≡ self.end + batch_size records → Surveys first (batches ++ records ∷ []) result }
+    {
+        Survey {
+            end,
+            extent: Some(grown(self.extent, stretch)),
+            in_order: self.goes_on_with(first, stretch),
+        }
+    }
+}

@@ -1,0 +1,109 @@
+ghost use Rattle.std.specs.Prelude.{◌≡◌, ◌<◌, ◌↔◌, ◌∷◌, [], ◌++◌, ℕ, List, length, IsTrue};
+ghost use Rattle.vdr_terms.specs.Records.{Record as Entry};
+ghost use Rattle.vdr_terms.specs.Sizes.{record_size};
+ghost use Rattle.vdr_entry.specs.Reading.{Begins};
+ghost use Rattle.vdr_segment.specs.Batches.{AreRecords};
+ghost use Rattle.vdr_survey.specs.Stretches.{mark_of, Follows, ComesTo};
+
+use vdr_bytes::{u16_at, u64_at};
+use vdr_entry::Record;
+
+/// What is kept of a record: its place, its tick in milliseconds, and its stamp in milliseconds since 1970.
+#[derive(Clone, Copy, Drop)]
+pub(crate) struct Mark {
+    pub(crate) place: u64,
+    pub(crate) tick: u64,
+    pub(crate) utc: i64,
+}
+
+impl Mark {
+    pub(crate) fn follows(self, before: Mark) -> bool
+        ensures { IsTrue result ↔ Follows before self }
+    {
+        before.place < self.place && self.place - before.place == 1 && before.tick <= self.tick
+    }
+}
+
+/// What records, one after another, come to.
+#[derive(Clone, Copy, Drop)]
+pub(crate) struct Stretch {
+    pub(crate) first: Mark,
+    pub(crate) last: Mark,
+    /// Places run on from the first one, and ticks never fall.
+    pub(crate) in_order: bool,
+}
+
+impl Stretch {
+    fn one(mark: Mark) -> Stretch
+        ensures { (r : Entry) → mark ≡ mark_of r → ComesTo (r ∷ []) result }
+    {
+        Stretch {
+            first: mark,
+            last: mark,
+            in_order: true,
+        }
+    }
+
+    fn with(self, mark: Mark) -> Stretch
+        ensures { (records : List Entry) (r : Entry) → ComesTo records self → mark ≡ mark_of r → ComesTo (records ++ r ∷ []) result }
+    {
+        Stretch {
+            first: self.first,
+            last: mark,
+            in_order: self.in_order && mark.follows(self.last),
+        }
+    }
+}
+
+fn mark_of(item: &Record) -> Mark
+    ensures { result ≡ mark_of item.now }
+{
+    Mark {
+        place: item.place,
+        tick: item.tick,
+        utc: item.utc,
+    }
+}
+
+/// What these records, at least one, come to.
+pub(crate) fn stretch_of(records: &[Record]) -> Stretch
+    requires { 0 < length records.now }
+    ensures { ComesTo records.now result }
+{
+    let (first, others) = (&records[0], &records[1..]);
+    let mut stretch = Stretch::one(mark_of(first));
+    for item in others {
+        stretch = stretch.with(mark_of(item));
+    }
+    stretch
+}
+
+// What is kept of the record at the front of the bytes, and how many bytes it takes. That there is one is not asked again.
+fn mark_at(bytes: &[u8]) -> (Mark, usize)
+    requires { (r : Entry) × (rest : List ℕ) × Begins bytes.now r rest }
+    ensures { (r : Entry) × (rest : List ℕ) × Begins bytes.now r rest × (result.0 ≡ mark_of r) × (result.1 ≡ record_size r) }
+{
+    let mark = Mark {
+        place: u64_at(bytes, 12),
+        tick: u64_at(bytes, 28),
+        utc: u64_at(bytes, 36) as i64,
+    };
+    (mark, 44 + u16_at(bytes, 2) as usize)
+}
+
+/// What the records in the bytes, at least one, come to.
+pub(crate) fn stretch_in(bytes: &[u8]) -> Stretch
+    requires some { 0 < length bytes.now }
+    requires legal { (records : List Entry) × AreRecords bytes.now records }
+    ensures { (records : List Entry) × AreRecords bytes.now records × ComesTo records result }
+{
+    let (first, size) = mark_at(bytes);
+    let mut stretch = Stretch::one(first);
+    let mut rest = &bytes[size..];
+    while !rest.is_empty() {
+        let (mark, size) = mark_at(rest);
+        stretch = stretch.with(mark);
+        rest = &rest[size..];
+    }
+    stretch
+}
