@@ -1,5 +1,5 @@
 -- Legal batches up to an offset of a segment, and what stands there.
-use Rattle.std.proofs.Common.{◌≡◌, ◌≤◌, ◌<◌, ◌+◌, ◌-◌, ℕ, List, [], ◌∷◌, ◌++◌, length, take, drop, slice_index, refl, ap, ◌∙◌, sym, subst, arith, zero-add, add-zero}
+use Rattle.std.proofs.Common.{◌≡◌, ◌≤◌, ◌<◌, ◌+◌, ◌-◌, ℕ, List, [], ◌∷◌, ◌++◌, length, take, drop, refl, ap, ◌∙◌, sym, subst, arith, zero-add, add-zero}
 use Rattle.std.specs.Prelude.{All, sum_by}
 use Rattle.std.specs.List.{flat_map}
 use Rattle.std.proofs.lemmas.List.{length-append, append_assoc, append_cancel_left, drop-drop, length-drop, flat_map_more}

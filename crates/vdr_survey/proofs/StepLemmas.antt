@@ -5,14 +5,13 @@ use Rattle.std.proofs.lemmas.List.{length-take, length-drop, drop-take, drop-dro
 use Rattle.std.proofs.lemmas.List.Elements.{All-nil, All-cons}
 use Rattle.vdr_terms.specs.Legality.{IsRecord}
 use Rattle.vdr_terms.specs.Records.{Record}
-use Rattle.vdr_terms.specs.Sizes.{record_size, records_size, batch_size}
+use Rattle.vdr_terms.specs.Sizes.{record_size}
 use Rattle.vdr_entry.specs.Reading.{Begins}
 use Rattle.vdr_entry.specs.Spelling.{record_bytes, records_bytes}
-use Rattle.vdr_segment.specs.declared.step.Walk.{Walk}
 use Rattle.vdr_segment.specs.declared.step.Walk.TheVariants.{Batch, End, Broken}
-use Rattle.vdr_segment.specs.Batches.{AreRecords, HasBatchAt}
+use Rattle.vdr_segment.specs.Batches.{AreRecords}
 use Rattle.vdr_segment.specs.Segments.{AreBatches}
-use Rattle.vdr_segment.specs.Walks.{Walks, TellsBatches}
+use Rattle.vdr_segment.specs.Walks.{Walks}
 use Rattle.vdr_segment.proofs.WalkLemmas.{first_begins, begun_size, begun_behind}
 use Rattle.vdr_segment.proofs.BatchListLemmas.{one_records, one_batch, one_batches, walk_tells, none_stand}
 use Rattle.vdr_survey.specs.declared.position.Position.{Position}
@@ -39,8 +38,11 @@ left_none segment at to past =
 pub front_ahead : (segment : List ℕ) (p : Position) (records : List Record) → p.at ≡ 64 → p.to ≡ 64
     → HasAhead segment p records ↔ ((batches : List (List Record)) × AreBatches (drop 64 segment) batches × (records ≡ records_in batches))
 front_ahead segment p records at_is to_is = (
-  λ h. (h.batches, subst (λ (n : ℕ). AreBatches (drop n segment) h.batches) to_is h.behind,
-    h.are ∙ ap (λ (rs : List Record). rs ++ records_in h.batches) (none_left segment p.at p.to h.left (omega (arith, at_is, to_is)) h.here)),
+  λ h. (
+    h.batches,
+    subst (λ (n : ℕ). AreBatches (drop n segment) h.batches) to_is h.behind,
+    h.are ∙ ap (λ (rs : List Record). rs ++ records_in h.batches) (none_left segment p.at p.to h.left (omega (arith, at_is, to_is)) h.here),
+  ),
   λ x. record {
     left = [];
     batches = x.0;

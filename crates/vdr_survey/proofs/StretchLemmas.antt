@@ -1,5 +1,5 @@
 -- What records come to, one more at a time, and what is kept of the record at the front of some bytes.
-use Rattle.std.proofs.Common.{◌≡◌, ◌≤◌, ◌<◌, ◌+◌, ◌^◌, ℕ, List, [], ◌∷◌, ◌++◌, length, get_or, take, drop, refl, ap, ◌∙◌, sym, subst, arith, Bool, IsTrue, ℤ, pos, to_z, w64}
+use Rattle.std.proofs.Common.{◌≡◌, ◌≤◌, ◌<◌, ◌+◌, ◌^◌, ℕ, List, [], ◌∷◌, ◌++◌, length, get_or, take, drop, ap, ◌∙◌, sym, subst, arith, Bool, IsTrue, ℤ, pos, to_z, w64}
 use Rattle.std.specs.Prelude.{◌↔◌}
 use Rattle.std.proofs.lemmas.Int.{to_z_pos}
 use Rattle.std.proofs.lemmas.List.{append_assoc, append-nil, take_more}
@@ -14,7 +14,7 @@ use Rattle.vdr_segment.specs.Batches.{AreRecords}
 use Rattle.vdr_segment.proofs.WalkLemmas.{first_begins, records_behind}
 use Rattle.vdr_survey.specs.declared.stretch.Mark.{Mark}
 use Rattle.vdr_survey.specs.declared.stretch.Stretch.{Stretch}
-use Rattle.vdr_survey.specs.Stretches.{mark_of, Follows, AreInOrderFrom, ComesTo}
+use Rattle.vdr_survey.specs.Stretches.{mark_of, Follows, ComesTo}
 use Rattle.vdr_survey.proofs.OrderLemmas.{last_join, order_join, order_split, order_alone}
 
 -- One record more

@@ -1,7 +1,6 @@
 -- What batches come to, one more at a time.
-use Rattle.std.proofs.Common.{◌≡◌, ◌+◌, ℕ, List, [], ◌∷◌, ◌++◌, take, refl, ap, ◌∙◌, sym, subst, arith, Bool, IsTrue, Option, Some, None, inl, inr}
-use Rattle.std.specs.Prelude.{◌↔◌, ◌⊎◌, slice_get, sum_by}
-use Rattle.std.specs.List.{flat_map}
+use Rattle.std.proofs.Common.{◌≡◌, ◌+◌, ℕ, List, [], ◌∷◌, ◌++◌, take, refl, ap, ◌∙◌, sym, subst, arith, Bool, IsTrue, Option, Some, inl, inr}
+use Rattle.std.specs.Prelude.{◌↔◌, ◌⊎◌, slice_get}
 use Rattle.std.proofs.lemmas.Grind.{flat_map-append}
 use Rattle.std.proofs.lemmas.List.{append-nil}
 use Rattle.std.proofs.lemmas.List.Sums.{sum_by_push}
@@ -26,7 +25,7 @@ first_records_more : (batches : List (List Record)) (head : Record) (tail : List
 first_records_more batches head tail = flat_map-append (λ (b : List Record). take 1 b) batches ((head ∷ tail) ∷ [])
 
 -- batches have no records, or some, and then one of them has a first
-record Some_records (batches : List (List Record)) : Type 0 where
+record HasRecords (batches : List (List Record)) : Type 0 where
   first : Record
   others : List Record
   begins : Record
@@ -34,7 +33,7 @@ record Some_records (batches : List (List Record)) : Type 0 where
   records_are : records_in batches ≡ first ∷ others
   firsts_are : first_records batches ≡ begins ∷ later
 
-none_or_some : (batches : List (List Record)) → ((records_in batches ≡ []) × (first_records batches ≡ [])) ⊎ Some_records batches
+none_or_some : (batches : List (List Record)) → ((records_in batches ≡ []) × (first_records batches ≡ [])) ⊎ HasRecords batches
 none_or_some [] = inl (refl, refl)
 none_or_some ([] ∷ bs) = elim (none_or_some bs) [
   | inl e ↦ inl e
@@ -63,6 +62,7 @@ extent_more batches head tail = parts ∙ elim (none_or_some batches) as (λ _. 
   where
     Joined : (rs fs : List Record) → Type 0
     Joined rs fs = extent_by (rs ++ head ∷ tail) (fs ++ head ∷ []) ≡ Some (grown (extent_by rs fs) (mark_of head) (mark_of (last_after head tail)))
+
     parts : extent_of (batches ++ (head ∷ tail) ∷ []) ≡ extent_by (records_in batches ++ head ∷ tail) (first_records batches ++ head ∷ [])
     parts = ap (λ (rs : List Record). extent_by rs (first_records (batches ++ (head ∷ tail) ∷ []))) (records_in_more batches (head ∷ tail))
         ∙ ap (λ (fs : List Record). extent_by (records_in batches ++ head ∷ tail) fs) (first_records_more batches head tail)

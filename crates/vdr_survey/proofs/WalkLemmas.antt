@@ -2,7 +2,7 @@
 use Rattle.std.proofs.Common.{◌≡◌, ◌≤◌, ◌<◌, ◌+◌, ◌-◌, ℕ, List, [], ◌∷◌, ◌++◌, length, take, drop, ◌∙◌, sym, subst, arith}
 use Rattle.std.proofs.lemmas.List.{length-take, length-drop}
 use Rattle.vdr_terms.specs.Records.{Record}
-use Rattle.vdr_terms.specs.Sizes.{records_size, batch_size}
+use Rattle.vdr_terms.specs.Sizes.{batch_size}
 use Rattle.vdr_segment.specs.declared.step.Walk.TheVariants.{Batch}
 use Rattle.vdr_segment.specs.Batches.{AreRecords}
 use Rattle.vdr_segment.specs.Walks.{Walks}

@@ -11,13 +11,13 @@ use vdr_segment::{BATCH_HEAD, HEADER_SIZE};
 /// From where to where the records of some batches reach.
 #[derive(Clone, Copy, Debug, PartialEq, Eq, Drop)]
 pub struct Extent {
-    /// The tick of the first record: recording time, in milliseconds.
+    /// The tick of the first record: recording time in milliseconds, below 2^63.
     pub first_tick: u64,
-    /// The place of the last record.
+    /// The place of the last record: 0, 1, 2 .. over the life of the media, below 2^63.
     pub last_place: u64,
-    /// The tick of the last record, in milliseconds.
+    /// The tick of the last record.
     pub last_tick: u64,
-    /// The stamp of the last record, in milliseconds since 1970.
+    /// The UTC stamp of the last record, in milliseconds since 1970, within the years 1970 to 9999.
     pub last_utc: i64,
     /// The place of the first record of the last batch.
     pub last_batch: u64,
@@ -91,7 +91,8 @@ impl Survey {
         }
     }
 
-    /// The survey with one batch more, of these records, in a segment whose first place is `first`.
+    /// The survey with one batch more, of these records, in a segment whose first place is `first`. A batch takes five bytes
+    /// besides its records.
     pub fn extended(self, first: u64, records: &[Record]) -> Survey
         requires some { 0 < length records.now }
         requires fits { self.end + batch_size records.now < 2 ^ 64 }

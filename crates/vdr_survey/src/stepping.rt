@@ -24,8 +24,8 @@ fn next_of_batch(segment: &[u8], position: Position) -> (Record, Position)
     (item, next)
 }
 
-/// The next record of a segment, and the position behind it. None where no record is ahead. Err: the next batch is not
-/// legal, and begins at this offset (this project's profile).
+/// The next record of a segment, and the position behind it. None where no record is ahead. Err: the offset of the next batch,
+/// which is not legal (this project's profile). The position is `Position::front()`, or one that a step in this segment gave.
 pub fn step(segment: &[u8], position: Position) -> Result<Option<(Record, Position)>, usize>
     requires { IsAt segment.now position }
     ensures next { IfOk result (λ found. IfSome found (λ x. StepsOver segment.now position x.0 x.1)) }

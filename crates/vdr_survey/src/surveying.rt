@@ -7,8 +7,8 @@ use crate::Survey;
 use crate::stretch::stretch_in;
 use vdr_segment::{Walk, walk};
 
-/// What the batches of a segment come to, whose first place is `first`. Its header, in bytes 0 to 63, is not asked. Err: the
-/// offset of the first batch that is not legal (this project's profile).
+/// What the batches of a segment come to, whose first place is `first`, and whose bytes are at least a header and one gate.
+/// The header, bytes 0 to 63, is not read. Err: the offset of the first batch that is not legal (this project's profile).
 pub fn survey(segment: &[u8], first: u64) -> Result<Survey, usize>
     requires { 65 ≤ length segment.now }
     ensures legal { IfOk result (λ s. (batches : List (List Entry)) × AreBatches (drop 64 segment.now) batches × Surveys first batches s) }

@@ -1,4 +1,4 @@
-use Rattle.std.proofs.Common.{rules, ◌≤◌, ◌<◌, ℕ, List, length, drop, subst, sym, ◌∙◌, arith}
+use Rattle.std.proofs.Common.{rules, ◌≤◌, ℕ, List, length, subst, sym, ◌∙◌, arith}
 use Rattle.std.proofs.lemmas.List.{take_rest}
 use Rattle.vdr_segment.proofs.WalkLemmas.{begun_size, nonzero_of, zero_of}
 use Rattle.vdr_survey.proofs.StretchLemmas.{Midway, some_begin, midway_begun, midway_more, midway_done}

@@ -1,4 +1,4 @@
-use Rattle.std.proofs.Common.{List, ◌++◌, take, drop, length, ◌-◌, subst, arith}
+use Rattle.std.proofs.Common.{List, take, subst}
 use Rattle.vdr_terms.specs.Records.{Record}
 use Rattle.vdr_survey.specs.Stretches.{ComesTo}
 use Rattle.vdr_survey.proofs.StretchLemmas.{taken_more}

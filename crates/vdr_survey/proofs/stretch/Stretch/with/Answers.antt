@@ -1,4 +1,3 @@
-use Rattle.std.proofs.Common.{ap, sym, ◌∙◌, refl}
 use Rattle.std.proofs.lemmas.Bool.{both_ways}
 use Rattle.vdr_survey.proofs.StretchLemmas.{stretch_more}
 use Rattle.vdr_survey.proofs.stretch.Stretch.with.Goals as goal
