@@ -2,7 +2,7 @@ ghost use Rattle.std.specs.Prelude.{◌≡◌, ◌≤◌, ◌↔◌, ℕ, List, 
 ghost use Rattle.vdr_terms.specs.Records.{Record as Entry};
 ghost use Rattle.vdr_segment.specs.Segments.{AreBatches};
 ghost use Rattle.vdr_survey.specs.Extents.{records_in};
-ghost use Rattle.vdr_survey.specs.Positions.{IsAt, HasAhead};
+ghost use Rattle.vdr_survey.specs.Positions.{front, IsAt, HasAhead};
 
 use vdr_segment::HEADER_SIZE;
 
@@ -18,6 +18,7 @@ pub struct Position {
 impl Position {
     /// Before the first batch: all records of the segment are ahead.
     pub fn front() -> Position
+        ensures place { result ≡ front }
         ensures stands { (segment : List ℕ) → 65 ≤ length segment → IsAt segment result }
         ensures ahead { (segment : List ℕ) (records : List Entry) → HasAhead segment result records
             ↔ ((batches : List (List Entry)) × AreBatches (drop 64 segment) batches × (records ≡ records_in batches)) }
