@@ -1,0 +1,54 @@
+-- What opening a medium finds or refuses, once its fronts are read, sorted and surveyed.
+use Rattle.std.proofs.Common.{◌≡◌, ◌≤◌, ◌+◌, ◌*◌, ℕ, zero, suc, List, [], ◌∷◌, length, get_or, slice_get, All, Some, None, inl, inr, sym, ap, ◌∙◌, subst}
+use Rattle.std.proofs.lemmas.Option.{same_Some, none-some}
+use Rattle.vdr_slots.specs.Slots.{place_of}
+use Rattle.vdr_ring.specs.declared.entry.Entry.{Entry}
+use Rattle.vdr_ring.specs.Sequence.{Placed}
+use Rattle.vdr_ring.specs.Order.{AreInOrder, Breaks}
+use Rattle.vdr_ring.specs.Entries.{Describe}
+use Rattle.vdr_ring.specs.Opening.{Refuses}
+use Rattle.vdr_ring.specs.Fronts.{TellFronts, IsSurveyed, BreaksAmong, Finds}
+use Rattle.vdr_ring.proofs.Sequencing.{Sequenced, sequenced_sooner, sequenced_slots, sequenced_fronts}
+use Rattle.vdr_ring.proofs.Finding.{Placing, placing, holds_placed, closed_iff}
+use Rattle.vdr_ring.proofs.Refusing.{refuses_batch}
+
+described_slot : (ps : List Placed) (es : List Entry) (i : ℕ) (d : Entry) (x : Placed) → Describe ps es → slice_get ps i ≡ Some x → (get_or es i d).slot ≡ x.slot
+described_slot [] es i d x h at = absurd (none-some x at)
+described_slot (p ∷ ps) [] i d x h at = absurd h
+described_slot (p ∷ ps) (e ∷ es) zero d x h at = h.0.slot ∙ ap (λ (q : Placed). q.slot) (same_Some p x at)
+described_slot (p ∷ ps) (e ∷ es) (suc i) d x h at = described_slot ps es i d x h.1 at
+
+module _ (segment n : ℕ) (bytes : List ℕ) (read sorted done : List Entry) (closed : List ℕ) (h : Sequenced n read sorted done closed) (fronts : TellFronts segment n bytes read closed) where
+  pub batch_refused : (offset : ℕ) → BreaksAmong segment bytes done offset → Refuses segment n bytes offset
+  batch_refused offset b =
+      inr (inl (refuses_batch segment bytes n done closed (sequenced_slots n read sorted done closed h).opened_within (sequenced_fronts n read sorted done closed h segment bytes fronts) (sequenced_sooner n read sorted done closed h) offset b))
+
+  module _ (long : 64 ≤ segment) (room : 32768 + n * segment ≤ length bytes) (surveys : All (IsSurveyed segment bytes) done) where
+    all_fronts : TellFronts segment n bytes done closed
+    all_fronts = sequenced_fronts n read sorted done closed h segment bytes fronts
+
+    all_placed : Placing segment bytes done
+    all_placed = placing segment bytes long done all_fronts.headers surveys
+
+    -- `final` is the list of entries in the end, and `slice` what is lent of it
+    pub order_refused : (final slice : List Entry) (i : ℕ) (e : Entry) (offset : ℕ) → final ≡ done → slice ≡ final → ((placed : List Placed) → Describe placed slice → (x : Placed) × (slice_get placed i ≡ Some x) × Breaks None placed x)
+        → e ≡ get_or final i e → offset ≡ place_of segment e.slot → Refuses segment n bytes offset
+    order_refused final slice i e offset final_is slice_is breaks at is =
+        let b = breaks all_placed.placed (subst (λ (es : List Entry). Describe all_placed.placed es) (sym (slice_is ∙ final_is)) all_placed.describe) in
+        let same : e.slot ≡ b.0.slot = ap (λ (x : Entry). x.slot) (at ∙ ap (λ (es : List Entry). get_or es i e) final_is) ∙ described_slot all_placed.placed done i e b.0 all_placed.describe b.1 in
+        inr (inr (record {
+          placed = all_placed.placed;
+          holds = holds_placed segment n bytes done closed long room (sequenced_slots n read sorted done closed h).opened_within (sequenced_slots n read sorted done closed h).closed_within all_fronts (sequenced_sooner n read sorted done closed h) all_placed;
+          here = b.0;
+          breaks = b.2;
+          at = is ∙ ap (λ (j : ℕ). place_of segment j) same;
+        }))
+
+    pub found : (final slice : List Entry) → final ≡ done → slice ≡ final → ((placed : List Placed) → Describe placed slice → AreInOrder placed) → Finds segment n bytes final closed
+    found final slice final_is slice_is order = record {
+      placed = all_placed.placed;
+      holds = holds_placed segment n bytes done closed long room (sequenced_slots n read sorted done closed h).opened_within (sequenced_slots n read sorted done closed h).closed_within all_fronts (sequenced_sooner n read sorted done closed h) all_placed;
+      order = order all_placed.placed (subst (λ (es : List Entry). Describe all_placed.placed es) (sym (slice_is ∙ final_is)) all_placed.describe);
+      describe = subst (λ (es : List Entry). Describe all_placed.placed es) (sym final_is) all_placed.describe;
+      closed_slots = closed_iff segment n bytes done closed long room (sequenced_slots n read sorted done closed h).opened_within (sequenced_slots n read sorted done closed h).closed_within all_fronts (sequenced_sooner n read sorted done closed h) all_placed;
+    }

@@ -1,0 +1,43 @@
+-- A ring made of what was found on its medium.
+use Rattle.std.proofs.Common.{◌≡◌, ◌≢◌, ◌<◌, ◌≤◌, ℕ, List, length, All, Contains, None, sym, ap, ◌∙◌, subst, arith}
+use Rattle.std.specs.Prelude.{◌↔◌}
+use Rattle.std.proofs.lemmas.Option.{none-some}
+use Rattle.vdr_terms.specs.Needs.{Sizes, Fits, slots_in}
+use Rattle.vdr_outside.specs.Disk.{Disk, Image, Durable, Unchanged, content}
+use Rattle.vdr_outside.specs.Moments.{Settled}
+use Rattle.vdr_outside.proofs.Moments.{settled_still}
+use Rattle.vdr_ring.specs.declared.entry.Entry.{Entry}
+use Rattle.vdr_ring.specs.Sequence.{Placed}
+use Rattle.vdr_ring.specs.Entries.{Describe}
+use Rattle.vdr_ring.specs.Tables.{TableState}
+use Rattle.vdr_ring.specs.Rings.{RingState, HoldsPlaced, Ascends, Tells, Reads}
+use Rattle.vdr_ring.specs.Opening.{Refuses}
+use Rattle.vdr_ring.specs.Fronts.{AreSlots, Finds}
+
+-- A medium that fits has four slots at least.
+pub four_slots : (sizes : Sizes) (m size : ℕ) → Fits sizes m size → 4 ≤ slots_in sizes size
+four_slots sizes m size fits = omega (arith, fits)
+
+-- the same refusal by other names of its medium, segments and slots
+pub refused_by : (segment segment' count count' m m' : ℕ) (image : Image) (offset : ℕ) → segment ≡ segment' → count ≡ count' → m ≡ m' → Refuses segment count (content image m) offset → Refuses segment' count' (content image m') offset
+refused_by segment segment' count count' m m' image offset e f g h = subst (λ (p : ℕ × ℕ × ℕ). Refuses p.0 p.1 (content image p.2) offset) (λ i. (e i, f i, g i)) h
+
+-- The table tells of what was found.
+pub found_tells : (segment count : ℕ) (bytes : List ℕ) (opened : List Entry) (closed : List ℕ) (table : TableState) → table.opened ≡ opened → table.closed ≡ closed → AreSlots count opened closed → (f : Finds segment count bytes opened closed) → Tells count f.placed table
+found_tells segment count bytes opened closed table e f slots found = record {
+  opened = subst (λ (es : List Entry). Describe found.placed es) (sym e) found.describe;
+  closed = λ j. subst (λ (js : List ℕ). Contains js j ↔ ((j < count) × All (λ p. p.slot ≢ j) found.placed)) (sym f) (found.closed_slots j);
+  ascends = subst Ascends (sym f) slots.ascends;
+  total = omega (arith, ap length e, ap length f, slots.total);
+}
+
+module _ {tells tells_images : Type 0} where
+  pub ring_reads : (old new : Disk tells tells_images) (ring : RingState) (m : ℕ) (opened : List Entry) (closed : List ℕ) → ring.medium ≡ m → ring.loaded ≡ None → Unchanged old new → Durable m old → tells
+      → ring.table.opened ≡ opened → ring.table.closed ≡ closed → AreSlots ring.slots opened closed → Finds ring.segment ring.slots (content old.reads m) opened closed → (placed : List Placed) × Reads ring placed new
+  ring_reads old new ring m opened closed is none same durable told e f slots found = (found.placed, record {
+    settled = subst (λ (k : ℕ). Settled k (HoldsPlaced ring.segment ring.slots found.placed) new) (sym is)
+        (settled_still m (HoldsPlaced ring.segment ring.slots found.placed) old new same (record { durable = durable; reads = λ _. found.holds }));
+    order = found.order;
+    table = found_tells ring.segment ring.slots (content old.reads m) opened closed ring.table e f slots found;
+    loaded = λ j loaded _. absurd (none-some j (sym none ∙ loaded));
+  })

@@ -1,0 +1,17 @@
+use Rattle.vdr_ring.proofs.law.law_of_stages.Goals as goal
+use Rattle.vdr_ring.proofs.Retaining.{victim_is_oldest, closed_retains, begun_retains, done_retains, stages_regular}
+
+pub returns-clause-victim : goal.returns-clause-victim
+returns-clause-victim c = victim_is_oldest
+
+pub returns-clause-closed : goal.returns-clause-closed
+returns-clause-closed c = closed_retains
+
+pub returns-clause-begun : goal.returns-clause-begun
+returns-clause-begun c = begun_retains
+
+pub returns-clause-done : goal.returns-clause-done
+returns-clause-done c = done_retains
+
+pub returns-clause-regular : goal.returns-clause-regular
+returns-clause-regular c = stages_regular

@@ -1,0 +1,70 @@
+-- A cursor over the records of a slot, and what a step of it answers.
+use Rattle.std.specs.Prelude.{◌≡◌, ◌≢◌, ◌⊎◌, ◌↔◌, ◌+◌, ◌==◌, if◌then◌else◌, ℕ, Bool, true, false, List, [], ◌∷◌, All, Contains, Option, Some, None, Result, Ok, Err}
+use Rattle.vdr_terms.specs.Records.{Record}
+use Rattle.vdr_outside.specs.Disk.{Disk, content}
+use Rattle.vdr_segment.specs.Gates.{IsOpenAt}
+use Rattle.vdr_survey.specs.declared.position.Position.{Position}
+use Rattle.vdr_survey.specs.Positions.{front, IsAt, HasAhead, IsBrokenAt, StepsOver}
+use Rattle.vdr_ring.specs.Sequence.{Placed, records_of}
+use Rattle.vdr_ring.specs.Rings.{RingState}
+use Rattle.vdr_ring.specs.Opening.{slot_bytes}
+use Rattle.vdr_ring.specs.declared.refused.ReadRefused.{ReadRefused}
+use Rattle.vdr_ring.specs.declared.refused.ReadRefused.TheVariants.{Fault, Damaged}
+
+-- The slot that a cursor stands in, if any, its position there, and the record that it has stepped to.
+pub record CursorState : Type 0 where
+  pub slot : Option ℕ
+  pub position : Position
+  pub item : Option Record
+
+abbrev pub without_item : CursorState → CursorState
+without_item c = record c { item = None }
+
+-- A cursor in the slot that is loaded stands there rightly, so that it may go on without a look at what is behind it.
+abbrev pub StandsIn : RingState → CursorState → Type 0
+StandsIn ring c = (slot : ℕ) → c.slot ≡ Some slot → ring.loaded ≡ Some slot → IsAt ring.buffer c.position
+
+-- Where a step in this slot begins: where the cursor stands in it, else before its first batch.
+abbrev pub position_within : ℕ → Option ℕ → Position → Position
+position_within slot None position = front
+position_within slot (Some s) position = if s == slot then position else front
+
+abbrev pub position_in : ℕ → CursorState → Position
+position_in slot c = position_within slot c.slot c.position
+
+-- What a step in a slot with these bytes, which stands at this place of its medium, makes of the cursor.
+abbrev pub Steps : (medium slot place : ℕ) (bytes : List ℕ) (old : CursorState) → Result Bool ReadRefused → (new : CursorState) → Type 0
+Steps medium slot place bytes old (Ok true) new =
+    IsOpenAt bytes 0 × (IsBrokenAt bytes (position_in slot old) → ⊥) × (r : Record) × StepsOver bytes (position_in slot old) r new.position × (new.slot ≡ Some slot) × (new.item ≡ Some r)
+Steps medium slot place bytes old (Ok false) new =
+    ((IsOpenAt bytes 0 → ⊥) × (new.slot ≡ None) × (new.item ≡ None))
+    ⊎ (IsOpenAt bytes 0 × IsAt bytes (position_in slot old) × ((records : List Record) → HasAhead bytes (position_in slot old) records ↔ (records ≡ [])) × (new ≡ without_item old))
+Steps medium slot place bytes old (Err Fault) new = new ≡ without_item old
+Steps medium slot place bytes old (Err (Damaged m offset)) new =
+    IsOpenAt bytes 0 × (m ≡ medium) × (new ≡ without_item old)
+    × ((IsAt bytes (position_in slot old) × IsBrokenAt bytes (position_in slot old) × (offset ≡ place + (position_in slot old).to))
+    ⊎ ((IsAt bytes (position_in slot old) → ⊥) × (offset ≡ place)))
+
+-- These records of a segment are ahead: those behind the cursor where it stands in its slot, else all of them.
+abbrev pub IsAhead : (bytes : List ℕ) (p : Placed) → CursorState → List Record → Type 0
+IsAhead bytes p c records = ((c.slot ≡ Some p.slot) × IsAt bytes c.position × HasAhead bytes c.position records) ⊎ ((c.slot ≢ Some p.slot) × (records ≡ records_of p))
+
+-- These records of a slot are ahead: those of its segment, and none where it is closed.
+abbrev pub AreAhead : (bytes : List ℕ) (placed : List Placed) (slot : ℕ) → CursorState → List Record → Type 0
+AreAhead bytes placed slot c records = ((p : Placed) × Contains placed p × (p.slot ≡ slot) × IsAhead bytes p c records) ⊎ (All (λ p. p.slot ≢ slot) placed × (records ≡ []))
+
+-- The cursor steps to the first of the records ahead, and the others are ahead of it then; or there is none.
+abbrev pub Visits : (bytes : List ℕ) (placed : List Placed) (slot : ℕ) (records : List Record) → Result Bool ReadRefused → (new : CursorState) → Type 0
+Visits bytes placed slot records (Ok true) new = (r : Record) × (more : List Record) × (records ≡ r ∷ more) × (new.item ≡ Some r) × AreAhead bytes placed slot new more
+Visits bytes placed slot records (Ok false) new = (records ≡ []) × (new.item ≡ None) × AreAhead bytes placed slot new []
+Visits bytes placed slot records (Err Fault) new = (new.item ≡ None) × AreAhead bytes placed slot new records
+Visits bytes placed slot records (Err (Damaged m offset)) new = ⊥
+
+module _ {tells tells_images : Type 0} where
+  -- What a slot reads as.
+  abbrev pub slot_read : RingState → ℕ → Disk tells tells_images → List ℕ
+  slot_read ring slot disk = slot_bytes ring.segment slot (content disk.reads ring.medium)
+
+  -- The buffer holds what the slot that is loaded reads as.
+  abbrev pub IsLoaded : RingState → Disk tells tells_images → Type 0
+  IsLoaded ring disk = (slot : ℕ) → ring.loaded ≡ Some slot → tells → ring.buffer ≡ slot_read ring slot disk

@@ -1,0 +1,100 @@
+-- What a medium holds at each stage of an append.
+use Rattle.std.specs.Prelude.{◌≡◌, ◌≢◌, ◌⊎◌, ◌<◌, ◌≤◌, ◌+◌, ℕ, suc, List, [], ◌∷◌, ◌++◌, length, Any, All, Option, Some, None}
+use Rattle.vdr_terms.specs.Records.{Record, last}
+use Rattle.vdr_terms.specs.Order.{RunOn, NeverFalls}
+use Rattle.vdr_terms.specs.Sizes.{batch_size}
+use Rattle.vdr_segment.specs.Segments.{end_of, with_batch}
+use Rattle.vdr_retention.specs.Retention.{Pin}
+use Rattle.vdr_retention.specs.Victims.{MayGo}
+use Rattle.vdr_ring.specs.Sequence.{Placed, seq_of, batches_of, all_records}
+use Rattle.vdr_ring.specs.Order.{next_place}
+
+-- There are as many open segments as slots.
+abbrev pub IsFull : ℕ → List Placed → Type 0
+IsFull count placed = length placed ≡ count
+
+pub record IsLeastClosed (count : ℕ) (placed : List Placed) (slot : ℕ) : Type 0 where
+  pub within : slot < count
+  pub closed : All (λ p. p.slot ≢ slot) placed
+  pub least : (j : ℕ) → j < slot → Any (λ p. p.slot ≡ j) placed
+
+-- The one of least sequence number that may go.
+pub record IsOldest (seconds : ℕ) (pins : List Pin) (placed : List Placed) (before : List Placed) (victim : Placed) (after : List Placed) : Type 0 where
+  pub split : placed ≡ before ++ victim ∷ after
+  pub may_go : MayGo seconds pins (all_records placed) (batches_of victim)
+  pub none_before : All (λ p. MayGo seconds pins (all_records placed) (batches_of p) → ⊥) before
+
+-- None may go, which media that are not regular may come to. Then the victim is the oldest.
+pub record IsForced (seconds : ℕ) (pins : List Pin) (placed : List Placed) (victim : Placed) (after : List Placed) : Type 0 where
+  pub split : placed ≡ victim ∷ after
+  pub none : All (λ p. MayGo seconds pins (all_records placed) (batches_of p) → ⊥) placed
+
+-- Which open slot is written over where none is closed, and what stands before and behind it.
+abbrev pub IsVictim : (seconds : ℕ) (pins : List Pin) (placed before : List Placed) (victim : Placed) (after : List Placed) → Type 0
+IsVictim seconds pins placed before victim after = IsOldest seconds pins placed before victim after ⊎ ((before ≡ []) × IsForced seconds pins placed victim after)
+
+-- The slot of the next segment.
+abbrev pub IsNextSlot : (count seconds : ℕ) (pins : List Pin) (placed : List Placed) (slot : ℕ) → Type 0
+IsNextSlot count seconds pins placed slot =
+    IsLeastClosed count placed slot
+    ⊎ (IsFull count placed × (before : List Placed) × (victim : Placed) × (after : List Placed) × IsVictim seconds pins placed before victim after × (slot ≡ victim.slot))
+
+-- One above the greatest sequence number, 0 where there is no segment.
+abbrev pub next_seq : Option Placed → ℕ
+next_seq None = 0
+next_seq (Some p) = suc (seq_of p)
+
+-- The batch has room behind those of the segment, with the gate that closes it.
+abbrev pub HasRoom : ℕ → Placed → List Record → Type 0
+HasRoom size p records = end_of p.segment + batch_size records + 1 ≤ size
+
+-- A segment without records in a slot.
+abbrev pub new_segment : (slot seq first : ℕ) → Placed
+new_segment slot seq first = record { slot = slot; segment = record { header = record { seq = seq; first = first; summary = None }; batches = [] } }
+
+abbrev pub with_batch_in : Placed → List Record → Placed
+with_batch_in p records = record { slot = p.slot; segment = with_batch p.segment records }
+
+-- What each stage of an append leaves: as it was; with the victim closed; with a new segment begun; with the batch.
+pub record Stages : Type 0 where
+  pub closed : List Placed
+  pub begun : List Placed
+  pub done : List Placed
+
+-- The batch goes into the newest segment.
+pub record GoesOn (size : ℕ) (placed : List Placed) (records : List Record) (stages : Stages) : Type 0 where
+  pub older : List Placed
+  pub newest : Placed
+  pub split : placed ≡ older ++ newest ∷ []
+  pub room : HasRoom size newest records
+  pub closed : stages.closed ≡ placed
+  pub begun : stages.begun ≡ placed
+  pub done : stages.done ≡ older ++ with_batch_in newest records ∷ []
+
+-- It begins a new one.
+pub record BeginsAnew (size count seconds : ℕ) (pins : List Pin) (placed : List Placed) (first : ℕ) (records : List Record) (stages : Stages) : Type 0 where
+  pub no_room : (p : Placed) → last placed ≡ Some p → HasRoom size p records → ⊥
+  pub slot : ℕ
+  pub place : (IsLeastClosed count placed slot × (stages.closed ≡ placed))
+      ⊎ (IsFull count placed × (before : List Placed) × (victim : Placed) × (after : List Placed) × IsVictim seconds pins placed before victim after × (slot ≡ victim.slot) × (stages.closed ≡ before ++ after))
+  pub begun : stages.begun ≡ stages.closed ++ new_segment slot (next_seq (last placed)) first ∷ []
+  pub done : stages.done ≡ stages.closed ++ with_batch_in (new_segment slot (next_seq (last placed)) first) records ∷ []
+
+abbrev pub AreStages : (size count seconds : ℕ) (pins : List Pin) (placed : List Placed) (first : ℕ) (records : List Record) → Stages → Type 0
+AreStages size count seconds pins placed first records stages = GoesOn size placed records stages ⊎ BeginsAnew size count seconds pins placed first records stages
+
+-- The records that a medium goes on with.
+abbrev pub next_of : Option Placed → ℕ
+next_of None = 0
+next_of (Some p) = next_place p
+
+abbrev pub tick_of : Option Record → ℕ
+tick_of None = 0
+tick_of (Some r) = r.tick
+
+-- The records go on where the medium ends, from this place on. On a medium without a segment they may begin anywhere.
+pub record Continues (placed : List Placed) (first : ℕ) (records : List Record) : Type 0 where
+  pub some : records ≢ []
+  pub from : (p : Placed) → last placed ≡ Some p → first ≡ next_place p
+  pub places : RunOn first records
+  pub ticks : NeverFalls (tick_of (last (all_records placed))) records

@@ -1,0 +1,58 @@
+ghost use Rattle.std.specs.Prelude.{◌≡◌, ◌+◌, ◌<◌, ◌≤◌, ℕ, [], ◌∷◌, ◌++◌, List, length, OnOk};
+ghost use Rattle.vdr_terms.specs.Records.{Record as ARecord};
+ghost use Rattle.vdr_terms.specs.Needs.{Sizes};
+ghost use Rattle.vdr_terms.specs.Sizes.{batch_size};
+ghost use Rattle.vdr_outside.specs.Causes.{HasCauseOn};
+ghost use Rattle.vdr_outside.specs.Disk.{Rises, SameBut};
+ghost use Rattle.vdr_outside.specs.Moments.{ChangesOnly};
+ghost use Rattle.vdr_retention.specs.Retention.{Retains};
+ghost use Rattle.vdr_ring.specs.Sequence.{Placed, all_records};
+ghost use Rattle.vdr_ring.specs.Rings.{HasMedium, HoldsAny, IsSameRing, Reads};
+ghost use Rattle.vdr_ring.specs.Stages.{AreStages, Continues, Stages};
+ghost use Rattle.vdr_ring.specs.Regularity.{IsAllowed};
+ghost use Rattle.vdr_ring.specs.Keeping.{HasKept, IsKept};
+
+use crate::Ring;
+use crate::law::law_of_stages;
+use crate::pins::Pins;
+use vdr_entry::Record;
+use vdr_outside::{Fault, Media};
+
+impl Ring {
+    /// Appends a batch of records. It goes behind the batches of the newest segment; where it has no room there, a segment is
+    /// begun in a closed slot first, and where no slot is closed, the victim's is closed before (`victim`). The new segment's
+    /// sequence number is one above the greatest, its first place that of the first record. Each gate is opened or closed by a
+    /// write of one byte behind a sync of what it stands for.
+    ///
+    /// At every moment a stop leaves the medium as it was, with the victim closed, with the new segment begun, or with the
+    /// batch; after Ok it has the batch. Takes no memory.
+    pub fn append<M: Media>(
+        &mut self,
+        media: &mut M,
+        records: &[Record],
+        pins: &Pins,
+    ) -> Result<(), Fault>
+        requires room { HasMedium self.old (M.disk media.old).sizes }
+        requires some { 0 < length records.now }
+        requires fits { 64 + batch_size records.now + 1 ≤ self.old.segment }
+        ensures appended { (placed : List Placed) (first : ℕ) → M.tells → Reads self.old placed (M.disk media.old) → Continues placed first records.now
+            → (stages : Stages) × AreStages self.old.segment self.old.slots self.old.seconds pins.now placed first records.now stages
+            × ChangesOnly self.old.medium (HoldsAny self.old.segment self.old.slots (placed ∷ stages.closed ∷ stages.begun ∷ stages.done ∷ [])) (M.disk media.old) (M.disk media.new)
+            × OnOk result (Reads self.new stages.done (M.disk media.new)) }
+        ensures kept { (sizes : Sizes) (placed : List Placed) (first : ℕ) (all : List ARecord) → M.tells → Reads self.old placed (M.disk media.old) → Continues placed first records.now
+            → (placed ≡ [] → first ≡ 0) → IsAllowed sizes self.old.medium self.old.segment self.old.slots self.old.seconds pins.now placed records.now
+            → Retains self.old.seconds pins.now all (all_records placed)
+            → ChangesOnly self.old.medium (IsKept self.old.segment self.old.slots self.old.seconds pins.now placed all records.now) (M.disk media.old) (M.disk media.new)
+            × OnOk result (HasKept sizes pins.now (all ++ records.now) self.new (M.disk media.new)) }
+        ensures ring { IsSameRing self.old self.new }
+        ensures medium { HasMedium self.new (M.disk media.new).sizes }
+        ensures others { M.tells → SameBut self.old.medium (M.disk media.old).reads (M.disk media.new).reads }
+        ensures sizes { (M.disk media.new).sizes ≡ (M.disk media.old).sizes }
+        ensures rises { Rises (M.disk media.old) (M.disk media.new) }
+        ensures counts { M.bytes_read media.new ≡ M.bytes_read media.old }
+        ensures cause { HasCauseOn self.old.medium (M.faults media.old) (M.faults media.new) result }
+    {
+        law_of_stages();
+        self.append_staged(media, records, pins)
+    }
+}

@@ -1,0 +1,44 @@
+ghost use Rattle.std.specs.Prelude.{◌≡◌, ◌≢◌, ◌≤◌, [], ◌∷◌, ◌++◌, ℕ, List};
+ghost use Rattle.vdr_terms.specs.Needs.{Sizes, cost, usable};
+ghost use Rattle.vdr_terms.specs.Records.{Record};
+ghost use Rattle.vdr_retention.specs.Retention.{Pin, Retains};
+ghost use Rattle.vdr_ring.specs.Sequence.{Placed, all_records, batches_in};
+ghost use Rattle.vdr_ring.specs.Order.{AreInOrder};
+ghost use Rattle.vdr_ring.specs.Rings.{HoldsPlaced};
+ghost use Rattle.vdr_ring.specs.Opening.{Refuses};
+ghost use Rattle.vdr_ring.specs.Stages.{AreStages, IsFull, IsOldest, IsVictim, Stages};
+ghost use Rattle.vdr_ring.specs.Regularity.{AreRegular, IsAllowed, MissOneAtMost};
+
+/// What a ring retains of all the records that it was given, at each stage of an append that its configuration allows: of
+/// all before it once a victim is closed and once a segment is begun, and of the batch too once it is done. Where all slots
+/// are open there is a victim, an oldest candidate that is not the newest segment. Regular media stay regular. No batch but
+/// the victim's goes, and only whole ones come.
+pub fn law_of_stages()
+    ensures victim { (sizes : Sizes) (m size count seconds : ℕ) (pins : List Pin) (placed : List Placed) (records : List Record) (before : List Placed) (victim : Placed) (after : List Placed)
+        → IsAllowed sizes m size count seconds pins placed records → IsFull count placed → IsVictim seconds pins placed before victim after
+        → IsOldest seconds pins placed before victim after × (after ≢ []) }
+    ensures closed { (sizes : Sizes) (m size count seconds : ℕ) (pins : List Pin) (placed : List Placed) (first : ℕ) (all records : List Record) (stages : Stages)
+        → IsAllowed sizes m size count seconds pins placed records → AreStages size count seconds pins placed first records stages
+        → Retains seconds pins all (all_records placed) → Retains seconds pins all (all_records stages.closed) }
+    ensures begun { (sizes : Sizes) (m size count seconds : ℕ) (pins : List Pin) (placed : List Placed) (first : ℕ) (all records : List Record) (stages : Stages)
+        → IsAllowed sizes m size count seconds pins placed records → AreStages size count seconds pins placed first records stages
+        → Retains seconds pins all (all_records placed) → Retains seconds pins all (all_records stages.begun) }
+    ensures done { (sizes : Sizes) (m size count seconds : ℕ) (pins : List Pin) (placed : List Placed) (first : ℕ) (all records : List Record) (stages : Stages)
+        → IsAllowed sizes m size count seconds pins placed records → AreStages size count seconds pins placed first records stages
+        → Retains seconds pins all (all_records placed) → Retains seconds pins (all ++ records) (all_records stages.done) }
+    ensures regular { (sizes : Sizes) (m size count seconds : ℕ) (pins : List Pin) (placed : List Placed) (first : ℕ) (records : List Record) (stages : Stages)
+        → IsAllowed sizes m size count seconds pins placed records → AreStages size count seconds pins placed first records stages
+        → AreRegular (cost sizes) (usable sizes) sizes.batch stages.closed × AreRegular (cost sizes) (usable sizes) sizes.batch stages.begun
+        × AreRegular (cost sizes) (usable sizes) sizes.batch stages.done }
+    ensures batches { (size count seconds : ℕ) (pins : List Pin) (placed : List Placed) (first : ℕ) (records : List Record) (stages : Stages)
+        → AreStages size count seconds pins placed first records stages
+        → MissOneAtMost stages.closed placed × (batches_in stages.begun ≡ batches_in stages.closed) × (batches_in stages.done ≡ batches_in stages.closed ++ records ∷ []) }
+{}
+
+/// Opening a medium has one answer: one that holds segments in a legal order is not refused, and one that is refused is
+/// refused at one offset.
+pub fn law_of_opening()
+    ensures either { (segment count offset : ℕ) (placed : List Placed) (bytes : List ℕ) → 64 ≤ segment → HoldsPlaced segment count placed bytes → AreInOrder placed
+        → Refuses segment count bytes offset → ⊥ }
+    ensures offset { (segment count m n : ℕ) (bytes : List ℕ) → 64 ≤ segment → Refuses segment count bytes m → Refuses segment count bytes n → m ≡ n }
+{}

@@ -1,0 +1,28 @@
+//! One medium as a ring of segments: opened, appended to at every moment, and read.
+#![tactic(auto)]
+
+mod append;
+mod appending;
+mod choice;
+mod cursor;
+mod entry;
+mod fronts;
+mod law;
+mod lookup;
+mod opening;
+mod order;
+mod pins;
+mod questions;
+mod reading;
+mod refused;
+mod ring;
+mod surveys;
+mod table;
+#[cfg(test)]
+mod tests;
+
+pub use cursor::Cursor;
+pub use law::{law_of_opening, law_of_stages};
+pub use pins::Pins;
+pub use refused::ReadRefused;
+pub use ring::Ring;

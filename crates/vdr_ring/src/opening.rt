@@ -1,0 +1,124 @@
+ghost use Rattle.std.specs.Prelude.{◌≡◌, ◌+◌, ◌*◌, ◌<◌, ◌≤◌, ℕ, List, length, get_or, IfOk};
+ghost use Rattle.vdr_terms.specs.Needs.{Fits, slots_in};
+ghost use Rattle.vdr_outside.specs.Disk.{Durable, Unchanged, content};
+ghost use Rattle.vdr_outside.specs.declared.fault.PartRefused.TheVariants.{Damaged};
+ghost use Rattle.vdr_config.specs.Sizes.{sizes_of, window_of};
+ghost use Rattle.vdr_slots.specs.Areas.{HasRoom};
+ghost use Rattle.vdr_ring.specs.Sequence.{Placed};
+ghost use Rattle.vdr_ring.specs.Rings.{HasMedium, Reads};
+ghost use Rattle.vdr_ring.specs.Opening.{HasFaultCause, Refuses};
+ghost use Rattle.vdr_ring.specs.Fronts.{AreSlots, Finds};
+
+use crate::Ring;
+use crate::fronts::{Fronts, read_fronts};
+use crate::order::first_break;
+use crate::surveys::{sort_by_seq, survey_all};
+use crate::table::Table;
+use std::alloc::Global;
+use vdr_config::Config;
+use vdr_outside::{Media, PartRefused};
+use vdr_slots::Area;
+
+// The superblock and the table of incident saves stand before the first slot.
+const SLOTS_FROM: u64 = 32_768;
+
+// No more slots than these are used.
+const MOST_SLOTS: u64 = 1_000_000;
+
+// The slots of medium m, of so many bytes.
+fn area_of(config: &Config, m: u8, size: u64) -> Area
+    ensures medium { result.medium ≡ m }
+    ensures segment { result.segment ≡ config.now.segment }
+    ensures slots { result.slots ≡ slots_in (sizes_of config.now) size }
+    ensures room { 32768 ≤ size → 32768 + result.slots * result.segment ≤ size }
+{
+    let slots = (size.saturating_sub(SLOTS_FROM) / config.segment as u64).min(MOST_SLOTS);
+    Area {
+        medium: m,
+        segment: config.segment,
+        slots: slots as u32,
+    }
+}
+
+// The window of medium m, in seconds.
+fn seconds_of(config: &Config, m: u8) -> u64
+    ensures window { result ≡ window_of config.now m }
+    ensures low { 1 ≤ result }
+    ensures high { result ≤ 31_536_000 }
+{
+    if m == 0 {
+        config.capsule_seconds
+    } else {
+        config.long_seconds
+    }
+}
+
+// Reads the medium's segments, in order of sequence number, and its closed slots. The buffer has room for a segment.
+fn read_segments<M: Media>(
+    alloc: Global,
+    media: &mut M,
+    area: Area,
+    buffer: &mut [u8],
+) -> Result<Fronts, PartRefused>
+    requires room { HasRoom area (M.disk media.old).sizes }
+    requires whole { length buffer.old ≡ area.segment }
+    ensures slots { IfOk result (λ f. AreSlots area.slots f.opened.items f.closed.items) }
+    ensures found { IfOk result (λ f. M.tells → Finds area.segment area.slots (content (M.disk media.old).reads area.medium) f.opened.items f.closed.items) }
+    ensures damaged { (k offset : ℕ) → result ≡ Err (Damaged k offset) → (k ≡ area.medium)
+        × (M.tells → Refuses area.segment area.slots (content (M.disk media.old).reads area.medium) offset) }
+    ensures unchanged { Unchanged (M.disk media.old) (M.disk media.new) }
+    ensures cause { HasFaultCause area.medium (M.faults media.old) (M.faults media.new) result }
+{
+    let mut fronts = read_fronts(alloc, media, area)?;
+    sort_by_seq(&mut fronts.opened);
+    survey_all(media, area, &mut fronts.opened, buffer)?;
+    if let Some(index) = first_break(&fronts.opened) {
+        return Err(PartRefused::Damaged {
+            medium: area.medium,
+            offset: area.place_of(fronts.opened[index].slot),
+        });
+    }
+    Ok(fronts)
+}
+
+impl Ring {
+    /// Reads medium m whole and opens it as a ring. It writes nothing.
+    ///
+    /// `Damaged` names the medium and the first part of it that is not legal, by where that begins, in bytes: first the slots,
+    /// in their order, by their headers; then the segments, in order of sequence number, by their batches; then the segments
+    /// in that order by how each stands among the others (this project's profile). `NoMemory`: there was no room for the table
+    /// or for one segment. `Fault`: a read failed, and the count of faults of this medium rose.
+    pub fn open<M: Media>(
+        alloc: Global,
+        media: &mut M,
+        m: u8,
+        config: &Config,
+    ) -> Result<Ring, PartRefused>
+        requires medium { m < length (M.disk media.old).sizes }
+        requires fits { Fits (sizes_of config.now) m (get_or (M.disk media.old).sizes m 0) }
+        ensures reads { IfOk result (λ ring. M.tells → Durable m (M.disk media.old) → (placed : List Placed) × Reads ring placed (M.disk media.new)) }
+        ensures shape { IfOk result (λ ring. (ring.medium ≡ m) × (ring.segment ≡ config.now.segment)
+            × (ring.slots ≡ slots_in (sizes_of config.now) (get_or (M.disk media.old).sizes m 0)) × (ring.seconds ≡ window_of config.now m)) }
+        ensures room { IfOk result (λ ring. HasMedium ring (M.disk media.old).sizes) }
+        ensures damaged { (k offset : ℕ) → result ≡ Err (Damaged k offset) → (k ≡ m)
+            × (M.tells → Refuses config.now.segment (slots_in (sizes_of config.now) (get_or (M.disk media.old).sizes m 0)) (content (M.disk media.old).reads m) offset) }
+        ensures unchanged { Unchanged (M.disk media.old) (M.disk media.new) }
+        ensures cause { HasFaultCause m (M.faults media.old) (M.faults media.new) result }
+    {
+        let area = area_of(config, m, media.size(m));
+        let Ok(mut buffer) = vec![in alloc; 0; area.segment as usize] else {
+            return Err(PartRefused::NoMemory);
+        };
+        let Fronts { opened, closed } = read_segments(alloc, media, area, &mut buffer)?;
+        let Ok(table) = Table::new(opened, &closed) else {
+            return Err(PartRefused::NoMemory);
+        };
+        Ok(Ring {
+            area,
+            seconds: seconds_of(config, m),
+            table,
+            buffer,
+            loaded: None,
+        })
+    }
+}

@@ -1,0 +1,53 @@
+// What a ring answers from its table, without reading the medium.
+ghost use Rattle.std.specs.Prelude.{◌≡◌, ◌<◌, ◌↔◌, ℕ, List, Contains, IsTrue, IfSome, IfNone, option_map};
+ghost use Rattle.vdr_terms.specs.Records.{last};
+ghost use Rattle.vdr_survey.specs.Extents.{first_records};
+ghost use Rattle.vdr_ring.specs.Sequence.{Placed, seq_of, batches_in, all_records};
+ghost use Rattle.vdr_ring.specs.Order.{AreInOrder};
+ghost use Rattle.vdr_ring.specs.Rings.{Tells};
+ghost use Rattle.vdr_ring.specs.Lookup.{IsAbove, IsNext, HoldAll};
+
+use crate::Ring;
+use crate::choice::last_extent;
+use crate::lookup::{holds_all, next_above};
+
+impl Ring {
+    /// Of the last record the place, the tick in milliseconds, and the stamp in milliseconds since 1970. None exactly where
+    /// the medium has no record.
+    pub fn last(&self) -> Option<(u64, u64, i64)>
+        ensures { (placed : List Placed) → Tells self.now.slots placed self.now.table → result ≡ option_map (λ r. (r.place, r.tick, r.utc)) (last (all_records placed)) }
+    {
+        last_extent(self.table.opened()).map(|extent| (
+            extent.last_place,
+            extent.last_tick,
+            extent.last_utc,
+        ))
+    }
+
+    /// The place of the first record of the last batch. None exactly where the medium has no record.
+    pub fn last_batch(&self) -> Option<u64>
+        ensures { (placed : List Placed) → Tells self.now.slots placed self.now.table → result ≡ option_map (λ r. r.place) (last (first_records (batches_in placed))) }
+    {
+        last_extent(self.table.opened()).map(|extent| extent.last_batch)
+    }
+
+    /// The open slot whose segment has the least sequence number above `after`, and that number. Where no number is given,
+    /// it is the oldest segment's. None exactly where none is above.
+    pub fn next_slot(&self, after: Option<u64>) -> Option<(u32, u64)>
+        ensures within { IfSome result (λ found. found.0 < self.now.slots) }
+        ensures some { IfSome result (λ found. (placed : List Placed) → Tells self.now.slots placed self.now.table → AreInOrder placed
+            → (p : Placed) × IsNext after placed p × (found.0 ≡ p.slot) × (found.1 ≡ seq_of p)) }
+        ensures none { IfNone result ((placed : List Placed) → Tells self.now.slots placed self.now.table → AreInOrder placed
+            → (p : Placed) → Contains placed p → IsAbove after (seq_of p) → ⊥) }
+    {
+        let entry = next_above(self.table.opened(), after)?;
+        Some((entry.slot, entry.seq))
+    }
+
+    /// Whether all places from a to b stand in open segments, as they do where b is below a.
+    pub fn holds(&self, a: u64, b: u64) -> bool
+        ensures { (placed : List Placed) → Tells self.now.slots placed self.now.table → AreInOrder placed → IsTrue result ↔ HoldAll a b placed }
+    {
+        holds_all(self.table.opened(), a, b)
+    }
+}

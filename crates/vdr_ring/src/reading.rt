@@ -1,0 +1,144 @@
+ghost use Rattle.std.specs.Prelude.{◌≡◌, ◌≢◌, ◌⊎◌, ◌↔◌, ◌<◌, ◌≤◌, ◌+◌, ℕ, true, List, get_or, IsTrue, IfOk, IfSome, IfNone, OnOk, OnErr, Option, Some, None, Ok, Err};
+ghost use Rattle.vdr_terms.specs.Records.{Record as Entry};
+ghost use Rattle.vdr_outside.specs.Causes.{Rose, NoneFalls, HasCauseOn, counted};
+ghost use Rattle.vdr_outside.specs.Disk.{Unchanged};
+ghost use Rattle.vdr_segment.specs.Gates.{IsOpenAt};
+ghost use Rattle.vdr_slots.specs.Slots.{place_of};
+ghost use Rattle.vdr_survey.specs.Positions.{IsAt};
+ghost use Rattle.vdr_ring.specs.Sequence.{Placed};
+ghost use Rattle.vdr_ring.specs.Rings.{HasMedium, Reads};
+ghost use Rattle.vdr_ring.specs.Cursors.{StandsIn, slot_read, IsLoaded, position_in, Steps, AreAhead, Visits};
+ghost use Rattle.vdr_ring.specs.declared.refused.ReadRefused.TheVariants.{Fault as AFault, Damaged};
+
+use crate::cursor::stands_in;
+use crate::{Cursor, ReadRefused, Ring};
+use vdr_outside::{Fault, Media};
+use vdr_segment::OPEN_GATE;
+use vdr_slots::read_slot;
+use vdr_survey::{Position, step};
+
+impl Ring {
+    // Reads a slot into the buffer, where the buffer does not hold it already. Says whether it did.
+    fn load<M: Media>(&mut self, media: &mut M, slot: u32) -> Result<bool, Fault>
+        requires room { HasMedium self.old (M.disk media.old).sizes }
+        requires within { slot < self.old.slots }
+        ensures ring { self.new ≡ record self.old { buffer = self.new.buffer; loaded = self.new.loaded } }
+        ensures loaded { OnOk result (self.new.loaded ≡ Some slot) }
+        ensures held { IfOk result (λ held. IsTrue held → (self.old.loaded ≡ Some slot) × (self.new.buffer ≡ self.old.buffer)) }
+        ensures failed { OnErr result (self.new.loaded ≡ None) }
+        ensures bytes { IsLoaded self.old (M.disk media.old) → IsLoaded self.new (M.disk media.new) }
+        ensures unchanged { Unchanged (M.disk media.old) (M.disk media.new) }
+        ensures again { self.old.loaded ≡ Some slot → M.bytes_read media.new ≡ M.bytes_read media.old }
+        ensures once { self.old.loaded ≢ Some slot → M.bytes_read media.new ≡ counted (M.bytes_read media.old) self.old.medium self.old.segment }
+        ensures cause { HasCauseOn self.old.medium (M.faults media.old) (M.faults media.new) result }
+    {
+        if self.loaded == Some(slot) {
+            return Ok(true);
+        }
+        self.loaded = None;
+        read_slot(media, self.area, slot, &mut self.buffer)?;
+        self.loaded = Some(slot);
+        Ok(false)
+    }
+
+    // Whether the slot that is loaded has a segment.
+    fn is_open(&self) -> bool
+        ensures { IsTrue result ↔ IsOpenAt self.now.buffer 0 }
+    {
+        self.buffer[0] == OPEN_GATE
+    }
+
+    // Where a step in the slot that is loaded begins. None where the cursor doesn't stand in it, as it may be where the slot was
+    // read again.
+    fn start(&self, slot: u32, visit: &Cursor, held: bool) -> Option<Position>
+        requires loaded { self.now.loaded ≡ Some slot }
+        requires stands { IsTrue held → StandsIn self.now visit.now }
+        ensures some { IfSome result (λ position. (position ≡ position_in slot visit.now) × IsAt self.now.buffer position) }
+        ensures none { IfNone result (IsAt self.now.buffer (position_in slot visit.now) → ⊥) }
+    {
+        let position = visit.position_in(slot);
+        if !held && !stands_in(position, &self.buffer) {
+            return None;
+        }
+        Some(position)
+    }
+
+    fn damaged(&self, slot: u32, at: usize) -> ReadRefused
+        requires { at ≤ self.now.segment }
+        ensures { result ≡ Damaged self.now.medium (place_of self.now.segment slot + at) }
+    {
+        ReadRefused::Damaged {
+            medium: self.area.medium,
+            offset: self.area.place_of(slot) + at as u64,
+        }
+    }
+
+    // A step of a cursor that has no record, in the slot that is loaded.
+    fn step_in(&mut self, slot: u32, visit: &mut Cursor, held: bool) -> Result<bool, ReadRefused>
+        requires loaded { self.old.loaded ≡ Some slot }
+        requires stands { IsTrue held → StandsIn self.old visit.old }
+        requires item { visit.old.item ≡ None }
+        ensures ring { self.new ≡ record self.old { loaded = self.new.loaded } }
+        ensures loaded { OnOk result (self.new.loaded ≡ Some slot) }
+        ensures left { (self.new.loaded ≡ self.old.loaded) ⊎ (self.new.loaded ≡ None) }
+        ensures stands { StandsIn self.new visit.new }
+        ensures no_fault { result ≢ Err AFault }
+        ensures steps { Steps self.old.medium slot (place_of self.old.segment slot) self.old.buffer visit.old result visit.new }
+    {
+        if !self.is_open() {
+            visit.leave();
+            return Ok(false);
+        }
+        let Some(position) = self.start(slot, visit, held) else {
+            self.loaded = None;
+            return Err(self.damaged(slot, 0));
+        };
+        match step(&self.buffer, position) {
+            Ok(Some((item, next))) => {
+                visit.step_to(slot, next, item);
+                Ok(true)
+            }
+            Ok(None) => Ok(false),
+            Err(at) => Err(self.damaged(slot, at)),
+        }
+    }
+
+    /// Steps to the next record of the segment in a slot. False exactly where no further record is there, as in a slot that is
+    /// closed. A cursor that is new begins at the first record of the slot, and so does one that stands in another slot. The
+    /// slot is read whole where the last step was in another one, or an `append` came since; else nothing is read.
+    ///
+    /// `Damaged` names the medium and where the first batch that is not legal begins, in bytes. Where the bytes have changed
+    /// so that there is no record where the cursor stands, it names the slot. `Fault`: the read failed. Where a step is refused,
+    /// the cursor stays where it is, without a record.
+    pub fn read_span<M: Media>(
+        &mut self,
+        media: &mut M,
+        slot: u32,
+        visit: &mut Cursor,
+    ) -> Result<bool, ReadRefused>
+        requires room { HasMedium self.old (M.disk media.old).sizes }
+        requires within { slot < self.old.slots }
+        requires stands { StandsIn self.old visit.old }
+        ensures ring { self.new ≡ record self.old { buffer = self.new.buffer; loaded = self.new.loaded } }
+        ensures room { HasMedium self.new (M.disk media.new).sizes }
+        ensures stands { StandsIn self.new visit.new }
+        ensures loaded { OnOk result (self.new.loaded ≡ Some slot) }
+        ensures bytes { IsLoaded self.old (M.disk media.old) → IsLoaded self.new (M.disk media.new) }
+        ensures reads { (placed : List Placed) → Reads self.old placed (M.disk media.old) → Reads self.new placed (M.disk media.new) }
+        ensures item { visit.new.item ≢ None ↔ (result ≡ Ok true) }
+        ensures steps { M.tells → IsLoaded self.old (M.disk media.old)
+            → Steps self.old.medium slot (place_of self.old.segment slot) (slot_read self.old slot (M.disk media.old)) visit.old result visit.new }
+        ensures visits { M.tells → (placed : List Placed) (records : List Entry) → Reads self.old placed (M.disk media.old)
+            → AreAhead (slot_read self.old slot (M.disk media.old)) placed slot visit.old records
+            → Visits (slot_read self.old slot (M.disk media.old)) placed slot records result visit.new }
+        ensures unchanged { Unchanged (M.disk media.old) (M.disk media.new) }
+        ensures again { self.old.loaded ≡ Some slot → M.bytes_read media.new ≡ M.bytes_read media.old }
+        ensures once { self.old.loaded ≢ Some slot → M.bytes_read media.new ≡ counted (M.bytes_read media.old) self.old.medium self.old.segment }
+        ensures later { NoneFalls (M.faults media.old) (M.faults media.new) }
+        ensures cause { result ≡ Err AFault → Rose (get_or (M.faults media.old) self.old.medium 0) (get_or (M.faults media.new) self.old.medium 0) }
+    {
+        visit.clear_item();
+        let held = self.load(media, slot)?;
+        self.step_in(slot, visit, held)
+    }
+}
