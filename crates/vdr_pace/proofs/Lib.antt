@@ -1,0 +1,10 @@
+pub mod Charges
+pub mod Loads
+pub mod Groups
+pub mod Closing
+pub mod ItemSizes
+pub mod Parts
+pub mod Follow
+pub mod Seconds
+pub mod Media
+pub mod Worked

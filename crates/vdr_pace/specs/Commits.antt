@@ -1,0 +1,49 @@
+-- What a recorder hands to commit, and on what conditions (this project's profile).
+use Rattle.std.specs.Prelude.{ℕ, ◌/◌, ◌≤◌, ◌≡◌, ◌⊎◌, ⊤, true, false, List, [], ◌∷◌, length, All}
+use Rattle.vdr_terms.specs.Records.{Record, total}
+use Rattle.vdr_terms.specs.Datagrams.{largest}
+use Rattle.vdr_terms.specs.Rates.{Limit, is_configured}
+use Rattle.vdr_history.specs.Taken.{Captured}
+use Rattle.vdr_history.specs.Histories.{Act}
+use Rattle.vdr_history.specs.Histories.Act.{Commit, Save, Release, Look}
+use Rattle.vdr_history.specs.RunStates.{RunState, after_act, GoesOnWith, BeginsWith, ClosesWith}
+
+-- The bytes of a Start.
+abbrev pub start_size : ℕ
+start_size = 44
+
+-- The most bytes that the records of one item take: a Gap of 84, and a Datagram of 44 and the longest datagram.
+abbrev pub item_size : ℕ
+item_size = 1600
+
+-- The most bytes that a close takes: a Gap of each of 16 groups, and a Stop.
+abbrev pub closing_size : ℕ
+closing_size = 1388
+
+-- An item of a group that is configured, no longer than what is recorded.
+pub record IsFit (limits : ℕ → Limit) (c : Captured) : Type 0 where
+  pub configured : is_configured (limits c.group) ≡ true
+  pub short : length c.bytes ≤ largest
+
+-- The records of items, of which there are so few that their records fit a batch.
+pub record TakesItems (limits : ℕ → Limit) (batch : ℕ) (s : RunState) (records : List Record) (taken : List Captured) : Type 0 where
+  pub made : GoesOnWith s records taken
+  pub fit : All (IsFit limits) taken
+  pub few : length taken ≤ batch / item_size
+
+-- The close of a run, where no group that is not configured has missed anything.
+pub record ClosesRun (limits : ℕ → Limit) (s : RunState) (records : List Record) (taken : List Captured) : Type 0 where
+  pub made : ClosesWith s records taken
+  pub quiet : (g : ℕ) → is_configured (limits g) ≡ false → total (made.rest g) ≡ 0
+
+-- The act is one that a recorder does in this state: a commit has the records of items, begins a run, or closes one.
+abbrev pub IsDoneIn : (ℕ → Limit) → ℕ → RunState → Act → Type 0
+IsDoneIn limits batch s (Commit records taken) = TakesItems limits batch s records taken ⊎ (BeginsWith s records taken ⊎ ClosesRun limits s records taken)
+IsDoneIn limits batch s (Save id label a b) = ⊤
+IsDoneIn limits batch s (Release id) = ⊤
+IsDoneIn limits batch s Look = ⊤
+
+-- Each act is done in the state that those before it leave.
+abbrev pub AreDoneFrom : (ℕ → Limit) → ℕ → RunState → List Act → Type 0
+AreDoneFrom limits batch s [] = ⊤
+AreDoneFrom limits batch s (act ∷ acts) = IsDoneIn limits batch s act × AreDoneFrom limits batch (after_act s act) acts

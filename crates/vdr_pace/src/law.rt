@@ -1,0 +1,57 @@
+ghost use Rattle.std.specs.Prelude.{◌≡◌, ◌<◌, ◌≤◌, ◌+◌, ◌*◌, [], ◌∷◌, ◌++◌, ℕ, List, All, length, map, sum_by};
+ghost use Rattle.vdr_terms.specs.declared.counts.Counts.{Counts};
+ghost use Rattle.vdr_terms.specs.Needs.{Sizes, cost};
+ghost use Rattle.vdr_terms.specs.Rates.{Limit};
+ghost use Rattle.vdr_terms.specs.Records.{Record};
+ghost use Rattle.vdr_terms.specs.Sizes.{records_size};
+ghost use Rattle.vdr_history.specs.Histories.{Act, records_of_act};
+ghost use Rattle.vdr_history.specs.Histories.Act.{Commit};
+ghost use Rattle.vdr_history.specs.Recorder.{begun, closing, recorder_after};
+ghost use Rattle.vdr_history.specs.RunStates.{AreMadeFrom, RunState};
+ghost use Rattle.vdr_history.specs.Runs.{RunStart};
+ghost use Rattle.vdr_history.specs.Taken.{Captured};
+ghost use Rattle.vdr_retention.specs.Layout.{Batches, batch_size_at};
+ghost use Rattle.vdr_retention.specs.Regular.{IsPaced};
+ghost use Rattle.vdr_pace.specs.Commits.{AreDoneFrom, IsDoneIn, IsFit, closing_size, item_size, start_size};
+ghost use Rattle.vdr_pace.specs.Media.{AreLimitsOf, IsAppended, IsMediumOf, IsOpened, batches_in, state_after};
+
+/// How many bytes the records take that a recorder commits: those of items at most 1,600 each, where no item has more than
+/// 1,472 bytes, and those of a close at most 1,388.
+pub fn law_of_sizes()
+    ensures start { (start : RunStart) → records_size (begun start).made ≡ start_size }
+    ensures items { (start : RunStart) (limits : ℕ → Limit) (before more : List Captured) (new : List Record) → All (IsFit limits) more
+        → (recorder_after start (before ++ more)).made ≡ (recorder_after start before).made ++ new → records_size new ≤ item_size * length more }
+    ensures close { (start : RunStart) (before : List Captured) (rest : ℕ → Counts) → records_size (closing start (recorder_after start before) rest) ≤ closing_size }
+{}
+
+/// The pace of a recorder: no second has more bytes of all batches, those that stood on a medium when it was opened and those
+/// that were committed since, than its cost. So what a recorder commits is a batch that may come next on each of its media,
+/// in whatever way the items were cut into batches.
+pub fn law_of_pace()
+    ensures seconds { (sizes : Sizes) (start : RunStart) (opened : List Batches) (acts : List Act) → AreLimitsOf sizes start.limits
+        → IsOpened (cost sizes) start opened → AreDoneFrom start.limits sizes.batch (state_after start []) acts
+        → (s : ℕ) → sum_by (batch_size_at s) (batches_in opened ++ map records_of_act acts) ≤ cost sizes }
+    ensures batch { (sizes : Sizes) (start : RunStart) (opened : List Batches) (acts : List Act) (segments : List Batches) (records : List Record) (taken : List Captured)
+        → IsMediumOf sizes start opened acts segments → closing_size ≤ sizes.batch
+        → IsDoneIn start.limits sizes.batch (state_after start acts) (Commit records taken)
+        → 0 < length records → IsPaced (cost sizes) sizes.batch segments records }
+    ensures made { (limits : ℕ → Limit) (batch : ℕ) (s : RunState) (acts : List Act) → AreDoneFrom limits batch s acts → AreMadeFrom s acts }
+{}
+
+/// What a medium has of a recorder's batches, at its opening, once a batch was appended, and after an act that records
+/// nothing; and the three ways of an append: into the newest segment, into one that was begun for it, and into one that was
+/// begun in the victim's place.
+pub fn law_of_media()
+    ensures opened { (sizes : Sizes) (start : RunStart) (opened : List Batches) → AreLimitsOf sizes start.limits → IsOpened (cost sizes) start opened
+        → IsMediumOf sizes start opened [] opened }
+    ensures appended { (sizes : Sizes) (start : RunStart) (opened : List Batches) (acts : List Act) (before after : List Batches) (records : List Record) (taken : List Captured)
+        → IsMediumOf sizes start opened acts before → IsDoneIn start.limits sizes.batch (state_after start acts) (Commit records taken) → 0 < length records
+        → IsAppended before records after → IsMediumOf sizes start opened (acts ++ Commit records taken ∷ []) after }
+    ensures silent { (sizes : Sizes) (start : RunStart) (opened : List Batches) (acts : List Act) (segments : List Batches) (act : Act)
+        → IsMediumOf sizes start opened acts segments → IsDoneIn start.limits sizes.batch (state_after start acts) act → records_of_act act ≡ []
+        → IsMediumOf sizes start opened (acts ++ act ∷ []) segments }
+    ensures fits { (older : List Batches) (newest : Batches) (batch : List Record) → IsAppended (older ++ newest ∷ []) batch (older ++ (newest ++ batch ∷ []) ∷ []) }
+    ensures begun { (segments : List Batches) (batch : List Record) → IsAppended segments batch (segments ++ (batch ∷ []) ∷ []) }
+    ensures replaced { (before : List Batches) (victim : Batches) (after : List Batches) (batch : List Record)
+        → IsAppended (before ++ victim ∷ after) batch ((before ++ after) ++ (batch ∷ []) ∷ []) }
+{}
