@@ -1,0 +1,10 @@
+pub mod Meeting
+pub mod Restored
+pub mod Shows
+pub mod Acknowledged
+pub mod Pending
+pub mod Whole
+pub mod Kept
+pub mod Reopened
+pub mod Regular
+pub mod Worked

@@ -1,0 +1,68 @@
+-- Which part of a history the media must show after a stop (this project's profile: what was acknowledged is never lost).
+use Rattle.std.specs.Prelude.{ℕ, zero, suc, ◌≤◌, ◌≡◌, ◌≢◌, ◌⊎◌, Bool, true, false, List, [], ◌∷◌, ◌++◌, length, All, nat_le, if◌then◌else◌, Option, Some, None}
+use Rattle.std.specs.List.{filter_map}
+use Rattle.vdr_history.specs.Histories.{Event, PendingEnds}
+use Rattle.vdr_outside.specs.Disk.{Disk, Image}
+use Rattle.vdr_outside.specs.Moments.{AtEachMoment}
+
+-- The moment of a call's event: the media's clock as the call returned, none where the recorder had failed by then.
+abbrev pub moment_of : (failed : Bool) → (clock : ℕ) → Option ℕ
+moment_of failed clock = if failed then None else Some clock
+
+abbrev pub is_by : ℕ → Option ℕ → Bool
+is_by t None = false
+is_by t (Some moment) = nat_le moment t
+
+-- One more than a later count, or one where the event itself counts.
+abbrev pub up_to : ℕ → Bool → ℕ
+up_to (suc later) counts = suc (suc later)
+up_to zero true = 1
+up_to zero false = 0
+
+-- The number of events up to the last whose moment is at or before t.
+abbrev pub acknowledged : List Event → ℕ → ℕ
+acknowledged [] t = 0
+acknowledged (e ∷ es) t = up_to (acknowledged es t) (is_by t e.moment)
+
+-- The moments of the events, in order. A pending event and the looks after it have none.
+abbrev pub moments : List Event → List ℕ
+moments events = filter_map (λ e. e.moment) events
+
+-- No number is below the one before it, and none is above the end.
+abbrev pub RiseTo : ℕ → ℕ → List ℕ → Type 0
+RiseTo end from [] = from ≤ end
+RiseTo end from (x ∷ xs) = (from ≤ x) × RiseTo end x xs
+
+-- No event is pending.
+abbrev pub IsWhole : List Event → Type 0
+IsWhole events = All (λ e. e.moment ≢ None) events
+
+-- The image shows the first of the events, at least so many.
+pub record ShowsPrefix (shows : List Event → Image → Type 0) (events : List Event) (least : ℕ) (image : Image) : Type 0 where
+  pub first : List Event
+  pub rest : List Event
+  pub split : events ≡ first ++ rest
+  pub enough : least ≤ length first
+  pub shown : shows first image
+
+-- What a stop might leave before the call, or what shows the events without the call's own or with it.
+abbrev pub ShowsEither : (List Event → Image → Type 0) → List Event → Event → (Image → Type 0) → Image → Type 0
+ShowsEither shows events e possible image = possible image ⊎ (shows events image ⊎ shows (events ++ e ∷ []) image)
+
+module _ {tells tells_images : Type 0} where
+  -- The media keep the events since t0: moments never fall, and none is to come; all events before a pending one have a
+  -- moment; what a stop may have left since then shows all that was acknowledged; and what a stop may leave now shows all,
+  -- unless an event is pending.
+  pub record Keeps (shows : List Event → Image → Type 0) (events : List Event) (t0 : ℕ) (disk : Disk tells tells_images) : Type 0 where
+    pub rising : RiseTo disk.clock 0 (moments events)
+    pub pending : PendingEnds events
+    pub prefixes : (t : ℕ) (image : Image) → t0 ≤ t → t ≤ disk.clock → disk.since t image → ShowsPrefix shows events (acknowledged events t) image
+    pub now : IsWhole events → (image : Image) → disk.now image → shows events image
+
+  -- At every moment of a call the media show the events, or the events and the call's own.
+  abbrev pub Extends : (List Event → Image → Type 0) → List Event → Event → Disk tells tells_images → Disk tells tells_images → Type 0
+  Extends shows events e old new = AtEachMoment old new (ShowsEither shows events e old.now)
+
+  -- At every moment of a call that is no event the media show the same.
+  abbrev pub ShowsOn : (List Event → Image → Type 0) → List Event → Disk tells tells_images → Disk tells tells_images → Type 0
+  ShowsOn shows events old new = AtEachMoment old new (λ image. old.now image ⊎ shows events image)

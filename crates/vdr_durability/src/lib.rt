@@ -1,0 +1,12 @@
+//! What media show of a history, and which part of it they keep over a stop.
+#![tactic(auto)]
+
+mod ends;
+mod keeping;
+mod regularity;
+mod showing;
+
+pub use ends::{law_of_ends, law_of_ends_off};
+pub use keeping::{Showing, law_of_acknowledgment, law_of_keeping};
+pub use regularity::law_of_regular_members;
+pub use showing::{law_of_commits, law_of_further_runs, law_of_openings, law_of_saves};
