@@ -1,5 +1,5 @@
 -- A medium at every moment until a batch stands in its newest segment.
-use Rattle.std.proofs.Common.{◌≡◌, ◌≢◌, ◌↔◌, ◌<◌, ◌≤◌, ◌+◌, ℕ, List, [], ◌∷◌, ◌++◌, length, get_or, set, take, drop, slice_get, Option, Some, None, inl, inr, refl, sym, ap, ◌∙◌, subst, arith, length-set, append_assoc}
+use Rattle.std.proofs.Common.{◌≡◌, ◌<◌, ◌≤◌, ◌+◌, ℕ, List, [], ◌∷◌, ◌++◌, length, get_or, take, slice_get, Option, Some, None, inl, inr, refl, sym, ap, ◌∙◌, subst, arith, length-set}
 use Rattle.std.proofs.lemmas.Option.{none-some, same_Some}
 use Rattle.std.proofs.lemmas.List.{take-append-le, take_all, length_push}
 use Rattle.std.proofs.lemmas.List.Elements.{All-contains, Contains-append_right}
@@ -19,12 +19,12 @@ use Rattle.vdr_survey.specs.Surveys.{Surveys}
 use Rattle.vdr_retention.specs.Retention.{Pin}
 use Rattle.vdr_retention.proofs.Lists.{contains_here, last_behind}
 use Rattle.vdr_ring.specs.declared.entry.Entry.{Entry}
-use Rattle.vdr_ring.specs.Sequence.{Placed, first_of, batches_of, AreInSequence}
+use Rattle.vdr_ring.specs.Sequence.{Placed, batches_of, AreInSequence}
 use Rattle.vdr_ring.specs.Order.{AreInOrder}
 use Rattle.vdr_ring.specs.Entries.{Describes, Describe}
 use Rattle.vdr_ring.specs.Tables.{TableState}
 use Rattle.vdr_ring.specs.Rings.{RingState, HoldsPlaced, HoldsAny, IsSameRing, Tells, Reads}
-use Rattle.vdr_ring.specs.Stages.{HasRoom, with_batch_in, Stages, GoesOn, BeginsAnew, AreStages, Continues}
+use Rattle.vdr_ring.specs.Stages.{with_batch_in, Stages, BeginsAnew, AreStages, Continues}
 use Rattle.vdr_ring.specs.Appends.{HasRoomFor, MayCome, HasNoRoom, Stands, IsReady}
 use Rattle.vdr_ring.proofs.Placing.{append_in_sequence}
 use Rattle.vdr_ring.proofs.Ordering.{append_in_order}

@@ -1,5 +1,5 @@
 -- A medium at every moment until a segment is begun.
-use Rattle.std.proofs.Common.{◌≡◌, ◌≢◌, ◌⊎◌, ◌<◌, ◌≤◌, ◌+◌, ℕ, List, [], ◌∷◌, ◌++◌, length, get_or, set, slice_get, All, Contains, Option, Some, None, inl, inr, ⊎_elim, refl, sym, ap, ◌∙◌, subst, arith, length-set}
+use Rattle.std.proofs.Common.{◌≡◌, ◌<◌, ◌≤◌, ◌+◌, ℕ, List, [], ◌∷◌, ◌++◌, length, slice_get, All, Contains, Option, Some, None, inl, inr, ⊎_elim, refl, sym, ap, ◌∙◌, subst, arith, length-set}
 use Rattle.std.specs.Prelude.{Any}
 use Rattle.std.proofs.lemmas.List.{get_or_append_left, length-append, length_push}
 use Rattle.std.proofs.lemmas.List.Elements.{All-contains, Contains-append_left, Contains-append_right, Contains-append_cases}
@@ -17,12 +17,12 @@ use Rattle.vdr_ring.specs.declared.entry.Entry.{Entry}
 use Rattle.vdr_ring.specs.Sequence.{Placed, seq_of, batches_of, AreInSequence}
 use Rattle.vdr_ring.specs.Order.{AreInOrder}
 use Rattle.vdr_ring.specs.Tables.{TableState, begun_entry}
-use Rattle.vdr_ring.specs.Rings.{RingState, HoldsPlaced, HoldsAny, IsSameRing, Tells, Reads}
+use Rattle.vdr_ring.specs.Rings.{RingState, HoldsPlaced, HoldsAny, IsSameRing, Tells}
 use Rattle.vdr_ring.specs.Stages.{IsLeastClosed, Stages, BeginsAnew, next_seq, new_segment, with_batch_in}
-use Rattle.vdr_ring.specs.Appends.{MayCome, HasNoRoom, LeavesFree, Stands, IsFree, IsReady}
+use Rattle.vdr_ring.specs.Appends.{MayCome, HasNoRoom, LeavesFree, IsFree, IsReady}
 use Rattle.vdr_ring.proofs.Placing.{begin_in_sequence, slot_closed}
 use Rattle.vdr_ring.proofs.Numbering.{seqs_below}
-use Rattle.vdr_ring.proofs.Staging.{victim_split, Finds, LeavesStages, begins_anew}
+use Rattle.vdr_ring.proofs.Staging.{victim_split, Finds, begins_anew}
 use Rattle.vdr_ring.proofs.Telling.{any_there, begins_with, least_closed, tells_begun}
 use Rattle.vdr_ring.proofs.Freeing.{holds_either, settled_slots, settled_placed}
 

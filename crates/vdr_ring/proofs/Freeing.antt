@@ -1,5 +1,5 @@
 -- A medium at every moment until a slot is free.
-use Rattle.std.proofs.Common.{◌≡◌, ◌≢◌, ◌⊎◌, ◌<◌, ◌≤◌, ◌+◌, ℕ, zero, suc, List, [], ◌∷◌, ◌++◌, length, get_or, set, slice_get, Option, Some, None, inl, inr, ⊎_elim, refl, sym, ap, ◌∙◌, subst, arith, length-set}
+use Rattle.std.proofs.Common.{◌≡◌, ◌≢◌, ◌<◌, ◌+◌, ℕ, zero, suc, List, [], ◌∷◌, ◌++◌, length, get_or, set, slice_get, Option, Some, None, inl, inr, ⊎_elim, refl, sym, ap, ◌∙◌, subst, arith, length-set}
 use Rattle.std.specs.Prelude.{remove}
 use Rattle.std.proofs.lemmas.Option.{none-some, same_Some, slice_get-get_or}
 use Rattle.std.proofs.lemmas.List.Edits.{length-remove}
@@ -13,11 +13,10 @@ use Rattle.vdr_retention.specs.Retention.{Pin}
 use Rattle.vdr_retention.proofs.Lists.{contains_here}
 use Rattle.vdr_ring.specs.declared.entry.Entry.{Entry}
 use Rattle.vdr_ring.specs.Sequence.{Placed, AreInSequence}
-use Rattle.vdr_ring.specs.Entries.{Describe}
 use Rattle.vdr_ring.specs.Tables.{TableState, slot_of}
 use Rattle.vdr_ring.specs.Rings.{RingState, HoldsPlaced, HoldsAny, Tells, Reads}
 use Rattle.vdr_ring.specs.Stages.{IsVictim}
-use Rattle.vdr_ring.specs.Appends.{LeavesFree, Stands, IsFree}
+use Rattle.vdr_ring.specs.Appends.{LeavesFree, IsFree}
 use Rattle.vdr_ring.proofs.Placing.{close_in_sequence}
 use Rattle.vdr_ring.proofs.Staging.{victim_split}
 use Rattle.vdr_ring.proofs.Telling.{any_here, any_there, described_length, IsAmong, described_among, least_closed, tells_closed}

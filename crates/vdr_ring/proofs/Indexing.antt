@@ -1,10 +1,8 @@
 -- The segments that a table's entries describe, by their index.
 use Rattle.std.proofs.Common.{◌≡◌, ◌<◌, ◌≤◌, ◌⊎◌, inl, inr, ⊎_elim, ℕ, zero, suc, List, [], ◌∷◌, length, Option, Some, None, refl, sym, ◌∙◌, ap, subst, arith}
 use Rattle.std.specs.Prelude.{slice_get, slice_index_or, Contains}
-use Rattle.std.specs.List.{AllWithin}
 use Rattle.std.specs.List.Sorted.{IsNonDecreasingBy}
 use Rattle.std.proofs.lemmas.Option.{slice_get_within, get_or_from_slice_get, slice_get-get_or}
-use Rattle.std.proofs.lemmas.List.Elements.{All-contains}
 use Rattle.vdr_ring.specs.declared.entry.Entry.{Entry}
 use Rattle.vdr_ring.specs.Sequence.{Placed, seq_of}
 use Rattle.vdr_ring.specs.Order.{AreInPlace, AreInOrder}
@@ -85,12 +83,15 @@ module _ (placed : List Placed) (entries : List Entry) (after : Option ℕ) (i :
   pub next_found : (e : Entry) → slice_get entries i ≡ Some e → (p : Placed) × IsNext after placed p × Describes p e
   next_found e is =
       let f = described_at placed entries i e h is in
-      let within = slice_get_within entries i e is in
-      (f.p, record {
-        there = (i, slice_get_within placed i f.p f.at, get_or_from_slice_get placed i f.p f.p f.at);
-        above = subst (IsAbove after) (ap (λ (x : Entry). x.seq) (get_or_from_slice_get entries i e e is) ∙ f.described.seq) (above i e (omega arith) within);
-        least = λ q m up. least f.p e is f.described q m up;
-      }, f.described)
+      let within = slice_get_within entries i e is in (
+        f.p,
+        record {
+          there = (i, slice_get_within placed i f.p f.at, get_or_from_slice_get placed i f.p f.p f.at);
+          above = subst (IsAbove after) (ap (λ (x : Entry). x.seq) (get_or_from_slice_get entries i e e is) ∙ f.described.seq) (above i e (omega arith) within);
+          least = λ q m up. least f.p e is f.described q m up;
+        },
+        f.described,
+      )
     where
       least : (p : Placed) (e : Entry) → slice_get entries i ≡ Some e → Describes p e → (q : Placed) → Contains placed q → IsAbove after (seq_of q) → seq_of p ≤ seq_of q
       least p e is is_e q m up =
@@ -100,10 +101,10 @@ module _ (placed : List Placed) (entries : List Entry) (after : Option ℕ) (i :
           ⊎_elim
           (λ (lt : g.0 < i). absurd (below g.0 e lt (subst (IsAbove after) (sym (ap (λ (x : Entry). x.seq) at ∙ g.3.seq)) up)))
           (λ (le : i ≤ g.0).
-              let rise = ascend placed entries h order i g.0 e le (slice_get_within entries g.0 g.1 g.2) in
-              let a = ap (λ (x : Entry). x.seq) at in
-              let b = ap (λ (x : Entry). x.seq) at_i in
-              omega (arith, rise, a, b, g.3.seq, is_e.seq))
+          let rise = ascend placed entries h order i g.0 e le (slice_get_within entries g.0 g.1 g.2) in
+          let a = ap (λ (x : Entry). x.seq) at in
+          let b = ap (λ (x : Entry). x.seq) at_i in
+          omega (arith, rise, a, b, g.3.seq, is_e.seq))
           (lt_or_le g.0 i)
 
   pub none_found : slice_get entries i ≡ None → (p : Placed) → Contains placed p → IsAbove after (seq_of p) → ⊥

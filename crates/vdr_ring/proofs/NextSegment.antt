@@ -1,5 +1,5 @@
 -- The newest segment, the number of the next, and its slot.
-use Rattle.std.proofs.Common.{◌≡◌, ◌≢◌, ◌↔◌, ◌<◌, ◌≤◌, ◌+◌, ◌-◌, ◌^◌, ℕ, suc, leb, min, IsTrue, List, [], ◌∷◌, ◌++◌, length, get_or, slice_get, All, Option, Some, None, inl, inr, refl, sym, ap, ◌∙◌, subst, arith}
+use Rattle.std.proofs.Common.{◌≡◌, ◌↔◌, ◌<◌, ◌≤◌, ◌+◌, ◌-◌, ◌^◌, ℕ, suc, leb, min, IsTrue, List, [], ◌∷◌, length, get_or, slice_get, All, Option, Some, None, inl, inr, refl, sym, ap, ◌∙◌, subst, arith}
 use Rattle.std.specs.Prelude.{IfSome, IfNone, unwrap_or}
 use Rattle.std.proofs.lemmas.Bool.{leb-true, le-leb}
 use Rattle.std.proofs.lemmas.Option.{slice_get-get_or, get_or_from_slice_get}
@@ -9,14 +9,14 @@ use Rattle.vdr_retention.specs.Victims.{MayGo}
 use Rattle.vdr_ring.specs.declared.entry.Entry.{Entry}
 use Rattle.vdr_ring.specs.Sequence.{Placed, seq_of, batches_of, all_records}
 use Rattle.vdr_ring.specs.Order.{RunsOn, AreInOrder}
-use Rattle.vdr_ring.specs.Entries.{Describes, Describe}
+use Rattle.vdr_ring.specs.Entries.{Describe}
 use Rattle.vdr_ring.specs.Tables.{TableState}
 use Rattle.vdr_ring.specs.Rings.{Tells}
-use Rattle.vdr_ring.specs.Stages.{IsFull, IsOldest, IsForced, IsVictim, IsNextSlot, next_seq}
+use Rattle.vdr_ring.specs.Stages.{IsFull, IsOldest, IsVictim, IsNextSlot, next_seq}
 use Rattle.vdr_ring.specs.Appends.{HasRoomFor}
 use Rattle.vdr_ring.proofs.Ordering.{newest_runs_on}
 use Rattle.vdr_ring.proofs.Staging.{victim_split}
-use Rattle.vdr_ring.proofs.Telling.{last_at, described_length, IsAmong, described_among, IsNewest, described_newest, least_closed}
+use Rattle.vdr_ring.proofs.Telling.{last_at, described_length, IsAmong, described_among, IsNewest, described_newest}
 
 pub last_read : {X : Type 0} (xs ys : List X) (x : X) → ys ≡ xs → Some x ≡ slice_get ys (length ys - 1) → last xs ≡ Some x
 last_read xs ys x e h = sym (h ∙ last_at ys ∙ ap last e)
@@ -37,14 +37,6 @@ next_seq_is placed es e n describe order is sum =
     let low : seq_of k.newest < 2 ^ 63 = runs.low in
     let one : n ≡ suc (seq_of k.newest) = omega (arith, same, low, sum) in
     one ∙ ap next_seq (sym k.is)
-
--- The victim's place in the table.
-pub record HasVictimAt (seconds : ℕ) (pins : List Pin) (placed : List Placed) (i : ℕ) : Type 0 where
-  pub before : List Placed
-  pub victim : Placed
-  pub after : List Placed
-  pub at : length before ≡ i
-  pub is : IsVictim seconds pins placed before victim after
 
 pub victim_index_is : (seconds : ℕ) (pins : List Pin) (es : List Entry) (o : Option ℕ) (n : ℕ) → 0 < length es → n ≡ unwrap_or o 0
     → IfSome o (λ i. (placed : List Placed) → Describe placed es → AreInOrder placed → (before : List Placed) × (victim : Placed) × (after : List Placed) × (length before ≡ i) × IsOldest seconds pins placed before victim after)

@@ -34,10 +34,13 @@ found_tells segment count bytes opened closed table e f slots found = record {
 module _ {tells tells_images : Type 0} where
   pub ring_reads : (old new : Disk tells tells_images) (ring : RingState) (m : ℕ) (opened : List Entry) (closed : List ℕ) → ring.medium ≡ m → ring.loaded ≡ None → Unchanged old new → Durable m old → tells
       → ring.table.opened ≡ opened → ring.table.closed ≡ closed → AreSlots ring.slots opened closed → Finds ring.segment ring.slots (content old.reads m) opened closed → (placed : List Placed) × Reads ring placed new
-  ring_reads old new ring m opened closed is none same durable told e f slots found = (found.placed, record {
-    settled = subst (λ (k : ℕ). Settled k (HoldsPlaced ring.segment ring.slots found.placed) new) (sym is)
-        (settled_still m (HoldsPlaced ring.segment ring.slots found.placed) old new same (record { durable = durable; reads = λ _. found.holds }));
-    order = found.order;
-    table = found_tells ring.segment ring.slots (content old.reads m) opened closed ring.table e f slots found;
-    loaded = λ j loaded _. absurd (none-some j (sym none ∙ loaded));
-  })
+  ring_reads old new ring m opened closed is none same durable told e f slots found = (
+    found.placed,
+    record {
+      settled = subst (λ (k : ℕ). Settled k (HoldsPlaced ring.segment ring.slots found.placed) new) (sym is)
+          (settled_still m (HoldsPlaced ring.segment ring.slots found.placed) old new same (record { durable = durable; reads = λ _. found.holds }));
+      order = found.order;
+      table = found_tells ring.segment ring.slots (content old.reads m) opened closed ring.table e f slots found;
+      loaded = λ j loaded _. absurd (none-some j (sym none ∙ loaded));
+    },
+  )

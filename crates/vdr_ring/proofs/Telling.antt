@@ -1,5 +1,5 @@
 -- What a ring's table tells of its segments, at each step of an append.
-use Rattle.std.proofs.Common.{◌≡◌, ◌≢◌, ◌⊎◌, ◌<◌, ◌≤◌, ◌+◌, ◌-◌, ℕ, zero, suc, true, false, IsTrue, List, [], ◌∷◌, ◌++◌, length, take, drop, slice_get, All, Contains, Option, Some, None, inl, inr, ⊎_elim, refl, sym, ap, ◌∙◌, subst, arith, length-drop}
+use Rattle.std.proofs.Common.{◌≡◌, ◌≢◌, ◌⊎◌, ◌<◌, ◌-◌, ℕ, suc, List, [], ◌∷◌, ◌++◌, length, slice_get, All, Contains, Option, Some, None, inl, inr, ⊎_elim, refl, sym, ap, ◌∙◌, subst, arith}
 use Rattle.std.specs.Prelude.{Any, remove}
 use Rattle.std.proofs.lemmas.Bool.{cases_eq, false≢true}
 use Rattle.std.proofs.lemmas.Option.{none-some, same_Some, slice_get_within}
@@ -12,7 +12,7 @@ use Rattle.vdr_segment.specs.Segments.{Segment}
 use Rattle.vdr_survey.specs.declared.extent.Survey.{Survey}
 use Rattle.vdr_survey.specs.Surveys.{Surveys}
 use Rattle.vdr_ring.specs.declared.entry.Entry.{Entry}
-use Rattle.vdr_ring.specs.Sequence.{Placed, seq_of, first_of, batches_of, AreInSequence}
+use Rattle.vdr_ring.specs.Sequence.{Placed, first_of, batches_of, AreInSequence}
 use Rattle.vdr_ring.specs.Entries.{Describes, Describe}
 use Rattle.vdr_ring.specs.Tables.{TableState, slot_of, begun_entry}
 use Rattle.vdr_ring.specs.Rings.{Ascends, Tells}

@@ -25,7 +25,12 @@ impl Ring {
     /// write of one byte behind a sync of what it stands for.
     ///
     /// At every moment a stop leaves the medium as it was, with the victim closed, with the new segment begun, or with the
-    /// batch; after Ok it has the batch. Takes no memory.
+    /// batch; after Ok it has the batch. That is promised where the records go on from where the medium ends: their places
+    /// run on, and their ticks never fall. Where the medium is regular, the batch keeps the pace and the pins are those of
+    /// live saves, each of these is a legal medium that keeps its window and its pinned records. Takes no memory.
+    ///
+    /// `Fault`: a write or a sync failed, and the count of faults of this medium rose. The ring is then to be opened again
+    /// before it is used.
     pub fn append<M: Media>(
         &mut self,
         media: &mut M,

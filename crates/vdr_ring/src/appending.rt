@@ -24,6 +24,7 @@ use vdr_segment::write_batch;
 use vdr_slots::{append_batch, begin_segment, close_slot};
 
 impl Ring {
+    // The entry of the newest segment.
     fn newest(&self) -> Entry
         requires { 0 < length self.now.table.opened }
         ensures newest { last self.now.table.opened ≡ Some result }

@@ -58,11 +58,7 @@ impl Fronts {
 }
 
 // The header of a slot's segment, None where the slot's gate is closed.
-fn header_in<M: Media>(
-    media: &mut M,
-    area: Area,
-    slot: u32,
-) -> Result<Option<Header>, PartRefused>
+fn header_in<M: Media>(media: &mut M, area: Area, slot: u32) -> Result<Option<Header>, PartRefused>
     requires room { HasRoom area (M.disk media.old).sizes }
     requires within { slot < area.slots }
     ensures front { IfOk result (λ front. M.tells → IsFront (front_bytes area.segment slot (content (M.disk media.old).reads area.medium)) front) }

@@ -1,4 +1,4 @@
-ghost use Rattle.std.specs.Prelude.{◌≡◌, ◌≢◌, ◌⊎◌, ◌↔◌, ◌<◌, ◌≤◌, ◌+◌, ℕ, true, List, get_or, IsTrue, IfOk, IfSome, IfNone, OnOk, OnErr, Option, Some, None, Ok, Err};
+ghost use Rattle.std.specs.Prelude.{◌≡◌, ◌≢◌, ◌⊎◌, ◌↔◌, ◌<◌, ◌≤◌, ◌+◌, true, List, get_or, IsTrue, IfOk, IfSome, IfNone, OnOk, OnErr, Option, Some, None, Ok, Err};
 ghost use Rattle.vdr_terms.specs.Records.{Record as Entry};
 ghost use Rattle.vdr_outside.specs.Causes.{Rose, NoneFalls, HasCauseOn, counted};
 ghost use Rattle.vdr_outside.specs.Disk.{Unchanged};
@@ -104,12 +104,16 @@ impl Ring {
     }
 
     /// Steps to the next record of the segment in a slot. False exactly where no further record is there, as in a slot that is
-    /// closed. A cursor that is new begins at the first record of the slot, and so does one that stands in another slot. The
-    /// slot is read whole where the last step was in another one, or an `append` came since; else nothing is read.
+    /// closed, after which the cursor stands in none. A cursor that is new begins at the first record of the slot, and so does
+    /// one that stands in another slot. The slot is read whole where the last step was in another one, or an `append` came
+    /// since; else nothing is read. It takes no memory.
     ///
-    /// `Damaged` names the medium and where the first batch that is not legal begins, in bytes. Where the bytes have changed
-    /// so that there is no record where the cursor stands, it names the slot. `Fault`: the read failed. Where a step is refused,
-    /// the cursor stays where it is, without a record.
+    /// The cursor is new, or its last step was by this ring and no other cursor's came since (`stands`): then it may go on in
+    /// the buffer without a look at what is behind it.
+    ///
+    /// `Damaged` names the medium and where the next batch begins, in bytes, exactly where that batch is not legal. Where the
+    /// bytes have changed so that no record begins where the cursor stands, it names the slot. `Fault`: the read failed. Where a
+    /// step is refused, the cursor stays where it is, without a record.
     pub fn read_span<M: Media>(
         &mut self,
         media: &mut M,

@@ -1,12 +1,16 @@
+ghost use Rattle.std.specs.Prelude.{◌≡◌, ◌<◌};
+ghost use Rattle.vdr_slots.specs.Areas.{HasRoom};
+
 use crate::{Ring, law_of_opening};
 use std::alloc::Global;
 use std::process::Abort;
 use std::test::Fail;
 use vdr_config::{Config, fits, read_config};
 use vdr_entry::Record;
-use vdr_memory::RamMedia;
-use vdr_outside::{Media, PartRefused};
-use vdr_segment::{HEADER_SIZE, OPEN_GATE, write_batch, write_header};
+use vdr_memory::{MemoryMedia, RamMedia};
+use vdr_outside::{Fault, Media, PartRefused};
+use vdr_segment::{OPEN_GATE, write_batch};
+use vdr_slots::{Area, append_batch, begin_segment};
 
 // A window of a second, for which the capsule needs four slots.
 const CONFIG: &[u8] =
@@ -14,30 +18,50 @@ const CONFIG: &[u8] =
 
 const MEDIUM_SIZE: usize = 65_536;
 
-const SLOT_SIZE: usize = 8_192;
+// Where slots 0, 1 and 2 begin.
+const A: u64 = 32_768;
 
-// Where the slots begin.
-const A: usize = 32_768;
-const B: usize = 40_960;
-const C: usize = 49_152;
+const B: u64 = 40_960;
 
-// A segment: where its slot begins, its sequence number, its first place, and the tick of its record, a Start at that
-// place, None where it has no record.
-type Written = (usize, u64, u64, Option<u64>);
+const C: u64 = 49_152;
 
-fn put_segment(rt: &impl Abort, medium: &mut [u8], segment: &Written) {
-    let (place, seq, first, tick) = *segment;
-    assert!(rt; place <= C && medium.len() == MEDIUM_SIZE);
-    let slot = &mut medium[place..place + SLOT_SIZE];
-    let mut header = [0; HEADER_SIZE];
-    write_header(seq, first, &mut header);
-    header[0] = OPEN_GATE;
-    slot[..HEADER_SIZE].copy_from_slice(&header);
-    if let Some(tick) = tick {
-        assert!(rt; first < 1_000 && tick < 1_000);
-        let start = Record::start(0, first, tick, 1_704_067_200_000);
-        write_batch(&[start], &mut slot[HEADER_SIZE..]);
+// The slots of the only medium.
+fn area_on<M: Media>(rt: &impl Abort, media: &M) -> Area
+    ensures room { HasRoom result (M.disk media.now).sizes }
+    ensures slots { 3 < result.slots }
+{
+    assert!(rt; media.count() == 1 && media.size(0) == 65_536);
+    Area {
+        medium: 0,
+        segment: 8_192,
+        slots: 4,
     }
+}
+
+// A segment: its slot, its sequence number, its first place, and the tick of its record, a Start at that place, None where
+// it has no record.
+type Written = (u32, u64, u64, Option<u64>);
+
+fn put_segment<M: Media>(rt: &impl Abort, media: &mut M, segment: &Written) -> Result<(), Fault> {
+    let (slot, seq, first, tick) = *segment;
+    assert!(rt; slot < 4);
+    let area = area_on(rt, media);
+    begin_segment(media, area, slot, seq, first)?;
+    let Some(tick) = tick else {
+        return Ok(());
+    };
+    assert!(rt; first < 1_000 && tick < 1_000);
+    let start = Record::start(0, first, tick, 1_704_067_200_000);
+    let mut batch = [0; 50];
+    assert!(rt; write_batch(&[start], &mut batch) == 49);
+    let area = area_on(rt, media);
+    append_batch(media, area, slot, 64, &batch)
+}
+
+fn put_byte<M: Media>(rt: &impl Abort, media: &mut M, at: u64, byte: u8) -> Result<(), Fault> {
+    assert!(rt; media.count() == 1 && at < media.size(0));
+    media.write(0, at, &[byte])?;
+    Ok(())
 }
 
 fn try_open<M: Media>(
@@ -55,8 +79,25 @@ fn try_open<M: Media>(
 // where it is damaged.
 struct Case {
     segments: &'static [Written],
-    bytes: &'static [(usize, u8)],
-    want: Result<usize, usize>,
+    bytes: &'static [(u64, u8)],
+    want: Result<usize, u64>,
+}
+
+fn open_case(rt: &impl Abort, alloc: Global, case: &Case) -> Result<Result<usize, u64>, Fail> {
+    let config = read_config(alloc, CONFIG)?;
+    let medium = vec![in alloc; 0; MEDIUM_SIZE]?;
+    let mut media = RamMedia::new(vec![in alloc; medium]?);
+    for segment in case.segments {
+        put_segment(rt, &mut media, segment)?;
+    }
+    for (at, byte) in case.bytes {
+        put_byte(rt, &mut media, *at, *byte)?;
+    }
+    match try_open(rt, alloc, &mut media, &config) {
+        Ok(ring) => Ok(Ok(ring.table.opened().len())),
+        Err(PartRefused::Damaged { medium: 0, offset }) => Ok(Err(offset)),
+        Err(_) => Err("not refused as damaged".into()),
+    }
 }
 
 const CASES: [Case; 14] = [
@@ -66,78 +107,78 @@ const CASES: [Case; 14] = [
         want: Ok(0),
     },
     Case {
-        segments: &[(C, 7, 40, Some(5)), (A, 8, 41, Some(5)), (B, 9, 42, None)],
+        segments: &[(2, 7, 40, Some(5)), (0, 8, 41, Some(5)), (1, 9, 42, None)],
         bytes: &[],
         want: Ok(3),
     },
     // a header that is none
     Case {
-        segments: &[(A, 0, 0, Some(5))],
+        segments: &[(0, 0, 0, Some(5))],
         bytes: &[(A + 62, 1)],
         want: Err(A),
     },
     // the same behind a closed gate
     Case {
-        segments: &[(A, 0, 0, Some(5)), (B, 1, 1, Some(5))],
+        segments: &[(0, 0, 0, Some(5)), (1, 1, 1, Some(5))],
         bytes: &[(B, 0), (B + 62, 1)],
         want: Ok(1),
     },
     // batches without records: the first by sequence number
     Case {
-        segments: &[(B, 0, 0, None), (A, 1, 0, None)],
+        segments: &[(1, 0, 0, None), (0, 1, 0, None)],
         bytes: &[(A + 64, OPEN_GATE), (B + 64, OPEN_GATE)],
         want: Err(B + 64),
     },
     // and one behind a header that is none
     Case {
-        segments: &[(A, 0, 0, None), (C, 1, 0, Some(5))],
+        segments: &[(0, 0, 0, None), (2, 1, 0, Some(5))],
         bytes: &[(A + 64, OPEN_GATE), (C + 63, 1)],
         want: Err(C),
     },
     // and one behind a segment out of its place
     Case {
-        segments: &[(A, 0, 0, None), (B, 1, 0, None), (C, 2, 0, None)],
+        segments: &[(0, 0, 0, None), (1, 1, 0, None), (2, 2, 0, None)],
         bytes: &[(C + 64, OPEN_GATE)],
         want: Err(C + 64),
     },
     // two segments of one sequence number
     Case {
-        segments: &[(B, 1, 1, Some(5)), (A, 1, 1, Some(5))],
+        segments: &[(1, 1, 1, Some(5)), (0, 1, 1, Some(5))],
         bytes: &[],
         want: Err(B),
     },
     // a segment without records that is not the newest
     Case {
-        segments: &[(A, 0, 0, None), (B, 1, 0, Some(5))],
+        segments: &[(0, 0, 0, None), (1, 1, 0, Some(5))],
         bytes: &[],
         want: Err(A),
     },
     // one alone that does not begin at place 0
     Case {
-        segments: &[(A, 0, 1, None)],
+        segments: &[(0, 0, 1, None)],
         bytes: &[],
         want: Err(A),
     },
     // places that do not run on, and that may where a segment is missing
     Case {
-        segments: &[(A, 3, 8, Some(5)), (B, 4, 10, Some(5))],
+        segments: &[(0, 3, 8, Some(5)), (1, 4, 10, Some(5))],
         bytes: &[],
         want: Err(B),
     },
     Case {
-        segments: &[(A, 3, 8, Some(5)), (B, 5, 10, Some(5))],
+        segments: &[(0, 3, 8, Some(5)), (1, 5, 10, Some(5))],
         bytes: &[],
         want: Ok(2),
     },
     // ticks that fall
     Case {
-        segments: &[(A, 3, 8, Some(5)), (B, 4, 9, Some(4))],
+        segments: &[(0, 3, 8, Some(5)), (1, 4, 9, Some(4))],
         bytes: &[],
         want: Err(B),
     },
     // the newest has a summary
     Case {
-        segments: &[(A, 3, 8, Some(5)), (B, 4, 9, Some(5))],
+        segments: &[(0, 3, 8, Some(5)), (1, 4, 9, Some(5))],
         bytes: &[(B + 17, OPEN_GATE)],
         want: Err(B),
     },
@@ -145,31 +186,34 @@ const CASES: [Case; 14] = [
 
 #[test]
 fn a_medium_is_opened_or_damaged_where_it_is_first_not_legal(rt: HostRuntime) -> Result<(), Fail> {
-    let alloc = rt.alloc();
-    let config = read_config(alloc, CONFIG)?;
     for (index, case) in CASES.iter().enumerate() {
-        let mut medium = vec![in alloc; 0; MEDIUM_SIZE]?;
-        for segment in case.segments {
-            put_segment(&rt, &mut medium, segment);
-        }
-        for (at, byte) in case.bytes {
-            assert!(rt; *at < medium.len());
-            medium[*at] = *byte;
-        }
-        let mut media = RamMedia::new(vec![in alloc; medium]?);
-        let opened = match try_open(&rt, alloc, &mut media, &config) {
-            Ok(ring) => Ok(ring.table.opened().len()),
-            Err(refused) => Err(refused),
-        };
-        let want = match case.want {
-            Ok(count) => Ok(count),
-            Err(offset) => Err(PartRefused::Damaged {
-                medium: 0,
-                offset: offset as u64,
-            }),
-        };
-        assert_eq!(rt; opened, want, "case {index}");
+        let opened = open_case(&rt, rt.alloc(), case)?;
+        assert_eq!(rt; opened, case.want, "case {index}");
     }
     law_of_opening();
+    Ok(())
+}
+
+#[test]
+fn a_read_that_fails_is_a_fault(rt: HostRuntime) -> Result<(), Fail> {
+    let alloc = rt.alloc();
+    let config = read_config(alloc, CONFIG)?;
+    // the fronts of four slots are read
+    for call in 0..5 {
+        let medium = vec![in alloc; 0; MEDIUM_SIZE]?;
+        let failing = vec![in alloc; call]?;
+        let mut media = MemoryMedia::new(alloc, vec![in alloc; medium]?, failing, None)?;
+        let refused = try_open(&rt, alloc, &mut media, &config);
+        assert_eq!(rt;
+            matches!(&refused, Err(PartRefused::Fault)),
+            call < 4,
+            "call {call}"
+        );
+        assert_eq!(rt;
+            (refused.is_ok(), media.made().changes()),
+            (call == 4, 0),
+            "call {call}"
+        );
+    }
     Ok(())
 }

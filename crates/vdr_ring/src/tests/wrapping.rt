@@ -1,4 +1,4 @@
-ghost use Rattle.std.specs.Prelude.{◌≡◌, ◌≤◌, ◌<◌, IfOk};
+ghost use Rattle.std.specs.Prelude.{◌≡◌, ◌≤◌, ◌<◌, length, IfOk};
 ghost use Rattle.vdr_ring.specs.Rings.{HasMedium};
 ghost use Rattle.vdr_ring.specs.Cursors.{StandsIn};
 
@@ -22,10 +22,10 @@ const FIRST_ROUND: u64 = 594;
 // Four writes and syncs for each batch, and four for each segment.
 const CALLS_BEFORE: u64 = 4 * FIRST_ROUND + 4 * 11;
 
-fn capsule(alloc: Global) -> Result<Vec<Vec<u8>>, AllocError> {
-    let mut media = Vec::new(alloc);
-    media.push(vec![in alloc; 0; 122_880]?)?;
-    Ok(media)
+fn capsule(alloc: Global) -> Result<Vec<Vec<u8>>, AllocError>
+    ensures { IfOk result (λ media. length media.items ≤ 3) }
+{
+    Ok(vec![in alloc; vec![in alloc; 0u8; 122_880]?]?)
 }
 
 fn open<M: Media>(rt: &impl Abort, alloc: Global, media: &mut M) -> Result<Ring, Fail>
@@ -62,13 +62,7 @@ fn append<M: Media>(
 }
 
 // Appends the batches of these numbers, and asserts that the last 60 seconds are held after each.
-fn append_all<M: Media>(
-    rt: &impl Abort,
-    media: &mut M,
-    ring: &mut Ring,
-    from: u64,
-    to: u64,
-)
+fn append_all<M: Media>(rt: &impl Abort, media: &mut M, ring: &mut Ring, from: u64, to: u64)
     requires room { HasMedium ring.old (M.disk media.old).sizes }
     requires segment { 8_192 ≤ ring.old.segment }
     ensures room { HasMedium ring.new (M.disk media.new).sizes }
@@ -96,9 +90,15 @@ fn the_last_minute_is_held_after_each_of_600_batches(rt: HostRuntime) -> Result<
     let mut ring = open(&rt, alloc, &mut media)?;
     assert_eq!(rt; (ring.last(), ring.next_slot(None)), (None, None));
     append_all(&rt, &mut media, &mut ring, 0, FIRST_ROUND);
-    assert_eq!(rt; (ring.next_slot(None), ring.victim(&Pins::new())), (Some((0, 0)), 0));
+    assert_eq!(rt;
+        (ring.next_slot(None), ring.victim(&Pins::new())),
+        (Some((0, 0)), 0)
+    );
     append_all(&rt, &mut media, &mut ring, FIRST_ROUND, 600);
-    assert_eq!(rt; (ring.next_slot(None), ring.next_slot(Some(10))), (Some((1, 1)), Some((0, 11))));
+    assert_eq!(rt;
+        (ring.next_slot(None), ring.next_slot(Some(10))),
+        (Some((1, 1)), Some((0, 11)))
+    );
     assert!(rt; ring.holds(54, 599) && !ring.holds(53, 599));
     Ok(())
 }
@@ -118,7 +118,12 @@ fn last_minute(rt: &impl Abort, alloc: Global, image: Vec<Vec<u8>>) -> Result<(u
 fn a_stop_leaves_the_last_minute_without_the_batch_or_with_it(rt: HostRuntime) -> Result<(), Fail> {
     let alloc = rt.alloc();
     for stop in 0..11 {
-        let mut media = MemoryMedia::new(alloc, capsule(alloc)?, Vec::new(alloc), Some(CALLS_BEFORE + stop))?;
+        let mut media = MemoryMedia::new(
+            alloc,
+            capsule(alloc)?,
+            Vec::new(alloc),
+            Some(CALLS_BEFORE + stop),
+        )?;
         let mut ring = open(&rt, alloc, &mut media)?;
         append_all(&rt, &mut media, &mut ring, 0, FIRST_ROUND);
         assert_eq!(rt; media.made().changes(), CALLS_BEFORE);
@@ -141,7 +146,10 @@ fn opening_reads_each_header_and_each_segment_once(rt: HostRuntime) -> Result<()
     append_all(&rt, &mut media, &mut ring, 0, 100);
     let changes = media.made().changes();
     let again = open(&rt, alloc, &mut media)?;
-    assert_eq!(rt; (media.bytes_read(0), media.made().changes()), (2 * 11 * 64 + 2 * 8_192, changes));
+    assert_eq!(rt;
+        (media.bytes_read(0), media.made().changes()),
+        (2 * 11 * 64 + 2 * 8_192, changes)
+    );
     assert_eq!(rt; again.last(), ring.last());
     Ok(())
 }
@@ -173,15 +181,28 @@ fn a_cursor_steps_from_record_to_record_of_a_slot(rt: HostRuntime) -> Result<(),
     let mut media = RamMedia::new(capsule(alloc)?);
     let mut ring = open(&rt, alloc, &mut media)?;
     append_all(&rt, &mut media, &mut ring, 0, 56);
-    let (Some((first, _)), Some((second, _))) = (ring.next_slot(None), ring.next_slot(Some(0))) else {
+    let (Some((first, _)), Some((second, _))) = (ring.next_slot(None), ring.next_slot(Some(0)))
+    else {
         return Err("not two segments".into());
     };
     let closed = ring.victim(&Pins::new());
     let mut visit = Cursor::new();
-    assert_eq!(rt; step(&rt, &mut media, &mut ring, first, &mut visit), Some(0));
-    assert_eq!(rt; step(&rt, &mut media, &mut ring, first, &mut visit), Some(1));
-    assert_eq!(rt; step(&rt, &mut media, &mut ring, second, &mut visit), Some(54));
-    assert_eq!(rt; step(&rt, &mut media, &mut ring, second, &mut visit), Some(55));
+    assert_eq!(rt;
+        step(&rt, &mut media, &mut ring, first, &mut visit),
+        Some(0)
+    );
+    assert_eq!(rt;
+        step(&rt, &mut media, &mut ring, first, &mut visit),
+        Some(1)
+    );
+    assert_eq!(rt;
+        step(&rt, &mut media, &mut ring, second, &mut visit),
+        Some(54)
+    );
+    assert_eq!(rt;
+        step(&rt, &mut media, &mut ring, second, &mut visit),
+        Some(55)
+    );
     assert_eq!(rt; step(&rt, &mut media, &mut ring, second, &mut visit), None);
     assert_eq!(rt; step(&rt, &mut media, &mut ring, closed, &mut visit), None);
     Ok(())

@@ -14,9 +14,11 @@ pub returns-in_err-header-clause-damaged : goal.returns-in_err-header-clause-dam
 returns-in_err-header-clause-damaged g c =
     let p = err_from_is_err_and c.from_residual.result c.from_residual.ensures.1 in
     rw (p.1, p.2) (λ k offset e.
-    let h = c.in_err-header.ensures.damaged k offset (same_err _ _ e) in
-    (h.0, λ told. refuses_header _ _ _ _ _ (c.loop-slot.invariant.told told) _ _ (omega arith) h.1
-    (λ front is. h.2 told front (subst (λ (image : Image). IsFront (front_bytes c.args.area.segment c.loop-slot.slot (content image c.args.area.medium)) front) (sym (c.loop-slot.invariant.unchanged.reads told)) is))))
+    let h = c.in_err-header.ensures.damaged k offset (same_err _ _ e) in (
+      h.0,
+      λ told. refuses_header _ _ _ _ _ (c.loop-slot.invariant.told told) _ _ (omega arith) h.1
+          (λ front is. h.2 told front (subst (λ (image : Image). IsFront (front_bytes c.args.area.segment c.loop-slot.slot (content image c.args.area.medium)) front) (sym (c.loop-slot.invariant.unchanged.reads told)) is)),
+    ))
 
 pub loop-slot-preserved : goal.loop-slot-preserved
 loop-slot-preserved g c = record {

@@ -14,10 +14,12 @@ pub returns-in_err-found-clause-damaged : goal.returns-in_err-found-clause-damag
 returns-in_err-found-clause-damaged g c =
     let p = err_from_is_err_and c.from_residual.result c.from_residual.ensures.1 in
     rw (p.1, p.2) (λ k offset e.
-    let h = c.in_err-found.ensures.damaged k offset (same_err _ _ e) in
-    (h.0, λ told.
-    breaks_among _ _ c.loop-i.opened c.loop-i.i _ (omega arith) (c.loop-i.invariant.told told) offset
-    (breaks_still _ _ _ _ _ (ap (λ (image : Image). content image c.args.area.medium) (c.loop-i.invariant.unchanged.reads told)) (h.1 told))))
+    let h = c.in_err-found.ensures.damaged k offset (same_err _ _ e) in (
+      h.0,
+      λ told.
+          breaks_among _ _ c.loop-i.opened c.loop-i.i _ (omega arith) (c.loop-i.invariant.told told) offset
+          (breaks_still _ _ _ _ _ (ap (λ (image : Image). content image c.args.area.medium) (c.loop-i.invariant.unchanged.reads told)) (h.1 told)),
+    ))
 
 pub loop-i-preserved : goal.loop-i-preserved
 loop-i-preserved g c =

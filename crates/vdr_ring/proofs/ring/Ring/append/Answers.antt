@@ -1,5 +1,3 @@
-use Rattle.std.proofs.Common.{List, ℕ, subst, sym}
-use Rattle.vdr_terms.specs.Records.{Record}
 use Rattle.vdr_outside.proofs.Moments.{changes_weaken}
 use Rattle.vdr_ring.proofs.Keeping.{Keeps, kept_at_each, has_kept, orders_of}
 use Rattle.vdr_ring.proofs.ring.Ring.append.Goals as goal

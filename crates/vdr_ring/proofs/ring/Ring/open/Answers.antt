@@ -27,8 +27,8 @@ invariant_of-result g c = (
   omega (arith, ap length c.in-Ok-new.ensures.opened, ap length c.in-Ok-new.ensures.closed, ap length c.deref.ensures.value, c.in_ok-opened.ensures.slots.total),
   omega (arith, c.in-Ok.buffer.ok.0, c.in-Ok.ensures.len, c.read_segments.auto.buffer, c.deref_mut.ensures.len, length-take {A = ℕ}, length-append {A = ℕ}, length-drop {A = ℕ}),
   let four = four_slots (sizes_of c.args.config.now) c.args.m (get_or (g.M.Media.disk c.args.media.now).sizes c.args.m 0) c.requires.fits in
-  let same = ap (λ (n : ℕ). slots_in (sizes_of c.args.config.now) n) c.size.ensures in
-  omega (arith, four, same, c.area_of-area.ensures.slots),
+      let same = ap (λ (n : ℕ). slots_in (sizes_of c.args.config.now) n) c.size.ensures in
+      omega (arith, four, same, c.area_of-area.ensures.slots),
   c.seconds_of.ensures.low,
   c.seconds_of.ensures.high,
 )
