@@ -1,5 +1,5 @@
 -- What one capture did.
-use Rattle.std.specs.Prelude.{◌≡◌, ◌≤◌, ℕ, List, length}
+use Rattle.std.specs.Prelude.{◌≤◌, ℕ, List, length}
 use Rattle.vdr_terms.specs.Records.{Item}
 use Rattle.vdr_terms.specs.Counting.{Tally}
 use Rattle.vdr_intake.specs.Ends.{Feeding}

@@ -1,9 +1,7 @@
-ghost use Rattle.std.specs.Prelude.{◌≡◌, ◌≤◌, [], Some};
+ghost use Rattle.std.specs.Prelude.{◌≡◌, ◌≤◌, []};
 ghost use Rattle.vdr_terms.specs.Counting.{no_tally};
 ghost use Rattle.vdr_outside.specs.Causes.{Rose};
-ghost use Rattle.vdr_intake.specs.Ends.{Feeding};
 ghost use Rattle.vdr_intake.specs.Items.{most_items};
-ghost use Rattle.vdr_capture.specs.declared.lane.Cause.{Cause as CauseTold};
 ghost use Rattle.vdr_capture.specs.declared.lane.Cause.TheVariants.{Ended, Failed};
 ghost use Rattle.vdr_capture.specs.Captures.{IsCapture};
 ghost use Rattle.vdr_capture.specs.Lanes.{IsReady, Captures};

@@ -1,11 +1,9 @@
 use Rattle.std.proofs.Common.{◌≡◌, ℕ, [], ◌∷◌, ◌++◌, refl, sym, ap, ◌∙◌, subst}
 use Rattle.std.proofs.lemmas.Int.{to_z-of_z}
-use Rattle.vdr_terms.specs.declared.datagram.Verdict.TheVariants.{Bad, Large}
 use Rattle.vdr_terms.specs.Records.{Item}
-use Rattle.vdr_terms.specs.Counting.{Tally, tallied, one_bad, one_large}
+use Rattle.vdr_terms.specs.Counting.{Tally}
 use Rattle.vdr_history.specs.Taken.{Captured}
 use Rattle.vdr_core.specs.Machine.{captured}
-use Rattle.vdr_intake.specs.Ends.{Feeding}
 use Rattle.vdr_intake.specs.Items.{Follows}
 use Rattle.vdr_capture.specs.Items.{HasCaptured, IsOffered}
 use Rattle.vdr_capture.proofs.Keeping.{follows_next, offered_more, bad_more, large_more}

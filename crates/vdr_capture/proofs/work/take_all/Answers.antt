@@ -1,4 +1,4 @@
-use Rattle.std.proofs.Common.{◌≡◌, ◌+◌, ℕ, ℤ, List, [], ◌∷◌, ◌++◌, refl, sym, ap, ◌∙◌, subst, add-one, arith, to_z, of_z, w64}
+use Rattle.std.proofs.Common.{◌≡◌, ℕ, ℤ, List, [], ◌∷◌, ◌++◌, refl, sym, ap, ◌∙◌, subst, add-one, arith, to_z, of_z, w64}
 use Rattle.std.proofs.lemmas.Int.{ints}
 use Rattle.vdr_terms.specs.Stamps.{IsStamp}
 use Rattle.vdr_terms.specs.Records.{Item}
@@ -6,7 +6,6 @@ use Rattle.vdr_terms.specs.Counting.{Tally}
 use Rattle.vdr_core.proofs.Counted.{length_snoc}
 use Rattle.vdr_intake.specs.Ends.{Feeding}
 use Rattle.vdr_outside.specs.Calls.{Asked, asked_again, other}
-use Rattle.vdr_capture.specs.Gives.{asked_often}
 use Rattle.vdr_capture.specs.Items.{HasCaptured}
 use Rattle.vdr_capture.proofs.Keeping.{has_none}
 use Rattle.vdr_capture.proofs.Giving.{gave_none, gave_waits, gave_more, nothing_left}
