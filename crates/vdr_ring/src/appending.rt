@@ -1,11 +1,10 @@
-ghost use Rattle.std.specs.Prelude.{◌≡◌, ◌≢◌, ◌↔◌, ◌+◌, ◌<◌, ◌≤◌, ℕ, [], ◌∷◌, List, length, slice_get, Option, None, Some, IsTrue, OnErr, OnOk};
+ghost use Rattle.std.specs.Prelude.{◌≡◌, ◌↔◌, ◌+◌, ◌<◌, ◌≤◌, ℕ, [], ◌∷◌, List, length, None, Some, IsTrue, OnErr, OnOk};
 ghost use Rattle.vdr_terms.specs.Records.{Record as ARecord, last};
 ghost use Rattle.vdr_terms.specs.Sizes.{batch_size};
 ghost use Rattle.vdr_outside.specs.Causes.{HasCauseOn};
 ghost use Rattle.vdr_outside.specs.Disk.{Rises, SameBut};
 ghost use Rattle.vdr_outside.specs.Moments.{ChangesOnly};
-ghost use Rattle.vdr_segment.specs.Gates.{closed_gate};
-ghost use Rattle.vdr_segment.specs.Batches.{IsBatch, batch_bytes};
+ghost use Rattle.vdr_segment.specs.Batches.{IsBatch};
 ghost use Rattle.vdr_ring.specs.declared.entry.Entry.{Entry as AnEntry};
 ghost use Rattle.vdr_ring.specs.Sequence.{Placed};
 ghost use Rattle.vdr_ring.specs.Order.{AreInOrder};

@@ -1,5 +1,5 @@
 // Which segment is written over.
-ghost use Rattle.std.specs.Prelude.{◌≡◌, ◌<◌, ◌≤◌, ◌||◌, ◌^◌, ℕ, List, All, IfSome, IfNone, find, length, nat_lt, option_map, position, reverse};
+ghost use Rattle.std.specs.Prelude.{◌≡◌, ◌<◌, ◌≤◌, ◌||◌, ◌^◌, List, All, IfSome, IfNone, find, length, nat_lt, option_map, position, reverse};
 ghost use Rattle.std.specs.List.{list_all};
 ghost use Rattle.vdr_terms.specs.Records.{second};
 ghost use Rattle.vdr_retention.specs.Victims.{MayGo, may_go_by_numbers};

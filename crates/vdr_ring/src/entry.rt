@@ -1,7 +1,3 @@
-ghost use Rattle.std.specs.Prelude.{◌≡◌, ◌↔◌, ◌<◌, ℕ, IsTrue};
-ghost use Rattle.vdr_ring.specs.Sequence.{Placed, records_of};
-ghost use Rattle.vdr_ring.specs.Order.{RunsOn, HasNone, HasPlace};
-ghost use Rattle.vdr_ring.specs.Entries.{Describes};
 
 use vdr_survey::Survey;
 

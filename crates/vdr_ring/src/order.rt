@@ -1,5 +1,5 @@
 // The order in a medium (this project's profile).
-ghost use Rattle.std.specs.Prelude.{◌≡◌, ◌↔◌, ◌<◌, ◌≤◌, ◌-◌, ℕ, List, IsTrue, Option, IfSome, IfNone, SomeIff, Some, None, length, option_copied, slice_get};
+ghost use Rattle.std.specs.Prelude.{◌≡◌, ◌↔◌, ◌<◌, ◌≤◌, ◌-◌, List, IsTrue, Option, IfSome, IfNone, SomeIff, Some, None, length, option_copied, slice_get};
 ghost use Rattle.vdr_ring.specs.Sequence.{Placed, first_of};
 ghost use Rattle.vdr_ring.specs.Order.{next_place, HasNone, RunsOn, TicksRise, Follows, MayFollow, MayPrecede, IsInPlace, AreInOrder, Breaks};
 ghost use Rattle.vdr_ring.specs.Entries.{Describes, DescribesAny, Describe};

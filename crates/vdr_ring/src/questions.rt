@@ -1,5 +1,5 @@
 // What a ring answers from its table, without reading the medium.
-ghost use Rattle.std.specs.Prelude.{◌≡◌, ◌<◌, ◌↔◌, ℕ, List, Contains, IsTrue, IfSome, IfNone, option_map};
+ghost use Rattle.std.specs.Prelude.{◌≡◌, ◌<◌, ◌↔◌, List, Contains, IsTrue, IfSome, IfNone, option_map};
 ghost use Rattle.vdr_terms.specs.Records.{last};
 ghost use Rattle.vdr_survey.specs.Extents.{first_records};
 ghost use Rattle.vdr_ring.specs.Sequence.{Placed, seq_of, batches_in, all_records};

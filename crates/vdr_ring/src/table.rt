@@ -1,4 +1,4 @@
-ghost use Rattle.std.specs.Prelude.{◌≡◌, ◌<◌, ◌≤◌, ◌+◌, ℕ, List, [], ◌∷◌, ◌++◌, length, All, IfOk, IsTrue, ◌↔◌, slice_index_or, slice_get, Some};
+ghost use Rattle.std.specs.Prelude.{◌≡◌, ◌<◌, ◌+◌, ℕ, List, [], ◌∷◌, ◌++◌, length, All, IfOk, IsTrue, ◌↔◌, slice_get, Some};
 ghost use Rattle.std.specs.List.{remove};
 ghost use Rattle.vdr_ring.specs.Tables.{count_of, slot_of, begun_entry};
 ghost use Rattle.vdr_ring.specs.declared.entry.Entry.{Entry as AnEntry};

@@ -1,4 +1,4 @@
-ghost use Rattle.std.specs.Prelude.{◌≡◌, ◌<◌};
+ghost use Rattle.std.specs.Prelude.{◌<◌};
 ghost use Rattle.vdr_slots.specs.Areas.{HasRoom};
 
 use crate::{Ring, law_of_opening};
