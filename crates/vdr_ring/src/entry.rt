@@ -1,4 +1,3 @@
-
 use vdr_survey::Survey;
 
 // What the table keeps of an open segment.
