@@ -1,0 +1,4 @@
+-- The table of incident saves: what it holds, and what each write leaves of it.
+pub mod Saves
+pub mod Fields
+pub mod Tables

@@ -1,0 +1,17 @@
+//! The table of incident saves on the long-term medium: how it is read, and how a save is added and released, with what a stop
+//! leaves of it at every moment.
+#![tactic(auto)]
+
+mod law;
+mod reading;
+mod refused;
+mod save;
+mod table;
+#[cfg(test)]
+mod tests;
+mod writing;
+
+pub use law::law_of_tables;
+pub use refused::{ReleaseRefused, TableRefused};
+pub use save::Save;
+pub use table::Table;

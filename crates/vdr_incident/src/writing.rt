@@ -1,0 +1,60 @@
+ghost use Rattle.std.specs.Prelude.{◌≡◌, ◌<◌, ℕ, List, set, slice_get, Option, None, Some, OnOk};
+ghost use Rattle.vdr_history.specs.Histories.{Incident};
+ghost use Rattle.vdr_outside.specs.Causes.{HasCauseOn};
+ghost use Rattle.vdr_outside.specs.Disk.{Rises, SameBut, content};
+ghost use Rattle.vdr_outside.specs.Moments.{ChangesOnly, Settled};
+ghost use Rattle.vdr_incident.specs.Tables.{HasIncidents, HoldsTable, HoldsBeside, HoldsEither, place_of};
+
+use crate::Save;
+use crate::save::SLOT_SIZE;
+use vdr_outside::{Fault, Media, write_through};
+use vdr_segment::{CLOSED_GATE, OPEN_GATE};
+
+/// The number of the long-term medium.
+pub(crate) const LONG_TERM: u8 = 1;
+
+// Where the first incident slot begins.
+const SLOTS_FROM: u64 = 4_096;
+
+/// Where an incident slot begins on its medium, in bytes.
+pub(crate) fn place_of(slot: u8) -> u64
+    ensures { result ≡ place_of slot }
+{
+    SLOTS_FROM + slot as u64 * SLOT_SIZE as u64
+}
+
+/// Writes a save into a closed slot: what stands behind the gate, and syncs; then the open gate, and syncs.
+pub(crate) fn write_save<M: Media>(media: &mut M, slot: u8, save: &Save) -> Result<(), Fault>
+    requires incidents { HasIncidents (M.disk media.old).sizes }
+    requires within { slot < 32 }
+    ensures moments { (slots : ℕ) (table : List (Option Incident)) → Settled 1 (HoldsTable slots table) (M.disk media.old) → slice_get table slot ≡ Some None
+        → ChangesOnly 1 (HoldsEither slot slots table (set table slot (Some save.now)) (content (M.disk media.old).reads 1)) (M.disk media.old) (M.disk media.new) }
+    ensures settled { (slots : ℕ) (table : List (Option Incident)) → Settled 1 (HoldsTable slots table) (M.disk media.old) → slice_get table slot ≡ Some None
+        → OnOk result (Settled 1 (HoldsBeside slot slots (set table slot (Some save.now)) (content (M.disk media.old).reads 1)) (M.disk media.new)) }
+    ensures others { M.tells → SameBut 1 (M.disk media.old).reads (M.disk media.new).reads }
+    ensures sizes { (M.disk media.new).sizes ≡ (M.disk media.old).sizes }
+    ensures rises { Rises (M.disk media.old) (M.disk media.new) }
+    ensures counts { M.bytes_read media.new ≡ M.bytes_read media.old }
+    ensures cause { HasCauseOn 1 (M.faults media.old) (M.faults media.new) result }
+{
+    let place = place_of(slot);
+    write_through(media, LONG_TERM, place + 1, &save.body())?;
+    write_through(media, LONG_TERM, place, &[OPEN_GATE])
+}
+
+/// Closes the gate of an open slot, and syncs.
+pub(crate) fn close_slot<M: Media>(media: &mut M, slot: u8) -> Result<(), Fault>
+    requires incidents { HasIncidents (M.disk media.old).sizes }
+    requires within { slot < 32 }
+    ensures moments { (slots : ℕ) (table : List (Option Incident)) (x : Incident) → Settled 1 (HoldsTable slots table) (M.disk media.old) → slice_get table slot ≡ Some (Some x)
+        → ChangesOnly 1 (HoldsEither slot slots table (set table slot None) (content (M.disk media.old).reads 1)) (M.disk media.old) (M.disk media.new) }
+    ensures settled { (slots : ℕ) (table : List (Option Incident)) (x : Incident) → Settled 1 (HoldsTable slots table) (M.disk media.old) → slice_get table slot ≡ Some (Some x)
+        → OnOk result (Settled 1 (HoldsBeside slot slots (set table slot None) (content (M.disk media.old).reads 1)) (M.disk media.new)) }
+    ensures others { M.tells → SameBut 1 (M.disk media.old).reads (M.disk media.new).reads }
+    ensures sizes { (M.disk media.new).sizes ≡ (M.disk media.old).sizes }
+    ensures rises { Rises (M.disk media.old) (M.disk media.new) }
+    ensures counts { M.bytes_read media.new ≡ M.bytes_read media.old }
+    ensures cause { HasCauseOn 1 (M.faults media.old) (M.faults media.new) result }
+{
+    write_through(media, LONG_TERM, place_of(slot), &[CLOSED_GATE])
+}
