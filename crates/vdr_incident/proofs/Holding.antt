@@ -7,7 +7,7 @@ use Rattle.std.proofs.lemmas.Option.{get_or_from_slice_get, slice_get_within}
 use Rattle.vdr_history.specs.Histories.{Incident}
 use Rattle.vdr_outside.specs.Disk.{over}
 use Rattle.vdr_outside.specs.Parts.{part}
-use Rattle.vdr_outside.proofs.Bytes.{length-over}
+use Rattle.vdr_outside.proofs.Bytes.{length-over, le_or_gt}
 use Rattle.vdr_outside.proofs.Parts.{part_other, slots_over}
 use Rattle.vdr_incident.specs.Saves.{IsIncidentSlot}
 use Rattle.vdr_incident.specs.Tables.{HoldsTable, HoldsBeside, SameBesideSlot, Refuses, place_of}
@@ -81,3 +81,21 @@ beside_over j k at old b x beside is fits = record {
 -- the first slot that is not legal
 pub refuses_here : (slots j offset : ℕ) (table : List (Option Incident)) (bytes : List ℕ) → HoldsTable j table bytes → j < slots → offset ≡ place_of j → ((saved : Option Incident) → IsIncidentSlot (part bytes (place_of j) 256) saved → ⊥) → Refuses slots bytes offset
 refuses_here slots j offset table bytes holds lt at none = record { slot = j; within = lt; legal = (table, holds); broken = none; at = at }
+
+pub held_not_refused : (slots offset : ℕ) (table : List (Option Incident)) (bytes : List ℕ) → HoldsTable slots table bytes → Refuses slots bytes offset → ⊥
+held_not_refused slots offset table bytes holds r = r.broken (get_or table r.slot None) (holds.each.each r.slot None (omega (arith, r.within, holds.size)))
+
+-- a slot before the first is legal
+not_before : (slots k l : ℕ) (bytes : List ℕ) (r : Refuses slots bytes k) (s : Refuses slots bytes l) → r.slot < s.slot → ⊥
+not_before slots k l bytes r s lt =
+    let holds = s.legal.1 in
+    r.broken (get_or s.legal.0 r.slot None) (holds.each.each r.slot None (omega (arith, lt, holds.size)))
+
+pub one_refused : (slots k l : ℕ) (bytes : List ℕ) → Refuses slots bytes k → Refuses slots bytes l → k ≡ l
+one_refused slots k l bytes r s = elim (le_or_gt s.slot r.slot) [
+  | inl le ↦ elim (le_or_gt r.slot s.slot) [
+    | inl ge ↦ omega (arith, r.at, s.at, le, ge)
+    | inr gt ↦ absurd (not_before slots l k bytes s r gt)
+  ]
+  | inr gt ↦ absurd (not_before slots k l bytes r s gt)
+]

@@ -29,7 +29,7 @@ fields_of bytes x s =
     let four : List ℕ = x.a ∷ x.b ∷ x.stamp.tick ∷ unsigned_abs x.stamp.utc ∷ [] in
     let whole : drop 1 bytes ≡ le_u64s four ++ (length x.label ∷ (x.label ++ s.rest)) = s.spelled ∙ append_assoc (le_u64s four) (length x.label ∷ x.label) s.rest in
     let read = read_u64s four 1 bytes (length x.label ∷ (x.label ++ s.rest)) whole
-        (omega (arith, s.legal.order, s.legal.fits), (omega (arith, s.legal.fits), (omega (arith, s.legal.tick_low), (omega (arith, s.legal.utc_legal.in_time), tt)))) in
+    (omega (arith, s.legal.order, s.legal.fits), (omega (arith, s.legal.fits), (omega (arith, s.legal.tick_low), (omega (arith, s.legal.utc_legal.in_time), tt)))) in
     let first : label_size bytes ≡ length x.label = sym (get_or-drop 33 bytes 0 0) ∙ ap (λ (xs : List ℕ). slice_index xs 0) read.1 in
     let behind : drop 34 bytes ≡ x.label ++ s.rest = sym (drop-drop 1 33 bytes) ∙ ap (λ (xs : List ℕ). drop 1 xs) read.1 in
     record {

@@ -35,10 +35,10 @@ module _ (slots j at : ℕ) (table : List (Option Incident)) (was : List ℕ) (x
   as_before_or_closed b [] h one = absurd (omega (arith, one))
   as_before_or_closed b (y ∷ []) h one = elim (cases_eq y open_gate) [
     | inl is ↦ inl (subst (λ (g : ℕ). HoldsBeside j slots table was (over b at (g ∷ []))) (sym is) (record {
-        holds = holds_still slots table b j 0 at (open_gate ∷ []) (Some x) h.holds held (omega (arith, place)) (omega arith)
-            (open_still (part b (place_of j) 256) x (slot_of slots j table (Some x) b h.holds held));
-        beside = beside_over j 0 at was b (open_gate ∷ []) h.beside (omega (arith, place)) (omega arith);
-      }))
+      holds = holds_still slots table b j 0 at (open_gate ∷ []) (Some x) h.holds held (omega (arith, place)) (omega arith)
+          (open_still (part b (place_of j) 256) x (slot_of slots j table (Some x) b h.holds held));
+      beside = beside_over j 0 at was b (open_gate ∷ []) h.beside (omega (arith, place)) (omega arith);
+    }))
     | inr ne ↦ inr (close b y ne h)
   ]
   as_before_or_closed b (y ∷ z ∷ zs) h one = absurd (omega (arith, one))
@@ -94,9 +94,9 @@ module _ (slots j at : ℕ) (table : List (Option Incident)) (was : List ℕ) (x
   as_before_or_after b (y ∷ []) r one = elim (cases_eq y open_gate) [
     | inl is ↦ inr (subst (λ (g : ℕ). HoldsBeside j slots (set table j (Some x)) was (over b at (g ∷ []))) (sym is) (counts b r))
     | inr ne ↦ inl (record {
-        holds = holds_still slots table b j 0 at (y ∷ []) None r.table_held.holds held (omega (arith, place)) (omega arith) (closed_now (part b (place_of j) 256) y ne);
-        beside = beside_over j 0 at was b (y ∷ []) r.table_held.beside (omega (arith, place)) (omega arith);
-      })
+      holds = holds_still slots table b j 0 at (y ∷ []) None r.table_held.holds held (omega (arith, place)) (omega arith) (closed_now (part b (place_of j) 256) y ne);
+      beside = beside_over j 0 at was b (y ∷ []) r.table_held.beside (omega (arith, place)) (omega arith);
+    })
   ]
   as_before_or_after b (y ∷ z ∷ zs) r one = absurd (omega (arith, one))
 

@@ -13,11 +13,7 @@ use crate::writing::{LONG_TERM, place_of};
 use arrayvec::ArrayVec;
 use vdr_outside::{Fault, Media, PartRefused};
 
-fn read_bytes<M: Media>(
-    media: &mut M,
-    slot: u8,
-    into: &mut [u8; SLOT_SIZE],
-) -> Result<(), Fault>
+fn read_bytes<M: Media>(media: &mut M, slot: u8, into: &mut [u8; SLOT_SIZE]) -> Result<(), Fault>
     requires incidents { HasIncidents (M.disk media.old).sizes }
     requires within { slot < 32 }
     ensures bytes { OnOk result (M.tells → into.new ≡ part (content (M.disk media.old).reads 1) (place_of slot) 256) }

@@ -165,6 +165,10 @@ impl Table {
     pub fn count(&self) -> u8
         ensures { result ≡ count_by is_some self.now }
     {
-        self.saves.as_slice().iter().filter(|saved| saved.is_some()).count() as u8
+        self.saves
+            .as_slice()
+            .iter()
+            .filter(|saved| saved.is_some())
+            .count() as u8
     }
 }

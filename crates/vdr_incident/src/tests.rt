@@ -6,6 +6,7 @@ use arrayvec::ArrayVec;
 use std::alloc::{AllocError, Global};
 use std::process::Abort;
 use std::test::Fail;
+use vdr_bytes::put;
 use vdr_memory::{MemoryMedia, RamMedia, Torn};
 use vdr_outside::{Media, PartRefused};
 use vdr_segment::OPEN_GATE;
@@ -17,6 +18,11 @@ fn expect_room<M: Media>(rt: &impl Abort, media: &M)
     assert!(rt; media.count() == 2 && media.size(1) == 32_768);
 }
 
+fn put_slot(rt: &impl Abort, long: &mut [u8], slot: &[u8]) {
+    assert!(rt; slot.len() <= 256 && long.len() >= 4_608);
+    put(long, 4_352, slot);
+}
+
 // Media of which medium 1 has this incident slot, of index 1, and closed ones.
 fn media_with(
     rt: &impl Abort,
@@ -25,11 +31,7 @@ fn media_with(
     stop: Option<u64>,
 ) -> Result<MemoryMedia, AllocError> {
     let mut long = vec![in alloc; 0; 32_768]?;
-    for (index, byte) in slot.iter().enumerate() {
-        if index < 256 {
-            long[4_352 + index] = *byte;
-        }
-    }
+    put_slot(rt, &mut long, slot);
     let mut media = Vec::new(alloc);
     media.push(Vec::new(alloc))?;
     media.push(long)?;
@@ -39,9 +41,9 @@ fn media_with(
 
 // The save of places 40 to `b` under this label of one byte.
 fn save_of(letter: u8, b: u64) -> Save
-    requires { 32 ≤ letter }
-    requires { letter ≤ 126 }
-    requires { 40 ≤ b }
+    requires printable { 32 ≤ letter }
+    requires ascii { letter ≤ 126 }
+    requires order { 40 ≤ b }
 {
     let mut label = ArrayVec::new();
     label.push(letter);
@@ -83,11 +85,17 @@ fn a_save_takes_the_free_slot_of_least_index(rt: HostRuntime) -> Result<(), Fail
     assert!(rt; table.release(&mut media, 3) == Err(ReleaseRefused::NoSuch));
     expect_room(&rt, &media);
     assert!(rt; table.release(&mut media, 1) == Ok(()));
-    assert_eq!(rt; (table.count(), last_of(&table, 1), last_of(&table, 2)), (1, 0, 60));
+    assert_eq!(rt;
+        (table.count(), last_of(&table, 1), last_of(&table, 2)),
+        (1, 0, 60)
+    );
     expect_room(&rt, &media);
     assert!(rt; table.save(&mut media, &save_of(b'C', 80)) == Ok(1));
     let again = table_on(&rt, &mut media);
-    assert_eq!(rt; (again.count(), last_of(&again, 1), last_of(&again, 2)), (2, 80, 60));
+    assert_eq!(rt;
+        (again.count(), last_of(&again, 1), last_of(&again, 2)),
+        (2, 80, 60)
+    );
     law_of_tables();
     Ok(())
 }
@@ -135,13 +143,17 @@ fn an_illegal_slot_is_refused_where_it_begins(rt: HostRuntime) -> Result<(), Fai
             medium: 1,
             offset: 4_352,
         };
-        assert!(rt; refused == if *legal { None } else { Some(damaged) }, "byte {at}");
+        assert!(rt;
+            refused == if *legal { None } else { Some(damaged) },
+            "byte {at}"
+        );
     }
     Ok(())
 }
 
 // Whether the save of id 1 is in this image.
 fn is_saved(rt: &impl Abort, image: Vec<Vec<u8>>) -> bool {
+    assert!(rt; image.len() == 2);
     let mut media = RamMedia::new(image);
     last_of(&table_on(rt, &mut media), 1) == 50
 }
@@ -160,8 +172,8 @@ const SAVED: [(bool, bool, bool); 5] = [
 fn a_stop_leaves_the_table_before_or_with_the_save(rt: HostRuntime) -> Result<(), Fail> {
     let alloc = rt.alloc();
     for (stop, saved) in SAVED.iter().enumerate() {
+        let mut table = table_on(&rt, &mut media_with(&rt, alloc, &[], None)?);
         let mut media = media_with(&rt, alloc, &[], Some(stop as u64))?;
-        let mut table = table_on(&rt, &mut media);
         expect_room(&rt, &media);
         assert!(rt; table.save(&mut media, &save_of(b'A', 50)).is_ok() == (stop == 4));
         let old = is_saved(&rt, media.image(&[], &Torn::Old)?);
