@@ -4,3 +4,4 @@ pub mod Holding
 pub mod Writes
 pub mod Ids
 pub mod SlotBySlot
+pub mod Beside

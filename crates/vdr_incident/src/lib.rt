@@ -11,7 +11,7 @@ mod table;
 mod tests;
 mod writing;
 
-pub use law::law_of_tables;
+pub use law::{law_of_beside, law_of_tables};
 pub use refused::{ReleaseRefused, TableRefused};
 pub use save::Save;
 pub use table::Table;

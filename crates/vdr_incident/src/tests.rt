@@ -1,7 +1,7 @@
 ghost use Rattle.std.specs.Prelude.{◌≤◌};
 ghost use Rattle.vdr_incident.specs.Tables.{HasIncidents};
 
-use crate::{ReleaseRefused, Save, Table, TableRefused, law_of_tables};
+use crate::{ReleaseRefused, Save, Table, TableRefused, law_of_beside, law_of_tables};
 use arrayvec::ArrayVec;
 use std::alloc::{AllocError, Global};
 use std::process::Abort;
@@ -97,6 +97,7 @@ fn a_save_takes_the_free_slot_of_least_index(rt: HostRuntime) -> Result<(), Fail
         (2, 80, 60)
     );
     law_of_tables();
+    law_of_beside();
     Ok(())
 }
 
