@@ -1,6 +1,5 @@
 -- What the incident slots hold: in one way, slot by slot, and after a write within one.
-use Rattle.std.proofs.Common.{◌≡◌, ◌⊎◌, inl, inr, ℕ, ◌+◌, ◌*◌, ◌<◌, ◌≤◌, List, [], ◌∷◌, ◌++◌, length, get_or, set, drop, slice_get, Option, None, Some, refl, sym, ◌∙◌, ap, subst, arith, length-drop, length-set, length-take-le}
-use Rattle.std.proofs.Math.Nat.{mul-le-mul_right}
+use Rattle.std.proofs.Common.{◌≡◌, inl, inr, ℕ, ◌+◌, ◌<◌, ◌≤◌, List, [], ◌∷◌, ◌++◌, length, get_or, set, drop, slice_get, Option, None, Some, refl, sym, ◌∙◌, ap, subst, arith, length-drop, length-set, length-take-le}
 use Rattle.std.proofs.lemmas.Bool.{cases_eq}
 use Rattle.std.proofs.lemmas.List.{same_lists, set-get_or, length_push, get_or_push, get_or_append_left}
 use Rattle.std.proofs.lemmas.Option.{get_or_from_slice_get, slice_get_within}
@@ -10,7 +9,7 @@ use Rattle.vdr_outside.specs.Parts.{part}
 use Rattle.vdr_outside.proofs.Bytes.{length-over, le_or_gt}
 use Rattle.vdr_outside.proofs.Parts.{part_other, slots_over}
 use Rattle.vdr_incident.specs.Saves.{IsIncidentSlot}
-use Rattle.vdr_incident.specs.Tables.{HoldsTable, HoldsBeside, SameBesideSlot, Refuses, place_of}
+use Rattle.vdr_incident.specs.Tables.{HoldsTable, SameBesideSlot, Refuses, place_of}
 use Rattle.vdr_incident.proofs.Slot.{one_slot}
 
 -- Slot by slot

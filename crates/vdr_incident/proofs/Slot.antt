@@ -1,5 +1,5 @@
 -- What one incident slot is after a write.
-use Rattle.std.proofs.Common.{◌≡◌, ◌≢◌, ◌≤◌, ◌+◌, ℕ, List, [], ◌∷◌, ◌++◌, length, drop, Option, None, Some, refl, sym, ap, subst, arith}
+use Rattle.std.proofs.Common.{◌≡◌, ◌≢◌, ◌≤◌, ℕ, List, [], ◌∷◌, ◌++◌, length, drop, Option, None, Some, refl, sym, ap, subst, arith}
 use Rattle.vdr_history.specs.Histories.{Incident}
 use Rattle.vdr_outside.specs.Disk.{over}
 use Rattle.vdr_segment.specs.Gates.{open_gate, IsOpenAt}

@@ -1,8 +1,8 @@
 -- Reading slot after slot.
-use Rattle.std.proofs.Common.{◌≡◌, ℕ, suc, ◌+◌, ◌<◌, ◌≤◌, List, [], ◌∷◌, ◌++◌, length, get_or, Result, Err, Option, sym, ◌∙◌, ap, subst, arith}
+use Rattle.std.proofs.Common.{◌≡◌, ℕ, suc, ◌+◌, ◌<◌, ◌≤◌, List, [], ◌∷◌, ◌++◌, length, Result, Err, Option, sym, ◌∙◌, ap, subst, arith}
 use Rattle.vdr_history.specs.Histories.{Incident}
 use Rattle.vdr_outside.specs.Causes.{counted}
-use Rattle.vdr_outside.specs.Disk.{Disk, Image, content}
+use Rattle.vdr_outside.specs.Disk.{Disk, content}
 use Rattle.vdr_outside.specs.Parts.{part}
 use Rattle.vdr_outside.proofs.Moments.{size_read}
 use Rattle.vdr_incident.specs.Saves.{IsIncidentSlot}

@@ -1,5 +1,5 @@
 -- What a stop leaves of the incident slots while one of them is written.
-use Rattle.std.proofs.Common.{◌≡◌, ◌≢◌, inl, inr, ℕ, ◌+◌, ◌<◌, ◌≤◌, List, [], ◌∷◌, ◌++◌, length, set, drop, slice_get, Option, None, Some, refl, sym, ◌∙◌, ap, subst, arith}
+use Rattle.std.proofs.Common.{◌≡◌, ◌≢◌, inl, inr, ℕ, ◌+◌, ◌<◌, List, [], ◌∷◌, ◌++◌, length, set, drop, slice_get, Option, None, Some, refl, sym, ◌∙◌, ap, subst, arith}
 use Rattle.std.proofs.lemmas.Bool.{cases_eq}
 use Rattle.std.proofs.lemmas.Option.{slice_get_within}
 use Rattle.vdr_history.specs.Histories.{Incident}
@@ -10,7 +10,7 @@ use Rattle.vdr_outside.proofs.Moments.{changes_through, changes_join, settled_th
 use Rattle.vdr_outside.proofs.Parts.{part_over}
 use Rattle.vdr_segment.specs.Gates.{open_gate, closed_gate}
 use Rattle.vdr_slots.proofs.Gates.{from_write}
-use Rattle.vdr_incident.specs.Saves.{IsIncidentSlot, SpellsSave}
+use Rattle.vdr_incident.specs.Saves.{SpellsSave}
 use Rattle.vdr_incident.specs.Tables.{HoldsTable, HoldsBeside, HoldsEither, place_of}
 use Rattle.vdr_incident.proofs.Slot.{closed_behind, closed_now, open_still, opened}
 use Rattle.vdr_incident.proofs.Holding.{slot_of, slot_long, holds_over, holds_still, beside_none, beside_over}

@@ -1,6 +1,5 @@
-ghost use Rattle.std.specs.Prelude.{◌≡◌, ◌≤◌, ◌<◌, ◌↔◌, ◌+◌, ℕ, suc, Option, Some, None, is_none, position, set, length, option_map, option_copied, slice_get, Err, Ok, OnOk, IfOk, OnErr, IfSome, IsSome, count_by, is_some};
+ghost use Rattle.std.specs.Prelude.{◌≡◌, ◌≤◌, ◌<◌, ◌↔◌, ◌+◌, ℕ, suc, Option, Some, None, is_none, position, set, length, option_map, option_copied, Err, Ok, OnOk, IfOk, OnErr, IfSome, IsSome, count_by, is_some};
 ghost use Rattle.vdr_history.specs.Histories.{Incident, live, with_slot};
-ghost use Rattle.vdr_outside.specs.Causes.{HasCauseOn};
 ghost use Rattle.vdr_outside.specs.Disk.{Unchanged, Rises, SameBut, content};
 ghost use Rattle.vdr_outside.specs.Moments.{ChangesOnly, Settled};
 ghost use Rattle.vdr_outside.specs.declared.fault.PartRefused.TheVariants.{Damaged, NoMemory};

@@ -1,7 +1,6 @@
-use Rattle.std.proofs.Common.{ℕ, List, Option, length, sym, ap, subst, arith}
+use Rattle.std.proofs.Common.{length, sym, ap, subst, arith}
 use Rattle.std.proofs.lemmas.List.{length_push}
 use Rattle.std.proofs.lemmas.Result.{err_from_is_err_and}
-use Rattle.vdr_history.specs.Histories.{Incident}
 use Rattle.vdr_outside.specs.Disk.{Image, content}
 use Rattle.vdr_outside.specs.Parts.{part}
 use Rattle.vdr_outside.proofs.Counts.{none_falls_join}

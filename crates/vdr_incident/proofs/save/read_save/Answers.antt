@@ -1,5 +1,4 @@
 use Rattle.std.proofs.Common.{◌∙◌, refl, arith}
-use Rattle.vdr_incident.specs.Fields.{AreInRange}
 use Rattle.vdr_incident.proofs.Spelling.{label_legal, numbers_legal, save_read}
 use Rattle.vdr_incident.proofs.save.read_save.Goals as goal
 

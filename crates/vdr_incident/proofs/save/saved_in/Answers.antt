@@ -1,4 +1,4 @@
-use Rattle.std.proofs.Common.{Option, None, Some, arith}
+use Rattle.std.proofs.Common.{arith}
 use Rattle.vdr_segment.proofs.GateLemmas.{open_by_byte}
 use Rattle.vdr_incident.proofs.Slot.{no_slot}
 use Rattle.vdr_incident.proofs.save.saved_in.Goals as goal

@@ -1,4 +1,4 @@
-use Rattle.std.proofs.Common.{refl, sym, subst, ◌∙◌, ap, unsigned_abs}
+use Rattle.std.proofs.Common.{refl, subst, ◌∙◌, ap, unsigned_abs}
 use Rattle.vdr_history.specs.Histories.{Incident}
 use Rattle.vdr_incident.specs.Saves.{SpellsSave}
 use Rattle.vdr_incident.proofs.Spelling.{save_put, stamp_kept}

@@ -1,4 +1,4 @@
-use Rattle.std.proofs.Common.{ℕ, List, Option, Some, None, set, subst, sym}
+use Rattle.std.proofs.Common.{ℕ, List, Option, None, subst, sym}
 use Rattle.vdr_history.specs.Histories.{Incident, with_slot}
 use Rattle.vdr_outside.specs.Disk.{content}
 use Rattle.vdr_outside.specs.Moments.{ChangesOnly, Settled}

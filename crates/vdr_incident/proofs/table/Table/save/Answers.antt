@@ -1,5 +1,4 @@
-use Rattle.std.proofs.Common.{◌≡◌, ℕ, Option, Some, None, set, slice_get, subst, sym}
-use Rattle.vdr_history.specs.Histories.{Incident}
+use Rattle.std.proofs.Common.{◌≡◌, ℕ, Some, None, set, slice_get, subst, sym}
 use Rattle.vdr_outside.specs.Disk.{content}
 use Rattle.vdr_outside.specs.Moments.{ChangesOnly, Settled}
 use Rattle.vdr_incident.specs.Tables.{HoldsBeside, HoldsEither}
