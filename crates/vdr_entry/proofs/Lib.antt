@@ -1,4 +1,6 @@
 pub mod Calendar
+pub mod DayLemmas
+pub mod StampLemmas
 pub mod SpellingLemmas
 pub mod PayloadLemmas
 pub mod ReadingLemmas

@@ -5,5 +5,6 @@ pub mod Spelling
 pub mod Reading
 pub mod Spotting
 pub mod Utc
+pub mod Queries
 pub mod Escape
 pub mod Lines

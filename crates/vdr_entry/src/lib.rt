@@ -4,6 +4,7 @@
 mod content;
 mod kind;
 mod payload;
+mod query;
 mod read;
 mod record;
 mod summary;
@@ -14,9 +15,10 @@ mod write;
 
 pub use content::Content;
 pub use kind::Kind;
+pub use query::{Medium, Query};
 pub use read::{one_spelling, read_record, record_at};
 pub use record::Record;
 pub use summary::Summary;
-pub use utc::write_utc;
+pub use utc::{law_of_stamps, read_utc, write_utc};
 pub use vdr_terms::Counts;
 pub use write::{put_record, write_record};

@@ -1,6 +1,6 @@
 use crate::{
-    Content, Counts, Kind, Record, one_spelling, put_record, read_record, record_at, write_record,
-    write_utc,
+    Content, Counts, Kind, Record, law_of_stamps, one_spelling, put_record, read_record, read_utc,
+    record_at, write_record, write_utc,
 };
 use arrayvec::ArrayVec;
 use std::test::Fail;
@@ -27,6 +27,33 @@ fn stamps_print_as_the_calendar_has_them(rt: HostRuntime) {
         assert_eq!(rt; into.len(), 24);
         assert_eq!(rt; &into.as_slice()[..19], text.as_bytes(), "at {seconds}");
         assert_eq!(rt; into.as_slice()[19..], b".007Z"[..], "at {seconds}");
+        assert_eq!(rt; read_utc(into.as_slice()), Some(seconds * 1000 + 7));
+    }
+    law_of_stamps();
+}
+
+/// Texts, and the stamps that they are.
+const TEXTS: [(&str, Option<i64>); 14] = [
+    ("1970-01-01T00:00:00.000Z", Some(0)),
+    ("2024-02-29T23:59:59.999Z", Some(1_709_251_199_999)),
+    ("9999-12-31T23:59:59.999Z", Some(253_402_300_799_999)),
+    ("2023-02-29T00:00:00.000Z", None),
+    ("2024-13-01T00:00:00.000Z", None),
+    ("2024-01-01T24:00:00.000Z", None),
+    ("9999-12-31T24:00:00.000Z", None),
+    ("2016-12-31T23:59:60.000Z", None),
+    ("2024-01-01T00:00:00.000", None),
+    ("2024-01-01T00:00:00.000z", None),
+    ("2024-01-01 00:00:00.000Z", None),
+    (" 2024-01-01T00:00:00.000Z", None),
+    ("2024-01-01T00:00:00.000+", None),
+    ("1969-12-31T23:59:59.999Z", None),
+];
+
+#[test]
+fn only_the_texts_of_stamps_are_read(rt: HostRuntime) {
+    for (text, utc) in TEXTS {
+        assert_eq!(rt; read_utc(text.as_bytes()), utc, "{text}");
     }
 }
 

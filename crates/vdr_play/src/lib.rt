@@ -14,3 +14,4 @@ mod words;
 pub use escape::print_escaped;
 pub use records::print_record;
 pub use tracks::Tracks;
+pub use vdr_entry::{Medium, Query};

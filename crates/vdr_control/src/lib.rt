@@ -1,0 +1,12 @@
+//! The orders that a recorder in use takes, and the words that ask for them.
+#![tactic(auto)]
+
+mod laws;
+mod order;
+mod play;
+#[cfg(test)]
+mod tests;
+
+pub use laws::law_of_plays;
+pub use order::Order;
+pub use play::read_play;

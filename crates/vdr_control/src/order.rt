@@ -1,0 +1,23 @@
+use vdr_entry::Medium;
+
+/// What is asked of a recorder (this project's profile).
+#[derive(Clone, Copy, Debug, PartialEq, Eq, Drop)]
+pub enum Order<'a> {
+    /// Where the recording stands: its next place, its last tick, and how many incidents are saved.
+    Status,
+    /// An incident is saved under a label, which is any bytes: the save tests it.
+    Save(&'a [u8]),
+    /// The incident of this id, 1 to 32, is released.
+    Release(u32),
+    /// Records are played: those of a channel, whose UTC stamps are from `from` to `to`, both included.
+    Play {
+        /// An incident's id is 1 to 32.
+        medium: Medium,
+        /// The name of the channel, which is any bytes; `all` stands for every record.
+        channel: &'a [u8],
+        /// Milliseconds since 1970, up to the end of the year 9999.
+        from: i64,
+        /// The same; where it is below `from`, no record is asked for.
+        to: i64,
+    },
+}
