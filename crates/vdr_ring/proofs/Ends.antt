@@ -17,7 +17,7 @@ use Rattle.vdr_ring.proofs.Runs.{after_last}
 
 -- Batches
 
-none_recorded : (bs : List (List Record)) → extent_of bs ≡ None → (records_in bs ≡ []) × (first_records bs ≡ [])
+pub none_recorded : (bs : List (List Record)) → extent_of bs ≡ None → (records_in bs ≡ []) × (first_records bs ≡ [])
 none_recorded [] e = (refl, refl)
 none_recorded ([] ∷ bs) e = none_recorded bs e
 none_recorded ((r ∷ rs) ∷ bs) e = absurd (differs _ e)

@@ -33,3 +33,4 @@ pub mod Reordering
 pub mod Opened
 pub mod Shaping
 pub mod OneAnswer
+pub mod LastBatch

@@ -13,3 +13,4 @@ pub mod Keeping
 pub mod Opening
 pub mod Fronts
 pub mod Cursors
+pub mod Lasts

@@ -3,9 +3,10 @@ ghost use Rattle.vdr_terms.specs.Records.{Record as ARecord};
 ghost use Rattle.vdr_terms.specs.Needs.{Sizes};
 ghost use Rattle.vdr_terms.specs.Sizes.{batch_size};
 ghost use Rattle.vdr_outside.specs.Causes.{HasCauseOn};
-ghost use Rattle.vdr_outside.specs.Disk.{Rises, SameBut};
+ghost use Rattle.vdr_outside.specs.Disk.{Durable, Rises, SameBut, content};
 ghost use Rattle.vdr_outside.specs.Moments.{ChangesOnly};
 ghost use Rattle.vdr_retention.specs.Retention.{Retains};
+ghost use Rattle.vdr_slots.specs.Slots.{SameFront};
 ghost use Rattle.vdr_ring.specs.Sequence.{Placed, all_records};
 ghost use Rattle.vdr_ring.specs.Rings.{HasMedium, HoldsAny, IsSameRing, Reads};
 ghost use Rattle.vdr_ring.specs.Stages.{AreStages, Continues, Stages};
@@ -27,7 +28,8 @@ impl Ring {
     /// At every moment a stop leaves the medium as it was, with the victim closed, with the new segment begun, or with the
     /// batch; after Ok it has the batch. That is promised where the records go on from where the medium ends: their places
     /// run on, and their ticks never fall. Where the medium is regular, the batch keeps the pace and the pins are those of
-    /// live saves, each of these is a legal medium that keeps its window and its pinned records. Takes no memory.
+    /// live saves, each of these is a legal medium that keeps its window and its pinned records. Nothing before the slots is
+    /// touched. Takes no memory.
     ///
     /// `Fault`: a write or a sync failed, and the count of faults of this medium rose. The ring is then to be opened again
     /// before it is used.
@@ -51,6 +53,9 @@ impl Ring {
             × OnOk result (HasKept sizes pins.now (all ++ records.now) self.new (M.disk media.new)) }
         ensures ring { IsSameRing self.old self.new }
         ensures medium { HasMedium self.new (M.disk media.new).sizes }
+        ensures front { Durable self.old.medium (M.disk media.old)
+            → ChangesOnly self.old.medium (SameFront (content (M.disk media.old).reads self.old.medium)) (M.disk media.old) (M.disk media.new) }
+        ensures front_reads { M.tells → SameFront (content (M.disk media.old).reads self.old.medium) (content (M.disk media.new).reads self.old.medium) }
         ensures others { M.tells → SameBut self.old.medium (M.disk media.old).reads (M.disk media.new).reads }
         ensures sizes { (M.disk media.new).sizes ≡ (M.disk media.old).sizes }
         ensures rises { Rises (M.disk media.old) (M.disk media.new) }

@@ -2,9 +2,10 @@ ghost use Rattle.std.specs.Prelude.{◌≡◌, ◌↔◌, ◌+◌, ◌<◌, ◌�
 ghost use Rattle.vdr_terms.specs.Records.{Record as ARecord, last};
 ghost use Rattle.vdr_terms.specs.Sizes.{batch_size};
 ghost use Rattle.vdr_outside.specs.Causes.{HasCauseOn};
-ghost use Rattle.vdr_outside.specs.Disk.{Rises, SameBut};
+ghost use Rattle.vdr_outside.specs.Disk.{Durable, Rises, SameBut, content};
 ghost use Rattle.vdr_outside.specs.Moments.{ChangesOnly};
 ghost use Rattle.vdr_segment.specs.Batches.{IsBatch};
+ghost use Rattle.vdr_slots.specs.Slots.{SameFront};
 ghost use Rattle.vdr_ring.specs.declared.entry.Entry.{Entry as AnEntry};
 ghost use Rattle.vdr_ring.specs.Sequence.{Placed};
 ghost use Rattle.vdr_ring.specs.Order.{AreInOrder};
@@ -91,6 +92,10 @@ impl Ring {
         ensures ring { IsSameRing self.old self.new }
         ensures buffer { self.new.buffer ≡ self.old.buffer }
         ensures loaded { self.new.loaded ≡ self.old.loaded }
+        ensures durable { OnOk result (Durable self.old.medium (M.disk media.old) → Durable self.old.medium (M.disk media.new)) }
+        ensures front { Durable self.old.medium (M.disk media.old)
+            → ChangesOnly self.old.medium (SameFront (content (M.disk media.old).reads self.old.medium)) (M.disk media.old) (M.disk media.new) }
+        ensures front_reads { M.tells → SameFront (content (M.disk media.old).reads self.old.medium) (content (M.disk media.new).reads self.old.medium) }
         ensures others { M.tells → SameBut self.old.medium (M.disk media.old).reads (M.disk media.new).reads }
         ensures sizes { (M.disk media.new).sizes ≡ (M.disk media.old).sizes }
         ensures clock { RisesOrStays (M.disk media.old) (M.disk media.new) }
@@ -119,6 +124,10 @@ impl Ring {
         ensures ring { IsSameRing self.old self.new }
         ensures buffer { self.new.buffer ≡ self.old.buffer }
         ensures loaded { self.new.loaded ≡ self.old.loaded }
+        ensures durable { OnOk result (Durable self.old.medium (M.disk media.old) → Durable self.old.medium (M.disk media.new)) }
+        ensures front { Durable self.old.medium (M.disk media.old)
+            → ChangesOnly self.old.medium (SameFront (content (M.disk media.old).reads self.old.medium)) (M.disk media.old) (M.disk media.new) }
+        ensures front_reads { M.tells → SameFront (content (M.disk media.old).reads self.old.medium) (content (M.disk media.new).reads self.old.medium) }
         ensures others { M.tells → SameBut self.old.medium (M.disk media.old).reads (M.disk media.new).reads }
         ensures sizes { (M.disk media.new).sizes ≡ (M.disk media.old).sizes }
         ensures rises { Rises (M.disk media.old) (M.disk media.new) }
@@ -153,6 +162,10 @@ impl Ring {
         ensures ring { IsSameRing self.old self.new }
         ensures buffer { self.new.buffer ≡ self.old.buffer }
         ensures loaded { self.new.loaded ≡ self.old.loaded }
+        ensures durable { OnOk result (Durable self.old.medium (M.disk media.old) → Durable self.old.medium (M.disk media.new)) }
+        ensures front { Durable self.old.medium (M.disk media.old)
+            → ChangesOnly self.old.medium (SameFront (content (M.disk media.old).reads self.old.medium)) (M.disk media.old) (M.disk media.new) }
+        ensures front_reads { M.tells → SameFront (content (M.disk media.old).reads self.old.medium) (content (M.disk media.new).reads self.old.medium) }
         ensures others { M.tells → SameBut self.old.medium (M.disk media.old).reads (M.disk media.new).reads }
         ensures sizes { (M.disk media.new).sizes ≡ (M.disk media.old).sizes }
         ensures clock { RisesOrStays (M.disk media.old) (M.disk media.new) }
@@ -184,6 +197,9 @@ impl Ring {
         ensures legal { IsBatch records.now }
         ensures ring { IsSameRing self.old self.new }
         ensures medium { HasMedium self.new (M.disk media.new).sizes }
+        ensures front { Durable self.old.medium (M.disk media.old)
+            → ChangesOnly self.old.medium (SameFront (content (M.disk media.old).reads self.old.medium)) (M.disk media.old) (M.disk media.new) }
+        ensures front_reads { M.tells → SameFront (content (M.disk media.old).reads self.old.medium) (content (M.disk media.new).reads self.old.medium) }
         ensures others { M.tells → SameBut self.old.medium (M.disk media.old).reads (M.disk media.new).reads }
         ensures sizes { (M.disk media.new).sizes ≡ (M.disk media.old).sizes }
         ensures rises { Rises (M.disk media.old) (M.disk media.new) }

@@ -23,7 +23,7 @@ fn first_with_records(entries: &[Entry]) -> Option<&Entry>
 }
 
 // The last entry whose segment has records: the newest or, where that has none, the one before it.
-fn last_with_records(entries: &[Entry]) -> Option<&Entry>
+pub(crate) fn last_with_records(entries: &[Entry]) -> Option<&Entry>
     ensures { option_map (λ e. e.now) result ≡ find has_records (reverse entries.now) }
 {
     entries

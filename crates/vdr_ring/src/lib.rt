@@ -7,6 +7,7 @@ mod choice;
 mod cursor;
 mod entry;
 mod fronts;
+mod last_batch;
 mod law;
 mod lookup;
 mod opening;

@@ -1,4 +1,4 @@
-ghost use Rattle.std.specs.Prelude.{◌≡◌, ◌≢◌, ◌⊎◌, ◌↔◌, ◌<◌, ◌≤◌, ◌+◌, true, List, get_or, IsTrue, IfOk, IfSome, IfNone, OnOk, OnErr, Option, Some, None, Ok, Err};
+ghost use Rattle.std.specs.Prelude.{◌≡◌, ◌≢◌, ◌⊎◌, ◌↔◌, ◌<◌, ◌≤◌, ◌+◌, true, List, get_or, IsTrue, IfOk, IfSome, IfNone, OnOk, OnErr, Option, Some, None, Ok, Err, ℕ};
 ghost use Rattle.vdr_terms.specs.Records.{Record as Entry};
 ghost use Rattle.vdr_outside.specs.Causes.{Rose, NoneFalls, HasCauseOn, counted};
 ghost use Rattle.vdr_outside.specs.Disk.{Unchanged};
@@ -19,7 +19,7 @@ use vdr_survey::{Position, step};
 
 impl Ring {
     // Reads a slot into the buffer, where the buffer does not hold it already. Says whether it did.
-    fn load<M: Media>(&mut self, media: &mut M, slot: u32) -> Result<bool, Fault>
+    pub(crate) fn load<M: Media>(&mut self, media: &mut M, slot: u32) -> Result<bool, Fault>
         requires room { HasMedium self.old (M.disk media.old).sizes }
         requires within { slot < self.old.slots }
         ensures ring { self.new ≡ record self.old { buffer = self.new.buffer; loaded = self.new.loaded } }
@@ -135,6 +135,7 @@ impl Ring {
         ensures visits { M.tells → (placed : List Placed) (records : List Entry) → Reads self.old placed (M.disk media.old)
             → AreAhead (slot_read self.old slot (M.disk media.old)) placed slot visit.old records
             → Visits (slot_read self.old slot (M.disk media.old)) placed slot records result visit.new }
+        ensures medium { (m offset : ℕ) → result ≡ Err (Damaged m offset) → m ≡ self.old.medium }
         ensures unchanged { Unchanged (M.disk media.old) (M.disk media.new) }
         ensures again { self.old.loaded ≡ Some slot → M.bytes_read media.new ≡ M.bytes_read media.old }
         ensures once { self.old.loaded ≢ Some slot → M.bytes_read media.new ≡ counted (M.bytes_read media.old) self.old.medium self.old.segment }

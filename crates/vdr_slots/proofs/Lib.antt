@@ -4,3 +4,4 @@ pub mod Holding
 pub mod Writes
 pub mod Opening
 pub mod Results
+pub mod Fronts

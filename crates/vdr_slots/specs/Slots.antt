@@ -1,7 +1,7 @@
 -- What the slots of a medium hold, and what each write makes of that (this project's profile).
-use Rattle.std.specs.Prelude.{ℕ, ◌+◌, ◌*◌, ◌≤◌, ◌⊎◌, List, [], length, set, Option, Some, None}
+use Rattle.std.specs.Prelude.{◌≡◌, ℕ, ◌+◌, ◌*◌, ◌≤◌, ◌⊎◌, List, [], length, set, Option, Some, None}
 use Rattle.vdr_terms.specs.Records.{Record}
-use Rattle.vdr_outside.specs.Parts.{Slots}
+use Rattle.vdr_outside.specs.Parts.{Slots, part}
 use Rattle.vdr_segment.specs.declared.header.Header.{Header}
 use Rattle.vdr_segment.specs.Gates.{IsOpenAt}
 use Rattle.vdr_segment.specs.Headers.{IsHeader}
@@ -14,6 +14,11 @@ slots_from = 32768
 -- Where a slot begins, with segments of this size.
 abbrev pub place_of : (segment slot : ℕ) → ℕ
 place_of segment slot = slots_from + slot * segment
+
+-- Before the slots each part of a medium is what it was.
+pub record SameFront (old new : List ℕ) : Type 0 where
+  pub size : length new ≡ length old
+  pub same : (from n : ℕ) → from + n ≤ slots_from → part new from n ≡ part old from n
 
 -- The slots of a medium with these bytes hold a segment each or none, in this order.
 pub record HoldsSlots (segment : ℕ) (slots : List (Option Segment)) (bytes : List ℕ) : Type 0 where

@@ -1,8 +1,8 @@
-ghost use Rattle.std.specs.Prelude.{◌≡◌, ◌≤◌, ℕ, List, length, slice_get, Option, Some};
+ghost use Rattle.std.specs.Prelude.{◌≡◌, ◌<◌, ◌≤◌, ℕ, List, length, slice_get, Option, Some};
 ghost use Rattle.vdr_outside.specs.Parts.{part};
 ghost use Rattle.vdr_segment.specs.declared.header.Header.{Header as AHeader};
 ghost use Rattle.vdr_segment.specs.Segments.{Segment, IsSlot};
-ghost use Rattle.vdr_slots.specs.Slots.{HoldsSlots, IsFront, header_of, place_of};
+ghost use Rattle.vdr_slots.specs.Slots.{HoldsSlots, IsFront, SameFront, header_of, place_of, slots_from};
 
 /// A medium's bytes hold one list of slots of a length. What is read of one slot is that slot, what is read of its front
 /// is its header, and a front has one header.
@@ -13,4 +13,12 @@ pub fn law_of_slots()
     ensures front { (segment j : ℕ) (slots : List (Option Segment)) (held : Option Segment) (bytes : List ℕ) → HoldsSlots segment slots bytes → slice_get slots j ≡ Some held → 64 ≤ segment
         → IsFront (part bytes (place_of segment j) 64) (header_of held) }
     ensures header { (bytes : List ℕ) (h k : Option AHeader) → IsFront bytes h → IsFront bytes k → h ≡ k }
+{}
+
+/// Before the slots each medium is what it is, and what stays so over one change and over the next stays so over both. So
+/// does each byte there.
+pub fn law_of_fronts()
+    ensures same { (bytes : List ℕ) → SameFront bytes bytes }
+    ensures joined { (old mid new : List ℕ) → SameFront old mid → SameFront mid new → SameFront old new }
+    ensures byte { (at : ℕ) (old new : List ℕ) → SameFront old new → at < slots_from → slice_get new at ≡ slice_get old at }
 {}

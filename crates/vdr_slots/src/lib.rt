@@ -9,6 +9,6 @@ mod tests;
 mod writing;
 
 pub use area::Area;
-pub use law::law_of_slots;
+pub use law::{law_of_fronts, law_of_slots};
 pub use reading::{read_front, read_slot};
 pub use writing::{append_batch, begin_segment, close_slot};

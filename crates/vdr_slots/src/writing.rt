@@ -1,19 +1,41 @@
 ghost use Rattle.std.specs.Prelude.{◌≡◌, ◌≢◌, ◌+◌, ◌<◌, ◌≤◌, [], ◌∷◌, ◌++◌, List, length, drop, slice_get, Option, None, Some, OnOk};
 ghost use Rattle.vdr_terms.specs.Records.{Record as Entry};
 ghost use Rattle.vdr_outside.specs.Causes.{HasCauseOn};
-ghost use Rattle.vdr_outside.specs.Disk.{Rises, SameBut};
-ghost use Rattle.vdr_outside.specs.Moments.{ChangesOnly, Settled};
+ghost use Rattle.vdr_outside.specs.Disk.{Durable, InRange, Overwritten, Rises, SameBut, content, over};
+ghost use Rattle.vdr_outside.specs.Moments.{AtEachMoment, ChangesOnly, Settled};
 ghost use Rattle.vdr_segment.specs.Gates.{closed_gate};
 ghost use Rattle.vdr_segment.specs.Headers.{new_header};
 ghost use Rattle.vdr_segment.specs.Batches.{IsBatch, batch_bytes};
 ghost use Rattle.vdr_segment.specs.Segments.{Segment, end_of};
-ghost use Rattle.vdr_slots.specs.Slots.{HoldsSlots, HoldsEither, slots_closed, slots_begun, slots_with_batch};
+ghost use Rattle.vdr_slots.specs.Slots.{HoldsSlots, HoldsEither, SameFront, slots_closed, slots_begun, slots_from, slots_with_batch};
 ghost use Rattle.vdr_slots.specs.Areas.{HasRoom};
 
 use crate::Area;
 use vdr_bytes::put;
-use vdr_outside::{Fault, Media, write_through};
+use vdr_outside::{Fault, Media};
 use vdr_segment::{CLOSED_GATE, HEADER_SIZE, OPEN_GATE, write_header};
+
+// Writes bytes where the slots stand, and syncs their medium. At every moment a stop leaves the media as a stop before the call
+// might have left them, with any bytes in the range. Nothing before the slots is touched, also where it fails.
+fn write_synced<M: Media>(media: &mut M, area: Area, at: u64, bytes: &[u8]) -> Result<(), Fault>
+    requires range { InRange (M.disk media.old).sizes area.medium at (length bytes.now) }
+    requires behind { slots_from ≤ at }
+    ensures reads { OnOk result (M.tells
+        → content (M.disk media.new).reads area.medium ≡ over (content (M.disk media.old).reads area.medium) at bytes.now) }
+    ensures durable { OnOk result (Durable area.medium (M.disk media.new)) }
+    ensures moments { AtEachMoment (M.disk media.old) (M.disk media.new)
+        (Overwritten area.medium at (length bytes.now) (M.disk media.old).now) }
+    ensures front_reads { M.tells → SameFront (content (M.disk media.old).reads area.medium) (content (M.disk media.new).reads area.medium) }
+    ensures others { M.tells → SameBut area.medium (M.disk media.old).reads (M.disk media.new).reads }
+    ensures sizes { (M.disk media.new).sizes ≡ (M.disk media.old).sizes }
+    ensures rises { Rises (M.disk media.old) (M.disk media.new) }
+    ensures counts { M.bytes_read media.new ≡ M.bytes_read media.old }
+    ensures cause { HasCauseOn area.medium (M.faults media.old) (M.faults media.new) result }
+{
+    media.write(area.medium, at, bytes)?;
+    media.sync(area.medium)?;
+    Ok(())
+}
 
 /// Closes a slot, so that it holds no segment: writes its gate, byte 0, and syncs.
 ///
@@ -26,13 +48,17 @@ pub fn close_slot<M: Media>(media: &mut M, area: Area, slot: u32) -> Result<(), 
         → ChangesOnly area.medium (HoldsEither area.segment slots (slots_closed slots slot)) (M.disk media.old) (M.disk media.new) }
     ensures settled { (slots : List (Option Segment)) → Settled area.medium (HoldsSlots area.segment slots) (M.disk media.old)
         → OnOk result (Settled area.medium (HoldsSlots area.segment (slots_closed slots slot)) (M.disk media.new)) }
+    ensures durable { OnOk result (Durable area.medium (M.disk media.new)) }
+    ensures front { Durable area.medium (M.disk media.old)
+        → ChangesOnly area.medium (SameFront (content (M.disk media.old).reads area.medium)) (M.disk media.old) (M.disk media.new) }
+    ensures front_reads { M.tells → SameFront (content (M.disk media.old).reads area.medium) (content (M.disk media.new).reads area.medium) }
     ensures others { M.tells → SameBut area.medium (M.disk media.old).reads (M.disk media.new).reads }
     ensures sizes { (M.disk media.new).sizes ≡ (M.disk media.old).sizes }
     ensures rises { Rises (M.disk media.old) (M.disk media.new) }
     ensures counts { M.bytes_read media.new ≡ M.bytes_read media.old }
     ensures cause { HasCauseOn area.medium (M.faults media.old) (M.faults media.new) result }
 {
-    write_through(media, area.medium, area.place_of(slot), &[CLOSED_GATE])
+    write_synced(media, area, area.place_of(slot), &[CLOSED_GATE])
 }
 
 // What stands behind the gate of a new segment: its header, and the closed gate of its first batch.
@@ -64,6 +90,10 @@ pub fn begin_segment<M: Media>(
         → ChangesOnly area.medium (HoldsEither area.segment slots (slots_begun slots slot seq first)) (M.disk media.old) (M.disk media.new) }
     ensures settled { (slots : List (Option Segment)) → Settled area.medium (HoldsSlots area.segment slots) (M.disk media.old) → slice_get slots slot ≡ Some None
         → OnOk result (Settled area.medium (HoldsSlots area.segment (slots_begun slots slot seq first)) (M.disk media.new)) }
+    ensures durable { OnOk result (Durable area.medium (M.disk media.new)) }
+    ensures front { Durable area.medium (M.disk media.old)
+        → ChangesOnly area.medium (SameFront (content (M.disk media.old).reads area.medium)) (M.disk media.old) (M.disk media.new) }
+    ensures front_reads { M.tells → SameFront (content (M.disk media.old).reads area.medium) (content (M.disk media.new).reads area.medium) }
     ensures others { M.tells → SameBut area.medium (M.disk media.old).reads (M.disk media.new).reads }
     ensures sizes { (M.disk media.new).sizes ≡ (M.disk media.old).sizes }
     ensures rises { Rises (M.disk media.old) (M.disk media.new) }
@@ -71,8 +101,8 @@ pub fn begin_segment<M: Media>(
     ensures cause { HasCauseOn area.medium (M.faults media.old) (M.faults media.new) result }
 {
     let place = area.place_of(slot);
-    write_through(media, area.medium, place + 1, &behind_gate(seq, first))?;
-    write_through(media, area.medium, place, &[OPEN_GATE])
+    write_synced(media, area, place + 1, &behind_gate(seq, first))?;
+    write_synced(media, area, place, &[OPEN_GATE])
 }
 
 /// Appends a batch to a segment at `at`, where its last batch ends, in bytes from the slot's beginning. `batch` is what
@@ -97,6 +127,10 @@ pub fn append_batch<M: Media>(
     ensures settled { (slots : List (Option Segment)) (s : Segment) (records : List Entry) → Settled area.medium (HoldsSlots area.segment slots) (M.disk media.old) → slice_get slots slot ≡ Some (Some s)
         → end_of s ≡ at → batch.now ≡ batch_bytes records ++ closed_gate ∷ [] → IsBatch records
         → OnOk result (Settled area.medium (HoldsSlots area.segment (slots_with_batch slots slot s records)) (M.disk media.new)) }
+    ensures durable { OnOk result (Durable area.medium (M.disk media.new)) }
+    ensures front { Durable area.medium (M.disk media.old)
+        → ChangesOnly area.medium (SameFront (content (M.disk media.old).reads area.medium)) (M.disk media.old) (M.disk media.new) }
+    ensures front_reads { M.tells → SameFront (content (M.disk media.old).reads area.medium) (content (M.disk media.new).reads area.medium) }
     ensures others { M.tells → SameBut area.medium (M.disk media.old).reads (M.disk media.new).reads }
     ensures sizes { (M.disk media.new).sizes ≡ (M.disk media.old).sizes }
     ensures rises { Rises (M.disk media.old) (M.disk media.new) }
@@ -104,6 +138,6 @@ pub fn append_batch<M: Media>(
     ensures cause { HasCauseOn area.medium (M.faults media.old) (M.faults media.new) result }
 {
     let gate = area.place_of(slot) + at as u64;
-    write_through(media, area.medium, gate + 1, &batch[1..])?;
-    write_through(media, area.medium, gate, &batch[..1])
+    write_synced(media, area, gate + 1, &batch[1..])?;
+    write_synced(media, area, gate, &batch[..1])
 }

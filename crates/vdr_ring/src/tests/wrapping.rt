@@ -207,3 +207,17 @@ fn a_cursor_steps_from_record_to_record_of_a_slot(rt: HostRuntime) -> Result<(),
     assert_eq!(rt; step(&rt, &mut media, &mut ring, closed, &mut visit), None);
     Ok(())
 }
+
+#[test]
+fn the_last_batch_is_read_back_from_the_newest_segment(rt: HostRuntime) -> Result<(), Fail> {
+    let alloc = rt.alloc();
+    let mut media = RamMedia::new(capsule(alloc)?);
+    let mut ring = open(&rt, alloc, &mut media)?;
+    assert!(rt; matches!(&ring.read_last_batch(alloc, &mut media), Ok(batch) if batch.is_empty()));
+    append_all(&rt, &mut media, &mut ring, 0, 56);
+    let Ok(batch) = ring.read_last_batch(alloc, &mut media) else {
+        return Err("not read".into());
+    };
+    assert!(rt; batch.len() == 1 && batch[0].place == 55);
+    Ok(())
+}

@@ -1,7 +1,8 @@
-use Rattle.std.proofs.Common.{refl, sym, ap, ◌∙◌, ◌+◌, take}
+use Rattle.std.proofs.Common.{◌≡◌, refl, sym, ap, ◌∙◌, ◌+◌, take}
 use Rattle.std.proofs.lemmas.List.{with_items_is}
 use Rattle.std.proofs.lemmas.Option.{none-some}
 use Rattle.std.proofs.lemmas.Result.{IfOk-from_err}
+use Rattle.vdr_slots.proofs.Fronts.{front_then}
 use Rattle.vdr_ring.proofs.ring.Ring.append_staged.Goals as goal
 use Rattle.vdr_ring.proofs.Adding.{batch_written, appended_before, appended_moments, appended_reads, set_count}
 
@@ -47,3 +48,13 @@ returns-clause-appended g c = rw (sym c.self.view_is) (λ placed first told read
       appended_reads _ _ placed made.0 _ _ _ (g.M.Media.disk c.args.media.now) _ _ told same ready is written c.write_batch-size.ensures.legal _ c.extended.result refl refl refl loaded c.extended.ensures.survey c.set_newest.ensures.opened c.set_newest.ensures.closed
           c.in_ok-append_batch.ensures.settled,
     ))
+
+pub returns-in_err-append_batch-clause-front : goal.returns-in_err-append_batch-clause-front
+returns-in_err-append_batch-clause-front g c = rw (sym c.self.view_is) (λ durable.
+    let m : c.self-2.inside.area.medium ≡ c.self.inside.area.medium = (rw (sym c.self-2.view_is) at c.make_room.ensures.ring).medium in
+    front_then _ _ _ _ (c.make_room.ensures.front durable) c.make_room.ensures.front_reads (rw m at c.append_batch.ensures.front (c.in_ok-make_room.ensures.durable durable)))
+
+pub returns-clause-front : goal.returns-clause-front
+returns-clause-front g c = rw (sym c.self.view_is) (λ durable.
+    let m : c.self-2.inside.area.medium ≡ c.self.inside.area.medium = (rw (sym c.self-2.view_is) at c.make_room.ensures.ring).medium in
+    front_then _ _ _ _ (c.make_room.ensures.front durable) c.make_room.ensures.front_reads (rw m at c.append_batch.ensures.front (c.in_ok-make_room.ensures.durable durable)))

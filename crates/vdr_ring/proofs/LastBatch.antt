@@ -1,0 +1,194 @@
+-- The last batch of a segment as it is walked over and read, and of a medium.
+use Rattle.std.proofs.Common.{◌≡◌, ◌<◌, ◌≤◌, ◌-◌, ◌+◌, ℕ, Bool, true, false, cond, List, [], ◌∷◌, ◌++◌, length, take, drop, reverse, All, Contains, Option, Some, None, Bor, option_map, find, is_some, slice_get, refl, sym, ap, ◌∙◌, subst, arith, append-nil}
+use Rattle.std.specs.Option.{option_or}
+use Rattle.std.proofs.lemmas.List.{append_assoc}
+use Rattle.std.proofs.lemmas.List.Elements.{All-nil, All-contains, All-head, All-tail}
+use Rattle.std.proofs.lemmas.Grind.{reverse_onto}
+use Rattle.std.proofs.lemmas.List.Folds.{find-append}
+use Rattle.std.proofs.lemmas.Option.{none-some, same_Some}
+use Rattle.vdr_terms.specs.Records.{Record, last, last_after}
+use Rattle.vdr_terms.specs.Legality.{IsRecord}
+use Rattle.vdr_terms.specs.Sizes.{record_size}
+use Rattle.vdr_outside.specs.Disk.{Disk, Unchanged, content}
+use Rattle.vdr_outside.proofs.Moments.{settled_still}
+use Rattle.vdr_entry.specs.Reading.{Begins}
+use Rattle.vdr_entry.specs.Spelling.{records_bytes}
+use Rattle.vdr_entry.proofs.ReadingLemmas.{one_record}
+use Rattle.vdr_segment.specs.Batches.{AreRecords, IsBatch}
+use Rattle.vdr_segment.specs.Segments.{AreBatches}
+use Rattle.vdr_segment.specs.Walks.{Walks}
+use Rattle.vdr_segment.specs.declared.step.Walk.TheVariants.{Batch}
+use Rattle.vdr_segment.proofs.WalkLemmas.{first_begins, records_behind, begun_size}
+use Rattle.vdr_segment.proofs.BatchListLemmas.{one_batches}
+use Rattle.vdr_slots.proofs.Holding.{slot_of}
+use Rattle.vdr_survey.specs.declared.extent.Extent.{Extent}
+use Rattle.vdr_survey.specs.Extents.{extent_of}
+use Rattle.vdr_survey.specs.Surveys.{BreaksAt}
+use Rattle.vdr_survey.proofs.SpanLemmas.{Front, front_none, front_more, span_records, never_both}
+use Rattle.vdr_retention.proofs.Lists.{contains_here, contains_there, last_behind}
+use Rattle.vdr_ring.specs.declared.entry.Entry.{Entry}
+use Rattle.vdr_ring.specs.Sequence.{Placed, batches_of, batches_in}
+use Rattle.vdr_ring.specs.Entries.{Describe}
+use Rattle.vdr_ring.specs.Candidates.{has_records}
+use Rattle.vdr_ring.specs.Rings.{RingState, HoldsPlaced, Reads}
+use Rattle.vdr_ring.specs.Cursors.{IsLoaded}
+use Rattle.vdr_ring.specs.Lasts.{batch_or_none, AreOfBatch, IsLastSlot}
+use Rattle.vdr_ring.proofs.Ends.{none_recorded}
+
+-- The batches that were walked over, the last of which has these bytes of records.
+pub record Walked (segment : List ℕ) (end : ℕ) (bytes : List ℕ) : Type 0 where
+  pub batches : List (List Record)
+  pub front : Front segment end batches
+  pub newest : AreOfBatch bytes (last batches)
+
+pub walked_none : (segment : List ℕ) → 65 ≤ length segment → Walked segment 64 []
+walked_none segment long = record { batches = []; front = front_none segment long; newest = refl }
+
+pub walked_more : (segment : List ℕ) (at from to : ℕ) (bytes : List ℕ) → Walked segment at bytes → Walks segment at (Batch from to) → Walked segment to (take (to - from) (drop from segment))
+walked_more segment at from to bytes w (b, stands, from_is, to_is) = record {
+  batches = w.batches ++ b ∷ [];
+  front = front_more segment at to w.batches b w.front stands (omega (arith, from_is, to_is));
+  newest = subst (AreOfBatch (take (to - from) (drop from segment))) (sym (last_behind w.batches b [])) (span_records segment at from to b stands from_is to_is);
+}
+
+-- Records that are read one after another: these are read, and those of the rest are left.
+pub record LeavesRecords (bytes : List ℕ) (read : List Record) (rest : List ℕ) : Type 0 where
+  pub each : (records : List Record) → AreRecords bytes records → (left : List Record) × (records ≡ read ++ left) × AreRecords rest left
+
+pub leaves_all : (bytes : List ℕ) → LeavesRecords bytes [] bytes
+leaves_all bytes = record { each = λ records a. (records, refl, a) }
+
+pub leaves_less : (bytes : List ℕ) (read : List Record) (rest after : List ℕ) (r : Record) (size : ℕ) → Begins rest r after → size ≡ record_size r → LeavesRecords bytes read rest → LeavesRecords bytes (read ++ r ∷ []) (drop size rest)
+leaves_less bytes read rest after r size begins is h = record { each = λ records a. let k = h.each records a in go records k.0 k.1 k.2 }
+  where
+    go : (records left : List Record) → records ≡ read ++ left → AreRecords rest left → (more : List Record) × (records ≡ (read ++ r ∷ []) ++ more) × AreRecords (drop size rest) more
+    go records [] same a = let bad : ⊥ = omega (arith, ap length a.spelled, begun_size rest after r begins) in absurd bad
+    go records (q ∷ qs) same a =
+        let one : q ≡ r = one_record rest (records_bytes qs) after q r (first_begins rest q qs a) begins in (
+          qs,
+          same ∙ ap (λ (x : Record). read ++ x ∷ qs) one ∙ sym (append_assoc read (r ∷ []) qs),
+          subst (λ (n : ℕ). AreRecords (drop n rest) qs) (ap record_size one ∙ sym is) (records_behind rest q qs a),
+        )
+
+pub leaves_none : (bytes : List ℕ) (read : List Record) (rest : List ℕ) → ((r : Record) (after : List ℕ) → Begins rest r after → ⊥) → LeavesRecords bytes read rest → (records : List Record) → AreRecords bytes records → read ≡ records
+leaves_none bytes read rest none h records a = let k = h.each records a in go k.0 k.1 k.2
+  where
+    go : (left : List Record) → records ≡ read ++ left → AreRecords rest left → read ≡ records
+    go [] same a = sym (same ∙ append-nil read)
+    go (q ∷ qs) same a = absurd (none q (records_bytes qs) (first_begins rest q qs a))
+
+-- What is read of the last batch's bytes is that batch.
+pub batch_read : (bytes : List ℕ) (read : List Record) (batches : List (List Record)) → All IsBatch batches → AreOfBatch bytes (last batches) → ((records : List Record) → AreRecords bytes records → read ≡ records) → batch_or_none read ≡ last batches
+batch_read bytes read [] legal newest h = ap batch_or_none (h [] (none_here bytes newest))
+  where
+    none_here : (xs : List ℕ) → xs ≡ [] → AreRecords xs []
+    none_here xs e = record { legal = All-nil IsRecord; spelled = e }
+batch_read bytes read (b ∷ bs) legal newest h = ap batch_or_none (h (last_after b bs) newest) ∙ some (last_after b bs) (last_some b bs legal)
+  where
+    last_some : (x : List Record) (xs : List (List Record)) → All IsBatch (x ∷ xs) → 0 < length (last_after x xs)
+    last_some x [] all = (All-head IsBatch x [] all).some
+    last_some x (y ∷ ys) all = last_some y ys (All-tail IsBatch x (y ∷ ys) all)
+
+    some : (rs : List Record) → 0 < length rs → batch_or_none rs ≡ Some rs
+    some [] lt = absurd (omega (arith, lt))
+    some (r ∷ rs) lt = refl
+
+-- Which segment has the last batch
+
+find_reversed : (e : Entry) (es : List Entry) → find has_records (reverse (e ∷ es)) ≡ option_or (find has_records (reverse es)) (cond (has_records e) (Some e) None)
+find_reversed e es = ap (find has_records) (reverse_onto es e []) ∙ find-append has_records (reverse es) (e ∷ [])
+
+-- what holds of all entries holds of the one that is found
+pub found_has : (P : Entry → Type 0) (es : List Entry) → All P es → (x : Entry) → find has_records (reverse es) ≡ Some x → P x
+found_has P [] all x is = absurd (none-some x is)
+found_has P (e ∷ es) all x is = go (find has_records (reverse es)) (found_has P es (All-tail P e es all)) (sym (find_reversed e es) ∙ is)
+  where
+    here : (b : Bool) → cond b (Some e) None ≡ Some x → P x
+    here true same = subst P (same_Some e x same) (All-head P e es all)
+    here false same = absurd (none-some x same)
+
+    go : (o : Option Entry) → ((y : Entry) → o ≡ Some y → P y) → option_or o (cond (has_records e) (Some e) None) ≡ Some x → P x
+    go None more same = here (has_records e) same
+    go (Some y) more same = more x same
+
+none_left : (bs : List (List Record)) → All IsBatch bs → extent_of bs ≡ None → bs ≡ []
+none_left [] legal none = refl
+none_left ([] ∷ bs) legal none = absurd (let k = (All-head IsBatch [] bs legal).some in omega (arith, k))
+none_left ((r ∷ rs) ∷ bs) legal none = absurd (let k = ap length (none_recorded ((r ∷ rs) ∷ bs) none).0 in omega (arith, k))
+
+one_left : (bs : List (List Record)) (x : Extent) → extent_of bs ≡ Some x → (b : List Record) × (last bs ≡ Some b)
+one_left [] x some = absurd (none-some x some)
+one_left (b ∷ bs) x some = (last_after b bs, refl)
+
+last_with_more : (xs ys : List (List Record)) (b : List Record) → last ys ≡ Some b → last (xs ++ ys) ≡ Some b
+last_with_more xs [] b is = absurd (none-some b is)
+last_with_more xs (y ∷ ys) b is = last_behind xs y ys ∙ is
+
+-- the last batch of all is that of the segment of this entry, or there is none
+abbrev Ends : List Placed → Option Entry → Type 0
+Ends placed None = batches_in placed ≡ []
+Ends placed (Some e) = (p : Placed) × Contains placed p × (p.slot ≡ e.slot) × (b : List Record) × (last (batches_of p) ≡ Some b) × (last (batches_in placed) ≡ Some b)
+
+ends_found : (placed : List Placed) (es : List Entry) → Describe placed es → All (λ p. All IsBatch (batches_of p)) placed → Ends placed (find has_records (reverse es))
+ends_found [] [] h legal = refl
+ends_found [] (e ∷ es) h legal = absurd h
+ends_found (p ∷ ps) [] h legal = absurd h
+ends_found (p ∷ ps) (e ∷ es) h legal =
+    subst (Ends (p ∷ ps)) (sym (find_reversed e es)) (more (find has_records (reverse es)) (ends_found ps es h.1 (All-tail (λ p. All IsBatch (batches_of p)) p ps legal)))
+  where
+    alone : batches_in ps ≡ [] → batches_in (p ∷ ps) ≡ batches_of p
+    alone none = ap (λ (bs : List (List Record)). batches_of p ++ bs) none ∙ append-nil (batches_of p)
+
+    here : batches_in ps ≡ [] → (o : Option Extent) → e.survey.extent ≡ o → Ends (p ∷ ps) (cond (is_some o) (Some e) None)
+    here none None is = alone none ∙ none_left (batches_of p) (All-head (λ p. All IsBatch (batches_of p)) p ps legal) (sym h.0.survey.extent ∙ is)
+    here none (Some x) is =
+        let k = one_left (batches_of p) x (sym h.0.survey.extent ∙ is) in
+        (p, contains_here p ps, sym h.0.slot, k.0, k.1, ap last (alone none) ∙ k.1)
+
+    more : (o : Option Entry) → Ends ps o → Ends (p ∷ ps) (option_or o (cond (has_records e) (Some e) None))
+    more None none = here none e.survey.extent refl
+    more (Some f) k = (k.0, contains_there p ps k.0 k.1, k.2, k.3, k.4, last_with_more (batches_of p) (batches_in ps) k.3 k.5)
+
+pub last_slot_none : (placed : List Placed) (es : List Entry) → find has_records (reverse es) ≡ None → Describe placed es → All (λ p. All IsBatch (batches_of p)) placed → IsLastSlot placed None
+last_slot_none placed es none h legal = ap last (subst (Ends placed) none (ends_found placed es h legal))
+
+pub last_slot_some : (placed : List Placed) (es : List Entry) (e : Entry) → find has_records (reverse es) ≡ Some e → Describe placed es → All (λ p. All IsBatch (batches_of p)) placed → IsLastSlot placed (Some e.slot)
+last_slot_some placed es e some h legal =
+    let k = subst (Ends placed) some (ends_found placed es h legal) in
+    (k.0, k.1, k.2, k.5 ∙ sym k.4)
+
+-- what was found among entries
+pub find_told : (found there : Option (Bor Entry)) (o : Option Entry) → option_map (λ e. e.now) found ≡ o → found ≡ there → o ≡ option_map (λ e. e.now) there
+find_told found there o is same = sym is ∙ ap (λ (r : Option (Bor Entry)). option_map (λ e. e.now) r) same
+
+-- The slot that is loaded
+
+-- its segment's batches are one list
+pub batches_read : (buffer bytes : List ℕ) (read : List Record) (bs batches : List (List Record)) → AreBatches (drop 64 buffer) bs → AreOfBatch bytes (last bs) → ((records : List Record) → AreRecords bytes records → read ≡ records)
+    → AreBatches (drop 64 buffer) batches → batch_or_none read ≡ last batches
+batches_read buffer bytes read bs batches a newest h b = batch_read bytes read bs a.legal newest h ∙ ap last (one_batches (drop 64 buffer) bs batches a b)
+
+module _ {tells tells_images : Type 0} (ring now : RingState) (placed : List Placed) (disk read : Disk tells tells_images) (reads : Reads ring placed disk)
+    (same : now ≡ record ring { buffer = now.buffer; loaded = now.loaded }) (unchanged : Unchanged disk read) (loaded : IsLoaded ring disk → IsLoaded now read) where
+  pub reads_on : Reads now placed read
+  reads_on = subst (λ (r : RingState). Reads r placed read) (sym same) (record {
+    settled = settled_still ring.medium (HoldsPlaced ring.segment ring.slots placed) disk read unchanged reads.settled;
+    order = reads.order;
+    table = reads.table;
+    loaded = subst (λ (r : RingState). IsLoaded r read) same (loaded reads.loaded);
+  })
+
+  module _ (slot : ℕ) (told : tells) (at : now.loaded ≡ Some slot) (found : IsLastSlot placed (Some slot)) where
+    stands : AreBatches (drop 64 now.buffer) (batches_of found.0)
+    stands =
+        let h = reads_on.settled.reads told in
+        let there : slice_get h.slots slot ≡ Some (Some found.0.segment) =
+        subst (λ (j : ℕ). slice_get h.slots j ≡ Some (Some found.0.segment)) found.2 (All-contains (λ p. slice_get h.slots p.slot ≡ Some (Some p.segment)) placed found.0 h.sequence.there found.1) in
+        subst (λ (xs : List ℕ). AreBatches (drop 64 xs) (batches_of found.0)) (sym (reads_on.loaded slot at told))
+        (slot_of now.segment slot h.slots (Some found.0.segment) (content read.reads now.medium) h.holds there).1.batches
+
+    pub last_is : (records : List Record) → ((batches : List (List Record)) → AreBatches (drop 64 now.buffer) batches → batch_or_none records ≡ last batches) → batch_or_none records ≡ last (batches_in placed)
+    last_is records h = h (batches_of found.0) stands ∙ sym found.3
+
+    pub none_breaks : (offset : ℕ) → BreaksAt now.buffer offset → ⊥
+    none_breaks offset broken = never_both now.buffer (batches_of found.0) offset stands broken

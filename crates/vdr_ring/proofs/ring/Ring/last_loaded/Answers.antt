@@ -1,0 +1,18 @@
+use Rattle.std.proofs.Common.{◌≡◌, ◌∙◌, List, ℕ, drop, sym, subst, arith, rules}
+use Rattle.vdr_terms.specs.Records.{Record}
+use Rattle.vdr_segment.specs.Segments.{AreBatches}
+use Rattle.vdr_ring.proofs.Surveying.{breaks_inside, place_small}
+use Rattle.vdr_ring.proofs.LastBatch.{batches_read}
+use Rattle.vdr_ring.proofs.ring.Ring.last_loaded.Goals as goal
+
+pub overflow_add-result : goal.overflow_add-result
+overflow_add-result c =
+    let inside = breaks_inside _ _ c.in-Err.ensures.broken in
+    let area = c.self.inside.area in
+    let small = place_small area.segment c.args.slot area.slots c.in-Err.at area.segment_high (rw (sym c.self.view_is) at c.requires) area.slots_high (omega (arith, inside, c.deref.ensures.len, c.self.invariant.1)) in
+    omega arith
+
+pub returns-in-Ok-read_all-clause-batch : goal.returns-in-Ok-read_all-clause-batch
+returns-in-Ok-read_all-clause-batch c batches stand =
+    let k = c.in-Ok.ensures.legal in
+    batches_read c.deref.result.now c.in-Ok.bytes.now c.in-Ok-read_all.records.items k.0 batches k.1 k.2 c.in-Ok-read_all.ensures (search rules)

@@ -1,0 +1,29 @@
+use Rattle.std.proofs.Common.{◌≡◌, List, drop}
+use Rattle.std.proofs.lemmas.Result.{IfOk-weaker}
+use Rattle.vdr_terms.specs.Records.{Record, last}
+use Rattle.vdr_segment.specs.Segments.{AreBatches}
+use Rattle.vdr_ring.specs.Sequence.{Placed, batches_in}
+use Rattle.vdr_ring.specs.Rings.{Reads}
+use Rattle.vdr_ring.specs.Lasts.{batch_or_none}
+use Rattle.vdr_ring.proofs.Beginning.{legal_batches}
+use Rattle.vdr_ring.proofs.LastBatch.{reads_on, last_is, none_breaks}
+use Rattle.vdr_ring.proofs.ring.Ring.read_last_batch.Goals as goal
+
+pub returns-clause-reads : goal.returns-clause-reads
+returns-clause-reads g c placed reads = reads_on c.args.self.now c.load.new.self placed _ _ reads c.load.ensures.ring c.load.ensures.unchanged c.load.ensures.bytes
+
+pub returns-clause-batch : goal.returns-clause-batch
+returns-clause-batch g c =
+    IfOk-weaker c.last_loaded.result
+    (λ records. (batches : List (List Record)) → AreBatches (drop 64 c.load.new.self.buffer) batches → batch_or_none records.items ≡ last batches)
+    (λ records. g.M.Media.tells → (placed : List Placed) → Reads c.args.self.now placed (g.M.Media.disk c.args.media.now) → batch_or_none records.items ≡ last (batches_in placed))
+    (λ x h told placed reads.
+    last_is c.args.self.now c.load.new.self placed _ _ reads c.load.ensures.ring c.load.ensures.unchanged c.load.ensures.bytes c.in-Some.slot told c.in-Ok.ensures.loaded
+    (c.in-Some.ensures.found placed reads.table (legal_batches _ _ placed _ (reads.settled.reads told))) x.items h)
+    c.last_loaded.ensures.batch
+
+pub returns-clause-damaged : goal.returns-clause-damaged
+returns-clause-damaged g c told placed reads m offset is =
+    let d = c.last_loaded.ensures.damaged m offset is in
+    none_breaks c.args.self.now c.load.new.self placed _ _ reads c.load.ensures.ring c.load.ensures.unchanged c.load.ensures.bytes c.in-Some.slot told c.in-Ok.ensures.loaded
+    (c.in-Some.ensures.found placed reads.table (legal_batches _ _ placed _ (reads.settled.reads told))) d.1 d.2

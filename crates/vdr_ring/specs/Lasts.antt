@@ -1,0 +1,20 @@
+-- The last batch of a medium, as it is read back.
+use Rattle.std.specs.Prelude.{◌≡◌, ℕ, List, [], ◌∷◌, Contains, Option, Some, None}
+use Rattle.vdr_terms.specs.Records.{Record, last}
+use Rattle.vdr_segment.specs.Batches.{AreRecords}
+use Rattle.vdr_ring.specs.Sequence.{Placed, batches_of, batches_in}
+
+-- A batch, or none where there is no record.
+abbrev pub batch_or_none : List Record → Option (List Record)
+batch_or_none [] = None
+batch_or_none (r ∷ rs) = Some (r ∷ rs)
+
+-- The bytes are the records of this batch, and none where there is no batch.
+abbrev pub AreOfBatch : List ℕ → Option (List Record) → Type 0
+AreOfBatch bytes None = bytes ≡ []
+AreOfBatch bytes (Some records) = AreRecords bytes records
+
+-- The last batch of all these segments is the last one of the segment in this slot. Where no slot is given they have none.
+abbrev pub IsLastSlot : List Placed → Option ℕ → Type 0
+IsLastSlot placed None = last (batches_in placed) ≡ None
+IsLastSlot placed (Some slot) = (p : Placed) × Contains placed p × (p.slot ≡ slot) × (last (batches_in placed) ≡ last (batches_of p))

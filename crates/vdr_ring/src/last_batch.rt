@@ -1,0 +1,130 @@
+// The last batch of a medium, read back from its slot.
+ghost use Rattle.std.specs.Prelude.{◌≡◌, ◌⊎◌, ◌≤◌, ◌<◌, ◌+◌, ℕ, List, All, length, drop, IfOk, IfErr, IfSome, IsErrOf, Err};
+ghost use Rattle.vdr_terms.specs.Records.{Record as Entry, last};
+ghost use Rattle.vdr_outside.specs.Causes.{counted};
+ghost use Rattle.vdr_outside.specs.Disk.{Unchanged, content};
+ghost use Rattle.vdr_outside.specs.declared.fault.PartRefused.TheVariants.{Damaged, Fault};
+ghost use Rattle.vdr_segment.specs.Batches.{AreRecords, IsBatch};
+ghost use Rattle.vdr_segment.specs.Segments.{AreBatches};
+ghost use Rattle.vdr_survey.specs.Surveys.{BreaksAt};
+ghost use Rattle.vdr_slots.specs.Slots.{place_of};
+ghost use Rattle.vdr_ring.specs.Sequence.{Placed, batches_in};
+ghost use Rattle.vdr_ring.specs.Rings.{HasMedium, Reads, Tells};
+ghost use Rattle.vdr_ring.specs.Cursors.{IsLoaded};
+ghost use Rattle.vdr_ring.specs.Opening.{HasFaultCause};
+ghost use Rattle.vdr_ring.specs.Fronts.{BreaksIn};
+ghost use Rattle.vdr_ring.specs.Lasts.{batch_or_none, AreOfBatch, IsLastSlot};
+
+use crate::Ring;
+use crate::choice::last_with_records;
+use std::alloc::{AllocError, Global};
+use vdr_entry::{Record, read_record};
+use vdr_outside::{Media, PartRefused};
+use vdr_segment::{HEADER_SIZE, Walk, walk};
+
+// The bytes of the records of a segment's last batch, none where it has no batch. Err: the offset of the first batch that is
+// not legal.
+fn last_records(segment: &[u8]) -> Result<&[u8], usize>
+    requires { 65 ≤ length segment.now }
+    ensures legal { IfOk result (λ bytes. (batches : List (List Entry)) × AreBatches (drop 64 segment.now) batches × AreOfBatch bytes.now (last batches)) }
+    ensures broken { IfErr result (BreaksAt segment.now) }
+{
+    let mut records = &segment[..0];
+    let mut end = HEADER_SIZE;
+    loop {
+        match walk(segment, end) {
+            Walk::Batch { from, to } => {
+                records = &segment[from..to];
+                end = to;
+            }
+            Walk::End => return Ok(records),
+            Walk::Broken => return Err(end),
+        }
+    }
+}
+
+// Reads records, one after another.
+fn read_all(alloc: Global, bytes: &[u8]) -> Result<Vec<Record>, AllocError>
+    ensures { IfOk result (λ read. (records : List Entry) → AreRecords bytes.now records → read.items ≡ records) }
+{
+    let mut read = Vec::new(alloc);
+    let mut rest = bytes;
+    while let Some((item, size)) = read_record(rest) {
+        read.push(item)?;
+        rest = &rest[size..];
+    }
+    Ok(read)
+}
+
+impl Ring {
+    // The slot of the last segment that has records.
+    fn last_slot(&self) -> Option<u32>
+        ensures within { IfSome result (λ slot. slot < self.now.slots) }
+        ensures found { (placed : List Placed) → Tells self.now.slots placed self.now.table → All (λ p. All IsBatch p.segment.batches) placed
+            → IsLastSlot placed result }
+    {
+        let entry = last_with_records(self.table.opened())?;
+        Some(entry.slot)
+    }
+
+    // The records of the last batch of the segment that is loaded, which stands in this slot.
+    fn last_loaded(&self, alloc: Global, slot: u32) -> Result<Vec<Record>, PartRefused>
+        requires { slot < self.now.slots }
+        ensures batch { IfOk result (λ records. (batches : List (List Entry)) → AreBatches (drop 64 self.now.buffer) batches
+            → batch_or_none records.items ≡ last batches) }
+        ensures damaged { (m offset : ℕ) → result ≡ Err (Damaged m offset) → (m ≡ self.now.medium)
+            × (at : ℕ) × BreaksAt self.now.buffer at × (offset ≡ place_of self.now.segment slot + at) }
+        ensures no_fault { IsErrOf result Fault → ⊥ }
+    {
+        let bytes = match last_records(&self.buffer) {
+            Ok(bytes) => bytes,
+            Err(at) => {
+                return Err(PartRefused::Damaged {
+                    medium: self.area.medium,
+                    offset: self.area.place_of(slot) + at as u64,
+                });
+            }
+        };
+        match read_all(alloc, bytes) {
+            Ok(records) => Ok(records),
+            Err(_) => Err(PartRefused::NoMemory),
+        }
+    }
+
+    /// The records of the medium's last batch, in order; none where the medium has no record. Reads one slot whole where it is
+    /// not the one read last, else nothing.
+    ///
+    /// `Damaged` names the medium and the first batch of that slot that is not legal, by where it begins, in bytes: since the
+    /// ring was opened the bytes have changed. `NoMemory`: there was no room for the records. `Fault`: the read failed, and the
+    /// count of faults of this medium rose.
+    pub fn read_last_batch<M: Media>(
+        &mut self,
+        alloc: Global,
+        media: &mut M,
+    ) -> Result<Vec<Record>, PartRefused>
+        requires room { HasMedium self.old (M.disk media.old).sizes }
+        ensures ring { self.new ≡ record self.old { buffer = self.new.buffer; loaded = self.new.loaded } }
+        ensures room { HasMedium self.new (M.disk media.new).sizes }
+        ensures bytes { IsLoaded self.old (M.disk media.old) → IsLoaded self.new (M.disk media.new) }
+        ensures reads { (placed : List Placed) → Reads self.old placed (M.disk media.old) → Reads self.new placed (M.disk media.new) }
+        ensures batch { IfOk result (λ records. M.tells → (placed : List Placed) → Reads self.old placed (M.disk media.old)
+            → batch_or_none records.items ≡ last (batches_in placed)) }
+        ensures damaged { M.tells → (placed : List Placed) → Reads self.old placed (M.disk media.old)
+            → (m offset : ℕ) → result ≡ Err (Damaged m offset) → ⊥ }
+        ensures medium { (m offset : ℕ) → result ≡ Err (Damaged m offset) → m ≡ self.old.medium }
+        ensures offset { M.tells → IsLoaded self.old (M.disk media.old) → (m offset : ℕ) → result ≡ Err (Damaged m offset)
+            → (slot : ℕ) × (slot < self.old.slots) × BreaksIn self.old.segment slot (content (M.disk media.old).reads self.old.medium) offset }
+        ensures unchanged { Unchanged (M.disk media.old) (M.disk media.new) }
+        ensures counts { (M.bytes_read media.new ≡ M.bytes_read media.old)
+            ⊎ (M.bytes_read media.new ≡ counted (M.bytes_read media.old) self.old.medium self.old.segment) }
+        ensures cause { HasFaultCause self.old.medium (M.faults media.old) (M.faults media.new) result }
+    {
+        let Some(slot) = self.last_slot() else {
+            return Ok(Vec::new(alloc));
+        };
+        let Ok(_) = self.load(media, slot) else {
+            return Err(PartRefused::Fault);
+        };
+        self.last_loaded(alloc, slot)
+    }
+}
