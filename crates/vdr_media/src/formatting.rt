@@ -17,8 +17,9 @@ use vdr_config::{fits, read_config};
 use vdr_outside::{Failed, Media};
 use vdr_segment::OPEN_GATE;
 
-// Whether the media are formatted. It reads one byte of medium 0, or none where that has no room for a superblock.
-fn are_formatted<M: Media>(media: &mut M) -> Result<bool, Failed>
+/// Whether the media are formatted: medium 0 has 32,768 bytes at least, and the gate at its byte 0 is open (this project's profile).
+/// It reads that byte, or none where the medium is smaller. `Failed`: the read failed, and the count of faults of medium 0 rose.
+pub fn are_formatted<M: Media>(media: &mut M) -> Result<bool, Failed>
     requires { 0 < length (M.disk media.old).sizes }
     ensures formatted { IfOk result (λ yes. yes ≡ true → KnownFormatted (M.disk media.old)) }
     ensures unformatted { IfOk result (λ yes. yes ≡ false → KnownUnformatted (M.disk media.old)) }

@@ -2,21 +2,25 @@
 ghost use Rattle.std.specs.Prelude.{◌≡◌, ◌<◌};
 ghost use Rattle.vdr_media.specs.Layout.{slot_count};
 
-pub(crate) const INCIDENTS_FROM: u64 = 4_096;
+/// Where the first incident slot begins, in bytes (this project's profile).
+pub const INCIDENTS_FROM: u64 = 4_096;
 
-pub(crate) const INCIDENT_SIZE: u64 = 256;
+/// The size of an incident slot, in bytes (this project's profile).
+pub const INCIDENT_SIZE: u64 = 256;
 
 pub(crate) const INCIDENT_COUNT: u64 = 32;
 
-pub(crate) const TEXT_FROM: u64 = 12_288;
+/// Where the length of the configuration's text stands, in bytes, with the text behind it (this project's profile).
+pub const TEXT_FROM: u64 = 12_288;
 
-pub(crate) const SEGMENTS_FROM: u64 = 32_768;
+/// Where the first slot begins, in bytes (this project's profile).
+pub const SEGMENTS_FROM: u64 = 32_768;
 
 // No more slots than these are used.
 const MOST_SLOTS: u64 = 1_000_000;
 
-// The slots of a medium of so many bytes.
-pub(crate) fn slot_count(segment: u32, size: u64) -> u32
+/// The slots of a medium of so many bytes, with segments of this size in bytes: at most 1,000,000 (this project's profile).
+pub fn slot_count(segment: u32, size: u64) -> u32
     requires { 0 < segment }
     ensures { result ≡ slot_count segment size }
 {

@@ -11,5 +11,7 @@ mod superblock;
 #[cfg(test)]
 mod tests;
 
-pub use formatting::format;
+pub use formatting::{are_formatted, format};
+pub use layout::{INCIDENT_SIZE, INCIDENTS_FROM, SEGMENTS_FROM, TEXT_FROM, slot_count};
 pub use refused::FormatRefused;
+pub use superblock::superblock_bytes;
