@@ -1,0 +1,15 @@
+pub mod Differing
+pub mod Superblocks
+pub mod Texts
+pub mod Fronts
+pub mod Calls
+pub mod Segments
+pub mod Incidents
+pub mod Meeting
+pub mod Causes
+pub mod Whole
+pub mod Assembling
+pub mod ContentsHeld
+pub mod RefusalMedia
+pub mod RefusalEnds
+pub mod RefusalParts

@@ -1,0 +1,39 @@
+use Rattle.std.proofs.Common.{get_or, subst}
+use Rattle.std.proofs.lemmas.Result.{err_from_is_err_and}
+use Rattle.vdr_outside.proofs.Counts.{none_falls_join}
+use Rattle.vdr_outside.specs.Causes.{Rose}
+use Rattle.vdr_outside.specs.Disk.{Image}
+use Rattle.vdr_media.proofs.Two.{first_of}
+use Rattle.vdr_media.proofs.Unformatted.{durable_still}
+use Rattle.vdr_opening.specs.Refusals.{IsRefused}
+use Rattle.vdr_opening.proofs.Calls.{unchanged_join}
+use Rattle.vdr_opening.proofs.Causes.{open_cause, open_failed, passed_damaged}
+use Rattle.vdr_opening.proofs.reading.read_media.Goals as goal
+
+pub returns-in_err-are_formatted-clause-cause : goal.returns-in_err-are_formatted-clause-cause
+returns-in_err-are_formatted-clause-cause g c =
+    open_cause _ _ _ c.are_formatted.ensures.cause.later
+    (λ is. first_of (λ m. Rose (get_or (g.M.Media.faults c.args.media.now) m 0) (get_or (g.M.Media.faults c.are_formatted.new.media) m 0)) c.in_err-are_formatted.ensures.cause.failed)
+
+pub returns-in_err-opened-clause-damaged : goal.returns-in_err-opened-clause-damaged
+returns-in_err-opened-clause-damaged g c =
+    let p = err_from_is_err_and c.from_residual-in_err-opened.result c.from_residual-in_err-opened.ensures.1 in
+    rw p.1 (λ m offset e told durable. (
+      (c.in_ok-are_formatted.ensures.formatted c.if-not-branch.false).1 told,
+      subst (λ (i : Image). IsRefused i m offset) (c.are_formatted.ensures.unchanged.reads told)
+          (c.in_err-opened.ensures.damaged m offset (passed_damaged _ _ m offset p.2 e) told (λ k d lt. durable_still _ _ _ c.are_formatted.ensures.unchanged (durable k d lt))),
+    ))
+
+pub returns-in_err-opened-clause-cause : goal.returns-in_err-opened-clause-cause
+returns-in_err-opened-clause-cause g c =
+    let p = err_from_is_err_and c.from_residual-in_err-opened.result c.from_residual-in_err-opened.ensures.1 in
+    rw (p.1, p.2) (open_failed _ _ _ _ c.are_formatted.ensures.cause.later c.in_err-opened.ensures.cause)
+
+pub returns-clause-opened : goal.returns-clause-opened
+returns-clause-opened g c told durable = c.in_ok-opened.ensures.opened told (λ k d lt. durable_still _ _ _ c.are_formatted.ensures.unchanged (durable k d lt))
+
+pub returns-clause-unchanged : goal.returns-clause-unchanged
+returns-clause-unchanged g c = unchanged_join _ _ _ c.are_formatted.ensures.unchanged c.read_formatted.ensures.unchanged
+
+pub returns-clause-cause : goal.returns-clause-cause
+returns-clause-cause g c = open_cause _ _ _ (none_falls_join _ _ _ c.are_formatted.ensures.cause.later c.read_formatted.ensures.cause.later) (λ is. let none : ⊥ = cc in absurd none)

@@ -1,0 +1,53 @@
+-- What opening answers.
+use Rattle.std.specs.Prelude.{◌≡◌, ◌⊎◌, ◌∷◌, ℕ, List, [], get_or, sum, Any, Option, Result, IsErrOf}
+use Rattle.vdr_terms.specs.Records.{Record}
+use Rattle.vdr_terms.specs.Needs.{slots_in}
+use Rattle.vdr_history.specs.Histories.{Incident}
+use Rattle.vdr_durability.specs.Readings.{Reading, AreLevel, EndsMeet, IsPassedOn}
+use Rattle.vdr_outside.specs.Causes.{NoneFalls, Rose}
+use Rattle.vdr_outside.specs.Disk.{Disk}
+use Rattle.vdr_config.specs.Configuration.{Configuration}
+use Rattle.vdr_config.specs.Sizes.{sizes_of, window_of}
+use Rattle.vdr_ring.specs.Sequence.{Placed}
+use Rattle.vdr_ring.specs.Rings.{RingState, HasMedium}
+use Rattle.vdr_ring.specs.Rings as rings
+use Rattle.vdr_opening.specs.declared.refused.OpenRefused.{OpenRefused}
+use Rattle.vdr_opening.specs.declared.refused.OpenRefused.TheVariants.{Fault}
+use Rattle.vdr_opening.specs.Media.{both, Contents, HoldsContents, reading_of}
+
+-- What was opened: the configuration, a ring on each medium, the incidents, and the batch that the long-term medium lacks, if any.
+pub record OpenedState : Type 0 where
+  pub config : Configuration
+  pub capsule : RingState
+  pub long_term : RingState
+  pub table : List (Option Incident)
+  pub missing : List Record
+
+-- The ring is that of medium m, as the configuration has it.
+pub record IsRingOf (c : Configuration) (sizes : List ℕ) (m : ℕ) (ring : RingState) : Type 0 where
+  pub medium : ring.medium ≡ m
+  pub segment : ring.segment ≡ c.segment
+  pub slots : ring.slots ≡ slots_in (sizes_of c) (get_or sizes m 0)
+  pub seconds : ring.seconds ≡ window_of c m
+  pub room : HasMedium ring sizes
+
+-- The long-term medium lacks this batch, which is the capsule's last one; or it lacks none.
+abbrev pub IsMissing : List Record → Reading → Type 0
+IsMissing missing reading = ((missing ≡ []) × AreLevel both reading) ⊎ IsPassedOn both (0 ∷ []) (1 ∷ []) missing reading
+
+module _ {tells tells_images : Type 0} where
+  -- The media hold these contents, and so it was opened.
+  pub record IsOpened (o : OpenedState) (x : Contents) (disk : Disk tells tells_images) : Type 0 where
+    pub holds : HoldsContents disk.reads x
+    pub meet : EndsMeet both (reading_of x)
+    pub config : o.config ≡ x.config
+    pub capsule : rings.Reads o.capsule (x.placed 0) disk
+    pub long_term : rings.Reads o.long_term (x.placed 1) disk
+    pub table : o.table ≡ x.table
+    pub missing : IsMissing o.missing (reading_of x)
+
+-- No count of faults falls, and a fault comes only where that of one of the media rose, and so their sum.
+pub record HasOpenCause {T : Type 0} (before now : List ℕ) (result : Result T OpenRefused) : Type 0 where
+  pub later : NoneFalls before now
+  pub by_medium : IsErrOf result Fault → Any (λ m. Rose (get_or before m 0) (get_or now m 0)) both
+  pub in_all : IsErrOf result Fault → Rose (sum before) (sum now)

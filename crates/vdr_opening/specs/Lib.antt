@@ -1,0 +1,6 @@
+-- What two media read as, and what opening them refuses.
+pub mod Settings
+pub mod Media
+pub mod Refusals
+pub mod Answers
+pub mod Parts

@@ -1,0 +1,67 @@
+-- What the capsule and the long-term medium hold, by the parts of their bytes (this project's profile).
+use Rattle.std.specs.Prelude.{◌≡◌, ℕ, List, [], ◌∷◌, length, All, IfSome, Option}
+use Rattle.vdr_terms.specs.Records.{Record}
+use Rattle.vdr_history.specs.Histories.{Incident, Opening}
+use Rattle.vdr_durability.specs.Readings.{Reading}
+use Rattle.vdr_durability.specs.Shown.{opened}
+use Rattle.vdr_outside.specs.Disk.{Image, content}
+use Rattle.vdr_config.specs.Configuration.{Configuration}
+use Rattle.vdr_media.specs.Layout.{slot_count}
+use Rattle.vdr_media.specs.Medium.{IsSuperblock, HoldsConfiguration}
+use Rattle.vdr_ring.specs.Sequence.{Placed, batches_in}
+use Rattle.vdr_ring.specs.Order.{AreInOrder}
+use Rattle.vdr_ring.specs.Rings.{HoldsPlaced}
+use Rattle.vdr_ring.specs.Lookup.{HoldAll}
+use Rattle.vdr_incident.specs.Tables.{HoldsTable}
+use Rattle.vdr_opening.specs.Settings.{settings_of}
+
+-- The media of a recording: the capsule leads, and a batch goes to the long-term medium after it.
+abbrev pub both : List ℕ
+both = 0 ∷ 1 ∷ []
+
+-- What stands before the slots of medium m, but for the incident slots: its superblock and its configuration.
+pub record HasFront (m : ℕ) (c : Configuration) (text bytes : List ℕ) : Type 0 where
+  pub superblock : IsSuperblock m c.segment bytes
+  pub configured : HoldsConfiguration m c text bytes
+
+-- Its slots hold these segments, in a legal order.
+pub record HasSegments (c : Configuration) (placed : List Placed) (bytes : List ℕ) : Type 0 where
+  pub holds : HoldsPlaced c.segment (slot_count c.segment (length bytes)) placed bytes
+  pub order : AreInOrder placed
+
+-- Medium m is legal, apart from its incident slots.
+pub record IsMedium (m : ℕ) (c : Configuration) (text : List ℕ) (placed : List Placed) (bytes : List ℕ) : Type 0 where
+  pub front : HasFront m c text bytes
+  pub segments : HasSegments c placed bytes
+
+-- All places of each live incident stand in these segments.
+abbrev pub AreThere : List (Option Incident) → List Placed → Type 0
+AreThere table placed = All (λ slot. IfSome slot (λ incident. HoldAll incident.a incident.b placed)) table
+
+-- What legible media hold: the configuration with its text, the segments of each medium by its number, and the incidents.
+pub record Contents : Type 0 where
+  pub config : Configuration
+  pub text : List ℕ
+  pub placed : ℕ → List Placed
+  pub table : List (Option Incident)
+
+-- The image holds these contents.
+pub record HoldsContents (image : Image) (x : Contents) : Type 0 where
+  pub media : All (λ m. IsMedium m x.config x.text (x.placed m) (content image m)) both
+  pub table : HoldsTable x.config.incident_slots x.table (content image 1)
+  pub there : AreThere x.table (x.placed 1)
+
+-- What contents read as.
+abbrev pub reading_of : Contents → Reading
+reading_of x = record { batches = λ m. batches_in (x.placed m); table = x.table; text = x.text }
+
+-- The image is legible as media of these numbers, and reads so.
+pub record Reads (image : Image) (members : List ℕ) (reading : Reading) : Type 0 where
+  pub members_are : members ≡ both
+  pub contents : Contents
+  pub holds : HoldsContents image contents
+  pub is : reading ≡ reading_of contents
+
+-- What a run begins with that is opened on these contents.
+abbrev pub opening_of : Contents → Opening
+opening_of x = opened both (settings_of x.config x.text) (reading_of x)

@@ -1,0 +1,69 @@
+-- What the parts of opening owe each other. No public clause cites it, but for what an answer of a part is as an answer of all.
+use Rattle.std.specs.Prelude.{◌≡◌, ◌<◌, ◌≤◌, ◌∷◌, ◌++◌, ℕ, List, length, get_or, drop, Any, IfSome, Option, Some, Result, IsErrOf}
+use Rattle.vdr_history.specs.Histories.{Incident}
+use Rattle.vdr_outside.specs.Causes.{NoneFalls, Rose}
+use Rattle.vdr_outside.specs.Disk.{Disk, content}
+use Rattle.vdr_outside.specs.declared.fault.PartRefused.{PartRefused}
+use Rattle.vdr_outside.specs.declared.fault.PartRefused.TheVariants as parts
+use Rattle.vdr_config.specs.Configuration.{Configuration}
+use Rattle.vdr_segment.specs.Gates.{IsOpenAt}
+use Rattle.vdr_ring.specs.Lookup.{HoldAll}
+use Rattle.vdr_ring.specs.Rings.{RingState}
+use Rattle.vdr_ring.specs.Rings as rings
+use Rattle.vdr_ring.specs.Sequence.{Placed}
+use Rattle.vdr_incident.specs.Tables.{HoldsTable, place_of}
+use Rattle.vdr_media.specs.Layout.{slot_count, superblock_bytes}
+use Rattle.vdr_opening.specs.declared.refused.OpenRefused.{OpenRefused}
+use Rattle.vdr_opening.specs.declared.refused.OpenRefused.TheVariants.{NoMemory, Damaged, Fault}
+use Rattle.vdr_opening.specs.Media.{both, AreThere, IsMedium}
+
+-- What is said of media of which a part is refused.
+abbrev pub refusal_by : PartRefused → OpenRefused
+refusal_by parts.NoMemory = NoMemory
+refusal_by (parts.Damaged m offset) = Damaged m offset
+refusal_by parts.Fault = Fault
+
+-- The first 23 bytes of medium m, which has so many bytes, are a legal superblock with this segment size.
+pub record SaysSegment (m size segment : ℕ) (bytes : List ℕ) : Type 0 where
+  pub gate : IsOpenAt bytes 0
+  pub fields : drop 1 bytes ≡ superblock_bytes m size segment (slot_count segment size)
+  pub segment_low : 8192 ≤ segment
+  pub segment_high : segment ≤ 16777216
+
+-- There is such a medium, with room for all that stands before the segments.
+pub record HasRoomBefore (m : ℕ) (sizes : List ℕ) : Type 0 where
+  pub there : m < length sizes
+  pub room : 32768 ≤ get_or sizes m 0
+
+module _ {tells tells_images : Type 0} where
+  -- Medium m is legal but for its incident slots, and the ring reads so.
+  pub record ReadsMedium (m : ℕ) (c : Configuration) (text : List ℕ) (placed : List Placed) (ring : RingState) (disk : Disk tells tells_images) : Type 0 where
+    pub legal : IsMedium m c text placed (content disk.reads m)
+    pub reads : rings.Reads ring placed disk
+
+-- An incident slot is free, or all places of its incident stand in these segments.
+abbrev pub IsThere : List Placed → Option Incident → Type 0
+IsThere placed slot = IfSome slot (λ incident. HoldAll incident.a incident.b placed)
+
+-- The slot of this index is the first whose places do not all stand in these segments.
+pub record LacksPlaces (table : List (Option Incident)) (placed : List Placed) (slot : ℕ) : Type 0 where
+  pub before : List (Option Incident)
+  pub here : Incident
+  pub after : List (Option Incident)
+  pub split : table ≡ before ++ Some here ∷ after
+  pub index : length before ≡ slot
+  pub there : AreThere before placed
+  pub missing : HoldAll here.a here.b placed → ⊥
+
+-- These bytes hold a table of so many slots, and the first whose places do not all stand in these segments begins at this offset.
+pub record LacksPlacesAt (slots : ℕ) (placed : List Placed) (bytes : List ℕ) (offset : ℕ) : Type 0 where
+  pub table : List (Option Incident)
+  pub holds : HoldsTable slots table bytes
+  pub slot : ℕ
+  pub lacks : LacksPlaces table placed slot
+  pub at : offset ≡ place_of slot
+
+-- The count of no medium falls. A fault comes only where that of one of the media rose.
+pub record HasPartCause {T : Type 0} (before now : List ℕ) (result : Result T PartRefused) : Type 0 where
+  pub later : NoneFalls before now
+  pub rose : IsErrOf result parts.Fault → Any (λ m. Rose (get_or before m 0) (get_or now m 0)) both

@@ -1,0 +1,21 @@
+ghost use Rattle.std.specs.Prelude.{◌≡◌, ℕ};
+ghost use Rattle.vdr_durability.specs.Readings.{EndsMeet};
+ghost use Rattle.vdr_outside.specs.Disk.{Image};
+ghost use Rattle.vdr_media.specs.Formatted.{IsUnformatted};
+ghost use Rattle.vdr_opening.specs.Media.{Contents, HoldsContents, both, reading_of};
+ghost use Rattle.vdr_opening.specs.Refusals.{IsRefused};
+
+/// An image holds one list of contents at most: the configuration, its text, the segments of each medium and the incidents.
+pub fn law_of_contents()
+    ensures config { (image : Image) (x y : Contents) → HoldsContents image x → HoldsContents image y → (x.config ≡ y.config) × (x.text ≡ y.text) }
+    ensures placed { (image : Image) (x y : Contents) → HoldsContents image x → HoldsContents image y → (x.placed 0 ≡ y.placed 0) × (x.placed 1 ≡ y.placed 1) }
+    ensures table { (image : Image) (x y : Contents) → HoldsContents image x → HoldsContents image y → x.table ≡ y.table }
+    ensures formatted { (image : Image) (x : Contents) → HoldsContents image x → IsUnformatted image → ⊥ }
+{}
+
+/// Opening has one answer: media that hold contents whose ends meet are not refused, and those that are refused are refused at
+/// one offset of one medium.
+pub fn law_of_refusals()
+    ensures either { (image : Image) (x : Contents) (m offset : ℕ) → HoldsContents image x → EndsMeet both (reading_of x) → IsRefused image m offset → ⊥ }
+    ensures one { (image : Image) (m offset k other : ℕ) → IsRefused image m offset → IsRefused image k other → (m ≡ k) × (offset ≡ other) }
+{}

@@ -1,0 +1,69 @@
+ghost use Rattle.std.specs.Prelude.{◌≡◌, ◌≤◌, ℕ, length, All, IfOk, Err};
+ghost use Rattle.vdr_outside.specs.Disk.{Durable, Unchanged};
+ghost use Rattle.vdr_outside.specs.declared.fault.PartRefused.TheVariants.{Damaged as PartDamaged};
+ghost use Rattle.vdr_media.specs.Formatted.{IsFormatted, IsUnformatted};
+ghost use Rattle.vdr_opening.specs.Media.{Contents, both};
+ghost use Rattle.vdr_opening.specs.Refusals.{IsRefused};
+ghost use Rattle.vdr_opening.specs.Answers.{HasOpenCause, IsOpened, IsRingOf};
+ghost use Rattle.vdr_opening.specs.Parts.{HasPartCause};
+ghost use Rattle.vdr_opening.specs.declared.refused.OpenRefused.TheVariants.{Damaged, NotFormatted};
+
+use crate::ends::missing_batch;
+use crate::medium::{Capsule, open_capsule, open_long_term};
+use crate::places::read_incidents;
+use crate::{OpenRefused, Opened};
+use std::alloc::Global;
+use vdr_media::are_formatted;
+use vdr_outside::{Media, PartRefused};
+
+// Reads media that are formatted.
+fn read_formatted<M: Media>(alloc: Global, media: &mut M) -> Result<Opened, PartRefused>
+    requires { 2 ≤ length (M.disk media.old).sizes }
+    ensures opened { IfOk result (λ o. M.tells → All (λ m. Durable m (M.disk media.old)) both → (x : Contents) × IsOpened o x (M.disk media.new)) }
+    ensures rings { IfOk result (λ o. IsRingOf o.config (M.disk media.old).sizes 0 o.capsule × IsRingOf o.config (M.disk media.old).sizes 1 o.long_term) }
+    ensures slots { IfOk result (λ o. length o.table ≡ o.config.incident_slots) }
+    ensures damaged { (m offset : ℕ) → result ≡ Err (PartDamaged m offset) → M.tells → All (λ k. Durable k (M.disk media.old)) both → IsRefused (M.disk media.old).reads m offset }
+    ensures unchanged { Unchanged (M.disk media.old) (M.disk media.new) }
+    ensures cause { HasPartCause (M.faults media.old) (M.faults media.new) result }
+{
+    let Capsule {
+        configured,
+        ring: mut capsule,
+    } = open_capsule(alloc, media)?;
+    let mut long_term = open_long_term(alloc, media, &configured)?;
+    let table = read_incidents(media, &configured.config, &long_term)?;
+    let missing = missing_batch(alloc, media, &mut capsule, &mut long_term)?;
+    Ok(Opened {
+        config: configured.config,
+        capsule,
+        long_term,
+        table,
+        missing,
+    })
+}
+
+/// Reads the capsule and the long-term medium, and writes nothing. Where medium 0 decides that the media are formatted, each part of
+/// them is tested in order (`OpenRefused::Damaged`): on the capsule and then on the long-term medium the superblock (offset 0), the
+/// configuration (offset 12,288), the headers of the segments, in order of slot, their batches, in order of sequence number, and
+/// their order; then the incident slots by their bytes; then by whether their places are in segments of the long-term medium; then
+/// the two ends, at offset 0 of the long-term medium: they meet where both media end with one batch, or the long-term
+/// medium ends directly before the capsule's last batch (this project's profile). A third medium is not looked at.
+pub fn read_media<M: Media>(alloc: Global, media: &mut M) -> Result<Opened, OpenRefused>
+    requires two { 2 ≤ length (M.disk media.old).sizes }
+    requires three { length (M.disk media.old).sizes ≤ 3 }
+    ensures opened { IfOk result (λ o. M.tells → All (λ m. Durable m (M.disk media.old)) both → (x : Contents) × IsOpened o x (M.disk media.new)) }
+    ensures formatted { IfOk result (λ o. M.tells → IsFormatted (M.disk media.old).reads) }
+    ensures rings { IfOk result (λ o. IsRingOf o.config (M.disk media.old).sizes 0 o.capsule × IsRingOf o.config (M.disk media.old).sizes 1 o.long_term) }
+    ensures slots { IfOk result (λ o. length o.table ≡ o.config.incident_slots) }
+    ensures unformatted { result ≡ Err NotFormatted → M.tells → IsUnformatted (M.disk media.old).reads }
+    ensures damaged { (m offset : ℕ) → result ≡ Err (Damaged m offset) → M.tells → All (λ k. Durable k (M.disk media.old)) both
+        → IsFormatted (M.disk media.old).reads × IsRefused (M.disk media.old).reads m offset }
+    ensures unchanged { Unchanged (M.disk media.old) (M.disk media.new) }
+    ensures cause { HasOpenCause (M.faults media.old) (M.faults media.new) result }
+{
+    if !are_formatted(media)? {
+        return Err(OpenRefused::NotFormatted);
+    }
+    let opened = read_formatted(alloc, media)?;
+    Ok(opened)
+}
