@@ -75,6 +75,12 @@ reads_time time millis few is = record {
   milli = ap (λ (t : List ℕ). number 3 (take 3 (drop 9 t))) is ∙ number-last_digits 3 (millis % 1000) (omega arith) (omega arith);
 }
 
+-- What is read gives the milliseconds.
+pub millis_are : (time : List ℕ) (millis hour minute second milli : ℕ) → ReadsTime time millis → Some hour ≡ number 2 (take 2 time) → Some minute ≡ number 2 (take 2 (drop 3 time))
+    → Some second ≡ number 2 (take 2 (drop 6 time)) → Some milli ≡ number 3 (take 3 (drop 9 time)) → ((hour * 60 + minute) * 60 + second) * 1000 + milli ≡ millis
+millis_are time millis hour minute second milli read h m s ms =
+    omega (arith, same_Some _ _ (h ∙ read.hour), same_Some _ _ (m ∙ read.minute), same_Some _ _ (s ∙ read.second), same_Some _ _ (ms ∙ read.milli))
+
 -- What is none is nothing.
 pub nothing : (o : Option ℕ) (n : ℕ) (P : Type 0) → o ≡ None → o ≡ Some n → P
 nothing o n P none some = absurd (none-some n (sym none ∙ some))

@@ -1,5 +1,4 @@
 -- What the values of the Rust types `Medium` and `Query` ask.
-use Rattle.std.specs.Prelude.{ℕ}
 use Rattle.vdr_terms.specs.Queries.{Medium, Query}
 use Rattle.vdr_terms.specs.Queries.Medium.{WindowOf, Incident}
 use Rattle.vdr_entry.specs.declared.query.Medium.{Medium as Played}

@@ -12,9 +12,6 @@ use vdr_digits::number;
 /// The milliseconds of a day.
 const DAY: u64 = 86_400_000;
 
-/// The last millisecond of the year 9999, since 1970.
-const LAST_STAMP: u64 = 253_402_300_799_999;
-
 /// Writes a UTC stamp, in milliseconds since 1970, as its 24 bytes of text: `2024-01-01T00:00:00.000Z` (ISO 8601).
 /// What `into` held before is gone.
 pub fn write_utc(utc: i64, into: &mut ArrayVec<u8, 24>)
@@ -28,9 +25,9 @@ fn text_of(utc: u64) -> [u8; 24]
     requires { utc ≤ last_stamp }
     ensures { result ≡ utc_text (pos utc) }
 {
-    let date = date_of(utc / 86_400_000).to_plain();
+    let date = date_of(utc / DAY).to_plain();
     let year = date.year.unsigned_abs() as u64;
-    characters(year, date.month as u64, date.day as u64, utc % 86_400_000)
+    characters(year, date.month as u64, date.day as u64, utc % DAY)
 }
 
 // The last digit of a number.
@@ -116,11 +113,7 @@ fn stamp_in(text: &[u8]) -> Option<u64>
     }
     let days = days_in(&text[..10])?;
     let millis = millis_in(&text[11..23])?;
-    let utc = days * DAY + millis;
-    if utc > LAST_STAMP {
-        return None;
-    }
-    Some(utc)
+    Some(days * DAY + millis)
 }
 
 // The day since 1970 that the digits of a date give.
@@ -145,15 +138,16 @@ fn day_number(year: i16, month: i8, day: i8) -> Option<u64>
     u64::try_from(date.to_plain().to_unix_epoch_day()).ok()
 }
 
-// The milliseconds since midnight that the digits of a time of day give.
+// The milliseconds since midnight that the digits of a time of day give, None where they are a day or more.
 fn millis_in(time: &[u8]) -> Option<u64>
     requires { length time.now ≡ 12 }
-    ensures below { IfSome result (λ millis. millis < 1_000_000_000) }
+    ensures below { IfSome result (λ millis. millis < 86_400_000) }
     ensures exact { (millis : ℕ) → millis < 86_400_000 → time.now ≡ time_text millis → result ≡ Some millis }
 {
     let hour = number(&time[..2], 2)?;
     let minute = number(&time[3..5], 2)?;
     let second = number(&time[6..8], 2)?;
     let milli = number(&time[9..12], 3)?;
-    Some(((hour * 60 + minute) * 60 + second) * 1000 + milli)
+    let millis = ((hour * 60 + minute) * 60 + second) * 1000 + milli;
+    if millis < DAY { Some(millis) } else { None }
 }

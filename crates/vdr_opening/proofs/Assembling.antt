@@ -1,17 +1,16 @@
 -- What was found of each medium, over calls that only read.
-use Rattle.std.proofs.Common.{◌≡◌, ◌⊎◌, inl, inr, ℕ, List, Option, Some, refl, sym, ◌∙◌, ap, subst}
+use Rattle.std.proofs.Common.{◌≡◌, ◌⊎◌, inl, inr, ℕ, List, Option, Some, sym, subst}
 use Rattle.vdr_history.specs.Histories.{Incident}
-use Rattle.vdr_terms.specs.Records.{Record}
-use Rattle.vdr_durability.specs.Readings.{EndsMeet, EndsOff, Reading}
+use Rattle.vdr_durability.specs.Readings.{EndsMeet, EndsOff}
 use Rattle.vdr_outside.specs.Disk.{Disk, Unchanged, content}
 use Rattle.vdr_config.specs.Configuration.{Configuration}
 use Rattle.vdr_ring.specs.Order.{AreInOrder}
 use Rattle.vdr_ring.specs.Rings.{RingState, Tells}
 use Rattle.vdr_ring.specs.Rings as rings
-use Rattle.vdr_ring.specs.Sequence.{Placed, batches_in}
+use Rattle.vdr_ring.specs.Sequence.{Placed}
 use Rattle.vdr_incident.specs.Tables.{HoldsTable}
 use Rattle.vdr_incident.specs.Tables as incidents
-use Rattle.vdr_opening.specs.Media.{both, AreThere, Contents, IsMedium, reading_of}
+use Rattle.vdr_opening.specs.Media.{both, AreThere, IsMedium, reading_of}
 use Rattle.vdr_opening.specs.Refusals.{IsRefused, RefusesMedium}
 use Rattle.vdr_opening.specs.Answers.{IsMissing, IsOpened, OpenedState}
 use Rattle.vdr_opening.specs.Parts.{LacksPlacesAt, ReadsMedium}

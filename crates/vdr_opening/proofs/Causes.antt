@@ -1,5 +1,5 @@
 -- Causes of a fault over the calls on both media.
-use Rattle.std.proofs.Common.{◌≡◌, ℕ, List, [], ◌∷◌, get_or, Result, Err, sym, ◌∙◌, ap, subst}
+use Rattle.std.proofs.Common.{◌≡◌, ℕ, List, get_or, Result, Err, sym, ◌∙◌, ap, subst}
 use Rattle.std.specs.Prelude.{Any, IsErrOf}
 use Rattle.vdr_outside.specs.Causes.{NoneFalls, Rose}
 use Rattle.vdr_outside.specs.declared.fault.PartRefused.{PartRefused}

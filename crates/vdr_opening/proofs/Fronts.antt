@@ -1,5 +1,5 @@
 -- What stands before the slots of a medium, and where it is refused.
-use Rattle.std.proofs.Common.{◌≡◌, ◌≤◌, ◌↔◌, ℕ, Bool, true, false, List, length, Option, Ok, Err, Result, refl, sym, ◌∙◌, ap, subst, IsTrue}
+use Rattle.std.proofs.Common.{◌≡◌, ◌≤◌, ◌↔◌, ℕ, Bool, false, List, length, Option, Ok, Err, Result, refl, sym, ◌∙◌, ap, subst, IsTrue}
 use Rattle.vdr_terms.specs.Needs.{Fits}
 use Rattle.vdr_outside.specs.declared.fault.PartRefused.{PartRefused}
 use Rattle.vdr_outside.specs.declared.fault.PartRefused.TheVariants.{Damaged}

@@ -1,3 +1,7 @@
+pub mod ContentsHeld
+pub mod RefusalMedia
+pub mod RefusalEnds
+pub mod RefusalParts
 pub mod Differing
 pub mod Superblocks
 pub mod Texts
@@ -9,7 +13,3 @@ pub mod Meeting
 pub mod Causes
 pub mod Whole
 pub mod Assembling
-pub mod ContentsHeld
-pub mod RefusalMedia
-pub mod RefusalEnds
-pub mod RefusalParts

@@ -1,5 +1,5 @@
 -- What the media hold as a whole, or where they are refused, from what is found of their parts.
-use Rattle.std.proofs.Common.{◌≡◌, ◌⊎◌, ◌==◌, inl, inr, ℕ, List, [], ◌∷◌, Option, Some, None, cond, refl, sym, ◌∙◌, subst}
+use Rattle.std.proofs.Common.{◌≡◌, ◌==◌, inl, inr, ℕ, List, Option, Some, None, cond, sym, ◌∙◌, subst}
 use Rattle.vdr_history.specs.Histories.{Incident}
 use Rattle.vdr_durability.specs.Readings.{EndsOff}
 use Rattle.vdr_outside.specs.Disk.{Image, content}
@@ -9,7 +9,7 @@ use Rattle.vdr_incident.specs.Tables.{HoldsTable}
 use Rattle.vdr_incident.specs.Tables as incidents
 use Rattle.vdr_media.proofs.Two.{all_two}
 use Rattle.vdr_opening.specs.Media.{both, AreThere, Contents, HoldsContents, IsMedium, reading_of}
-use Rattle.vdr_opening.specs.Refusals.{AreLegal, IsLegalBehind, IsRefused, RefusesMedium, RefusesIncidents, RefusesPlaces, RefusesEnds}
+use Rattle.vdr_opening.specs.Refusals.{AreLegal, IsLegalBehind, IsRefused, RefusesMedium}
 use Rattle.vdr_opening.specs.Parts.{LacksPlacesAt}
 
 -- the segments of each medium by its number

@@ -8,7 +8,6 @@ use Rattle.vdr_outside.specs.Causes.{NoneFalls, Rose}
 use Rattle.vdr_outside.specs.Disk.{Disk}
 use Rattle.vdr_config.specs.Configuration.{Configuration}
 use Rattle.vdr_config.specs.Sizes.{sizes_of, window_of}
-use Rattle.vdr_ring.specs.Sequence.{Placed}
 use Rattle.vdr_ring.specs.Rings.{RingState, HasMedium}
 use Rattle.vdr_ring.specs.Rings as rings
 use Rattle.vdr_opening.specs.declared.refused.OpenRefused.{OpenRefused}

@@ -1,6 +1,5 @@
 -- What the capsule and the long-term medium hold, by the parts of their bytes (this project's profile).
 use Rattle.std.specs.Prelude.{◌≡◌, ℕ, List, [], ◌∷◌, length, All, IfSome, Option}
-use Rattle.vdr_terms.specs.Records.{Record}
 use Rattle.vdr_history.specs.Histories.{Incident, Opening}
 use Rattle.vdr_durability.specs.Readings.{Reading}
 use Rattle.vdr_durability.specs.Shown.{opened}

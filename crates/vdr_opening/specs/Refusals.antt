@@ -1,7 +1,7 @@
 -- The first part of the media that is not legal, in the order in which opening tests them (this project's profile): on one medium
 -- after the other its superblock, its configuration, its segments and their order; then the incident slots by their bytes; then
 -- by whether their places are there; then whether the ends of the media meet.
-use Rattle.std.specs.Prelude.{◌≡◌, ◌⊎◌, ◌∷◌, ◌++◌, ℕ, List, [], length, All, IfSome, Option, Some, None, ⊤}
+use Rattle.std.specs.Prelude.{◌≡◌, ◌⊎◌, ◌∷◌, ◌++◌, ℕ, List, [], length, All, IfSome, Option, Some, None}
 use Rattle.vdr_history.specs.Histories.{Incident}
 use Rattle.vdr_durability.specs.Readings.{EndsOff}
 use Rattle.vdr_outside.specs.Disk.{Image, content}
@@ -13,7 +13,7 @@ use Rattle.vdr_ring.specs.Lookup.{HoldAll}
 use Rattle.vdr_ring.specs.Opening.{Refuses}
 use Rattle.vdr_incident.specs.Tables.{HoldsTable, place_of}
 use Rattle.vdr_incident.specs.Tables as incidents
-use Rattle.vdr_opening.specs.Media.{both, HasFront, HasSegments, IsMedium, Contents, HoldsContents, reading_of}
+use Rattle.vdr_opening.specs.Media.{both, HasFront, IsMedium, Contents, HoldsContents, reading_of}
 
 -- The text is that of the medium before, where there is one.
 abbrev pub IsSameText : Option (List ℕ) → List ℕ → Type 0

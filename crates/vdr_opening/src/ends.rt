@@ -1,6 +1,7 @@
 // Whether the ends of the media meet, and which batch the long-term medium lacks.
-ghost use Rattle.std.specs.Prelude.{◌≡◌, ℕ, List, Err, IfOk, OnOk};
+ghost use Rattle.std.specs.Prelude.{◌≡◌, ◌≢◌, ◌+◌, ◌≤◌, ℕ, List, [], Err, IfOk, OnOk};
 ghost use Rattle.vdr_terms.specs.Records.{last};
+ghost use Rattle.vdr_terms.specs.Sizes.{batch_size};
 ghost use Rattle.vdr_durability.specs.Readings.{EndsMeet, EndsOff, Reading, begins_at, next_after};
 ghost use Rattle.vdr_outside.specs.Disk.{Unchanged};
 ghost use Rattle.vdr_outside.specs.declared.fault.PartRefused.TheVariants.{Damaged};
@@ -41,6 +42,7 @@ pub(crate) fn missing_batch<M: Media>(
     ensures missing { IfOk result (λ missing. M.tells → (first second : List Placed) → Reads capsule.old first (M.disk media.old) → Reads long_term.old second (M.disk media.old)
         → (reading : Reading) → reading.batches 0 ≡ batches_in first → reading.batches 1 ≡ batches_in second
         → EndsMeet both reading × IsMissing missing.items reading) }
+    ensures fits { IfOk result (λ missing. missing.items ≢ [] → 64 + batch_size missing.items + 1 ≤ capsule.old.segment) }
     ensures damaged { (m offset : ℕ) → result ≡ Err (Damaged m offset) → M.tells
         → (first second : List Placed) → Reads capsule.old first (M.disk media.old) → Reads long_term.old second (M.disk media.old)
         → (reading : Reading) → reading.batches 0 ≡ batches_in first → reading.batches 1 ≡ batches_in second

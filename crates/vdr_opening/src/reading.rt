@@ -1,4 +1,5 @@
-ghost use Rattle.std.specs.Prelude.{◌≡◌, ◌≤◌, ℕ, length, All, IfOk, Err};
+ghost use Rattle.std.specs.Prelude.{◌≡◌, ◌≢◌, ◌+◌, ◌≤◌, ℕ, [], length, All, IfOk, Err};
+ghost use Rattle.vdr_terms.specs.Sizes.{batch_size};
 ghost use Rattle.vdr_outside.specs.Disk.{Durable, Unchanged};
 ghost use Rattle.vdr_outside.specs.declared.fault.PartRefused.TheVariants.{Damaged as PartDamaged};
 ghost use Rattle.vdr_media.specs.Formatted.{IsFormatted, IsUnformatted};
@@ -22,6 +23,7 @@ fn read_formatted<M: Media>(alloc: Global, media: &mut M) -> Result<Opened, Part
     ensures opened { IfOk result (λ o. M.tells → All (λ m. Durable m (M.disk media.old)) both → (x : Contents) × IsOpened o x (M.disk media.new)) }
     ensures rings { IfOk result (λ o. IsRingOf o.config (M.disk media.old).sizes 0 o.capsule × IsRingOf o.config (M.disk media.old).sizes 1 o.long_term) }
     ensures slots { IfOk result (λ o. length o.table ≡ o.config.incident_slots) }
+    ensures fits { IfOk result (λ o. o.missing ≢ [] → 64 + batch_size o.missing + 1 ≤ o.config.segment) }
     ensures damaged { (m offset : ℕ) → result ≡ Err (PartDamaged m offset) → M.tells → All (λ k. Durable k (M.disk media.old)) both → IsRefused (M.disk media.old).reads m offset }
     ensures unchanged { Unchanged (M.disk media.old) (M.disk media.new) }
     ensures cause { HasPartCause (M.faults media.old) (M.faults media.new) result }
@@ -55,6 +57,7 @@ pub fn read_media<M: Media>(alloc: Global, media: &mut M) -> Result<Opened, Open
     ensures formatted { IfOk result (λ o. M.tells → IsFormatted (M.disk media.old).reads) }
     ensures rings { IfOk result (λ o. IsRingOf o.config (M.disk media.old).sizes 0 o.capsule × IsRingOf o.config (M.disk media.old).sizes 1 o.long_term) }
     ensures slots { IfOk result (λ o. length o.table ≡ o.config.incident_slots) }
+    ensures fits { IfOk result (λ o. o.missing ≢ [] → 64 + batch_size o.missing + 1 ≤ o.config.segment) }
     ensures unformatted { result ≡ Err NotFormatted → M.tells → IsUnformatted (M.disk media.old).reads }
     ensures damaged { (m offset : ℕ) → result ≡ Err (Damaged m offset) → M.tells → All (λ k. Durable k (M.disk media.old)) both
         → IsFormatted (M.disk media.old).reads × IsRefused (M.disk media.old).reads m offset }

@@ -1,14 +1,15 @@
 -- The last batch of a segment as it is walked over and read, and of a medium.
-use Rattle.std.proofs.Common.{◌≡◌, ◌<◌, ◌≤◌, ◌-◌, ◌+◌, ℕ, Bool, true, false, cond, List, [], ◌∷◌, ◌++◌, length, take, drop, reverse, All, Contains, Option, Some, None, Bor, option_map, find, is_some, slice_get, refl, sym, ap, ◌∙◌, subst, arith, append-nil}
+use Rattle.std.proofs.Common.{◌≡◌, ◌≢◌, ◌<◌, ◌≤◌, ◌+◌, ◌-◌, ℕ, Bool, true, false, cond, List, [], ◌∷◌, ◌++◌, length, take, drop, reverse, All, Contains, Option, Some, None, Bor, option_map, find, is_some, slice_get, refl, sym, ap, ◌∙◌, subst, arith, append-nil}
 use Rattle.std.specs.Option.{option_or}
-use Rattle.std.proofs.lemmas.List.{append_assoc}
+use Rattle.std.proofs.lemmas.List.{append_assoc, length-drop, length-take}
 use Rattle.std.proofs.lemmas.List.Elements.{All-nil, All-contains, All-head, All-tail}
 use Rattle.std.proofs.lemmas.Grind.{reverse_onto}
 use Rattle.std.proofs.lemmas.List.Folds.{find-append}
+use Rattle.std.proofs.lemmas.List.Sums.{sum_by-cons, sum_by_push}
 use Rattle.std.proofs.lemmas.Option.{none-some, same_Some}
 use Rattle.vdr_terms.specs.Records.{Record, last, last_after}
 use Rattle.vdr_terms.specs.Legality.{IsRecord}
-use Rattle.vdr_terms.specs.Sizes.{record_size}
+use Rattle.vdr_terms.specs.Sizes.{record_size, records_size, batch_size}
 use Rattle.vdr_outside.specs.Disk.{Disk, Unchanged, content}
 use Rattle.vdr_outside.proofs.Moments.{settled_still}
 use Rattle.vdr_entry.specs.Reading.{Begins}
@@ -40,26 +41,32 @@ pub record Walked (segment : List ℕ) (end : ℕ) (bytes : List ℕ) : Type 0 w
   pub batches : List (List Record)
   pub front : Front segment end batches
   pub newest : AreOfBatch bytes (last batches)
+  pub fits : bytes ≢ [] → 64 + (5 + length bytes) + 1 ≤ length segment
 
 pub walked_none : (segment : List ℕ) → 65 ≤ length segment → Walked segment 64 []
-walked_none segment long = record { batches = []; front = front_none segment long; newest = refl }
+walked_none segment long = record { batches = []; front = front_none segment long; newest = refl; fits = λ some. absurd (some refl) }
 
 pub walked_more : (segment : List ℕ) (at from to : ℕ) (bytes : List ℕ) → Walked segment at bytes → Walks segment at (Batch from to) → Walked segment to (take (to - from) (drop from segment))
 walked_more segment at from to bytes w (b, stands, from_is, to_is) = record {
   batches = w.batches ++ b ∷ [];
   front = front_more segment at to w.batches b w.front stands (omega (arith, from_is, to_is));
   newest = subst (AreOfBatch (take (to - from) (drop from segment))) (sym (last_behind w.batches b [])) (span_records segment at from to b stands from_is to_is);
+  fits = λ some. omega (arith, length-take (to - from) (drop from segment), from_is, to_is, w.front.behind, stands.room);
 }
 
--- Records that are read one after another: these are read, and those of the rest are left.
+-- Records that are read one after another: these are read, those of the rest are left, and no byte was read twice.
 pub record LeavesRecords (bytes : List ℕ) (read : List Record) (rest : List ℕ) : Type 0 where
   pub each : (records : List Record) → AreRecords bytes records → (left : List Record) × (records ≡ read ++ left) × AreRecords rest left
+  pub size : records_size read + length rest ≤ length bytes
 
 pub leaves_all : (bytes : List ℕ) → LeavesRecords bytes [] bytes
-leaves_all bytes = record { each = λ records a. (records, refl, a) }
+leaves_all bytes = record { each = λ records a. (records, refl, a); size = omega arith }
 
 pub leaves_less : (bytes : List ℕ) (read : List Record) (rest after : List ℕ) (r : Record) (size : ℕ) → Begins rest r after → size ≡ record_size r → LeavesRecords bytes read rest → LeavesRecords bytes (read ++ r ∷ []) (drop size rest)
-leaves_less bytes read rest after r size begins is h = record { each = λ records a. let k = h.each records a in go records k.0 k.1 k.2 }
+leaves_less bytes read rest after r size begins is h = record {
+  each = λ records a. let k = h.each records a in go records k.0 k.1 k.2;
+  size = omega (arith, h.size, sum_by_push record_size read r, length-drop size rest, begun_size rest after r begins, is);
+}
   where
     go : (records left : List Record) → records ≡ read ++ left → AreRecords rest left → (more : List Record) × (records ≡ (read ++ r ∷ []) ++ more) × AreRecords (drop size rest) more
     go records [] same a = let bad : ⊥ = omega (arith, ap length a.spelled, begun_size rest after r begins) in absurd bad
@@ -92,6 +99,12 @@ batch_read bytes read (b ∷ bs) legal newest h = ap batch_or_none (h (last_afte
     some : (rs : List Record) → 0 < length rs → batch_or_none rs ≡ Some rs
     some [] lt = absurd (omega (arith, lt))
     some (r ∷ rs) lt = refl
+
+-- What is read of bytes that fit is a batch that fits.
+pub batch_fits : (bytes : List ℕ) (read : List Record) (room : ℕ) → (bytes ≢ [] → 64 + (5 + length bytes) + 1 ≤ room) → records_size read ≤ length bytes → read ≢ [] → 64 + batch_size read + 1 ≤ room
+batch_fits bytes [] room fits size some = absurd (some refl)
+batch_fits [] (r ∷ rs) room fits size some = let none : ⊥ = omega (arith, size, sum_by-cons record_size r rs) in absurd none
+batch_fits (x ∷ xs) (r ∷ rs) room fits size some = let high = fits (λ none. omega (arith, ap length none)) in omega (arith, high, size)
 
 -- Which segment has the last batch
 

@@ -1,4 +1,4 @@
--- What reading a medium's slots tells, up to its table. No public clause cites it.
+-- What reading a medium's slots tells, up to its table. Of it public clauses cite `BreaksIn` alone.
 use Rattle.std.specs.Prelude.{◌≡◌, ◌≢◌, ◌↔◌, ◌⊎◌, ◌<◌, ◌≤◌, ◌+◌, ℕ, Bool, List, [], ◌∷◌, ◌++◌, length, map, drop, All, Contains, IsTrue, Option, Some, None, ⊤, is_some}
 use Rattle.vdr_terms.specs.Records.{Record}
 use Rattle.vdr_segment.specs.declared.header.Header.{Header}

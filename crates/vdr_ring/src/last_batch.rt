@@ -1,6 +1,7 @@
 // The last batch of a medium, read back from its slot.
-ghost use Rattle.std.specs.Prelude.{◌≡◌, ◌⊎◌, ◌≤◌, ◌<◌, ◌+◌, ℕ, List, All, length, drop, IfOk, IfErr, IfSome, IsErrOf, Err};
+ghost use Rattle.std.specs.Prelude.{◌≡◌, ◌≢◌, ◌⊎◌, ◌≤◌, ◌<◌, ◌+◌, ℕ, List, [], All, length, drop, IfOk, IfErr, IfSome, IsErrOf, Err};
 ghost use Rattle.vdr_terms.specs.Records.{Record as Entry, last};
+ghost use Rattle.vdr_terms.specs.Sizes.{batch_size, records_size};
 ghost use Rattle.vdr_outside.specs.Causes.{counted};
 ghost use Rattle.vdr_outside.specs.Disk.{Unchanged, content};
 ghost use Rattle.vdr_outside.specs.declared.fault.PartRefused.TheVariants.{Damaged, Fault};
@@ -27,6 +28,7 @@ use vdr_segment::{HEADER_SIZE, Walk, walk};
 fn last_records(segment: &[u8]) -> Result<&[u8], usize>
     requires { 65 ≤ length segment.now }
     ensures legal { IfOk result (λ bytes. (batches : List (List Entry)) × AreBatches (drop 64 segment.now) batches × AreOfBatch bytes.now (last batches)) }
+    ensures fits { IfOk result (λ bytes. bytes.now ≢ [] → 64 + (5 + length bytes.now) + 1 ≤ length segment.now) }
     ensures broken { IfErr result (BreaksAt segment.now) }
 {
     let mut records = &segment[..0];
@@ -45,7 +47,8 @@ fn last_records(segment: &[u8]) -> Result<&[u8], usize>
 
 // Reads records, one after another.
 fn read_all(alloc: Global, bytes: &[u8]) -> Result<Vec<Record>, AllocError>
-    ensures { IfOk result (λ read. (records : List Entry) → AreRecords bytes.now records → read.items ≡ records) }
+    ensures all { IfOk result (λ read. (records : List Entry) → AreRecords bytes.now records → read.items ≡ records) }
+    ensures size { IfOk result (λ read. records_size read.items ≤ length bytes.now) }
 {
     let mut read = Vec::new(alloc);
     let mut rest = bytes;
@@ -72,6 +75,7 @@ impl Ring {
         requires { slot < self.now.slots }
         ensures batch { IfOk result (λ records. (batches : List (List Entry)) → AreBatches (drop 64 self.now.buffer) batches
             → batch_or_none records.items ≡ last batches) }
+        ensures fits { IfOk result (λ records. records.items ≢ [] → 64 + batch_size records.items + 1 ≤ self.now.segment) }
         ensures damaged { (m offset : ℕ) → result ≡ Err (Damaged m offset) → (m ≡ self.now.medium)
             × (at : ℕ) × BreaksAt self.now.buffer at × (offset ≡ place_of self.now.segment slot + at) }
         ensures no_fault { IsErrOf result Fault → ⊥ }
@@ -91,8 +95,8 @@ impl Ring {
         }
     }
 
-    /// The records of the medium's last batch, in order; none where the medium has no record. Reads one slot whole where it is
-    /// not the one read last, else nothing.
+    /// The records of the medium's last batch, in order; none where the medium has no record. A segment that has no other batch
+    /// has room for them. Reads one slot whole where it is not the one read last, else nothing.
     ///
     /// `Damaged` names the medium and the first batch of that slot that is not legal, by where it begins, in bytes: since the
     /// ring was opened the bytes have changed. `NoMemory`: there was no room for the records. `Fault`: the read failed, and the
@@ -109,6 +113,7 @@ impl Ring {
         ensures reads { (placed : List Placed) → Reads self.old placed (M.disk media.old) → Reads self.new placed (M.disk media.new) }
         ensures batch { IfOk result (λ records. M.tells → (placed : List Placed) → Reads self.old placed (M.disk media.old)
             → batch_or_none records.items ≡ last (batches_in placed)) }
+        ensures fits { IfOk result (λ records. records.items ≢ [] → 64 + batch_size records.items + 1 ≤ self.old.segment) }
         ensures damaged { M.tells → (placed : List Placed) → Reads self.old placed (M.disk media.old)
             → (m offset : ℕ) → result ≡ Err (Damaged m offset) → ⊥ }
         ensures medium { (m offset : ℕ) → result ≡ Err (Damaged m offset) → m ≡ self.old.medium }

@@ -16,7 +16,8 @@ use vdr_outside::{Fault, Media};
 use vdr_segment::{CLOSED_GATE, HEADER_SIZE, OPEN_GATE, write_header};
 
 // Writes bytes where the slots stand, and syncs their medium. At every moment a stop leaves the media as a stop before the call
-// might have left them, with any bytes in the range. Nothing before the slots is touched, also where it fails.
+// might have left them, with any bytes in the range. Nothing before the slots is touched, also where it fails: that is more than
+// `vdr_outside::write_through` says of what the medium reads as after an error.
 fn write_synced<M: Media>(media: &mut M, area: Area, at: u64, bytes: &[u8]) -> Result<(), Fault>
     requires range { InRange (M.disk media.old).sizes area.medium at (length bytes.now) }
     requires behind { slots_from ≤ at }
@@ -40,7 +41,7 @@ fn write_synced<M: Media>(media: &mut M, area: Area, at: u64, bytes: &[u8]) -> R
 /// Closes a slot, so that it holds no segment: writes its gate, byte 0, and syncs.
 ///
 /// At every moment a stop leaves the slots as they were, or this one closed. That is promised only where the slot isn't
-/// closed already: a torn write may open a gate that was closed.
+/// closed already: a torn write may open a gate that was closed. Nothing before the slots is touched, also where it fails.
 pub fn close_slot<M: Media>(media: &mut M, area: Area, slot: u32) -> Result<(), Fault>
     requires room { HasRoom area (M.disk media.old).sizes }
     requires within { slot < area.slots }
@@ -76,7 +77,8 @@ fn behind_gate(seq: u64, first: u64) -> [u8; HEADER_SIZE]
 /// Writes bytes 1 to 64, which are the header behind its gate and the closed gate of the first batch, and syncs; then
 /// opens the segment's gate, byte 0, and syncs.
 ///
-/// At every moment a stop leaves the slots as they were, or with the new segment.
+/// At every moment a stop leaves the slots as they were, or with the new segment. Nothing before the slots is touched, also
+/// where it fails.
 pub fn begin_segment<M: Media>(
     media: &mut M,
     area: Area,
@@ -109,7 +111,8 @@ pub fn begin_segment<M: Media>(
 /// `vdr_segment::write_batch` made: the batch, its gate open, and a closed gate behind it. Writes all of it but the first
 /// byte and syncs; then writes that one, the batch's gate, and syncs.
 ///
-/// At every moment a stop leaves the slots as they were, or with the batch behind the others of its segment.
+/// At every moment a stop leaves the slots as they were, or with the batch behind the others of its segment. Nothing before
+/// the slots is touched, also where it fails.
 pub fn append_batch<M: Media>(
     media: &mut M,
     area: Area,

@@ -1,4 +1,4 @@
-use Rattle.std.proofs.Common.{◌/◌, ◌%◌, ℕ, ℤ, unsigned_abs, Some, ap, ◌∙◌, sym, arith}
+use Rattle.std.proofs.Common.{◌/◌, ◌%◌, unsigned_abs, Some, ap, ◌∙◌, sym, arith}
 use Rattle.std.proofs.lemmas.Option.{same_Some}
 use Rattle.vdr_entry.proofs.StampLemmas.{nothing, reads_stamp}
 use Rattle.vdr_entry.proofs.utc.stamp_in.Goals as goal
@@ -15,14 +15,6 @@ pub returns-in_err-millis-clause-exact : goal.returns-in_err-millis-clause-exact
 returns-in_err-millis-clause-exact c = λ utc stamp is.
     let read = reads_stamp c.args.text.now utc stamp is in
     nothing _ _ _ c.in_err-millis.was (c.millis_in.ensures.exact (unsigned_abs utc % 86_400_000) (omega arith) read.time)
-
-pub returns-then-utc-gt-LAST_STAMP-clause-exact : goal.returns-then-utc-gt-LAST_STAMP-clause-exact
-returns-then-utc-gt-LAST_STAMP-clause-exact c = λ utc stamp is.
-    let read = reads_stamp c.args.text.now utc stamp is in
-    let days = same_Some _ _ (sym c.in_ok-days.was ∙ c.days_in.ensures.exact (unsigned_abs utc / 86_400_000) read.days read.date) in
-    let millis = same_Some _ _ (sym c.in_ok-millis.was ∙ c.millis_in.ensures.exact (unsigned_abs utc % 86_400_000) (omega arith) read.time) in
-    let bad : ⊥ = omega (arith, days, millis, stamp.in_time, c.if-utc-gt-LAST_STAMP.true) in
-    absurd bad
 
 pub returns-clause-exact : goal.returns-clause-exact
 returns-clause-exact c = λ utc stamp is.

@@ -1,6 +1,5 @@
-use Rattle.std.proofs.Common.{ℕ, List, None, inl, inr, sym, ◌∙◌, ap, subst}
+use Rattle.std.proofs.Common.{ℕ, List, None, inl, inr, sym, subst}
 use Rattle.std.proofs.lemmas.Result.{err_from_is_err_and}
-use Rattle.vdr_outside.specs.Disk.{Image, content}
 use Rattle.vdr_outside.proofs.Counts.{none_falls_join}
 use Rattle.vdr_media.proofs.Unformatted.{durable_still}
 use Rattle.vdr_ring.proofs.Faults.{same_err, no_fault}

@@ -1,6 +1,5 @@
-use Rattle.std.proofs.Common.{ℕ, List, Some, inl, inr, sym, ◌∙◌, ap, subst, refl}
+use Rattle.std.proofs.Common.{ℕ, List, Some, inl, inr, sym, subst, refl}
 use Rattle.std.proofs.lemmas.Result.{err_from_is_err_and}
-use Rattle.vdr_outside.specs.Disk.{content}
 use Rattle.vdr_outside.proofs.Counts.{none_falls_join}
 use Rattle.vdr_media.proofs.Unformatted.{durable_still}
 use Rattle.vdr_ring.proofs.Faults.{same_err, fault_after}

@@ -1,4 +1,4 @@
-use Rattle.std.proofs.Common.{◌≡◌, ℕ, arith, refl, sym, ◌∙◌, subst}
+use Rattle.std.proofs.Common.{ℕ, arith, refl, sym, ◌∙◌, subst}
 use Rattle.vdr_outside.specs.Disk.{content}
 use Rattle.vdr_outside.proofs.Moments.{size_read}
 use Rattle.vdr_opening.specs.Refusals.{RefusesSuperblock}

@@ -1,4 +1,4 @@
-use Rattle.std.proofs.Common.{◌≡◌, ◌+◌, ◌-◌, ℕ, List, take, drop, length, arith, sym, ◌∙◌, ap, subst}
+use Rattle.std.proofs.Common.{◌≡◌, length, arith, ◌∙◌, ap}
 use Rattle.vdr_outside.specs.Disk.{Image, content}
 use Rattle.vdr_opening.proofs.Fronts.{named}
 use Rattle.vdr_opening.proofs.Texts.{too_long, text_read, read_part}

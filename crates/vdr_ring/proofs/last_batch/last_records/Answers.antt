@@ -17,3 +17,6 @@ returns-in-End-clause-legal c = let w = c.loop-from.invariant in (w.batches, fro
 
 pub returns-in-Broken-clause-broken : goal.returns-in-Broken-clause-broken
 returns-in-Broken-clause-broken c = let w = c.loop-from.invariant in front_broken _ _ w.batches w.front c.in-Broken.ensures
+
+pub returns-in-End-clause-fits : goal.returns-in-End-clause-fits
+returns-in-End-clause-fits c = c.loop-from.invariant.fits

@@ -1,4 +1,4 @@
-use Rattle.std.proofs.Common.{◌≡◌, ◌≤◌, ◌<◌, rules, ℕ, List, ◌∷◌, [], ◌++◌, length, drop, subst, sym, arith, length-drop}
+use Rattle.std.proofs.Common.{◌≤◌, ◌<◌, rules, ℕ, List, length, drop, subst, sym, arith, length-drop}
 use Rattle.std.proofs.lemmas.List.{take_rest}
 use Rattle.vdr_terms.specs.Records.{Record}
 use Rattle.vdr_segment.proofs.WalkLemmas.{begun_size}
@@ -30,5 +30,8 @@ loop-item-preserved c =
     (subst (λ (rs : List Record). LeavesRecords c.args.bytes.now rs (drop c.in-Some.size c.loop-item.rest.now)) (sym c.in_ok-push.ensures.items)
     (leaves_less c.args.bytes.now _ c.loop-item.rest.now f.0 _ c.in-Some.size f.1 f.2 c.loop-item.invariant))
 
-pub returns : goal.returns
-returns c = leaves_none c.args.bytes.now _ c.loop-item.rest.now c.in_default.ensures.none c.loop-item.invariant
+pub returns-clause-size : goal.returns-clause-size
+returns-clause-size c = let h = c.loop-item.invariant.size in omega (arith, h)
+
+pub returns-clause-all : goal.returns-clause-all
+returns-clause-all c = leaves_none c.args.bytes.now _ c.loop-item.rest.now c.in_default.ensures.none c.loop-item.invariant

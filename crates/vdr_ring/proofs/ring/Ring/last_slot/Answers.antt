@@ -1,4 +1,4 @@
-use Rattle.std.proofs.Common.{ℕ, List, Option, Some, None, ◌<◌, reverse, find, sym, ap, ◌∙◌, subst, rules}
+use Rattle.std.proofs.Common.{ℕ, List, Some, None, ◌<◌, reverse, find, sym, ap, ◌∙◌, subst, rules}
 use Rattle.vdr_ring.specs.declared.entry.Entry.{Entry}
 use Rattle.vdr_ring.specs.Candidates.{has_records}
 use Rattle.vdr_ring.specs.Tables.{count_of}

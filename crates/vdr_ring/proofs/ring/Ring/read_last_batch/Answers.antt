@@ -1,9 +1,10 @@
-use Rattle.std.proofs.Common.{◌≡◌, List, drop}
+use Rattle.std.proofs.Common.{◌≡◌, ◌≢◌, ◌≤◌, ◌+◌, ℕ, List, [], drop, IfOk, ap, subst}
 use Rattle.std.proofs.lemmas.Result.{IfOk-weaker}
 use Rattle.vdr_terms.specs.Records.{Record, last}
+use Rattle.vdr_terms.specs.Sizes.{batch_size}
 use Rattle.vdr_segment.specs.Segments.{AreBatches}
 use Rattle.vdr_ring.specs.Sequence.{Placed, batches_in}
-use Rattle.vdr_ring.specs.Rings.{Reads}
+use Rattle.vdr_ring.specs.Rings.{Reads, RingState}
 use Rattle.vdr_ring.specs.Lasts.{batch_or_none}
 use Rattle.vdr_ring.proofs.Beginning.{legal_batches}
 use Rattle.vdr_ring.proofs.LastBatch.{reads_on, last_is, none_breaks}
@@ -27,3 +28,6 @@ returns-clause-damaged g c told placed reads m offset is =
     let d = c.last_loaded.ensures.damaged m offset is in
     none_breaks c.args.self.now c.load.new.self placed _ _ reads c.load.ensures.ring c.load.ensures.unchanged c.load.ensures.bytes c.in-Some.slot told c.in-Ok.ensures.loaded
     (c.in-Some.ensures.found placed reads.table (legal_batches _ _ placed _ (reads.settled.reads told))) d.1 d.2
+
+pub returns-clause-fits : goal.returns-clause-fits
+returns-clause-fits g c = subst (λ (n : ℕ). IfOk c.last_loaded.result (λ records. records.items ≢ [] → 64 + batch_size records.items + 1 ≤ n)) (ap (λ (r : RingState). r.segment) c.load.ensures.ring) c.last_loaded.ensures.fits
