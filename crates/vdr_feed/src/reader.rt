@@ -52,6 +52,13 @@ impl FeedReader {
         }
     }
 
+    /// Where the next item begins, in bytes from the beginning of the feed. 0 where the header was not read.
+    pub fn offset(&self) -> u64
+        ensures { result ≡ self.now.offset }
+    {
+        self.offset
+    }
+
     /// Reads the header of the feed, eight bytes at most. Refused with the number 1 at offset 0 where the first eight bytes
     /// are not `VDRFEED1`. Nothing was called on the reader before.
     pub fn header<I: Source>(&mut self, input: &mut I) -> Result<(), FeedFault>

@@ -54,6 +54,7 @@ fn the_pieces_of_a_source_change_nothing(rt: HostRuntime) -> Result<(), Fail> {
         let mut reader = FeedReader::new(4);
         let mut item = Item::new();
         assert_eq!(rt; reader.header(&mut source), Ok(()));
+        assert_eq!(rt; reader.offset(), 8);
         for (group, received, utc, body) in &items {
             assert_eq!(rt;
                 reader.item(&mut source, &mut item),
