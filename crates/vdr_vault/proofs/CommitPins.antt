@@ -1,0 +1,122 @@
+-- Pinned places while segments go and come.
+use Rattle.std.proofs.Common.{◌≡◌, ◌⊎◌, inl, inr, ⊎_elim, ℕ, zero, suc, ◌+◌, ◌<◌, ◌≤◌, List, [], ◌∷◌, ◌++◌, length, true, false, Contains, Option, Some, None, refl, sym, ap, ◌∙◌, subst, arith, length-append}
+use Rattle.std.specs.Prelude.{Any}
+use Rattle.std.proofs.lemmas.Bool.{and_from, cases_eq, le-leb}
+use Rattle.std.proofs.lemmas.List.Elements.{All-contains, Contains-append_left, Contains-append_right}
+use Rattle.vdr_terms.specs.Records.{Record}
+use Rattle.vdr_terms.specs.Order.{RunOn}
+use Rattle.vdr_retention.specs.Layout.{segment_records}
+use Rattle.vdr_retention.specs.Retention.{Pin, HaveNoPlace, within}
+use Rattle.vdr_retention.specs.Victims.{MayGo}
+use Rattle.vdr_retention.proofs.Lists.{contains_here, contains_there}
+use Rattle.vdr_ring.specs.Sequence.{Placed, all_records, batches_of, first_of, records_of}
+use Rattle.vdr_ring.specs.Order.{HasPlace, RunsOn, IsInPlace, AreInPlace, AreInOrder}
+use Rattle.vdr_ring.specs.Lookup.{HoldAll}
+use Rattle.vdr_ring.specs.Stages.{with_batch_in}
+use Rattle.vdr_ring.proofs.Beginning.{any_left, any_right}
+use Rattle.vdr_ring.proofs.Ordering.{records_with_batch}
+
+-- All places of each of these pins stand in the segments.
+abbrev pub HoldPins : List Pin → List Placed → Type 0
+HoldPins pins placed = (pin : Pin) → Contains pins pin → HoldAll pin.a pin.b placed
+
+-- Some of two lists
+
+pub any_first : {X : Type 0} (P : X → Type 0) (x : X) (xs : List X) → Any P (x ∷ xs) → P x ⊎ Any P xs
+any_first P x xs (zero, y, lt, is, p) = inl (subst P (sym is) p)
+any_first P x xs (suc k, y, lt, is, p) = inr (k, y, omega (arith, lt), is, p)
+
+pub any_none : {X : Type 0} (P : X → Type 0) → Any P [] → ⊥
+any_none P h = let lt = h.2 in omega (arith, lt)
+
+pub any_one : {X : Type 0} (P : X → Type 0) (x : X) → P x → Any P (x ∷ [])
+any_one P x p = (0, x, omega arith, refl, p)
+
+pub any_append_cases : {X : Type 0} (P : X → Type 0) (xs ys : List X) → Any P (xs ++ ys) → Any P xs ⊎ Any P ys
+any_append_cases P [] ys h = inr h
+any_append_cases P (x ∷ xs) ys h =
+    ⊎_elim
+    (λ (p : P x). inl (any_left P (x ∷ []) xs (any_one P x p)))
+    (λ (k : Any P (xs ++ ys)). ⊎_elim (λ (l : Any P xs). inl (any_right P (x ∷ []) xs l)) (λ (r : Any P ys). inr r) (any_append_cases P xs ys k))
+    (any_first P x (xs ++ ys) h)
+
+-- A segment that goes
+
+in_place : (o : Option Placed) (before : List Placed) (v : Placed) (after : List Placed) → AreInPlace o (before ++ v ∷ after) → (q : Option Placed) × IsInPlace q v after
+in_place o [] v after h = (o, h.0)
+in_place o (p ∷ before) v after h = in_place (Some p) before v after h.1
+
+pub victim_in_place : (before : List Placed) (v : Placed) (after : List Placed) → AreInOrder (before ++ v ∷ after) → (q : Option Placed) × IsInPlace q v after
+victim_in_place before v after h = in_place None before v after h
+
+-- The record of a place of a run.
+record_at : (place : ℕ) (rs : List Record) (q : ℕ) → RunOn place rs → place ≤ q → q < place + length rs → (r : Record) × Contains rs r × (r.place ≡ q)
+record_at place [] q h low high = absurd (omega (arith, low, high))
+record_at place (r ∷ rs) q h low high = elim (cases_eq q place) [
+  | inl same ↦ (r, contains_here r rs, h.0 ∙ sym same)
+  | inr other ↦
+      let later = record_at (suc place) rs q h.1 (omega (arith, low, other)) (omega (arith, high)) in
+      (later.0, contains_there r rs later.0 later.1, later.2)
+]
+
+-- A segment that may go has no pinned place.
+no_place : (seconds : ℕ) (pins : List Pin) (held : List Record) (v : Placed) (pin : Pin) (place : ℕ) → MayGo seconds pins held (batches_of v) → RunsOn v → Contains pins pin
+    → pin.a ≤ place → place ≤ pin.b → HasPlace place v → ⊥
+no_place seconds pins held v pin place may_go runs there low high has =
+    let found = record_at (first_of v) (records_of v) place runs.places has.from has.below in
+    let none : HaveNoPlace pin.a pin.b (segment_records (batches_of v)) = All-contains (λ pin. HaveNoPlace pin.a pin.b (segment_records (batches_of v))) pins pin may_go.free there in
+    let outside : within pin.a pin.b found.0 ≡ false = All-contains (λ r. within pin.a pin.b r ≡ false) (records_of v) found.0 none found.1 in
+    let at = found.2 in
+    let inside : within pin.a pin.b found.0 ≡ true = and_from _ _ (le-leb pin.a found.0.place (omega (arith, low, at))) (le-leb found.0.place pin.b (omega (arith, high, at))) in
+    let differ : true ≡ false = sym inside ∙ outside in
+    cc
+
+pub pins_stay : (seconds : ℕ) (pins : List Pin) (held : List Record) (before : List Placed) (v : Placed) (after : List Placed) → MayGo seconds pins held (batches_of v)
+    → AreInOrder (before ++ v ∷ after) → HoldPins pins (before ++ v ∷ after) → HoldPins pins (before ++ after)
+pins_stay seconds pins held before v after may_go order h pin there place low high =
+    ⊎_elim
+    (λ (k : Any (HasPlace place) before). any_left (HasPlace place) before after k)
+    (λ (k : Any (HasPlace place) (v ∷ after)). ⊎_elim
+    (λ (has : HasPlace place v). absurd (no_place seconds pins held v pin place may_go (victim_in_place before v after order).1.runs_on there low high has))
+    (λ (l : Any (HasPlace place) after). any_right (HasPlace place) before after l)
+    (any_first (HasPlace place) v after k))
+    (any_append_cases (HasPlace place) before (v ∷ after) (h pin there place low high))
+
+-- Segments that come
+
+pub pins_begun : (pins : List Pin) (placed more : List Placed) → HoldPins pins placed → HoldPins pins (placed ++ more)
+pins_begun pins placed more h pin there place low high = any_left (HasPlace place) placed more (h pin there place low high)
+
+more_places : (place : ℕ) (p : Placed) (records : List Record) → HasPlace place p → HasPlace place (with_batch_in p records)
+more_places place p records h = record {
+  from = h.from;
+  below = omega (arith, h.below, ap length (records_with_batch p records), length-append (records_of p) records);
+}
+
+pub pins_with_batch : (pins : List Pin) (older : List Placed) (newest : Placed) (records : List Record) → HoldPins pins (older ++ newest ∷ []) → HoldPins pins (older ++ with_batch_in newest records ∷ [])
+pins_with_batch pins older newest records h pin there place low high =
+    ⊎_elim
+    (λ (k : Any (HasPlace place) older). any_left (HasPlace place) older (with_batch_in newest records ∷ []) k)
+    (λ (k : Any (HasPlace place) (newest ∷ [])). ⊎_elim
+    (λ (has : HasPlace place newest). any_right (HasPlace place) older (with_batch_in newest records ∷ []) (any_one (HasPlace place) (with_batch_in newest records) (more_places place newest records has)))
+    (λ (l : Any (HasPlace place) []). absurd (any_none (HasPlace place) l))
+    (any_first (HasPlace place) newest [] k))
+    (any_append_cases (HasPlace place) older (newest ∷ []) (h pin there place low high))
+
+-- A place that stands in the segments is that of a record.
+pub place_recorded : (place : ℕ) (placed : List Placed) → AreInOrder placed → Any (HasPlace place) placed → (r : Record) × Contains (all_records placed) r × (r.place ≡ place)
+place_recorded place placed order h = go None placed order h
+  where
+    go : (o : Option Placed) (ps : List Placed) → AreInPlace o ps → Any (HasPlace place) ps → (r : Record) × Contains (all_records ps) r × (r.place ≡ place)
+    go o [] order h = absurd (any_none (HasPlace place) h)
+    go o (p ∷ ps) order h =
+        ⊎_elim
+        (λ (has : HasPlace place p).
+        let found = record_at (first_of p) (records_of p) place order.0.runs_on.places has.from has.below in
+        let here : (r : Record) × Contains (all_records (p ∷ ps)) r × (r.place ≡ place) = (found.0, Contains-append_left (records_of p) (all_records ps) found.0 found.1, found.2) in
+        here)
+        (λ (k : Any (HasPlace place) ps).
+        let found = go (Some p) ps order.1 k in
+        let there : (r : Record) × Contains (all_records (p ∷ ps)) r × (r.place ≡ place) = (found.0, Contains-append_right (records_of p) (all_records ps) found.0 found.1, found.2) in
+        there)
+        (any_first (HasPlace place) p ps h)

@@ -1,0 +1,246 @@
+-- What one medium has at each stage of an append that its configuration allows.
+use Rattle.std.proofs.Common.{◌≡◌, ◌≢◌, ◌⊎◌, inl, inr, ⊎_elim, ℕ, ◌<◌, ◌≤◌, List, [], ◌∷◌, ◌++◌, length, flat_map, true, Contains, Some, refl, sym, ap, ◌∙◌, subst, arith, append_assoc, append-nil}
+use Rattle.std.proofs.lemmas.Bool.{and_parts, leb-true}
+use Rattle.std.proofs.lemmas.List.Elements.{Contains-append_cases, Contains-append_left, Contains-append_right}
+use Rattle.std.proofs.lemmas.Grind.{flat_map-append}
+use mathlib.Core.List.{Sublist, sublist-append_right}
+use mathlib.Core.List.Sublist
+use Rattle.vdr_terms.specs.Records.{Record, last_after, last}
+use Rattle.vdr_terms.specs.Needs.{Sizes, cost, usable}
+use Rattle.vdr_retention.specs.Layout.{Batches, segment_records}
+use Rattle.vdr_retention.specs.Retention.{Pin, Retains, at_places, within}
+use Rattle.vdr_retention.specs.Victims.{ArePinsOf, MayGo}
+use Rattle.vdr_retention.proofs.Lists.{contains_filter, filter_test, filter_was, last_behind, last_contained}
+use Rattle.vdr_retention.proofs.Needed.{last_stays}
+use Rattle.vdr_retention.proofs.Ordered.{parts_in_order}
+use Rattle.vdr_retention.proofs.Following.{follow_in_order}
+use Rattle.vdr_durability.proofs.Restored.{all_with}
+use Rattle.vdr_pace.specs.Media.{IsAppended}
+use Rattle.vdr_ring.specs.Sequence.{Placed, all_records, batches_in, batches_of, records_of, segments_in}
+use Rattle.vdr_ring.specs.Order.{AreInOrder, HasNone, MayPrecede}
+use Rattle.vdr_ring.specs.Stages.{AreStages, Stages, new_segment, next_seq, with_batch_in}
+use Rattle.vdr_ring.specs.Regularity.{AreRegular, IsAllowed}
+use Rattle.vdr_ring.proofs.Medium.{in_order_records}
+use Rattle.vdr_ring.proofs.Ordering.{has_records}
+use Rattle.vdr_ring.proofs.Retaining.{begun_retains, closed_retains, done_retains, stages_regular, victim_is_oldest}
+use Rattle.vdr_vault.proofs.CommitPins.{HoldPins, pins_begun, pins_stay, pins_with_batch, place_recorded, victim_in_place}
+use Rattle.vdr_vault.proofs.ShownImages.{records_are}
+
+-- Segments and their batches
+
+batches_append : (xs ys : List Placed) → batches_in (xs ++ ys) ≡ batches_in xs ++ batches_in ys
+batches_append xs ys = flat_map-append batches_of xs ys
+
+records_append : (xs ys : List Placed) → all_records (xs ++ ys) ≡ all_records xs ++ all_records ys
+records_append [] ys = refl
+records_append (x ∷ xs) ys = ap (λ (rs : List Record). records_of x ++ rs) (records_append xs ys) ∙ sym (append_assoc (records_of x) (all_records xs) (all_records ys))
+
+segments_batches : (ps : List Placed) → flat_map (λ (segment : Batches). segment) (segments_in ps) ≡ batches_in ps
+segments_batches [] = refl
+segments_batches (p ∷ ps) = ap (λ (bs : Batches). batches_of p ++ bs) (segments_batches ps)
+
+-- with a batch in the newest
+pushed : (older : List Placed) (newest : Placed) (records : List Record) → batches_in (older ++ with_batch_in newest records ∷ []) ≡ batches_in (older ++ newest ∷ []) ++ records ∷ []
+pushed older newest records =
+    batches_append older (with_batch_in newest records ∷ [])
+    ∙ ap (λ (bs : Batches). batches_in older ++ bs) (append-nil (batches_of newest ++ records ∷ []))
+    ∙ sym (append_assoc (batches_in older) (batches_of newest) (records ∷ []))
+    ∙ ap (λ (bs : Batches). (batches_in older ++ bs) ++ records ∷ []) (sym (append-nil (batches_of newest)))
+    ∙ ap (λ (bs : Batches). bs ++ records ∷ []) (sym (batches_append older (newest ∷ [])))
+
+-- What is left once a segment has made room: all of it, or all but one that may go and isn't the newest.
+abbrev pub LeavesSegments : (seconds : ℕ) (pins : List Pin) (placed closed : List Placed) → Type 0
+LeavesSegments seconds pins placed closed =
+    (closed ≡ placed)
+    ⊎ ((before : List Placed) × (v : Placed) × (after : List Placed) × (placed ≡ before ++ v ∷ after) × (closed ≡ before ++ after) × MayGo seconds pins (all_records placed) (batches_of v) × (after ≢ []))
+
+-- The last batch stays: the victim doesn't have it.
+last_stays_behind : (seconds : ℕ) (pins : List Pin) (before : List Placed) (v : Placed) (after : List Placed) → 0 < seconds → AreInOrder (before ++ v ∷ after)
+    → MayGo seconds pins (all_records (before ++ v ∷ after)) (batches_of v) → after ≢ [] → last (batches_in (before ++ after)) ≡ last (batches_in (before ++ v ∷ after))
+last_stays_behind seconds pins before v after some order may_go behind = go (batches_in after) refl
+  where
+    has : (after : List Placed) → after ≢ [] → MayPrecede v after → HasNone v → ⊥
+    has [] some precedes none = some refl
+    has (q ∷ rest) some precedes none = has_records v q rest precedes none
+
+    nonempty : (rs : List Record) → (rs ≡ [] → ⊥) → (x : Record) × (xs : List Record) × (rs ≡ x ∷ xs)
+    nonempty [] h = absurd (h refl)
+    nonempty (x ∷ xs) h = (x, xs, refl)
+
+    -- were there nothing behind it
+    gone : batches_in after ≡ [] → ⊥
+    gone e =
+        let r = nonempty (records_of v) (has after behind (victim_in_place before v after order).1.precedes) in
+        let none : all_records after ≡ [] = sym (records_are after) ∙ ap segment_records e in
+        let ends : last (all_records (before ++ v ∷ after)) ≡ Some (last_after r.0 r.1) =
+        ap last (records_append before (v ∷ after) ∙ ap (λ (rs : List Record). all_records before ++ (records_of v ++ rs)) none ∙ ap (λ (rs : List Record). all_records before ++ rs) (append-nil (records_of v) ∙ r.2))
+        ∙ last_behind (all_records before) r.0 r.1 in
+        last_stays seconds pins (all_records (before ++ v ∷ after)) (batches_of v) (last_after r.0 r.1) some ends
+        (last_contained (records_of v) (last_after r.0 r.1) (ap last r.2)) may_go
+
+    go : (bs : Batches) → batches_in after ≡ bs → last (batches_in (before ++ after)) ≡ last (batches_in (before ++ v ∷ after))
+    go [] e = absurd (gone e)
+    go (b ∷ bs) e =
+        ap last (batches_append before after ∙ ap (λ (l : Batches). batches_in before ++ l) e) ∙ last_behind (batches_in before) b bs
+        ∙ sym (ap last (batches_append before (v ∷ after) ∙ ap (λ (l : Batches). batches_in before ++ (batches_of v ++ l)) e ∙ sym (append_assoc (batches_in before) (batches_of v) (b ∷ bs)))
+        ∙ last_behind (batches_in before ++ batches_of v) b bs)
+
+-- Until the batch is there: its last batch, what it retains, and the pinned places, are as before.
+pub record IsBefore (seconds : ℕ) (pins : List Pin) (all : List Record) (placed now : List Placed) : Type 0 where
+  pub ends : last (batches_in now) ≡ last (batches_in placed)
+  pub retains : Retains seconds pins all (all_records now)
+  pub pinned : HoldPins pins now
+
+-- Once it is.
+pub record IsAfter (sizes : Sizes) (m seconds : ℕ) (pins : List Pin) (all records : List Record) (placed now : List Placed) : Type 0 where
+  pub ends : last (batches_in now) ≡ Some records
+  pub retains : Retains seconds pins (all ++ records) (all_records now)
+  pub pinned : HoldPins pins now
+  pub regular : AreRegular (cost sizes) (usable sizes) sizes.batch now
+  pub pins_are : ArePinsOf sizes m (all_records now) pins
+  pub appended : IsAppended (segments_in placed) records (segments_in now)
+  pub ends_all : last (all_records now) ≡ last records
+
+-- What is known of the medium before the call.
+pub record IsReady (sizes : Sizes) (m size count seconds : ℕ) (pins : List Pin) (all records : List Record) (placed : List Placed) : Type 0 where
+  pub allowed : IsAllowed sizes m size count seconds pins placed records
+  pub order : AreInOrder placed
+  pub retains : Retains seconds pins all (all_records placed)
+  pub pinned : HoldPins pins placed
+
+module _ (sizes : Sizes) (m size count seconds : ℕ) (pins : List Pin) (all records : List Record) (placed : List Placed) (first : ℕ) (ready : IsReady sizes m size count seconds pins all records placed) (stages : Stages)
+    (are : AreStages size count seconds pins placed first records stages) where
+  leaves : LeavesSegments seconds pins placed stages.closed
+  leaves = go are
+    where
+      go : AreStages size count seconds pins placed first records stages → LeavesSegments seconds pins placed stages.closed
+      go (inl g) = inl g.closed
+      go (inr b) = ⊎_elim (λ k. inl k.1)
+          (λ k. let o = victim_is_oldest sizes m size count seconds pins placed records k.1 k.2 k.3 ready.allowed k.0 k.4 in inr (k.1, k.2, k.3, o.0.split, k.6, o.0.may_go, o.1))
+          b.place
+
+  begun_batches : batches_in stages.begun ≡ batches_in stages.closed
+  begun_batches = go are
+    where
+      go : AreStages size count seconds pins placed first records stages → batches_in stages.begun ≡ batches_in stages.closed
+      go (inl g) = ap batches_in (g.begun ∙ sym g.closed)
+      go (inr b) = ap batches_in b.begun ∙ batches_append stages.closed (new_segment b.slot (next_seq (last placed)) first ∷ []) ∙ append-nil (batches_in stages.closed)
+
+  done_batches : batches_in stages.done ≡ batches_in stages.closed ++ records ∷ []
+  done_batches = go are
+    where
+      go : AreStages size count seconds pins placed first records stages → batches_in stages.done ≡ batches_in stages.closed ++ records ∷ []
+      go (inl g) = ap batches_in g.done ∙ pushed g.older g.newest records ∙ ap (λ (ps : List Placed). batches_in ps ++ records ∷ []) (sym (g.closed ∙ g.split))
+      go (inr b) = ap batches_in b.done ∙ pushed stages.closed (new_segment b.slot (next_seq (last placed)) first) records
+          ∙ ap (λ (bs : Batches). bs ++ records ∷ []) (batches_append stages.closed (new_segment b.slot (next_seq (last placed)) first ∷ []) ∙ append-nil (batches_in stages.closed))
+
+  closed_ends : last (batches_in stages.closed) ≡ last (batches_in placed)
+  closed_ends = ⊎_elim
+      (λ (e : stages.closed ≡ placed). ap (λ (ps : List Placed). last (batches_in ps)) e)
+      (λ k. subst (λ (p : List Placed × List Placed). last (batches_in p.0) ≡ last (batches_in p.1)) (λ i. (sym k.4 i, sym k.3 i))
+      (last_stays_behind seconds pins k.0 k.1 k.2 ready.allowed.some (subst AreInOrder k.3 ready.order)
+      (subst (λ (ps : List Placed). MayGo seconds pins (all_records ps) (batches_of k.1)) k.3 k.5) k.6))
+      leaves
+
+  closed_pins : HoldPins pins stages.closed
+  closed_pins = ⊎_elim
+      (λ (e : stages.closed ≡ placed). subst (HoldPins pins) (sym e) ready.pinned)
+      (λ k. subst (HoldPins pins) (sym k.4) (pins_stay seconds pins (all_records placed) k.0 k.1 k.2 k.5 (subst AreInOrder k.3 ready.order) (subst (HoldPins pins) k.3 ready.pinned)))
+      leaves
+
+  begun_pins : HoldPins pins stages.begun
+  begun_pins = go are
+    where
+      go : AreStages size count seconds pins placed first records stages → HoldPins pins stages.begun
+      go (inl g) = subst (HoldPins pins) (sym g.begun) ready.pinned
+      go (inr b) = subst (HoldPins pins) (sym b.begun) (pins_begun pins stages.closed (new_segment b.slot (next_seq (last placed)) first ∷ []) closed_pins)
+
+  done_pins : HoldPins pins stages.done
+  done_pins = go are
+    where
+      go : AreStages size count seconds pins placed first records stages → HoldPins pins stages.done
+      go (inl g) = subst (HoldPins pins) (sym g.done) (pins_with_batch pins g.older g.newest records (subst (HoldPins pins) g.split ready.pinned))
+      go (inr b) = subst (HoldPins pins) (sym b.done)
+          (pins_with_batch pins stages.closed (new_segment b.slot (next_seq (last placed)) first) records
+          (pins_begun pins stages.closed (new_segment b.slot (next_seq (last placed)) first ∷ []) closed_pins))
+
+  pub placed_before : IsBefore seconds pins all placed placed
+  placed_before = record { ends = refl; retains = ready.retains; pinned = ready.pinned }
+
+  pub closed_before : IsBefore seconds pins all placed stages.closed
+  closed_before = record {
+    ends = closed_ends;
+    retains = closed_retains sizes m size count seconds pins placed first all records stages ready.allowed are ready.retains;
+    pinned = closed_pins;
+  }
+
+  pub begun_before : IsBefore seconds pins all placed stages.begun
+  begun_before = record {
+    ends = ap last begun_batches ∙ closed_ends;
+    retains = begun_retains sizes m size count seconds pins placed first all records stages ready.allowed are ready.retains;
+    pinned = begun_pins;
+  }
+
+  -- Of the records that are left, and of the new ones
+
+  done_records : all_records stages.done ≡ all_records stages.closed ++ records
+  done_records = sym (records_are stages.done) ∙ ap segment_records done_batches ∙ all_with (batches_in stages.closed) records ∙ ap (λ (rs : List Record). rs ++ records) (records_are stages.closed)
+
+  was_there : (r : Record) → Contains (all_records stages.closed) r → Contains (all_records placed) r
+  was_there r h = ⊎_elim
+      (λ (e : stages.closed ≡ placed). subst (λ (ps : List Placed). Contains (all_records ps) r) e h)
+      (λ k. subst (λ (ps : List Placed). Contains (all_records ps) r) (sym k.3)
+      (subst (λ (rs : List Record). Contains rs r) (sym (records_append k.0 (k.1 ∷ k.2)))
+      (⊎_elim
+      (λ (l : Contains (all_records k.0) r). Contains-append_left (all_records k.0) (records_of k.1 ++ all_records k.2) r l)
+      (λ (l : Contains (all_records k.2) r). Contains-append_right (all_records k.0) (records_of k.1 ++ all_records k.2) r (Contains-append_right (records_of k.1) (all_records k.2) r l))
+      (Contains-append_cases (all_records k.0) (all_records k.2) r (subst (λ (rs : List Record). Contains rs r) (records_append k.0 k.2) (subst (λ (ps : List Placed). Contains (all_records ps) r) k.4 h))))))
+      leaves
+
+  -- no new record has a pinned place
+  none_pinned : (pin : Pin) → Contains pins pin → (r : Record) → Contains records r → within pin.a pin.b r ≡ true → ⊥
+  none_pinned pin there r new inside =
+      let parts = and_parts _ _ inside in
+      let low : pin.a ≤ r.place = leb-true pin.a r.place parts.0 in
+      let high : r.place ≤ pin.b = leb-true r.place pin.b parts.1 in
+      let at = place_recorded pin.b placed ready.order (ready.pinned pin there pin.b (omega (arith, low, high)) (omega arith)) in
+      let later = ((parts_in_order (all_records placed) records (follow_in_order (all_records placed) records (in_order_records placed ready.order) ready.allowed.paced.order)).2 at.0 r at.1 new).0 in
+      let place = at.2 in
+      omega (arith, later, place, high)
+
+  pinned_was_there : (pin : Pin) → Contains pins pin → (r : Record) → Contains (at_places pin.a pin.b (all_records stages.done)) r → Contains (at_places pin.a pin.b (all_records placed)) r
+  pinned_was_there pin there r h =
+      let inside = filter_test (within pin.a pin.b) (all_records stages.done) r h in
+      ⊎_elim
+      (λ (k : Contains (all_records stages.closed) r). contains_filter (within pin.a pin.b) (all_records placed) r (was_there r k) inside)
+      (λ (k : Contains records r). absurd (none_pinned pin there r k inside))
+      (Contains-append_cases (all_records stages.closed) records r (subst (λ (rs : List Record). Contains rs r) done_records (filter_was (within pin.a pin.b) (all_records stages.done) r h)))
+
+  some_kept : Sublist (batches_in stages.closed) (batches_in placed)
+  some_kept = ⊎_elim
+      (λ (e : stages.closed ≡ placed). subst (λ (ps : List Placed). Sublist (batches_in stages.closed) (batches_in ps)) e (Sublist.refl (batches_in stages.closed)))
+      (λ k. subst (λ (p : Batches × Batches). Sublist p.0 p.1) (λ i. (sym (ap batches_in k.4 ∙ batches_append k.0 k.2) i, sym (ap batches_in k.3 ∙ batches_append k.0 (k.1 ∷ k.2)) i))
+      (Sublist.append (Sublist.refl (batches_in k.0)) (sublist-append_right (batches_of k.1) (batches_in k.2))))
+      leaves
+
+  pub done_after : IsAfter sizes m seconds pins all records placed stages.done
+  done_after = record {
+    ends = ap last done_batches ∙ last_behind (batches_in stages.closed) records [];
+    retains = done_retains sizes m size count seconds pins placed first all records stages ready.allowed are ready.retains;
+    pinned = done_pins;
+    regular = (stages_regular sizes m size count seconds pins placed first records stages ready.allowed are).2;
+    pins_are = record {
+      few = ready.allowed.saves.few;
+      short = λ pin there r s k l. ready.allowed.saves.short pin there r s (pinned_was_there pin there r k) (pinned_was_there pin there s l);
+    };
+    appended = record {
+      kept = batches_in stages.closed;
+      some = subst (Sublist (batches_in stages.closed)) (sym (segments_batches placed)) some_kept;
+      order = segments_batches stages.done ∙ done_batches;
+    };
+    ends_all = ap last done_records ∙ behind (all_records stages.closed) records ready.allowed.paced.some;
+  }
+    where
+      behind : (xs ys : List Record) → 0 < length ys → last (xs ++ ys) ≡ last ys
+      behind xs [] some = absurd (omega (arith, some))
+      behind xs (y ∷ ys) some = last_behind xs y ys

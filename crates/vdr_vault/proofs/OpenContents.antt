@@ -1,0 +1,85 @@
+-- The contents that were opened, whoever names them, and what a durable image of them shows.
+use Rattle.std.proofs.Common.{◌≡◌, inl, inr, ℕ, List, [], ◌∷◌, true, All, Contains, Option, Some, refl, sym, ap, ◌∙◌, subst, arith}
+use Rattle.std.proofs.lemmas.List.Elements.{All-nil, All-cons, All-weaker}
+use Rattle.vdr_terms.specs.Records.{Record, last}
+use Rattle.vdr_retention.specs.Layout.{Batches}
+use Rattle.vdr_retention.specs.Retention.{Retains}
+use Rattle.vdr_history.specs.Histories.{Incident}
+use Rattle.vdr_durability.specs.Readings.{AreLevel, EndsMeet, Reading, ends_before, records_on, restored}
+use Rattle.vdr_durability.specs.Shown.{pins_on}
+use Rattle.vdr_durability.proofs.Shows.{opened_shows, retains_itself}
+use Rattle.vdr_outside.specs.Disk.{Disk, Durable, Image, content}
+use Rattle.vdr_config.specs.Configuration.{Configuration}
+use Rattle.vdr_config.specs.Sizes.{window_of}
+use Rattle.vdr_media.proofs.Two.{all_two}
+use Rattle.vdr_ring.specs.Sequence.{Placed, batches_in}
+use Rattle.vdr_ring.specs.Rings as rings
+use Rattle.vdr_incident.specs.Tables.{HoldsTable}
+use Rattle.vdr_opening.specs.Media.{both, Contents, HoldsContents, IsMedium, opening_of, reading_of}
+use Rattle.vdr_opening.specs.Settings.{settings_of}
+use Rattle.vdr_opening.specs.Answers.{IsMissing, IsOpened, OpenedState}
+use Rattle.vdr_opening.proofs.ContentsHeld.{are_legal, one_capsule, one_config, one_incidents, one_long_term}
+use Rattle.vdr_vault.specs.Vaults.{ShowsHistory}
+use Rattle.vdr_vault.proofs.CommitMoments.{one}
+use Rattle.vdr_vault.proofs.ShownImages.{are_members, has_long_term}
+
+-- Readings with the same batches: where their ends meet, and what one lacks.
+module _ (r s : Reading) (first : r.batches 0 ≡ s.batches 0) (second : r.batches 1 ≡ s.batches 1) where
+  same_waits : ends_before (last (r.batches 0)) (r.batches 1) ≡ true → ends_before (last (s.batches 0)) (s.batches 1) ≡ true
+  same_waits h = subst (λ (b : Batches × Batches). ends_before (last b.0) b.1 ≡ true) (λ i. (first i, second i)) h
+
+  same_end : last (r.batches 1) ≡ last (r.batches 0) → last (s.batches 1) ≡ last (s.batches 0)
+  same_end h = sym (ap last second) ∙ h ∙ ap last first
+
+  pub same_meet : EndsMeet both r → EndsMeet both s
+  same_meet (inl (e, inl (f, u))) = inl (refl, inl (same_end f, tt))
+  same_meet (inl (e, inr waits)) = inl (refl, inr (one (λ m. ends_before (last (s.batches 0)) (s.batches m) ≡ true) 1 (same_waits (waits 0 1 (omega arith)))))
+  same_meet (inr waits) = inr (all_two (λ m. ends_before (last (s.batches 0)) (s.batches m) ≡ true)
+      (subst (λ (b : Batches). ends_before (last b) b ≡ true) first (waits 0 0 (omega arith))) (same_waits (waits 1 1 (omega arith))))
+
+  pub same_missing : (missing : List Record) → IsMissing missing r → IsMissing missing s
+  same_missing missing (inl (none, level)) = inl (none, all_two (λ m. last (s.batches m) ≡ last (s.batches 0)) refl (same_end (level 1 1 (omega arith))))
+  same_missing missing (inr passed) = inr (record {
+    split = refl;
+    some = omega arith;
+    given_end = one (λ m. last (s.batches m) ≡ Some missing) 0 (sym (ap last first) ∙ passed.given_end 0 0 (omega arith));
+    waiting_end = one (λ m. ends_before (Some missing) (s.batches m) ≡ true) 1 (subst (λ (b : Batches). ends_before (Some missing) b ≡ true) second (passed.waiting_end 0 1 (omega arith)));
+  })
+
+module _ {tells tells_images : Type 0} where
+  -- Media that hold contents were opened on these.
+  pub opened_on : (o : OpenedState) (x y : Contents) (disk : Disk tells tells_images) → HoldsContents disk.reads x → IsOpened o y disk → IsOpened o x disk
+  opened_on o x y disk h was =
+      let capsule : y.placed 0 ≡ x.placed 0 = one_capsule (are_legal was.holds) (are_legal h) in
+      let long_term : y.placed 1 ≡ x.placed 1 = one_long_term (are_legal was.holds) (are_legal h) in
+      record {
+        holds = h;
+        meet = same_meet (reading_of y) (reading_of x) (ap batches_in capsule) (ap batches_in long_term) was.meet;
+        config = was.config ∙ one_config (are_legal was.holds) (are_legal h);
+        capsule = subst (λ (ps : List Placed). rings.Reads o.capsule ps disk) capsule was.capsule;
+        long_term = subst (λ (ps : List Placed). rings.Reads o.long_term ps disk) long_term was.long_term;
+        table = was.table ∙ one_incidents (are_legal was.holds) (are_legal h) was.holds.table h.table;
+        missing = same_missing (reading_of y) (reading_of x) (ap batches_in capsule) (ap batches_in long_term) o.missing was.missing;
+      }
+
+  -- What a stop may leave of durable media holds what they read as.
+  pub held_durable : (x : Contents) (disk : Disk tells tells_images) → All (λ m. Durable m disk) both → HoldsContents disk.reads x → (i : Image) → disk.now i → HoldsContents i x
+  held_durable x disk durable h i now = record {
+    media = all_two (λ m. IsMedium m x.config x.text (x.placed m) (content i m))
+        (subst (IsMedium 0 x.config x.text (x.placed 0)) (sym ((durable 0 0 (omega arith)).each i now)) (h.media 0 0 (omega arith)))
+        (subst (IsMedium 1 x.config x.text (x.placed 1)) (sym ((durable 1 1 (omega arith)).each i now)) (h.media 1 1 (omega arith)));
+    table = subst (HoldsTable x.config.incident_slots x.table) (sym ((durable 1 1 (omega arith)).each i now)) h.table;
+    there = h.there;
+  }
+
+-- Contents whose ends meet show what is opened on them.
+pub restored_shown : (x : Contents) (image : Image) → HoldsContents image x → EndsMeet both (reading_of x) → ShowsHistory (opening_of x) [] image
+restored_shown x image holds meet = (
+  both,
+  reading_of x,
+  record { members_are = refl; contents = x; holds = holds; is = refl },
+  opened_shows both (settings_of x.config x.text) (reading_of x) (reading_of x) are_members has_long_term refl refl meet
+      (all_two (λ m. Retains (window_of x.config m) (pins_on m x.table) (records_on (restored both (reading_of x)) m) (records_on (restored both (reading_of x)) m))
+      (retains_itself (window_of x.config 0) (pins_on 0 x.table) (records_on (restored both (reading_of x)) 0))
+      (retains_itself (window_of x.config 1) (pins_on 1 x.table) (records_on (restored both (reading_of x)) 1))),
+)

@@ -1,0 +1,129 @@
+-- What a read of one ring leaves of a vault.
+use Rattle.std.proofs.Common.{◌≡◌, ◌<◌, ℕ, zero, suc, List, get_or, refl, sym, ap, ◌∙◌, subst, arith}
+use Rattle.vdr_history.specs.Histories.{Event, Opening}
+use Rattle.vdr_outside.specs.Disk.{Disk, Image, Unchanged, content}
+use Rattle.vdr_outside.specs.Parts.{part}
+use Rattle.vdr_outside.proofs.Moments.{settled_still}
+use Rattle.vdr_slots.specs.Slots.{place_of}
+use Rattle.vdr_config.specs.Configuration.{Configuration}
+use Rattle.vdr_config.specs.Sizes.{sizes_of}
+use Rattle.vdr_terms.specs.Needs.{slots_in}
+use Rattle.vdr_media.proofs.Two.{all_two}
+use Rattle.vdr_ring.specs.Sequence.{Placed}
+use Rattle.vdr_ring.specs.Rings.{RingState, HoldsPlaced, Reads}
+use Rattle.vdr_ring.specs.Opening.{slot_bytes}
+use Rattle.vdr_incident.specs.Tables.{HoldsTable}
+use Rattle.vdr_opening.specs.Media.{HasFront}
+use Rattle.vdr_opening.specs.Answers.{IsRingOf}
+use Rattle.vdr_vault.specs.Vaults.{MembersState, AreRings, HoldsHistory, Stands, ring_of}
+use Rattle.vdr_vault.specs.Walks.{HasRead}
+use Rattle.vdr_vault.specs.Plays.{ReadsOn}
+use Rattle.vdr_vault.proofs.Passing.{room_kept}
+
+with_rings : (old new : MembersState) (capsule long_term : RingState) → new ≡ record old { capsule = capsule; long_term = long_term }
+    → new ≡ record old { capsule = new.capsule; long_term = new.long_term }
+with_rings old new capsule long_term same =
+    let first : new.capsule ≡ capsule = ap (λ (s : MembersState). s.capsule) same in
+    let second : new.long_term ≡ long_term = ap (λ (s : MembersState). s.long_term) same in
+    same ∙ sym (λ i. record old { capsule = first i; long_term = second i })
+
+module _ {tells tells_images : Type 0} where
+  reads_still : (ring : RingState) (placed : List Placed) (before now : Disk tells tells_images) → Unchanged before now → Reads ring placed before → Reads ring placed now
+  reads_still ring placed before now same reads = record {
+    settled = settled_still ring.medium (HoldsPlaced ring.segment ring.slots placed) before now same reads.settled;
+    order = reads.order;
+    table = reads.table;
+    loaded = λ j at told.
+        subst (λ (i : Image). ring.buffer ≡ part (content i ring.medium) (place_of ring.segment j) ring.segment) (sym (same.reads told)) (reads.loaded j at told);
+  }
+
+  -- the ring of the other medium
+  pub other_read : (ring : RingState) (before now : Disk tells tells_images) → Unchanged before now → HasRead ring ring before now
+  other_read ring before now same = record {
+    ring = refl;
+    unchanged = same;
+    bytes = λ held slot at told. subst (λ (i : Image). ring.buffer ≡ slot_bytes ring.segment slot (content i ring.medium)) (sym (same.reads told)) (held slot at told);
+    reads = λ placed h. reads_still ring placed before now same h;
+  }
+
+  is_ring_still : (c : Configuration) (m : ℕ) (old new : RingState) (before now : Disk tells tells_images) → HasRead old new before now → IsRingOf c before.sizes m old → IsRingOf c now.sizes m new
+  is_ring_still c m old new before now read is =
+      let sizes = read.unchanged.sizes in
+      record {
+        medium = ap (λ (r : RingState). r.medium) read.ring ∙ is.medium;
+        segment = ap (λ (r : RingState). r.segment) read.ring ∙ is.segment;
+        slots = ap (λ (r : RingState). r.slots) read.ring ∙ is.slots ∙ ap (λ (ns : List ℕ). slots_in (sizes_of c) (get_or ns m 0)) (sym sizes);
+        seconds = ap (λ (r : RingState). r.seconds) read.ring ∙ is.seconds;
+        room = room_kept old new before now read is.room;
+      }
+
+  holds_still : (opening : Opening) (events : List Event) (c : Configuration) (m : ℕ) (old new : RingState) (placed : List Placed) (before now : Disk tells tells_images) → HasRead old new before now
+      → HoldsHistory opening events c m old placed before → HoldsHistory opening events c m new placed now
+  holds_still opening events c m old new placed before now read h = record {
+    is_its = is_ring_still c m old new before now read h.is_its;
+    reads = read.reads placed h.reads;
+    front = λ told. subst (λ (i : Image). HasFront m c opening.settings.text (content i m)) (sym (read.unchanged.reads told)) (h.front told);
+    regular = h.regular;
+    order = h.order;
+    retains = h.retains;
+    pins = h.pins;
+  }
+
+  -- with other rings that have read
+  stands_with : (opening : Opening) (events : List Event) (placed : ℕ → List Placed) (members : MembersState) (capsule long_term : RingState) (before now : Disk tells tells_images)
+      → HasRead members.capsule capsule before now → HasRead members.long_term long_term before now → Stands opening events members placed before
+      → Stands opening events (record members { capsule = capsule; long_term = long_term }) placed now
+  stands_with opening events placed members capsule long_term before now first second stands =
+      let new : MembersState = record members { capsule = capsule; long_term = long_term } in
+      record {
+        settings = stands.settings;
+        working = stands.working;
+        media = all_two (λ m. HoldsHistory opening events members.config m (ring_of new m) (placed m) now)
+            (holds_still opening events members.config 0 members.capsule capsule (placed 0) before now first (stands.media 0 0 (omega arith)))
+            (holds_still opening events members.config 1 members.long_term long_term (placed 1) before now second (stands.media 1 0 (omega arith)));
+        level = stands.level;
+        incidents_are = stands.incidents_are;
+        slots = stands.slots;
+        table = λ told. subst (λ (i : Image). HoldsTable members.config.incident_slots members.table (content i 1)) (sym (first.unchanged.reads told)) (stands.table told);
+        there = stands.there;
+        goes_on = stands.goes_on;
+        newest = stands.newest;
+        place = stands.place;
+        stamp = stands.stamp;
+      }
+
+  rings_with : (members : MembersState) (capsule long_term : RingState) (before now : Disk tells tells_images) → HasRead members.capsule capsule before now
+      → HasRead members.long_term long_term before now → AreRings members before.sizes → AreRings (record members { capsule = capsule; long_term = long_term }) now.sizes
+  rings_with members capsule long_term before now first second rings =
+      let new : MembersState = record members { capsule = capsule; long_term = long_term } in
+      all_two (λ m. IsRingOf members.config now.sizes m (ring_of new m)) (is_ring_still members.config 0 members.capsule capsule before now first (rings 0 0 (omega arith)))
+      (is_ring_still members.config 1 members.long_term long_term before now second (rings 1 0 (omega arith)))
+
+  -- Both rings have read, of which one read nothing.
+  pub record BothRead (old new : MembersState) (before now : Disk tells tells_images) : Type 0 where
+    pub same : new ≡ record old { capsule = new.capsule; long_term = new.long_term }
+    pub capsule : HasRead old.capsule new.capsule before now
+    pub long_term : HasRead old.long_term new.long_term before now
+
+  pub both_read : (m : ℕ) (old new : MembersState) (before now : Disk tells tells_images) → m < 2 → ReadsOn m old new → HasRead (ring_of old m) (ring_of new m) before now → BothRead old new before now
+  both_read zero old new before now within members read = record {
+    same = with_rings old new (record old.capsule { buffer = new.capsule.buffer; loaded = new.capsule.loaded }) old.long_term members;
+    capsule = read;
+    long_term = subst (λ (r : RingState). HasRead old.long_term r before now) (sym (ap (λ (s : MembersState). s.long_term) members)) (other_read old.long_term before now read.unchanged);
+  }
+  both_read (suc zero) old new before now within members read = record {
+    same = with_rings old new old.capsule (record old.long_term { buffer = new.long_term.buffer; loaded = new.long_term.loaded }) members;
+    capsule = subst (λ (r : RingState). HasRead old.capsule r before now) (sym (ap (λ (s : MembersState). s.capsule) members)) (other_read old.capsule before now read.unchanged);
+    long_term = read;
+  }
+  both_read (suc (suc m)) old new before now within members read = absurd (omega (arith, within))
+
+  pub stands_still : (opening : Opening) (events : List Event) (placed : ℕ → List Placed) (old new : MembersState) (before now : Disk tells tells_images) → BothRead old new before now
+      → Stands opening events old placed before → Stands opening events new placed now
+  stands_still opening events placed old new before now read stands =
+      subst (λ (s : MembersState). Stands opening events s placed now) (sym read.same)
+      (stands_with opening events placed old new.capsule new.long_term before now read.capsule read.long_term stands)
+
+  pub rings_still : (old new : MembersState) (before now : Disk tells tells_images) → BothRead old new before now → AreRings old before.sizes → AreRings new now.sizes
+  rings_still old new before now read rings =
+      subst (λ (s : MembersState). AreRings s now.sizes) (sym read.same) (rings_with old new.capsule new.long_term before now read.capsule read.long_term rings)

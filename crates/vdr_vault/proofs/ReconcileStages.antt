@@ -1,0 +1,160 @@
+-- What the long-term medium has while the batch that it lacks is appended to it.
+use Rattle.std.proofs.Common.{◌≡◌, inl, inr, ⊎_elim, ℕ, zero, suc, ◌+◌, ◌<◌, ◌≤◌, List, [], ◌∷◌, ◌++◌, length, get_or, All, Some, ◌==◌, refl, sym, ap, ◌∙◌, subst, arith}
+use Rattle.std.specs.Prelude.{Any}
+use Rattle.std.proofs.lemmas.Bool.{cond_both}
+use Rattle.vdr_terms.specs.Records.{Record, last}
+use Rattle.vdr_terms.specs.Needs.{cost, needed_slots, slots_in, usable}
+use Rattle.vdr_terms.specs.Order.{RunOn}
+use Rattle.vdr_terms.specs.Sizes.{batch_size}
+use Rattle.vdr_retention.specs.Regular.{FollowOn}
+use Rattle.vdr_retention.specs.Retention.{Retains}
+use Rattle.vdr_retention.specs.Victims.{ArePinsOf}
+use Rattle.vdr_durability.specs.Readings.{IsPassedOn, begins_at, next_after, records_on, restored}
+use Rattle.vdr_durability.specs.Shown.{pins_of, pins_on}
+use Rattle.vdr_durability.proofs.Shows.{retains_itself}
+use Rattle.vdr_outside.specs.Disk.{Disk, Durable, Image, content}
+use Rattle.vdr_outside.specs.Moments.{AtEachMoment, Changed, ChangesOnly}
+use Rattle.vdr_outside.proofs.Moments.{moments_weaken, size_read}
+use Rattle.vdr_config.specs.Configuration.{Configuration, IsConfiguration}
+use Rattle.vdr_config.specs.Sizes.{sizes_of, window_of}
+use Rattle.vdr_media.proofs.Two.{all_two}
+use Rattle.vdr_slots.specs.Slots.{SameFront}
+use Rattle.vdr_ring.specs.Sequence.{Placed, all_records, batches_in, segments_in}
+use Rattle.vdr_ring.specs.Order.{AreInOrder}
+use Rattle.vdr_ring.specs.Rings.{RingState, HoldsAny, HoldsPlaced}
+use Rattle.vdr_ring.specs.Regularity.{AreRegular}
+use Rattle.vdr_ring.specs.Stages.{AreStages, Continues, Stages}
+use Rattle.vdr_ring.proofs.Keeping.{orders_of}
+use Rattle.vdr_opening.specs.Media.{both, Contents, HasFront, HoldsContents, IsMedium, opening_of, reading_of}
+use Rattle.vdr_opening.specs.Answers.{IsRingOf}
+use Rattle.vdr_vault.specs.Vaults.{ShowsHistory}
+use Rattle.vdr_vault.specs.Regularity.{AreRegularMedia}
+use Rattle.vdr_vault.proofs.ShownFronts.{front_stays, table_stays}
+use Rattle.vdr_vault.proofs.ShownImages.{placed_there, records_are}
+use Rattle.vdr_vault.proofs.CommitPins.{HoldPins}
+use Rattle.vdr_vault.proofs.CommitReady.{are_there, begins_first, continues, pins_there}
+use Rattle.vdr_vault.proofs.CommitStages.{IsAfter, IsBefore, IsReady, begun_before, closed_before, done_after, placed_before}
+use Rattle.vdr_vault.proofs.CommitMoments.{changes_both, zero_one}
+use Rattle.vdr_vault.proofs.ReconcileBatch.{last_is_legal, last_runs_on, runs_from}
+use Rattle.vdr_vault.proofs.ReconcileLayouts.{missing_is_paced, pins_read, segments_read}
+use Rattle.vdr_vault.proofs.ReconcileShown.{AreOpened, capsule_restored, leads, long_term_restored, opened_shown, waiting_shown, waits, with_long_term, with_placed}
+
+-- The place after the last record of the long-term medium.
+abbrev pub first_place : Contents → ℕ
+first_place x = next_after (last (all_records (x.placed 1)))
+
+-- One of four stages.
+any_of_four : {X : Type 0} (P : X → Type 0) (R : Type 0) (a b c d : X) → (P a → R) → (P b → R) → (P c → R) → (P d → R) → Any P (a ∷ b ∷ c ∷ d ∷ []) → R
+any_of_four P R a b c d p q r s (zero, y, lt, is, h) = p (subst P (sym is) h)
+any_of_four P R a b c d p q r s (suc zero, y, lt, is, h) = q (subst P (sym is) h)
+any_of_four P R a b c d p q r s (suc (suc zero), y, lt, is, h) = r (subst P (sym is) h)
+any_of_four P R a b c d p q r s (suc (suc (suc zero)), y, lt, is, h) = s (subst P (sym is) h)
+any_of_four P R a b c d p q r s (suc (suc (suc (suc k))), y, lt, is, h) = absurd (omega (arith, lt))
+
+windowed : (c : Configuration) (m : ℕ) → IsConfiguration c → 0 < window_of c m
+windowed c m is =
+    let a = is.capsule_low in
+    let b = is.long_low in
+    cond_both (m == 0) c.capsule_seconds c.long_seconds (λ (n : ℕ). 0 < n) (λ _. omega (arith, a)) (λ _. omega (arith, b))
+
+-- What is known of the media before it: they hold these contents, the capsule is durable, and this is the long-term medium's ring.
+pub record Lacks {tells tells_images : Type 0} (x : Contents) (batch : List Record) (ring : RingState) (disk : Disk tells tells_images) : Type 0 where
+  pub told : tells
+  pub holds : HoldsContents disk.reads x
+  pub regular : AreRegularMedia x
+  pub passed : IsPassedOn both (0 ∷ []) (1 ∷ []) batch (reading_of x)
+  pub capsule : Durable 0 disk
+  pub is_its : IsRingOf x.config disk.sizes 1 ring
+  pub reads : HoldsPlaced ring.segment ring.slots (x.placed 1) (content disk.reads 1)
+  pub ranges : IsConfiguration x.config
+  pub fits : 64 + batch_size batch + 1 ≤ ring.segment
+
+module _ {tells tells_images : Type 0} (x : Contents) (batch : List Record) (ring : RingState) (disk : Disk tells tells_images) (h : Lacks x batch ring disk) where
+  order_at : All (λ m. AreInOrder (x.placed m)) both
+  order_at = all_two (λ m. AreInOrder (x.placed m)) (h.holds.media 0 0 (omega arith)).segments.order (h.holds.media 1 1 (omega arith)).segments.order
+
+  ends : last (batches_in (x.placed 0)) ≡ Some batch
+  ends = h.passed.given_end 0 0 (omega arith)
+
+  runs : (from : ℕ) × RunOn from batch
+  runs = last_runs_on (x.placed 0) batch (h.holds.media 0 0 (omega arith)).segments.order ends
+
+  ready : IsReady (sizes_of x.config) 1 ring.segment ring.slots ring.seconds (pins_of x.table) (all_records (x.placed 1)) batch (x.placed 1)
+  ready = record {
+    allowed = record {
+      regular = segments_read x h.regular 1 1 (omega arith);
+      paced = missing_is_paced x h.regular batch runs.0 (h.passed.given_end 0 0 (omega arith)) (h.passed.waiting_end 0 1 (omega arith)) runs.1;
+      saves = pins_read x h.regular 1 1 (omega arith);
+      slots = subst (λ (n : ℕ). needed_slots (sizes_of x.config) 1 ≤ n) (sym (h.is_its.slots ∙ ap (λ (n : ℕ). slots_in (sizes_of x.config) n) (sym (size_read disk 1 h.told)))) (h.holds.media 1 1 (omega arith)).front.configured.fits;
+      segment = sym h.is_its.segment;
+      room = let low = h.ranges.segment_low in let four = h.ranges.four_batches in omega (arith, low, four);
+      window = sym h.is_its.seconds;
+      some = subst (λ (n : ℕ). 0 < n) (sym h.is_its.seconds) (windowed x.config 1 h.ranges);
+    };
+    order = (h.holds.media 1 1 (omega arith)).segments.order;
+    retains = retains_itself ring.seconds (pins_of x.table) (all_records (x.placed 1));
+    pinned = pins_there x.table (x.placed 1) h.holds.there;
+  }
+
+  follow : FollowOn (last (all_records (x.placed 1))) batch
+  follow = ready.allowed.paced.order
+
+  -- The batch goes on where the medium ends.
+  pub lacked_goes_on : Continues (x.placed 1) (first_place x) batch
+  lacked_goes_on = continues (x.placed 1) batch (first_place x) ready.order refl
+      (runs_from batch (first_place x) runs.0 runs.1 (ap (λ (rs : List Record). begins_at (next_after (last rs)) batch) (sym (records_are (x.placed 1))) ∙ waits x batch h.passed follow)) ready.allowed.paced.some follow
+
+  module _ (stages : Stages) (are : AreStages ring.segment ring.slots ring.seconds (pins_of x.table) (x.placed 1) (first_place x) batch stages) where
+    orders : AreInOrder stages.closed × AreInOrder stages.begun × AreInOrder stages.done
+    orders = orders_of (sizes_of x.config) 1 ring.segment ring.slots ring.seconds (pins_of x.table) (x.placed 1) (first_place x) batch stages (content disk.reads 1) h.reads ready.order lacked_goes_on
+        (last_is_legal _ _ (x.placed 0) _ batch (h.holds.media 0 0 (omega arith)).segments.holds ends) h.fits ready.allowed are (begins_first (x.placed 1) (first_place x) refl)
+
+    done : IsAfter (sizes_of x.config) 1 ring.seconds (pins_of x.table) (all_records (x.placed 1)) batch (x.placed 1) stages.done
+    done = done_after (sizes_of x.config) 1 ring.segment ring.slots ring.seconds (pins_of x.table) (all_records (x.placed 1)) batch (x.placed 1) (first_place x) ready stages are
+
+    -- Once it is there the media are as opened.
+    pub done_opened : AreOpened x (with_long_term x.placed stages.done)
+    done_opened = record {
+      batch = refl;
+      level = all_two (λ m. last (batches_in (with_long_term x.placed stages.done m)) ≡ last (batches_in (x.placed 0))) refl (done.ends ∙ sym ends);
+      order = all_two (λ m. AreInOrder (with_long_term x.placed stages.done m)) (order_at 0 0 (omega arith)) orders.2;
+      retains = all_two (λ m. Retains (window_of x.config m) (pins_on m x.table) (records_on (restored both (reading_of x)) m) (all_records (with_long_term x.placed stages.done m)))
+          (subst (λ (rs : List Record). Retains (window_of x.config 0) (pins_on 0 x.table) rs (all_records (x.placed 0))) (sym (capsule_restored x batch h.passed follow))
+          (retains_itself (window_of x.config 0) (pins_on 0 x.table) (all_records (x.placed 0))))
+          (subst (λ (rs : List Record). Retains (window_of x.config 1) (pins_of x.table) rs (all_records stages.done)) (sym (long_term_restored x batch h.passed follow))
+          (subst (λ (n : ℕ). Retains n (pins_of x.table) (all_records (x.placed 1) ++ batch) (all_records stages.done)) h.is_its.seconds done.retains));
+      regular = all_two (λ m. AreRegular (cost (sizes_of x.config)) (usable (sizes_of x.config)) x.config.batch (with_long_term x.placed stages.done m)) (segments_read x h.regular 0 0 (omega arith)) done.regular;
+      pins = all_two (λ m. ArePinsOf (sizes_of x.config) m (all_records (with_long_term x.placed stages.done m)) (pins_on m x.table)) (pins_read x h.regular 0 0 (omega arith)) done.pins_are;
+      there = are_there x.table stages.done done.pinned;
+    }
+
+    -- What an image of a stage holds.
+    stage_held : (now : List Placed) → AreInOrder now → HoldPins (pins_of x.table) now → (i : Image) → Changed 1 (λ b. HoldsAny ring.segment ring.slots (x.placed 1 ∷ stages.closed ∷ stages.begun ∷ stages.done ∷ []) b × SameFront (content disk.reads 1) b) disk.now i
+        → HoldsPlaced ring.segment ring.slots now (content i 1) → HoldsContents i (with_placed x (with_long_term x.placed now))
+    stage_held now order pinned i c held = record {
+      media = all_two (λ m. IsMedium m x.config x.text (with_long_term x.placed now m) (content i m))
+          (subst (IsMedium 0 x.config x.text (x.placed 0)) (sym (c.others 0 zero_one ∙ h.capsule.each c.image c.was)) (h.holds.media 0 0 (omega arith)))
+          (record {
+            front = front_stays (content disk.reads 1) (content i 1) c.has.1 1 x.config x.text (h.holds.media 1 1 (omega arith)).front;
+            segments = record { holds = placed_there x.config disk.sizes 1 ring now (content i 1) h.is_its (c.has.1.size ∙ size_read disk 1 h.told) held; order = order };
+          });
+      table = table_stays (content disk.reads 1) (content i 1) c.has.1 x.config.incident_slots x.table h.ranges.slots_high h.holds.table;
+      there = are_there x.table now pinned;
+    }
+
+    before_shown : (now : List Placed) → AreInOrder now → IsBefore ring.seconds (pins_of x.table) (all_records (x.placed 1)) (x.placed 1) now → (i : Image)
+        → Changed 1 (λ b. HoldsAny ring.segment ring.slots (x.placed 1 ∷ stages.closed ∷ stages.begun ∷ stages.done ∷ []) b × SameFront (content disk.reads 1) b) disk.now i
+        → HoldsPlaced ring.segment ring.slots now (content i 1) → ShowsHistory (opening_of x) [] i
+    before_shown now order k i c held = waiting_shown x batch h.passed follow now
+        (subst (λ (n : ℕ). Retains n (pins_of x.table) (all_records (x.placed 1)) (all_records now)) h.is_its.seconds k.retains) i (stage_held now order k.pinned i c held)
+
+    -- At every moment they show what was opened.
+    pub appending_shown : (new : Disk tells tells_images) → ChangesOnly 1 (HoldsAny ring.segment ring.slots (x.placed 1 ∷ stages.closed ∷ stages.begun ∷ stages.done ∷ [])) disk new
+        → ChangesOnly 1 (SameFront (content disk.reads 1)) disk new → AtEachMoment disk new (ShowsHistory (opening_of x) [])
+    appending_shown new slots front = moments_weaken disk new _ _ (changes_both 1 _ _ disk new slots front) (λ i c.
+        any_of_four (λ ps. HoldsPlaced ring.segment ring.slots ps (content i 1)) (ShowsHistory (opening_of x) [] i) (x.placed 1) stages.closed stages.begun stages.done
+        (before_shown (x.placed 1) ready.order (placed_before _ _ _ _ _ _ _ _ _ (first_place x) ready stages are) i c)
+        (before_shown stages.closed orders.0 (closed_before _ _ _ _ _ _ _ _ _ (first_place x) ready stages are) i c)
+        (before_shown stages.begun orders.1 (begun_before _ _ _ _ _ _ _ _ _ (first_place x) ready stages are) i c)
+        (λ held. opened_shown x (with_long_term x.placed stages.done) i done_opened (stage_held stages.done orders.2 done.pinned i c held))
+        c.has.0)

@@ -1,0 +1,153 @@
+-- A vault at rest: what it shows, and how it stands on.
+use Rattle.std.proofs.Common.{◌≡◌, ℕ, ◌+◌, List, [], ◌∷◌, ◌++◌, length, Option, option_map, refl, sym, ap, ◌∙◌, subst, arith, append-nil}
+use Rattle.std.proofs.lemmas.List.Elements.{All-weaker}
+use Rattle.vdr_terms.specs.Order.{AreInOrder}
+use Rattle.vdr_terms.specs.Records.{Record}
+use Rattle.vdr_history.specs.Histories.{Event, Incident, Opening, all_records, incidents, last_stamp, next_place, recorded, records_of_act, stamp_of, table_after}
+use Rattle.vdr_terms.specs.Records as terms
+use Rattle.vdr_retention.specs.Retention.{Retains}
+use Rattle.vdr_retention.specs.Victims.{ArePinsOf}
+use Rattle.vdr_durability.specs.Shown.{given_with, pins_on}
+use Rattle.vdr_durability.proofs.Shows.{incidents_with, recorded_with}
+use Rattle.vdr_outside.specs.Disk.{Disk, Durable, Image, Unchanged, content}
+use Rattle.vdr_outside.specs.Parts.{part}
+use Rattle.vdr_outside.proofs.Moments.{settled_still, size_read}
+use Rattle.vdr_config.specs.Configuration.{Configuration}
+use Rattle.vdr_config.specs.Sizes.{sizes_of}
+use Rattle.vdr_ring.specs.Sequence.{Placed}
+use Rattle.vdr_ring.specs.Sequence as sequence
+use Rattle.vdr_ring.specs.Rings.{RingState, HoldsPlaced}
+use Rattle.vdr_slots.specs.Slots.{place_of}
+use Rattle.vdr_incident.specs.Tables.{HoldsTable}
+use Rattle.vdr_opening.specs.Media.{both, HasFront, HoldsContents, IsMedium}
+use Rattle.vdr_opening.specs.Answers.{IsRingOf}
+use Rattle.vdr_vault.specs.Vaults.{MembersState, HoldsHistory, ShowsHistory, Stands, of_stamp, ring_of}
+use Rattle.vdr_vault.proofs.ShownImages.{placed_there, shown_level}
+
+module _ {tells tells_images : Type 0} where
+  module _ (opening : Opening) (events : List Event) (c : Configuration) (m : ℕ) (ring : RingState) (placed : List Placed) (disk : Disk tells tells_images) (h : HoldsHistory opening events c m ring placed disk) where
+    pub durable_at : Durable m disk
+    durable_at = subst (λ (k : ℕ). Durable k disk) h.is_its.medium h.reads.settled.durable
+
+    pub held_at : tells → HoldsPlaced ring.segment ring.slots placed (content disk.reads m)
+    held_at told = subst (λ (k : ℕ). HoldsPlaced ring.segment ring.slots placed (content disk.reads k)) h.is_its.medium (h.reads.settled.reads told)
+
+    -- Each image has what the medium reads as.
+    pub legible_at : (image : Image) → disk.now image → IsMedium m c opening.settings.text placed (content image m)
+    legible_at image now =
+        let told = (disk.shown (disk.told image now)).0 in
+        let same : content image m ≡ content disk.reads m = durable_at.each image now in
+        record {
+          front = subst (HasFront m c opening.settings.text) (sym same) (h.front told);
+          segments = record {
+            holds = placed_there c disk.sizes m ring placed (content image m) h.is_its (ap length same ∙ size_read disk m told)
+                (subst (HoldsPlaced ring.segment ring.slots placed) (sym same) (held_at told));
+            order = h.reads.order;
+          };
+        }
+
+  -- What a stop may leave of a vault at rest shows all its events.
+  pub stand_shows : (opening : Opening) (events : List Event) (members : MembersState) (placed : ℕ → List Placed) (disk : Disk tells tells_images) → Stands opening events members placed disk
+      → (image : Image) → disk.now image → ShowsHistory opening events image
+  stand_shows opening events members placed disk stands image now =
+      shown_level opening events (record { config = members.config; text = opening.settings.text; placed = placed; table = members.table }) image holds refl stands.incidents_are stands.level
+      (All-weaker (λ m. HoldsHistory opening events members.config m (ring_of members m) (placed m) disk)
+      (λ m. Retains (opening.settings.seconds m) (pins_on m (incidents opening events)) (given_with opening events m) (sequence.all_records (placed m))) (λ m h. h.retains) both stands.media)
+    where
+      told : tells
+      told = (disk.shown (disk.told image now)).0
+
+      long : Durable 1 disk
+      long = durable_at opening events members.config 1 members.long_term (placed 1) disk (stands.media 1 1 (omega arith))
+
+      holds : HoldsContents image (record { config = members.config; text = opening.settings.text; placed = placed; table = members.table })
+      holds = record {
+        media = All-weaker (λ m. HoldsHistory opening events members.config m (ring_of members m) (placed m) disk)
+            (λ m. IsMedium m members.config opening.settings.text (placed m) (content image m))
+            (λ m h. legible_at opening events members.config m (ring_of members m) (placed m) disk h image now) both stands.media;
+        table = subst (HoldsTable members.config.incident_slots members.table) (sym (long.each image now)) (stands.table told);
+        there = stands.there;
+      }
+
+  -- It stands on over calls that only read.
+  pub history_still : (opening : Opening) (events : List Event) (c : Configuration) (m : ℕ) (ring : RingState) (placed : List Placed) (old new : Disk tells tells_images) → Unchanged old new
+      → HoldsHistory opening events c m ring placed old → HoldsHistory opening events c m ring placed new
+  history_still opening events c m ring placed old new same h = record {
+    is_its = subst (λ (sizes : List ℕ). IsRingOf c sizes m ring) (sym same.sizes) h.is_its;
+    reads = record {
+      settled = settled_still ring.medium (HoldsPlaced ring.segment ring.slots placed) old new same h.reads.settled;
+      order = h.reads.order;
+      table = h.reads.table;
+      loaded = λ j is told. h.reads.loaded j is told ∙ ap (λ (image : Image). part (content image ring.medium) (place_of ring.segment j) ring.segment) (sym (same.reads told));
+    };
+    front = λ told. subst (λ (image : Image). HasFront m c opening.settings.text (content image m)) (sym (same.reads told)) (h.front told);
+    regular = h.regular;
+    order = h.order;
+    retains = h.retains;
+    pins = h.pins;
+  }
+
+  pub stands_still : (opening : Opening) (events : List Event) (members : MembersState) (placed : ℕ → List Placed) (old new : Disk tells tells_images) → Unchanged old new
+      → Stands opening events members placed old → Stands opening events members placed new
+  stands_still opening events members placed old new same stands = record {
+    settings = stands.settings;
+    working = stands.working;
+    media = All-weaker (λ m. HoldsHistory opening events members.config m (ring_of members m) (placed m) old) (λ m. HoldsHistory opening events members.config m (ring_of members m) (placed m) new)
+        (λ m h. history_still opening events members.config m (ring_of members m) (placed m) old new same h) both stands.media;
+    level = stands.level;
+    incidents_are = stands.incidents_are;
+    slots = stands.slots;
+    table = λ told. subst (λ (image : Image). HoldsTable members.config.incident_slots members.table (content image 1)) (sym (same.reads told)) (stands.table told);
+    there = stands.there;
+    goes_on = stands.goes_on;
+    newest = stands.newest;
+    place = stands.place;
+    stamp = stands.stamp;
+  }
+
+-- And with an event that records nothing and changes no incident.
+module _ (opening : Opening) (events : List Event) (e : Event) (none : records_of_act e.act ≡ []) (kept : table_after (all_records opening 1 events) (incidents opening events) e.act ≡ incidents opening events) where
+  no_more : recorded (events ++ e ∷ []) ≡ recorded events
+  no_more = recorded_with events e ∙ ap (λ (rs : List Record). recorded events ++ rs) none ∙ append-nil (recorded events)
+
+  same_given : (m : ℕ) → all_records opening m (events ++ e ∷ []) ≡ all_records opening m events
+  same_given m = ap (λ (rs : List Record). opening.records m ++ rs) no_more
+
+  same_table : incidents opening (events ++ e ∷ []) ≡ incidents opening events
+  same_table = incidents_with opening events e ∙ kept
+
+  same_next : next_place opening (events ++ e ∷ []) ≡ next_place opening events
+  same_next = ap (λ (rs : List Record). opening.next_place + length rs) no_more
+
+  same_stamp : last_stamp opening (events ++ e ∷ []) ≡ last_stamp opening events
+  same_stamp = ap (λ (rs : List Record). stamp_of (terms.last rs) opening.last) no_more
+
+  history_silent : {tells tells_images : Type 0} (c : Configuration) (m : ℕ) (ring : RingState) (placed : List Placed) (disk : Disk tells tells_images)
+      → HoldsHistory opening events c m ring placed disk → HoldsHistory opening (events ++ e ∷ []) c m ring placed disk
+  history_silent c m ring placed disk h = record {
+    is_its = h.is_its;
+    reads = h.reads;
+    front = h.front;
+    regular = h.regular;
+    order = subst AreInOrder (sym (same_given m)) h.order;
+    retains = subst (λ (all : List Record). Retains (opening.settings.seconds m) (pins_on m (incidents opening (events ++ e ∷ []))) all (sequence.all_records placed)) (sym (same_given m))
+        (subst (λ (t : List (Option Incident)). Retains (opening.settings.seconds m) (pins_on m t) (all_records opening m events) (sequence.all_records placed)) (sym same_table) h.retains);
+    pins = subst (λ (t : List (Option Incident)). ArePinsOf (sizes_of c) m (sequence.all_records placed) (pins_on m t)) (sym same_table) h.pins;
+  }
+
+  pub stands_silent : {tells tells_images : Type 0} (members : MembersState) (placed : ℕ → List Placed) (disk : Disk tells tells_images) → Stands opening events members placed disk → Stands opening (events ++ e ∷ []) members placed disk
+  stands_silent members placed disk stands = record {
+    settings = stands.settings;
+    working = stands.working;
+    media = All-weaker (λ m. HoldsHistory opening events members.config m (ring_of members m) (placed m) disk) (λ m. HoldsHistory opening (events ++ e ∷ []) members.config m (ring_of members m) (placed m) disk)
+        (λ m h. history_silent members.config m (ring_of members m) (placed m) disk h) both stands.media;
+    level = stands.level;
+    incidents_are = stands.incidents_are ∙ sym same_table;
+    slots = stands.slots;
+    table = stands.table;
+    there = stands.there;
+    goes_on = stands.goes_on ∙ sym same_next;
+    newest = stands.newest ∙ ap (option_map of_stamp) (sym same_stamp);
+    place = same_next ∙ stands.place;
+    stamp = same_stamp ∙ stands.stamp;
+  }

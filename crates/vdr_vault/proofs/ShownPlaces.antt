@@ -1,0 +1,44 @@
+-- Places on a medium are low enough for the next one.
+use Rattle.std.proofs.Common.{◌≡◌, ◌+◌, ◌-◌, ◌^◌, ◌<◌, ℕ, ℤ, min, List, [], ◌∷◌, All, Option, Some, None, option_map, refl, sym, ap, ◌∙◌, arith}
+use Rattle.std.proofs.lemmas.Option.{same_Some}
+use Rattle.std.proofs.lemmas.List.Elements.{All-nil, All-head, All-tail, All-append, All-contains}
+use Rattle.vdr_terms.specs.Records.{Record, last}
+use Rattle.vdr_terms.specs.Legality.{IsRecord}
+use Rattle.vdr_segment.specs.Batches.{IsBatch}
+use Rattle.vdr_retention.specs.Layout.{Batches, segment_records}
+use Rattle.vdr_retention.proofs.Lists.{last_contained}
+use Rattle.vdr_history.specs.Histories.{stamp_of}
+use Rattle.vdr_durability.specs.Readings.{next_after}
+use Rattle.vdr_ring.specs.Sequence.{Placed, all_records, batches_of}
+use Rattle.vdr_ring.specs.Rings.{HoldsPlaced}
+use Rattle.vdr_ring.proofs.Beginning.{legal_batches}
+use Rattle.vdr_vault.specs.Vaults.{of_stamp, tick_utc}
+
+legal_records : (batches : Batches) → All IsBatch batches → All IsRecord (segment_records batches)
+legal_records [] h = All-nil IsRecord
+legal_records (b ∷ batches) h = All-append IsRecord b (segment_records batches) (All-head IsBatch b batches h).legal (legal_records batches (All-tail IsBatch b batches h))
+
+all_legal : (placed : List Placed) → All (λ p. All IsBatch (batches_of p)) placed → All IsRecord (all_records placed)
+all_legal [] h = All-nil IsRecord
+all_legal (p ∷ placed) h =
+    All-append IsRecord (segment_records (batches_of p)) (all_records placed)
+    (legal_records (batches_of p) (All-head (λ p. All IsBatch (batches_of p)) p placed h))
+    (all_legal placed (All-tail (λ p. All IsBatch (batches_of p)) p placed h))
+
+pub next_is_low : (segment count : ℕ) (placed : List Placed) (bytes : List ℕ) → HoldsPlaced segment count placed bytes → next_after (last (all_records placed)) < 2 ^ 64
+next_is_low segment count placed bytes holds = go (last (all_records placed)) refl
+  where
+    go : (o : Option Record) → last (all_records placed) ≡ o → next_after o < 2 ^ 64
+    go None e = omega arith
+    go (Some r) e = let low = (All-contains IsRecord (all_records placed) r (all_legal placed (legal_batches segment count placed bytes holds)) (last_contained (all_records placed) r e)).place in omega (arith, low)
+
+-- What a ring tells of its last record gives the next place.
+pub next_is : (o : Option Record) (told : Option (ℕ × ℕ × ℤ)) (place tick : ℕ) (utc : ℤ) (result : ℕ) → told ≡ option_map (λ r. (r.place, r.tick, r.utc)) o → told ≡ Some (place, tick, utc)
+    → result ≡ min (place + 1) (2 ^ 64 - 1) → next_after o < 2 ^ 64 → result ≡ next_after o
+next_is None told place tick utc result e f is low = cc
+next_is (Some r) told place tick utc result e f is low = let same : place ≡ r.place = ap (λ (x : ℕ × ℕ × ℤ). x.0) (same_Some (place, tick, utc) (r.place, r.tick, r.utc) (sym f ∙ e)) in omega (arith, is, low, same)
+
+-- Tick and stamp of the last record.
+pub stamp_told : (o : Option Record) → option_map tick_utc o ≡ option_map of_stamp (stamp_of o None)
+stamp_told None = refl
+stamp_told (Some r) = refl

@@ -1,0 +1,46 @@
+use Rattle.std.proofs.Common.{◌≡◌, List, [], Err, ◌∙◌, ap, subst}
+use Rattle.std.proofs.lemmas.Result.{err_from_is_err_and}
+use Rattle.vdr_terms.specs.Records.{Record}
+use Rattle.vdr_ring.specs.declared.refused.ReadRefused.{ReadRefused}
+use Rattle.vdr_vault.specs.Walks.{AreAhead, slots_read}
+use Rattle.vdr_vault.proofs.Passing.{read_join}
+use Rattle.vdr_vault.proofs.Stepping.{counts_since, found_next, is_behind, refused_next}
+use Rattle.vdr_vault.proofs.cursor.Cursor.step.Goals as goal
+
+pub returns-in_err-step_in-clause-steps : goal.returns-in_err-step_in-clause-steps
+returns-in_err-step_in-clause-steps g c told placed ahead reads are_ahead =
+    let p = err_from_is_err_and c.from_residual.result c.from_residual.ensures.1 in
+    refused_next c.loop-self.invariant c.step_in.new.self told placed ahead reads are_ahead c.in_err-step_in.field-0.0 c.step_in.result c.from_residual.result c.in_err-step_in.was
+    (p.1 ∙ ap (λ (x : ReadRefused). Err x) p.2) c.step_in.ensures.steps
+
+pub returns-then-not-enter_next-clause-read : goal.returns-then-not-enter_next-clause-read
+returns-then-not-enter_next-clause-read g c =
+    read_join c.args.ring.now c.loop-self.ring c.step_in.new.ring (g.M.Media.disk c.args.media.now) (g.M.Media.disk c.loop-self.media) (g.M.Media.disk c.step_in.new.media) c.loop-self.invariant.read
+    c.step_in.ensures.read
+
+pub returns-then-not-enter_next-clause-steps : goal.returns-then-not-enter_next-clause-steps
+returns-then-not-enter_next-clause-steps g c told placed ahead reads are_ahead =
+    let slots = slots_read c.args.ring.now (g.M.Media.disk c.args.media.now) in
+    let later = c.step_in.ensures.read.reads placed (c.loop-self.invariant.read.reads placed reads) in
+    let behind = is_behind c.loop-self.invariant c.step_in.new.self told placed ahead reads are_ahead c.in_ok-step_in.field-0 c.step_in.result c.in_ok-step_in.was c.if-not-branch.true
+    c.step_in.ensures.steps in
+    let entered = c.enter_next.ensures.enters slots placed ahead later.table later.order behind in
+    let none : ahead ≡ [] = entered.1 c.if-not-enter_next.true in
+    (none, c.enter_next.ensures.item, subst (λ (rs : List Record). AreAhead slots placed c.enter_next.new.self rs) none entered.0)
+
+pub loop-self-preserved : goal.loop-self-preserved
+loop-self-preserved g c = record {
+  read = read_join c.args.ring.now c.loop-self.ring c.step_in.new.ring (g.M.Media.disk c.args.media.now) (g.M.Media.disk c.loop-self.media) (g.M.Media.disk c.step_in.new.media)
+      c.loop-self.invariant.read c.step_in.ensures.read;
+  counts = counts_since c.loop-self.invariant (g.M.Media.bytes_read c.step_in.new.media) (g.M.Media.faults c.step_in.new.media) c.step_in.ensures.counts;
+  may = c.enter_next.ensures.may;
+  ahead = λ told placed ahead reads are_ahead.
+      let later = c.step_in.ensures.read.reads placed (c.loop-self.invariant.read.reads placed reads) in
+      let behind = is_behind c.loop-self.invariant c.step_in.new.self told placed ahead reads are_ahead c.in_ok-step_in.field-0 c.step_in.result c.in_ok-step_in.was c.if-not-branch.true
+      c.step_in.ensures.steps in
+      (c.enter_next.ensures.enters (slots_read c.args.ring.now (g.M.Media.disk c.args.media.now)) placed ahead later.table later.order behind).0;
+}
+
+pub returns-clause-steps : goal.returns-clause-steps
+returns-clause-steps g c told placed ahead reads are_ahead =
+    found_next c.loop-self.invariant c.step_in.new.self told placed ahead reads are_ahead c.in_ok-step_in.field-0 c.step_in.result c.in_ok-step_in.was c.if-not-branch.false c.step_in.ensures.steps

@@ -1,0 +1,11 @@
+use Rattle.vdr_vault.specs.Walks.{segments_left}
+use Rattle.vdr_vault.proofs.Stepping.{IsMidway}
+use Rattle.vdr_vault.proofs.cursor.Cursor.step.Given as goal
+
+abbrev pub invariant-loop-self : goal.invariant-loop-self
+invariant-loop-self g l =
+    IsMidway l.initial.ring l.ring l.initial.self l.self (g.M.Media.disk l.initial.media) (g.M.Media.disk l.media) (g.M.Media.bytes_read l.initial.media) (g.M.Media.bytes_read l.media)
+    (g.M.Media.faults l.initial.media) (g.M.Media.faults l.media)
+
+abbrev pub decreases-loop-self : goal.decreases-loop-self
+decreases-loop-self g l = segments_left l.self.standing

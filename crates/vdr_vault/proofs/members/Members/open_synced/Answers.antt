@@ -1,0 +1,52 @@
+use Rattle.std.proofs.Common.{sym, ◌∙◌}
+use Rattle.std.proofs.lemmas.Result.{err_from_is_err_and}
+use Rattle.vdr_outside.proofs.Moments.{moments_after_reads}
+use Rattle.vdr_vault.proofs.OpenCauses.{fault_unless_ok, no_fault}
+use Rattle.vdr_vault.proofs.OpenMoments.{goes_on, read_on, reading_shown, same_elsewhere}
+use Rattle.vdr_ring.proofs.Faults.{same_err}
+use Rattle.vdr_media.proofs.Two.{second_of}
+use Rattle.vdr_outside.proofs.Counts.{none_falls_join}
+use Rattle.vdr_vault.proofs.members.Members.open_synced.Goals as goal
+
+pub returns-in_err-config-clause-moments : goal.returns-in_err-config-clause-moments
+returns-in_err-config-clause-moments g c x told durable holds meet regular = reading_shown x (g.M.Media.disk c.args.media.now) (g.M.Media.disk c.read_media.new.media) c.read_media.ensures.unchanged durable holds meet
+
+pub returns-in_err-config-clause-damaged : goal.returns-in_err-config-clause-damaged
+returns-in_err-config-clause-damaged g c =
+    let p = err_from_is_err_and c.from_residual.result c.from_residual.ensures.1 in
+    rw (p.1, p.2) (λ m offset e. c.in_err-config.ensures.damaged m offset (same_err _ _ e))
+
+pub returns-in_default-clause-moments : goal.returns-in_default-clause-moments
+returns-in_default-clause-moments g c x told durable holds meet regular =
+    let was = rw (sym c.config.view_is) at c.in_ok-config.ensures.opened told durable in
+    let o = read_on _ c.deref.result.now x was.0 (g.M.Media.disk c.args.media.now) (g.M.Media.disk c.read_media.new.media) told c.read_media.ensures.unchanged c.deref.ensures.value holds was.1 in
+    moments_after_reads _ (g.M.Media.disk c.read_media.new.media) (g.M.Media.disk c.reconcile.new.media) _ c.read_media.ensures.unchanged (c.reconcile.ensures.reconciled x told o regular (goes_on x _ _ (g.M.Media.disk c.read_media.new.media) told o c.ending-next_place.ensures.next_place c.ending-next_place.ensures.last)).moments
+
+pub returns-in_default-clause-others : goal.returns-in_default-clause-others
+returns-in_default-clause-others g c told = same_elsewhere _ _ _ (c.read_media.ensures.unchanged.reads told) (c.reconcile.ensures.others told)
+
+pub returns-in_default-clause-cause : goal.returns-in_default-clause-cause
+returns-in_default-clause-cause g c = fault_unless_ok 1 _ _ _ c.reconcile.result _ second_of c.in_default.not-Ok c.read_media.ensures.cause.later c.reconcile.ensures.cause
+
+pub returns-clause-opened : goal.returns-clause-opened
+returns-clause-opened g c x told durable holds regular =
+    let was = rw (sym c.config.view_is) at c.in_ok-config.ensures.opened told durable in
+    let o = read_on _ c.deref.result.now x was.0 (g.M.Media.disk c.args.media.now) (g.M.Media.disk c.read_media.new.media) told c.read_media.ensures.unchanged c.deref.ensures.value holds was.1 in
+    (c.in-Ok.ensures.reconciled x told o regular (goes_on x _ _ (g.M.Media.disk c.read_media.new.media) told o c.ending-next_place.ensures.next_place c.ending-next_place.ensures.last)).done
+
+pub returns-clause-contents : goal.returns-clause-contents
+returns-clause-contents g c told durable =
+    let was = c.in_ok-config.ensures.opened told durable in
+    let h = rw (c.read_media.ensures.unchanged.reads told) at was.1.holds in
+    let config = rw (sym c.config.view_is) at was.1.config in
+    let table = rw (sym c.config.view_is) at was.1.table in
+    (c.in_ok-config.ensures.formatted told, was.0, h, was.1.meet, c.reconcile.ensures.config ∙ config, c.reconcile.ensures.table ∙ table)
+
+pub returns-clause-moments : goal.returns-clause-moments
+returns-clause-moments g c x told durable holds meet regular =
+    let was = rw (sym c.config.view_is) at c.in_ok-config.ensures.opened told durable in
+    let o = read_on _ c.deref.result.now x was.0 (g.M.Media.disk c.args.media.now) (g.M.Media.disk c.read_media.new.media) told c.read_media.ensures.unchanged c.deref.ensures.value holds was.1 in
+    moments_after_reads _ (g.M.Media.disk c.read_media.new.media) (g.M.Media.disk c.reconcile.new.media) _ c.read_media.ensures.unchanged (c.reconcile.ensures.reconciled x told o regular (goes_on x _ _ (g.M.Media.disk c.read_media.new.media) told o c.ending-next_place.ensures.next_place c.ending-next_place.ensures.last)).moments
+
+pub returns-clause-cause : goal.returns-clause-cause
+returns-clause-cause g c = no_fault _ _ _ (none_falls_join _ _ _ c.read_media.ensures.cause.later c.reconcile.ensures.cause.later)

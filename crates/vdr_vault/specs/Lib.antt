@@ -1,0 +1,8 @@
+-- Two media as one vault: what they hold of a history, and what each call leaves of it.
+pub mod Vaults
+pub mod Regularity
+pub mod Calls
+pub mod Openings
+pub mod Spans
+pub mod Walks
+pub mod Plays

@@ -1,0 +1,22 @@
+-- Regular contents of media: what a recorder leaves (this project's profile).
+use Rattle.std.specs.Prelude.{◌≤◌, ℕ, All}
+use Rattle.vdr_terms.specs.Order.{AreInOrder}
+use Rattle.vdr_terms.specs.Needs.{cost, usable}
+use Rattle.vdr_retention.specs.Layout.{batches_size_at}
+use Rattle.vdr_retention.specs.Victims.{ArePinsOf}
+use Rattle.vdr_durability.specs.Readings.{records_on, restored}
+use Rattle.vdr_durability.specs.Shown.{pins_on}
+use Rattle.vdr_config.specs.Sizes.{sizes_of}
+use Rattle.vdr_ring.specs.Regularity.{AreRegular}
+use Rattle.vdr_opening.specs.Media.{both, Contents, reading_of}
+
+-- Medium m is regular as it is, and restored: well filled segments, records in order, no second with more bytes than its cost,
+-- and live incidents that span no more seconds than an incident has.
+pub record IsRegularMedium (x : Contents) (m : ℕ) : Type 0 where
+  pub segments : AreRegular (cost (sizes_of x.config)) (usable (sizes_of x.config)) x.config.batch (x.placed m)
+  pub order : AreInOrder (records_on (restored both (reading_of x)) m)
+  pub paced : (s : ℕ) → batches_size_at s ((restored both (reading_of x)).batches m) ≤ cost (sizes_of x.config)
+  pub pins : ArePinsOf (sizes_of x.config) m (records_on (restored both (reading_of x)) m) (pins_on m x.table)
+
+abbrev pub AreRegularMedia : Contents → Type 0
+AreRegularMedia x = All (IsRegularMedium x) both

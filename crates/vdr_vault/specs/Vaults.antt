@@ -1,0 +1,91 @@
+-- What a vault's media hold of a history (this project's profile).
+use Rattle.std.specs.Prelude.{◌≡◌, ◌==◌, ℕ, ℤ, Bool, false, List, length, All, Option, None, option_map, if◌then◌else◌}
+use Rattle.vdr_terms.specs.Records.{Record, last}
+use Rattle.vdr_terms.specs.Needs.{cost, usable}
+use Rattle.vdr_terms.specs.Order.{AreInOrder}
+use Rattle.vdr_history.specs.Histories.{Event, Incident, Opening, incidents, last_stamp, next_place, stamp_of}
+use Rattle.vdr_history.specs.Runs.{Stamp}
+use Rattle.vdr_retention.specs.Retention.{Retains}
+use Rattle.vdr_retention.specs.Victims.{ArePinsOf}
+use Rattle.vdr_durability.specs.Readings.{Reading, AreLevel, next_after}
+use Rattle.vdr_durability.specs.Shown.{ImageShows, given_with, pins_on}
+use Rattle.vdr_outside.specs.Disk.{Disk, Image, content}
+use Rattle.vdr_config.specs.Configuration.{Configuration}
+use Rattle.vdr_config.specs.Sizes.{sizes_of}
+use Rattle.vdr_ring.specs.Sequence.{Placed, all_records, batches_in}
+use Rattle.vdr_ring.specs.Regularity.{AreRegular}
+use Rattle.vdr_ring.specs.Rings.{RingState}
+use Rattle.vdr_ring.specs.Rings as rings
+use Rattle.vdr_incident.specs.Tables.{HoldsTable}
+use Rattle.vdr_opening.specs.Settings.{settings_of}
+use Rattle.vdr_opening.specs.Media.{both, HasFront, AreThere, Reads}
+use Rattle.vdr_opening.specs.Answers.{IsRingOf}
+
+-- A vault without its media: the configuration, a ring on each medium, the incidents, the next place with tick and utc of the
+-- last record, and whether a write has failed. After a fault place and record are those before the batch that met it.
+pub record MembersState : Type 0 where
+  pub config : Configuration
+  pub capsule : RingState
+  pub long_term : RingState
+  pub table : List (Option Incident)
+  pub next_place : ℕ
+  pub last : Option (ℕ × ℤ)
+  pub failed : Bool
+
+-- Tick and utc.
+abbrev pub tick_utc : Record → ℕ × ℤ
+tick_utc r = (r.tick, r.utc)
+
+abbrev pub of_stamp : Stamp → ℕ × ℤ
+of_stamp s = (s.tick, s.utc)
+
+-- The same, as if no write had failed.
+abbrev pub working : MembersState → MembersState
+working members = record members { failed = false }
+
+-- And as if this were the last record.
+abbrev pub working_from : Option Record → MembersState → MembersState
+working_from newest members = record members { next_place = next_after newest; last = option_map tick_utc newest; failed = false }
+
+-- The ring on medium m.
+abbrev pub ring_of : MembersState → ℕ → RingState
+ring_of members m = if m == 0 then members.capsule else members.long_term
+
+-- Each ring is its medium's.
+abbrev pub AreRings : MembersState → (sizes : List ℕ) → Type 0
+AreRings members sizes = All (λ m. IsRingOf members.config sizes m (ring_of members m)) both
+
+-- What the segments of both media read as.
+abbrev pub reading_with : (text : List ℕ) (placed : ℕ → List Placed) (table : List (Option Incident)) → Reading
+reading_with text placed table = record { batches = λ m. batches_in (placed m); table = table; text = text }
+
+-- The image is legible and shows these events.
+abbrev pub ShowsHistory : Opening → List Event → Image → Type 0
+ShowsHistory opening events image = ImageShows Reads opening events image
+
+module _ {tells tells_images : Type 0} where
+  -- Medium m has these segments, which are regular, and retains of all that it was given its window and the live incidents.
+  pub record HoldsHistory (opening : Opening) (events : List Event) (c : Configuration) (m : ℕ) (ring : RingState) (placed : List Placed) (disk : Disk tells tells_images) : Type 0 where
+    pub is_its : IsRingOf c disk.sizes m ring
+    pub reads : rings.Reads ring placed disk
+    pub front : tells → HasFront m c opening.settings.text (content disk.reads m)
+    pub regular : AreRegular (cost (sizes_of c)) (usable (sizes_of c)) c.batch placed
+    pub order : AreInOrder (given_with opening events m)
+    pub retains : Retains (opening.settings.seconds m) (pins_on m (incidents opening events)) (given_with opening events m) (all_records placed)
+    pub pins : ArePinsOf (sizes_of c) m (all_records placed) (pins_on m (incidents opening events))
+
+  -- A vault at rest after these events: nothing is unsynced, both media end with the last batch, and all that was recorded and
+  -- saved stands on them as far as it is to be retained.
+  pub record Stands (opening : Opening) (events : List Event) (members : MembersState) (placed : ℕ → List Placed) (disk : Disk tells tells_images) : Type 0 where
+    pub settings : opening.settings ≡ settings_of members.config opening.settings.text
+    pub working : members.failed ≡ false
+    pub media : All (λ m. HoldsHistory opening events members.config m (ring_of members m) (placed m) disk) both
+    pub level : AreLevel both (reading_with opening.settings.text placed members.table)
+    pub incidents_are : members.table ≡ incidents opening events
+    pub slots : length members.table ≡ members.config.incident_slots
+    pub table : tells → HoldsTable members.config.incident_slots members.table (content disk.reads 1)
+    pub there : AreThere members.table (placed 1)
+    pub goes_on : members.next_place ≡ next_place opening events
+    pub newest : members.last ≡ option_map of_stamp (last_stamp opening events)
+    pub place : next_place opening events ≡ next_after (last (all_records (placed 0)))
+    pub stamp : last_stamp opening events ≡ stamp_of (last (all_records (placed 0))) None

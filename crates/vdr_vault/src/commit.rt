@@ -1,0 +1,82 @@
+ghost use Rattle.std.specs.Prelude.{◌≡◌, ◌≤◌, ◌<◌, ℕ, List, length, true, false, IsErr, OnErr, OnOk, option_map};
+ghost use Rattle.vdr_terms.specs.Records.{last};
+ghost use Rattle.vdr_terms.specs.Sizes.{records_size};
+ghost use Rattle.vdr_history.specs.Histories.{Event, Opening};
+ghost use Rattle.vdr_history.specs.Histories.Act.{Commit};
+ghost use Rattle.vdr_history.specs.Taken.{Captured};
+ghost use Rattle.vdr_durability.specs.Readings.{next_after};
+ghost use Rattle.vdr_ring.specs.Sequence.{Placed};
+ghost use Rattle.vdr_vault.specs.Vaults.{AreRings, Stands, tick_utc, working, working_from};
+ghost use Rattle.vdr_vault.specs.Calls.{Commits, HasVaultCause, MayCommit, SameElsewhere};
+
+use crate::Members;
+use vdr_entry::Record;
+use vdr_outside::{Fault, Media};
+use vdr_ring::Pins;
+
+impl Members {
+    // Appends the batch to the capsule, and then to the long-term medium, which keeps the live saves.
+    fn append_to_both<M: Media>(&mut self, media: &mut M, records: &[Record]) -> Result<(), Fault>
+        requires rings { AreRings self.old (M.disk media.old).sizes }
+        requires some { 0 < length records.now }
+        requires short { records_size records.now ≤ self.old.config.batch }
+        ensures commits { (opening : Opening) (events : List Event) (e : Event) (taken : List Captured) (placed : ℕ → List Placed) → M.tells
+            → e.act ≡ Commit records.now taken → Stands opening events (working self.old) placed (M.disk media.old) → MayCommit opening events self.old.config placed records.now
+            → Commits opening events e records.now placed (working_from (last records.now) self.new) (M.disk media.old) (M.disk media.new) result }
+        ensures failed { self.new.failed ≡ self.old.failed }
+        ensures next_place { self.new.next_place ≡ self.old.next_place }
+        ensures last { self.new.last ≡ self.old.last }
+        ensures config { self.new.config ≡ self.old.config }
+        ensures table { self.new.table ≡ self.old.table }
+        ensures rings { AreRings self.new (M.disk media.new).sizes }
+        ensures others { M.tells → SameElsewhere (M.disk media.old).reads (M.disk media.new).reads }
+        ensures sizes { (M.disk media.new).sizes ≡ (M.disk media.old).sizes }
+        ensures counts { M.bytes_read media.new ≡ M.bytes_read media.old }
+        ensures cause { HasVaultCause false (M.faults media.old) (M.faults media.new) result }
+    {
+        let pins = self.pins();
+        self.capsule.append(media, records, &Pins::new())?;
+        self.long_term.append(media, records, &pins)
+    }
+
+    /// Commits records as one batch: appends it to the capsule, and then to the long-term medium. Ok means that both have it. At every
+    /// moment a stop leaves media that show what was recorded before, or that with the batch. Takes no memory.
+    ///
+    /// The records are at least one and at most `batch` bytes of the configuration. What the media show is promised where the records
+    /// continue the history and keep its pace (`MayCommit`).
+    ///
+    /// `Fault`: a write had failed before, and nothing was called; or a write or a sync failed, and the count of faults of that medium rose.
+    /// The next place and the last record then stay as they were.
+    pub fn commit<M: Media>(&mut self, media: &mut M, records: &[Record]) -> Result<(), Fault>
+        requires rings { AreRings self.old (M.disk media.old).sizes }
+        requires some { 0 < length records.now }
+        requires short { records_size records.now ≤ self.old.config.batch }
+        ensures commits { (opening : Opening) (events : List Event) (e : Event) (taken : List Captured) (placed : ℕ → List Placed) → M.tells
+            → e.act ≡ Commit records.now taken → Stands opening events self.old placed (M.disk media.old) → MayCommit opening events self.old.config placed records.now
+            → Commits opening events e records.now placed self.new (M.disk media.old) (M.disk media.new) result }
+        ensures failed { self.old.failed ≡ true → IsErr result × (self.new ≡ self.old) × (media.new ≡ media.old) }
+        ensures fails { OnErr result (self.new.failed ≡ true) }
+        ensures works { OnOk result (self.new.failed ≡ false) }
+        ensures next_place { OnOk result (self.new.next_place ≡ next_after (last records.now)) }
+        ensures last { OnOk result (self.new.last ≡ option_map tick_utc (last records.now)) }
+        ensures kept { OnErr result ((self.new.next_place ≡ self.old.next_place) × (self.new.last ≡ self.old.last)) }
+        ensures config { self.new.config ≡ self.old.config }
+        ensures table { self.new.table ≡ self.old.table }
+        ensures rings { AreRings self.new (M.disk media.new).sizes }
+        ensures others { M.tells → SameElsewhere (M.disk media.old).reads (M.disk media.new).reads }
+        ensures sizes { (M.disk media.new).sizes ≡ (M.disk media.old).sizes }
+        ensures counts { M.bytes_read media.new ≡ M.bytes_read media.old }
+        ensures cause { HasVaultCause self.old.failed (M.faults media.old) (M.faults media.new) result }
+    {
+        if self.failed {
+            return Err(Fault);
+        }
+        self.failed = true;
+        self.append_to_both(media, records)?;
+        let newest = &records[records.len() - 1];
+        self.next_place = newest.place + 1;
+        self.last = Some((newest.tick, newest.utc));
+        self.failed = false;
+        Ok(())
+    }
+}

@@ -1,0 +1,153 @@
+ghost use Rattle.std.specs.Prelude.{◌≡◌, ◌≢◌, ◌↔◌, ◌<◌, ℕ, List, [], IsTrue, true, false, None, Ok, Err, get_or, option_map};
+ghost use Rattle.vdr_terms.specs.Records.{Record as Entry};
+ghost use Rattle.vdr_outside.specs.Causes.{Rose};
+ghost use Rattle.vdr_ring.specs.Sequence.{Placed};
+ghost use Rattle.vdr_ring.specs.Order.{AreInOrder};
+ghost use Rattle.vdr_ring.specs.Rings.{HasMedium, Reads, Tells};
+ghost use Rattle.vdr_ring.specs.Lookup.{IsAbove};
+ghost use Rattle.vdr_ring.specs.Cursors.{IsLoaded};
+ghost use Rattle.vdr_ring.specs.declared.refused.ReadRefused.TheVariants.{Fault as AFault, Damaged};
+ghost use Rattle.vdr_vault.specs.Walks.{AreAhead, AreBehind, CountsOn, GivesHere, GivesNext, HasRead, MayStep, Slots, segments_left, seq_in, slots_read};
+
+use std::marker::Model;
+use vdr_entry::Record;
+use vdr_outside::Media;
+use vdr_ring::{Cursor as Visit, ReadRefused, Ring};
+
+// The segment in which a cursor stands.
+#[derive(Clone, Copy, Debug, PartialEq, Eq, Drop)]
+pub(crate) struct Standing {
+    pub(crate) slot: u32,
+    pub(crate) seq: u64,
+}
+
+/// Where the play of a query stands, and the record there. It takes no memory.
+#[derive(Drop)]
+pub struct Cursor {
+    // None before the first segment.
+    standing: Option<Standing>,
+    visit: Visit,
+}
+
+impl Model for Cursor {
+    ghost use Rattle.std.specs.Prelude.{◌≡◌, None};
+    ghost use Rattle.vdr_vault.specs.Walks.{CursorState};
+
+    ghost Value = { CursorState };
+
+    ghost view = { λ c. record { standing = c.standing; visit = c.visit } };
+
+    ghost invariant = { λ c. c.standing ≡ None → c.visit.item ≡ None };
+}
+
+impl Cursor {
+    /// A cursor before the first record.
+    pub fn new() -> Cursor
+        ensures standing { result.standing ≡ None }
+        ensures slot { result.visit.slot ≡ None }
+        ensures item { result.visit.item ≡ None }
+    {
+        Cursor {
+            standing: None,
+            visit: Visit::new(),
+        }
+    }
+
+    /// The record that it stepped to. None exactly where the cursor is new, its last step answered false, or its last step
+    /// was refused.
+    pub fn item(&self) -> Option<&Record>
+        ensures { option_map (λ r. r.now) result ≡ self.now.visit.item }
+    {
+        self.visit.item()
+    }
+
+    // Steps to the next record of the segment in which it stands.
+    fn step_in<M: Media>(&mut self, ring: &mut Ring, media: &mut M) -> Result<bool, ReadRefused>
+        requires room { HasMedium ring.old (M.disk media.old).sizes }
+        requires may { MayStep ring.old self.old }
+        ensures read { HasRead ring.old ring.new (M.disk media.old) (M.disk media.new) }
+        ensures counts { CountsOn ring.old.medium (M.bytes_read media.old) (M.bytes_read media.new) (M.faults media.old) (M.faults media.new) }
+        ensures may { MayStep ring.new self.new }
+        ensures standing { self.new.standing ≡ self.old.standing }
+        ensures item { self.new.visit.item ≢ None ↔ (result ≡ Ok true) }
+        ensures steps { M.tells → (placed : List Placed) (ahead : List Entry) → Reads ring.old placed (M.disk media.old)
+            → AreAhead (slots_read ring.old (M.disk media.old)) placed self.old ahead
+            → GivesHere ahead result self.new.visit.item (AreAhead (slots_read ring.old (M.disk media.old)) placed self.new)
+            (AreBehind (slots_read ring.old (M.disk media.old)) placed self.new) }
+        ensures damaged { (m offset : ℕ) → M.tells → IsLoaded ring.old (M.disk media.old) → result ≡ Err (Damaged m offset) → m ≡ ring.old.medium }
+        ensures cause { result ≡ Err AFault → Rose (get_or (M.faults media.old) ring.old.medium 0) (get_or (M.faults media.new) ring.old.medium 0) }
+    {
+        match self.standing {
+            Some(standing) => ring.read_span(media, standing.slot, &mut self.visit),
+            None => Ok(false),
+        }
+    }
+
+    // The sequence number of the segment in which it stands.
+    fn seq(&self) -> Option<u64>
+        ensures { result ≡ seq_in self.now.standing }
+    {
+        match self.standing {
+            Some(standing) => Some(standing.seq),
+            None => None,
+        }
+    }
+
+    // Whether it stands in no segment of this sequence number or a greater one.
+    fn is_below(&self, seq: u64) -> bool
+        ensures { IsTrue result ↔ IsAbove (seq_in self.now.standing) seq }
+    {
+        match self.standing {
+            Some(standing) => standing.seq < seq,
+            None => true,
+        }
+    }
+
+    // Goes to the front of the segment after the one in which it stands. False where none is there.
+    fn enter_next(&mut self, ring: &Ring) -> bool
+        requires may { MayStep ring.now self.old }
+        requires item { self.old.visit.item ≡ None }
+        ensures may { MayStep ring.now self.new }
+        ensures item { self.new.visit.item ≡ None }
+        ensures entered { result ≡ true → segments_left self.new.standing < segments_left self.old.standing }
+        ensures enters { (slots : Slots) (placed : List Placed) (ahead : List Entry) → Tells ring.now.slots placed ring.now.table → AreInOrder placed
+            → AreBehind slots placed self.old ahead → AreAhead slots placed self.new ahead × (result ≡ false → ahead ≡ []) }
+    {
+        let Some((slot, seq)) = ring.next_slot(self.seq()) else {
+            return false;
+        };
+        // The loop over segments ends by this, and it holds of each ring that was opened.
+        if !self.is_below(seq) {
+            return false;
+        }
+        self.standing = Some(Standing { slot, seq });
+        self.visit = Visit::new();
+        true
+    }
+
+    /// Steps to the next record of the medium, of whatever segment. False where no further record is there.
+    pub(crate) fn step<M: Media>(
+        &mut self,
+        ring: &mut Ring,
+        media: &mut M,
+    ) -> Result<bool, ReadRefused>
+        requires room { HasMedium ring.old (M.disk media.old).sizes }
+        requires may { MayStep ring.old self.old }
+        ensures read { HasRead ring.old ring.new (M.disk media.old) (M.disk media.new) }
+        ensures counts { CountsOn ring.old.medium (M.bytes_read media.old) (M.bytes_read media.new) (M.faults media.old) (M.faults media.new) }
+        ensures may { MayStep ring.new self.new }
+        ensures item { self.new.visit.item ≢ None ↔ (result ≡ Ok true) }
+        ensures steps { M.tells → (placed : List Placed) (ahead : List Entry) → Reads ring.old placed (M.disk media.old)
+            → AreAhead (slots_read ring.old (M.disk media.old)) placed self.old ahead
+            → GivesNext ahead result self.new.visit.item (AreAhead (slots_read ring.old (M.disk media.old)) placed self.new) }
+        ensures damaged { (m offset : ℕ) → M.tells → IsLoaded ring.old (M.disk media.old) → result ≡ Err (Damaged m offset) → m ≡ ring.old.medium }
+        ensures cause { result ≡ Err AFault → Rose (get_or (M.faults media.old) ring.old.medium 0) (get_or (M.faults media.new) ring.old.medium 0) }
+    {
+        while !self.step_in(ring, media)? {
+            if !self.enter_next(ring) {
+                return Ok(false);
+            }
+        }
+        Ok(true)
+    }
+}

@@ -1,0 +1,18 @@
+//! The capsule and the long-term medium as one vault: a batch goes to both, and both are played.
+#![tactic(auto)]
+
+mod commit;
+mod cursor;
+mod law;
+mod matching;
+mod members;
+mod open;
+mod pins;
+mod play;
+mod questions;
+#[cfg(test)]
+mod tests;
+
+pub use cursor::Cursor;
+pub use law::law_of_vaults;
+pub use members::Members;

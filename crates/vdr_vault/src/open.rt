@@ -1,0 +1,138 @@
+ghost use Rattle.std.specs.Prelude.{◌≡◌, ◌≢◌, ◌⊎◌, ◌+◌, ◌≤◌, ℕ, List, [], length, All, IfOk, OnOk, Err, false};
+ghost use Rattle.vdr_terms.specs.Sizes.{batch_size};
+ghost use Rattle.vdr_durability.specs.Readings.{EndsMeet};
+ghost use Rattle.vdr_outside.specs.Causes.{HasCauseOn};
+ghost use Rattle.vdr_outside.specs.Disk.{Durable, Unchanged};
+ghost use Rattle.vdr_outside.specs.Moments.{AtEachMoment};
+ghost use Rattle.vdr_media.specs.Formatted.{IsFormatted, IsUnformatted};
+ghost use Rattle.vdr_ring.specs.Sequence.{Placed};
+ghost use Rattle.vdr_opening.specs.Media.{Contents, HoldsContents, both, opening_of, reading_of};
+ghost use Rattle.vdr_opening.specs.Refusals.{IsRefused};
+ghost use Rattle.vdr_opening.specs.Answers.{HasOpenCause, IsOpened};
+ghost use Rattle.vdr_opening.specs.declared.refused.OpenRefused.TheVariants.{Damaged, NotFormatted};
+ghost use Rattle.vdr_vault.specs.Vaults.{AreRings, ShowsHistory, Stands};
+ghost use Rattle.vdr_vault.specs.Regularity.{AreRegularMedia};
+ghost use Rattle.vdr_vault.specs.Calls.{SameElsewhere};
+ghost use Rattle.vdr_vault.specs.Openings.{GoesOnBehind, HasCauseOnBoth, LeavesAll, OpensAtEachMoment, Reconciles, opened_with};
+
+use crate::Members;
+use crate::members::ending;
+use std::alloc::Global;
+use vdr_entry::Record;
+use vdr_opening::{OpenRefused, Opened, read_media};
+use vdr_outside::{Failed, Fault, Media};
+
+// Syncs both media.
+fn sync_both<M: Media>(media: &mut M) -> Result<(), Failed>
+    requires two { 2 ≤ length (M.disk media.old).sizes }
+    ensures durable { OnOk result (All (λ m. Durable m (M.disk media.new)) both) }
+    ensures reads { M.tells → (M.disk media.new).reads ≡ (M.disk media.old).reads }
+    ensures moments { LeavesAll (M.disk media.old) (M.disk media.new) }
+    ensures sizes { (M.disk media.new).sizes ≡ (M.disk media.old).sizes }
+    ensures cause { HasCauseOnBoth (M.faults media.old) (M.faults media.new) result }
+{
+    media.sync(0)?;
+    media.sync(1)
+}
+
+impl Members {
+    // Appends the batch that the long-term medium lacks, if any.
+    fn reconcile<M: Media>(&mut self, media: &mut M, missing: &[Record]) -> Result<(), Fault>
+        requires rings { AreRings self.old (M.disk media.old).sizes }
+        requires works { self.old.failed ≡ false }
+        requires fits { missing.now ≢ [] → 64 + batch_size missing.now + 1 ≤ self.old.config.segment }
+        ensures reconciled { (x : Contents) → M.tells → IsOpened (opened_with self.old missing.now) x (M.disk media.old) → AreRegularMedia x
+            → GoesOnBehind x self.old → Reconciles x self.new (M.disk media.old) (M.disk media.new) result }
+        ensures config { self.new.config ≡ self.old.config }
+        ensures table { self.new.table ≡ self.old.table }
+        ensures works { self.new.failed ≡ false }
+        ensures rings { AreRings self.new (M.disk media.new).sizes }
+        ensures others { M.tells → SameElsewhere (M.disk media.old).reads (M.disk media.new).reads }
+        ensures sizes { (M.disk media.new).sizes ≡ (M.disk media.old).sizes }
+        ensures cause { HasCauseOn 1 (M.faults media.old) (M.faults media.new) result }
+    {
+        if missing.is_empty() {
+            return Ok(());
+        }
+        let pins = self.pins();
+        self.long_term.append(media, missing, &pins)
+    }
+
+    // Opens media of which nothing is unsynced.
+    fn open_synced<M: Media>(alloc: Global, media: &mut M) -> Result<Members, OpenRefused>
+        requires two { 2 ≤ length (M.disk media.old).sizes }
+        requires three { length (M.disk media.old).sizes ≤ 3 }
+        ensures opened { IfOk result (λ members. (x : Contents) → M.tells → All (λ m. Durable m (M.disk media.old)) both → HoldsContents (M.disk media.old).reads x → AreRegularMedia x
+            → (placed : ℕ → List Placed) × Stands (opening_of x) [] members placed (M.disk media.new)) }
+        ensures contents { IfOk result (λ members. M.tells → All (λ m. Durable m (M.disk media.old)) both
+            → IsFormatted (M.disk media.old).reads × (x : Contents) × HoldsContents (M.disk media.old).reads x
+            × EndsMeet both (reading_of x) × (members.config ≡ x.config) × (members.table ≡ x.table)) }
+        ensures works { IfOk result (λ members. members.failed ≡ false) }
+        ensures rings { IfOk result (λ members. AreRings members (M.disk media.new).sizes) }
+        ensures moments { (x : Contents) → M.tells → All (λ m. Durable m (M.disk media.old)) both → HoldsContents (M.disk media.old).reads x → EndsMeet both (reading_of x) → AreRegularMedia x
+            → AtEachMoment (M.disk media.old) (M.disk media.new) (ShowsHistory (opening_of x) []) }
+        ensures unformatted { result ≡ Err NotFormatted → M.tells → IsUnformatted (M.disk media.old).reads }
+        ensures damaged { (m offset : ℕ) → result ≡ Err (Damaged m offset) → M.tells → All (λ k. Durable k (M.disk media.old)) both
+            → IsFormatted (M.disk media.old).reads × IsRefused (M.disk media.old).reads m offset }
+        ensures untouched { (result ≡ Err NotFormatted) ⊎ ((m : ℕ) × (offset : ℕ) × (result ≡ Err (Damaged m offset)))
+            → Unchanged (M.disk media.old) (M.disk media.new) }
+        ensures others { M.tells → SameElsewhere (M.disk media.old).reads (M.disk media.new).reads }
+        ensures sizes { (M.disk media.new).sizes ≡ (M.disk media.old).sizes }
+        ensures cause { HasOpenCause (M.faults media.old) (M.faults media.new) result }
+    {
+        let Opened {
+            config,
+            capsule,
+            long_term,
+            table,
+            missing,
+        } = read_media(alloc, media)?;
+        let (next_place, last) = ending(&capsule);
+        let mut members = Members {
+            config,
+            capsule,
+            long_term,
+            table,
+            next_place,
+            last,
+            failed: false,
+        };
+        let Ok(()) = members.reconcile(media, &missing) else {
+            return Err(OpenRefused::Fault);
+        };
+        Ok(members)
+    }
+
+    /// Opens the capsule and the long-term medium: syncs both, reads them, and appends the capsule's last batch to the long-term medium
+    /// where that lacks it. All tables and buffers are taken here.
+    ///
+    /// `NotFormatted` and `Damaged` come exactly as `vdr_opening::read_media` says, and nothing was written. `Fault`: a call failed, and
+    /// the count of faults of that medium rose.
+    ///
+    /// Where the media are regular, a stop at each moment leaves what a stop before the call might have left, until the syncs have
+    /// succeeded; from then on media that show what was opened, with the batch that the long-term medium lacks.
+    pub fn open<M: Media>(alloc: Global, media: &mut M) -> Result<Members, OpenRefused>
+        requires two { 2 ≤ length (M.disk media.old).sizes }
+        requires three { length (M.disk media.old).sizes ≤ 3 }
+        ensures opened { IfOk result (λ members. (x : Contents) → M.tells → HoldsContents (M.disk media.old).reads x → AreRegularMedia x
+            → (placed : ℕ → List Placed) × Stands (opening_of x) [] members placed (M.disk media.new)) }
+        ensures contents { IfOk result (λ members. M.tells → IsFormatted (M.disk media.old).reads × (x : Contents) × HoldsContents (M.disk media.old).reads x
+            × EndsMeet both (reading_of x) × (members.config ≡ x.config) × (members.table ≡ x.table)) }
+        ensures works { IfOk result (λ members. members.failed ≡ false) }
+        ensures rings { IfOk result (λ members. AreRings members (M.disk media.new).sizes) }
+        ensures moments { (x : Contents) → M.tells → HoldsContents (M.disk media.old).reads x → EndsMeet both (reading_of x) → AreRegularMedia x
+            → OpensAtEachMoment (M.disk media.old) (M.disk media.new) result (ShowsHistory (opening_of x) []) }
+        ensures unformatted { result ≡ Err NotFormatted → M.tells → IsUnformatted (M.disk media.old).reads }
+        ensures damaged { (m offset : ℕ) → result ≡ Err (Damaged m offset) → M.tells → IsFormatted (M.disk media.old).reads × IsRefused (M.disk media.old).reads m offset }
+        ensures untouched { (result ≡ Err NotFormatted) ⊎ ((m : ℕ) × (offset : ℕ) × (result ≡ Err (Damaged m offset)))
+            → LeavesAll (M.disk media.old) (M.disk media.new) × (M.tells → (M.disk media.new).reads ≡ (M.disk media.old).reads) }
+        ensures others { M.tells → SameElsewhere (M.disk media.old).reads (M.disk media.new).reads }
+        ensures sizes { (M.disk media.new).sizes ≡ (M.disk media.old).sizes }
+        ensures cause { HasOpenCause (M.faults media.old) (M.faults media.new) result }
+    {
+        let Ok(()) = sync_both(media) else {
+            return Err(OpenRefused::Fault);
+        };
+        Members::open_synced(alloc, media)
+    }
+}

@@ -1,0 +1,217 @@
+ghost use Rattle.std.specs.Prelude.{◌≡◌, ◌≢◌, ◌↔◌, ◌≤◌, ℕ, List, true, None, Some, Ok, Err, All, option_map, get_or};
+ghost use Rattle.vdr_terms.specs.Records.{Record as Entry, last, second};
+ghost use Rattle.vdr_terms.specs.Queries.Span.{Window};
+ghost use Rattle.vdr_history.specs.Histories.{Event, Opening};
+ghost use Rattle.vdr_playback.specs.Playback.{medium_of, selected};
+ghost use Rattle.vdr_outside.specs.Causes.{Rose};
+ghost use Rattle.vdr_outside.specs.Disk.{Unchanged};
+ghost use Rattle.vdr_entry.specs.Queries.{asked, asked_medium};
+ghost use Rattle.vdr_ring.specs.Sequence.{Placed, all_records};
+ghost use Rattle.vdr_ring.specs.Rings.{HasMedium, Reads, Tells};
+ghost use Rattle.vdr_ring.specs.Cursors.{IsLoaded};
+ghost use Rattle.vdr_ring.specs.declared.refused.ReadRefused.TheVariants.{Fault as AFault, Damaged};
+ghost use Rattle.vdr_opening.specs.Media.{both};
+ghost use Rattle.vdr_vault.specs.Vaults.{AreRings, Stands, ring_of};
+ghost use Rattle.vdr_vault.specs.Spans.{span_as};
+ghost use Rattle.vdr_vault.specs.Walks.{AreLeft, CountsOn, GivesNext, HasRead, MayStep, slots_read};
+ghost use Rattle.vdr_vault.specs.Plays.{AreToCome, HasReadCause, ReadsNoOther, ReadsOn, ring_for, span_in};
+
+use crate::matching::{Span, selects};
+use crate::{Cursor, Members};
+use vdr_entry::{Medium, Query};
+use vdr_outside::Media;
+use vdr_playback::law_of_playback;
+use vdr_ring::{ReadRefused, Ring};
+
+// The window that ends with the second of a medium's last record. None where it has no record.
+fn window_of(ring: &Ring, seconds: u64) -> Option<Span>
+    requires { seconds ≤ 31_536_000 }
+    ensures { (placed : List Placed) → Tells ring.now.slots placed ring.now.table
+        → option_map span_as result ≡ option_map (λ r. Window (second r.tick) seconds) (last (all_records placed)) }
+{
+    let (_, tick, _) = ring.last()?;
+    Some(Span::Window {
+        last: tick / 1000,
+        seconds: seconds as u32,
+    })
+}
+
+// The number of the medium that is read.
+fn number_of(medium: Medium) -> u8
+    ensures { result ≡ medium_of (asked_medium medium) }
+{
+    match medium {
+        Medium::Capsule => 0,
+        Medium::LongTerm | Medium::Incident(_) => 1,
+    }
+}
+
+// Steps to the next record of the ring's medium that the query selects of the span.
+fn seek<M: Media>(
+    ring: &mut Ring,
+    media: &mut M,
+    query: &Query,
+    span: Span,
+    cursor: &mut Cursor,
+) -> Result<bool, ReadRefused>
+    requires room { HasMedium ring.old (M.disk media.old).sizes }
+    requires may { MayStep ring.old cursor.old }
+    requires medium { ring.old.medium ≡ medium_of (asked query.now).medium }
+    ensures read { HasRead ring.old ring.new (M.disk media.old) (M.disk media.new) }
+    ensures counts { CountsOn ring.old.medium (M.bytes_read media.old) (M.bytes_read media.new) (M.faults media.old) (M.faults media.new) }
+    ensures may { MayStep ring.new cursor.new }
+    ensures item { cursor.new.visit.item ≢ None ↔ (result ≡ Ok true) }
+    ensures plays { M.tells → (placed : List Placed) (records : List Entry) → Reads ring.old placed (M.disk media.old)
+        → AreLeft (slots_read ring.old (M.disk media.old)) placed (asked query.now) (Some (span_as span)) cursor.old records
+        → GivesNext records result cursor.new.visit.item
+        (AreLeft (slots_read ring.old (M.disk media.old)) placed (asked query.now) (Some (span_as span)) cursor.new) }
+    ensures damaged { (m offset : ℕ) → M.tells → IsLoaded ring.old (M.disk media.old) → result ≡ Err (Damaged m offset) → m ≡ ring.old.medium }
+    ensures cause { result ≡ Err AFault → Rose (get_or (M.faults media.old) ring.old.medium 0) (get_or (M.faults media.new) ring.old.medium 0) }
+{
+    let mut least = 0;
+    while cursor.step(ring, media)? {
+        let Some(item) = cursor.item() else {
+            unreachable!()
+        };
+        if selects(query, span, item) {
+            return Ok(true);
+        }
+        // Places rise on a medium, so that this ends on one that was changed from outside too.
+        if item.place < least {
+            *cursor = Cursor::new();
+            return Err(ReadRefused::Damaged {
+                medium: number_of(query.medium),
+                offset: 0,
+            });
+        }
+        least = item.place + 1;
+    }
+    Ok(false)
+}
+
+impl Members {
+    // What the query's medium comes to. None where it has no record, or the incident is not live.
+    fn span_of(&self, medium: Medium) -> Option<Span>
+        ensures { (placed : ℕ → List Placed) → All (λ m. Tells (ring_of self.now m).slots (placed m) (ring_of self.now m).table) both
+            → option_map span_as result ≡ span_in self.now placed (asked_medium medium) }
+    {
+        match medium {
+            Medium::Capsule => window_of(&self.capsule, self.config.capsule_seconds),
+            Medium::LongTerm => window_of(&self.long_term, self.config.long_seconds),
+            Medium::Incident(id) => {
+                let save = self.table.live(id)?;
+                Some(Span::Places {
+                    first: save.a,
+                    last: save.b,
+                })
+            }
+        }
+    }
+
+    // Steps on the medium that the query reads.
+    fn seek<M: Media>(
+        &mut self,
+        media: &mut M,
+        query: &Query,
+        span: Span,
+        cursor: &mut Cursor,
+    ) -> Result<bool, ReadRefused>
+        requires rings { AreRings self.old (M.disk media.old).sizes }
+        requires may { MayStep (ring_for self.old (asked query.now)) cursor.old }
+        ensures members { ReadsOn (medium_of (asked query.now).medium) self.old self.new }
+        ensures read { HasRead (ring_for self.old (asked query.now)) (ring_for self.new (asked query.now)) (M.disk media.old) (M.disk media.new) }
+        ensures counts { CountsOn (medium_of (asked query.now).medium) (M.bytes_read media.old) (M.bytes_read media.new) (M.faults media.old) (M.faults media.new) }
+        ensures may { MayStep (ring_for self.new (asked query.now)) cursor.new }
+        ensures item { cursor.new.visit.item ≢ None ↔ (result ≡ Ok true) }
+        ensures plays { M.tells → (placed : List Placed) (records : List Entry) → Reads (ring_for self.old (asked query.now)) placed (M.disk media.old)
+            → AreLeft (slots_read (ring_for self.old (asked query.now)) (M.disk media.old)) placed (asked query.now) (Some (span_as span)) cursor.old records
+            → GivesNext records result cursor.new.visit.item
+            (AreLeft (slots_read (ring_for self.old (asked query.now)) (M.disk media.old)) placed (asked query.now) (Some (span_as span)) cursor.new) }
+        ensures damaged { (m offset : ℕ) → M.tells → IsLoaded (ring_for self.old (asked query.now)) (M.disk media.old) → result ≡ Err (Damaged m offset)
+            → m ≡ medium_of (asked query.now).medium }
+        ensures cause { result ≡ Err AFault
+            → Rose (get_or (M.faults media.old) (medium_of (asked query.now).medium) 0) (get_or (M.faults media.new) (medium_of (asked query.now).medium) 0) }
+    {
+        match query.medium {
+            Medium::Capsule => seek(&mut self.capsule, media, query, span, cursor),
+            Medium::LongTerm | Medium::Incident(_) => {
+                seek(&mut self.long_term, media, query, span, cursor)
+            }
+        }
+    }
+
+    /// Steps to the first record that the query selects, wherever the cursor stood. False exactly where it selects none, as of an
+    /// incident that is not live. Reads the query's medium alone: of the capsule's window the capsule, else the long-term medium.
+    /// Takes no memory.
+    ///
+    /// `Fault`: a write had failed before, and nothing was called; or a read failed, and the count of faults of that medium rose.
+    /// `Damaged` names that medium. It never comes of media on which the vault stands.
+    pub fn first<M: Media>(
+        &mut self,
+        media: &mut M,
+        query: &Query,
+        cursor: &mut Cursor,
+    ) -> Result<bool, ReadRefused>
+        requires rings { AreRings self.old (M.disk media.old).sizes }
+        ensures plays { (opening : Opening) (events : List Event) (placed : ℕ → List Placed) → M.tells → Stands opening events self.old placed (M.disk media.old)
+            → GivesNext (selected opening events (asked query.now)) result cursor.new.visit.item (AreToCome (asked query.now) self.new placed (M.disk media.new) cursor.new) }
+        ensures stands { (opening : Opening) (events : List Event) (placed : ℕ → List Placed) → Stands opening events self.old placed (M.disk media.old)
+            → Stands opening events self.new placed (M.disk media.new) }
+        ensures item { cursor.new.visit.item ≢ None ↔ (result ≡ Ok true) }
+        ensures may { MayStep (ring_for self.new (asked query.now)) cursor.new }
+        ensures failed { self.old.failed ≡ true → (result ≡ Err AFault) × (self.new ≡ self.old) × (media.new ≡ media.old) }
+        ensures members { ReadsOn (medium_of (asked query.now).medium) self.old self.new }
+        ensures rings { AreRings self.new (M.disk media.new).sizes }
+        ensures unchanged { Unchanged (M.disk media.old) (M.disk media.new) }
+        ensures counts { ReadsNoOther (medium_of (asked query.now).medium) (M.bytes_read media.old) (M.bytes_read media.new) }
+        ensures damaged { (m offset : ℕ) → M.tells → IsLoaded (ring_for self.old (asked query.now)) (M.disk media.old) → result ≡ Err (Damaged m offset)
+            → m ≡ medium_of (asked query.now).medium }
+        ensures cause { HasReadCause (medium_of (asked query.now).medium) self.old.failed (M.faults media.old) (M.faults media.new) result }
+    {
+        law_of_playback();
+        *cursor = Cursor::new();
+        self.next(media, query, cursor)
+    }
+
+    /// Steps to the next record that the query selects. False exactly where no further one is there. Reads the query's medium
+    /// alone: of the capsule's window the capsule, else the long-term medium. Takes no memory.
+    ///
+    /// The cursor is new, or its last step was for this query, and no other cursor's came since (`may`).
+    ///
+    /// `Fault`: a write had failed before, and nothing was called; or a read failed, and the count of faults of that medium rose.
+    /// `Damaged` names that medium. It never comes of media on which the vault stands.
+    pub fn next<M: Media>(
+        &mut self,
+        media: &mut M,
+        query: &Query,
+        cursor: &mut Cursor,
+    ) -> Result<bool, ReadRefused>
+        requires rings { AreRings self.old (M.disk media.old).sizes }
+        requires may { MayStep (ring_for self.old (asked query.now)) cursor.old }
+        ensures plays { (opening : Opening) (events : List Event) (placed : ℕ → List Placed) (records : List Entry) → M.tells → Stands opening events self.old placed (M.disk media.old)
+            → AreToCome (asked query.now) self.old placed (M.disk media.old) cursor.old records
+            → GivesNext records result cursor.new.visit.item (AreToCome (asked query.now) self.new placed (M.disk media.new) cursor.new) }
+        ensures stands { (opening : Opening) (events : List Event) (placed : ℕ → List Placed) → Stands opening events self.old placed (M.disk media.old)
+            → Stands opening events self.new placed (M.disk media.new) }
+        ensures item { cursor.new.visit.item ≢ None ↔ (result ≡ Ok true) }
+        ensures may { MayStep (ring_for self.new (asked query.now)) cursor.new }
+        ensures failed { self.old.failed ≡ true → (result ≡ Err AFault) × (self.new ≡ self.old) × (media.new ≡ media.old) }
+        ensures members { ReadsOn (medium_of (asked query.now).medium) self.old self.new }
+        ensures rings { AreRings self.new (M.disk media.new).sizes }
+        ensures unchanged { Unchanged (M.disk media.old) (M.disk media.new) }
+        ensures counts { ReadsNoOther (medium_of (asked query.now).medium) (M.bytes_read media.old) (M.bytes_read media.new) }
+        ensures damaged { (m offset : ℕ) → M.tells → IsLoaded (ring_for self.old (asked query.now)) (M.disk media.old) → result ≡ Err (Damaged m offset)
+            → m ≡ medium_of (asked query.now).medium }
+        ensures cause { HasReadCause (medium_of (asked query.now).medium) self.old.failed (M.faults media.old) (M.faults media.new) result }
+    {
+        if self.failed {
+            *cursor = Cursor::new();
+            return Err(ReadRefused::Fault);
+        }
+        let Some(span) = self.span_of(query.medium) else {
+            *cursor = Cursor::new();
+            return Ok(false);
+        };
+        self.seek(media, query, span, cursor)
+    }
+}

@@ -1,0 +1,3 @@
+mod committing;
+mod opening;
+mod playing;
