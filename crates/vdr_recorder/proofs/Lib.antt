@@ -1,0 +1,16 @@
+pub mod StampLemmas
+pub mod BitLemmas
+pub mod Gaps
+pub mod Meters
+pub mod Taking
+pub mod Batches
+pub mod Closing
+pub mod Continuing
+pub mod Committing
+pub mod Running
+pub mod Starting
+pub mod Looking
+pub mod Opened
+pub mod Printing
+pub mod Answering
+pub mod Refusing

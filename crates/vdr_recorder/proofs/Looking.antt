@@ -1,0 +1,104 @@
+-- A call that only reads is a look, and so is each call after a fault.
+use Rattle.std.proofs.Common.{◌≡◌, ℕ, List, [], ◌∷◌, ◌++◌, Bool, true, false, Option, Some, None, ◌⊎◌, inl, inr, refl, sym, ap, ◌∙◌, subst, arith, true≢false}
+use Rattle.std.proofs.lemmas.List.Elements.{All-weaker}
+use Rattle.std.proofs.lemmas.Bool.{cases_Bool}
+use Rattle.vdr_history.specs.Histories.{Act, Event, EndsBy, IsHistory, Opening}
+use Rattle.vdr_history.specs.Histories.Act.{Look}
+use Rattle.vdr_history.specs.RunStates.{RunState, state_left}
+use Rattle.vdr_history.proofs.Growing.{history_grows, history_looks}
+use Rattle.vdr_durability.specs.Keeping.{IsWhole, Keeps, ShowsEither, ShowsPrefix, moment_of}
+use Rattle.vdr_durability.proofs.Kept.{keeps_after_fault, keeps_done}
+use Rattle.vdr_durability.proofs.Whole.{whole_has_not_failed}
+use Rattle.vdr_outside.specs.Disk.{Disk, Image, Unchanged}
+use Rattle.vdr_outside.specs.Moments.{AtEachMoment}
+use Rattle.vdr_config.specs.Configuration.{Configuration}
+use Rattle.vdr_config.specs.Sizes.{sizes_of}
+use Rattle.vdr_pace.specs.Media.{IsMediumOf}
+use Rattle.vdr_pace.proofs.Media.{silent}
+use Rattle.vdr_ring.specs.Sequence.{Placed, segments_in}
+use Rattle.vdr_opening.specs.Media.{both}
+use Rattle.vdr_vault.specs.Vaults.{MembersState, ShowsHistory, Stands}
+use Rattle.vdr_vault.proofs.ShownHistory.{stand_shows, stands_silent}
+use Rattle.vdr_recorder.specs.Making.{Makes}
+use Rattle.vdr_recorder.specs.Recordings.{HasDone, HasRecorded, IsWorking, RecordingState, TellsLeft, acts_of, start_of_opening}
+use Rattle.vdr_recorder.proofs.Continuing.{acts_with, fails_with, has_moment, left_with, made_looks, told_at_rest, told_without, whole_with}
+
+-- What a stop may leave during calls that only read.
+moments_still : {tells tells_images : Type 0} (old new : Disk tells tells_images) (P : Image → Type 0) → Unchanged old new → ((i : Image) → old.now i → P i) → AtEachMoment old new P
+moments_still old new P same now = record {
+  later = omega (arith, same.clock);
+  each = λ i since. now i (old.only_now i ((same.since old.clock i).0 since));
+  before = λ t i early since. inl ((same.since t i).0 since);
+}
+
+module _ {tells tells_images : Type 0} (opening : Opening) (events : List Event) (t0 : ℕ) (r : RecordingState) (old new : Disk tells tells_images) (h : HasRecorded opening events t0 r old)
+    (after : MembersState) (same : Unchanged old new) (failed_is : after.failed ≡ r.members.failed) (config_is : after.config ≡ r.members.config)
+    (place_is : after.next_place ≡ r.members.next_place) (last_is : after.last ≡ r.members.last) (table_is : after.table ≡ r.members.table)
+    (stands : (placed : ℕ → List Placed) → Stands opening events r.members placed old → Stands opening events after placed new) where
+  abbrev look : Event
+  look = record { act = Look; moment = moment_of after.failed new.clock }
+
+  whole : after.failed ≡ false → IsWhole events
+  whole goes = (whole_has_not_failed events).1 (sym h.failed ∙ sym failed_is ∙ goes)
+
+  broken : after.failed ≡ true → IsWhole events → ⊥
+  broken fails all = true≢false (sym fails ∙ failed_is ∙ h.failed ∙ (whole_has_not_failed events).0 all)
+
+  no_moment : after.failed ≡ true → look.moment ≡ None
+  no_moment fails = ap (λ (b : Bool). moment_of b new.clock) fails
+
+  a_moment : after.failed ≡ false → look.moment ≡ Some new.clock
+  a_moment goes = ap (λ (b : Bool). moment_of b new.clock) goes
+
+  working : after.failed ≡ false → IsWorking opening (events ++ look ∷ []) (record r { members = after }) new
+  working goes =
+      let v = h.works (sym failed_is ∙ goes) in
+      let left : state_left opening (events ++ look ∷ []) ≡ state_left opening events = left_with opening events look (whole goes) (has_moment after.failed new.clock look.moment refl goes) in
+      record {
+        placed = v.placed;
+        first = v.first;
+        stands = stands_silent opening events look refl refl after v.placed new (stands v.placed v.stands);
+        media = All-weaker
+            (λ m. IsMediumOf (sizes_of r.members.config) (start_of_opening opening) (segments_in (v.first m)) (acts_of events) (segments_in (v.placed m)))
+            (λ m. IsMediumOf (sizes_of after.config) (start_of_opening opening) (segments_in (v.first m)) (acts_of (events ++ look ∷ [])) (segments_in (v.placed m)))
+            (λ m k. subst (λ (x : Configuration × List Act). IsMediumOf (sizes_of x.0) (start_of_opening opening) (segments_in (v.first m)) x.1 (segments_in (v.placed m)))
+            (λ i. (sym config_is i, sym (acts_with events look) i))
+            (silent (sizes_of r.members.config) (start_of_opening opening) (segments_in (v.first m)) (acts_of events) (segments_in (v.placed m)) Look k tt refl))
+            both v.media;
+        open_is = v.open_is ∙ sym (ap (λ (s : RunState). s.is_open) left);
+        makes = λ opened. subst (λ (x : Configuration × RunState). Makes x.0 x.1.start x.1.popped r.maker) (λ i. (sym config_is i, sym left i)) (v.makes opened);
+      }
+
+  grows : (after.failed ≡ true) ⊎ (after.failed ≡ false) → IsHistory opening (events ++ look ∷ []) × Keeps (ShowsHistory opening) (events ++ look ∷ []) t0 new
+  grows (inl fails) = (
+    history_looks opening events look h.history (broken fails) refl (no_moment fails),
+    keeps_after_fault (ShowsHistory opening) events t0 look old new h.kept (broken fails) same refl (no_moment fails),
+  )
+  grows (inr goes) = (
+    history_grows opening events look h.history (whole goes) tt (subst (λ (o : Option ℕ). EndsBy o Look [] (Unit {0})) (sym (a_moment goes)) tt),
+    keeps_done (ShowsHistory opening) events t0 look old new h.kept (whole goes) (moments_still old new (ShowsEither (ShowsHistory opening) events look old.now) same (λ i now. inl now)) (a_moment goes)
+        (λ image now. stand_shows opening (events ++ look ∷ []) after (working goes).placed new (working goes).stands image now),
+  )
+
+  told_after : (after.failed ≡ true) ⊎ (after.failed ≡ false) → TellsLeft opening (events ++ look ∷ []) after
+  told_after (inl fails) = told_without opening events look r.members after (no_moment fails) h.told place_is last_is table_is
+  told_after (inr goes) = told_at_rest opening (events ++ look ∷ []) (whole_with events look (whole goes) (has_moment after.failed new.clock look.moment refl goes)) after (working goes).placed new (working goes).stands
+
+  -- A call that reads, or none.
+  pub look_done : HasDone opening events t0 Look (record r { members = after }) old new
+  look_done =
+      let g = grows (cases_Bool after.failed) in
+      record {
+        event = look;
+        act_is = refl;
+        moment_is = refl;
+        has = record {
+          history = g.0;
+          made = made_looks opening events look h.made refl;
+          failed = fails_with after.failed new.clock events look whole refl;
+          told = told_after (cases_Bool after.failed);
+          kept = g.1;
+          works = working;
+        };
+        passes = moments_still old new (λ image. old.now image ⊎ ShowsPrefix (ShowsHistory opening) (events ++ look ∷ []) 0 image) same (λ i now. inl now);
+      }

@@ -1,0 +1,169 @@
+-- A recorder that was opened has an empty history over its opening.
+use Rattle.std.proofs.Common.{◌≡◌, ◌≢◌, ◌<◌, ◌≤◌, ℕ, List, [], ◌∷◌, length, sum_by, All, zero, suc, true, false, Option, Some, None, Result, Ok, Err, inl, inr, refl, sym, ap, ◌∙◌, subst, arith, append-nil, length-append, true≢false}
+use Rattle.std.proofs.lemmas.List.Elements.{All-nil, All-cons, All-head, All-tail, All-append, All-weaker}
+use Rattle.vdr_terms.specs.Needs.{cost, usable}
+use Rattle.vdr_terms.specs.Order.{AreInOrder}
+use Rattle.vdr_terms.specs.Records.{Record, last}
+use Rattle.vdr_terms.specs.Sizes.{records_size}
+use Rattle.vdr_history.specs.Histories.{Event, Opening, Settings, stamp_of}
+use Rattle.vdr_history.specs.Runs.{RunStart}
+use Rattle.vdr_retention.specs.Layout.{Batches, batches_size_at, records_in, segment_records}
+use Rattle.vdr_durability.specs.Readings.{EndBy, EndsMeet, Reading, ends_before, leading_batch, next_after}
+use Rattle.vdr_outside.specs.Disk.{Disk, Image}
+use Rattle.vdr_config.specs.Sizes.{sizes_of}
+use Rattle.vdr_pace.specs.Media.{EndsBefore, IsMediumOf}
+use Rattle.vdr_pace.proofs.Media.{at_opening}
+use Rattle.vdr_pace.proofs.Parts.{same_last}
+use Rattle.vdr_media.proofs.Two.{all_two}
+use Rattle.vdr_ring.specs.Sequence.{Placed, all_records, batches_in, batches_of, segments_in}
+use Rattle.vdr_ring.specs.Regularity.{AreRegular}
+use Rattle.vdr_opening.specs.Media.{Contents, both, reading_of}
+use Rattle.vdr_opening.specs.declared.refused.OpenRefused.{OpenRefused}
+use Rattle.vdr_vault.specs.Openings.{GoesOnSynced, OpensAtEachMoment}
+use Rattle.vdr_vault.specs.Vaults.{MembersState, ShowsHistory, Stands}
+use Rattle.vdr_vault.proofs.ShownImages.{records_are}
+use Rattle.vdr_recorder.specs.Recordings.{HasRecorded, start_of_opening}
+use Rattle.vdr_recorder.specs.declared.maker.Maker.{Maker}
+use Rattle.vdr_recorder.proofs.Continuing.{told_at_rest}
+
+-- The last record of batches that are not empty is that of the last batch.
+last_in : Option (List Record) → Option Record
+last_in None = None
+last_in (Some batch) = last batch
+
+last_of_batches : (bs : Batches) → All (λ b. 0 < length b) bs → last (segment_records bs) ≡ last_in (last bs)
+unfolding last_in
+last_of_batches [] some = refl
+last_of_batches (b ∷ []) some = ap last (append-nil b)
+last_of_batches (b ∷ (c ∷ cs)) some =
+    let more = All-tail (λ (b : List Record). 0 < length b) b (c ∷ cs) some in
+    let first = All-head (λ (b : List Record). 0 < length b) c cs more in
+    let sum = length-append c (segment_records cs) in
+    same_last b [] (segment_records (c ∷ cs)) (omega (arith, first, sum)) ∙ last_of_batches (c ∷ cs) more
+
+-- No batch of a regular medium is empty.
+flat_some : (batch : ℕ) (placed : List Placed) → All (λ segment. All (λ b. (0 < length b) × (records_size b ≤ batch)) segment) (segments_in placed) → All (λ b. 0 < length b) (batches_in placed)
+flat_some batch [] h = All-nil (λ b. 0 < length b)
+flat_some batch (p ∷ ps) h =
+    All-append (λ b. 0 < length b) (batches_of p) (batches_in ps)
+    (All-weaker (λ b. (0 < length b) × (records_size b ≤ batch)) (λ b. 0 < length b) (λ b k. k.0) (batches_of p)
+    (All-head (λ segment. All (λ b. (0 < length b) × (records_size b ≤ batch)) segment) (batches_of p) (segments_in ps) h))
+    (flat_some batch ps (All-tail (λ segment. All (λ b. (0 < length b) × (records_size b ≤ batch)) segment) (batches_of p) (segments_in ps) h))
+
+module _ (cost usable batch : ℕ) (placed : List Placed) where
+  regular_some : AreRegular cost usable batch placed → All (λ b. 0 < length b) (batches_in placed)
+  regular_some (inl none) = subst (λ (ps : List Placed). All (λ b. 0 < length b) (batches_in ps)) (sym none) (All-nil (λ b. 0 < length b))
+  regular_some (inr k) = flat_some batch placed (subst (λ (segments : List Batches). All (λ segment. All (λ b. (0 < length b) × (records_size b ≤ batch)) segment) segments) (sym k.2) k.3.batches)
+
+  regular_order : AreRegular cost usable batch placed → AreInOrder (records_in (segments_in placed))
+  regular_order (inl none) = subst (λ (ps : List Placed). AreInOrder (records_in (segments_in ps))) (sym none) tt
+  regular_order (inr k) = subst (λ (segments : List Batches). AreInOrder (records_in segments)) (sym k.2) k.3.order
+
+  regular_paced : AreRegular cost usable batch placed → (s : ℕ) → sum_by (batches_size_at s) (segments_in placed) ≤ cost
+  regular_paced (inl none) s = subst (λ (ps : List Placed). sum_by (batches_size_at s) (segments_in ps) ≤ cost) (sym none) (omega arith)
+  regular_paced (inr k) s = subst (λ (segments : List Batches). sum_by (batches_size_at s) segments ≤ cost) (sym k.2) (k.3.paced s)
+
+ends_at : (start : RunStart) (o : Option Record) → start.place ≡ next_after o → start.last ≡ stamp_of o None → EndsBefore start o
+ends_at start None place stamp = tt
+ends_at start (Some r) place stamp = (sym place, stamp)
+
+-- Where the ends meet depends on what both media read as alone.
+waits_same : (batch : Option (List Record)) (r s : Reading) (m : ℕ) → r.batches m ≡ s.batches m → ends_before batch (r.batches m) ≡ true → ends_before batch (s.batches m) ≡ true
+waits_same batch r s m same h = ap (ends_before batch) (sym same) ∙ h
+
+module _ (r s : Reading) (first : r.batches 0 ≡ s.batches 0) (second : r.batches 1 ≡ s.batches 1) where
+  same_lead : leading_batch both r ≡ leading_batch both s
+  same_lead = ap last first
+
+  end_second : (batch : Option (List Record)) → EndBy r batch (1 ∷ []) → EndBy s batch (1 ∷ [])
+  end_second batch (inl (here, more)) = inl (ap last (sym second) ∙ here, tt)
+  end_second batch (inr wait) =
+      inr (All-cons (λ k. ends_before batch (s.batches k) ≡ true) 1 []
+      (waits_same batch r s 1 second (All-head (λ k. ends_before batch (r.batches k) ≡ true) 1 [] wait)) (All-nil (λ k. ends_before batch (s.batches k) ≡ true)))
+
+  end_both : (batch : Option (List Record)) → EndBy r batch both → EndBy s batch both
+  end_both batch (inl (here, more)) = inl (ap last (sym first) ∙ here, end_second batch more)
+  end_both batch (inr wait) = inr (all_two (λ k. ends_before batch (s.batches k) ≡ true)
+      (waits_same batch r s 0 first (All-head (λ k. ends_before batch (r.batches k) ≡ true) 0 (1 ∷ []) wait))
+      (waits_same batch r s 1 second (All-head (λ k. ends_before batch (r.batches k) ≡ true) 1 [] (All-tail (λ k. ends_before batch (r.batches k) ≡ true) 0 (1 ∷ []) wait))))
+
+  pub meet_same : EndsMeet both r → EndsMeet both s
+  meet_same h = subst (λ (batch : Option (List Record)). EndBy s batch both) same_lead (end_both (leading_batch both r) h)
+
+-- Contents of one image have one end.
+pub meet_as : (x y : Contents) → (x.placed 0 ≡ y.placed 0) × (x.placed 1 ≡ y.placed 1) → EndsMeet both (reading_of x) → EndsMeet both (reading_of y)
+meet_as x y same = meet_same (reading_of x) (reading_of y) (ap batches_in same.0) (ap batches_in same.1)
+
+-- The syncs had succeeded where the opening did.
+pub synced_where : {tells tells_images T : Type 0} (old new : Disk tells tells_images) (result : Result T OpenRefused) (x : T) (shows : Image → Type 0) → result ≡ Ok x
+    → OpensAtEachMoment old new result shows → GoesOnSynced old new shows
+synced_where old new result x shows ok (inl ends) = absurd (clash _ ends.failed)
+  where
+    clash : (e : OpenRefused) → result ≡ Err e → ⊥
+    clash e f = cc
+synced_where old new result x shows ok (inr on) = on
+
+-- The answer of a refused opening is passed on.
+pub same_refused : {T U : Type 0} (result : Result T OpenRefused) (out : Result U OpenRefused) (was is refused : OpenRefused) → result ≡ Err was → out ≡ Err is → is ≡ was → out ≡ Err refused
+    → result ≡ Err refused
+same_refused {T} {U} result out was is refused e f same answer = e ∙ ap (λ (x : OpenRefused). Err x) (sym same ∙ one is refused (sym f ∙ answer))
+  where
+    one : (a b : OpenRefused) → ◌≡◌ {A = Result U OpenRefused} (Err a) (Err b) → a ≡ b
+    one a b e = cc
+
+pub opens_as : {tells tells_images T U : Type 0} (old new : Disk tells tells_images) (result : Result T OpenRefused) (out : Result U OpenRefused) (was is : OpenRefused) (shows : Image → Type 0)
+    → result ≡ Err was → out ≡ Err is → is ≡ was → OpensAtEachMoment old new result shows → OpensAtEachMoment old new out shows
+opens_as old new result out was is shows e f same (inl ends) = inl (record { failed = same_refused out result is was _ f e (sym same) ends.failed; moments = ends.moments })
+opens_as old new result out was is shows e f same (inr on) = inr on
+
+module _ {tells tells_images : Type 0} (opening : Opening) (members : MembersState) (placed : ℕ → List Placed) (disk : Disk tells tells_images) (stands : Stands opening [] members placed disk) where
+  regular_on : (m : ℕ) → m < 2 → AreRegular (cost (sizes_of members.config)) (usable (sizes_of members.config)) members.config.batch (placed m)
+  regular_on zero l = (stands.media 0 0 (omega arith)).regular
+  regular_on (suc zero) l = (stands.media 1 1 (omega arith)).regular
+  regular_on (suc (suc m)) l = absurd (omega (arith, l))
+
+  ends_first : EndsBefore (start_of_opening opening) (last (all_records (placed 0)))
+  ends_first = ends_at (start_of_opening opening) (last (all_records (placed 0))) (let here = stands.place in omega (arith, here)) stands.stamp
+
+  -- Both media end with the same record.
+  same_end : last (all_records (placed 1)) ≡ last (all_records (placed 0))
+  same_end =
+      ap last (sym (records_are (placed 1)))
+      ∙ last_of_batches (batches_in (placed 1)) (regular_some (cost (sizes_of members.config)) (usable (sizes_of members.config)) members.config.batch (placed 1) (regular_on 1 (omega arith)))
+      ∙ ap last_in (stands.level 1 1 (omega arith))
+      ∙ sym (last_of_batches (batches_in (placed 0)) (regular_some (cost (sizes_of members.config)) (usable (sizes_of members.config)) members.config.batch (placed 0) (regular_on 0 (omega arith))))
+      ∙ ap last (records_are (placed 0))
+
+  medium_opened : (m : ℕ) → AreRegular (cost (sizes_of members.config)) (usable (sizes_of members.config)) members.config.batch (placed m) → EndsBefore (start_of_opening opening) (last (all_records (placed m)))
+      → IsMediumOf (sizes_of members.config) (start_of_opening opening) (segments_in (placed m)) [] (segments_in (placed m))
+  medium_opened m regular ends =
+      at_opening (sizes_of members.config) (start_of_opening opening) (segments_in (placed m)) (λ g. ap (λ (s : Settings). s.limits g) stands.settings) (record {
+        order = regular_order (cost (sizes_of members.config)) (usable (sizes_of members.config)) members.config.batch (placed m) regular;
+        ends = ends;
+        paced = regular_paced (cost (sizes_of members.config)) (usable (sizes_of members.config)) members.config.batch (placed m) regular;
+      })
+
+  pub has_opened : (t0 : ℕ) (maker : Maker) → t0 ≤ disk.clock → ((image : Image) → disk.since t0 image → ShowsHistory opening [] image)
+      → HasRecorded opening [] t0 (record { members = members; maker = maker; is_open = false }) disk
+  has_opened t0 maker low shown = record {
+    history = record { follow = tt; pending = tt };
+    made = tt;
+    failed = stands.working;
+    told = told_at_rest opening [] (All-nil (λ (e : Event). e.moment ≢ None)) members placed disk stands;
+    kept = record {
+      rising = omega arith;
+      pending = tt;
+      prefixes = λ t image after end left. record { first = []; rest = []; split = refl; enough = omega arith; shown = shown image (disk.earlier t0 t image after left) };
+      now = λ whole image now. shown image (disk.counts_now t0 image low now);
+    };
+    works = λ works. record {
+      placed = placed;
+      first = placed;
+      stands = stands;
+      media = all_two (λ m. IsMediumOf (sizes_of members.config) (start_of_opening opening) (segments_in (placed m)) [] (segments_in (placed m)))
+          (medium_opened 0 (regular_on 0 (omega arith)) ends_first)
+          (medium_opened 1 (regular_on 1 (omega arith)) (subst (EndsBefore (start_of_opening opening)) (sym same_end) ends_first));
+      open_is = refl;
+      makes = λ opened. absurd (true≢false (sym opened));
+    };
+  }

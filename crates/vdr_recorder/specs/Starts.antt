@@ -1,0 +1,19 @@
+-- How a run begins on what the media have.
+use Rattle.std.specs.Prelude.{ℕ, ℤ, Option, option_map}
+use Rattle.vdr_config.specs.Configuration.{Configuration}
+use Rattle.vdr_config.specs.Sizes.{limits_in}
+use Rattle.vdr_datagram.specs.Channels.{channels_of}
+use Rattle.vdr_history.specs.Runs.{Stamp, RunStart}
+
+-- The stamp of a tick and a utc.
+abbrev pub stamp_of : ℕ × ℤ → Stamp
+stamp_of told = record { tick = told.0; utc = told.1 }
+
+-- A run of this configuration that begins at this place, after a record of this tick and utc.
+abbrev pub start_with : Configuration → ℕ → Option (ℕ × ℤ) → RunStart
+start_with config place last = record {
+  limits = limits_in config.groups;
+  channels = channels_of config;
+  place = place;
+  last = option_map stamp_of last;
+}

@@ -1,0 +1,19 @@
+//! A recorder over its media: it makes records of the items that it takes, commits them, and plays what was recorded.
+#![tactic(auto)]
+
+mod account;
+mod bits;
+mod commit;
+mod maker;
+mod play;
+mod recording;
+mod run;
+mod start;
+#[cfg(test)]
+mod tests;
+mod text;
+
+pub use play::PlayRefused;
+pub use recording::{Recording, State};
+pub use run::StartRefused;
+pub use vdr_entry::{Medium, Query};

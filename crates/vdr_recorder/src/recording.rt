@@ -1,0 +1,145 @@
+// A recorder without its media, how it is opened, and what it answers without a call on them.
+ghost use Rattle.std.specs.Prelude.{◌≡◌, ◌≤◌, ◌<◌, ◌⊎◌, ℕ, List, [], length, count_by, is_some, option_map, false, Err, IfOk};
+ghost use Rattle.vdr_core.specs.Ended.{last_tick};
+ghost use Rattle.vdr_history.specs.Histories.{Event, Opening, done, incidents};
+ghost use Rattle.vdr_history.specs.Recorder.{recorder_after};
+ghost use Rattle.vdr_history.specs.RunStates.{state_left};
+ghost use Rattle.vdr_history.specs.Runs.{RunStart};
+ghost use Rattle.vdr_history.specs.Sums.{counted_by, recorded_in};
+ghost use Rattle.vdr_history.specs.Taken.{Captured as CapturedTold};
+ghost use Rattle.vdr_durability.specs.Readings.{EndsMeet};
+ghost use Rattle.vdr_media.specs.Formatted.{IsFormatted, IsUnformatted};
+ghost use Rattle.vdr_opening.specs.Answers.{HasOpenCause};
+ghost use Rattle.vdr_opening.specs.Media.{Contents, HoldsContents, both, opening_of, reading_of};
+ghost use Rattle.vdr_opening.specs.Refusals.{IsRefused};
+ghost use Rattle.vdr_opening.specs.declared.refused.OpenRefused.TheVariants.{Damaged, NotFormatted};
+ghost use Rattle.vdr_vault.specs.Calls.{SameElsewhere};
+ghost use Rattle.vdr_vault.specs.Openings.{LeavesAll, OpensAtEachMoment};
+ghost use Rattle.vdr_vault.specs.Regularity.{AreRegularMedia};
+ghost use Rattle.vdr_vault.specs.Vaults.{AreRings, ShowsHistory};
+ghost use Rattle.vdr_recorder.specs.Making.{CountsItems};
+ghost use Rattle.vdr_recorder.specs.Recordings.{HasRecorded, TellsLeft};
+ghost use Rattle.vdr_recorder.specs.Starts.{stamp_of};
+
+use crate::maker::Maker;
+use std::alloc::Global;
+use std::marker::Model;
+use vdr_config::Config;
+use vdr_opening::{OpenRefused, law_of_contents};
+use vdr_outside::Media;
+use vdr_vault::Members;
+
+/// A recorder without its media: the vault on them, what the present run has counted, and whether a run is open. Each call on the
+/// media is one event of one history. After a fault of a write all its calls answer `Fault` and touch nothing, until the media are
+/// opened again.
+#[derive(Drop)]
+pub struct Recording {
+    pub(crate) members: Members,
+    pub(crate) maker: Maker,
+    pub(crate) is_open: bool,
+}
+
+/// What a recorder tells of itself.
+#[derive(Clone, Copy, Debug, PartialEq, Eq, Drop)]
+pub struct State {
+    /// How many records were made: the place of the next one.
+    pub records: u64,
+    /// The tick of the last record, in milliseconds of recording time. 0 where nothing is recorded.
+    pub tick: u64,
+    /// How many saved incidents are live.
+    pub incidents: u8,
+}
+
+impl Model for Recording {
+    ghost use Rattle.vdr_recorder.specs.Recordings.{IsReady, RecordingState};
+
+    ghost Value = { RecordingState };
+
+    ghost view = { λ s. record { members = s.members; maker = s.maker; is_open = s.is_open } };
+
+    ghost invariant = { λ s. IsReady (record { members = s.members; maker = s.maker; is_open = s.is_open }) };
+}
+
+impl Recording {
+    /// Opens the media for recording, as `vdr_vault::Members::open` does, and takes all memory that recording needs. No run is open.
+    ///
+    /// `NotFormatted` and `Damaged` come exactly as `vdr_opening::read_media` says, and nothing was written. `Fault`: a call failed, and
+    /// the count of faults of that medium rose.
+    pub fn open<M: Media>(alloc: Global, media: &mut M) -> Result<Recording, OpenRefused>
+        requires two { 2 ≤ length (M.disk media.old).sizes }
+        requires three { length (M.disk media.old).sizes ≤ 3 }
+        ensures opened { IfOk result (λ r. (x : Contents) → M.tells → HoldsContents (M.disk media.old).reads x → AreRegularMedia x
+            → (t0 : ℕ) × ((M.disk media.old).clock ≤ t0) × (t0 ≤ (M.disk media.new).clock) × HasRecorded (opening_of x) [] t0 r (M.disk media.new)) }
+        ensures contents { IfOk result (λ r. M.tells → IsFormatted (M.disk media.old).reads × (x : Contents) × HoldsContents (M.disk media.old).reads x
+            × EndsMeet both (reading_of x) × (r.members.config ≡ x.config) × (r.members.table ≡ x.table)) }
+        ensures works { IfOk result (λ r. r.members.failed ≡ false) }
+        ensures closed { IfOk result (λ r. r.is_open ≡ false) }
+        ensures rings { IfOk result (λ r. AreRings r.members (M.disk media.new).sizes) }
+        ensures moments { (x : Contents) → M.tells → HoldsContents (M.disk media.old).reads x → EndsMeet both (reading_of x) → AreRegularMedia x
+            → OpensAtEachMoment (M.disk media.old) (M.disk media.new) result (ShowsHistory (opening_of x) []) }
+        ensures unformatted { result ≡ Err NotFormatted → M.tells → IsUnformatted (M.disk media.old).reads }
+        ensures damaged { (m offset : ℕ) → result ≡ Err (Damaged m offset) → M.tells → IsFormatted (M.disk media.old).reads × IsRefused (M.disk media.old).reads m offset }
+        ensures untouched { (result ≡ Err NotFormatted) ⊎ ((m : ℕ) × (offset : ℕ) × (result ≡ Err (Damaged m offset)))
+            → LeavesAll (M.disk media.old) (M.disk media.new) × (M.tells → (M.disk media.new).reads ≡ (M.disk media.old).reads) }
+        ensures others { M.tells → SameElsewhere (M.disk media.old).reads (M.disk media.new).reads }
+        ensures sizes { (M.disk media.new).sizes ≡ (M.disk media.old).sizes }
+        ensures cause { HasOpenCause (M.faults media.old) (M.faults media.new) result }
+    {
+        law_of_contents();
+        let members = Members::open(alloc, media)?;
+        let config = members.config();
+        // The maker has room for a batch of this many bytes.
+        let _batch = config.batch;
+        let Ok(maker) = Maker::new(alloc, config) else {
+            return Err(OpenRefused::NoMemory);
+        };
+        Ok(Recording {
+            members,
+            maker,
+            is_open: false,
+        })
+    }
+
+    /// The configuration that the media hold.
+    pub fn config(&self) -> &Config
+        ensures { result.now ≡ self.now.members.config }
+    {
+        self.members.config()
+    }
+
+    /// How many Datagrams of the group the run has, and how many of its items the rate refused. A group from 16 on has none.
+    pub fn recorded(&self, group: u8) -> (u64, u64)
+        ensures sums { (start : RunStart) (popped : List CapturedTold) → CountsItems start popped self.now.maker → group < 16
+            → result ≡ (recorded_in group (recorder_after start popped).made, (counted_by (recorder_after start popped) group).rate) }
+        ensures none { 16 ≤ group → result ≡ (0, 0) }
+    {
+        self.maker.recorded(group)
+    }
+
+    /// Whether a write has failed since the media were opened.
+    pub fn failed(&self) -> bool
+        ensures { result ≡ self.now.members.failed }
+    {
+        self.members.failed()
+    }
+
+    /// How far the recording is. A batch that met a fault doesn't count.
+    pub fn status(&self) -> State
+        ensures records { result.records ≡ self.now.members.next_place }
+        ensures tick { result.tick ≡ last_tick (option_map stamp_of self.now.members.last) }
+        ensures incidents { result.incidents ≡ count_by is_some self.now.members.table }
+        ensures left { (opening : Opening) (events : List Event) → TellsLeft opening events self.now.members
+            → (result.records ≡ (state_left opening events).place) × (result.tick ≡ last_tick (state_left opening events).last)
+            × (result.incidents ≡ count_by is_some (incidents opening (done events))) }
+    {
+        let tick = match self.members.last() {
+            Some((tick, _)) => tick,
+            None => 0,
+        };
+        State {
+            records: self.members.next_place(),
+            tick,
+            incidents: self.members.live_saves(),
+        }
+    }
+}
