@@ -1,0 +1,82 @@
+-- What opening's refusals leave, and what a configuration admits.
+use Rattle.std.proofs.Common.{◌≡◌, ◌⊎◌, inl, inr, ◌≤◌, ℕ, zero, suc, List, [], ◌∷◌, All, Option, Some, None, slice_index_or, Result, Ok, Err, subst}
+use Rattle.std.specs.Prelude.{IfSome}
+use Rattle.std.proofs.lemmas.List.Elements.{All-head, All-tail}
+use Rattle.vdr_terms.specs.declared.rate.Rate.{Rate}
+use Rattle.vdr_terms.specs.Rates.{limit_of}
+use Rattle.vdr_terms.specs.Rates.Limit.{AtMost}
+use Rattle.vdr_core.specs.Law.{Admits}
+use Rattle.vdr_durability.specs.Readings.{EndsMeet}
+use Rattle.vdr_outside.specs.Disk.{Disk}
+use Rattle.vdr_config.specs.Configuration.{Configuration, IsConfiguration, IsRate}
+use Rattle.vdr_config.specs.Grammar.{configuration}
+use Rattle.vdr_config.specs.Sizes.{limits_in}
+use Rattle.vdr_opening.specs.Media.{both, Contents, opening_of, reading_of}
+use Rattle.vdr_opening.specs.declared.refused.OpenRefused.{OpenRefused}
+use Rattle.vdr_opening.specs.declared.refused.OpenRefused.TheVariants as refusals
+use Rattle.vdr_vault.specs.Openings.{LeavesAll, OpensAtEachMoment}
+use Rattle.vdr_vault.specs.Regularity.{AreRegularMedia}
+use Rattle.vdr_vault.specs.Vaults.{ShowsHistory}
+use Rattle.vdr_feed.specs.declared.fault.FeedFault.{FeedFault}
+use Rattle.vdr_feed.specs.declared.fault.FeedFault.TheVariants as faults
+use Rattle.vdr_replay.specs.Answers.{Answers, IfOpened}
+use Rattle.vdr_replay.specs.Stops.{stop_by_feed, stop_by_opening}
+use Rattle.vdr_replay.specs.declared.ended.Replayed.{Replayed}
+use Rattle.vdr_replay.specs.declared.ended.ReplayStop.{ReplayStop}
+use Rattle.vdr_replay.specs.declared.ended.ReplayStop.TheVariants.{NoMemory, Input, Refused, NotFormatted, Damaged, Place, Tick, Media}
+use Rattle.vdr_replay.proofs.Headlines.{opened_nothing}
+
+-- Opening was refused, or failed.
+pub open_stops : {tells tells_images T : Type 0} (x : Contents) (bytes : List ℕ) (rose : Type 0) → configuration x.text ≡ Ok x.config → AreRegularMedia x → (old new : Disk tells tells_images) (result : Result T OpenRefused) (e : OpenRefused) → result ≡ Err e
+    → ((result ≡ Err refusals.NotFormatted) ⊎ ((m : ℕ) × (offset : ℕ) × (result ≡ Err (refusals.Damaged m offset))) → LeavesAll old new)
+    → (EndsMeet both (reading_of x) → OpensAtEachMoment old new result (ShowsHistory (opening_of x) [])) → Answers x bytes rose old new (Err (stop_by_opening e))
+open_stops x bytes rose reads regular old new result refusals.NoMemory is untouched moments = λ meet. opened_nothing x bytes rose reads regular old new result (moments meet)
+open_stops x bytes rose reads regular old new result refusals.NotFormatted is untouched moments = inl (λ image left. (untouched (inl is)).each image left)
+open_stops x bytes rose reads regular old new result (refusals.Damaged m offset) is untouched moments = inl (λ image left. (untouched (inr (m, offset, is))).each image left)
+open_stops x bytes rose reads regular old new result refusals.Fault is untouched moments = λ meet. inl (opened_nothing x bytes rose reads regular old new result (moments meet))
+
+-- Damage is what opening names.
+pub damaged_by : (e : OpenRefused) (m offset : ℕ) → ◌≡◌ {A = Result Replayed ReplayStop} (Err (stop_by_opening e)) (Err (Damaged m offset)) → e ≡ refusals.Damaged m offset
+damaged_by refusals.NoMemory m offset is = let none : ⊥ = cc in absurd none
+damaged_by refusals.NotFormatted m offset is = let none : ⊥ = cc in absurd none
+damaged_by (refusals.Damaged k at) m offset is = cc
+damaged_by refusals.Fault m offset is = let none : ⊥ = cc in absurd none
+
+-- A legal configuration admits a datagram a second of each of its groups.
+rate_at : (rates : List (Option Rate)) (g : ℕ) → All (λ rate. IfSome rate IsRate) rates → IfSome (slice_index_or rates g None) IsRate
+rate_at [] g h = tt
+rate_at (rate ∷ rates) zero h = All-head (λ (rate : Option Rate). IfSome rate IsRate) rate rates h
+rate_at (rate ∷ rates) (suc g) h = rate_at rates g (All-tail (λ (rate : Option Rate). IfSome rate IsRate) rate rates h)
+
+pub admits_all : (c : Configuration) → IsConfiguration c → Admits (limits_in c.groups)
+admits_all c legal g rate is = go (slice_index_or c.groups g None) (rate_at c.groups g legal.rates) is
+  where
+    go : (o : Option Rate) → IfSome o IsRate → limit_of o ≡ AtMost rate → 1 ≤ rate.datagrams
+    go None h e = let none : ⊥ = cc in absurd none
+    go (Some r) h e = subst (λ (r : Rate). 1 ≤ r.datagrams) (same r e) h.0
+      where
+        same : (r : Rate) → AtMost r ≡ AtMost rate → r ≡ rate
+        same r e = cc
+
+-- What is said of an answer where the media were opened.
+pub opened_says : (result : Result Replayed ReplayStop) (P : Type 0) → P → IfOpened result P
+opened_says (Ok r) P p = p
+opened_says (Err Place) P p = p
+opened_says (Err Tick) P p = p
+opened_says (Err NoMemory) P p = tt
+opened_says (Err Input) P p = tt
+opened_says (Err (Refused number offset)) P p = tt
+opened_says (Err NotFormatted) P p = tt
+opened_says (Err (Damaged m offset)) P p = tt
+opened_says (Err Media) P p = tt
+
+-- A feed without its header is refused before the media are opened.
+pub header_says : (f : FeedFault) (P : Type 0) → IfOpened (Err (stop_by_feed f)) P
+header_says faults.Fault P = tt
+header_says (faults.Refused number offset) P = tt
+
+pub opening_says : (e : OpenRefused) (P : Type 0) → IfOpened (Err (stop_by_opening e)) P
+opening_says refusals.NoMemory P = tt
+opening_says refusals.NotFormatted P = tt
+opening_says (refusals.Damaged m offset) P = tt
+opening_says refusals.Fault P = tt

@@ -1,0 +1,106 @@
+-- How a run begins, or is refused, and what it comes to.
+use Rattle.std.proofs.Common.{◌≡◌, ◌⊎◌, ◌↔◌, inl, inr, ◌-◌, ◌<◌, ◌≤◌, ◌^◌, ℕ, ℤ, List, [], length, false, Option, Some, None, option_map, Result, Ok, Err, ⊎_elim, refl, sym, ap, ◌∙◌, subst, arith}
+use Rattle.std.proofs.lemmas.Bool.{cases_lt}
+use Rattle.std.proofs.lemmas.List.Elements.{All-nil}
+use Rattle.vdr_terms.specs.declared.rate.Rate.{Rate}
+use Rattle.vdr_terms.specs.Records.{Record, FeedItem}
+use Rattle.vdr_history.specs.Feed.{feed_records}
+use Rattle.vdr_history.specs.Histories.{Opening}
+use Rattle.vdr_history.specs.Histories.Act.{Commit}
+use Rattle.vdr_history.specs.Recorder.{begun}
+use Rattle.vdr_history.specs.RunStates.{next_start, state_left}
+use Rattle.vdr_history.specs.Runs.{Stamp, base_after}
+use Rattle.vdr_durability.proofs.Whole.{whole_has_not_failed}
+use Rattle.vdr_outside.specs.Disk.{Disk}
+use Rattle.vdr_feed.specs.Reader.{Reading}
+use Rattle.vdr_vault.specs.Vaults.{of_stamp}
+use Rattle.vdr_recorder.specs.Recordings.{HasDone, HasRecorded, Passes, RecordingState, start_of_opening}
+use Rattle.vdr_recorder.specs.Starts.{stamp_of}
+use Rattle.vdr_recorder.specs.declared.run.StartRefused.{StartRefused}
+use Rattle.vdr_recorder.specs.declared.run.StartRefused.TheVariants as refusals
+use Rattle.vdr_recorder.proofs.Continuing.{left_place}
+use Rattle.vdr_replay.specs.Answers.{MayBegin}
+use Rattle.vdr_replay.specs.Feeding.{HasRate}
+use Rattle.vdr_replay.specs.Ran.{HasNotBegun, Runs}
+use Rattle.vdr_replay.specs.Stops.{stop_by_start}
+use Rattle.vdr_replay.specs.Taking.{Closes}
+use Rattle.vdr_replay.proofs.Calls.{start_breaks}
+use Rattle.vdr_replay.proofs.Passing.{passes_first}
+use Rattle.vdr_replay.proofs.Reading.{reached}
+
+abbrev pub Started : Type 0
+Started = Result (Unit {0}) StartRefused
+
+same_stamp : (o : Option Stamp) → option_map stamp_of (option_map of_stamp o) ≡ o
+same_stamp None = refl
+same_stamp (Some s) = refl
+
+fault_is_no_place : (start : Started) → start ≡ Err refusals.Fault → start ≡ Err refusals.Place → ⊥
+fault_is_no_place start a b = cc
+
+fault_is_no_tick : (start : Started) → start ≡ Err refusals.Fault → start ≡ Err refusals.Tick → ⊥
+fault_is_no_tick start a b = cc
+
+pub ok_is_no_place : (start : Started) (u : Unit {0}) → start ≡ Ok u → start ≡ Err refusals.Place → ⊥
+ok_is_no_place start u a b = cc
+
+pub ok_is_no_tick : (start : Started) (u : Unit {0}) → start ≡ Ok u → start ≡ Err refusals.Tick → ⊥
+ok_is_no_tick start u a b = cc
+
+module _ {tells tells_images : Type 0} (opening : Opening) (t0 : ℕ) (r : RecordingState) (old : Disk tells tells_images) (h : HasRecorded opening [] t0 r old) (start : Started)
+    (place : (start ≡ Err refusals.Place) ↔ (2 ^ 62 ≤ r.members.next_place))
+    (tick : (start ≡ Err refusals.Tick) ↔ ((r.members.next_place < 2 ^ 62) × (2 ^ 62 ≤ base_after (option_map stamp_of r.members.last)))) where
+  place_is : r.members.next_place ≡ opening.next_place
+  place_is = h.told.place
+
+  base_is : base_after (option_map stamp_of r.members.last) ≡ base_after opening.last
+  base_is = ap (λ (o : Option (ℕ × ℤ)). base_after (option_map stamp_of o)) h.told.stamp ∙ ap base_after (same_stamp opening.last)
+
+  pub may_begin : (start ≡ Err refusals.Place → ⊥) → (start ≡ Err refusals.Tick → ⊥) → MayBegin opening
+  may_begin not_place not_tick =
+      let low : r.members.next_place < 2 ^ 62 = ⊎_elim (λ (l : r.members.next_place < 2 ^ 62). l) (λ (k : 2 ^ 62 ≤ r.members.next_place). absurd (not_place (place.1 k))) (cases_lt r.members.next_place (2 ^ 62)) in
+      record {
+        place = let a = place_is in omega (arith, a, low);
+        base = ⊎_elim (λ (l : base_after opening.last < 2 ^ 62). l)
+            (λ (k : 2 ^ 62 ≤ base_after opening.last). absurd (not_tick (tick.1 (low, subst (λ (n : ℕ). 2 ^ 62 ≤ n) (sym base_is) k)))) (cases_lt (base_after opening.last) (2 ^ 62));
+      }
+
+  -- A refusal, or a fault of the Start
+  module _ (left : Option (List ℕ)) (reader : Reading) (rates : List (Option Rate)) (after : RecordingState) (new : Disk tells tells_images) (works : r.members.failed ≡ false) where
+    pub start_stops : (e : StartRefused) → start ≡ Err e → ((start ≡ Err refusals.Place) ⊎ (start ≡ Err refusals.Tick) → HasNotBegun opening t0 left reader rates after old new)
+        → ((start ≡ Err refusals.Place → ⊥) → (start ≡ Err refusals.Tick → ⊥) → HasDone opening [] t0 (Commit (begun (next_start (state_left opening []))).made []) after old new)
+        → Runs opening t0 left reader rates after old new (Err (stop_by_start e))
+    start_stops refusals.Place is not_begun done = (subst (λ (n : ℕ). 2 ^ 62 ≤ n) place_is (place.0 is), not_begun (inl is))
+    start_stops refusals.Tick is not_begun done =
+        let late = tick.0 is in (
+          subst (λ (n : ℕ). n < 2 ^ 62) place_is late.0,
+          subst (λ (n : ℕ). 2 ^ 62 ≤ n) base_is late.1,
+          not_begun (inr is),
+        )
+    start_stops refusals.Fault is not_begun done = record {
+      feed = [];
+      read = λ first k. reached first left reader [] k;
+      known = All-nil (λ (i : FeedItem). HasRate rates i.group);
+      low = All-nil (λ (i : FeedItem). i.group < 16);
+      may = may_begin (fault_is_no_place start is) (fault_is_no_tick start is);
+      breaks = start_breaks opening t0 r after old new h works (done (fault_is_no_place start is) (fault_is_no_tick start is));
+    }
+
+-- Where nothing was called the run was not begun.
+pub not_begun : {tells tells_images : Type 0} (opening : Opening) (t0 : ℕ) (left : Option (List ℕ)) (reader : Reading) (rates : List (Option Rate)) (r after : RecordingState) (old new : Disk tells tells_images)
+    → HasRecorded opening [] t0 r old → after ≡ r → new ≡ old → HasNotBegun opening t0 left reader rates after old new
+not_begun {tells} {tells_images} opening t0 left reader rates r after old new h same still = record {
+  has = subst (λ (d : Disk tells tells_images). HasRecorded opening [] t0 after d) (sym still) (subst (λ (s : RecordingState). HasRecorded opening [] t0 s old) (sym same) h);
+  passes = subst (λ (d : Disk tells tells_images). Passes opening [] old d) (sym still) (passes_first opening [] old);
+}
+
+-- So many records has a run that was closed.
+pub run_total : {tells tells_images : Type 0} (opening : Opening) (feed : List FeedItem) (t0 : ℕ) (r after : RecordingState) (old mid new : Disk tells tells_images) → HasRecorded opening [] t0 r old → after.members.failed ≡ false
+    → (closes : Closes opening feed [] t0 after mid new) → (first last total : ℕ) → first ≡ r.members.next_place → last ≡ after.members.next_place → total ≡ last - first
+    → total ≡ length (feed_records (start_of_opening opening) feed)
+run_total opening feed t0 r after old mid new h works closes first last total begins ends is =
+    let a = h.told.place in
+    let b = closes.has.told.place in
+    let c = left_place opening closes.more ((whole_has_not_failed closes.more).1 (sym closes.has.failed ∙ works)) in
+    let d = ap (λ (rs : List Record). length rs) closes.made in
+    omega (arith, begins, ends, is, a, b, c, d)

@@ -1,0 +1,22 @@
+use Rattle.std.proofs.Common.{◌≡◌, ◌<◌, ℕ, List, length, Bool, true, false, Option, refl, ap, arith}
+use Rattle.vdr_config.specs.Configuration.{Configuration}
+use Rattle.vdr_feed.specs.Reader.{GivesItem, Reading}
+use Rattle.vdr_feed.specs.declared.item.Item.{Item as Held}
+use Rattle.vdr_replay.proofs.Held.{none_there}
+use Rattle.vdr_replay.proofs.Reading.{ends_strange}
+use Rattle.vdr_replay.proofs.feeding.read_next.Goals as goal
+
+gave_true : (before now : Option (List ℕ)) (r r' : Reading) (held : Held) (b : Bool) → b ≡ true → GivesItem before now r r' held b → GivesItem before now r r' held true
+gave_true before now r r' held true is p = p
+gave_true before now r r' held false is p = let none : ⊥ = cc in absurd none
+
+pub returns-then-is_none-clause-ended : goal.returns-then-is_none-clause-ended
+returns-then-is_none-clause-ended g c = λ first feed h.
+    let gave = gave_true _ _ _ _ _ c.in-Ok-true.field-0 c.in-Ok-true.field-0-test c.in-Ok-true.ensures.gave.1 in
+    let low = gave.1.legal.group in
+    let own = gave.1.holds.group in
+    let sixteen = c.config.invariant.sixteen in
+    let within : c.item.new.into.group < length c.config.inside.groups = omega (arith, low, own, sixteen) in
+    ends_strange c.args.config.now.groups first _ _ _ _ feed gave.0 _ _ h gave.1
+    (λ rated. none_there c.args.config.now.groups c.config.inside.groups gave.0.group c.item.new.into.group _ (ap (λ (s : Configuration). s.groups) c.config.view_is) own within c.if-is_none.ensures rated)
+    refl c.offset-offset.ensures

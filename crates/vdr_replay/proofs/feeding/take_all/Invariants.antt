@@ -1,0 +1,32 @@
+use Rattle.std.proofs.Common.{◌≡◌, ◌≤◌, ◌<◌, ◌+◌, ◌-◌, ℕ, List, [], true, false, length, Option}
+use Rattle.vdr_terms.specs.Records.{FeedItem}
+use Rattle.vdr_history.specs.Histories.{Event, Opening}
+use Rattle.vdr_outside.specs.Causes.{NoneFalls}
+use Rattle.vdr_vault.specs.Calls.{SameElsewhere}
+use Rattle.vdr_vault.specs.Vaults.{AreRings}
+use Rattle.vdr_replay.specs.Feeding.{most_items}
+use Rattle.vdr_replay.specs.Given.{HoldsFeed}
+use Rattle.vdr_replay.specs.Reading.{HasRead}
+use Rattle.vdr_replay.specs.Taking.{HasTaken, TakesOn}
+use Rattle.vdr_replay.proofs.feeding.take_all.Given as goal
+
+abbrev pub invariant-loop-end : goal.invariant-loop-end
+invariant-loop-end g l = record {
+  walked : (feed : List FeedItem)
+      × ((first : Option (List ℕ)) → HasRead first (g.I.Source.left l.fn.input) l.fn.reader [] → HasRead first (g.I.Source.left l.input) l.reader feed)
+      × HoldsFeed l.fn.recording.members.config feed l.lanes l.recording.maker
+      × ((opening : Opening) (events : List Event) (t0 : ℕ) → g.M.Media.tells → HasTaken opening [] [] events t0 l.fn.recording (g.M.Media.disk l.fn.media)
+      → TakesOn opening feed l.lanes.batch.items events t0 l.recording (g.M.Media.disk l.fn.media) (g.M.Media.disk l.media));
+  space : length l.lanes.batch.items < l.lanes.room;
+  works : l.recording.members.failed ≡ false;
+  opened : l.recording.is_open ≡ true;
+  config : l.recording.members.config ≡ l.fn.recording.members.config;
+  rings : AreRings l.recording.members (g.M.Media.disk l.media).sizes;
+  others : g.M.Media.tells → SameElsewhere (g.M.Media.disk l.fn.media).reads (g.M.Media.disk l.media).reads;
+  sizes : (g.M.Media.disk l.media).sizes ≡ (g.M.Media.disk l.fn.media).sizes;
+  falls : NoneFalls (g.M.Media.faults l.fn.media) (g.M.Media.faults l.media);
+  later : g.I.Source.faults l.fn.input ≤ g.I.Source.faults l.input;
+}
+
+abbrev pub decreases-loop-end : goal.decreases-loop-end
+decreases-loop-end g l = most_items + 1 - l.reader.count

@@ -1,0 +1,92 @@
+use Rattle.std.proofs.Common.{[], ◌++◌, ℕ, ap, ◌∙◌, subst, arith}
+use Rattle.vdr_terms.specs.declared.counts.Counts.{Counts}
+use Rattle.vdr_terms.specs.Records.{total}
+use Rattle.vdr_history.specs.RunStates.{state_left}
+use Rattle.vdr_config.specs.Configuration.{Configuration}
+use Rattle.vdr_outside.proofs.Counts.{none_falls_join, on_err}
+use Rattle.vdr_recorder.specs.Making.{rest_of}
+use Rattle.vdr_replay.specs.Feeding.{AreConfigured}
+use Rattle.vdr_replay.proofs.Calls.{close_breaks, closed_now}
+use Rattle.vdr_replay.proofs.Causes.{cause_joined, vault_joined}
+use Rattle.vdr_replay.proofs.Fitting.{numbers_fit}
+use Rattle.vdr_replay.proofs.Given.{quiet_group}
+use Rattle.vdr_replay.proofs.Held.{rests}
+use Rattle.vdr_replay.proofs.Passing.{takes_break, takes_close, takes_join}
+use Rattle.vdr_replay.proofs.Reading.{known_reach}
+use Rattle.vdr_replay.proofs.running.record_items.Goals as goal
+
+pub returns-in_err-record-clause-broken : goal.returns-in_err-record-clause-broken
+returns-in_err-record-clause-broken g c =
+    let t = c.in_ok-end.ensures.taken in
+    on_err c.from_residual-in_err-record.result (record {
+      feed = t.feed;
+      read = λ first h. known_reach c.args.recording.now.members.config.groups first c.in_ok-end.end t.feed (t.read first h);
+      known = subst (λ (config : Configuration). AreConfigured config.groups t.feed) c.take_all.ensures.config t.held.known;
+      low = t.held.low;
+      told = λ opening events t0 told h.
+          let a = t.told opening events t0 told h in
+          takes_break opening events t0 _ _ _ (g.M.Media.disk c.take_all.new.media) _ t.feed _ a t.feed (c.in_err-record.ensures.broken opening t.feed (events ++ a.more) t0 told a.taken);
+    })
+
+pub returns-in_err-record-clause-cause : goal.returns-in_err-record-clause-cause
+returns-in_err-record-clause-cause g c = cause_joined _ _ _ _ c.from_residual-in_err-record.result c.take_all.ensures.cause.later c.in_err-record.ensures.cause
+
+pub stop-requires-clause-quiet : goal.stop-requires-clause-quiet
+stop-requires-clause-quiet g c = λ n off.
+    let t = c.in_ok-end.ensures.taken in
+    let held = c.in_ok-record.ensures.held t.feed t.held in
+    ap (λ (f : ℕ → Counts). total (f n)) (rests t.feed c.record.new.self c.rest.result held.counts held.low c.rest.ensures.sixteen c.rest.ensures.each)
+    ∙ quiet_group c.record.new.recording.members.config.groups t.feed n held.known off
+
+pub stop-requires-clause-numbers : goal.stop-requires-clause-numbers
+stop-requires-clause-numbers g c = λ n low.
+    let t = c.in_ok-end.ensures.taken in
+    let held = c.in_ok-record.ensures.held t.feed t.held in
+    let same = ap (λ (f : ℕ → Counts). total (f n)) (rests t.feed c.record.new.self c.rest.result held.counts held.low c.rest.ensures.sixteen c.rest.ensures.each) in
+    let fits = numbers_fit t.feed c.record.new.self.batch.items c.record.new.recording.maker held.fits held.few n low in
+    omega (arith, same, fits)
+
+pub returns-in_err-stop-clause-broken : goal.returns-in_err-stop-clause-broken
+returns-in_err-stop-clause-broken g c =
+    let t = c.in_ok-end.ensures.taken in
+    let held = c.in_ok-record.ensures.held t.feed t.held in
+    let same = rests t.feed c.record.new.self c.rest.result held.counts held.low c.rest.ensures.sixteen c.rest.ensures.each in
+    on_err c.from_residual-in_err-stop.result (record {
+      feed = t.feed;
+      read = λ first h. known_reach c.args.recording.now.members.config.groups first c.in_ok-end.end t.feed (t.read first h);
+      known = subst (λ (config : Configuration). AreConfigured config.groups t.feed) c.take_all.ensures.config t.held.known;
+      low = t.held.low;
+      told = λ opening events t0 told h.
+          let a = t.told opening events t0 told h in
+          let b = c.in_ok-record.ensures.taken opening t.feed (events ++ a.more) t0 told a.taken in
+          let ab = takes_join opening events t0 _ _ _ (g.M.Media.disk c.take_all.new.media) _ t.feed _ a t.feed [] b in
+          let done = c.stop.ensures.stopped opening (events ++ ab.more) t0 told c.in_ok-record.ensures.works ab.taken.has in
+          takes_break opening events t0 _ _ _ (g.M.Media.disk c.record.new.media) _ t.feed [] ab t.feed
+          (close_breaks opening (events ++ ab.more) t0 c.record.new.recording c.stop.new.self _ _ t.feed (rest_of c.rest.result) ab.taken same done);
+    })
+
+pub returns-in_err-stop-clause-cause : goal.returns-in_err-stop-clause-cause
+returns-in_err-stop-clause-cause g c =
+    vault_joined _ _ _ _ _ c.from_residual-in_err-stop.result c.in_ok-record.ensures.works (none_falls_join _ _ _ c.take_all.ensures.cause.later c.record.ensures.cause.later) c.in_err-stop.ensures.cause
+
+pub returns-clause-recorded : goal.returns-clause-recorded
+returns-clause-recorded g c =
+    let t = c.in_ok-end.ensures.taken in
+    let held = c.in_ok-record.ensures.held t.feed t.held in
+    let same = rests t.feed c.record.new.self c.rest.result held.counts held.low c.rest.ensures.sixteen c.rest.ensures.each in
+    record {
+      feed = t.feed;
+      read = t.read;
+      counts = held.counts;
+      known = subst (λ (config : Configuration). AreConfigured config.groups t.feed) c.take_all.ensures.config t.held.known;
+      low = t.held.low;
+      told = λ opening events t0 told h.
+          let a = t.told opening events t0 told h in
+          let b = c.in_ok-record.ensures.taken opening t.feed (events ++ a.more) t0 told a.taken in
+          let ab = takes_join opening events t0 _ _ _ (g.M.Media.disk c.take_all.new.media) _ t.feed _ a t.feed [] b in
+          let done = c.stop.ensures.stopped opening (events ++ ab.more) t0 told c.in_ok-record.ensures.works ab.taken.has in
+          let left = state_left opening (events ++ ab.more) in
+          let counted = c.stop.ensures.counted left.start left.popped ((ab.taken.has.works c.in_ok-record.ensures.works).makes c.record.ensures.open).counts in
+          takes_close opening events t0 _ _ _ (g.M.Media.disk c.record.new.media) _ t.feed [] ab t.feed
+          (closed_now opening (events ++ ab.more) t0 c.record.new.recording c.stop.new.self _ _ t.feed (rest_of c.rest.result) ab.taken same done counted);
+    }

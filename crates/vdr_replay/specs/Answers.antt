@@ -1,0 +1,96 @@
+-- What `replay` answers, and what it leaves of the media.
+use Rattle.std.specs.Prelude.{◌≡◌, ◌≢◌, ◌≤◌, ◌<◌, ◌^◌, ◌⊎◌, ℕ, List, [], length, take, get_or, sum, Any, Option, Result, Ok, Err, ⊤}
+use Rattle.vdr_terms.specs.Records.{FeedItem}
+use Rattle.vdr_history.specs.Feed.{items_of, feed_records}
+use Rattle.vdr_history.specs.Histories.{Opening}
+use Rattle.vdr_history.specs.Runs.{base_after}
+use Rattle.vdr_durability.specs.Readings.{EndsMeet}
+use Rattle.vdr_outside.specs.Causes.{NoneFalls, Rose}
+use Rattle.vdr_outside.specs.Disk.{Disk, Image}
+use Rattle.vdr_feed.specs.Feed.{Reaches, feed_header}
+use Rattle.vdr_feed.specs.Reader.{IfKnown}
+use Rattle.vdr_media.specs.Formatted.{IsFormatted}
+use Rattle.vdr_opening.specs.Media.{both, Contents, HoldsContents, opening_of, reading_of}
+use Rattle.vdr_recorder.specs.Recordings.{start_of_opening}
+use Rattle.vdr_replay.specs.declared.ended.Replayed.{Replayed}
+use Rattle.vdr_replay.specs.declared.ended.ReplayStop.{ReplayStop}
+use Rattle.vdr_replay.specs.declared.ended.ReplayStop.TheVariants.{NoMemory, Input, Refused, NotFormatted, Damaged, Place, Tick, Media}
+use Rattle.vdr_replay.specs.Feeding.{AreConfigured, ReadsFeed, most_items}
+use Rattle.vdr_replay.specs.Headline.{Headline, NotOpened}
+use Rattle.vdr_replay.specs.Headline.RunEnd.{NotStarted, Closed, Broken}
+use Rattle.vdr_replay.specs.Summary.{AreSums}
+
+-- A run may begin: its first place and its base are below 2^62.
+pub record MayBegin (opening : Opening) : Type 0 where
+  pub place : opening.next_place < 2 ^ 62
+  pub base : base_after opening.last < 2 ^ 62
+
+module _ {tells tells_images : Type 0} (x : Contents) (bytes : List ℕ) (rose : Type 0) (before after : Disk tells tells_images) where
+  -- Nothing was recorded.
+  abbrev pub NothingIsRecorded : Type 0
+  NothingIsRecorded = NotOpened before after ⊎ Headline x rose before after [] NotStarted
+
+  -- The feed up to its end, or to what was refused or failed, is recorded as one run that was closed.
+  pub record IsRecorded (r : Replayed) : Type 0 where
+    pub feed : List FeedItem
+    pub read : ReadsFeed x.config.groups bytes r.end feed
+    pub configured : AreConfigured x.config.groups feed
+    pub may : MayBegin (opening_of x)
+    pub left : Headline x rose before after feed Closed
+    pub sums : AreSums x.config.groups (λ g. items_of g feed) (feed_records (start_of_opening (opening_of x)) feed) r.groups
+    pub total : r.records ≡ length (feed_records (start_of_opening (opening_of x)) feed)
+
+  -- The run has begun, and the media failed in it.
+  pub record IsBrokenOff : Type 0 where
+    pub feed : List FeedItem
+    pub rest : List ℕ
+    pub read : Reaches most_items bytes feed rest
+    pub configured : AreConfigured x.config.groups feed
+    pub may : MayBegin (opening_of x)
+    pub left : Headline x rose before after feed Broken
+
+  -- Of media whose ends don't meet nothing is said where opening them failed or had no memory.
+  abbrev pub Answers : Result Replayed ReplayStop → Type 0
+  Answers (Ok r) = IsRecorded r
+  Answers (Err Media) = EndsMeet both (reading_of x) → NothingIsRecorded ⊎ IsBrokenOff
+  Answers (Err NoMemory) = EndsMeet both (reading_of x) → NothingIsRecorded
+  Answers (Err Place) = (2 ^ 62 ≤ (opening_of x).next_place) × NothingIsRecorded
+  Answers (Err Tick) = ((opening_of x).next_place < 2 ^ 62) × (2 ^ 62 ≤ base_after (opening_of x).last) × NothingIsRecorded
+  Answers (Err Input) = NothingIsRecorded
+  Answers (Err (Refused number offset)) = NothingIsRecorded
+  Answers (Err NotFormatted) = NothingIsRecorded
+  Answers (Err (Damaged medium offset)) = NothingIsRecorded
+
+-- A feed without its header is refused, unless the source fails; one with it is read on.
+abbrev pub TellsHeader : Option (List ℕ) → Result Replayed ReplayStop → Type 0
+TellsHeader left (Ok r) = IfKnown left (λ bytes. take 8 bytes ≡ feed_header)
+TellsHeader left (Err Input) = ⊤
+TellsHeader left (Err (Refused number offset)) = (number ≡ 1) × (offset ≡ 0) × IfKnown left (λ bytes. take 8 bytes ≢ feed_header)
+TellsHeader left (Err NoMemory) = IfKnown left (λ bytes. take 8 bytes ≡ feed_header)
+TellsHeader left (Err NotFormatted) = IfKnown left (λ bytes. take 8 bytes ≡ feed_header)
+TellsHeader left (Err (Damaged medium offset)) = IfKnown left (λ bytes. take 8 bytes ≡ feed_header)
+TellsHeader left (Err Place) = IfKnown left (λ bytes. take 8 bytes ≡ feed_header)
+TellsHeader left (Err Tick) = IfKnown left (λ bytes. take 8 bytes ≡ feed_header)
+TellsHeader left (Err Media) = IfKnown left (λ bytes. take 8 bytes ≡ feed_header)
+
+-- The image is formatted, and its media hold contents whose ends meet.
+abbrev pub IsLegible : Image → Type 0
+IsLegible image = IsFormatted image × (x : Contents) × HoldsContents image x × EndsMeet both (reading_of x)
+
+-- What is said where the media were opened, and not refused before.
+abbrev pub IfOpened : Result Replayed ReplayStop → Type 0 → Type 0
+IfOpened (Ok r) P = P
+IfOpened (Err Place) P = P
+IfOpened (Err Tick) P = P
+IfOpened (Err NoMemory) P = ⊤
+IfOpened (Err Input) P = ⊤
+IfOpened (Err (Refused number offset)) P = ⊤
+IfOpened (Err NotFormatted) P = ⊤
+IfOpened (Err (Damaged medium offset)) P = ⊤
+IfOpened (Err Media) P = ⊤
+
+-- No count of faults falls, and the media failed only where the count of one of them rose, and so their sum.
+pub record HasReplayCause (before now : List ℕ) (result : Result Replayed ReplayStop) : Type 0 where
+  pub later : NoneFalls before now
+  pub by_medium : result ≡ Err Media → Any (λ m. Rose (get_or before m 0) (get_or now m 0)) both
+  pub in_all : result ≡ Err Media → Rose (sum before) (sum now)

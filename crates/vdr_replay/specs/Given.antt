@@ -1,0 +1,60 @@
+-- What the ports of a feed gave so far, as it is counted, and what waits for the next batch.
+use Rattle.std.specs.Prelude.{◌≡◌, ◌≤◌, ◌<◌, ◌+◌, ◌*◌, ◌/◌, ◌^◌, ℕ, true, List, length, count_by, slice_index_or, vec_capacity, All}
+use Rattle.vdr_terms.specs.declared.counts.Counts.{Counts}
+use Rattle.vdr_terms.specs.Counting.{Tally, next_number, no_tally}
+use Rattle.vdr_terms.specs.Datagrams.{verdict, is_bad, is_large}
+use Rattle.vdr_terms.specs.Rates.{is_configured}
+use Rattle.vdr_terms.specs.Records.{FeedItem, Item, total}
+use Rattle.vdr_history.specs.Feed.{items_of}
+use Rattle.vdr_history.specs.Taken.{Captured}
+use Rattle.vdr_core.specs.Replay.{rest_after}
+use Rattle.vdr_pace.specs.Commits.{item_size}
+use Rattle.vdr_config.specs.Configuration.{Configuration}
+use Rattle.vdr_config.specs.Sizes.{limits_in}
+use Rattle.vdr_recorder.specs.Making.{counted_of, numbers_of}
+use Rattle.vdr_recorder.specs.declared.maker.Maker.{Maker}
+use Rattle.vdr_replay.specs.Feeding.{AreConfigured, most_items}
+use Rattle.vdr_replay.specs.declared.lanes.Lanes.{Lanes}
+
+-- The items that are no recordable datagrams. No queue is full, and what the rate refuses is counted elsewhere.
+abbrev pub totals_of : List Item → Counts
+totals_of items = record {
+  full = 0;
+  rate = 0;
+  bad = count_by (λ i. is_bad (verdict i.bytes)) items;
+  large = count_by (λ i. is_large (verdict i.bytes)) items;
+}
+
+-- The count of a group's port after this part of a feed.
+abbrev pub tally_after : List FeedItem → ℕ → Tally
+tally_after feed g = record { taken = length (items_of g feed); missed = rest_after feed g; totals = totals_of (items_of g feed) }
+
+abbrev pub tally_of : Lanes → ℕ → Tally
+tally_of lanes g = slice_index_or lanes.tallies g no_tally
+
+-- Each port's count is that of this part of a feed.
+pub record CountsFeed (feed : List FeedItem) (lanes : Lanes) : Type 0 where
+  pub sixteen : length lanes.tallies ≡ 16
+  pub each : (g : ℕ) → g < 16 → tally_of lanes g ≡ tally_after feed g
+
+-- The batch has items of configured groups, and room for as many as a batch may have.
+pub record HasBatch (config : Configuration) (lanes : Lanes) : Type 0 where
+  pub room : lanes.room ≡ config.batch / item_size
+  pub few : length lanes.batch.items ≤ lanes.room
+  pub space : lanes.room ≤ vec_capacity lanes.batch
+  pub configured : All (λ c. is_configured (limits_in config.groups c.group) ≡ true) lanes.batch.items
+
+-- The places and numbers of the run stay small: an item takes two places at most, and one number.
+pub record AreFew (feed : List FeedItem) (batch : List Captured) (maker : Maker) : Type 0 where
+  pub place : maker.place + 2 * length batch ≤ 2 ^ 62 + 2 * length feed
+  pub numbers : (g : ℕ) → g < 16
+      → next_number (counted_of maker g).pending + numbers_of g batch + total (rest_after feed g) ≤ length (items_of g feed)
+
+-- What the ports gave of this part of a feed is counted, and what is not recorded of it fits the recorder.
+pub record HoldsFeed (config : Configuration) (feed : List FeedItem) (lanes : Lanes) (maker : Maker) : Type 0 where
+  pub few : length feed ≤ most_items
+  pub counts : CountsFeed feed lanes
+  pub batch : HasBatch config lanes
+  pub fits : AreFew feed lanes.batch.items maker
+  pub known : AreConfigured config.groups feed
+  pub low : All (λ i. i.group < 16) feed

@@ -1,0 +1,11 @@
+-- What `replay` records of a feed.
+pub mod Summary
+pub mod Feeding
+pub mod Headline
+pub mod Answers
+pub mod Reading
+pub mod Captured
+pub mod Given
+pub mod Taking
+pub mod Stops
+pub mod Ran

@@ -1,0 +1,70 @@
+-- What a run over a feed makes of media that were opened.
+use Rattle.std.specs.Prelude.{◌≡◌, ◌≤◌, ◌<◌, ◌^◌, ℕ, false, List, [], length, All, Option, Result, Ok, Err, ⊤}
+use Rattle.vdr_terms.specs.declared.rate.Rate.{Rate}
+use Rattle.vdr_terms.specs.Records.{FeedItem}
+use Rattle.vdr_history.specs.Feed.{items_of, feed_records}
+use Rattle.vdr_history.specs.Histories.{Opening}
+use Rattle.vdr_history.specs.Runs.{base_after}
+use Rattle.vdr_outside.specs.Disk.{Disk}
+use Rattle.vdr_feed.specs.Feed.{Reaches}
+use Rattle.vdr_feed.specs.Reader.{IfKnown, Reading}
+use Rattle.vdr_recorder.specs.Recordings.{HasRecorded, Passes, RecordingState, start_of_opening}
+use Rattle.vdr_replay.specs.Answers.{MayBegin}
+use Rattle.vdr_replay.specs.Feeding.{AreConfigured, ReadsFeed, most_items}
+use Rattle.vdr_replay.specs.Reading.{HasRead}
+use Rattle.vdr_replay.specs.Summary.{AreSums}
+use Rattle.vdr_replay.specs.Taking.{BreaksOff, Closes}
+use Rattle.vdr_replay.specs.declared.ended.Replayed.{Replayed}
+use Rattle.vdr_replay.specs.declared.ended.ReplayStop.{ReplayStop}
+use Rattle.vdr_replay.specs.declared.ended.ReplayStop.TheVariants.{NoMemory, Input, Refused, NotFormatted, Damaged, Place, Tick, Media}
+
+module _ {tells tells_images : Type 0} (opening : Opening) (t0 : ℕ) (left : Option (List ℕ)) (reader : Reading) (rates : List (Option Rate))
+    (after : RecordingState) (old new : Disk tells tells_images) where
+  -- The run was closed.
+  pub record HasRun (r : Replayed) : Type 0 where
+    pub feed : List FeedItem
+    pub read : (first : Option (List ℕ)) → HasRead first left reader [] → IfKnown first (λ bytes. ReadsFeed rates bytes r.end feed)
+    pub known : AreConfigured rates feed
+    pub low : All (λ i. i.group < 16) feed
+    pub may : MayBegin opening
+    pub works : after.members.failed ≡ false
+    pub closes : Closes opening feed [] t0 after old new
+    pub sums : AreSums rates (λ g. items_of g feed) (feed_records (start_of_opening opening) feed) r.groups
+    pub total : r.records ≡ length (feed_records (start_of_opening opening) feed)
+
+  -- The media failed in the run.
+  pub record HasBroken : Type 0 where
+    pub feed : List FeedItem
+    pub read : (first : Option (List ℕ)) → HasRead first left reader [] → IfKnown first (λ bytes. (rest : List ℕ) × Reaches most_items bytes feed rest)
+    pub known : AreConfigured rates feed
+    pub low : All (λ i. i.group < 16) feed
+    pub may : MayBegin opening
+    pub breaks : BreaksOff opening feed [] t0 after old new
+
+  -- The run was not begun.
+  pub record HasNotBegun : Type 0 where
+    pub has : HasRecorded opening [] t0 after new
+    pub passes : Passes opening [] old new
+
+  abbrev pub Runs : Result Replayed ReplayStop → Type 0
+  Runs (Ok r) = HasRun r
+  Runs (Err Media) = HasBroken
+  Runs (Err Place) = (2 ^ 62 ≤ opening.next_place) × HasNotBegun
+  Runs (Err Tick) = (opening.next_place < 2 ^ 62) × (2 ^ 62 ≤ base_after opening.last) × HasNotBegun
+  Runs (Err NoMemory) = ⊥
+  Runs (Err Input) = ⊥
+  Runs (Err (Refused number offset)) = ⊥
+  Runs (Err NotFormatted) = ⊥
+  Runs (Err (Damaged medium offset)) = ⊥
+
+-- A run is refused by its place or its base, or the media fail.
+abbrev pub StopsIn : Result Replayed ReplayStop → Type 0
+StopsIn (Ok r) = ⊤
+StopsIn (Err Media) = ⊤
+StopsIn (Err Place) = ⊤
+StopsIn (Err Tick) = ⊤
+StopsIn (Err NoMemory) = ⊥
+StopsIn (Err Input) = ⊥
+StopsIn (Err (Refused number offset)) = ⊥
+StopsIn (Err NotFormatted) = ⊥
+StopsIn (Err (Damaged medium offset)) = ⊥

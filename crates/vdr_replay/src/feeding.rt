@@ -1,0 +1,138 @@
+// The items of a feed, as they are read and recorded.
+ghost use Rattle.std.specs.Prelude.{◌≡◌, ◌≤◌, ◌<◌, ◌∷◌, ◌++◌, ℕ, List, [], true, false, length, Option, None, Some, IfNone, IfOk, IfSome, OnErr, OnOk};
+ghost use Rattle.std.specs.Io.KnownBytes.{IsAtEnd};
+ghost use Rattle.vdr_terms.specs.Records.{FeedItem};
+ghost use Rattle.vdr_history.specs.Histories.{Event, Opening};
+ghost use Rattle.vdr_outside.specs.Causes.{Rose};
+ghost use Rattle.vdr_feed.specs.Kept.{Holds};
+ghost use Rattle.vdr_feed.specs.Reader.{IfKnown, IsNext, past_item};
+ghost use Rattle.vdr_vault.specs.Calls.{SameElsewhere};
+ghost use Rattle.vdr_vault.specs.Openings.{HasCauseOnBoth};
+ghost use Rattle.vdr_vault.specs.Vaults.{AreRings};
+ghost use Rattle.vdr_replay.specs.Captured.{IsLegalItem};
+ghost use Rattle.vdr_replay.specs.Feeding.{HasRate, ReadsFeed, most_items};
+ghost use Rattle.vdr_replay.specs.Given.{CountsFeed, HoldsFeed};
+ghost use Rattle.vdr_replay.specs.Reading.{HasRead};
+ghost use Rattle.vdr_replay.specs.Taking.{BreaksFeed, BreaksOff, HasTaken, TakesFeed, TakesOn};
+ghost use Rattle.vdr_replay.specs.declared.ended.FeedEnd.TheVariants.{Whole, Input};
+
+use crate::FeedEnd;
+use crate::lanes::Lanes;
+use vdr_config::Config;
+use vdr_feed::{FeedFault, FeedReader, Item};
+use vdr_outside::{Fault, Media, Source};
+use vdr_recorder::Recording;
+
+// The number by which an item of a strange group is refused.
+const STRANGE_GROUP: u8 = 4;
+
+// Reads the next item. Where there is none of a configured group, it says why reading ends.
+fn read_next<I: Source>(
+    config: &Config,
+    reader: &mut FeedReader,
+    input: &mut I,
+    into: &mut Item,
+) -> Option<FeedEnd>
+    requires read { (first : Option (List ℕ)) × (feed : List FeedItem) × HasRead first (I.left input.old) reader.old feed }
+    ensures gave { IfNone result ((x : FeedItem)
+        × IsNext (I.left input.old) (I.left input.new) reader.old.limit reader.old.count reader.old.floor into.new x
+        × (reader.new ≡ past_item reader.old x) × HasRate config.now.groups x.group) }
+    ensures ended { IfSome result (λ end. (first : Option (List ℕ)) (feed : List FeedItem) → HasRead first (I.left input.old) reader.old feed
+        → IfKnown first (λ bytes. ReadsFeed config.now.groups bytes end feed)) }
+    ensures whole { result ≡ Some Whole → IsAtEnd (I.left input.new) }
+    ensures failed { result ≡ Some Input → Rose (I.faults input.old) (I.faults input.new) }
+    ensures later { I.faults input.old ≤ I.faults input.new }
+{
+    let offset = reader.offset();
+    match reader.item(input, into) {
+        Ok(true) => {}
+        Ok(false) => return Some(FeedEnd::Whole),
+        Err(FeedFault::Fault) => return Some(FeedEnd::Input),
+        Err(FeedFault::Refused { number, offset }) => {
+            return Some(FeedEnd::Refused { number, offset });
+        }
+    }
+    if config.groups[into.group as usize].is_none() {
+        return Some(FeedEnd::Refused {
+            number: STRANGE_GROUP,
+            offset,
+        });
+    }
+    None
+}
+
+// Takes an item of a configured group. A batch that is full is recorded.
+fn take_item<M: Media>(
+    recording: &mut Recording,
+    media: &mut M,
+    lanes: &mut Lanes,
+    item: &Item,
+) -> Result<(), Fault>
+    requires rings { AreRings recording.old.members (M.disk media.old).sizes }
+    requires open { recording.old.is_open ≡ true }
+    requires works { recording.old.members.failed ≡ false }
+    requires legal { IsLegalItem item.now }
+    requires configured { HasRate recording.old.members.config.groups item.now.group }
+    requires held { (feed : List FeedItem) × HoldsFeed recording.old.members.config feed lanes.old recording.old.maker × (length feed < most_items) }
+    requires next { (x : FeedItem) × Holds item.now x }
+    requires space { length lanes.old.batch.items < lanes.old.room }
+    ensures taken { (opening : Opening) (feed : List FeedItem) (x : FeedItem) (events : List Event) (t0 : ℕ) → M.tells → Holds item.now x → CountsFeed feed lanes.old
+        → HasTaken opening feed lanes.old.batch.items events t0 recording.old (M.disk media.old)
+        → OnOk result (TakesOn opening (feed ++ x ∷ []) lanes.new.batch.items events t0 recording.new (M.disk media.old) (M.disk media.new)) }
+    ensures broken { (opening : Opening) (feed : List FeedItem) (x : FeedItem) (events : List Event) (t0 : ℕ) → M.tells → Holds item.now x → CountsFeed feed lanes.old
+        → HasTaken opening feed lanes.old.batch.items events t0 recording.old (M.disk media.old)
+        → OnErr result (BreaksOff opening (feed ++ x ∷ []) events t0 recording.new (M.disk media.old) (M.disk media.new)) }
+    ensures held { OnOk result ((feed : List FeedItem) (x : FeedItem) → HoldsFeed recording.old.members.config feed lanes.old recording.old.maker
+        → length feed < most_items → Holds item.now x → HoldsFeed recording.new.members.config (feed ++ x ∷ []) lanes.new recording.new.maker) }
+    ensures space { OnOk result (length lanes.new.batch.items < lanes.new.room) }
+    ensures works { OnOk result (recording.new.members.failed ≡ false) }
+    ensures open { recording.new.is_open ≡ true }
+    ensures config { recording.new.members.config ≡ recording.old.members.config }
+    ensures rings { AreRings recording.new.members (M.disk media.new).sizes }
+    ensures others { M.tells → SameElsewhere (M.disk media.old).reads (M.disk media.new).reads }
+    ensures sizes { (M.disk media.new).sizes ≡ (M.disk media.old).sizes }
+    ensures cause { HasCauseOnBoth (M.faults media.old) (M.faults media.new) result }
+{
+    lanes.take(item);
+    if !lanes.is_full() {
+        return Ok(());
+    }
+    lanes.record(recording, media)
+}
+
+/// Takes the items of the feed, up to its end, or to what is refused or fails.
+pub(crate) fn take_all<I: Source, M: Media>(
+    recording: &mut Recording,
+    media: &mut M,
+    lanes: &mut Lanes,
+    reader: &mut FeedReader,
+    input: &mut I,
+) -> Result<FeedEnd, Fault>
+    requires rings { AreRings recording.old.members (M.disk media.old).sizes }
+    requires open { recording.old.is_open ≡ true }
+    requires works { recording.old.members.failed ≡ false }
+    requires read { (first : Option (List ℕ)) × HasRead first (I.left input.old) reader.old [] }
+    requires held { HoldsFeed recording.old.members.config [] lanes.old recording.old.maker }
+    requires empty { lanes.old.batch.items ≡ [] }
+    requires space { 0 < lanes.old.room }
+    ensures taken { IfOk result (λ end. TakesFeed (I.left input.old) reader.old end lanes.new recording.old recording.new (M.disk media.old) (M.disk media.new)) }
+    ensures broken { OnErr result (BreaksFeed (I.left input.old) reader.old recording.old recording.new (M.disk media.old) (M.disk media.new)) }
+    ensures whole { IfOk result (λ end. end ≡ Whole → IsAtEnd (I.left input.new)) }
+    ensures failed { IfOk result (λ end. end ≡ Input → Rose (I.faults input.old) (I.faults input.new)) }
+    ensures later { I.faults input.old ≤ I.faults input.new }
+    ensures works { OnOk result (recording.new.members.failed ≡ false) }
+    ensures open { recording.new.is_open ≡ true }
+    ensures config { recording.new.members.config ≡ recording.old.members.config }
+    ensures rings { AreRings recording.new.members (M.disk media.new).sizes }
+    ensures others { M.tells → SameElsewhere (M.disk media.old).reads (M.disk media.new).reads }
+    ensures sizes { (M.disk media.new).sizes ≡ (M.disk media.old).sizes }
+    ensures cause { HasCauseOnBoth (M.faults media.old) (M.faults media.new) result }
+{
+    let mut item = Item::new();
+    loop {
+        if let Some(end) = read_next(recording.config(), reader, input, &mut item) {
+            return Ok(end);
+        }
+        take_item(recording, media, lanes, &item)?;
+    }
+}

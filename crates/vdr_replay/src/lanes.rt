@@ -1,0 +1,205 @@
+// What the ports of a feed gave, and what is on its way to the recorder.
+ghost use Rattle.std.specs.Prelude.{◌≡◌, ◌≤◌, ◌<◌, ◌↔◌, ◌∷◌, ◌++◌, ◌+◌, ◌^◌, ℕ, List, [], true, false, length, replicate, vec_capacity, vec_len, IfOk, OnOk, OnErr};
+ghost use Rattle.vdr_terms.specs.Counting.{no_tally, pushed};
+ghost use Rattle.vdr_terms.specs.Datagrams.{verdict, is_yes};
+ghost use Rattle.vdr_terms.specs.Records.{FeedItem};
+ghost use Rattle.vdr_terms.specs.declared.datagram.Verdict.TheVariants.{Yes};
+ghost use Rattle.vdr_history.specs.Histories.{Event, Opening};
+ghost use Rattle.vdr_core.specs.Replay.{captured_if};
+ghost use Rattle.vdr_config.specs.Configuration.{IsConfiguration};
+ghost use Rattle.vdr_feed.specs.Kept.{Holds};
+ghost use Rattle.vdr_vault.specs.Calls.{SameElsewhere};
+ghost use Rattle.vdr_vault.specs.Openings.{HasCauseOnBoth};
+ghost use Rattle.vdr_vault.specs.Vaults.{AreRings};
+ghost use Rattle.vdr_recorder.specs.Making.{rest_of};
+ghost use Rattle.vdr_replay.specs.Captured.{IsLegalItem, captured_as};
+ghost use Rattle.vdr_replay.specs.Feeding.{most_items};
+
+use arrayvec::ArrayVec;
+use std::alloc::{AllocError, Global};
+use vdr_config::Config;
+use vdr_feed::Item;
+use vdr_gap::{Counts, Tally};
+use vdr_intake::Captured;
+use vdr_outside::{Fault, Media};
+use vdr_recorder::Recording;
+use vdr_terms::{Verdict, recordable};
+
+// The most bytes that the records of one item take: a Gap of 84, and a Datagram of 44 and the longest datagram.
+const ITEM_SIZE: usize = 1600;
+
+// No item.
+const NONE: Counts = Counts {
+    full: 0,
+    rate: 0,
+    bad: 0,
+    large: 0,
+};
+
+/// The counts of each group's port, and the items that the next batch takes.
+#[derive(Drop)]
+pub(crate) struct Lanes {
+    pub(crate) tallies: [Tally; 16],
+    pub(crate) batch: Vec<Captured>,
+    // How many items a batch takes.
+    pub(crate) room: usize,
+}
+
+// One for each group.
+fn tallies() -> [Tally; 16]
+    ensures { result ≡ replicate 16 no_tally }
+{
+    [
+        Tally::new(),
+        Tally::new(),
+        Tally::new(),
+        Tally::new(),
+        Tally::new(),
+        Tally::new(),
+        Tally::new(),
+        Tally::new(),
+        Tally::new(),
+        Tally::new(),
+        Tally::new(),
+        Tally::new(),
+        Tally::new(),
+        Tally::new(),
+        Tally::new(),
+        Tally::new(),
+    ]
+}
+
+// The bytes of a recordable datagram.
+fn payload(bytes: &[u8]) -> ArrayVec<u8, 1472>
+    requires { verdict bytes.now ≡ Yes }
+    ensures { result.items ≡ bytes.now }
+{
+    let mut payload = ArrayVec::new();
+    let _ = payload.try_extend_from_slice(bytes);
+    payload
+}
+
+// Adds an item to a batch that has room for it.
+fn push(batch: &mut Vec<Captured>, item: Captured)
+    requires { vec_len batch.old < vec_capacity batch.old }
+    ensures items { batch.new.items ≡ batch.old.items ++ item ∷ [] }
+    ensures room { vec_capacity batch.old ≤ vec_capacity batch.new }
+{
+    let _ = batch.push(item);
+}
+
+// The recordable item as it is taken, with its number and what its port missed before it. It is counted.
+fn capture(item: &Item, tally: &mut Tally) -> Captured
+    requires legal { IsLegalItem item.now }
+    requires recordable { verdict item.now.bytes.items ≡ Yes }
+    requires counted { tally.old.taken + 1 < 2 ^ 63 }
+    requires not_by_rate { tally.old.missed.rate ≡ 0 }
+    ensures item { result ≡ captured_as item.now tally.old }
+    ensures tally { tally.new ≡ pushed tally.old }
+{
+    let captured = Captured {
+        group: item.group,
+        number: tally.taken(),
+        received: item.received,
+        utc: item.utc,
+        missed: tally.counts(),
+        bytes: payload(item.bytes.as_slice()),
+    };
+    tally.pushed();
+    captured
+}
+
+impl Lanes {
+    ghost use Rattle.vdr_replay.specs.Given.{CountsFeed, HasBatch, HoldsFeed, tally_of};
+    ghost use Rattle.vdr_replay.specs.Taking.{BreaksOff, HasTaken, TakesOn};
+
+    /// Nothing was given. Memory for one batch is taken here, and none later.
+    pub(crate) fn new(alloc: Global, config: &Config) -> Result<Lanes, AllocError>
+        ensures legal { IsConfiguration config.now }
+        ensures counts { IfOk result (λ lanes. CountsFeed [] lanes) }
+        ensures batch { IfOk result (λ lanes. HasBatch config.now lanes) }
+        ensures empty { IfOk result (λ lanes. lanes.batch.items ≡ []) }
+        ensures space { IfOk result (λ lanes. 0 < lanes.room) }
+    {
+        let room = config.batch as usize / ITEM_SIZE;
+        Ok(Lanes {
+            tallies: tallies(),
+            batch: Vec::with_capacity(alloc, room)?,
+            room,
+        })
+    }
+
+    /// Takes the next item: one that is not recordable is counted, another goes to the batch.
+    pub(crate) fn take(&mut self, item: &Item)
+        requires legal { IsLegalItem item.now }
+        requires room { vec_len self.old.batch < vec_capacity self.old.batch }
+        requires counted { (feed : List FeedItem) × CountsFeed feed self.old × (length feed < most_items) }
+        ensures counts { (feed : List FeedItem) (x : FeedItem) → CountsFeed feed self.old → Holds item.now x → CountsFeed (feed ++ x ∷ []) self.new }
+        ensures batch { (feed : List FeedItem) (x : FeedItem) → CountsFeed feed self.old → Holds item.now x
+            → self.new.batch.items ≡ self.old.batch.items ++ captured_if (is_yes (verdict x.item.bytes)) feed x }
+        ensures space { vec_capacity self.old.batch ≤ vec_capacity self.new.batch }
+        ensures room { self.new.room ≡ self.old.room }
+    {
+        let tally = &mut self.tallies[item.group as usize];
+        match recordable(item.bytes.as_slice()) {
+            Verdict::Yes => {
+                let next = capture(item, tally);
+                push(&mut self.batch, next);
+            }
+            Verdict::Bad => tally.bad(),
+            Verdict::Large => tally.large(),
+        }
+    }
+
+    /// Whether the batch takes no further item.
+    pub(crate) fn is_full(&self) -> bool
+        ensures { (result ≡ true) ↔ (length self.now.batch.items ≡ self.now.room) }
+    {
+        self.batch.len() == self.room
+    }
+
+    /// Records what is in the batch, which is empty then.
+    pub(crate) fn record<M: Media>(
+        &mut self,
+        recording: &mut Recording,
+        media: &mut M,
+    ) -> Result<(), Fault>
+        requires rings { AreRings recording.old.members (M.disk media.old).sizes }
+        requires open { recording.old.is_open ≡ true }
+        requires works { recording.old.members.failed ≡ false }
+        requires held { (feed : List FeedItem) × HoldsFeed recording.old.members.config feed self.old recording.old.maker }
+        ensures taken { (opening : Opening) (feed : List FeedItem) (events : List Event) (t0 : ℕ) → M.tells
+            → HasTaken opening feed self.old.batch.items events t0 recording.old (M.disk media.old)
+            → OnOk result (TakesOn opening feed [] events t0 recording.new (M.disk media.old) (M.disk media.new)) }
+        ensures broken { (opening : Opening) (feed : List FeedItem) (events : List Event) (t0 : ℕ) → M.tells
+            → HasTaken opening feed self.old.batch.items events t0 recording.old (M.disk media.old)
+            → OnErr result (BreaksOff opening feed events t0 recording.new (M.disk media.old) (M.disk media.new)) }
+        ensures held { OnOk result ((feed : List FeedItem) → HoldsFeed recording.old.members.config feed self.old recording.old.maker
+            → HoldsFeed recording.new.members.config feed self.new recording.new.maker) }
+        ensures empty { OnOk result (self.new.batch.items ≡ []) }
+        ensures room { self.new.room ≡ self.old.room }
+        ensures works { OnOk result (recording.new.members.failed ≡ false) }
+        ensures open { recording.new.is_open ≡ true }
+        ensures config { recording.new.members.config ≡ recording.old.members.config }
+        ensures rings { AreRings recording.new.members (M.disk media.new).sizes }
+        ensures others { M.tells → SameElsewhere (M.disk media.old).reads (M.disk media.new).reads }
+        ensures sizes { (M.disk media.new).sizes ≡ (M.disk media.old).sizes }
+        ensures cause { HasCauseOnBoth (M.faults media.old) (M.faults media.new) result }
+    {
+        recording.take_batch(media, self.batch.as_slice())?;
+        self.batch.clear();
+        Ok(())
+    }
+
+    /// What each port missed since its last recordable item.
+    pub(crate) fn rest(&self) -> [Counts; 16]
+        ensures each { (g : ℕ) → g < 16 → rest_of result g ≡ (tally_of self.now g).missed }
+        ensures sixteen { length result ≡ 16 }
+    {
+        let mut rest = [NONE; 16];
+        for group in 0..16 {
+            rest[group] = self.tallies[group].counts();
+        }
+        rest
+    }
+}

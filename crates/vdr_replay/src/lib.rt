@@ -1,0 +1,15 @@
+//! A feed is recorded on the media, as one run.
+#![tactic(auto)]
+
+mod ended;
+mod feeding;
+mod lanes;
+mod replaying;
+mod running;
+mod sums;
+#[cfg(test)]
+mod tests;
+
+pub use ended::{FeedEnd, ReplayStop, Replayed};
+pub use replaying::replay;
+pub use sums::GroupSums;

@@ -1,0 +1,63 @@
+// A feed is recorded on the media.
+ghost use Rattle.std.specs.Prelude.{◌≡◌, ◌≤◌, ℕ, List, length, sum, Some, Err, IfOk, IsErrOf};
+ghost use Rattle.std.specs.Io.KnownBytes.{IsAtEnd};
+ghost use Rattle.vdr_outside.specs.Causes.{Rose};
+ghost use Rattle.vdr_media.specs.Formatted.{IsFormatted, IsUnformatted};
+ghost use Rattle.vdr_opening.specs.Media.{Contents, HoldsContents};
+ghost use Rattle.vdr_opening.specs.Refusals.{IsRefused};
+ghost use Rattle.vdr_vault.specs.Calls.{SameElsewhere};
+ghost use Rattle.vdr_vault.specs.Regularity.{AreRegularMedia};
+ghost use Rattle.vdr_replay.specs.Answers.{Answers, HasReplayCause, IfOpened, IsLegible, TellsHeader};
+ghost use Rattle.vdr_replay.specs.declared.ended.FeedEnd.TheVariants.{Whole, Input as InputEnds};
+ghost use Rattle.vdr_replay.specs.declared.ended.ReplayStop.TheVariants.{Damaged, Input, NotFormatted};
+
+use crate::lanes::Lanes;
+use crate::running::record_run;
+use crate::{ReplayStop, Replayed};
+use std::alloc::Global;
+use vdr_feed::FeedReader;
+use vdr_opening::law_of_contents;
+use vdr_outside::{Media, Source};
+use vdr_recorder::Recording;
+
+/// The greatest number of items of a feed.
+const MOST_ITEMS: u64 = 4_294_967_295;
+
+/// Records the feed of the input on the media, in the feed's order, as one run (this project's profile): its header is read; the
+/// media are opened, and all memory is taken; the run is begun; each recordable item is recorded as it is read, by the rate of its
+/// group; and the run is closed.
+///
+/// The feed ends with the input, or where an item is refused: as `vdr_feed::FeedReader::item` says, or by 4 where its group is not
+/// configured. What was read before is recorded. An item that is refused counts for nothing. Faults and refusals of the input and of
+/// the media are told by `FeedEnd` and `ReplayStop`.
+///
+/// At every moment a stop leaves the media as before opening, or as media that play back the first of the run's events on what was
+/// recorded before, all that were acknowledged among them.
+pub fn replay<I: Source, M: Media>(
+    alloc: Global,
+    media: &mut M,
+    input: &mut I,
+) -> Result<Replayed, ReplayStop>
+    requires two { 2 ≤ length (M.disk media.old).sizes }
+    requires three { length (M.disk media.old).sizes ≤ 3 }
+    ensures replayed { (x : Contents) (bytes : List ℕ) → M.tells → HoldsContents (M.disk media.old).reads x → AreRegularMedia x → I.left input.old ≡ Some bytes
+        → Answers x bytes (Rose (sum (M.faults media.old)) (sum (M.faults media.new))) (M.disk media.old) (M.disk media.new) result }
+    ensures header { TellsHeader (I.left input.old) result }
+    ensures legible { M.tells → IfOpened result (IsLegible (M.disk media.old).reads) }
+    ensures whole { IfOk result (λ r. r.end ≡ Whole → IsAtEnd (I.left input.new)) }
+    ensures input_ends { IfOk result (λ r. r.end ≡ InputEnds → Rose (I.faults input.old) (I.faults input.new)) }
+    ensures input_failed { IsErrOf result Input → Rose (I.faults input.old) (I.faults input.new) }
+    ensures later { I.faults input.old ≤ I.faults input.new }
+    ensures unformatted { result ≡ Err NotFormatted → M.tells → IsUnformatted (M.disk media.old).reads }
+    ensures damaged { (m offset : ℕ) → result ≡ Err (Damaged m offset) → M.tells → IsFormatted (M.disk media.old).reads × IsRefused (M.disk media.old).reads m offset }
+    ensures others { M.tells → SameElsewhere (M.disk media.old).reads (M.disk media.new).reads }
+    ensures sizes { (M.disk media.new).sizes ≡ (M.disk media.old).sizes }
+    ensures cause { HasReplayCause (M.faults media.old) (M.faults media.new) result }
+{
+    law_of_contents();
+    let mut reader = FeedReader::new(MOST_ITEMS);
+    reader.header(input)?;
+    let mut recording = Recording::open(alloc, media)?;
+    let mut lanes = Lanes::new(alloc, recording.config())?;
+    record_run(&mut recording, media, &mut lanes, &mut reader, input)
+}
