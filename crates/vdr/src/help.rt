@@ -28,14 +28,40 @@ Commands:
             the files capsule.vdr and longterm.vdr in FOLDER. They have to be there, as
             large as `check` says. Media that are formatted already are left as they are.
   reformat  The same, also where the media are formatted already: what they hold is lost.
+  replay    Reads a feed from standard input and records it on the media, as one run: by
+            the rates of the configuration, and with its gaps marked. Prints for each
+            configured group what its port gave, what is recorded of it and what is not,
+            and then the number of records of the run. A feed that is refused, or can't
+            be read further, is recorded up to there, and the run is closed.
+  play MEDIUM CHANNEL FROM TO
+            Prints what stands on the media, as `review` does, with the Start and Stop of
+            each run. MEDIUM is `capsule` or `longterm`, of which the window is printed,
+            or `incident-ID` with the ID, 1 to 32, of a saved incident. CHANNEL is the
+            name of a configured channel, or `all`. FROM and TO are stamps such as
+            2024-01-01T00:00:00.000Z, both included, or `-` for no bound.
 
 Examples:
   vdr . review < examples/harbour.feed
   vdr . review 2 200 < examples/harbour.feed
   vdr . check < examples/ship.json
-  truncate -s 122880 bench/capsule.vdr
-  truncate -s 712704 bench/longterm.vdr
-  vdr bench format < examples/bench.json
+
+A voyage on bench media, of which the capsule keeps a minute:
+  mkdir voyage
+  truncate -s 122880 voyage/capsule.vdr
+  truncate -s 712704 voyage/longterm.vdr
+  vdr voyage format < examples/bench.json
+  vdr voyage replay < examples/voyage.feed
+      NAVD taken 93 recorded 91 full 0 rate 2 bad 0 large 0
+      records 94
+  vdr voyage play longterm heading 2024-05-14T06:30:41.000Z 2024-05-14T06:30:41.000Z
+      43 NAVD 42 2024-05-14T06:30:41.000Z gap 0 2 0 0
+      44 NAVD 44 2024-05-14T06:30:41.000Z data 43 UdPbC<00>..
+        good HE0001 45 HEHDT heading 275.5
+The feed has a heading in each second of ninety, and three more in second 40: the rate has
+room for one of them, and the gap counts the two others. With the Start, the gap and the
+Stop these are 94 records, which `play longterm all - -` prints; `play capsule all - -`
+prints the last minute, from place 31 on. A second `replay` is a run of its own, which goes
+on at place 94 and in the next second of recording time, whatever the stamps say.
 
 Exit status, with the line that ends the output:
   0   all was done
@@ -48,11 +74,22 @@ Exit status, with the line that ends the output:
   3   `status 3 small MEDIUM need N have N`: this medium, capsule or longterm, has fewer
       slots than the configuration needs; nothing was written
   4   `status 4 formatted`: the media are formatted already; nothing was written
-  5   `status 5 media`: a medium could not be read, written or synced
+  4   `status 4 unformatted`: the media are not formatted
+  4   `status 4 damaged MEDIUM OFFSET`: a part of this medium, 0 the capsule or 1 the
+      long-term medium, is not legal; it begins at OFFSET, in bytes
+  5   `status 5 media`: a medium could not be read, written or synced; what was recorded
+      before stays
   7   `status 7 input`: the input could not be read
   8   the output could not be written
   9   `status 9 memory`: there was not enough memory
   10  `status 10 feed N at OFFSET`: the feed is refused at the item that begins at
-      OFFSET: 1 no feed, 2 cut off, 3 a time out of range, 4 no such group,
-      5 an item received before the one before it, 6 too many items
+      OFFSET: 1 no feed, 2 cut off, 3 a time out of range, 4 no such group, or by
+      `replay` one that is not configured, 5 an item received before the one before it,
+      6 too many items. `replay` has recorded the items before it, and prints their
+      summary above this line, as it does where `status 7 input` comes behind the feed's
+      header
+  11  `status 11 channel NAME`: no such channel is configured
+  11  `status 11 incident ID`: no such incident is saved
+  13  `status 13 place`: the next place is 2^62 or more; nothing was recorded
+  13  `status 13 tick`: a run would begin at a tick of 2^62 or more; nothing was recorded
 ";

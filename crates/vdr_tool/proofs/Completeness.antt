@@ -1,6 +1,6 @@
 -- By exclusion: what has no other cause is done, or there was no memory.
 use Rattle.std.specs.Prelude.{sum}
-use Rattle.std.proofs.Common.{◌≡◌, ◌⊎◌, inl, inr, ℕ, List, Option, Some, None, Result, Ok, Err, refl, sym, ap, ◌∙◌}
+use Rattle.std.proofs.Common.{◌≡◌, ◌⊎◌, inl, inr, ℕ, List, Option, Some, None, Ok, Err, refl, sym, ap, ◌∙◌}
 use Rattle.vdr_terms.specs.Records.{FeedItem}
 use Rattle.vdr_terms.specs.Rates.{Limit}
 use Rattle.vdr_feed.specs.Feed.{IsFeed, IsRefused}
@@ -11,6 +11,10 @@ use Rattle.vdr_outside.specs.Disk.{Disk}
 use Rattle.vdr_tool.specs.Endings.{IsTextAlone}
 use Rattle.vdr_tool.specs.Formats.{FormatAnswers, IfFormat, UsesMedia}
 use Rattle.vdr_tool.proofs.FormatLemmas.{formats_all, same_refusal}
+use Rattle.vdr_tool.proofs.PlayCompleteness.{OneAnswer, plays_all}
+use Rattle.vdr_tool.proofs.ReplayLemmas.{replay_fault, replays_all}
+use Rattle.vdr_tool.specs.Plays.{IfPlay, PlayAnswers}
+use Rattle.vdr_tool.specs.Replays.{IfReplay, ReplayAnswers}
 use Rattle.vdr_tool.specs.Answers.{ReviewsAll, IfAnswered, RefusesFeed, RefusesConfig, ChecksAll, IsComplete}
 use Rattle.vdr_review.specs.Review.{most_items, limit_asked, IfReviewed}
 use Rattle.vdr_tool.specs.StatusLine.{IfFeed, IfConfig}
@@ -18,10 +22,10 @@ use Rattle.vdr_config.specs.declared.bad.ConfigBad.{ConfigBad}
 use Rattle.vdr_config.specs.Configuration.{Configuration}
 use Rattle.vdr_config.specs.Grammar.{configuration}
 use Rattle.vdr_tool.specs.Check.{IfChecked, number_of}
-use Rattle.vdr_tool.specs.declared.words.Command.{Command}
-use Rattle.vdr_tool.specs.declared.words.Command.TheVariants.{Review, Check, Format}
+use Rattle.vdr_tool.specs.Commands.{Asked}
+use Rattle.vdr_tool.specs.Commands.Asked.{Review, Check, Format, Replay, Play}
 use Rattle.vdr_tool.specs.declared.status.Status.{Status}
-use Rattle.vdr_tool.specs.declared.status.Status.TheVariants.{Done, Words, Config, Small, Formatted, MediaFault, InputFault, OutputFault, NoMemory, Feed}
+use Rattle.vdr_tool.specs.declared.status.Status.TheVariants.{Done, Words, Config, Small, Unformatted, Formatted, Damaged, MediaFault, InputFault, OutputFault, NoMemory, Feed, NoChannel, NoIncident, Place, Tick}
 
 pub completes : (left : Option (List ℕ)) (status : Status) → IsTextAlone status → NoFeedIsRefused → OneRefusal
     → (status ≡ Words → ⊥) → (status ≡ InputFault → ⊥) → (status ≡ OutputFault → ⊥)
@@ -36,6 +40,12 @@ completes (Some bytes) Words alone none one words input output done feed config 
 completes (Some bytes) (Config n) alone none one words input output done feed config = absurd config
 completes (Some bytes) (Small small) alone none one words input output done feed config = absurd alone
 completes (Some bytes) Formatted alone none one words input output done feed config = absurd alone
+completes (Some bytes) Unformatted alone none one words input output done feed config = absurd alone
+completes (Some bytes) (Damaged m offset) alone none one words input output done feed config = absurd alone
+completes (Some bytes) NoChannel alone none one words input output done feed config = absurd alone
+completes (Some bytes) (NoIncident id) alone none one words input output done feed config = absurd alone
+completes (Some bytes) Place alone none one words input output done feed config = absurd alone
+completes (Some bytes) Tick alone none one words input output done feed config = absurd alone
 completes (Some bytes) MediaFault alone none one words input output done feed config = absurd alone
 completes (Some bytes) InputFault alone none one words input output done feed config = absurd (input refl)
 completes (Some bytes) OutputFault alone none one words input output done feed config = absurd (output refl)
@@ -59,6 +69,12 @@ checks_all (Some bytes) Done alone words input output done feed config =
 checks_all (Some bytes) Words alone words input output done feed config = absurd (words refl)
 checks_all (Some bytes) (Small small) alone words input output done feed config = absurd alone
 checks_all (Some bytes) Formatted alone words input output done feed config = absurd alone
+checks_all (Some bytes) Unformatted alone words input output done feed config = absurd alone
+checks_all (Some bytes) (Damaged m offset) alone words input output done feed config = absurd alone
+checks_all (Some bytes) NoChannel alone words input output done feed config = absurd alone
+checks_all (Some bytes) (NoIncident id) alone words input output done feed config = absurd alone
+checks_all (Some bytes) Place alone words input output done feed config = absurd alone
+checks_all (Some bytes) Tick alone words input output done feed config = absurd alone
 checks_all (Some bytes) MediaFault alone words input output done feed config = absurd alone
 checks_all (Some bytes) InputFault alone words input output done feed config = absurd (input refl)
 checks_all (Some bytes) OutputFault alone words input output done feed config = absurd (output refl)
@@ -79,29 +95,43 @@ no_config Words P h = tt
 no_config (Config n) P h = h.2
 no_config (Small small) P h = tt
 no_config Formatted P h = tt
+no_config Unformatted P h = tt
+no_config (Damaged m offset) P h = tt
+no_config NoChannel P h = tt
+no_config (NoIncident id) P h = tt
+no_config Place P h = tt
+no_config Tick P h = tt
 no_config MediaFault P h = tt
 no_config InputFault P h = tt
 no_config OutputFault P h = tt
 no_config NoMemory P h = tt
 no_config (Feed n at) P h = tt
 
-pub completes_command : {tells tells_images : Type 0} (command : Command) (left : Option (List ℕ)) (old new : Disk tells tells_images) (before now : List ℕ) (status : Status) (P : List ℕ → Type 0) → NoFeedIsRefused → OneRefusal
+pub completes_command : {tells tells_images : Type 0} (command : Asked) (left : Option (List ℕ)) (old new : Disk tells tells_images) (before now : List ℕ) (taken wrote : Option (List ℕ)) (sink_before sink_now : ℕ) (status : Status) (P : List ℕ → Type 0) → NoFeedIsRefused → OneRefusal
     → (status ≡ Words → ⊥) → (status ≡ InputFault → ⊥) → (status ≡ OutputFault → ⊥) → (Rose (sum before) (sum now) → ⊥)
     → UsesMedia command ⊎ IsTextAlone status
     → IfFormat command (λ again. FormatAnswers again left old new before now status)
+    → IfReplay command (ReplayAnswers left old new before now taken wrote sink_before sink_now status)
+    → IfPlay command (λ medium channel from to. PlayAnswers medium channel from to old new before now taken wrote sink_before sink_now status)
+    → OneAnswer old.reads
     → (status ≡ Done → IfAnswered command left P)
     → IfFeed status (λ number offset. RefusesFeed command left number offset)
     → IfConfig status (λ number. (bad : ConfigBad) × (number_of bad ≡ number) × RefusesConfig command left bad)
     → IsComplete command left old status
-completes_command (Review rate) left old new before now status P none one words input output media (inl uses) formats done feed config = absurd uses
-completes_command (Review rate) left old new before now status P none one words input output media (inr alone) formats done feed config =
+completes_command (Review rate) left old new before now taken wrote sink_before sink_now status P none one words input output media (inl uses) formats replays plays law done feed config = absurd uses
+completes_command (Review rate) left old new before now taken wrote sink_before sink_now status P none one words input output media (inr alone) formats replays plays law done feed config =
     completes left status alone none one words input output (λ is. is_feed (limit_asked rate) left P (done is)) feed (no_config status (λ bad number. number_of bad ≡ number) config)
-completes_command Check left old new before now status P none one words input output media (inl uses) formats done feed config = absurd uses
-completes_command Check left old new before now status P none one words input output media (inr alone) formats done feed config =
+completes_command Check left old new before now taken wrote sink_before sink_now status P none one words input output media (inl uses) formats replays plays law done feed config = absurd uses
+completes_command Check left old new before now taken wrote sink_before sink_now status P none one words input output media (inr alone) formats replays plays law done feed config =
     checks_all left status alone words input output (λ is. is_configuration left P (done is)) feed config
-completes_command (Format again) None old new before now status P none one words input output media alone formats done feed config = tt
-completes_command (Format again) (Some bytes) old new before now status P none one words input output media alone formats done feed config =
+completes_command (Format again) None old new before now taken wrote sink_before sink_now status P none one words input output media alone formats replays plays law done feed config = tt
+completes_command (Format again) (Some bytes) old new before now taken wrote sink_before sink_now status P none one words input output media alone formats replays plays law done feed config =
     λ told. formats_all again bytes old new before now told status words input output (λ is. media (formats.fault is)) formats feed config
+completes_command Replay None old new before now taken wrote sink_before sink_now status P none one words input output media alone formats replays plays law done feed config = tt
+completes_command Replay (Some bytes) old new before now taken wrote sink_before sink_now status P none one words input output media alone formats replays plays law done feed config =
+    λ told. replays_all bytes old new before now taken wrote sink_before sink_now told law status input output (λ is. media (replay_fault (Some bytes) old new before now taken wrote sink_before sink_now status replays is)) replays
+completes_command (Play medium channel from to) left old new before now taken wrote sink_before sink_now status P none one words input output media alone formats replays plays law done feed config =
+    λ told. plays_all medium channel old new before now told law status output (λ is. media (plays.ends.fault is)) plays.own plays.ends
 
 -- without what it wrote
 pub refused_by : (status : Status) (P : ConfigBad → ℕ → Type 0) (Q R : ConfigBad → Type 0) → IfConfig status (λ number. (bad : ConfigBad) × P bad number × Q bad × R bad) → IfConfig status (λ number. (bad : ConfigBad) × P bad number × Q bad)
@@ -110,6 +140,12 @@ refused_by Words P Q R h = tt
 refused_by (Config n) P Q R h = (h.0, h.1, h.2)
 refused_by (Small small) P Q R h = tt
 refused_by Formatted P Q R h = tt
+refused_by Unformatted P Q R h = tt
+refused_by (Damaged m offset) P Q R h = tt
+refused_by NoChannel P Q R h = tt
+refused_by (NoIncident id) P Q R h = tt
+refused_by Place P Q R h = tt
+refused_by Tick P Q R h = tt
 refused_by MediaFault P Q R h = tt
 refused_by InputFault P Q R h = tt
 refused_by OutputFault P Q R h = tt

@@ -5,24 +5,22 @@ use Rattle.std.proofs.lemmas.List.Elements.{All-weaker}
 use Rattle.vdr_outside.specs.Causes.{Rose}
 use Rattle.vdr_outside.specs.Disk.{Disk, Image, Durable, Unchanged, content}
 use Rattle.vdr_outside.specs.Moments.{Settled}
-use Rattle.vdr_outside.specs.Writes.{AppendsFront}
 use Rattle.vdr_feed.specs.Reader.{IfKnown}
 use Rattle.vdr_config.specs.declared.bad.ConfigBad.{ConfigBad}
 use Rattle.vdr_config.specs.declared.media.TooSmall.{TooSmall}
 use Rattle.vdr_config.specs.Configuration.{Configuration}
 use Rattle.vdr_config.specs.Grammar.{configuration}
-use Rattle.vdr_media.specs.Answers.{TextTested, FormattedTested, RoomTested, IfRefused, KnownFormatted, KnownUnformatted, HasFaultCause, room}
+use Rattle.vdr_media.specs.Answers.{TextTested, FormattedTested, RoomTested, IfRefused, KnownFormatted, KnownUnformatted, room}
 use Rattle.vdr_media.specs.Formatted.{members, IsFormatted, IsUnformatted, IsEmptyHistoryOf}
 use Rattle.vdr_media.specs.Formatting.{FormatsAtEachMoment}
 use Rattle.vdr_media.specs.Medium.{IsEmptyMedium}
 use Rattle.vdr_media.specs.declared.refused.FormatRefused.{FormatRefused}
 use Rattle.vdr_media.specs.declared.refused.FormatRefused.TheVariants as refusal
 use Rattle.vdr_tool.specs.Check.{number_of, refusal_line}
-use Rattle.vdr_tool.specs.Endings.{IsDone, IsConfigRefusal}
-use Rattle.vdr_tool.specs.Formats.{FormatAnswers, FormatsAll, IfConfiguration, MayFormat, status_of, refused_line}
+use Rattle.vdr_tool.specs.Formats.{FormatAnswers, FormatsAll, IfConfiguration, status_of, refused_line}
 use Rattle.vdr_tool.specs.StatusLine.{IfConfig, IfFeed, Wrote, WroteLine}
 use Rattle.vdr_tool.specs.declared.status.Status.{Status}
-use Rattle.vdr_tool.specs.declared.status.Status.TheVariants.{Done, Words, Config, Small, Formatted, MediaFault, InputFault, OutputFault, NoMemory, Feed}
+use Rattle.vdr_tool.specs.declared.status.Status.TheVariants.{Done, Words, Config, Small, Unformatted, Formatted, Damaged, MediaFault, InputFault, OutputFault, NoMemory, Feed, NoChannel, NoIncident, Place, Tick}
 
 -- The configuration that a text is.
 pub read_as : (r : Result Configuration ConfigBad) → IsOk r → (c : Configuration) × (r ≡ Ok c)
@@ -139,6 +137,7 @@ module _ {tells tells_images : Type 0} (again : Bool) (left : Option (List ℕ))
     fault = λ is. let none : ⊥ = cc in absurd none;
     untouched = inr (inr untouched);
     done = λ is. let none : ⊥ = cc in absurd none;
+    own = tt;
     moments = λ either. absurd (elim either [ inl is ↦ cc | inr is ↦ cc ]);
   }
   refused_answers (refusal.Config bad) tested formatted fits untouched fault moments = record {
@@ -147,6 +146,7 @@ module _ {tells tells_images : Type 0} (again : Bool) (left : Option (List ℕ))
     fault = λ is. let none : ⊥ = cc in absurd none;
     untouched = inr (inr untouched);
     done = λ is. let none : ⊥ = cc in absurd none;
+    own = tt;
     moments = λ either. absurd (elim either [ inl is ↦ cc | inr is ↦ cc ]);
   }
   refused_answers refusal.AlreadyFormatted tested formatted fits untouched fault moments =
@@ -157,6 +157,7 @@ module _ {tells tells_images : Type 0} (again : Bool) (left : Option (List ℕ))
         fault = λ is. let none : ⊥ = cc in absurd none;
         untouched = inr (inr untouched);
         done = λ is. let none : ⊥ = cc in absurd none;
+        own = tt;
         moments = λ either. absurd (elim either [ inl is ↦ cc | inr is ↦ cc ]);
       }
   refused_answers (refusal.TooSmall small) tested formatted fits untouched fault moments =
@@ -167,6 +168,7 @@ module _ {tells tells_images : Type 0} (again : Bool) (left : Option (List ℕ))
         fault = λ is. let none : ⊥ = cc in absurd none;
         untouched = inr (inr untouched);
         done = λ is. let none : ⊥ = cc in absurd none;
+        own = tt;
         moments = λ either. absurd (elim either [ inl is ↦ cc | inr is ↦ cc ]);
       }
   refused_answers refusal.Fault tested formatted fits untouched fault moments =
@@ -177,6 +179,7 @@ module _ {tells tells_images : Type 0} (again : Bool) (left : Option (List ℕ))
         fault = λ is. fault refl;
         untouched = inr (inl refl);
         done = λ is. let none : ⊥ = cc in absurd none;
+        own = tt;
         moments = λ either rest. known left text (λ d bytes. FormatsAtEachMoment {T = ⊤} {E = Status} old new (Err MediaFault) (IsEmptyHistoryOf (members old.sizes) bytes)) c.0 (whole c.0 c.1) c.1
             (failed_moments refusal.Fault (moments rest));
       }
@@ -200,11 +203,12 @@ module _ {tells tells_images : Type 0} (again : Bool) (left : Option (List ℕ))
           known left text (λ d bytes. (room d old.sizes ≡ Ok tt) × All (λ m. Settled m (IsEmptyMedium m d bytes) new) (members old.sizes))
               c.0 (whole c.0 c.1) c.1 (fits c.0 c.1, All-weaker (λ m. Settled m (IsEmptyMedium m made.0 text) new) (λ m. Settled m (IsEmptyMedium m c.0 text) new) (λ m. settled_as m made.0 c.0 c.1) (members old.sizes) made.1),
         );
+        own = tt;
         moments = λ either rest. known left text (λ d bytes. FormatsAtEachMoment {T = ⊤} {E = Status} old new (Ok tt) (IsEmptyHistoryOf (members old.sizes) bytes)) c.0 (whole c.0 c.1) c.1 (done_moments (moments rest));
       }
 
 -- Media are not both.
-not_both : (image : Image) → IsFormatted image → IsUnformatted image → ⊥
+pub not_both : (image : Image) → IsFormatted image → IsUnformatted image → ⊥
 not_both image is (inl short) = omega (arith, is.room, short)
 not_both image is (inr closed) = closed is.gate
 
@@ -253,6 +257,12 @@ module _ {tells tells_images : Type 0} (again : Bool) (bytes : List ℕ) (old ne
         small = λ d e may other short. inl (one_small small other (room d old.sizes) (one_room c.0 d (Err small) c.1 e c.2) short);
         done = λ d e may fits. absurd (let clash : Err small ≡ Ok tt = sym (one_room c.0 d (Err small) c.1 e c.2) ∙ fits in cc);
       }
+  formats_all Unformatted words input output media answers feed config = absurd answers.own
+  formats_all (Damaged m offset) words input output media answers feed config = absurd answers.own
+  formats_all NoChannel words input output media answers feed config = absurd answers.own
+  formats_all (NoIncident id) words input output media answers feed config = absurd answers.own
+  formats_all Place words input output media answers feed config = absurd answers.own
+  formats_all Tick words input output media answers feed config = absurd answers.own
   formats_all Formatted words input output media answers feed config =
       let is = answers.formatted refl in
       let c = is.1 in

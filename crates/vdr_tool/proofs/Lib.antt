@@ -1,3 +1,9 @@
 pub mod Completeness
+pub mod FeedLemmas
 pub mod FormatLemmas
+pub mod PlayCompleteness
+pub mod PlayLemmas
+pub mod ReplayLemmas
+pub mod Summing
 pub mod Texts
+pub mod WordLemmas

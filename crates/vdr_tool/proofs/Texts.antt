@@ -1,11 +1,10 @@
 -- The text of a configuration, as far as it is read, and what is printed of it.
-use Rattle.std.proofs.Common.{◌≡◌, ◌≤◌, ◌<◌, ℕ, List, [], ◌++◌, length, Option, None, Some, Result, Ok, Err, codes, sym, ap, ◌∙◌, arith, ⊎_elim, append-nil, append_assoc, length-append}
+use Rattle.std.proofs.Common.{◌≡◌, ◌≤◌, ◌<◌, ℕ, List, [], ◌++◌, length, Option, None, Some, Result, Ok, Err, codes, refl, sym, ap, ◌∙◌, arith, ⊎_elim, append-nil, append_assoc, length-append}
 use Rattle.std.specs.Prelude.{decimal}
 use Rattle.std.specs.Io.KnownBytes.{Consumes, IsAtEnd, Appends}
 use Rattle.std.proofs.KnownBytes.{Appends-trans}
 use Rattle.std.proofs.lemmas.Bool.{cases_lt, cond-true, lt-ltb}
 use Rattle.vdr_outside.specs.Writes.{AppendsFront}
-use Rattle.vdr_entry.specs.Escape.{escaped}
 use Rattle.vdr_feed.specs.Reader.{IfKnown}
 use Rattle.vdr_config.specs.declared.bad.ConfigBad.{ConfigBad}
 use Rattle.vdr_config.specs.declared.bad.ConfigBad.TheVariants.{TooLong}
@@ -14,6 +13,7 @@ use Rattle.vdr_config.specs.Grammar.{configuration}
 use Rattle.vdr_tool.specs.declared.checking.CheckStop.{CheckStop}
 use Rattle.vdr_tool.specs.declared.checking.CheckStop.TheVariants.{Input, Memory, Refused}
 use Rattle.vdr_tool.specs.Check.{IfChecked, IfRefusedStop, check_text, number_of, key_of, refusal_line}
+use Rattle.vdr_tool.specs.StatusLine.{escaped_line}
 
 too_long : (text : List ℕ) → 16380 < length text → configuration text ≡ Err TooLong
 unfolding configuration
@@ -64,13 +64,10 @@ stop_weaker Memory P Q f h = tt
 stop_weaker (Refused bad) P Q f h = f bad h
 
 -- the line up to the key, the key, and LF
-pub refusal_parts : (bad : ConfigBad) (front key : List ℕ) (n : ℕ) → n ≡ number_of bad → front ≡ codes "status 3 config " ++ decimal n ++ codes " " → key ≡ key_of bad
-    → refusal_line bad ≡ front ++ (escaped key ++ codes "\n")
+pub refusal_is : (bad : ConfigBad) (front key : List ℕ) (n : ℕ) → n ≡ number_of bad → front ≡ codes "status 3 config " ++ decimal n ++ codes " " → key ≡ key_of bad
+    → escaped_line front key ≡ refusal_line bad
 unfolding refusal_line
-refusal_parts bad front key n number is path =
-    append_assoc (codes "status 3 config " ++ decimal (number_of bad) ++ codes " ") (escaped (key_of bad)) (codes "\n")
-    ∙ (ap (λ (f : List ℕ). f ++ (escaped (key_of bad) ++ codes "\n")) (sym (is ∙ ap (λ (m : ℕ). codes "status 3 config " ++ decimal m ++ codes " ") number))
-    ∙ ap (λ (k : List ℕ). front ++ (escaped k ++ codes "\n")) (sym path))
+refusal_is bad front key n number is path = rw (is, number, path) refl
 
 -- a front of the text's first piece
 pub front_first : (old new : Option (List ℕ)) (piece rest text : List ℕ) → text ≡ piece ++ rest → AppendsFront old new piece → AppendsFront old new text

@@ -3,7 +3,7 @@ use Rattle.std.specs.Prelude.{◌≡◌, ℕ, ⊤}
 use Rattle.vdr_config.specs.declared.bad.ConfigBad.{ConfigBad}
 use Rattle.vdr_tool.specs.Check.{number_of}
 use Rattle.vdr_tool.specs.declared.status.Status.{Status}
-use Rattle.vdr_tool.specs.declared.status.Status.TheVariants.{Done, Config, Small, Formatted, MediaFault, NoMemory, Feed}
+use Rattle.vdr_tool.specs.declared.status.Status.TheVariants.{Done, Config, Small, Unformatted, Formatted, Damaged, MediaFault, NoMemory, Feed, NoChannel, NoIncident, Place, Tick}
 
 -- All was done, or there was no memory.
 abbrev pub IsDone : Status → Type 0
@@ -23,9 +23,15 @@ IsConfigRefusal bad (Config number) = number ≡ number_of bad
 IsConfigRefusal bad NoMemory = ⊤
 IsConfigRefusal bad status = ⊥
 
--- No medium is spoken of.
+-- Neither a medium nor what it holds is spoken of.
 abbrev pub IsTextAlone : Status → Type 0
 IsTextAlone (Small small) = ⊥
+IsTextAlone Unformatted = ⊥
 IsTextAlone Formatted = ⊥
+IsTextAlone (Damaged medium offset) = ⊥
 IsTextAlone MediaFault = ⊥
+IsTextAlone NoChannel = ⊥
+IsTextAlone (NoIncident id) = ⊥
+IsTextAlone Place = ⊥
+IsTextAlone Tick = ⊥
 IsTextAlone status = ⊤

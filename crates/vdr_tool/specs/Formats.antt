@@ -16,27 +16,31 @@ use Rattle.vdr_tool.specs.Endings.{IsDone, IsConfigRefusal}
 use Rattle.vdr_media.specs.declared.refused.FormatRefused.{FormatRefused}
 use Rattle.vdr_media.specs.declared.refused.FormatRefused.TheVariants as refusal
 use Rattle.vdr_tool.specs.Check.{number_of, refusal_line}
+use Rattle.vdr_tool.specs.Commands.{Asked}
+use Rattle.vdr_tool.specs.Commands.Asked.{Review, Check, Format, Replay, Play}
 use Rattle.vdr_tool.specs.StatusLine.{IfSmall, status_line}
-use Rattle.vdr_tool.specs.declared.words.Command.{Command}
-use Rattle.vdr_tool.specs.declared.words.Command.TheVariants.{Review, Check, Format}
 use Rattle.vdr_tool.specs.declared.status.Status.{Status}
-use Rattle.vdr_tool.specs.declared.status.Status.TheVariants.{Done, Config, Small, Formatted, MediaFault, NoMemory}
+use Rattle.vdr_tool.specs.declared.status.Status.TheVariants.{Done, Config, Small, Formatted, MediaFault, InputFault, NoMemory}
 
 -- The bytes, where they are known, are this configuration's text, and P holds of both.
 abbrev pub IfConfiguration : Option (List ℕ) → (Configuration → List ℕ → Type 0) → Type 0
 IfConfiguration left P = IfKnown left (λ bytes. (c : Configuration) × (configuration bytes ≡ Ok c) × P c bytes)
 
 -- The command reads or writes the media.
-abbrev pub UsesMedia : Command → Type 0
+abbrev pub UsesMedia : Asked → Type 0
 UsesMedia (Review rate) = ⊥
 UsesMedia Check = ⊥
 UsesMedia (Format again) = ⊤
+UsesMedia Replay = ⊤
+UsesMedia (Play medium channel from to) = ⊤
 
 -- What is said of a command that formats the media.
-abbrev pub IfFormat : Command → (Bool → Type 0) → Type 0
+abbrev pub IfFormat : Asked → (Bool → Type 0) → Type 0
 IfFormat (Review rate) P = ⊤
 IfFormat Check P = ⊤
 IfFormat (Format again) P = P again
+IfFormat Replay P = ⊤
+IfFormat (Play medium channel from to) P = ⊤
 
 -- How a refusal ends the command, and the line that tells it.
 abbrev pub status_of : FormatRefused → Status
@@ -58,6 +62,17 @@ abbrev pub outcome_of : Status → Result ⊤ Status
 outcome_of Done = Ok tt
 outcome_of status = Err status
 
+-- The command ends so, and in no other way.
+abbrev pub IsFormatStatus : Status → Type 0
+IsFormatStatus Done = ⊤
+IsFormatStatus (Config number) = ⊤
+IsFormatStatus (Small small) = ⊤
+IsFormatStatus Formatted = ⊤
+IsFormatStatus MediaFault = ⊤
+IsFormatStatus InputFault = ⊤
+IsFormatStatus NoMemory = ⊤
+IsFormatStatus status = ⊥
+
 -- The media may be formatted: they are not, or they are to be formatted again.
 abbrev pub MayFormat : {tells tells_images : Type 0} → Bool → Disk tells tells_images → Type 0
 MayFormat again disk = again ≡ false → KnownUnformatted disk
@@ -65,6 +80,7 @@ MayFormat again disk = again ≡ false → KnownUnformatted disk
 module _ {tells tells_images : Type 0} where
   -- What the answer says of the input and of the media at entry, and what the media are afterwards.
   pub record FormatAnswers (again : Bool) (left : Option (List ℕ)) (old new : Disk tells tells_images) (before now : List ℕ) (status : Status) : Type 0 where
+    pub own : IsFormatStatus status
     -- each refusal comes exactly in its case, and leaves the media as they were
     pub formatted : status ≡ Formatted → (again ≡ false) × IfConfiguration left (λ c bytes. ⊤) × KnownFormatted old
     pub small : IfSmall status (λ small. IfConfiguration left (λ c bytes. room c old.sizes ≡ Err small) × MayFormat again old)

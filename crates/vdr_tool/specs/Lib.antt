@@ -1,7 +1,11 @@
 -- What the program answers.
 pub mod Answers
 pub mod Check
+pub mod Commands
 pub mod Endings
 pub mod Formats
+pub mod Plays
+pub mod Replays
 pub mod StatusLine
+pub mod Summaries
 pub mod Words

@@ -1,11 +1,12 @@
 -- How a status is told (this project's profile).
-use Rattle.std.specs.Prelude.{◌⊎◌, ◌==◌, if◌then◌else◌, ℕ, List, [], ◌∷◌, ◌++◌, codes, decimal, Option, ⊤}
+use Rattle.std.specs.Prelude.{◌⊎◌, ◌==◌, if◌then◌else◌, ℕ, List, [], ◌++◌, codes, decimal, Option, ⊤}
 use Rattle.std.specs.Io.KnownBytes.{Appends}
+use Rattle.vdr_entry.specs.Escape.{escaped}
 use Rattle.vdr_outside.specs.Causes.{Rose}
 use Rattle.vdr_outside.specs.Writes.{AppendsFront}
 use Rattle.vdr_tool.specs.declared.status.Status.{Status}
 use Rattle.vdr_config.specs.declared.media.TooSmall.{TooSmall}
-use Rattle.vdr_tool.specs.declared.status.Status.TheVariants.{Done, Words, Config, Small, Formatted, MediaFault, InputFault, OutputFault, NoMemory, Feed}
+use Rattle.vdr_tool.specs.declared.status.Status.TheVariants.{Done, Words, Config, Small, Unformatted, Formatted, Damaged, MediaFault, InputFault, OutputFault, NoMemory, Feed, NoChannel, NoIncident, Place, Tick}
 
 -- The program's exit status.
 abbrev pub code_of : Status → ℕ
@@ -13,12 +14,18 @@ code_of Done = 0
 code_of Words = 2
 code_of (Config number) = 3
 code_of (Small small) = 3
+code_of Unformatted = 4
 code_of Formatted = 4
+code_of (Damaged medium offset) = 4
 code_of MediaFault = 5
 code_of InputFault = 7
 code_of OutputFault = 8
 code_of NoMemory = 9
 code_of (Feed number offset) = 10
+code_of NoChannel = 11
+code_of (NoIncident id) = 11
+code_of Place = 13
+code_of Tick = 13
 
 -- The names of the media in texts.
 abbrev pub medium_name : ℕ → List ℕ
@@ -27,30 +34,54 @@ medium_name m = if m == 0 then codes "capsule" else codes "longterm"
 abbrev pub small_line : TooSmall → List ℕ
 small_line t = codes "status 3 small " ++ medium_name t.medium ++ codes " need " ++ decimal t.need ++ codes " have " ++ decimal t.have ++ codes "\n"
 
+abbrev pub damaged_line : (medium offset : ℕ) → List ℕ
+damaged_line medium offset = codes "status 4 damaged " ++ decimal medium ++ codes " " ++ decimal offset ++ codes "\n"
+
+abbrev pub feed_line : (number offset : ℕ) → List ℕ
+feed_line number offset = codes "status 10 feed " ++ decimal number ++ codes " at " ++ decimal offset ++ codes "\n"
+
+abbrev pub incident_line : ℕ → List ℕ
+incident_line id = codes "status 11 incident " ++ decimal id ++ codes "\n"
+
+-- A line that ends with a text by its escape.
+abbrev pub escaped_line : (front text : List ℕ) → List ℕ
+escaped_line front text = front ++ escaped text ++ codes "\n"
+
+-- The line of a channel that is not configured.
+abbrev pub channel_line : (name : List ℕ) → List ℕ
+channel_line name = escaped_line (codes "status 11 channel ") name
+
 -- The line with which the output ends. Done says nothing, and where the output failed nothing can be said. The line of a
--- configuration's refusal names its key too: it is `refusal_line`.
+-- configuration's refusal names its key too, and that of a channel its name: they are `refusal_line` and `channel_line`.
 abbrev pub status_line : Status → List ℕ
 status_line Done = []
 status_line OutputFault = []
 status_line (Config number) = []
+status_line NoChannel = []
 status_line Words = codes "status 2 words\n"
 status_line (Small small) = small_line small
+status_line Unformatted = codes "status 4 unformatted\n"
 status_line Formatted = codes "status 4 formatted\n"
+status_line (Damaged medium offset) = damaged_line medium offset
 status_line MediaFault = codes "status 5 media\n"
 status_line InputFault = codes "status 7 input\n"
 status_line NoMemory = codes "status 9 memory\n"
-status_line (Feed number offset) = codes "status 10 feed " ++ decimal number ++ codes " at " ++ decimal offset ++ 10 ∷ []
+status_line (Feed number offset) = feed_line number offset
+status_line (NoIncident id) = incident_line id
+status_line Place = codes "status 13 place\n"
+status_line Tick = codes "status 13 tick\n"
 
 -- The output grew by a front of the text, and by all of it unless the sink's count rose.
 pub record Wrote (text : List ℕ) (old new : Option (List ℕ)) (before now : ℕ) : Type 0 where
   pub front : AppendsFront old new text
   pub all : Appends old new text ⊎ Rose before now
 
--- A status other than Done, Config and OutputFault has written its line, and nothing else.
+-- A status other than Done, Config, OutputFault and NoChannel has written its line, and nothing else.
 abbrev pub WroteLine : Status → Option (List ℕ) → Option (List ℕ) → ℕ → ℕ → Type 0
 WroteLine Done old new before now = ⊤
 WroteLine OutputFault old new before now = ⊤
 WroteLine (Config number) old new before now = ⊤
+WroteLine NoChannel old new before now = ⊤
 WroteLine status old new before now = Wrote (status_line status) old new before now
 
 -- What is said of a feed's refusal.

@@ -31,7 +31,7 @@ pub(crate) enum CheckStop {
 
 // A name and a number.
 fn push_line(text: &mut ArrayVec<u8, ROOM>, name: &[u8], number: u64)
-    requires { array_vec_len text.old + length name.now + 22 ≤ 160 }
+    requires { array_vec_len text.old + length name.now + 22 ≤ 200 }
     ensures line { text.new.items ≡ text.old.items ++ need_line name.now number }
     ensures short { array_vec_len text.new ≤ array_vec_len text.old + length name.now + 22 }
 {

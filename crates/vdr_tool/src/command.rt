@@ -1,31 +1,37 @@
-ghost use Rattle.std.specs.Prelude.{◌≡◌, ◌≤◌, ◌⊎◌, Bool, length, sum, IfSome};
+ghost use Rattle.std.specs.Prelude.{◌≡◌, ◌≤◌, ◌⊎◌, ℕ, ℤ, Bool, List, length, sum, IfSome};
 ghost use Rattle.std.specs.Io.KnownBytes.{IsAtEnd, Appends};
 ghost use Rattle.vdr_config.specs.Configuration.{IsRate};
 ghost use Rattle.vdr_outside.specs.Causes.{Rose};
 ghost use Rattle.vdr_outside.specs.Writes.{AppendsFront};
 ghost use Rattle.vdr_feed.specs.Feed.{IsRefused};
 ghost use Rattle.vdr_feed.specs.Reader.{IfKnown};
-ghost use Rattle.vdr_tool.specs.Answers.{IfAnswered, RefusesFeed, RefusesConfig, IsComplete};
+ghost use Rattle.vdr_entry.specs.declared.query.Medium.{Medium};
+ghost use Rattle.vdr_tool.specs.Answers.{AnswersAlone, IfAnswered, IsRead, RefusesFeed, RefusesConfig, IsComplete};
 ghost use Rattle.vdr_tool.specs.Check.{IfChecked, number_of, refusal_line};
 ghost use Rattle.vdr_tool.specs.Formats.{FormatAnswers, IfFormat, UsesMedia};
 ghost use Rattle.vdr_tool.specs.Endings.{IsTextAlone};
+ghost use Rattle.vdr_tool.specs.Plays.{IfPlay, PlayAnswers};
+ghost use Rattle.vdr_tool.specs.Replays.{IfReplay, ReplayAnswers};
 ghost use Rattle.vdr_review.specs.Review.{IfReviewed, limit_asked, most_items};
 ghost use Rattle.vdr_tool.specs.StatusLine.{IfFeed, IfConfig, Wrote, WroteLine};
 ghost use Rattle.vdr_tool.specs.Words.{Asks, IsLegal};
 ghost use Rattle.vdr_config.specs.declared.bad.ConfigBad.{ConfigBad as Bad};
-ghost use Rattle.vdr_tool.specs.declared.words.Command.{Command as Asked};
-ghost use Rattle.vdr_tool.specs.declared.words.Command.TheVariants.{Check, Format};
+ghost use Rattle.vdr_tool.specs.Commands.{Asked, plain};
+ghost use Rattle.vdr_tool.specs.Commands.Asked.{Check, Format, Play, Replay};
 ghost use Rattle.vdr_tool.specs.declared.status.Status.TheVariants.{Done, Words, InputFault, OutputFault};
 
 use crate::Status;
 use crate::checking::{CheckStop, check};
 use crate::formatting::answer_format;
+use crate::playing::{Wanted, answer_play};
 use crate::refusal::{number_of, report_refusal};
+use crate::replaying::answer_replay;
 use crate::reports::report;
 use crate::words::{Command, command_of};
 use std::alloc::Global;
 use vdr_config::Rate;
 use vdr_feed::law_of_feeds;
+use vdr_opening::{law_of_contents, law_of_refusals};
 use vdr_outside::{Media, Sink, Source, print_buffered, write_all};
 use vdr_review::{Stop, review};
 
@@ -117,31 +123,53 @@ fn answer_check<I: Source + Drop, O: Sink + Drop, M: Media + Drop>(
 // Does what a command asks for.
 fn answer<I: Source + Drop, O: Sink + Drop, M: Media + Drop>(
     alloc: Global,
-    command: Command,
+    command: Command<'_>,
     world: &mut World<I, O, M>,
 ) -> Status
-    requires legal { IsLegal command }
+    requires legal { IsLegal (plain command) }
     requires two { 2 ≤ length (M.disk world.old.media).sizes }
     requires three { length (M.disk world.old.media).sizes ≤ 3 }
     ensures words { result ≡ Words → ⊥ }
-    ensures done { result ≡ Done → IsAtEnd (I.left world.new.input) × IfAnswered command (I.left world.old.input)
+    ensures done { result ≡ Done → IsRead (plain command.entry) (I.left world.new.input) × IfAnswered (plain command.entry) (I.left world.old.input)
         (λ text. Appends (O.taken world.old.output) (O.taken world.new.output) text) }
-    ensures feed { IfFeed result (λ number offset. RefusesFeed command (I.left world.old.input) number offset) }
-    ensures config { IfConfig result (λ number. (bad : Bad) × (number_of bad ≡ number) × RefusesConfig command (I.left world.old.input) bad
+    ensures feed { IfFeed result (λ number offset. RefusesFeed (plain command.entry) (I.left world.old.input) number offset) }
+    ensures config { IfConfig result (λ number. (bad : Bad) × (number_of bad ≡ number) × RefusesConfig (plain command.entry) (I.left world.old.input) bad
         × Wrote (refusal_line bad) (O.taken world.old.output) (O.taken world.new.output) (O.faults world.old.output) (O.faults world.new.output)) }
     ensures input { result ≡ InputFault → Rose (I.faults world.old.input) (I.faults world.new.input) }
     ensures output { result ≡ OutputFault → Rose (O.faults world.old.output) (O.faults world.new.output)
-        × IfAnswered command (I.left world.old.input) (λ text. AppendsFront (O.taken world.old.output) (O.taken world.new.output) text) }
-    ensures line { WroteLine result (O.taken world.old.output) (O.taken world.new.output) (O.faults world.old.output) (O.faults world.new.output) }
-    ensures media { UsesMedia command ⊎ ((world.new.media ≡ world.old.media) × IsTextAlone result) }
+        × IfAnswered (plain command.entry) (I.left world.old.input) (λ text. AppendsFront (O.taken world.old.output) (O.taken world.new.output) text) }
+    ensures line { AnswersAlone (plain command.entry) → WroteLine result (O.taken world.old.output) (O.taken world.new.output) (O.faults world.old.output) (O.faults world.new.output) }
+    ensures media { UsesMedia (plain command.entry) ⊎ ((world.new.media ≡ world.old.media) × IsTextAlone result) }
     ensures sizes { (M.disk world.new.media).sizes ≡ (M.disk world.old.media).sizes }
-    ensures formats { IfFormat command (λ again. FormatAnswers again (I.left world.old.input) (M.disk world.old.media) (M.disk world.new.media)
+    ensures formats { IfFormat (plain command.entry) (λ again. FormatAnswers again (I.left world.old.input) (M.disk world.old.media) (M.disk world.new.media)
         (M.faults world.old.media) (M.faults world.new.media) result) }
+    ensures replays { IfReplay (plain command.entry) (ReplayAnswers (I.left world.old.input) (M.disk world.old.media) (M.disk world.new.media)
+        (M.faults world.old.media) (M.faults world.new.media)
+        (O.taken world.old.output) (O.taken world.new.output) (O.faults world.old.output) (O.faults world.new.output) result) }
+    ensures plays { IfPlay (plain command.entry) (λ medium channel from to. PlayAnswers medium channel from to (M.disk world.old.media) (M.disk world.new.media)
+        (M.faults world.old.media) (M.faults world.new.media)
+        (O.taken world.old.output) (O.taken world.new.output) (O.faults world.old.output) (O.faults world.new.output) result) }
+    ensures unread { IfPlay (plain command.entry) (λ medium channel from to. world.new.input ≡ world.old.input) }
 {
     match command {
         Command::Review { rate } => answer_review(alloc, rate, world),
         Command::Check => answer_check(alloc, world),
         Command::Format { again } => answer_format(alloc, again, world),
+        Command::Replay => answer_replay(alloc, world),
+        Command::Play {
+            medium,
+            channel,
+            from,
+            to,
+        } => {
+            let wanted = Wanted {
+                medium,
+                channel,
+                from,
+                to,
+            };
+            answer_play(alloc, wanted, world)
+        }
     }
 }
 
@@ -154,10 +182,16 @@ fn answer<I: Source + Drop, O: Sink + Drop, M: Media + Drop>(
 ///   `longterm`, each with its number in a line. Of a text that is too long it reads 16,381 bytes.
 /// - `format` reads a configuration so, and formats the capsule and the long-term medium with it, unless they are formatted
 ///   already. `reformat` formats them in any case. What they held is lost. They print nothing.
+/// - `replay` reads a feed from the input and records it on the media as one run, and prints the summary of the run: for each
+///   configured group `GROUP taken N recorded N full N rate N bad N large N`, and then `records N`.
+/// - `play MEDIUM CHANNEL FROM TO` reads no input. It prints what stands on the media: of `capsule` or `longterm` the records of
+///   the window, of `incident-ID` those of the incident that is saved under this id, 1 to 32. Of them it prints those of the
+///   channel, or all where CHANNEL is `all`, whose UTC stamps are from FROM to TO; `-` is no bound.
 ///
 /// Any other words end with `Words`. A number is decimal digits without a sign and without a leading zero.
 ///
-/// For each status but `Done` and `OutputFault` the output ends with a status line, and here has nothing else.
+/// For each status but `Done` and `OutputFault` the output ends with a status line. It has nothing else, but where a run was closed by
+/// `replay` as the feed was refused or could not be read further: then the summary stands before it.
 pub fn run<I: Source + Drop, O: Sink + Drop, M: Media + Drop>(
     alloc: Global,
     words: &[String],
@@ -169,9 +203,10 @@ pub fn run<I: Source + Drop, O: Sink + Drop, M: Media + Drop>(
         × (((command : Asked) → Asks words.now command → ⊥) → result ≡ Words) }
     ensures untouched { result ≡ Words → (world.new.input ≡ world.old.input) × (world.new.media ≡ world.old.media) }
 
-    // All was done: the input was read to its end, and the output is what the command prints of it.
-    ensures done { result ≡ Done → IsAtEnd (I.left world.new.input)
-        × (command : Asked) × Asks words.now command × IfAnswered command (I.left world.old.input)
+    ensures unread { (medium : Medium) (channel : List ℕ) (from to : ℤ) → Asks words.now (Play medium channel from to) → world.new.input ≡ world.old.input }
+
+    // All was done: the input was read to its end, if the command reads it, and the output is what the command prints.
+    ensures done { result ≡ Done → (command : Asked) × Asks words.now command × IsRead command (I.left world.new.input) × IfAnswered command (I.left world.old.input)
         (λ text. Appends (O.taken world.old.output) (O.taken world.new.output) text) }
 
     // Refusals and failures come only with their cause.
@@ -183,13 +218,20 @@ pub fn run<I: Source + Drop, O: Sink + Drop, M: Media + Drop>(
     ensures output { result ≡ OutputFault → Rose (O.faults world.old.output) (O.faults world.new.output)
         × (command : Asked) × Asks words.now command × IfAnswered command (I.left world.old.input)
         (λ text. AppendsFront (O.taken world.old.output) (O.taken world.new.output) text) }
-    ensures line { WroteLine result (O.taken world.old.output) (O.taken world.new.output) (O.faults world.old.output) (O.faults world.new.output) }
+    ensures line { ((command : Asked) → Asks words.now command → AnswersAlone command)
+        → WroteLine result (O.taken world.old.output) (O.taken world.new.output) (O.faults world.old.output) (O.faults world.new.output) }
 
-    // Only a command that formats them touches the media, and none changes their sizes.
+    // Only a command that uses them touches the media, and none changes their sizes.
     ensures media { (command : Asked) → Asks words.now command → UsesMedia command ⊎ ((world.new.media ≡ world.old.media) × IsTextAlone result) }
     ensures sizes { (M.disk world.new.media).sizes ≡ (M.disk world.old.media).sizes }
     ensures formats { (again : Bool) → Asks words.now (Format again) → FormatAnswers again (I.left world.old.input) (M.disk world.old.media) (M.disk world.new.media)
         (M.faults world.old.media) (M.faults world.new.media) result }
+    ensures replays { Asks words.now Replay → ReplayAnswers (I.left world.old.input) (M.disk world.old.media) (M.disk world.new.media)
+        (M.faults world.old.media) (M.faults world.new.media)
+        (O.taken world.old.output) (O.taken world.new.output) (O.faults world.old.output) (O.faults world.new.output) result }
+    ensures plays { (medium : Medium) (channel : List ℕ) (from to : ℤ) → Asks words.now (Play medium channel from to)
+        → PlayAnswers medium channel from to (M.disk world.old.media) (M.disk world.new.media) (M.faults world.old.media) (M.faults world.new.media)
+        (O.taken world.old.output) (O.taken world.new.output) (O.faults world.old.output) (O.faults world.new.output) result }
 
     // And nothing else comes in the place of what a command prints, or of a refusal, but want of memory.
     ensures complete { (command : Asked) → Asks words.now command → (Rose (I.faults world.old.input) (I.faults world.new.input) → ⊥)
@@ -202,5 +244,7 @@ pub fn run<I: Source + Drop, O: Sink + Drop, M: Media + Drop>(
         return Status::Words;
     };
     law_of_feeds();
+    law_of_contents();
+    law_of_refusals();
     answer(alloc, command, world)
 }

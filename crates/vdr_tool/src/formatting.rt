@@ -5,9 +5,9 @@ ghost use Rattle.vdr_outside.specs.Causes.{Rose};
 ghost use Rattle.vdr_config.specs.declared.bad.ConfigBad.{ConfigBad as Bad};
 ghost use Rattle.vdr_tool.specs.Answers.{RefusesConfig};
 ghost use Rattle.vdr_tool.specs.Check.{number_of, refusal_line};
+ghost use Rattle.vdr_tool.specs.Commands.Asked.{Format};
 ghost use Rattle.vdr_tool.specs.Formats.{FormatAnswers, IfConfiguration, refused_line, status_of};
 ghost use Rattle.vdr_tool.specs.StatusLine.{IfConfig, Wrote, WroteLine, IfFeed};
-ghost use Rattle.vdr_tool.specs.declared.words.Command.TheVariants.{Format};
 ghost use Rattle.vdr_tool.specs.declared.status.Status.TheVariants.{Done, Words, InputFault, OutputFault};
 
 use crate::checking::ENOUGH;

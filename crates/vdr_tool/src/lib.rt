@@ -4,9 +4,12 @@
 mod checking;
 mod command;
 mod formatting;
+mod playing;
 mod refusal;
+mod replaying;
 mod reports;
 mod status;
+mod summary;
 mod words;
 
 pub use command::{World, run};

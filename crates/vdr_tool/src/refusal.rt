@@ -1,11 +1,10 @@
-// How the refusal of a configuration is told.
+// How the refusal of a configuration, and that of a channel, is told.
 ghost use Rattle.std.specs.Prelude.{◌≡◌, ◌≤◌, ◌++◌, codes, decimal, OnOk};
 ghost use Rattle.std.specs.Io.KnownBytes.{Appends};
 ghost use Rattle.vdr_outside.specs.Causes.{HasCause};
 ghost use Rattle.vdr_outside.specs.Writes.{AppendsFront};
-ghost use Rattle.vdr_entry.specs.Escape.{escaped};
 ghost use Rattle.vdr_tool.specs.Check.{number_of, key_of, refusal_line};
-ghost use Rattle.vdr_tool.specs.StatusLine.{Wrote};
+ghost use Rattle.vdr_tool.specs.StatusLine.{channel_line, escaped_line, Wrote};
 
 use crate::reports::{ROOM, push_text};
 use arrayvec::ArrayVec;
@@ -57,14 +56,23 @@ fn front_of(number: u8) -> ArrayVec<u8, ROOM>
     front
 }
 
+// A front of a line, a text by its escape, and the end of the line.
+fn print_line<O: Sink>(front: &[u8], text: &[u8], out: &mut O) -> Result<(), Failed>
+    ensures all { OnOk result (Appends (O.taken out.old) (O.taken out.new) (escaped_line front.now text.now)) }
+    ensures front { AppendsFront (O.taken out.old) (O.taken out.new) (escaped_line front.now text.now) }
+    ensures cause { HasCause (O.faults out.old) (O.faults out.new) result }
+{
+    write_all(out, front)?;
+    print_escaped(text, out)?;
+    write_all(out, b"\n")
+}
+
 fn print_refusal<O: Sink>(bad: &ConfigBad, out: &mut O) -> Result<(), Failed>
     ensures all { OnOk result (Appends (O.taken out.old) (O.taken out.new) (refusal_line bad.now)) }
     ensures front { AppendsFront (O.taken out.old) (O.taken out.new) (refusal_line bad.now) }
     ensures cause { HasCause (O.faults out.old) (O.faults out.new) result }
 {
-    write_all(out, front_of(number_of(bad)).as_slice())?;
-    print_escaped(key_of(bad), out)?;
-    write_all(out, b"\n")
+    print_line(front_of(number_of(bad)).as_slice(), key_of(bad), out)
 }
 
 /// Writes the status line of a refusal.
@@ -72,4 +80,11 @@ pub(crate) fn report_refusal<O: Sink>(bad: &ConfigBad, output: &mut O)
     ensures { Wrote (refusal_line bad.now) (O.taken output.old) (O.taken output.new) (O.faults output.old) (O.faults output.new) }
 {
     let _ = print_refusal(bad, output);
+}
+
+/// Writes the status line of a channel that is not configured.
+pub(crate) fn report_channel<O: Sink>(name: &[u8], output: &mut O)
+    ensures { Wrote (channel_line name.now) (O.taken output.old) (O.taken output.new) (O.faults output.old) (O.faults output.new) }
+{
+    let _ = print_line(b"status 11 channel ", name, output);
 }

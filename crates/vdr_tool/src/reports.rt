@@ -1,6 +1,6 @@
 ghost use Rattle.std.specs.Prelude.{◌≡◌, ◌≤◌, ◌+◌, ◌++◌, length};
 ghost use Rattle.arrayvec.specs.ArrayVec.{array_vec_len};
-ghost use Rattle.vdr_tool.specs.StatusLine.{medium_name, small_line, status_line, Wrote};
+ghost use Rattle.vdr_tool.specs.StatusLine.{damaged_line, feed_line, incident_line, medium_name, small_line, status_line, Wrote};
 
 use crate::Status;
 use arrayvec::ArrayVec;
@@ -9,11 +9,11 @@ use vdr_config::TooSmall;
 use vdr_outside::{Sink, write_all};
 
 /// Room for the longest text that is written in one piece.
-pub(crate) const ROOM: usize = 160;
+pub(crate) const ROOM: usize = 200;
 
 /// Appends a text, for which there is room.
 pub(crate) fn push_text(line: &mut ArrayVec<u8, ROOM>, text: &[u8])
-    requires { array_vec_len line.old + length text.now ≤ 160 }
+    requires { array_vec_len line.old + length text.now ≤ 200 }
     ensures { line.new.items ≡ line.old.items ++ text.now }
 {
     for byte in text {
@@ -41,6 +41,40 @@ fn push_small(line: &mut ArrayVec<u8, ROOM>, small: TooSmall)
     push_text(line, b"\n");
 }
 
+// Which part of a medium is not legal.
+fn push_damaged(line: &mut ArrayVec<u8, ROOM>, medium: u8, offset: u64)
+    requires { array_vec_len line.old ≡ 0 }
+    ensures { line.new.items ≡ line.old.items ++ damaged_line medium offset }
+{
+    push_text(line, b"status 4 damaged ");
+    push_text(line, Buffer::new().format(medium).as_bytes());
+    push_text(line, b" ");
+    push_text(line, Buffer::new().format(offset).as_bytes());
+    push_text(line, b"\n");
+}
+
+// Which item of a feed is refused.
+fn push_feed(line: &mut ArrayVec<u8, ROOM>, number: u8, offset: u64)
+    requires { array_vec_len line.old ≡ 0 }
+    ensures { line.new.items ≡ line.old.items ++ feed_line number offset }
+{
+    push_text(line, b"status 10 feed ");
+    push_text(line, Buffer::new().format(number).as_bytes());
+    push_text(line, b" at ");
+    push_text(line, Buffer::new().format(offset).as_bytes());
+    push_text(line, b"\n");
+}
+
+// Which incident is not saved.
+fn push_incident(line: &mut ArrayVec<u8, ROOM>, id: u32)
+    requires { array_vec_len line.old ≡ 0 }
+    ensures { line.new.items ≡ line.old.items ++ incident_line id }
+{
+    push_text(line, b"status 11 incident ");
+    push_text(line, Buffer::new().format(id).as_bytes());
+    push_text(line, b"\n");
+}
+
 fn line_of(status: Status) -> ArrayVec<u8, ROOM>
     ensures { result.items ≡ status_line status }
 {
@@ -49,19 +83,19 @@ fn line_of(status: Status) -> ArrayVec<u8, ROOM>
         Status::Done => {}
         Status::OutputFault => {}
         Status::Config { .. } => {}
+        Status::NoChannel => {}
         Status::Words => push_text(&mut line, b"status 2 words\n"),
         Status::Small(small) => push_small(&mut line, small),
+        Status::Unformatted => push_text(&mut line, b"status 4 unformatted\n"),
         Status::Formatted => push_text(&mut line, b"status 4 formatted\n"),
+        Status::Damaged { medium, offset } => push_damaged(&mut line, medium, offset),
         Status::MediaFault => push_text(&mut line, b"status 5 media\n"),
         Status::InputFault => push_text(&mut line, b"status 7 input\n"),
         Status::NoMemory => push_text(&mut line, b"status 9 memory\n"),
-        Status::Feed { number, offset } => {
-            push_text(&mut line, b"status 10 feed ");
-            push_text(&mut line, Buffer::new().format(number).as_bytes());
-            push_text(&mut line, b" at ");
-            push_text(&mut line, Buffer::new().format(offset).as_bytes());
-            push_text(&mut line, b"\n");
-        }
+        Status::Feed { number, offset } => push_feed(&mut line, number, offset),
+        Status::NoIncident(id) => push_incident(&mut line, id),
+        Status::Place => push_text(&mut line, b"status 13 place\n"),
+        Status::Tick => push_text(&mut line, b"status 13 tick\n"),
     }
     line
 }

@@ -15,8 +15,12 @@ pub enum Status {
     Config { number: u8 },
     /// This medium has fewer slots than the configuration needs.
     Small(TooSmall),
+    /// The media are not formatted.
+    Unformatted,
     /// The media are formatted already.
     Formatted,
+    /// A part of this medium is not legal, which begins at this offset in bytes: 0 is the capsule, 1 the long-term medium.
+    Damaged { medium: u8, offset: u64 },
     /// The media failed.
     MediaFault,
     /// The input failed.
@@ -27,6 +31,14 @@ pub enum Status {
     NoMemory,
     /// The feed is refused by this number, at the item that begins at this offset.
     Feed { number: u8, offset: u64 },
+    /// No such channel is configured. Its name stands in the status line.
+    NoChannel,
+    /// No incident is saved under this id.
+    NoIncident(u32),
+    /// The next place is 2^62 or more.
+    Place,
+    /// A run would begin at a tick of 2^62 milliseconds or more.
+    Tick,
 }
 
 impl Status {
@@ -40,12 +52,14 @@ impl Status {
             Status::Done => 0,
             Status::Words => 2,
             Status::Config { .. } | Status::Small(_) => 3,
-            Status::Formatted => 4,
+            Status::Unformatted | Status::Formatted | Status::Damaged { .. } => 4,
             Status::MediaFault => 5,
             Status::InputFault => 7,
             Status::OutputFault => 8,
             Status::NoMemory => 9,
             Status::Feed { .. } => 10,
+            Status::NoChannel | Status::NoIncident(_) => 11,
+            Status::Place | Status::Tick => 13,
         }
     }
 }

@@ -1,22 +1,39 @@
 // The words that ask for a command.
-ghost use Rattle.std.specs.Prelude.{◌≡◌, ◌≤◌, ◌∷◌, [], ℕ, Some, IfSome, decimal};
+ghost use Rattle.std.specs.Prelude.{◌≡◌, ◌≤◌, ◌∷◌, [], ℕ, Some, IfSome, decimal, option_map};
 ghost use Rattle.vdr_terms.specs.declared.rate.Rate.{Rate as RateTold};
 ghost use Rattle.vdr_config.specs.Configuration.{IsRate};
+ghost use Rattle.vdr_tool.specs.Commands.{Asked, plain};
 ghost use Rattle.vdr_tool.specs.Words.{Asks, Spells};
-ghost use Rattle.vdr_tool.specs.declared.words.Command.{Command as Asked};
 
 use itoa::Buffer;
 use vdr_config::Rate;
+use vdr_control::{Order, law_of_plays, read_play};
+use vdr_entry::Medium;
 
 /// What the words ask for.
 #[derive(Clone, Copy, Drop)]
-pub(crate) enum Command {
+pub(crate) enum Command<'a> {
     /// A review, in which each group has this rate if there is one.
-    Review { rate: Option<Rate> },
+    Review {
+        rate: Option<Rate>,
+    },
     /// What a configuration needs.
     Check,
     /// The media are formatted, also where they are formatted already if it is to be done again.
-    Format { again: bool },
+    Format {
+        again: bool,
+    },
+    /// A feed is recorded on the media.
+    Replay,
+    /// What was recorded is played: the records of a channel, or of all where it is `all`, whose UTC stamps are from `from` to
+    /// `to`, both included, in milliseconds since 1970.
+    Play {
+        /// An incident's id is 1 to 32.
+        medium: Medium,
+        channel: &'a [u8],
+        from: i64,
+        to: i64,
+    },
 }
 
 // A number within these limits, in decimal digits without a sign and without a leading zero.
@@ -46,9 +63,9 @@ fn rate_of(datagrams: &str, bytes: &str) -> Option<Rate>
     Some(Rate { datagrams, bytes })
 }
 
-fn one_word(word: &str) -> Option<Command>
-    ensures found { (command : Asked) → Spells (word.now ∷ []) command → result ≡ Some command }
-    ensures only { IfSome result (λ command. Spells (word.now ∷ []) command) }
+fn one_word(word: &str) -> Option<Command<'static>>
+    ensures found { (command : Asked) → Spells (word.now ∷ []) command → option_map plain result ≡ Some command }
+    ensures only { IfSome result (λ command. Spells (word.now ∷ []) (plain command)) }
 {
     if word == "review" {
         return Some(Command::Review { rate: None });
@@ -60,15 +77,18 @@ fn one_word(word: &str) -> Option<Command>
         return Some(Command::Format { again: false });
     }
     if word == "reformat" {
-        Some(Command::Format { again: true })
+        return Some(Command::Format { again: true });
+    }
+    if word == "replay" {
+        Some(Command::Replay)
     } else {
         None
     }
 }
 
-fn three_words(word: &str, datagrams: &str, bytes: &str) -> Option<Command>
-    ensures found { (command : Asked) → Spells (word.now ∷ datagrams.now ∷ bytes.now ∷ []) command → result ≡ Some command }
-    ensures only { IfSome result (λ command. Spells (word.now ∷ datagrams.now ∷ bytes.now ∷ []) command) }
+fn three_words(word: &str, datagrams: &str, bytes: &str) -> Option<Command<'static>>
+    ensures found { (command : Asked) → Spells (word.now ∷ datagrams.now ∷ bytes.now ∷ []) command → option_map plain result ≡ Some command }
+    ensures only { IfSome result (λ command. Spells (word.now ∷ datagrams.now ∷ bytes.now ∷ []) (plain command)) }
 {
     if word != "review" {
         return None;
@@ -77,16 +97,59 @@ fn three_words(word: &str, datagrams: &str, bytes: &str) -> Option<Command>
     Some(Command::Review { rate: Some(rate) })
 }
 
+fn five_words<'a>(
+    word: &str,
+    medium: &str,
+    channel: &'a str,
+    from: &str,
+    to: &str,
+) -> Option<Command<'a>>
+    ensures found { (command : Asked) → Spells (word.now ∷ medium.now ∷ channel.now ∷ from.now ∷ to.now ∷ []) command → option_map plain result ≡ Some command }
+    ensures only { IfSome result (λ command. Spells (word.now ∷ medium.now ∷ channel.now ∷ from.now ∷ to.now ∷ []) (plain command)) }
+{
+    if word != "play" {
+        return None;
+    }
+    law_of_plays();
+    let order = read_play(
+        medium.as_bytes(),
+        channel.as_bytes(),
+        from.as_bytes(),
+        to.as_bytes(),
+    )?;
+    match order {
+        Order::Play {
+            medium,
+            channel,
+            from,
+            to,
+        } => Some(Command::Play {
+            medium,
+            channel,
+            from,
+            to,
+        }),
+        _ => None,
+    }
+}
+
 /// The command that these words ask for, None where they ask for none.
-pub(crate) fn command_of(words: &[String]) -> Option<Command>
-    ensures found { (command : Asked) → Asks words.now command → result ≡ Some command }
-    ensures only { IfSome result (λ command. Asks words.now command) }
+pub(crate) fn command_of(words: &[String]) -> Option<Command<'_>>
+    ensures found { (command : Asked) → Asks words.now command → option_map plain result ≡ Some command }
+    ensures only { IfSome result (λ command. Asks words.now (plain command)) }
 {
     match words {
         [word] => one_word(word.as_str()),
         [word, datagrams, bytes] => {
             three_words(word.as_str(), datagrams.as_str(), bytes.as_str())
         }
+        [word, medium, channel, from, to] => five_words(
+            word.as_str(),
+            medium.as_str(),
+            channel.as_str(),
+            from.as_str(),
+            to.as_str(),
+        ),
         _ => None,
     }
 }

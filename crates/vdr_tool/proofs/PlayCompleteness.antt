@@ -1,0 +1,115 @@
+-- By exclusion: what may be played is, and what may not is refused by its own refusal.
+use Rattle.std.proofs.Common.{◌≡◌, inl, inr, ⊎_elim, ℕ, List, Option, None, refl, sym, subst, ◌∙◌}
+use Rattle.vdr_history.specs.Histories.{live}
+use Rattle.vdr_history.specs.Histories as histories
+use Rattle.vdr_durability.specs.Readings.{EndsMeet}
+use Rattle.vdr_outside.specs.Disk.{Disk, Image}
+use Rattle.vdr_config.specs.Configuration.{Configuration}
+use Rattle.vdr_entry.specs.declared.query.Medium.{Medium}
+use Rattle.vdr_entry.specs.declared.query.Medium.TheVariants.{Incident}
+use Rattle.vdr_media.specs.Formatted.{IsUnformatted}
+use Rattle.vdr_opening.specs.Media.{both, Contents, HoldsContents, reading_of}
+use Rattle.vdr_opening.specs.Refusals.{IsRefused}
+use Rattle.vdr_tool.specs.Plays.{IsPlayStatus, LacksChannel, LacksIncident, PlayEnds, PlaysAll}
+use Rattle.vdr_tool.specs.declared.status.Status.{Status}
+use Rattle.vdr_tool.specs.declared.status.Status.TheVariants.{Done, Words, Config, Small, Unformatted, Formatted, Damaged, MediaFault, InputFault, OutputFault, NoMemory, Feed, NoChannel, NoIncident, Place, Tick}
+use Rattle.vdr_tool.proofs.FormatLemmas.{not_both}
+
+-- What media hold, and how they are refused, has one answer.
+pub record OneAnswer (image : Image) : Type 0 where
+  pub config : (x y : Contents) → HoldsContents image x → HoldsContents image y → x.config ≡ y.config
+  pub table : (x y : Contents) → HoldsContents image x → HoldsContents image y → x.table ≡ y.table
+  pub formatted : (x : Contents) → HoldsContents image x → IsUnformatted image → ⊥
+  pub either : (x : Contents) (m offset : ℕ) → HoldsContents image x → EndsMeet both (reading_of x) → IsRefused image m offset → ⊥
+  pub one : (m offset k other : ℕ) → IsRefused image m offset → IsRefused image k other → (m ≡ k) × (offset ≡ other)
+
+pub damaged_alike : (m offset k other : ℕ) → (m ≡ k) × (offset ≡ other) → Damaged m offset ≡ Damaged k other
+damaged_alike m offset k other same = λ i. Damaged (same.0 i) (same.1 i)
+
+not_live : (table : List (Option histories.Incident)) (medium : Medium) (id : ℕ) → medium ≡ Incident id → live table id ≡ None → LacksIncident table medium
+not_live table medium id is none = subst (LacksIncident table) (sym is) none
+
+one_id : (medium : Medium) (a b : ℕ) → medium ≡ Incident a → medium ≡ Incident b → NoIncident a ≡ NoIncident b
+one_id medium a b first second = let same : Incident a ≡ Incident b = sym first ∙ second in cc
+
+module _ {tells tells_images : Type 0} (medium : Medium) (name : List ℕ) (old new : Disk tells tells_images) (before now : List ℕ) (told : tells) (law : OneAnswer old.reads) where
+  lacks_too : (x y : Contents) → HoldsContents old.reads x → HoldsContents old.reads y → LacksChannel x.config name → LacksChannel y.config name
+  lacks_too x y hx hy lacks = subst (λ (c : Configuration). LacksChannel c name) (law.config x y hx hy) lacks
+
+  misses_too : (x y : Contents) → HoldsContents old.reads x → HoldsContents old.reads y → LacksIncident x.table medium → LacksIncident y.table medium
+  misses_too x y hx hy lacks = subst (λ (table : List (Option histories.Incident)). LacksIncident table medium) (law.table x y hx hy) lacks
+
+  pub plays_all : (status : Status) → (status ≡ OutputFault → ⊥) → (status ≡ MediaFault → ⊥) → IsPlayStatus status → PlayEnds medium name old new before now status
+      → PlaysAll medium name old.reads status
+  plays_all Done output media own ends =
+      let p = ends.legible tt told in
+      record {
+        unformatted = λ un. absurd (not_both old.reads p.0 un);
+        damaged = λ f m offset r. absurd (law.either p.1 m offset p.2 p.3 r);
+        channel = λ x holds meet lacks. absurd (p.4.channel (lacks_too x p.1 holds p.2 lacks));
+        incident = λ x id holds meet there is none. absurd (p.4.incident (misses_too x p.1 holds p.2 (not_live x.table medium id is none)));
+        done = λ x holds meet regular can. tt;
+      }
+  plays_all Unformatted output media own ends =
+      let un = (ends.unformatted refl).1 told in
+      record {
+        unformatted = λ un. inl refl;
+        damaged = λ f m offset r. absurd (not_both old.reads f un);
+        channel = λ x holds meet lacks. absurd (law.formatted x holds un);
+        incident = λ x id holds meet there is none. absurd (law.formatted x holds un);
+        done = λ x holds meet regular can. absurd (law.formatted x holds un);
+      }
+  plays_all (Damaged k at) output media own ends = ⊎_elim
+      (λ refused. let r = refused.1 told in
+      record {
+        unformatted = λ un. absurd (not_both old.reads r.0 un);
+        damaged = λ f m offset also. inl (damaged_alike k at m offset (law.one k at m offset r.1 also));
+        channel = λ x holds meet lacks. absurd (law.either x k at holds meet r.1);
+        incident = λ x id holds meet there is none. absurd (law.either x k at holds meet r.1);
+        done = λ x holds meet regular can. absurd (law.either x k at holds meet r.1);
+      })
+      (λ irregular. let h = irregular told in
+      let p = h.0 in
+      record {
+        unformatted = λ un. absurd (not_both old.reads p.0 un);
+        damaged = λ f m offset r. absurd (law.either p.1 m offset p.2 p.3 r);
+        channel = λ x holds meet lacks. absurd (p.4.channel (lacks_too x p.1 holds p.2 lacks));
+        incident = λ x id holds meet there is none. absurd (p.4.incident (misses_too x p.1 holds p.2 (not_live x.table medium id is none)));
+        done = λ x holds meet regular can. absurd (h.1 x holds regular);
+      })
+      ends.damaged
+  plays_all NoChannel output media own ends =
+      let h = ends.no_channel refl told in
+      record {
+        unformatted = λ un. absurd (not_both old.reads h.0 un);
+        damaged = λ f m offset r. absurd (law.either h.1 m offset h.2 h.3 r);
+        channel = λ x holds meet lacks. inl refl;
+        incident = λ x id holds meet there is none. absurd (there (lacks_too h.1 x h.2 holds h.4));
+        done = λ x holds meet regular can. absurd (can.channel (lacks_too h.1 x h.2 holds h.4));
+      }
+  plays_all (NoIncident id) output media own ends =
+      let h = ends.no_incident.1 told in
+      record {
+        unformatted = λ un. absurd (not_both old.reads h.0 un);
+        damaged = λ f m offset r. absurd (law.either h.1 m offset h.2 h.3 r);
+        channel = λ x holds meet lacks. absurd (h.4 (lacks_too x h.1 holds h.2 lacks));
+        incident = λ x other holds meet there is none. inl (one_id medium id other ends.no_incident.0 is);
+        done = λ x holds meet regular can. absurd (can.incident (misses_too h.1 x h.2 holds h.5));
+      }
+  plays_all NoMemory output media own ends = record {
+    unformatted = λ un. inr refl;
+    damaged = λ f m offset r. inr refl;
+    channel = λ x holds meet lacks. inr refl;
+    incident = λ x id holds meet there is none. inr refl;
+    done = λ x holds meet regular can. tt;
+  }
+  plays_all MediaFault output media own ends = absurd (media refl)
+  plays_all OutputFault output media own ends = absurd (output refl)
+  plays_all Words output media own ends = absurd own
+  plays_all (Config n) output media own ends = absurd own
+  plays_all (Small small) output media own ends = absurd own
+  plays_all Formatted output media own ends = absurd own
+  plays_all InputFault output media own ends = absurd own
+  plays_all (Feed n at) output media own ends = absurd own
+  plays_all Place output media own ends = absurd own
+  plays_all Tick output media own ends = absurd own

@@ -1,0 +1,67 @@
+-- Words that ask for a play.
+use Rattle.std.proofs.Common.{◌≡◌, ◌∷◌, ℕ, ℤ, List, [], Option, Some, None, true, false, codes, refl, sym, ap, subst, ◌∙◌}
+use Rattle.std.specs.Prelude.{option_map}
+use Rattle.vdr_entry.specs.declared.query.Medium.{Medium}
+use Rattle.vdr_control.specs.Orders.{PlainOrder}
+use Rattle.vdr_control.specs.Orders.PlainOrder.{Play as PlayOrder, Status as StatusOrder, Save as SaveOrder, Release as ReleaseOrder}
+use Rattle.vdr_control.specs.Plays.{SpellsPlay}
+use Rattle.vdr_tool.specs.Commands.{Asked, plain}
+use Rattle.vdr_tool.specs.Commands.Asked.{Review, Check, Format, Replay, Play}
+use Rattle.vdr_tool.specs.Words.{Spells}
+use Rattle.vdr_tool.specs.declared.words.Command.{Command}
+
+-- The same words spell the same.
+pub spelled_along : (medium m channel c from f to t : List ℕ) (order : PlainOrder) → medium ≡ m → channel ≡ c → from ≡ f → to ≡ t → SpellsPlay medium channel from to order → SpellsPlay m c f t order
+spelled_along medium m channel c from f to t order p q r s h =
+    subst (λ (w : List ℕ). SpellsPlay m c f w order) s (subst (λ (w : List ℕ). SpellsPlay m c w to order) r
+    (subst (λ (w : List ℕ). SpellsPlay m w from to order) q (subst (λ (w : List ℕ). SpellsPlay w channel from to order) p h)))
+
+-- Five words are those of a play.
+pub record FiveWords (word medium channel from to : List ℕ) (command : Asked) : Type 0 where
+  pub asked : Medium
+  pub name : List ℕ
+  pub since : ℤ
+  pub until : ℤ
+  pub is : command ≡ Play asked name since until
+  pub spelled : SpellsPlay medium channel from to (PlayOrder asked name since until)
+
+pub five_words : (word medium channel from to : List ℕ) (command : Asked) → Spells (word ∷ medium ∷ channel ∷ from ∷ to ∷ []) command → FiveWords word medium channel from to command
+five_words word medium channel from to (Review None) s = let e = s.words in let none : ⊥ = cc in absurd none
+five_words word medium channel from to (Review (Some rate)) s = let e = s.words in let none : ⊥ = cc in absurd none
+five_words word medium channel from to Check s = let e = s.words in let none : ⊥ = cc in absurd none
+five_words word medium channel from to (Format true) s = let e = s.words in let none : ⊥ = cc in absurd none
+five_words word medium channel from to (Format false) s = let e = s.words in let none : ⊥ = cc in absurd none
+five_words word medium channel from to Replay s = let e = s.words in let none : ⊥ = cc in absurd none
+five_words word medium channel from to (Play asked name since until) s =
+    let p = s.words in
+    let e : word ∷ medium ∷ channel ∷ from ∷ to ∷ [] ≡ codes "play" ∷ p.medium ∷ p.channel ∷ p.from ∷ p.to ∷ [] = p.words in
+    let a : p.medium ≡ medium = cc in
+    let b : p.channel ≡ channel = cc in
+    let c : p.from ≡ from = cc in
+    let d : p.to ≡ to = cc in
+    record {
+      asked = asked;
+      name = name;
+      since = since;
+      until = until;
+      is = refl;
+      spelled = spelled_along p.medium medium p.channel channel p.from from p.to to (PlayOrder asked name since until) a b c d p.spelled;
+    }
+
+as_command : PlainOrder → Asked
+as_command StatusOrder = Check
+as_command (SaveOrder label) = Check
+as_command (ReleaseOrder id) = Check
+as_command (PlayOrder medium channel from to) = Play medium channel from to
+
+-- One order is one command.
+pub one_command : (medium other : Medium) (channel name : List ℕ) (from since to until : ℤ) → PlayOrder medium channel from to ≡ PlayOrder other name since until
+    → Play medium channel from to ≡ Play other name since until
+unfolding as_command
+one_command medium other channel name from since to until same = ap as_command same
+
+-- No command is asked for.
+pub none_asked : {P : Type 0} (r : Option Command) (command : Asked) → r ≡ None → option_map plain r ≡ Some command → P
+none_asked r command none is =
+    let clash : None ≡ Some command = ap (λ (o : Option Command). option_map plain o) (sym none) ∙ is in
+    let no : ⊥ = cc in absurd no
