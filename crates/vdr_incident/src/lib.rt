@@ -13,5 +13,5 @@ mod writing;
 
 pub use law::{law_of_beside, law_of_tables};
 pub use refused::{ReleaseRefused, TableRefused};
-pub use save::Save;
+pub use save::{Save, is_label};
 pub use table::Table;

@@ -1,7 +1,7 @@
 ghost use Rattle.std.specs.Prelude.{◌≡◌, ◌≤◌, ◌↔◌, ◌&&◌, nat_le, Option, length, drop, IsTrue, IfSome, IfNone};
 ghost use Rattle.std.specs.List.{list_all};
 ghost use Rattle.vdr_history.specs.Histories.{Incident};
-ghost use Rattle.vdr_incident.specs.Saves.{is_label, IsIncidentSlot, SpellsSave};
+ghost use Rattle.vdr_incident.specs.Saves.{is_label, IsIncidentSlot, IsSave, SpellsSave};
 ghost use Rattle.vdr_incident.specs.Fields.{AreInRange, HasLabel, label_in};
 
 use arrayvec::ArrayVec;
@@ -60,6 +60,24 @@ fn kept(label: &[u8]) -> ArrayVec<u8, 64>
 }
 
 impl Save {
+    /// A save of the records from `a` to `b`, under a stamp. None exactly where the label, the order of the places or the stamp is
+    /// not legal.
+    pub fn new(label: &[u8], a: u64, b: u64, tick: u64, utc: i64) -> Option<Save>
+        ensures made { IfSome result (λ save. save ≡ record { label = label.now; a = a; b = b; stamp = record { tick = tick; utc = utc } }) }
+        ensures none { IfNone result (IsSave (record { label = label.now; a = a; b = b; stamp = record { tick = tick; utc = utc } }) → ⊥) }
+    {
+        if !is_label(label) || utc < 0 || !are_in_range(a, b, tick, utc.unsigned_abs()) {
+            return None;
+        }
+        Some(Save {
+            label: kept(label),
+            a,
+            b,
+            tick,
+            utc,
+        })
+    }
+
     /// The same save once more. Takes no memory.
     pub(crate) fn copy(&self) -> Save
         ensures { result ≡ self.now }
@@ -97,7 +115,8 @@ fn are_printable(label: &[u8]) -> bool
     label.iter().all(|byte| *byte >= 0x20 && *byte <= 0x7E)
 }
 
-fn is_label(label: &[u8]) -> bool
+/// Whether a label is legal: 1 to 64 bytes of 0x20 to 0x7E.
+pub fn is_label(label: &[u8]) -> bool
     ensures { result ≡ is_label label.now }
 {
     label.len() >= 1 && label.len() <= LABEL_MAX && are_printable(label)

@@ -1,4 +1,4 @@
-ghost use Rattle.std.specs.Prelude.{◌≡◌, ◌≤◌, ◌<◌, ◌↔◌, ◌+◌, ℕ, suc, Option, Some, None, is_none, position, set, length, option_map, option_copied, Err, Ok, OnOk, IfOk, OnErr, IfSome, IsSome, count_by, is_some};
+ghost use Rattle.std.specs.Prelude.{◌≡◌, ◌≤◌, ◌<◌, ◌↔◌, ◌+◌, ℕ, suc, Option, Some, None, is_none, position, set, length, option_map, option_copied, Err, Ok, OnOk, IfOk, OnErr, IfSome, IsSome, IsTrue, count_by, is_some};
 ghost use Rattle.vdr_history.specs.Histories.{Incident, live, with_slot};
 ghost use Rattle.vdr_outside.specs.Disk.{Unchanged, Rises, SameBut, content};
 ghost use Rattle.vdr_outside.specs.Moments.{ChangesOnly, Settled};
@@ -67,6 +67,13 @@ impl Table {
             Some(slot) => Some(slot as u8),
             None => None,
         }
+    }
+
+    /// Whether no slot is free.
+    pub fn is_full(&self) -> bool
+        ensures { IsTrue result ↔ (position is_none self.now ≡ None) }
+    {
+        self.free_slot().is_none()
     }
 
     fn put(&mut self, slot: u8, saved: Option<Save>)

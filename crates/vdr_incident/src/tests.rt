@@ -1,7 +1,7 @@
 ghost use Rattle.std.specs.Prelude.{◌≤◌};
 ghost use Rattle.vdr_incident.specs.Tables.{HasIncidents};
 
-use crate::{ReleaseRefused, Save, Table, TableRefused, law_of_beside, law_of_tables};
+use crate::{ReleaseRefused, Save, Table, TableRefused, is_label, law_of_beside, law_of_tables};
 use arrayvec::ArrayVec;
 use std::alloc::{AllocError, Global};
 use std::process::Abort;
@@ -78,6 +78,7 @@ fn a_save_takes_the_free_slot_of_least_index(rt: HostRuntime) -> Result<(), Fail
     for (b, id) in [(50, 1), (60, 2)] {
         expect_room(&rt, &media);
         assert!(rt; table.save(&mut media, &save_of(b'A', b)) == Ok(id));
+        assert_eq!(rt; table.is_full(), id == 2);
     }
     expect_room(&rt, &media);
     assert!(rt; table.save(&mut media, &save_of(b'B', 70)) == Err(TableRefused::TableFull));
@@ -98,6 +99,30 @@ fn a_save_takes_the_free_slot_of_least_index(rt: HostRuntime) -> Result<(), Fail
     );
     law_of_tables();
     law_of_beside();
+    Ok(())
+}
+
+// A label's length, its first place, a tick and a stamp, and whether a save from that place to place 50 is made.
+const PARTS: [(usize, u64, u64, i64, bool); 8] = [
+    (64, 40, 9, 7, true),
+    (1, 50, 0, 0, true),
+    (0, 40, 9, 7, false),
+    (65, 40, 9, 7, false),
+    (64, 51, 9, 7, false),
+    (64, 40, 1 << 63, 7, false),
+    (64, 40, 9, -1, false),
+    (64, 40, 9, 253_402_300_800_000, false),
+];
+
+#[test]
+fn a_save_is_made_of_legal_parts_alone(rt: HostRuntime) -> Result<(), Fail> {
+    let text = [b'x'; 65];
+    for &(size, a, tick, utc, made) in &PARTS {
+        assert!(rt; size <= 65);
+        let label = &text[..size];
+        assert_eq!(rt; is_label(label), size == 1 || size == 64);
+        assert_eq!(rt; Save::new(label, a, 50, tick, utc).is_some(), made);
+    }
     Ok(())
 }
 

@@ -26,14 +26,14 @@ none_recorded ((r ∷ rs) ∷ bs) e = absurd (differs _ e)
     differs x e = cc
 
 -- the last record, and what the extent has of it
-record Newest (o : Option Record) (x : Extent) : Type 0 where
-  r : Record
-  is : o ≡ Some r
-  place : x.last_place ≡ r.place
-  tick : x.last_tick ≡ r.tick
-  utc : x.last_utc ≡ r.utc
+pub record Newest (o : Option Record) (x : Extent) : Type 0 where
+  pub r : Record
+  pub is : o ≡ Some r
+  pub place : x.last_place ≡ r.place
+  pub tick : x.last_tick ≡ r.tick
+  pub utc : x.last_utc ≡ r.utc
 
-newest_recorded : (a b c : Option Record) (x : Extent) → extent_between a b c ≡ Some x → Newest b x
+pub newest_recorded : (a b c : Option Record) (x : Extent) → extent_between a b c ≡ Some x → Newest b x
 newest_recorded None b c x e = cc
 newest_recorded (Some f) None c x e = cc
 newest_recorded (Some f) (Some r) None x e = cc

@@ -34,3 +34,4 @@ pub mod Opened
 pub mod Shaping
 pub mod OneAnswer
 pub mod LastBatch
+pub mod Since

@@ -1,6 +1,9 @@
 -- What a ring is asked of its segments.
-use Rattle.std.specs.Prelude.{◌<◌, ◌≤◌, ℕ, List, Any, Contains, Option, Some, None, ⊤}
-use Rattle.vdr_ring.specs.Sequence.{Placed, seq_of}
+use Rattle.std.specs.Prelude.{◌≡◌, ◌<◌, ◌≤◌, ℕ, Bool, false, nat_le, List, ◌∷◌, ◌++◌, All, Any, Contains, Option, Some, None, ⊤}
+use Rattle.vdr_terms.specs.Records.{Record, second}
+use Rattle.vdr_survey.specs.declared.extent.Extent.{Extent}
+use Rattle.vdr_ring.specs.declared.entry.Entry.{Entry}
+use Rattle.vdr_ring.specs.Sequence.{Placed, all_records, records_of, seq_of}
 use Rattle.vdr_ring.specs.Order.{HasPlace}
 
 -- Where no number is given, each is above.
@@ -17,3 +20,23 @@ pub record IsNext (after : Option ℕ) (placed : List Placed) (p : Placed) : Typ
 -- All places from a to b stand in these segments.
 abbrev pub HoldAll : (a b : ℕ) → List Placed → Type 0
 HoldAll a b placed = (place : ℕ) → a ≤ place → place ≤ b → Any (HasPlace place) placed
+
+-- Each of these records is of an earlier second.
+abbrev pub AreEarlier : ℕ → List Record → Type 0
+AreEarlier s records = All (λ r. second r.tick < s) records
+
+-- The first segment with a record of this second or a later one.
+pub record IsFirstSince (s : ℕ) (placed : List Placed) (p : Placed) : Type 0 where
+  pub before : List Placed
+  pub later : List Placed
+  pub split : placed ≡ before ++ p ∷ later
+  pub earlier : AreEarlier s (all_records before)
+  pub reaches : Any (λ r. s ≤ second r.tick) (records_of p)
+
+-- The last record of a segment is of this second or a later one, by what is known of the segment.
+abbrev pub ends_since : ℕ → Option Extent → Bool
+ends_since s None = false
+ends_since s (Some x) = nat_le s (second x.last_tick)
+
+abbrev pub reaches : ℕ → Entry → Bool
+reaches s e = ends_since s e.survey.extent

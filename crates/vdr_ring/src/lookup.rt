@@ -1,10 +1,10 @@
-ghost use Rattle.std.specs.Prelude.{◌≡◌, ◌≤◌, ◌<◌, ◌↔◌, suc, List, length, IsTrue, IfSome, IfNone, Contains};
+ghost use Rattle.std.specs.Prelude.{◌≡◌, ◌≤◌, ◌<◌, ◌↔◌, suc, List, length, IsTrue, IfSome, IfNone, Contains, find, option_map};
 ghost use Rattle.std.specs.List.{AllWithin};
 ghost use Rattle.std.specs.List.Sorted.{IsNonDecreasingBy};
-ghost use Rattle.vdr_ring.specs.Sequence.{Placed, seq_of};
+ghost use Rattle.vdr_ring.specs.Sequence.{Placed, all_records, seq_of};
 ghost use Rattle.vdr_ring.specs.Order.{RunsOn, AreInOrder, HasPlace, next_place};
 ghost use Rattle.vdr_ring.specs.Entries.{Describes, Describe};
-ghost use Rattle.vdr_ring.specs.Lookup.{IsAbove, IsNext, HoldAll};
+ghost use Rattle.vdr_ring.specs.Lookup.{AreEarlier, IsAbove, IsFirstSince, IsNext, HoldAll, reaches};
 
 use crate::entry::Entry;
 
@@ -74,4 +74,31 @@ pub(crate) fn holds_all(entries: &[Entry], a: u64, b: u64) -> bool
         place = last + 1;
     }
     false
+}
+
+// Whether a segment has a record of this second of recording time or a later one.
+fn reaches(entry: &Entry, since: u64) -> bool
+    ensures { result ≡ reaches since entry.now }
+{
+    match entry.survey.extent {
+        Some(extent) => since <= extent.last_tick / 1000,
+        None => false,
+    }
+}
+
+fn first_that_reaches(entries: &[Entry], since: u64) -> Option<&Entry>
+    ensures found { option_map (λ e. e.now) result ≡ find (reaches since) entries.now }
+    ensures among { IfSome result (λ e. Contains entries.now e.now) }
+{
+    entries.iter().find(|entry| reaches(entry, since))
+}
+
+// The first segment with a record of this second or a later one.
+pub(crate) fn first_since(entries: &[Entry], since: u64) -> Option<&Entry>
+    ensures among { IfSome result (λ e. Contains entries.now e.now) }
+    ensures some { IfSome result (λ e. (placed : List Placed) → Describe placed entries.now → AreInOrder placed
+        → (p : Placed) × IsFirstSince since placed p × Describes p e.now) }
+    ensures none { IfNone result ((placed : List Placed) → Describe placed entries.now → AreInOrder placed → AreEarlier since (all_records placed)) }
+{
+    first_that_reaches(entries, since)
 }

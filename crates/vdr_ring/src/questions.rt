@@ -5,11 +5,11 @@ ghost use Rattle.vdr_survey.specs.Extents.{first_records};
 ghost use Rattle.vdr_ring.specs.Sequence.{Placed, seq_of, batches_in, all_records};
 ghost use Rattle.vdr_ring.specs.Order.{AreInOrder};
 ghost use Rattle.vdr_ring.specs.Rings.{Tells};
-ghost use Rattle.vdr_ring.specs.Lookup.{IsAbove, IsNext, HoldAll};
+ghost use Rattle.vdr_ring.specs.Lookup.{AreEarlier, IsAbove, IsFirstSince, IsNext, HoldAll};
 
 use crate::Ring;
 use crate::choice::last_extent;
-use crate::lookup::{holds_all, next_above};
+use crate::lookup::{first_since, holds_all, next_above};
 
 impl Ring {
     /// Of the last record the place, the tick in milliseconds, and the stamp in milliseconds since 1970. None exactly where
@@ -41,6 +41,18 @@ impl Ring {
             → (p : Placed) → Contains placed p → IsAbove after (seq_of p) → ⊥) }
     {
         let entry = next_above(self.table.opened(), after)?;
+        Some((entry.slot, entry.seq))
+    }
+
+    /// The open slot of the first segment with a record of this second of recording time or a later one, and the segment's
+    /// sequence number. None exactly where all records are of earlier seconds.
+    pub fn first_since(&self, second: u64) -> Option<(u32, u64)>
+        ensures within { IfSome result (λ found. found.0 < self.now.slots) }
+        ensures some { IfSome result (λ found. (placed : List Placed) → Tells self.now.slots placed self.now.table → AreInOrder placed
+            → (p : Placed) × IsFirstSince second placed p × (found.0 ≡ p.slot) × (found.1 ≡ seq_of p)) }
+        ensures none { IfNone result ((placed : List Placed) → Tells self.now.slots placed self.now.table → AreInOrder placed → AreEarlier second (all_records placed)) }
+    {
+        let entry = first_since(self.table.opened(), second)?;
         Some((entry.slot, entry.seq))
     }
 

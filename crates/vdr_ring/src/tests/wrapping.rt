@@ -99,6 +99,15 @@ fn the_last_minute_is_held_after_each_of_600_batches(rt: HostRuntime) -> Result<
         (ring.next_slot(None), ring.next_slot(Some(10))),
         (Some((1, 1)), Some((0, 11)))
     );
+    // The last batch of segment 1 is of second 53, and that of the medium of second 299.
+    assert_eq!(rt;
+        (
+            ring.first_since(53),
+            ring.first_since(54),
+            ring.first_since(300)
+        ),
+        (Some((1, 1)), Some((2, 2)), None)
+    );
     assert!(rt; ring.holds(54, 599) && !ring.holds(53, 599));
     Ok(())
 }
