@@ -39,6 +39,17 @@ Commands:
             or `incident-ID` with the ID, 1 to 32, of a saved incident. CHANNEL is the
             name of a configured channel, or `all`. FROM and TO are stamps such as
             2024-01-01T00:00:00.000Z, both included, or `-` for no bound.
+  save LABEL
+            Saves an incident: keeps the records of the long-term medium, from the first one
+            of the last `incident_seconds` of recording time to the last one, until the
+            incident is released. LABEL has 1 to 64 bytes of 0x20 to 0x7E. Prints the ID of
+            the incident, the least that is free.
+  incidents Prints the saved incidents, by their IDs, each as a line
+            `ID TICK UTC A B LABEL`: recording time in milliseconds and stamp of its last
+            record, the places of its first and of its last record, and its label.
+  release ID
+            Releases the incident with this ID, 1 to 32. What it kept goes as other records
+            do, and its ID is free.
 
 Examples:
   vdr . review < examples/harbour.feed
@@ -62,6 +73,16 @@ room for one of them, and the gap counts the two others. With the Start, the gap
 Stop these are 94 records, which `play longterm all - -` prints; `play capsule all - -`
 prints the last minute, from place 31 on. A second `replay` is a run of its own, which goes
 on at place 94 and in the next second of recording time, whatever the stamps say.
+
+After an incident on that voyage:
+  vdr voyage save grounding
+      1
+  vdr voyage incidents
+      1 89000 2024-05-14T06:31:29.000Z 63 93 grounding
+  vdr voyage play incident-1 heading - -
+  vdr voyage release 1
+The save keeps what the last half minute has, places 63 to 93, whatever is recorded after it,
+until it is released.
 
 Exit status, with the line that ends the output:
   0   all was done
@@ -90,6 +111,10 @@ Exit status, with the line that ends the output:
       header
   11  `status 11 channel NAME`: no such channel is configured
   11  `status 11 incident ID`: no such incident is saved
+  12  `status 12 label`: the label is not 1 to 64 bytes of 0x20 to 0x7E; nothing was saved
+  12  `status 12 nothing`: nothing is recorded, so that there is nothing to save
+  12  `status 12 full`: as many incidents are saved as the configuration has slots for; one
+      has to be released first
   13  `status 13 place`: the next place is 2^62 or more; nothing was recorded
   13  `status 13 tick`: a run would begin at a tick of 2^62 or more; nothing was recorded
 ";

@@ -1,6 +1,6 @@
 -- A commit of what a recorder makes is one event of its history.
-use Rattle.std.proofs.Common.{◌≡◌, ◌≢◌, ◌<◌, ◌≤◌, ◌==◌, ℕ, List, [], ◌∷◌, ◌++◌, length, All, Bool, true, false, Result, Ok, Err, OnOk, OnErr, ◌⊎◌, inl, inr, ⊎_elim, refl, sym, ap, ◌∙◌, subst, arith, append-nil, true≢false}
-use Rattle.std.proofs.lemmas.Bool.{cases_Bool, eqb-true}
+use Rattle.std.proofs.Common.{◌≡◌, ◌≢◌, ◌<◌, ◌≤◌, ◌==◌, ℕ, List, [], ◌∷◌, ◌++◌, length, All, Bool, true, false, Result, Ok, Err, OnOk, OnErr, inl, refl, sym, ◌∙◌, subst, arith, true≢false}
+use Rattle.std.proofs.lemmas.Bool.{eqb-true}
 use Rattle.std.proofs.lemmas.List.Elements.{All-weaker}
 use Rattle.vdr_terms.specs.Needs.{cost}
 use Rattle.vdr_terms.specs.Records.{Record}
@@ -8,14 +8,11 @@ use Rattle.vdr_history.specs.Histories.{Act, Event, Opening, next_place}
 use Rattle.vdr_history.specs.Histories.Act.{Commit, Look}
 use Rattle.vdr_history.specs.RunStates.{IsMadeIn, RunState, state_left}
 use Rattle.vdr_history.specs.Taken.{Captured}
-use Rattle.vdr_history.proofs.Growing.{history_grows}
 use Rattle.vdr_retention.specs.Regular.{IsPaced}
-use Rattle.vdr_durability.specs.Keeping.{Extends, IsWhole, ShowsEither, ShowsPrefix, moment_of}
-use Rattle.vdr_durability.proofs.Kept.{keeps_call}
-use Rattle.vdr_durability.proofs.Whole.{whole_has_not_failed}
-use Rattle.vdr_outside.specs.Disk.{Disk, Image}
+use Rattle.vdr_durability.specs.Keeping.{Extends, IsWhole, ShowsEither, moment_of}
+use Rattle.vdr_outside.specs.Disk.{Disk}
 use Rattle.vdr_outside.specs.declared.fault.Fault.{Fault}
-use Rattle.vdr_outside.proofs.Moments.{moments_none, moments_weaken}
+use Rattle.vdr_outside.proofs.Moments.{moments_none}
 use Rattle.vdr_config.specs.Configuration.{Configuration}
 use Rattle.vdr_config.specs.Sizes.{sizes_of}
 use Rattle.vdr_pace.specs.Commits.{IsDoneIn, closing_size}
@@ -26,9 +23,10 @@ use Rattle.vdr_ring.specs.Sequence.{Placed, segments_in}
 use Rattle.vdr_opening.specs.Media.{both}
 use Rattle.vdr_vault.specs.Calls.{Commits, MayCommit}
 use Rattle.vdr_vault.specs.Vaults.{MembersState, ShowsHistory, Stands}
-use Rattle.vdr_vault.proofs.ShownHistory.{stand_shows, stands_silent}
-use Rattle.vdr_recorder.specs.Recordings.{HasKept, IsStanding, KeepsEvent, TellsLeft, acts_of, start_of_opening}
-use Rattle.vdr_recorder.proofs.Continuing.{act_made, acts_with, commit_continues, continues_run, ends_by, fails_with, has_moment, left_whole, made_grows, told_at_rest, told_without, whole_with}
+use Rattle.vdr_vault.proofs.ShownHistory.{stands_silent}
+use Rattle.vdr_recorder.specs.Recordings.{HasKept, IsStanding, KeepsEvent, acts_of, start_of_opening}
+use Rattle.vdr_recorder.proofs.Continuing.{act_made, acts_with, commit_continues, continues_run, left_whole}
+use Rattle.vdr_recorder.proofs.Growing.{event_kept, whole_events}
 
 -- A commit is no look.
 is_no_look : (records : List Record) (taken : List Captured) → Commit records taken ≢ Look
@@ -52,33 +50,21 @@ pub some_of : (rs : List Record) (b : Bool) → b ≡ (length rs == 0) → b ≡
 some_of [] b e f = absurd (true≢false (sym e ∙ f))
 some_of (r ∷ rs) b e f = omega arith
 
--- An image that shows the events, or the events with one more, shows the first of these.
-shown_prefix : (shows : List Event → Image → Type 0) (events : List Event) (e : Event) (possible : Image → Type 0) (image : Image) → ShowsEither shows events e possible image
-    → possible image ⊎ ShowsPrefix shows (events ++ e ∷ []) 0 image
-shown_prefix shows events e possible image h =
-    ⊎_elim
-    (λ (now : possible image). inl now)
-    (λ (k : shows events image ⊎ shows (events ++ e ∷ []) image). inr (⊎_elim
-    (λ (before : shows events image). record { first = events; rest = e ∷ []; split = refl; enough = omega arith; shown = before })
-    (λ (after : shows (events ++ e ∷ []) image). record { first = events ++ e ∷ []; rest = []; split = sym (append-nil (events ++ e ∷ [])); enough = omega arith; shown = after })
-    k))
-    h
-
 module _ {tells tells_images : Type 0} (opening : Opening) (events : List Event) (t0 : ℕ) (members : MembersState) (old : Disk tells tells_images) (h : HasKept opening events t0 members old) (works : members.failed ≡ false) where
-  pub whole_events : IsWhole events
-  whole_events = (whole_has_not_failed events).1 (sym h.failed ∙ works)
+  whole : IsWhole events
+  whole = whole_events opening events t0 members old h works
 
   module _ (records : List Record) (taken : List Captured) (done : IsDoneIn opening.settings.limits members.config.batch (state_left opening events) (Commit records taken)) where
     done_after : IsDoneIn opening.settings.limits members.config.batch (state_after (start_of_opening opening) (acts_of events)) (Commit records taken)
-    done_after = subst (λ (s : RunState). IsDoneIn opening.settings.limits members.config.batch s (Commit records taken)) (left_whole opening events whole_events) done
+    done_after = subst (λ (s : RunState). IsDoneIn opening.settings.limits members.config.batch s (Commit records taken)) (left_whole opening events whole) done
 
     made_now : IsMadeIn (state_left opening events) (Commit records taken)
-    made_now = act_made opening events whole_events h.made opening.settings.limits members.config.batch (Commit records taken) done
+    made_now = act_made opening events whole h.made opening.settings.limits members.config.batch (Commit records taken) done
 
     -- The batch may come next.
     pub may_commit : (v : IsStanding opening events members old) → closing_size ≤ members.config.batch → 0 < length records → MayCommit opening events members.config v.placed records
     may_commit v roomy some = record {
-      places = continues_run opening.settings.channels (next_place opening events) records (commit_continues opening events whole_events h.made records taken made_now);
+      places = continues_run opening.settings.channels (next_place opening events) records (commit_continues opening events whole h.made records taken made_now);
       paced = All-weaker
           (λ m. IsMediumOf (sizes_of members.config) (start_of_opening opening) (segments_in (v.first m)) (acts_of events) (segments_in (v.placed m)))
           (λ m. IsPaced (cost (sizes_of members.config)) members.config.batch (segments_in (v.placed m)) records)
@@ -91,35 +77,11 @@ module _ {tells tells_images : Type 0} (opening : Opening) (events : List Event)
       abbrev pub event : Event
       event = record { act = Commit records taken; moment = moment_of after.failed new.clock }
 
-      told_after : (after.failed ≡ false → IsStanding opening (events ++ event ∷ []) after new)
-          → (after.failed ≡ true → (after.next_place ≡ members.next_place) × (after.last ≡ members.last) × (after.table ≡ members.table)) → (after.failed ≡ true) ⊎ (after.failed ≡ false)
-          → TellsLeft opening (events ++ event ∷ []) after
-      told_after stands kept (inl fails) =
-          told_without opening events event members after (ap (λ (b : Bool). moment_of b new.clock) fails) h.told (kept fails).0 (kept fails).1 (kept fails).2
-      told_after stands kept (inr goes) =
-          told_at_rest opening (events ++ event ∷ []) (whole_with events event whole_events (has_moment after.failed new.clock event.moment refl goes)) after (stands goes).placed new (stands goes).stands
-
       grown : Extends (ShowsHistory opening) events event old new → (after.failed ≡ false → IsStanding opening (events ++ event ∷ []) after new)
           → (after.failed ≡ true → (after.next_place ≡ members.next_place) × (after.last ≡ members.last) × (after.table ≡ members.table))
           → KeepsEvent opening events t0 (Commit records taken) after old new
-      grown moments stands kept = record {
-        event = event;
-        act_is = refl;
-        moment_is = refl;
-        has = record {
-          history = history_grows opening events event h.history whole_events (commit_continues opening events whole_events h.made records taken made_now)
-              (ends_by after.failed new.clock event.moment event.act refl (is_no_look records taken));
-          made = made_grows opening events whole_events h.made event made_now;
-          failed = fails_with after.failed new.clock events event (λ _. whole_events) refl;
-          told = told_after stands kept (cases_Bool after.failed);
-          kept = keeps_call (ShowsHistory opening) events t0 event after.failed old new h.kept whole_events moments (is_no_look records taken) refl
-              (λ works image now. stand_shows opening (events ++ event ∷ []) after (stands works).placed new (stands works).stands image now);
-          works = stands;
-        };
-        passes = moments_weaken old new (ShowsEither (ShowsHistory opening) events event old.now)
-            (λ image. old.now image ⊎ ShowsPrefix (ShowsHistory opening) (events ++ event ∷ []) 0 image) moments
-            (λ image shown. shown_prefix (ShowsHistory opening) events event old.now image shown);
-      }
+      grown moments stands kept = event_kept opening events t0 members old h works (Commit records taken) after new (is_no_look records taken)
+          (commit_continues opening events whole h.made records taken made_now) made_now moments stands kept
 
       medium_with : (m : ℕ) (first before now : List Placed) → after.config ≡ members.config → 0 < length records
           → IsMediumOf (sizes_of members.config) (start_of_opening opening) (segments_in first) (acts_of events) (segments_in before) → IsAppended (segments_in before) records (segments_in now)

@@ -6,10 +6,12 @@ pub mod Taking
 pub mod Batches
 pub mod Closing
 pub mod Continuing
+pub mod Growing
 pub mod Committing
 pub mod Running
 pub mod Starting
 pub mod Looking
+pub mod QuietActs
 pub mod Opened
 pub mod Printing
 pub mod Answering

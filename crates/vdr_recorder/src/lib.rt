@@ -8,6 +8,7 @@ mod maker;
 mod play;
 mod recording;
 mod run;
+mod saving;
 mod start;
 #[cfg(test)]
 mod tests;
@@ -17,3 +18,5 @@ pub use play::PlayRefused;
 pub use recording::{Recording, State};
 pub use run::StartRefused;
 pub use vdr_entry::{Medium, Query};
+pub use vdr_incident::ReleaseRefused;
+pub use vdr_vault::SaveRefused;

@@ -16,7 +16,7 @@ ghost use Rattle.vdr_opening.specs.declared.refused.OpenRefused.TheVariants.{Dam
 ghost use Rattle.vdr_vault.specs.Calls.{SameElsewhere};
 ghost use Rattle.vdr_vault.specs.Openings.{LeavesAll, OpensAtEachMoment};
 ghost use Rattle.vdr_vault.specs.Regularity.{AreRegularMedia};
-ghost use Rattle.vdr_vault.specs.Vaults.{AreRings, ShowsHistory};
+ghost use Rattle.vdr_vault.specs.Vaults.{AreRings, ShowsHistory, of_stamp};
 ghost use Rattle.vdr_recorder.specs.Making.{CountsItems};
 ghost use Rattle.vdr_recorder.specs.Recordings.{HasRecorded, TellsLeft};
 ghost use Rattle.vdr_recorder.specs.Starts.{stamp_of};
@@ -71,7 +71,8 @@ impl Recording {
         ensures opened { IfOk result (λ r. (x : Contents) → M.tells → HoldsContents (M.disk media.old).reads x → AreRegularMedia x
             → (t0 : ℕ) × ((M.disk media.old).clock ≤ t0) × (t0 ≤ (M.disk media.new).clock) × HasRecorded (opening_of x) [] t0 r (M.disk media.new)) }
         ensures contents { IfOk result (λ r. M.tells → IsFormatted (M.disk media.old).reads × (x : Contents) × HoldsContents (M.disk media.old).reads x
-            × EndsMeet both (reading_of x) × (r.members.config ≡ x.config) × (r.members.table ≡ x.table)) }
+            × EndsMeet both (reading_of x) × (r.members.config ≡ x.config) × (r.members.table ≡ x.table)
+            × (r.members.last ≡ option_map of_stamp (opening_of x).last)) }
         ensures works { IfOk result (λ r. r.members.failed ≡ false) }
         ensures closed { IfOk result (λ r. r.is_open ≡ false) }
         ensures rings { IfOk result (λ r. AreRings r.members (M.disk media.new).sizes) }

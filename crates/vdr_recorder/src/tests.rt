@@ -4,6 +4,7 @@ ghost use Rattle.vdr_terms.specs.Counting.{next_number};
 ghost use Rattle.vdr_recorder.specs.Making.{HasRoom, counted_of};
 
 mod recording;
+mod saving;
 
 use crate::maker::Maker;
 use arrayvec::ArrayVec;

@@ -11,10 +11,15 @@ use Rattle.vdr_outside.specs.Disk.{Disk}
 use Rattle.vdr_tool.specs.Endings.{IsTextAlone}
 use Rattle.vdr_tool.specs.Formats.{FormatAnswers, IfFormat, UsesMedia}
 use Rattle.vdr_tool.proofs.FormatLemmas.{formats_all, same_refusal}
-use Rattle.vdr_tool.proofs.PlayCompleteness.{OneAnswer, plays_all}
+use Rattle.vdr_tool.proofs.OpenedCompleteness.{OneAnswer}
+use Rattle.vdr_tool.proofs.PlayCompleteness.{plays_all}
 use Rattle.vdr_tool.proofs.ReplayLemmas.{replay_fault, replays_all}
+use Rattle.vdr_tool.proofs.SaveCompleteness.{lists_all, releases_all, saves_all}
+use Rattle.vdr_tool.specs.Incidents.{IfIncidents, IncidentsAnswers}
+use Rattle.vdr_tool.specs.Opened.{AreLooks, MayLeave}
 use Rattle.vdr_tool.specs.Plays.{IfPlay, PlayAnswers}
 use Rattle.vdr_tool.specs.Replays.{IfReplay, ReplayAnswers}
+use Rattle.vdr_tool.specs.Saves.{IfRelease, IfSave, ReleaseAnswers, ReleasesId, SaveAnswers, SavesAs}
 use Rattle.vdr_tool.specs.Answers.{ReviewsAll, IfAnswered, RefusesFeed, RefusesConfig, ChecksAll, IsComplete}
 use Rattle.vdr_review.specs.Review.{most_items, limit_asked, IfReviewed}
 use Rattle.vdr_tool.specs.StatusLine.{IfFeed, IfConfig}
@@ -23,9 +28,9 @@ use Rattle.vdr_config.specs.Configuration.{Configuration}
 use Rattle.vdr_config.specs.Grammar.{configuration}
 use Rattle.vdr_tool.specs.Check.{IfChecked, number_of}
 use Rattle.vdr_tool.specs.Commands.{Asked}
-use Rattle.vdr_tool.specs.Commands.Asked.{Review, Check, Format, Replay, Play}
+use Rattle.vdr_tool.specs.Commands.Asked.{Review, Check, Format, Replay, Play, Incidents, Save, Release}
 use Rattle.vdr_tool.specs.declared.status.Status.{Status}
-use Rattle.vdr_tool.specs.declared.status.Status.TheVariants.{Done, Words, Config, Small, Unformatted, Formatted, Damaged, MediaFault, InputFault, OutputFault, NoMemory, Feed, NoChannel, NoIncident, Place, Tick}
+use Rattle.vdr_tool.specs.declared.status.Status.TheVariants.{Done, Words, Config, Small, Unformatted, Formatted, Damaged, MediaFault, InputFault, OutputFault, NoMemory, Feed, NoChannel, NoIncident, SaveRefused, Place, Tick}
 
 pub completes : (left : Option (List ℕ)) (status : Status) → IsTextAlone status → NoFeedIsRefused → OneRefusal
     → (status ≡ Words → ⊥) → (status ≡ InputFault → ⊥) → (status ≡ OutputFault → ⊥)
@@ -45,6 +50,7 @@ completes (Some bytes) (Damaged m offset) alone none one words input output done
 completes (Some bytes) NoChannel alone none one words input output done feed config = absurd alone
 completes (Some bytes) (NoIncident id) alone none one words input output done feed config = absurd alone
 completes (Some bytes) Place alone none one words input output done feed config = absurd alone
+completes (Some bytes) (SaveRefused cause) alone none one words input output done feed config = absurd alone
 completes (Some bytes) Tick alone none one words input output done feed config = absurd alone
 completes (Some bytes) MediaFault alone none one words input output done feed config = absurd alone
 completes (Some bytes) InputFault alone none one words input output done feed config = absurd (input refl)
@@ -74,6 +80,7 @@ checks_all (Some bytes) (Damaged m offset) alone words input output done feed co
 checks_all (Some bytes) NoChannel alone words input output done feed config = absurd alone
 checks_all (Some bytes) (NoIncident id) alone words input output done feed config = absurd alone
 checks_all (Some bytes) Place alone words input output done feed config = absurd alone
+checks_all (Some bytes) (SaveRefused cause) alone words input output done feed config = absurd alone
 checks_all (Some bytes) Tick alone words input output done feed config = absurd alone
 checks_all (Some bytes) MediaFault alone words input output done feed config = absurd alone
 checks_all (Some bytes) InputFault alone words input output done feed config = absurd (input refl)
@@ -100,6 +107,7 @@ no_config (Damaged m offset) P h = tt
 no_config NoChannel P h = tt
 no_config (NoIncident id) P h = tt
 no_config Place P h = tt
+no_config (SaveRefused cause) P h = tt
 no_config Tick P h = tt
 no_config MediaFault P h = tt
 no_config InputFault P h = tt
@@ -113,25 +121,34 @@ pub completes_command : {tells tells_images : Type 0} (command : Asked) (left : 
     → IfFormat command (λ again. FormatAnswers again left old new before now status)
     → IfReplay command (ReplayAnswers left old new before now taken wrote sink_before sink_now status)
     → IfPlay command (λ medium channel from to. PlayAnswers medium channel from to old new before now taken wrote sink_before sink_now status)
+    → IfIncidents command (IncidentsAnswers old new before now taken wrote status)
+    → IfSave command (λ label. SaveAnswers label old new before now taken wrote status)
+    → IfRelease command (λ id. ReleaseAnswers id old new before now taken wrote status)
     → OneAnswer old.reads
     → (status ≡ Done → IfAnswered command left P)
     → IfFeed status (λ number offset. RefusesFeed command left number offset)
     → IfConfig status (λ number. (bad : ConfigBad) × (number_of bad ≡ number) × RefusesConfig command left bad)
     → IsComplete command left old status
-completes_command (Review rate) left old new before now taken wrote sink_before sink_now status P none one words input output media (inl uses) formats replays plays law done feed config = absurd uses
-completes_command (Review rate) left old new before now taken wrote sink_before sink_now status P none one words input output media (inr alone) formats replays plays law done feed config =
+completes_command (Review rate) left old new before now taken wrote sink_before sink_now status P none one words input output media (inl uses) formats replays plays listed saves releases law done feed config = absurd uses
+completes_command (Review rate) left old new before now taken wrote sink_before sink_now status P none one words input output media (inr alone) formats replays plays listed saves releases law done feed config =
     completes left status alone none one words input output (λ is. is_feed (limit_asked rate) left P (done is)) feed (no_config status (λ bad number. number_of bad ≡ number) config)
-completes_command Check left old new before now taken wrote sink_before sink_now status P none one words input output media (inl uses) formats replays plays law done feed config = absurd uses
-completes_command Check left old new before now taken wrote sink_before sink_now status P none one words input output media (inr alone) formats replays plays law done feed config =
+completes_command Check left old new before now taken wrote sink_before sink_now status P none one words input output media (inl uses) formats replays plays listed saves releases law done feed config = absurd uses
+completes_command Check left old new before now taken wrote sink_before sink_now status P none one words input output media (inr alone) formats replays plays listed saves releases law done feed config =
     checks_all left status alone words input output (λ is. is_configuration left P (done is)) feed config
-completes_command (Format again) None old new before now taken wrote sink_before sink_now status P none one words input output media alone formats replays plays law done feed config = tt
-completes_command (Format again) (Some bytes) old new before now taken wrote sink_before sink_now status P none one words input output media alone formats replays plays law done feed config =
+completes_command (Format again) None old new before now taken wrote sink_before sink_now status P none one words input output media alone formats replays plays listed saves releases law done feed config = tt
+completes_command (Format again) (Some bytes) old new before now taken wrote sink_before sink_now status P none one words input output media alone formats replays plays listed saves releases law done feed config =
     λ told. formats_all again bytes old new before now told status words input output (λ is. media (formats.fault is)) formats feed config
-completes_command Replay None old new before now taken wrote sink_before sink_now status P none one words input output media alone formats replays plays law done feed config = tt
-completes_command Replay (Some bytes) old new before now taken wrote sink_before sink_now status P none one words input output media alone formats replays plays law done feed config =
+completes_command Replay None old new before now taken wrote sink_before sink_now status P none one words input output media alone formats replays plays listed saves releases law done feed config = tt
+completes_command Replay (Some bytes) old new before now taken wrote sink_before sink_now status P none one words input output media alone formats replays plays listed saves releases law done feed config =
     λ told. replays_all bytes old new before now taken wrote sink_before sink_now told law status input output (λ is. media (replay_fault (Some bytes) old new before now taken wrote sink_before sink_now status replays is)) replays
-completes_command (Play medium channel from to) left old new before now taken wrote sink_before sink_now status P none one words input output media alone formats replays plays law done feed config =
-    λ told. plays_all medium channel old new before now told law status output (λ is. media (plays.ends.fault is)) plays.own plays.ends
+completes_command (Play medium channel from to) left old new before now taken wrote sink_before sink_now status P none one words input output media alone formats replays plays listed saves releases law done feed config =
+    λ told. plays_all medium channel old new before now told law status output (λ is. media (plays.ends.media.fault is)) plays.own plays.ends
+completes_command Incidents left old new before now taken wrote sink_before sink_now status P none one words input output media alone formats replays plays listed saves releases law done feed config =
+    λ told. lists_all old new before now told law AreLooks status output (λ is. media (listed.ends.fault is)) listed.own listed.ends
+completes_command (Save label) left old new before now taken wrote sink_before sink_now status P none one words input output media alone formats replays plays listed saves releases law done feed config =
+    λ told. saves_all old new before now told law (MayLeave (SavesAs label) new.clock status) label status output (λ is. media (saves.ends.fault is)) saves.own saves.ends saves.refused
+completes_command (Release id) left old new before now taken wrote sink_before sink_now status P none one words input output media alone formats replays plays listed saves releases law done feed config =
+    λ told. releases_all old new before now told law (MayLeave (ReleasesId id) new.clock status) id status (λ is. media (releases.ends.fault is)) releases.own releases.ends releases.no_incident
 
 -- without what it wrote
 pub refused_by : (status : Status) (P : ConfigBad → ℕ → Type 0) (Q R : ConfigBad → Type 0) → IfConfig status (λ number. (bad : ConfigBad) × P bad number × Q bad × R bad) → IfConfig status (λ number. (bad : ConfigBad) × P bad number × Q bad)
@@ -145,6 +162,7 @@ refused_by (Damaged m offset) P Q R h = tt
 refused_by NoChannel P Q R h = tt
 refused_by (NoIncident id) P Q R h = tt
 refused_by Place P Q R h = tt
+refused_by (SaveRefused cause) P Q R h = tt
 refused_by Tick P Q R h = tt
 refused_by MediaFault P Q R h = tt
 refused_by InputFault P Q R h = tt

@@ -20,7 +20,7 @@ use Rattle.vdr_tool.specs.Check.{number_of, refusal_line}
 use Rattle.vdr_tool.specs.Formats.{FormatAnswers, FormatsAll, IfConfiguration, status_of, refused_line}
 use Rattle.vdr_tool.specs.StatusLine.{IfConfig, IfFeed, Wrote, WroteLine}
 use Rattle.vdr_tool.specs.declared.status.Status.{Status}
-use Rattle.vdr_tool.specs.declared.status.Status.TheVariants.{Done, Words, Config, Small, Unformatted, Formatted, Damaged, MediaFault, InputFault, OutputFault, NoMemory, Feed, NoChannel, NoIncident, Place, Tick}
+use Rattle.vdr_tool.specs.declared.status.Status.TheVariants.{Done, Words, Config, Small, Unformatted, Formatted, Damaged, MediaFault, InputFault, OutputFault, NoMemory, Feed, NoChannel, NoIncident, SaveRefused, Place, Tick}
 
 -- The configuration that a text is.
 pub read_as : (r : Result Configuration ConfigBad) → IsOk r → (c : Configuration) × (r ≡ Ok c)
@@ -262,6 +262,7 @@ module _ {tells tells_images : Type 0} (again : Bool) (bytes : List ℕ) (old ne
   formats_all NoChannel words input output media answers feed config = absurd answers.own
   formats_all (NoIncident id) words input output media answers feed config = absurd answers.own
   formats_all Place words input output media answers feed config = absurd answers.own
+  formats_all (SaveRefused cause) words input output media answers feed config = absurd answers.own
   formats_all Tick words input output media answers feed config = absurd answers.own
   formats_all Formatted words input output media answers feed config =
       let is = answers.formatted refl in

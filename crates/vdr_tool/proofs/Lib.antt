@@ -1,9 +1,14 @@
 pub mod Completeness
 pub mod FeedLemmas
 pub mod FormatLemmas
+pub mod OpenedCompleteness
+pub mod OpenedLemmas
 pub mod PlayCompleteness
 pub mod PlayLemmas
 pub mod ReplayLemmas
+pub mod Rows
+pub mod SaveCompleteness
+pub mod SaveLemmas
 pub mod Summing
 pub mod Texts
 pub mod WordLemmas

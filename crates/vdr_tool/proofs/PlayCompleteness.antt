@@ -2,29 +2,15 @@
 use Rattle.std.proofs.Common.{◌≡◌, inl, inr, ⊎_elim, ℕ, List, Option, None, refl, sym, subst, ◌∙◌}
 use Rattle.vdr_history.specs.Histories.{live}
 use Rattle.vdr_history.specs.Histories as histories
-use Rattle.vdr_durability.specs.Readings.{EndsMeet}
-use Rattle.vdr_outside.specs.Disk.{Disk, Image}
+use Rattle.vdr_outside.specs.Disk.{Disk}
 use Rattle.vdr_config.specs.Configuration.{Configuration}
 use Rattle.vdr_entry.specs.declared.query.Medium.{Medium}
 use Rattle.vdr_entry.specs.declared.query.Medium.TheVariants.{Incident}
-use Rattle.vdr_media.specs.Formatted.{IsUnformatted}
-use Rattle.vdr_opening.specs.Media.{both, Contents, HoldsContents, reading_of}
-use Rattle.vdr_opening.specs.Refusals.{IsRefused}
+use Rattle.vdr_opening.specs.Media.{Contents, HoldsContents}
 use Rattle.vdr_tool.specs.Plays.{IsPlayStatus, LacksChannel, LacksIncident, PlayEnds, PlaysAll}
 use Rattle.vdr_tool.specs.declared.status.Status.{Status}
-use Rattle.vdr_tool.specs.declared.status.Status.TheVariants.{Done, Words, Config, Small, Unformatted, Formatted, Damaged, MediaFault, InputFault, OutputFault, NoMemory, Feed, NoChannel, NoIncident, Place, Tick}
-use Rattle.vdr_tool.proofs.FormatLemmas.{not_both}
-
--- What media hold, and how they are refused, has one answer.
-pub record OneAnswer (image : Image) : Type 0 where
-  pub config : (x y : Contents) → HoldsContents image x → HoldsContents image y → x.config ≡ y.config
-  pub table : (x y : Contents) → HoldsContents image x → HoldsContents image y → x.table ≡ y.table
-  pub formatted : (x : Contents) → HoldsContents image x → IsUnformatted image → ⊥
-  pub either : (x : Contents) (m offset : ℕ) → HoldsContents image x → EndsMeet both (reading_of x) → IsRefused image m offset → ⊥
-  pub one : (m offset k other : ℕ) → IsRefused image m offset → IsRefused image k other → (m ≡ k) × (offset ≡ other)
-
-pub damaged_alike : (m offset k other : ℕ) → (m ≡ k) × (offset ≡ other) → Damaged m offset ≡ Damaged k other
-damaged_alike m offset k other same = λ i. Damaged (same.0 i) (same.1 i)
+use Rattle.vdr_tool.specs.declared.status.Status.TheVariants.{Done, Words, Config, Small, Unformatted, Formatted, Damaged, MediaFault, InputFault, OutputFault, NoMemory, Feed, NoChannel, NoIncident, SaveRefused, Place, Tick}
+use Rattle.vdr_tool.proofs.OpenedCompleteness.{OneAnswer, damaged_refused, legible_refused, memory_refused, unformatted_refused}
 
 not_live : (table : List (Option histories.Incident)) (medium : Medium) (id : ℕ) → medium ≡ Incident id → live table id ≡ None → LacksIncident table medium
 not_live table medium id is none = subst (LacksIncident table) (sym is) none
@@ -42,19 +28,17 @@ module _ {tells tells_images : Type 0} (medium : Medium) (name : List ℕ) (old 
   pub plays_all : (status : Status) → (status ≡ OutputFault → ⊥) → (status ≡ MediaFault → ⊥) → IsPlayStatus status → PlayEnds medium name old new before now status
       → PlaysAll medium name old.reads status
   plays_all Done output media own ends =
-      let p = ends.legible tt told in
+      let p = ends.media.legible tt told in
       record {
-        unformatted = λ un. absurd (not_both old.reads p.0 un);
-        damaged = λ f m offset r. absurd (law.either p.1 m offset p.2 p.3 r);
+        refused = legible_refused old.reads law Done p.0 p.1 p.2 p.3;
         channel = λ x holds meet lacks. absurd (p.4.channel (lacks_too x p.1 holds p.2 lacks));
         incident = λ x id holds meet there is none. absurd (p.4.incident (misses_too x p.1 holds p.2 (not_live x.table medium id is none)));
         done = λ x holds meet regular can. tt;
       }
   plays_all Unformatted output media own ends =
-      let un = (ends.unformatted refl).1 told in
+      let un = (ends.media.unformatted refl).1 told in
       record {
-        unformatted = λ un. inl refl;
-        damaged = λ f m offset r. absurd (not_both old.reads f un);
+        refused = unformatted_refused old.reads un;
         channel = λ x holds meet lacks. absurd (law.formatted x holds un);
         incident = λ x id holds meet there is none. absurd (law.formatted x holds un);
         done = λ x holds meet regular can. absurd (law.formatted x holds un);
@@ -62,8 +46,7 @@ module _ {tells tells_images : Type 0} (medium : Medium) (name : List ℕ) (old 
   plays_all (Damaged k at) output media own ends = ⊎_elim
       (λ refused. let r = refused.1 told in
       record {
-        unformatted = λ un. absurd (not_both old.reads r.0 un);
-        damaged = λ f m offset also. inl (damaged_alike k at m offset (law.one k at m offset r.1 also));
+        refused = damaged_refused old.reads law k at r.0 r.1;
         channel = λ x holds meet lacks. absurd (law.either x k at holds meet r.1);
         incident = λ x id holds meet there is none. absurd (law.either x k at holds meet r.1);
         done = λ x holds meet regular can. absurd (law.either x k at holds meet r.1);
@@ -71,18 +54,16 @@ module _ {tells tells_images : Type 0} (medium : Medium) (name : List ℕ) (old 
       (λ irregular. let h = irregular told in
       let p = h.0 in
       record {
-        unformatted = λ un. absurd (not_both old.reads p.0 un);
-        damaged = λ f m offset r. absurd (law.either p.1 m offset p.2 p.3 r);
+        refused = legible_refused old.reads law (Damaged k at) p.0 p.1 p.2 p.3;
         channel = λ x holds meet lacks. absurd (p.4.channel (lacks_too x p.1 holds p.2 lacks));
         incident = λ x id holds meet there is none. absurd (p.4.incident (misses_too x p.1 holds p.2 (not_live x.table medium id is none)));
         done = λ x holds meet regular can. absurd (h.1 x holds regular);
       })
-      ends.damaged
+      ends.media.damaged
   plays_all NoChannel output media own ends =
       let h = ends.no_channel refl told in
       record {
-        unformatted = λ un. absurd (not_both old.reads h.0 un);
-        damaged = λ f m offset r. absurd (law.either h.1 m offset h.2 h.3 r);
+        refused = legible_refused old.reads law NoChannel h.0 h.1 h.2 h.3;
         channel = λ x holds meet lacks. inl refl;
         incident = λ x id holds meet there is none. absurd (there (lacks_too h.1 x h.2 holds h.4));
         done = λ x holds meet regular can. absurd (can.channel (lacks_too h.1 x h.2 holds h.4));
@@ -90,15 +71,13 @@ module _ {tells tells_images : Type 0} (medium : Medium) (name : List ℕ) (old 
   plays_all (NoIncident id) output media own ends =
       let h = ends.no_incident.1 told in
       record {
-        unformatted = λ un. absurd (not_both old.reads h.0 un);
-        damaged = λ f m offset r. absurd (law.either h.1 m offset h.2 h.3 r);
-        channel = λ x holds meet lacks. absurd (h.4 (lacks_too x h.1 holds h.2 lacks));
+        refused = legible_refused old.reads law (NoIncident id) h.0 h.1 h.2 h.3;
+        channel = λ x holds meet lacks. absurd (h.4.0 (lacks_too x h.1 holds h.2 lacks));
         incident = λ x other holds meet there is none. inl (one_id medium id other ends.no_incident.0 is);
-        done = λ x holds meet regular can. absurd (can.incident (misses_too h.1 x h.2 holds h.5));
+        done = λ x holds meet regular can. absurd (can.incident (misses_too h.1 x h.2 holds h.4.1));
       }
   plays_all NoMemory output media own ends = record {
-    unformatted = λ un. inr refl;
-    damaged = λ f m offset r. inr refl;
+    refused = memory_refused old.reads;
     channel = λ x holds meet lacks. inr refl;
     incident = λ x id holds meet there is none. inr refl;
     done = λ x holds meet regular can. tt;
@@ -112,4 +91,5 @@ module _ {tells tells_images : Type 0} (medium : Medium) (name : List ℕ) (old 
   plays_all InputFault output media own ends = absurd own
   plays_all (Feed n at) output media own ends = absurd own
   plays_all Place output media own ends = absurd own
+  plays_all (SaveRefused cause) output media own ends = absurd own
   plays_all Tick output media own ends = absurd own

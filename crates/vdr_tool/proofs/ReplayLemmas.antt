@@ -29,7 +29,7 @@ use Rattle.vdr_tool.specs.declared.status.Status.{Status}
 use Rattle.vdr_tool.specs.declared.status.Status.TheVariants.{Done, MediaFault, InputFault, OutputFault, Feed}
 use Rattle.vdr_tool.proofs.FeedLemmas.{has_header, not_refused, one_refusal}
 use Rattle.vdr_tool.proofs.FormatLemmas.{not_both}
-use Rattle.vdr_tool.proofs.PlayCompleteness.{OneAnswer, damaged_alike}
+use Rattle.vdr_tool.proofs.OpenedCompleteness.{OneAnswer, damaged_alike}
 
 -- A feed that is refused behind its header has one.
 reads_header : (rates : List (Option Rate)) (bytes : List ℕ) (number offset : ℕ) (items : List FeedItem) → ReadsFeed rates bytes (ends.Refused number offset) items → take 8 bytes ≡ feed_header

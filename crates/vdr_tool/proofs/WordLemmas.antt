@@ -6,7 +6,7 @@ use Rattle.vdr_control.specs.Orders.{PlainOrder}
 use Rattle.vdr_control.specs.Orders.PlainOrder.{Play as PlayOrder, Status as StatusOrder, Save as SaveOrder, Release as ReleaseOrder}
 use Rattle.vdr_control.specs.Plays.{SpellsPlay}
 use Rattle.vdr_tool.specs.Commands.{Asked, plain}
-use Rattle.vdr_tool.specs.Commands.Asked.{Review, Check, Format, Replay, Play}
+use Rattle.vdr_tool.specs.Commands.Asked.{Review, Check, Format, Replay, Play, Incidents, Save, Release}
 use Rattle.vdr_tool.specs.Words.{Spells}
 use Rattle.vdr_tool.specs.declared.words.Command.{Command}
 
@@ -32,6 +32,9 @@ five_words word medium channel from to Check s = let e = s.words in let none : �
 five_words word medium channel from to (Format true) s = let e = s.words in let none : ⊥ = cc in absurd none
 five_words word medium channel from to (Format false) s = let e = s.words in let none : ⊥ = cc in absurd none
 five_words word medium channel from to Replay s = let e = s.words in let none : ⊥ = cc in absurd none
+five_words word medium channel from to Incidents s = let e = s.words in let none : ⊥ = cc in absurd none
+five_words word medium channel from to (Save label) s = let e = s.words in let none : ⊥ = cc in absurd none
+five_words word medium channel from to (Release id) s = let e = s.words in let none : ⊥ = cc in absurd none
 five_words word medium channel from to (Play asked name since until) s =
     let p = s.words in
     let e : word ∷ medium ∷ channel ∷ from ∷ to ∷ [] ≡ codes "play" ∷ p.medium ∷ p.channel ∷ p.from ∷ p.to ∷ [] = p.words in

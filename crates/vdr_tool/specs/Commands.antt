@@ -11,6 +11,9 @@ pub data Asked : Type 0 where
   Format : (again : Bool) → Asked
   Replay : Asked
   Play : (medium : Medium) (channel : List ℕ) (from to : ℤ) → Asked
+  Incidents : Asked
+  Save : (label : List ℕ) → Asked
+  Release : (id : ℕ) → Asked
 
 abbrev pub plain : Command → Asked
 plain (commands.Review rate) = Review rate
@@ -18,3 +21,6 @@ plain commands.Check = Check
 plain (commands.Format again) = Format again
 plain commands.Replay = Replay
 plain (commands.Play medium channel from to) = Play medium channel.now from to
+plain commands.Incidents = Incidents
+plain (commands.Save label) = Save label.now
+plain (commands.Release id) = Release id

@@ -3,7 +3,7 @@ use Rattle.std.specs.Prelude.{◌≡◌, ℕ, ⊤}
 use Rattle.vdr_config.specs.declared.bad.ConfigBad.{ConfigBad}
 use Rattle.vdr_tool.specs.Check.{number_of}
 use Rattle.vdr_tool.specs.declared.status.Status.{Status}
-use Rattle.vdr_tool.specs.declared.status.Status.TheVariants.{Done, Config, Small, Unformatted, Formatted, Damaged, MediaFault, NoMemory, Feed, NoChannel, NoIncident, Place, Tick}
+use Rattle.vdr_tool.specs.declared.status.Status.TheVariants.{Done, Config, Small, Unformatted, Formatted, Damaged, MediaFault, NoMemory, Feed, NoChannel, NoIncident, SaveRefused, Place, Tick}
 
 -- All was done, or there was no memory.
 abbrev pub IsDone : Status → Type 0
@@ -32,6 +32,7 @@ IsTextAlone (Damaged medium offset) = ⊥
 IsTextAlone MediaFault = ⊥
 IsTextAlone NoChannel = ⊥
 IsTextAlone (NoIncident id) = ⊥
+IsTextAlone (SaveRefused cause) = ⊥
 IsTextAlone Place = ⊥
 IsTextAlone Tick = ⊥
 IsTextAlone status = ⊤

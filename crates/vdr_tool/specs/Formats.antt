@@ -17,7 +17,7 @@ use Rattle.vdr_media.specs.declared.refused.FormatRefused.{FormatRefused}
 use Rattle.vdr_media.specs.declared.refused.FormatRefused.TheVariants as refusal
 use Rattle.vdr_tool.specs.Check.{number_of, refusal_line}
 use Rattle.vdr_tool.specs.Commands.{Asked}
-use Rattle.vdr_tool.specs.Commands.Asked.{Review, Check, Format, Replay, Play}
+use Rattle.vdr_tool.specs.Commands.Asked.{Review, Check, Format, Replay, Play, Incidents, Save, Release}
 use Rattle.vdr_tool.specs.StatusLine.{IfSmall, status_line}
 use Rattle.vdr_tool.specs.declared.status.Status.{Status}
 use Rattle.vdr_tool.specs.declared.status.Status.TheVariants.{Done, Config, Small, Formatted, MediaFault, InputFault, NoMemory}
@@ -33,14 +33,14 @@ UsesMedia Check = ⊥
 UsesMedia (Format again) = ⊤
 UsesMedia Replay = ⊤
 UsesMedia (Play medium channel from to) = ⊤
+UsesMedia Incidents = ⊤
+UsesMedia (Save label) = ⊤
+UsesMedia (Release id) = ⊤
 
 -- What is said of a command that formats the media.
 abbrev pub IfFormat : Asked → (Bool → Type 0) → Type 0
-IfFormat (Review rate) P = ⊤
-IfFormat Check P = ⊤
 IfFormat (Format again) P = P again
-IfFormat Replay P = ⊤
-IfFormat (Play medium channel from to) P = ⊤
+IfFormat command P = ⊤
 
 -- How a refusal ends the command, and the line that tells it.
 abbrev pub status_of : FormatRefused → Status

@@ -1,36 +1,25 @@
 -- What `play` answers, and what it leaves of the media (this project's profile).
-use Rattle.std.specs.Prelude.{◌≡◌, ◌≢◌, ◌≤◌, ◌⊎◌, if◌then◌else◌, ℕ, ℤ, List, [], length, position, bytes_eq, codes, sum, All, Option, None, Result, Ok, Err, ⊤}
-use Rattle.std.specs.Io.KnownBytes.{Appends}
+use Rattle.std.specs.Prelude.{◌≡◌, ◌≢◌, ◌⊎◌, if◌then◌else◌, ℕ, ℤ, List, [], position, bytes_eq, codes, Option, None, Result, Ok, Err, ⊤}
 use Rattle.vdr_terms.specs.Queries.{Query}
-use Rattle.vdr_history.specs.Histories.{Event, live}
+use Rattle.vdr_history.specs.Histories.{live}
 use Rattle.vdr_history.specs.Histories as histories
-use Rattle.vdr_history.specs.Histories.Act.{Look}
-use Rattle.vdr_durability.specs.Keeping.{Keeps, ShowsPrefix}
 use Rattle.vdr_durability.specs.Readings.{EndsMeet}
 use Rattle.vdr_playback.specs.Playback.{selected}
-use Rattle.vdr_outside.specs.Causes.{Rose}
 use Rattle.vdr_outside.specs.Disk.{Disk, Image}
-use Rattle.vdr_outside.specs.Writes.{AppendsFront}
 use Rattle.vdr_config.specs.Configuration.{Configuration}
 use Rattle.vdr_entry.specs.Queries.{asked_medium}
 use Rattle.vdr_entry.specs.declared.query.Medium.{Medium}
 use Rattle.vdr_entry.specs.declared.query.Medium.TheVariants.{Capsule, LongTerm, Incident}
-use Rattle.vdr_media.specs.Formatted.{IsFormatted, IsUnformatted}
 use Rattle.vdr_opening.specs.Media.{both, Contents, HoldsContents, opening_of, reading_of}
-use Rattle.vdr_opening.specs.Refusals.{IsRefused}
-use Rattle.vdr_opening.specs.declared.refused.OpenRefused.{OpenRefused}
-use Rattle.vdr_opening.specs.declared.refused.OpenRefused.TheVariants as openings
 use Rattle.vdr_play.specs.Streams.{nothing_seen}
 use Rattle.vdr_play.specs.Texts.{records_text}
 use Rattle.vdr_recorder.specs.declared.play.PlayRefused.{PlayRefused}
 use Rattle.vdr_recorder.specs.declared.play.PlayRefused.TheVariants as plays
-use Rattle.vdr_vault.specs.Calls.{SameElsewhere}
-use Rattle.vdr_vault.specs.Openings.{LeavesAll}
 use Rattle.vdr_vault.specs.Regularity.{AreRegularMedia}
-use Rattle.vdr_vault.specs.Vaults.{ShowsHistory}
 use Rattle.vdr_tool.specs.Commands.{Asked}
-use Rattle.vdr_tool.specs.Commands.Asked.{Review, Check, Format, Replay, Play}
+use Rattle.vdr_tool.specs.Commands.Asked.{Play}
 use Rattle.vdr_tool.specs.Endings.{IsDone}
+use Rattle.vdr_tool.specs.Opened.{AreLooks, IfNoIncident, IsLegibleWith, MediaEnds, MetUnsound, PrintsText, RefusesAll}
 use Rattle.vdr_tool.specs.StatusLine.{Wrote, channel_line, status_line}
 use Rattle.vdr_tool.specs.declared.status.Status.{Status}
 use Rattle.vdr_tool.specs.declared.status.Status.TheVariants.{Done, Unformatted, Damaged, MediaFault, OutputFault, NoMemory, NoChannel, NoIncident}
@@ -69,25 +58,12 @@ query_of c medium name from to = record { medium = asked_medium medium; channel 
 unfoldable pub play_text : Contents → Medium → (name : List ℕ) → (from to : ℤ) → List ℕ
 play_text x medium name from to = records_text nothing_seen (selected (opening_of x) [] (query_of x.config medium name from to))
 
--- The output grew by the text, or by a front of it where the output failed.
-abbrev pub PrintsText : List ℕ → Status → Option (List ℕ) → Option (List ℕ) → Type 0
-PrintsText text Done old new = Appends old new text
-PrintsText text OutputFault old new = AppendsFront old new text
-PrintsText text status old new = ⊤
-
 -- What is written of a status in which nothing is played: its line alone. Of the others nothing is written.
 abbrev pub ReportsPlay : Status → (name : List ℕ) → Option (List ℕ) → Option (List ℕ) → (before now : ℕ) → Type 0
 ReportsPlay Done name old new before now = (new ≡ old) × (now ≡ before)
 ReportsPlay OutputFault name old new before now = (new ≡ old) × (now ≡ before)
 ReportsPlay NoChannel name old new before now = Wrote (channel_line name) old new before now
 ReportsPlay status name old new before now = Wrote (status_line status) old new before now
-
--- How a refusal of the media ends the command.
-abbrev pub status_of_opening : OpenRefused → Status
-status_of_opening openings.NoMemory = NoMemory
-status_of_opening openings.NotFormatted = Unformatted
-status_of_opening (openings.Damaged m offset) = Damaged m offset
-status_of_opening openings.Fault = MediaFault
 
 -- The id of an incident, 0 where none is asked for.
 abbrev pub id_of : Medium → ℕ
@@ -117,69 +93,18 @@ IsPlayStatus NoChannel = ⊤
 IsPlayStatus (NoIncident id) = ⊤
 IsPlayStatus status = ⊥
 
--- What is said of a part of a medium that is not legal, and of an incident that is not live.
-abbrev pub IfDamaged : Status → (ℕ → ℕ → Type 0) → Type 0
-IfDamaged (Damaged m offset) P = P m offset
-IfDamaged status P = ⊤
-
-abbrev pub IfNoIncident : Status → (ℕ → Type 0) → Type 0
-IfNoIncident (NoIncident id) P = P id
-IfNoIncident status P = ⊤
-
--- Something was played.
-abbrev pub IsPlayed : Status → Type 0
-IsPlayed Done = ⊤
-IsPlayed OutputFault = ⊤
-IsPlayed status = ⊥
-
--- No contents that the image holds are regular.
-abbrev pub IsIrregular : Image → Type 0
-IsIrregular image = (x : Contents) → HoldsContents image x → AreRegularMedia x → ⊥
-
--- The image is legible, its ends meet, and channel and incident are there.
-abbrev pub IsPlayable : Image → Medium → (name : List ℕ) → Type 0
-IsPlayable image medium name = IsFormatted image × (x : Contents) × HoldsContents image x × EndsMeet both (reading_of x) × CanPlay x medium name
-
 -- What is said of a command that plays.
 abbrev pub IfPlay : Asked → (Medium → List ℕ → ℤ → ℤ → Type 0) → Type 0
-IfPlay (Review rate) P = ⊤
-IfPlay Check P = ⊤
-IfPlay (Format again) P = ⊤
-IfPlay Replay P = ⊤
 IfPlay (Play medium channel from to) P = P medium channel from to
+IfPlay command P = ⊤
 
 module _ {tells tells_images : Type 0} where
-  -- Nothing was written: a stop leaves what it might have left before, and the media read as before.
-  pub record IsUntouched (old new : Disk tells tells_images) : Type 0 where
-    pub leaves : LeavesAll old new
-    pub reads : tells → new.reads ≡ old.reads
-
-  -- Media that held these contents keep them: since entry a stop left what it might have left at entry, or media that show them; and
-  -- from the moment at which opening's syncs had succeeded the media keep them, by one event at most, which is a look.
-  pub record KeepsContents (x : Contents) (before after : Disk tells tells_images) : Type 0 where
-    pub events : List Event
-    pub few : length events ≤ 1
-    pub looks : All (λ e. e.act ≡ Look) events
-    pub since_entry : (image : Image) → after.since before.clock image → before.now image ⊎ ShowsPrefix (ShowsHistory (opening_of x)) events 0 image
-    pub synced : ℕ
-    pub after_entry : before.clock ≤ synced
-    pub before_exit : synced ≤ after.clock
-    pub kept : Keeps (ShowsHistory (opening_of x)) events synced after
-
   -- What is said where the media were opened, by what they read as at entry.
   pub record PlayEnds (medium : Medium) (name : List ℕ) (old new : Disk tells tells_images) (before now : List ℕ) (status : Status) : Type 0 where
-    -- each refusal comes only in its case
-    pub unformatted : status ≡ Unformatted → IsUntouched old new × (tells → IsUnformatted old.reads)
-    pub damaged : IfDamaged status (λ m offset. (IsUntouched old new × (tells → IsFormatted old.reads × IsRefused old.reads m offset))
-        ⊎ (tells → IsPlayable old.reads medium name × IsIrregular old.reads))
-    pub no_channel : status ≡ NoChannel → tells → IsFormatted old.reads × (x : Contents) × HoldsContents old.reads x × EndsMeet both (reading_of x) × LacksChannel x.config name
-    pub no_incident : IfNoIncident status (λ id. (medium ≡ Incident id)
-        × (tells → IsFormatted old.reads × (x : Contents) × HoldsContents old.reads x × EndsMeet both (reading_of x) × (LacksChannel x.config name → ⊥) × LacksIncident x.table medium))
-    pub fault : status ≡ MediaFault → Rose (sum before) (sum now)
-    pub legible : IsPlayed status → tells → IsPlayable old.reads medium name
-    -- what was recorded stays, on each medium and at every moment
-    pub others : tells → SameElsewhere old.reads new.reads
-    pub kept : (x : Contents) → tells → HoldsContents old.reads x → EndsMeet both (reading_of x) → AreRegularMedia x → LeavesAll old new ⊎ KeepsContents x old new
+    pub media : MediaEnds (λ x. CanPlay x medium name) (MetUnsound old (λ x. CanPlay x medium name) AreRegularMedia) AreLooks old new before now status
+    -- each refusal of the words comes only in its case
+    pub no_channel : status ≡ NoChannel → tells → IsLegibleWith old.reads (λ x. LacksChannel x.config name)
+    pub no_incident : IfNoIncident status (λ id. (medium ≡ Incident id) × (tells → IsLegibleWith old.reads (λ x. (LacksChannel x.config name → ⊥) × LacksIncident x.table medium)))
 
   -- What `play` answers.
   pub record PlayAnswers (medium : Medium) (name : List ℕ) (from to : ℤ) (old new : Disk tells tells_images) (before now : List ℕ)
@@ -191,8 +116,7 @@ module _ {tells tells_images : Type 0} where
 
 -- What may be played is, and what may not is refused by its own refusal, or there was no memory.
 pub record PlaysAll (medium : Medium) (name : List ℕ) (image : Image) (status : Status) : Type 0 where
-  pub unformatted : IsUnformatted image → (status ≡ Unformatted) ⊎ (status ≡ NoMemory)
-  pub damaged : IsFormatted image → (m offset : ℕ) → IsRefused image m offset → (status ≡ Damaged m offset) ⊎ (status ≡ NoMemory)
+  pub refused : RefusesAll image status
   pub channel : (x : Contents) → HoldsContents image x → EndsMeet both (reading_of x) → LacksChannel x.config name → (status ≡ NoChannel) ⊎ (status ≡ NoMemory)
   pub incident : (x : Contents) (id : ℕ) → HoldsContents image x → EndsMeet both (reading_of x) → (LacksChannel x.config name → ⊥) → medium ≡ Incident id
       → live x.table id ≡ None → (status ≡ NoIncident id) ⊎ (status ≡ NoMemory)

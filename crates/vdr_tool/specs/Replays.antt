@@ -21,7 +21,7 @@ use Rattle.vdr_replay.specs.declared.ended.Replayed.{Replayed}
 use Rattle.vdr_replay.specs.declared.ended.ReplayStop.{ReplayStop}
 use Rattle.vdr_replay.specs.declared.ended.ReplayStop.TheVariants as stops
 use Rattle.vdr_tool.specs.Commands.{Asked}
-use Rattle.vdr_tool.specs.Commands.Asked.{Review, Check, Format, Replay, Play}
+use Rattle.vdr_tool.specs.Commands.Asked.{Replay}
 use Rattle.vdr_tool.specs.Endings.{IsDone, IsRefusal}
 use Rattle.vdr_tool.specs.StatusLine.{Wrote, status_line}
 use Rattle.vdr_tool.specs.Summaries.{summary_text}
@@ -62,11 +62,8 @@ TellsRun (Err stop) status old new before now = (status ≡ status_of_stop stop)
 
 -- What is said of a command that records a feed.
 abbrev pub IfReplay : Asked → Type 0 → Type 0
-IfReplay (Review rate) P = ⊤
-IfReplay Check P = ⊤
-IfReplay (Format again) P = ⊤
 IfReplay Replay P = P
-IfReplay (Play medium channel from to) P = ⊤
+IfReplay command P = ⊤
 
 module _ {tells tells_images : Type 0} where
   -- What the answer says of the input and of the media at entry, and what the media are afterwards.

@@ -4,9 +4,11 @@ use Rattle.std.specs.Io.KnownBytes.{Appends}
 use Rattle.vdr_entry.specs.Escape.{escaped}
 use Rattle.vdr_outside.specs.Causes.{Rose}
 use Rattle.vdr_outside.specs.Writes.{AppendsFront}
+use Rattle.vdr_tool.specs.declared.status.SaveCause.{SaveCause}
+use Rattle.vdr_tool.specs.declared.status.SaveCause.TheVariants.{Label, Nothing, TableFull}
 use Rattle.vdr_tool.specs.declared.status.Status.{Status}
 use Rattle.vdr_config.specs.declared.media.TooSmall.{TooSmall}
-use Rattle.vdr_tool.specs.declared.status.Status.TheVariants.{Done, Words, Config, Small, Unformatted, Formatted, Damaged, MediaFault, InputFault, OutputFault, NoMemory, Feed, NoChannel, NoIncident, Place, Tick}
+use Rattle.vdr_tool.specs.declared.status.Status.TheVariants.{Done, Words, Config, Small, Unformatted, Formatted, Damaged, MediaFault, InputFault, OutputFault, NoMemory, Feed, NoChannel, NoIncident, SaveRefused, Place, Tick}
 
 -- The program's exit status.
 abbrev pub code_of : Status → ℕ
@@ -24,6 +26,7 @@ code_of NoMemory = 9
 code_of (Feed number offset) = 10
 code_of NoChannel = 11
 code_of (NoIncident id) = 11
+code_of (SaveRefused cause) = 12
 code_of Place = 13
 code_of Tick = 13
 
@@ -42,6 +45,11 @@ feed_line number offset = codes "status 10 feed " ++ decimal number ++ codes " a
 
 abbrev pub incident_line : ℕ → List ℕ
 incident_line id = codes "status 11 incident " ++ decimal id ++ codes "\n"
+
+abbrev pub save_line : SaveCause → List ℕ
+save_line Label = codes "status 12 label\n"
+save_line Nothing = codes "status 12 nothing\n"
+save_line TableFull = codes "status 12 full\n"
 
 -- A line that ends with a text by its escape.
 abbrev pub escaped_line : (front text : List ℕ) → List ℕ
@@ -68,6 +76,7 @@ status_line InputFault = codes "status 7 input\n"
 status_line NoMemory = codes "status 9 memory\n"
 status_line (Feed number offset) = feed_line number offset
 status_line (NoIncident id) = incident_line id
+status_line (SaveRefused cause) = save_line cause
 status_line Place = codes "status 13 place\n"
 status_line Tick = codes "status 13 tick\n"
 

@@ -6,27 +6,31 @@ ghost use Rattle.vdr_outside.specs.Writes.{AppendsFront};
 ghost use Rattle.vdr_feed.specs.Feed.{IsRefused};
 ghost use Rattle.vdr_feed.specs.Reader.{IfKnown};
 ghost use Rattle.vdr_entry.specs.declared.query.Medium.{Medium};
-ghost use Rattle.vdr_tool.specs.Answers.{AnswersAlone, IfAnswered, IsRead, RefusesFeed, RefusesConfig, IsComplete};
+ghost use Rattle.vdr_tool.specs.Answers.{AnswersAlone, IfAnswered, IsRead, ReadsInput, RefusesFeed, RefusesConfig, IsComplete};
 ghost use Rattle.vdr_tool.specs.Check.{IfChecked, number_of, refusal_line};
 ghost use Rattle.vdr_tool.specs.Formats.{FormatAnswers, IfFormat, UsesMedia};
 ghost use Rattle.vdr_tool.specs.Endings.{IsTextAlone};
+ghost use Rattle.vdr_tool.specs.Incidents.{IfIncidents, IncidentsAnswers};
 ghost use Rattle.vdr_tool.specs.Plays.{IfPlay, PlayAnswers};
 ghost use Rattle.vdr_tool.specs.Replays.{IfReplay, ReplayAnswers};
+ghost use Rattle.vdr_tool.specs.Saves.{IfRelease, IfSave, ReleaseAnswers, SaveAnswers};
 ghost use Rattle.vdr_review.specs.Review.{IfReviewed, limit_asked, most_items};
 ghost use Rattle.vdr_tool.specs.StatusLine.{IfFeed, IfConfig, Wrote, WroteLine};
 ghost use Rattle.vdr_tool.specs.Words.{Asks, IsLegal};
 ghost use Rattle.vdr_config.specs.declared.bad.ConfigBad.{ConfigBad as Bad};
 ghost use Rattle.vdr_tool.specs.Commands.{Asked, plain};
-ghost use Rattle.vdr_tool.specs.Commands.Asked.{Check, Format, Play, Replay};
+ghost use Rattle.vdr_tool.specs.Commands.Asked.{Check, Format, Incidents, Play, Release, Replay, Save};
 ghost use Rattle.vdr_tool.specs.declared.status.Status.TheVariants.{Done, Words, InputFault, OutputFault};
 
 use crate::Status;
 use crate::checking::{CheckStop, check};
 use crate::formatting::answer_format;
+use crate::listing::answer_incidents;
 use crate::playing::{Wanted, answer_play};
 use crate::refusal::{number_of, report_refusal};
 use crate::replaying::answer_replay;
 use crate::reports::report;
+use crate::saving::{answer_release, answer_save};
 use crate::words::{Command, command_of};
 use std::alloc::Global;
 use vdr_config::Rate;
@@ -149,7 +153,13 @@ fn answer<I: Source + Drop, O: Sink + Drop, M: Media + Drop>(
     ensures plays { IfPlay (plain command.entry) (λ medium channel from to. PlayAnswers medium channel from to (M.disk world.old.media) (M.disk world.new.media)
         (M.faults world.old.media) (M.faults world.new.media)
         (O.taken world.old.output) (O.taken world.new.output) (O.faults world.old.output) (O.faults world.new.output) result) }
-    ensures unread { IfPlay (plain command.entry) (λ medium channel from to. world.new.input ≡ world.old.input) }
+    ensures incidents { IfIncidents (plain command.entry) (IncidentsAnswers (M.disk world.old.media) (M.disk world.new.media)
+        (M.faults world.old.media) (M.faults world.new.media) (O.taken world.old.output) (O.taken world.new.output) result) }
+    ensures saves { IfSave (plain command.entry) (λ label. SaveAnswers label (M.disk world.old.media) (M.disk world.new.media)
+        (M.faults world.old.media) (M.faults world.new.media) (O.taken world.old.output) (O.taken world.new.output) result) }
+    ensures releases { IfRelease (plain command.entry) (λ id. ReleaseAnswers id (M.disk world.old.media) (M.disk world.new.media)
+        (M.faults world.old.media) (M.faults world.new.media) (O.taken world.old.output) (O.taken world.new.output) result) }
+    ensures unread { ReadsInput (plain command.entry) ⊎ (world.new.input ≡ world.old.input) }
 {
     match command {
         Command::Review { rate } => answer_review(alloc, rate, world),
@@ -170,6 +180,9 @@ fn answer<I: Source + Drop, O: Sink + Drop, M: Media + Drop>(
             };
             answer_play(alloc, wanted, world)
         }
+        Command::Incidents => answer_incidents(alloc, world),
+        Command::Save { label } => answer_save(alloc, label, world),
+        Command::Release { id } => answer_release(alloc, id, world),
     }
 }
 
@@ -187,6 +200,11 @@ fn answer<I: Source + Drop, O: Sink + Drop, M: Media + Drop>(
 /// - `play MEDIUM CHANNEL FROM TO` reads no input. It prints what stands on the media: of `capsule` or `longterm` the records of
 ///   the window, of `incident-ID` those of the incident that is saved under this id, 1 to 32. Of them it prints those of the
 ///   channel, or all where CHANNEL is `all`, whose UTC stamps are from FROM to TO; `-` is no bound.
+/// - `incidents` reads no input. It prints the saved incidents that are live, in the order of their ids, each as a line
+///   `ID TICK UTC A B LABEL`: tick and UTC of its last record, its first and its last place, and its label.
+/// - `save LABEL` reads no input. It saves an incident, as `vdr_recorder::Recording::save` does, and prints its id and LF. The label
+///   is 1 to 64 bytes of 0x20 to 0x7E. Where the output fails the save stays.
+/// - `release ID` reads no input and prints nothing. It releases the incident of this id, 1 to 32.
 ///
 /// Any other words end with `Words`. A number is decimal digits without a sign and without a leading zero.
 ///
@@ -203,7 +221,8 @@ pub fn run<I: Source + Drop, O: Sink + Drop, M: Media + Drop>(
         × (((command : Asked) → Asks words.now command → ⊥) → result ≡ Words) }
     ensures untouched { result ≡ Words → (world.new.input ≡ world.old.input) × (world.new.media ≡ world.old.media) }
 
-    ensures unread { (medium : Medium) (channel : List ℕ) (from to : ℤ) → Asks words.now (Play medium channel from to) → world.new.input ≡ world.old.input }
+    // Only a command that reads it touches the input.
+    ensures unread { (command : Asked) → Asks words.now command → ReadsInput command ⊎ (world.new.input ≡ world.old.input) }
 
     // All was done: the input was read to its end, if the command reads it, and the output is what the command prints.
     ensures done { result ≡ Done → (command : Asked) × Asks words.now command × IsRead command (I.left world.new.input) × IfAnswered command (I.left world.old.input)
@@ -232,6 +251,12 @@ pub fn run<I: Source + Drop, O: Sink + Drop, M: Media + Drop>(
     ensures plays { (medium : Medium) (channel : List ℕ) (from to : ℤ) → Asks words.now (Play medium channel from to)
         → PlayAnswers medium channel from to (M.disk world.old.media) (M.disk world.new.media) (M.faults world.old.media) (M.faults world.new.media)
         (O.taken world.old.output) (O.taken world.new.output) (O.faults world.old.output) (O.faults world.new.output) result }
+    ensures incidents { Asks words.now Incidents → IncidentsAnswers (M.disk world.old.media) (M.disk world.new.media)
+        (M.faults world.old.media) (M.faults world.new.media) (O.taken world.old.output) (O.taken world.new.output) result }
+    ensures saves { (label : List ℕ) → Asks words.now (Save label) → SaveAnswers label (M.disk world.old.media) (M.disk world.new.media)
+        (M.faults world.old.media) (M.faults world.new.media) (O.taken world.old.output) (O.taken world.new.output) result }
+    ensures releases { (id : ℕ) → Asks words.now (Release id) → ReleaseAnswers id (M.disk world.old.media) (M.disk world.new.media)
+        (M.faults world.old.media) (M.faults world.new.media) (O.taken world.old.output) (O.taken world.new.output) result }
 
     // And nothing else comes in the place of what a command prints, or of a refusal, but want of memory.
     ensures complete { (command : Asked) → Asks words.now command → (Rose (I.faults world.old.input) (I.faults world.new.input) → ⊥)

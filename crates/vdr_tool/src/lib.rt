@@ -4,16 +4,18 @@
 mod checking;
 mod command;
 mod formatting;
+mod listing;
 mod playing;
 mod refusal;
 mod replaying;
 mod reports;
+mod saving;
 mod status;
 mod summary;
 mod words;
 
 pub use command::{World, run};
-pub use status::Status;
+pub use status::{SaveCause, Status};
 
 #[cfg(test)]
 mod tests;

@@ -4,7 +4,8 @@ ghost use Rattle.vdr_outside.specs.Causes.{Rose};
 ghost use Rattle.vdr_entry.specs.Queries.{asked};
 ghost use Rattle.vdr_opening.specs.Media.{Contents, HoldsContents};
 ghost use Rattle.vdr_vault.specs.Regularity.{AreRegularMedia};
-ghost use Rattle.vdr_tool.specs.Plays.{IsPlayStatus, LacksChannel, PlayAnswers, PlayEnds, PrintsText, ReportsPlay, id_of, play_text, query_of, status_by, status_of_opening};
+ghost use Rattle.vdr_tool.specs.Opened.{PrintsText, status_of_opening};
+ghost use Rattle.vdr_tool.specs.Plays.{IsPlayStatus, LacksChannel, PlayAnswers, PlayEnds, ReportsPlay, id_of, play_text, query_of, status_by};
 ghost use Rattle.vdr_tool.specs.StatusLine.{IfConfig, IfFeed, Wrote, WroteLine, channel_line};
 ghost use Rattle.vdr_tool.specs.declared.status.Status.TheVariants.{Done, Words, InputFault, OutputFault, NoChannel};
 
@@ -29,8 +30,8 @@ pub(crate) struct Wanted<'a> {
     pub(crate) to: i64,
 }
 
-// How a refusal of the media ends the command.
-fn status_of(refused: OpenRefused) -> Status
+/// How a refusal of the media ends the command.
+pub(crate) fn status_of(refused: OpenRefused) -> Status
     ensures { result ≡ status_of_opening refused }
 {
     match refused {

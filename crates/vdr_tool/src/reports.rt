@@ -1,8 +1,9 @@
 ghost use Rattle.std.specs.Prelude.{◌≡◌, ◌≤◌, ◌+◌, ◌++◌, length};
 ghost use Rattle.arrayvec.specs.ArrayVec.{array_vec_len};
-ghost use Rattle.vdr_tool.specs.StatusLine.{damaged_line, feed_line, incident_line, medium_name, small_line, status_line, Wrote};
+ghost use Rattle.vdr_tool.specs.Opened.{Reports};
+ghost use Rattle.vdr_tool.specs.StatusLine.{damaged_line, feed_line, incident_line, medium_name, save_line, small_line, status_line, Wrote};
 
-use crate::Status;
+use crate::{SaveCause, Status};
 use arrayvec::ArrayVec;
 use itoa::Buffer;
 use vdr_config::TooSmall;
@@ -75,6 +76,18 @@ fn push_incident(line: &mut ArrayVec<u8, ROOM>, id: u32)
     push_text(line, b"\n");
 }
 
+// Why nothing is saved.
+fn save_line(cause: SaveCause) -> &'static [u8]
+    ensures line { result.now ≡ save_line cause }
+    ensures short { length result.now ≤ 20 }
+{
+    match cause {
+        SaveCause::Label => b"status 12 label\n",
+        SaveCause::Nothing => b"status 12 nothing\n",
+        SaveCause::TableFull => b"status 12 full\n",
+    }
+}
+
 fn line_of(status: Status) -> ArrayVec<u8, ROOM>
     ensures { result.items ≡ status_line status }
 {
@@ -94,6 +107,7 @@ fn line_of(status: Status) -> ArrayVec<u8, ROOM>
         Status::NoMemory => push_text(&mut line, b"status 9 memory\n"),
         Status::Feed { number, offset } => push_feed(&mut line, number, offset),
         Status::NoIncident(id) => push_incident(&mut line, id),
+        Status::SaveRefused(cause) => push_text(&mut line, save_line(cause)),
         Status::Place => push_text(&mut line, b"status 13 place\n"),
         Status::Tick => push_text(&mut line, b"status 13 tick\n"),
     }
@@ -106,4 +120,14 @@ pub(crate) fn report<O: Sink>(status: Status, output: &mut O)
 {
     let line = line_of(status);
     let _ = write_all(output, line.as_slice());
+}
+
+/// Writes the line of a status in which the work was not done.
+pub(crate) fn report_undone<O: Sink>(status: Status, output: &mut O)
+    ensures { Reports status (O.taken output.old) (O.taken output.new) (O.faults output.old) (O.faults output.new) }
+{
+    match status {
+        Status::Done | Status::OutputFault => {}
+        _ => report(status, output),
+    }
 }

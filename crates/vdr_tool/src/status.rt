@@ -2,6 +2,17 @@ ghost use Rattle.std.specs.Prelude.{◌≡◌};
 
 use vdr_config::TooSmall;
 
+/// Why an incident is not saved. The cases stand in the order in which they are tested.
+#[derive(Clone, Copy, Debug, PartialEq, Eq, Drop)]
+pub enum SaveCause {
+    /// The label is not 1 to 64 bytes of 0x20 to 0x7E.
+    Label,
+    /// Nothing is recorded.
+    Nothing,
+    /// Each incident that the media have room for is live.
+    TableFull,
+}
+
 /// How a command ended.
 #[derive(Clone, Copy, Debug, PartialEq, Eq, Drop)]
 pub enum Status {
@@ -35,6 +46,8 @@ pub enum Status {
     NoChannel,
     /// No incident is saved under this id.
     NoIncident(u32),
+    /// Nothing is saved, and why.
+    SaveRefused(SaveCause),
     /// The next place is 2^62 or more.
     Place,
     /// A run would begin at a tick of 2^62 milliseconds or more.
@@ -59,6 +72,7 @@ impl Status {
             Status::NoMemory => 9,
             Status::Feed { .. } => 10,
             Status::NoChannel | Status::NoIncident(_) => 11,
+            Status::SaveRefused(_) => 12,
             Status::Place | Status::Tick => 13,
         }
     }

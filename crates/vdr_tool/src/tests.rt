@@ -3,6 +3,7 @@ ghost use Rattle.vdr_outside.specs.Disk.{Disk};
 
 mod checks;
 mod formats;
+mod incidents;
 mod plays;
 mod refusals;
 mod reviews;
@@ -168,4 +169,40 @@ fn played(
     let words = ["play", medium, "all", "-", "-"];
     let (status, printed, _) = answered_over(alloc, &words, b"", RamMedia::new(contents))?;
     Ok((status, printed))
+}
+
+// Items of a minute, of which the first two are of one second.
+fn four_items(alloc: Global) -> Result<Vec<u8>, AllocError> {
+    feed_of(
+        alloc,
+        &[
+            (0, 0, SMALL),
+            (999, 999, SMALL),
+            (1_000, 1_000, SMALL),
+            (60_000, 60_000, SMALL),
+        ],
+    )
+}
+
+// Words, the input, what is printed, and the exit status.
+type Step<'a> = (&'a [&'a str], &'a [u8], &'a str, u8);
+
+// Does one command after another over media that begin with these contents.
+fn assert_steps(
+    rt: &impl Abort,
+    alloc: Global,
+    contents: Vec<Vec<u8>>,
+    steps: &[Step<'_>],
+) -> Result<(), Fail>
+    requires { length contents.items ≡ 2 }
+{
+    let mut media = RamMedia::new(contents);
+    for (words, input, text, code) in steps {
+        assert!(rt; media.count() == 2);
+        let (status, printed, after) = answered_over(alloc, words, input, media)?;
+        media = after;
+        assert_eq!(rt; printed.as_slice(), text.as_bytes());
+        assert_eq!(rt; status.code(), *code);
+    }
+    Ok(())
 }

@@ -34,6 +34,16 @@ pub(crate) enum Command<'a> {
         from: i64,
         to: i64,
     },
+    /// The live saves are listed.
+    Incidents,
+    /// An incident is saved under this label. What it holds is judged by the save.
+    Save {
+        label: &'a [u8],
+    },
+    /// The save of this id, 1 to 32, is released.
+    Release {
+        id: u32,
+    },
 }
 
 // A number within these limits, in decimal digits without a sign and without a leading zero.
@@ -80,10 +90,29 @@ fn one_word(word: &str) -> Option<Command<'static>>
         return Some(Command::Format { again: true });
     }
     if word == "replay" {
-        Some(Command::Replay)
+        return Some(Command::Replay);
+    }
+    if word == "incidents" {
+        Some(Command::Incidents)
     } else {
         None
     }
+}
+
+fn two_words<'a>(word: &str, text: &'a str) -> Option<Command<'a>>
+    ensures found { (command : Asked) → Spells (word.now ∷ text.now ∷ []) command → option_map plain result ≡ Some command }
+    ensures only { IfSome result (λ command. Spells (word.now ∷ text.now ∷ []) (plain command)) }
+{
+    if word == "save" {
+        return Some(Command::Save {
+            label: text.as_bytes(),
+        });
+    }
+    if word != "release" {
+        return None;
+    }
+    let id = number_of(text, 1, 32)?;
+    Some(Command::Release { id })
 }
 
 fn three_words(word: &str, datagrams: &str, bytes: &str) -> Option<Command<'static>>
@@ -140,6 +169,7 @@ pub(crate) fn command_of(words: &[String]) -> Option<Command<'_>>
 {
     match words {
         [word] => one_word(word.as_str()),
+        [word, text] => two_words(word.as_str(), text.as_str()),
         [word, datagrams, bytes] => {
             three_words(word.as_str(), datagrams.as_str(), bytes.as_str())
         }

@@ -50,7 +50,7 @@ pub victim_in_place : (before : List Placed) (v : Placed) (after : List Placed) 
 victim_in_place before v after h = in_place None before v after h
 
 -- The record of a place of a run.
-record_at : (place : ℕ) (rs : List Record) (q : ℕ) → RunOn place rs → place ≤ q → q < place + length rs → (r : Record) × Contains rs r × (r.place ≡ q)
+pub record_at : (place : ℕ) (rs : List Record) (q : ℕ) → RunOn place rs → place ≤ q → q < place + length rs → (r : Record) × Contains rs r × (r.place ≡ q)
 record_at place [] q h low high = absurd (omega (arith, low, high))
 record_at place (r ∷ rs) q h low high = elim (cases_eq q place) [
   | inl same ↦ (r, contains_here r rs, h.0 ∙ sym same)

@@ -31,7 +31,7 @@ use Rattle.vdr_vault.proofs.ShownImages.{records_are}
 batches_append : (xs ys : List Placed) → batches_in (xs ++ ys) ≡ batches_in xs ++ batches_in ys
 batches_append xs ys = flat_map-append batches_of xs ys
 
-records_append : (xs ys : List Placed) → all_records (xs ++ ys) ≡ all_records xs ++ all_records ys
+pub records_append : (xs ys : List Placed) → all_records (xs ++ ys) ≡ all_records xs ++ all_records ys
 records_append [] ys = refl
 records_append (x ∷ xs) ys = ap (λ (rs : List Record). records_of x ++ rs) (records_append xs ys) ∙ sym (append_assoc (records_of x) (all_records xs) (all_records ys))
 

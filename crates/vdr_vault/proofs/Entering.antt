@@ -89,7 +89,7 @@ front_of slots before p rest s visit slot seq new = record {
 }
 
 -- what is ahead of it then, whatever it was in before
-front_ahead : (slots : Slots) (placed before : List Placed) (p : Placed) (rest : List Placed) (c : CursorState) (s : Standing) (ahead passed : List Record)
+pub front_ahead : (slots : Slots) (placed before : List Placed) (p : Placed) (rest : List Placed) (c : CursorState) (s : Standing) (ahead passed : List Record)
     → placed ≡ before ++ p ∷ rest → c.standing ≡ Some s → s.slot ≡ p.slot → s.seq ≡ seq_of p → c.visit.slot ≡ None → ahead ≡ all_records (p ∷ rest) → all_records placed ≡ passed ++ ahead
     → AreAhead slots placed c ahead
 front_ahead slots placed before p rest c s ahead passed is stands slot seq new are split = record {

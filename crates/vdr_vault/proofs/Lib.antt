@@ -27,3 +27,13 @@ pub mod Stepping
 pub mod Seeking
 pub mod Playing
 pub mod Coming
+pub mod Since
+pub mod Refusals
+pub mod BesideSlot
+pub mod SlotWritten
+pub mod SlotKept
+pub mod SaveFaults
+pub mod Released
+pub mod SavePlaces
+pub mod Saved
+pub mod SaveSteps

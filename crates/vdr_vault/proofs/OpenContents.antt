@@ -1,27 +1,33 @@
 -- The contents that were opened, whoever names them, and what a durable image of them shows.
-use Rattle.std.proofs.Common.{◌≡◌, inl, inr, ℕ, List, [], ◌∷◌, true, All, Contains, Option, Some, refl, sym, ap, ◌∙◌, subst, arith}
+use Rattle.std.proofs.Common.{◌≡◌, inl, inr, ℕ, List, [], ◌∷◌, true, All, Contains, Option, Some, None, option_map, refl, sym, ap, ◌∙◌, subst, arith}
 use Rattle.std.proofs.lemmas.List.Elements.{All-nil, All-cons, All-weaker}
+use Rattle.vdr_terms.specs.Order.{AreInOrder as RecordsAreInOrder}
 use Rattle.vdr_terms.specs.Records.{Record, last}
-use Rattle.vdr_retention.specs.Layout.{Batches}
+use Rattle.vdr_retention.specs.Layout.{Batches, segment_records}
+use Rattle.vdr_retention.proofs.Lists.{contains_here}
 use Rattle.vdr_retention.specs.Retention.{Retains}
-use Rattle.vdr_history.specs.Histories.{Incident}
+use Rattle.vdr_history.specs.Histories.{Incident, stamp_of}
 use Rattle.vdr_durability.specs.Readings.{AreLevel, EndsMeet, Reading, ends_before, records_on, restored}
 use Rattle.vdr_durability.specs.Shown.{pins_on}
+use Rattle.vdr_durability.proofs.Restored.{level_restored}
 use Rattle.vdr_durability.proofs.Shows.{opened_shows, retains_itself}
 use Rattle.vdr_outside.specs.Disk.{Disk, Durable, Image, content}
 use Rattle.vdr_config.specs.Configuration.{Configuration}
 use Rattle.vdr_config.specs.Sizes.{window_of}
 use Rattle.vdr_media.proofs.Two.{all_two}
-use Rattle.vdr_ring.specs.Sequence.{Placed, batches_in}
+use Rattle.vdr_ring.specs.Sequence.{Placed, all_records, batches_in}
+use Rattle.vdr_ring.specs.Order.{AreInOrder}
+use Rattle.vdr_ring.proofs.Medium.{in_order_records}
 use Rattle.vdr_ring.specs.Rings as rings
 use Rattle.vdr_incident.specs.Tables.{HoldsTable}
 use Rattle.vdr_opening.specs.Media.{both, Contents, HoldsContents, IsMedium, opening_of, reading_of}
 use Rattle.vdr_opening.specs.Settings.{settings_of}
 use Rattle.vdr_opening.specs.Answers.{IsMissing, IsOpened, OpenedState}
 use Rattle.vdr_opening.proofs.ContentsHeld.{are_legal, one_capsule, one_config, one_incidents, one_long_term}
-use Rattle.vdr_vault.specs.Vaults.{ShowsHistory}
+use Rattle.vdr_vault.specs.Vaults.{ShowsHistory, of_stamp, tick_utc}
 use Rattle.vdr_vault.proofs.CommitMoments.{one}
-use Rattle.vdr_vault.proofs.ShownImages.{are_members, has_long_term}
+use Rattle.vdr_vault.proofs.ShownImages.{are_members, has_long_term, records_are}
+use Rattle.vdr_vault.proofs.ShownPlaces.{stamp_told}
 
 -- Readings with the same batches: where their ends meet, and what one lacks.
 module _ (r s : Reading) (first : r.batches 0 ≡ s.batches 0) (second : r.batches 1 ≡ s.batches 1) where
@@ -83,3 +89,13 @@ restored_shown x image holds meet = (
       (retains_itself (window_of x.config 0) (pins_on 0 x.table) (records_on (restored both (reading_of x)) 0))
       (retains_itself (window_of x.config 1) (pins_on 1 x.table) (records_on (restored both (reading_of x)) 1))),
 )
+
+-- The last record that they begin with is the capsule's.
+pub newest_opened : (x : Contents) → AreInOrder (x.placed 0) → option_map tick_utc (last (all_records (x.placed 0))) ≡ option_map of_stamp (opening_of x).last
+newest_opened x order =
+    let in_order : RecordsAreInOrder (segment_records (batches_in (x.placed 0))) = subst RecordsAreInOrder (sym (records_are (x.placed 0))) (in_order_records (x.placed 0) order) in
+    let same : records_on (restored both (reading_of x)) 0 ≡ all_records (x.placed 0) =
+    level_restored (0 ∷ []) (reading_of x) (one (λ m. last (batches_in (x.placed m)) ≡ last (batches_in (x.placed 0))) 0 refl)
+    (one (λ m. RecordsAreInOrder (segment_records (batches_in (x.placed m)))) 0 in_order) 0 (contains_here 0 [])
+    ∙ records_are (x.placed 0) in
+    stamp_told (last (all_records (x.placed 0))) ∙ ap (λ (rs : List Record). option_map of_stamp (stamp_of (last rs) None)) (sym same)

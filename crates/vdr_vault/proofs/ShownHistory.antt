@@ -105,49 +105,51 @@ module _ {tells tells_images : Type 0} where
     stamp = stands.stamp;
   }
 
--- And with an event that records nothing and changes no incident.
-module _ (opening : Opening) (events : List Event) (e : Event) (none : records_of_act e.act ≡ []) (kept : table_after (all_records opening 1 events) (incidents opening events) e.act ≡ incidents opening events) where
+-- And with an event that records nothing.
+module _ (opening : Opening) (events : List Event) (e : Event) (none : records_of_act e.act ≡ []) where
   no_more : recorded (events ++ e ∷ []) ≡ recorded events
   no_more = recorded_with events e ∙ ap (λ (rs : List Record). recorded events ++ rs) none ∙ append-nil (recorded events)
 
-  same_given : (m : ℕ) → all_records opening m (events ++ e ∷ []) ≡ all_records opening m events
+  pub same_given : (m : ℕ) → all_records opening m (events ++ e ∷ []) ≡ all_records opening m events
   same_given m = ap (λ (rs : List Record). opening.records m ++ rs) no_more
 
-  same_table : incidents opening (events ++ e ∷ []) ≡ incidents opening events
-  same_table = incidents_with opening events e ∙ kept
-
-  same_next : next_place opening (events ++ e ∷ []) ≡ next_place opening events
+  pub same_next : next_place opening (events ++ e ∷ []) ≡ next_place opening events
   same_next = ap (λ (rs : List Record). opening.next_place + length rs) no_more
 
-  same_stamp : last_stamp opening (events ++ e ∷ []) ≡ last_stamp opening events
+  pub same_stamp : last_stamp opening (events ++ e ∷ []) ≡ last_stamp opening events
   same_stamp = ap (λ (rs : List Record). stamp_of (terms.last rs) opening.last) no_more
 
-  history_silent : {tells tells_images : Type 0} (c : Configuration) (m : ℕ) (ring : RingState) (placed : List Placed) (disk : Disk tells tells_images)
-      → HoldsHistory opening events c m ring placed disk → HoldsHistory opening (events ++ e ∷ []) c m ring placed disk
-  history_silent c m ring placed disk h = record {
-    is_its = h.is_its;
-    reads = h.reads;
-    front = h.front;
-    regular = h.regular;
-    order = subst AreInOrder (sym (same_given m)) h.order;
-    retains = subst (λ (all : List Record). Retains (opening.settings.seconds m) (pins_on m (incidents opening (events ++ e ∷ []))) all (sequence.all_records placed)) (sym (same_given m))
-        (subst (λ (t : List (Option Incident)). Retains (opening.settings.seconds m) (pins_on m t) (all_records opening m events) (sequence.all_records placed)) (sym same_table) h.retains);
-    pins = subst (λ (t : List (Option Incident)). ArePinsOf (sizes_of c) m (sequence.all_records placed) (pins_on m t)) (sym same_table) h.pins;
-  }
+  -- It changes no incident either.
+  module _ (kept : table_after (all_records opening 1 events) (incidents opening events) e.act ≡ incidents opening events) where
+    same_table : incidents opening (events ++ e ∷ []) ≡ incidents opening events
+    same_table = incidents_with opening events e ∙ kept
 
-  pub stands_silent : {tells tells_images : Type 0} (members : MembersState) (placed : ℕ → List Placed) (disk : Disk tells tells_images) → Stands opening events members placed disk → Stands opening (events ++ e ∷ []) members placed disk
-  stands_silent members placed disk stands = record {
-    settings = stands.settings;
-    working = stands.working;
-    media = All-weaker (λ m. HoldsHistory opening events members.config m (ring_of members m) (placed m) disk) (λ m. HoldsHistory opening (events ++ e ∷ []) members.config m (ring_of members m) (placed m) disk)
-        (λ m h. history_silent members.config m (ring_of members m) (placed m) disk h) both stands.media;
-    level = stands.level;
-    incidents_are = stands.incidents_are ∙ sym same_table;
-    slots = stands.slots;
-    table = stands.table;
-    there = stands.there;
-    goes_on = stands.goes_on ∙ sym same_next;
-    newest = stands.newest ∙ ap (option_map of_stamp) (sym same_stamp);
-    place = same_next ∙ stands.place;
-    stamp = same_stamp ∙ stands.stamp;
-  }
+    history_silent : {tells tells_images : Type 0} (c : Configuration) (m : ℕ) (ring : RingState) (placed : List Placed) (disk : Disk tells tells_images)
+        → HoldsHistory opening events c m ring placed disk → HoldsHistory opening (events ++ e ∷ []) c m ring placed disk
+    history_silent c m ring placed disk h = record {
+      is_its = h.is_its;
+      reads = h.reads;
+      front = h.front;
+      regular = h.regular;
+      order = subst AreInOrder (sym (same_given m)) h.order;
+      retains = subst (λ (all : List Record). Retains (opening.settings.seconds m) (pins_on m (incidents opening (events ++ e ∷ []))) all (sequence.all_records placed)) (sym (same_given m))
+          (subst (λ (t : List (Option Incident)). Retains (opening.settings.seconds m) (pins_on m t) (all_records opening m events) (sequence.all_records placed)) (sym same_table) h.retains);
+      pins = subst (λ (t : List (Option Incident)). ArePinsOf (sizes_of c) m (sequence.all_records placed) (pins_on m t)) (sym same_table) h.pins;
+    }
+
+    pub stands_silent : {tells tells_images : Type 0} (members : MembersState) (placed : ℕ → List Placed) (disk : Disk tells tells_images) → Stands opening events members placed disk → Stands opening (events ++ e ∷ []) members placed disk
+    stands_silent members placed disk stands = record {
+      settings = stands.settings;
+      working = stands.working;
+      media = All-weaker (λ m. HoldsHistory opening events members.config m (ring_of members m) (placed m) disk) (λ m. HoldsHistory opening (events ++ e ∷ []) members.config m (ring_of members m) (placed m) disk)
+          (λ m h. history_silent members.config m (ring_of members m) (placed m) disk h) both stands.media;
+      level = stands.level;
+      incidents_are = stands.incidents_are ∙ sym same_table;
+      slots = stands.slots;
+      table = stands.table;
+      there = stands.there;
+      goes_on = stands.goes_on ∙ sym same_next;
+      newest = stands.newest ∙ ap (option_map of_stamp) (sym same_stamp);
+      place = same_next ∙ stands.place;
+      stamp = same_stamp ∙ stands.stamp;
+    }

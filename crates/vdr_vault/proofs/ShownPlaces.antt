@@ -18,7 +18,7 @@ legal_records : (batches : Batches) → All IsBatch batches → All IsRecord (se
 legal_records [] h = All-nil IsRecord
 legal_records (b ∷ batches) h = All-append IsRecord b (segment_records batches) (All-head IsBatch b batches h).legal (legal_records batches (All-tail IsBatch b batches h))
 
-all_legal : (placed : List Placed) → All (λ p. All IsBatch (batches_of p)) placed → All IsRecord (all_records placed)
+pub all_legal : (placed : List Placed) → All (λ p. All IsBatch (batches_of p)) placed → All IsRecord (all_records placed)
 all_legal [] h = All-nil IsRecord
 all_legal (p ∷ placed) h =
     All-append IsRecord (segment_records (batches_of p)) (all_records placed)

@@ -6,3 +6,4 @@ pub mod Openings
 pub mod Spans
 pub mod Walks
 pub mod Plays
+pub mod Saves

@@ -1,10 +1,10 @@
-ghost use Rattle.std.specs.Prelude.{◌≡◌, ◌≢◌, ◌↔◌, ◌<◌, ℕ, List, [], IsTrue, true, false, None, Ok, Err, get_or, option_map};
+ghost use Rattle.std.specs.Prelude.{◌≡◌, ◌≢◌, ◌↔◌, ◌<◌, ◌++◌, ℕ, List, [], IfNone, IfSome, IsTrue, true, false, None, Ok, Err, get_or, option_map};
 ghost use Rattle.vdr_terms.specs.Records.{Record as Entry};
 ghost use Rattle.vdr_outside.specs.Causes.{Rose};
-ghost use Rattle.vdr_ring.specs.Sequence.{Placed};
+ghost use Rattle.vdr_ring.specs.Sequence.{Placed, all_records, records_of};
 ghost use Rattle.vdr_ring.specs.Order.{AreInOrder};
 ghost use Rattle.vdr_ring.specs.Rings.{HasMedium, Reads, Tells};
-ghost use Rattle.vdr_ring.specs.Lookup.{IsAbove};
+ghost use Rattle.vdr_ring.specs.Lookup.{AreEarlier, IsAbove, IsFirstSince};
 ghost use Rattle.vdr_ring.specs.Cursors.{IsLoaded};
 ghost use Rattle.vdr_ring.specs.declared.refused.ReadRefused.TheVariants.{Fault as AFault, Damaged};
 ghost use Rattle.vdr_vault.specs.Walks.{AreAhead, AreBehind, CountsOn, GivesHere, GivesNext, HasRead, MayStep, Slots, segments_left, seq_in, slots_read};
@@ -51,6 +51,22 @@ impl Cursor {
             standing: None,
             visit: Visit::new(),
         }
+    }
+
+    /// A cursor before the first segment that has a record of this second of recording time or a later one. None exactly where all
+    /// records are of earlier seconds.
+    pub(crate) fn since(ring: &Ring, second: u64) -> Option<Cursor>
+        ensures may { IfSome result (MayStep ring.now) }
+        ensures item { IfSome result (λ cursor. cursor.visit.item ≡ None) }
+        ensures ahead { IfSome result (λ cursor. (slots : Slots) (placed : List Placed) → Tells ring.now.slots placed ring.now.table → AreInOrder placed
+            → (p : Placed) × (first : IsFirstSince second placed p) × AreAhead slots placed cursor (records_of p ++ all_records first.later)) }
+        ensures none { IfNone result ((placed : List Placed) → Tells ring.now.slots placed ring.now.table → AreInOrder placed → AreEarlier second (all_records placed)) }
+    {
+        let (slot, seq) = ring.first_since(second)?;
+        Some(Cursor {
+            standing: Some(Standing { slot, seq }),
+            visit: Visit::new(),
+        })
     }
 
     /// The record that it stepped to. None exactly where the cursor is new, its last step answered false, or its last step

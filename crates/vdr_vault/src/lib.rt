@@ -10,9 +10,12 @@ mod open;
 mod pins;
 mod play;
 mod questions;
+mod refused;
+mod saving;
 #[cfg(test)]
 mod tests;
 
 pub use cursor::Cursor;
 pub use law::law_of_vaults;
 pub use members::Members;
+pub use refused::SaveRefused;

@@ -1,4 +1,4 @@
-ghost use Rattle.std.specs.Prelude.{◌≡◌, ◌≢◌, ◌⊎◌, ◌+◌, ◌≤◌, ℕ, List, [], length, All, IfOk, OnOk, Err, false};
+ghost use Rattle.std.specs.Prelude.{◌≡◌, ◌≢◌, ◌⊎◌, ◌+◌, ◌≤◌, ℕ, List, [], length, All, IfOk, OnOk, Err, false, option_map};
 ghost use Rattle.vdr_terms.specs.Sizes.{batch_size};
 ghost use Rattle.vdr_durability.specs.Readings.{EndsMeet};
 ghost use Rattle.vdr_outside.specs.Causes.{HasCauseOn};
@@ -10,7 +10,7 @@ ghost use Rattle.vdr_opening.specs.Media.{Contents, HoldsContents, both, opening
 ghost use Rattle.vdr_opening.specs.Refusals.{IsRefused};
 ghost use Rattle.vdr_opening.specs.Answers.{HasOpenCause, IsOpened};
 ghost use Rattle.vdr_opening.specs.declared.refused.OpenRefused.TheVariants.{Damaged, NotFormatted};
-ghost use Rattle.vdr_vault.specs.Vaults.{AreRings, ShowsHistory, Stands};
+ghost use Rattle.vdr_vault.specs.Vaults.{AreRings, ShowsHistory, Stands, of_stamp};
 ghost use Rattle.vdr_vault.specs.Regularity.{AreRegularMedia};
 ghost use Rattle.vdr_vault.specs.Calls.{SameElsewhere};
 ghost use Rattle.vdr_vault.specs.Openings.{GoesOnBehind, HasCauseOnBoth, LeavesAll, OpensAtEachMoment, Reconciles, opened_with};
@@ -45,6 +45,7 @@ impl Members {
             → GoesOnBehind x self.old → Reconciles x self.new (M.disk media.old) (M.disk media.new) result }
         ensures config { self.new.config ≡ self.old.config }
         ensures table { self.new.table ≡ self.old.table }
+        ensures last { self.new.last ≡ self.old.last }
         ensures works { self.new.failed ≡ false }
         ensures rings { AreRings self.new (M.disk media.new).sizes }
         ensures others { M.tells → SameElsewhere (M.disk media.old).reads (M.disk media.new).reads }
@@ -66,7 +67,8 @@ impl Members {
             → (placed : ℕ → List Placed) × Stands (opening_of x) [] members placed (M.disk media.new)) }
         ensures contents { IfOk result (λ members. M.tells → All (λ m. Durable m (M.disk media.old)) both
             → IsFormatted (M.disk media.old).reads × (x : Contents) × HoldsContents (M.disk media.old).reads x
-            × EndsMeet both (reading_of x) × (members.config ≡ x.config) × (members.table ≡ x.table)) }
+            × EndsMeet both (reading_of x) × (members.config ≡ x.config) × (members.table ≡ x.table)
+            × (members.last ≡ option_map of_stamp (opening_of x).last)) }
         ensures works { IfOk result (λ members. members.failed ≡ false) }
         ensures rings { IfOk result (λ members. AreRings members (M.disk media.new).sizes) }
         ensures moments { (x : Contents) → M.tells → All (λ m. Durable m (M.disk media.old)) both → HoldsContents (M.disk media.old).reads x → EndsMeet both (reading_of x) → AreRegularMedia x
@@ -117,7 +119,8 @@ impl Members {
         ensures opened { IfOk result (λ members. (x : Contents) → M.tells → HoldsContents (M.disk media.old).reads x → AreRegularMedia x
             → (placed : ℕ → List Placed) × Stands (opening_of x) [] members placed (M.disk media.new)) }
         ensures contents { IfOk result (λ members. M.tells → IsFormatted (M.disk media.old).reads × (x : Contents) × HoldsContents (M.disk media.old).reads x
-            × EndsMeet both (reading_of x) × (members.config ≡ x.config) × (members.table ≡ x.table)) }
+            × EndsMeet both (reading_of x) × (members.config ≡ x.config) × (members.table ≡ x.table)
+            × (members.last ≡ option_map of_stamp (opening_of x).last)) }
         ensures works { IfOk result (λ members. members.failed ≡ false) }
         ensures rings { IfOk result (λ members. AreRings members (M.disk media.new).sizes) }
         ensures moments { (x : Contents) → M.tells → HoldsContents (M.disk media.old).reads x → EndsMeet both (reading_of x) → AreRegularMedia x

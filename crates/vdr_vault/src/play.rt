@@ -47,7 +47,7 @@ fn number_of(medium: Medium) -> u8
 }
 
 // Steps to the next record of the ring's medium that the query selects of the span.
-fn seek<M: Media>(
+pub(crate) fn seek<M: Media>(
     ring: &mut Ring,
     media: &mut M,
     query: &Query,

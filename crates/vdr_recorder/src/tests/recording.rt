@@ -36,7 +36,7 @@ const FIRST_RUN: &[u8] =
 const BOTH_RUNS: &[u8] =
     b"4 NAVD 3 1970-01-01T00:01:00.000Z data 6 AbCdE<00>\n  opaque\n5 - - 1970-01-01T00:01:00.000Z stop\n6 - - 1970-01-01T00:01:00.000Z start\n7 - - 1970-01-01T00:01:00.000Z stop\n";
 
-fn formatted(rt: &impl Abort, alloc: Global) -> Result<RamMedia, Fail> {
+pub(super) fn formatted(rt: &impl Abort, alloc: Global) -> Result<RamMedia, Fail> {
     let mut media = Vec::new(alloc);
     media.push(vec![in alloc; 0u8; 122_880]?)?;
     media.push(vec![in alloc; 0u8; 712_704]?)?;
@@ -47,7 +47,7 @@ fn formatted(rt: &impl Abort, alloc: Global) -> Result<RamMedia, Fail> {
     Ok(media)
 }
 
-fn open(rt: &impl Abort, alloc: Global, media: &mut RamMedia) -> Result<Recording, Fail>
+pub(super) fn open(rt: &impl Abort, alloc: Global, media: &mut RamMedia) -> Result<Recording, Fail>
     ensures rings { IfOk result (λ r. AreRings r.members (contents_alone media.new).sizes) }
     ensures closed { IfOk result (λ r. r.is_open ≡ false) }
 {
@@ -79,7 +79,7 @@ fn captured(rt: &impl Abort, number: u64, received: u64) -> Captured
 }
 
 // Records one item, of this number, as a batch.
-fn take(
+pub(super) fn take(
     rt: &impl Abort,
     media: &mut RamMedia,
     recording: &mut Recording,
@@ -103,7 +103,7 @@ fn take(
 }
 
 // Closes the run.
-fn stop(rt: &impl Abort, media: &mut RamMedia, recording: &mut Recording)
+pub(super) fn stop(rt: &impl Abort, media: &mut RamMedia, recording: &mut Recording)
     requires rings { AreRings recording.old.members (contents_alone media.old).sizes }
     requires open { recording.old.is_open ≡ true }
     requires place { recording.old.maker.place ≤ 2 ^ 62 + 8 }
@@ -113,18 +113,21 @@ fn stop(rt: &impl Abort, media: &mut RamMedia, recording: &mut Recording)
     assert!(rt; recording.stop(media, &[NONE; 16]).is_ok());
 }
 
-// Plays the capsule's window.
-fn play(
+// Plays all that the medium has.
+pub(super) fn play(
     rt: &impl Abort,
     alloc: Global,
     media: &mut RamMedia,
     recording: &mut Recording,
+    medium: Medium,
     text: &[u8],
 )
     requires { AreRings recording.old.members (contents_alone media.old).sizes }
+    ensures rings { AreRings recording.new.members (contents_alone media.new).sizes }
+    ensures open { recording.new.is_open ≡ recording.old.is_open }
 {
     let query = Query {
-        medium: Medium::Capsule,
+        medium,
         channel: None,
         from: 0,
         to: 100_000,
@@ -148,13 +151,27 @@ fn two_runs_are_recorded_and_played(rt: HostRuntime) -> Result<(), Fail> {
     take(&rt, &mut media, &mut recording, 3, 60_000);
     stop(&rt, &mut media, &mut recording);
     assert_eq!(rt; recording.recorded(3), (4, 0));
-    play(&rt, alloc, &mut media, &mut recording, FIRST_RUN);
+    play(
+        &rt,
+        alloc,
+        &mut media,
+        &mut recording,
+        Medium::Capsule,
+        FIRST_RUN,
+    );
     let mut recording = open(&rt, alloc, &mut media)?;
     let Ok(()) = recording.start(&mut media) else {
         return Err("no further run is begun".into());
     };
     stop(&rt, &mut media, &mut recording);
-    play(&rt, alloc, &mut media, &mut recording, BOTH_RUNS);
+    play(
+        &rt,
+        alloc,
+        &mut media,
+        &mut recording,
+        Medium::Capsule,
+        BOTH_RUNS,
+    );
     let expected = State {
         records: 8,
         tick: 61_000,

@@ -3,46 +3,15 @@ ghost use Rattle.std.specs.Prelude.{◌≡◌, ◌≤◌, length, IfOk};
 
 use super::*;
 
-// Words, the input, what is printed, and the exit status.
-type Step<'a> = (&'a [&'a str], &'a [u8], &'a str, u8);
-
 const PLAY_CAPSULE: &[&str] = &["play", "capsule", "all", "-", "-"];
 
 const PLAY_LONG_TERM: &[&str] = &["play", "longterm", "all", "-", "-"];
 
 const REPLAY: &[&str] = &["replay"];
 
-// Does one command after another over media that begin with these contents.
-fn assert_steps(
-    rt: &impl Abort,
-    alloc: Global,
-    contents: Vec<Vec<u8>>,
-    steps: &[Step<'_>],
-) -> Result<(), Fail>
-    requires { length contents.items ≡ 2 }
-{
-    let mut media = RamMedia::new(contents);
-    for (words, input, text, code) in steps {
-        assert!(rt; media.count() == 2);
-        let (status, printed, after) = answered_over(alloc, words, input, media)?;
-        media = after;
-        assert_eq!(rt; printed.as_slice(), text.as_bytes());
-        assert_eq!(rt; status.code(), *code);
-    }
-    Ok(())
-}
-
 #[test]
 fn a_feed_is_recorded_and_played(rt: HostRuntime) -> Result<(), Fail> {
-    let four = feed_of(
-        rt.alloc(),
-        &[
-            (0, 0, SMALL),
-            (999, 999, SMALL),
-            (1_000, 1_000, SMALL),
-            (60_000, 60_000, SMALL),
-        ],
-    )?;
+    let four = four_items(rt.alloc())?;
     let steps: [Step<'_>; 8] = [
         (&["format"], BENCH.as_bytes(), "", 0),
         (

@@ -79,3 +79,45 @@ fn a_fault_is_told_by_its_own_status(rt: HostRuntime) -> Result<(), Fail> {
     assert_eq!(rt; printed.len(), 0);
     Ok(())
 }
+
+#[test]
+fn words_of_saves_are_told_apart(rt: HostRuntime) -> Result<(), Fail> {
+    let rows: [(&[&str], &str); 13] = [
+        (&["incidents"], "status 4 unformatted\n"),
+        (&["incidents", "1"], "status 2 words\n"),
+        (&["save", "A"], "status 4 unformatted\n"),
+        (&["save", ""], "status 4 unformatted\n"),
+        (&["save"], "status 2 words\n"),
+        (&["save", "two", "words"], "status 2 words\n"),
+        (&["release", "1"], "status 4 unformatted\n"),
+        (&["release", "32"], "status 4 unformatted\n"),
+        (&["release", "0"], "status 2 words\n"),
+        (&["release", "33"], "status 2 words\n"),
+        (&["release", "01"], "status 2 words\n"),
+        (&["release", "A"], "status 2 words\n"),
+        (&["release"], "status 2 words\n"),
+    ];
+    for (words, text) in &rows {
+        let (_, printed) = answered(rt.alloc(), words, Vec::new(rt.alloc()), &[], &[])?;
+        assert_eq!(rt; printed.as_slice(), text.as_bytes());
+    }
+    Ok(())
+}
+
+#[test]
+fn a_save_that_is_refused_says_why(rt: HostRuntime) -> Result<(), Fail> {
+    let rows: [(&[&str], &str, u8); 5] = [
+        (&["incidents"], "", 0),
+        (&["save", ""], "status 12 label\n", 12),
+        (&["save", "a\tb"], "status 12 label\n", 12),
+        (&["save", "A"], "status 12 nothing\n", 12),
+        (&["release", "1"], "status 11 incident 1\n", 11),
+    ];
+    for (words, text, code) in &rows {
+        let media = RamMedia::new(formatted_bench(rt.alloc())?);
+        let (status, printed, _) = answered_over(rt.alloc(), words, b"", media)?;
+        assert_eq!(rt; printed.as_slice(), text.as_bytes());
+        assert_eq!(rt; status.code(), *code);
+    }
+    Ok(())
+}

@@ -38,18 +38,6 @@ fn first_records(alloc: Global, count: usize) -> Result<Vec<u8>, AllocError> {
     Ok(text)
 }
 
-fn four_items(alloc: Global) -> Result<Vec<u8>, AllocError> {
-    feed_of(
-        alloc,
-        &[
-            (0, 0, SMALL),
-            (999, 999, SMALL),
-            (1_000, 1_000, SMALL),
-            (60_000, 60_000, SMALL),
-        ],
-    )
-}
-
 // What a stop after so many writes and syncs leaves is a front of the history, with all that was acknowledged.
 fn assert_stop(
     rt: &impl Abort,

@@ -3,9 +3,10 @@ use Rattle.std.specs.Io.KnownBytes.{Appends}
 use Rattle.vdr_tool.specs.Answers.{IsComplete, RefusesConfig}
 use Rattle.vdr_tool.specs.Check.{number_of, refusal_line}
 use Rattle.vdr_tool.specs.Commands.{Asked, plain}
-use Rattle.vdr_tool.specs.Commands.Asked.{Format, Play, Replay}
+use Rattle.vdr_tool.specs.Commands.Asked.{Format, Incidents, Play, Release, Replay, Save}
 use Rattle.vdr_tool.specs.Formats.{FormatAnswers, IfFormat}
 use Rattle.vdr_tool.specs.Plays.{IfPlay, PlayAnswers}
+use Rattle.vdr_tool.specs.Saves.{IfRelease, IfSave, ReleaseAnswers, SaveAnswers}
 use Rattle.vdr_tool.specs.StatusLine.{Wrote}
 use Rattle.vdr_tool.proofs.Completeness.{completes_command, refused_by}
 use Rattle.vdr_tool.proofs.WordLemmas.{none_asked}
@@ -26,8 +27,10 @@ returns-clause-complete g c = λ command asks input output media.
     (λ is. input (c.answer.ensures.input is))
     (λ is. output (c.answer.ensures.output is).0)
     media (⊎_elim (λ uses. inl uses) (λ kept. inr kept.1) c.answer.ensures.media) c.answer.ensures.formats c.answer.ensures.replays c.answer.ensures.plays
+    c.answer.ensures.incidents c.answer.ensures.saves c.answer.ensures.releases
     (record {
       config = λ x y h k. (c.law_of_contents.ensures.config image x y h k).0;
+      placed = λ x y h k. (c.law_of_contents.ensures.placed image x y h k).0;
       table = c.law_of_contents.ensures.table image;
       formatted = c.law_of_contents.ensures.formatted image;
       either = c.law_of_refusals.ensures.either image;
@@ -62,3 +65,26 @@ returns-clause-plays g c = λ medium channel from to asks.
     let same : plain c.in-Some.command ≡ Play medium channel from to = cc in
     subst (λ (a : Asked). IfPlay a (λ medium channel from to. PlayAnswers medium channel from to (g.M.Media.disk c.args.world.now.media) (g.M.Media.disk c.answer.new.world.media) (g.M.Media.faults c.args.world.now.media) (g.M.Media.faults c.answer.new.world.media)
     (g.O.Sink.taken c.args.world.now.output) (g.O.Sink.taken c.answer.new.world.output) (g.O.Sink.faults c.args.world.now.output) (g.O.Sink.faults c.answer.new.world.output) c.answer.result)) same c.answer.ensures.plays
+
+pub returns-in_default-clause-incidents : goal.returns-in_default-clause-incidents
+returns-in_default-clause-incidents g c = λ asks. none_asked c.command_of.result Incidents c.in_default.is (c.command_of.ensures.found Incidents asks)
+
+pub returns-in_default-clause-saves : goal.returns-in_default-clause-saves
+returns-in_default-clause-saves g c = λ label asks. none_asked c.command_of.result (Save label) c.in_default.is (c.command_of.ensures.found (Save label) asks)
+
+pub returns-in_default-clause-releases : goal.returns-in_default-clause-releases
+returns-in_default-clause-releases g c = λ id asks. none_asked c.command_of.result (Release id) c.in_default.is (c.command_of.ensures.found (Release id) asks)
+
+pub returns-clause-saves : goal.returns-clause-saves
+returns-clause-saves g c = λ label asks.
+    let both : Some (plain c.in-Some.command) ≡ Some (Save label) = c.in-Some.ensures.found (Save label) asks in
+    let same : plain c.in-Some.command ≡ Save label = cc in
+    subst (λ (a : Asked). IfSave a (λ label. SaveAnswers label (g.M.Media.disk c.args.world.now.media) (g.M.Media.disk c.answer.new.world.media) (g.M.Media.faults c.args.world.now.media) (g.M.Media.faults c.answer.new.world.media)
+    (g.O.Sink.taken c.args.world.now.output) (g.O.Sink.taken c.answer.new.world.output) c.answer.result)) same c.answer.ensures.saves
+
+pub returns-clause-releases : goal.returns-clause-releases
+returns-clause-releases g c = λ id asks.
+    let both : Some (plain c.in-Some.command) ≡ Some (Release id) = c.in-Some.ensures.found (Release id) asks in
+    let same : plain c.in-Some.command ≡ Release id = cc in
+    subst (λ (a : Asked). IfRelease a (λ id. ReleaseAnswers id (g.M.Media.disk c.args.world.now.media) (g.M.Media.disk c.answer.new.world.media) (g.M.Media.faults c.args.world.now.media) (g.M.Media.faults c.answer.new.world.media)
+    (g.O.Sink.taken c.args.world.now.output) (g.O.Sink.taken c.answer.new.world.output) c.answer.result)) same c.answer.ensures.releases

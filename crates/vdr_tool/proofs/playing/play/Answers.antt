@@ -1,7 +1,9 @@
 use Rattle.std.proofs.Common.{sym, subst}
-use Rattle.vdr_tool.specs.Plays.{PlayEnds, PrintsText, play_text}
+use Rattle.vdr_tool.specs.Opened.{AreLooks, PrintsText}
+use Rattle.vdr_tool.specs.Plays.{PlayEnds, play_text}
 use Rattle.vdr_tool.specs.declared.status.Status.{Status}
-use Rattle.vdr_tool.proofs.PlayLemmas.{channel_ends, played_ends, played_prints, refused_ends, wanted_so}
+use Rattle.vdr_tool.proofs.OpenedLemmas.{no_looks, refused_ends}
+use Rattle.vdr_tool.proofs.PlayLemmas.{channel_ends, played_ends, played_prints, wanted_so, with_media}
 use Rattle.vdr_tool.proofs.playing.play.Goals as goal
 
 pub returns-in-Err-clause-ends : goal.returns-in-Err-clause-ends
@@ -9,12 +11,12 @@ returns-in-Err-clause-ends g c =
     let told = c.open.ensures in
     subst (λ (s : Status). PlayEnds c.args.wanted.medium c.args.wanted.channel.now (g.M.Media.disk c.args.media.now) (g.M.Media.disk c.open.new.media) (g.M.Media.faults c.args.media.now) (g.M.Media.faults c.open.new.media) s)
     (sym c.status_of.ensures)
-    (refused_ends _ _ _ _ _ _ c.open.result c.in-Err.refused c.in-Err.is told.unformatted told.damaged told.untouched told.others told.cause told.moments)
+    (with_media _ _ _ _ _ _ c.in-Err.refused (refused_ends _ _ AreLooks _ _ _ _ c.open.result c.in-Err.refused no_looks c.in-Err.is told.unformatted told.damaged told.untouched told.others told.cause told.moments))
 
 pub returns-in_default-clause-ends : goal.returns-in_default-clause-ends
 returns-in_default-clause-ends g c =
     let told = c.open.ensures in
-    channel_ends _ _ _ _ _ _ c.open.result c.in-Ok.recording.members.config c.in-Ok.recording.members.table c.in_default.ensures.none c.in-Ok.ensures.contents told.others told.moments
+    channel_ends _ _ _ _ _ _ c.open.result c.in-Ok.recording c.in-Ok.is c.in-Ok.recording.members c.in_default.ensures.none c.in-Ok.ensures.contents told.others told.moments
 
 pub returns-clause-ends : goal.returns-clause-ends
 returns-clause-ends g c =

@@ -2,6 +2,7 @@ use Rattle.std.proofs.Common.{sym, ◌∙◌}
 use Rattle.std.proofs.lemmas.Result.{err_from_is_err_and}
 use Rattle.vdr_outside.proofs.Moments.{moments_after_reads}
 use Rattle.vdr_vault.proofs.OpenCauses.{fault_unless_ok, no_fault}
+use Rattle.vdr_vault.proofs.OpenContents.{newest_opened}
 use Rattle.vdr_vault.proofs.OpenMoments.{goes_on, read_on, reading_shown, same_elsewhere}
 use Rattle.vdr_ring.proofs.Faults.{same_err}
 use Rattle.vdr_media.proofs.Two.{second_of}
@@ -40,7 +41,9 @@ returns-clause-contents g c told durable =
     let h = rw (c.read_media.ensures.unchanged.reads told) at was.1.holds in
     let config = rw (sym c.config.view_is) at was.1.config in
     let table = rw (sym c.config.view_is) at was.1.table in
-    (c.in_ok-config.ensures.formatted told, was.0, h, was.1.meet, c.reconcile.ensures.config ∙ config, c.reconcile.ensures.table ∙ table)
+    let capsule = rw (sym c.config.view_is) at was.1.capsule in
+    let newest = c.reconcile.ensures.last ∙ c.ending-next_place.ensures.last (was.0.placed 0) capsule.table ∙ newest_opened was.0 capsule.order in
+    (c.in_ok-config.ensures.formatted told, was.0, h, was.1.meet, c.reconcile.ensures.config ∙ config, c.reconcile.ensures.table ∙ table, newest)
 
 pub returns-clause-moments : goal.returns-clause-moments
 returns-clause-moments g c x told durable holds meet regular =

@@ -1,0 +1,213 @@
+-- What commands on recorded media answer, from what opening them and one call of the recorder ensure.
+use Rattle.std.specs.Prelude.{IsErrOf}
+use Rattle.std.proofs.Common.{◌≡◌, ◌≤◌, ◌⊎◌, ◌∷◌, inl, inr, ⊎_elim, ℕ, List, [], Result, Ok, Err, refl, sym, subst, arith, ◌∙◌}
+use Rattle.std.proofs.lemmas.List.Elements.{All-cons, All-nil}
+use Rattle.vdr_history.specs.Histories.{Act, Event}
+use Rattle.vdr_history.specs.Histories.Act.{Look}
+use Rattle.vdr_durability.specs.Keeping.{ShowsPrefix}
+use Rattle.vdr_durability.specs.Readings.{EndsMeet}
+use Rattle.vdr_outside.specs.Disk.{Disk, Image}
+use Rattle.vdr_media.specs.Formatted.{IsFormatted, IsUnformatted}
+use Rattle.vdr_opening.specs.Answers.{HasOpenCause}
+use Rattle.vdr_opening.specs.Media.{both, Contents, HoldsContents, opening_of, reading_of}
+use Rattle.vdr_opening.specs.Refusals.{IsRefused}
+use Rattle.vdr_opening.specs.declared.refused.OpenRefused.{OpenRefused}
+use Rattle.vdr_opening.specs.declared.refused.OpenRefused.TheVariants as openings
+use Rattle.vdr_recorder.specs.Recordings.{HasDone, RecordingState}
+use Rattle.vdr_vault.specs.Calls.{SameElsewhere}
+use Rattle.vdr_vault.specs.Openings.{GoesOnSynced, LeavesAll, OpensAtEachMoment}
+use Rattle.vdr_vault.specs.Regularity.{AreRegularMedia}
+use Rattle.vdr_vault.specs.Vaults.{MembersState, ShowsHistory}
+use Rattle.vdr_tool.specs.Incidents.{CanList}
+use Rattle.vdr_tool.specs.Opened.{AreLooks, IsLegibleWith, IsUnopened, IsWorkDone, KeepsContents, MayLeave, MediaEnds, newest_of, status_of_opening}
+use Rattle.vdr_tool.specs.declared.status.Status.{Status}
+use Rattle.vdr_tool.specs.declared.status.Status.TheVariants.{Done, Words, Config, Small, Unformatted, Formatted, Damaged, MediaFault, InputFault, OutputFault, NoMemory, Feed, NoChannel, NoIncident, SaveRefused, Place, Tick}
+
+-- What was opened stays, where nothing is recorded.
+first_of_all : (x : Contents) (events : List Event) (image : Image) → ShowsHistory (opening_of x) [] image → ShowsPrefix (ShowsHistory (opening_of x)) events 0 image
+first_of_all x events image shows = record { first = []; rest = events; split = refl; enough = omega arith; shown = shows }
+
+pub no_looks : AreLooks []
+no_looks = record { few = omega arith; looks = All-nil (λ (e : Event). e.act ≡ Look) }
+
+pub one_look : (event : Event) → event.act ≡ Look → AreLooks (event ∷ [])
+one_look event is = record { few = omega arith; looks = All-cons (λ (e : Event). e.act ≡ Look) event [] is (All-nil (λ (e : Event). e.act ≡ Look)) }
+
+-- Opening alone does no act.
+pub no_act : (Does : Act → Type 0) (clock : ℕ) (refused : OpenRefused) → MayLeave Does clock (status_of_opening refused) []
+no_act Does clock openings.NoMemory = no_looks
+no_act Does clock openings.NotFormatted = no_looks
+no_act Does clock (openings.Damaged m offset) = no_looks
+no_act Does clock openings.Fault = inl no_looks
+
+pub done_either : (status : Status) → IsWorkDone status → (status ≡ Done) ⊎ (status ≡ OutputFault)
+done_either Done is = inl refl
+done_either OutputFault is = inr refl
+done_either Words is = absurd is
+done_either (Config n) is = absurd is
+done_either (Small small) is = absurd is
+done_either Unformatted is = absurd is
+done_either Formatted is = absurd is
+done_either (Damaged m offset) is = absurd is
+done_either MediaFault is = absurd is
+done_either InputFault is = absurd is
+done_either NoMemory is = absurd is
+done_either (Feed n at) is = absurd is
+done_either NoChannel is = absurd is
+done_either (NoIncident id) is = absurd is
+done_either (SaveRefused cause) is = absurd is
+done_either Place is = absurd is
+done_either Tick is = absurd is
+
+module _ {tells tells_images : Type 0} where
+  keeps_opened : (x : Contents) (MayBe : List Event → Type 0) → MayBe [] → (old new : Disk tells tells_images) → GoesOnSynced old new (ShowsHistory (opening_of x) []) → KeepsContents x MayBe old new
+  keeps_opened x MayBe may old new goes = record {
+    events = [];
+    may_be = may;
+    history = record { follow = tt; pending = tt };
+    since_entry = λ image s. ⊎_elim (λ was. inl was) (λ shows. inr (first_of_all x [] image shows)) (goes.moments.each image s);
+    synced = goes.synced;
+    after_entry = goes.after_entry;
+    before_exit = goes.before_exit;
+    kept = record {
+      rising = omega arith;
+      pending = tt;
+      prefixes = λ t image from upto s. first_of_all x [] image (goes.since image (new.earlier goes.synced t image from s));
+      now = λ whole image n. goes.since image (new.counts_now goes.synced image goes.before_exit n);
+    };
+  }
+
+  kept_by_opening : {T : Type 0} (x : Contents) (MayBe : List Event → Type 0) (status : Status) (old new : Disk tells tells_images) (result : Result T OpenRefused) → MayBe []
+      → (IsErrOf result openings.Fault → IsUnopened status) → OpensAtEachMoment old new result (ShowsHistory (opening_of x) [])
+      → (IsUnopened status × LeavesAll old new) ⊎ KeepsContents x MayBe old new
+  kept_by_opening x MayBe status old new result may unopened (inl ends) = inl (unopened ends.failed, ends.moments)
+  kept_by_opening x MayBe status old new result may unopened (inr goes) = inr (keeps_opened x MayBe may old new goes)
+
+  -- The media were opened, and nothing else was done.
+  pub kept_opened : {T : Type 0} (x : Contents) (MayBe : List Event → Type 0) (old new : Disk tells tells_images) (result : Result T OpenRefused) (r : T) → result ≡ Ok r → MayBe []
+      → OpensAtEachMoment old new result (ShowsHistory (opening_of x) []) → KeepsContents x MayBe old new
+  kept_opened x MayBe old new result r is may (inl ends) = let clash : Ok r ≡ Err openings.Fault = sym is ∙ ends.failed in let none : ⊥ = cc in absurd none
+  kept_opened x MayBe old new result r is may (inr goes) = keeps_opened x MayBe may old new goes
+
+  -- The media were not opened.
+  pub refused_ends : {T : Type 0} (Can : Contents → Type 0) (Met : Type 0) (MayBe : List Event → Type 0) (old new : Disk tells tells_images) (before now : List ℕ)
+      (result : Result T OpenRefused) (refused : OpenRefused) → MayBe [] → result ≡ Err refused
+      → (result ≡ Err openings.NotFormatted → tells → IsUnformatted old.reads)
+      → ((m offset : ℕ) → result ≡ Err (openings.Damaged m offset) → tells → IsFormatted old.reads × IsRefused old.reads m offset)
+      → ((result ≡ Err openings.NotFormatted) ⊎ ((m : ℕ) × (offset : ℕ) × (result ≡ Err (openings.Damaged m offset))) → LeavesAll old new × (tells → new.reads ≡ old.reads))
+      → (tells → SameElsewhere old.reads new.reads)
+      → HasOpenCause before now result
+      → ((x : Contents) → tells → HoldsContents old.reads x → EndsMeet both (reading_of x) → AreRegularMedia x → OpensAtEachMoment old new result (ShowsHistory (opening_of x) []))
+      → MediaEnds Can Met MayBe old new before now (status_of_opening refused)
+  refused_ends Can Met MayBe old new before now result openings.NoMemory may is unformatted damaged untouched others cause moments = record {
+    unformatted = λ e. let none : ⊥ = cc in absurd none;
+    damaged = tt;
+    fault = λ e. let none : ⊥ = cc in absurd none;
+    legible = λ done. absurd done;
+    others = others;
+    kept = λ x t holds meet regular. kept_by_opening x MayBe NoMemory old new result may
+        (λ failed. let clash : Err openings.NoMemory ≡ Err openings.Fault = sym is ∙ failed in let none : ⊥ = cc in absurd none)
+        (moments x t holds meet regular);
+  }
+  refused_ends Can Met MayBe old new before now result openings.NotFormatted may is unformatted damaged untouched others cause moments =
+      let same = untouched (inl is) in
+      record {
+        unformatted = λ e. (record { leaves = same.0; reads = same.1 }, unformatted is);
+        damaged = tt;
+        fault = λ e. let none : ⊥ = cc in absurd none;
+        legible = λ done. absurd done;
+        others = others;
+        kept = λ x t holds meet regular. inl (tt, same.0);
+      }
+  refused_ends Can Met MayBe old new before now result (openings.Damaged m offset) may is unformatted damaged untouched others cause moments =
+      let same = untouched (inr (m, offset, is)) in
+      record {
+        unformatted = λ e. let none : ⊥ = cc in absurd none;
+        damaged = inl (record { leaves = same.0; reads = same.1 }, damaged m offset is);
+        fault = λ e. let none : ⊥ = cc in absurd none;
+        legible = λ done. absurd done;
+        others = others;
+        kept = λ x t holds meet regular. inl (tt, same.0);
+      }
+  refused_ends Can Met MayBe old new before now result openings.Fault may is unformatted damaged untouched others cause moments = record {
+    unformatted = λ e. let none : ⊥ = cc in absurd none;
+    damaged = tt;
+    fault = λ e. cause.in_all is;
+    legible = λ done. absurd done;
+    others = others;
+    kept = λ x t holds meet regular. kept_by_opening x MayBe MediaFault old new result may (λ failed. tt) (moments x t holds meet regular);
+  }
+
+  -- The work was done.
+  pub worked_ends : (Can : Contents → Type 0) (Met : Type 0) (MayBe : List Event → Type 0) (old new : Disk tells tells_images) (before now : List ℕ) (status : Status) → IsWorkDone status
+      → (tells → IsLegibleWith old.reads Can) → (tells → SameElsewhere old.reads new.reads)
+      → ((x : Contents) → tells → HoldsContents old.reads x → EndsMeet both (reading_of x) → AreRegularMedia x → KeepsContents x MayBe old new)
+      → MediaEnds Can Met MayBe old new before now status
+  worked_ends Can Met MayBe old new before now status done legible others kept = ⊎_elim
+      (λ (is : status ≡ Done). subst (λ (s : Status). MediaEnds Can Met MayBe old new before now s) (sym is) (record {
+        unformatted = λ e. let none : ⊥ = cc in absurd none;
+        damaged = tt;
+        fault = λ e. let none : ⊥ = cc in absurd none;
+        legible = λ d. legible;
+        others = others;
+        kept = λ x t holds meet regular. inr (kept x t holds meet regular);
+      }))
+      (λ (is : status ≡ OutputFault). subst (λ (s : Status). MediaEnds Can Met MayBe old new before now s) (sym is) (record {
+        unformatted = λ e. let none : ⊥ = cc in absurd none;
+        damaged = tt;
+        fault = λ e. let none : ⊥ = cc in absurd none;
+        legible = λ d. legible;
+        others = others;
+        kept = λ x t holds meet regular. inr (kept x t holds meet regular);
+      }))
+      (done_either status done)
+
+  -- The contents whose configuration, incidents and last record the vault has.
+  abbrev pub OpenedOn : Disk tells tells_images → MembersState → Type 0
+  OpenedOn old members = tells → IsFormatted old.reads × (x : Contents) × HoldsContents old.reads x × EndsMeet both (reading_of x)
+      × (members.config ≡ x.config) × (members.table ≡ x.table) × (members.last ≡ newest_of x)
+
+  -- What was opened is legible.
+  pub legible_so : (Can : Contents → Type 0) (old : Disk tells tells_images) (members : MembersState) → OpenedOn old members
+      → ((x : Contents) → tells → HoldsContents old.reads x → members.config ≡ x.config → members.table ≡ x.table → members.last ≡ newest_of x → Can x)
+      → tells → IsLegibleWith old.reads Can
+  legible_so Can old members contents can t = let c = contents t in (c.0, c.1, c.2, c.3, can c.1 t c.2 c.4 c.5 c.6)
+
+  -- At every moment up to the call, with its events.
+  since_opening : {T : Type 0} (x : Contents) (events : List Event) (old mid : Disk tells tells_images) (result : Result T OpenRefused) → OpensAtEachMoment old mid result (ShowsHistory (opening_of x) [])
+      → (image : Image) → mid.since old.clock image → old.now image ⊎ ShowsPrefix (ShowsHistory (opening_of x)) events 0 image
+  since_opening x events old mid result (inl ends) image s = inl (ends.moments.each image s)
+  since_opening x events old mid result (inr goes) image s = ⊎_elim (λ was. inl was) (λ shows. inr (first_of_all x events image shows)) (goes.moments.each image s)
+
+  -- A call of the recorder was one event on the media that were opened.
+  pub kept_by_call : {T : Type 0} (x : Contents) (MayBe : List Event → Type 0) (old mid new : Disk tells tells_images) (result : Result T OpenRefused) (act : Act) (r after : RecordingState) (t0 : ℕ)
+      → OpensAtEachMoment old mid result (ShowsHistory (opening_of x) []) → old.clock ≤ t0 → t0 ≤ mid.clock → (done : HasDone (opening_of x) [] t0 act after mid new)
+      → MayBe (done.event ∷ []) → KeepsContents x MayBe old new
+  kept_by_call x MayBe old mid new result act r after t0 moments from upto done may =
+      let entry : old.clock ≤ mid.clock = omega (arith, from, upto) in
+      record {
+        events = done.event ∷ [];
+        may_be = may;
+        history = done.has.history;
+        since_entry = λ image s. ⊎_elim
+            (λ earlier. since_opening x (done.event ∷ []) old mid result moments image earlier)
+            (λ here. ⊎_elim
+            (λ now. since_opening x (done.event ∷ []) old mid result moments image (mid.counts_now old.clock image entry now))
+            (λ shows. inr shows)
+            here)
+            (done.passes.before old.clock image entry s);
+        synced = t0;
+        after_entry = from;
+        before_exit = omega (arith, upto, done.passes.later);
+        kept = done.has.kept;
+      }
+
+  -- What was opened is listed.
+  pub listed_ends : {T : Type 0} (old new : Disk tells tells_images) (before now : List ℕ) (result : Result T OpenRefused) (r : T) → result ≡ Ok r
+      → (members : MembersState) → OpenedOn old members
+      → (tells → SameElsewhere old.reads new.reads)
+      → ((x : Contents) → tells → HoldsContents old.reads x → EndsMeet both (reading_of x) → AreRegularMedia x → OpensAtEachMoment old new result (ShowsHistory (opening_of x) []))
+      → (status : Status) → IsWorkDone status → MediaEnds CanList ⊥ AreLooks old new before now status
+  listed_ends old new before now result r is members contents others moments status done =
+      worked_ends CanList ⊥ AreLooks old new before now status done (legible_so CanList old members contents (λ x t holds c k l. tt)) others
+      (λ x t holds meet regular. kept_opened x AreLooks old new result r is no_looks (moments x t holds meet regular))

@@ -1,0 +1,137 @@
+-- What is said of every command that opens recorded media: how opening is refused, and what the media keep (this project's profile).
+use Rattle.std.specs.Prelude.{◌≡◌, ◌≤◌, ◌⊎◌, ◌∷◌, ℕ, ℤ, List, [], length, sum, All, option_map, Option, Some, None, ⊤}
+use Rattle.std.specs.Io.KnownBytes.{Appends}
+use Rattle.vdr_history.specs.Histories.{Act, Event, IsHistory}
+use Rattle.vdr_history.specs.Histories.Act.{Look}
+use Rattle.vdr_durability.specs.Keeping.{Keeps, ShowsPrefix}
+use Rattle.vdr_durability.specs.Readings.{EndsMeet}
+use Rattle.vdr_outside.specs.Causes.{Rose}
+use Rattle.vdr_outside.specs.Disk.{Disk, Image}
+use Rattle.vdr_outside.specs.Writes.{AppendsFront}
+use Rattle.vdr_media.specs.Formatted.{IsFormatted, IsUnformatted}
+use Rattle.vdr_opening.specs.Media.{both, Contents, HoldsContents, opening_of, reading_of}
+use Rattle.vdr_opening.specs.Refusals.{IsRefused}
+use Rattle.vdr_opening.specs.declared.refused.OpenRefused.{OpenRefused}
+use Rattle.vdr_opening.specs.declared.refused.OpenRefused.TheVariants as openings
+use Rattle.vdr_vault.specs.Calls.{SameElsewhere}
+use Rattle.vdr_vault.specs.Openings.{LeavesAll}
+use Rattle.vdr_vault.specs.Regularity.{AreRegularMedia}
+use Rattle.vdr_vault.specs.Vaults.{ShowsHistory, of_stamp}
+use Rattle.vdr_tool.specs.StatusLine.{Wrote, status_line}
+use Rattle.vdr_tool.specs.declared.status.Status.{Status}
+use Rattle.vdr_tool.specs.declared.status.Status.TheVariants.{Done, Unformatted, Damaged, MediaFault, OutputFault, NoMemory, NoIncident}
+
+-- How a refusal of the media ends the command.
+abbrev pub status_of_opening : OpenRefused → Status
+status_of_opening openings.NoMemory = NoMemory
+status_of_opening openings.NotFormatted = Unformatted
+status_of_opening (openings.Damaged m offset) = Damaged m offset
+status_of_opening openings.Fault = MediaFault
+
+-- What is said of a part of a medium that is not legal, and of an incident that is not live.
+abbrev pub IfDamaged : Status → (ℕ → ℕ → Type 0) → Type 0
+IfDamaged (Damaged m offset) P = P m offset
+IfDamaged status P = ⊤
+
+abbrev pub IfNoIncident : Status → (ℕ → Type 0) → Type 0
+IfNoIncident (NoIncident id) P = P id
+IfNoIncident status P = ⊤
+
+-- The work was done; its text may have failed.
+abbrev pub IsWorkDone : Status → Type 0
+IsWorkDone Done = ⊤
+IsWorkDone OutputFault = ⊤
+IsWorkDone status = ⊥
+
+-- Opening may have ended before its syncs had succeeded.
+abbrev pub IsUnopened : Status → Type 0
+IsUnopened Unformatted = ⊤
+IsUnopened (Damaged m offset) = ⊤
+IsUnopened MediaFault = ⊤
+IsUnopened status = ⊥
+
+-- The output grew by the text, or by a front of it where the output failed.
+abbrev pub PrintsText : List ℕ → Status → Option (List ℕ) → Option (List ℕ) → Type 0
+PrintsText text Done old new = Appends old new text
+PrintsText text OutputFault old new = AppendsFront old new text
+PrintsText text status old new = ⊤
+
+-- What is written of a status in which the work was not done: its line alone. Of the others nothing is written.
+abbrev pub Reports : Status → Option (List ℕ) → Option (List ℕ) → (before now : ℕ) → Type 0
+Reports Done old new before now = (new ≡ old) × (now ≡ before)
+Reports OutputFault old new before now = (new ≡ old) × (now ≡ before)
+Reports status old new before now = Wrote (status_line status) old new before now
+
+-- The image is legible, the ends of its media meet, and P holds of its contents.
+abbrev pub IsLegibleWith : Image → (Contents → Type 0) → Type 0
+IsLegibleWith image P = IsFormatted image × (x : Contents) × HoldsContents image x × EndsMeet both (reading_of x) × P x
+
+-- Tick and utc of the last record of these contents.
+abbrev pub newest_of : Contents → Option (ℕ × ℤ)
+newest_of x = option_map of_stamp (opening_of x).last
+
+-- At most one event, and it changes nothing.
+pub record AreLooks (events : List Event) : Type 0 where
+  pub few : length events ≤ 1
+  pub looks : All (λ e. e.act ≡ Look) events
+
+-- One event alone, of this act and at this moment; it has none where it met a fault.
+pub record IsOneEvent (Does : Act → Type 0) (moment : Option ℕ) (events : List Event) : Type 0 where
+  pub event : Event
+  pub is : events ≡ event ∷ []
+  pub does : Does event.act
+  pub moment_is : event.moment ≡ moment
+
+-- The events of a command that is to do an act, by its status and the media's clock at its end. Where the work was done the act is
+-- acknowledged; where the media failed it may be pending; in every other case there is none.
+abbrev pub MayLeave : (Does : Act → Type 0) → (clock : ℕ) → Status → List Event → Type 0
+MayLeave Does clock Done events = IsOneEvent Does (Some clock) events
+MayLeave Does clock OutputFault events = IsOneEvent Does (Some clock) events
+MayLeave Does clock MediaFault events = AreLooks events ⊎ IsOneEvent Does None events
+MayLeave Does clock status events = AreLooks events
+
+module _ {tells tells_images : Type 0} where
+  -- Nothing was written: a stop leaves what it might have left before, and the media read as before.
+  pub record IsUntouched (old new : Disk tells tells_images) : Type 0 where
+    pub leaves : LeavesAll old new
+    pub reads : tells → new.reads ≡ old.reads
+
+  -- Opening refused this part of the media, and wrote nothing.
+  abbrev pub IsRefusedAt : Disk tells tells_images → Disk tells tells_images → (m offset : ℕ) → Type 0
+  IsRefusedAt old new m offset = IsUntouched old new × (tells → IsFormatted old.reads × IsRefused old.reads m offset)
+
+  -- Legible media were answered as damaged nevertheless, where a part was read that opening leaves unread: what they hold is not
+  -- sound.
+  abbrev pub MetUnsound : Disk tells tells_images → (Can Sound : Contents → Type 0) → Type 0
+  MetUnsound old Can Sound = tells → IsLegibleWith old.reads Can × ((x : Contents) → HoldsContents old.reads x → Sound x → ⊥)
+
+  -- Media that held these contents keep them by some events: since entry a stop left what it might have left at entry, or media that
+  -- show what was held or what the events make of it; and from the moment at which opening's syncs had succeeded the media keep the
+  -- events.
+  pub record KeepsContents (x : Contents) (MayBe : List Event → Type 0) (before after : Disk tells tells_images) : Type 0 where
+    pub events : List Event
+    pub may_be : MayBe events
+    pub history : IsHistory (opening_of x) events
+    pub since_entry : (image : Image) → after.since before.clock image → before.now image ⊎ ShowsPrefix (ShowsHistory (opening_of x)) events 0 image
+    pub synced : ℕ
+    pub after_entry : before.clock ≤ synced
+    pub before_exit : synced ≤ after.clock
+    pub kept : Keeps (ShowsHistory (opening_of x)) events synced after
+
+  -- What is said where media are opened for work that can be done on contents of which Can holds, by what they read as at entry.
+  -- Met is what else may be answered as damage.
+  pub record MediaEnds (Can : Contents → Type 0) (Met : Type 0) (MayBe : List Event → Type 0) (old new : Disk tells tells_images) (before now : List ℕ) (status : Status) : Type 0 where
+    -- each refusal comes only in its case
+    pub unformatted : status ≡ Unformatted → IsUntouched old new × (tells → IsUnformatted old.reads)
+    pub damaged : IfDamaged status (λ m offset. IsRefusedAt old new m offset ⊎ Met)
+    pub fault : status ≡ MediaFault → Rose (sum before) (sum now)
+    pub legible : IsWorkDone status → tells → IsLegibleWith old.reads Can
+    -- what was recorded stays, on each medium and at every moment
+    pub others : tells → SameElsewhere old.reads new.reads
+    pub kept : (x : Contents) → tells → HoldsContents old.reads x → EndsMeet both (reading_of x) → AreRegularMedia x
+        → (IsUnopened status × LeavesAll old new) ⊎ KeepsContents x MayBe old new
+
+-- Media that can't be opened are refused by their own refusal, or there was no memory.
+pub record RefusesAll (image : Image) (status : Status) : Type 0 where
+  pub unformatted : IsUnformatted image → (status ≡ Unformatted) ⊎ (status ≡ NoMemory)
+  pub damaged : IsFormatted image → (m offset : ℕ) → IsRefused image m offset → (status ≡ Damaged m offset) ⊎ (status ≡ NoMemory)

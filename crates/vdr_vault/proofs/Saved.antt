@@ -1,0 +1,266 @@
+-- An incident is saved: what the history has of it, and what the long-term medium.
+use Rattle.std.proofs.Common.{◌≡◌, inl, inr, ⊎_elim, ◌<◌, ◌≤◌, ◌+◌, ◌-◌, ◌==◌, ℕ, ℤ, zero, suc, Bool, true, false, List, [], ◌∷◌, ◌++◌, length, find, option_map, Option, None, Some, Result, Ok, Err, OnOk, refl, sym, ap, ◌∙◌, subst, arith}
+use Rattle.std.specs.Prelude.{IfOk, IsErr, is_none, position, slice_get}
+use Rattle.std.proofs.lemmas.Option.{none-some, same_Some}
+use Rattle.std.proofs.lemmas.List.Elements.{All-contains}
+use Rattle.std.proofs.lemmas.Result.{IfOk-from_err}
+use Rattle.vdr_terms.specs.Legality.{IsRecord}
+use Rattle.vdr_terms.specs.Needs.{cost, usable}
+use Rattle.vdr_terms.specs.Order.{AreInOrder as RecordsAreInOrder, RunOn}
+use Rattle.vdr_terms.specs.Stamps.{IsStamp}
+use Rattle.vdr_terms.specs.Records.{Record, last}
+use Rattle.vdr_terms.specs.Windows.{window}
+use Rattle.vdr_history.specs.Histories.{Act, Event, Incident, MayCome, Opening, Settings, incident_of, incidents, last_stamp, records_of_act, stamp_of, table_after, with_slot}
+use Rattle.vdr_history.specs.Histories.Act.{Save}
+use Rattle.vdr_retention.proofs.Appended.{holds_less}
+use Rattle.vdr_retention.proofs.Lists.{last_contained}
+use Rattle.vdr_retention.proofs.Ordered.{same_window, save_keeps_places}
+use Rattle.vdr_durability.specs.Readings.{next_after}
+use Rattle.vdr_durability.specs.Shown.{given_with}
+use Rattle.vdr_durability.proofs.Shows.{incidents_with}
+use Rattle.vdr_outside.specs.Disk.{Disk, SameBut, Unchanged, content}
+use Rattle.vdr_outside.specs.Moments.{ChangesOnly, Settled}
+use Rattle.vdr_outside.proofs.Moments.{moments_after_reads, moments_and_reads, moments_none, moments_weaken, unchanged_now}
+use Rattle.vdr_config.specs.Configuration.{IsConfiguration}
+use Rattle.vdr_config.specs.Sizes.{sizes_of}
+use Rattle.vdr_incident.specs.Saves.{IsSave, is_label}
+use Rattle.vdr_incident.specs.Tables.{HoldsBeside, HoldsEither, HoldsTable}
+use Rattle.vdr_incident.proofs.Ids.{free_held}
+use Rattle.vdr_ring.specs.Sequence.{Placed, all_records, batches_in}
+use Rattle.vdr_ring.specs.Lookup.{HoldAll}
+use Rattle.vdr_ring.proofs.Beginning.{legal_batches}
+use Rattle.vdr_ring.proofs.Medium.{in_order_records}
+use Rattle.vdr_vault.specs.Saves.{Does, IsUnbroken, Saves, first_in_window, refusal_from, save_refusal}
+use Rattle.vdr_vault.specs.Vaults.{HoldsHistory, MembersState, Stands, of_stamp, tick_utc}
+use Rattle.vdr_vault.specs.declared.refused.SaveRefused.{SaveRefused}
+use Rattle.vdr_vault.proofs.CommitReady.{one_end}
+use Rattle.vdr_vault.proofs.Released.{table_settled}
+use Rattle.vdr_vault.proofs.SaveFaults.{both_ok}
+use Rattle.vdr_vault.proofs.SavePlaces.{IsFirst, a_first, find_last, first_is, first_there, spans, unbroken_holds}
+use Rattle.vdr_vault.proofs.ShownPlaces.{all_legal}
+use Rattle.vdr_vault.proofs.SlotKept.{MayStand, slot_written}
+use Rattle.vdr_vault.proofs.SlotWritten.{IsWritten, written_moments, written_stands}
+
+-- What an accepted save has.
+pub record IsAccepted (labelled : Bool) (newest : Option (ℕ × ℤ)) (free : Option ℕ) : Type 0 where
+  pub label : labelled ≡ true
+  pub stamp : (s : ℕ × ℤ) × (newest ≡ Some s)
+  pub slot : (slot : ℕ) × (free ≡ Some slot)
+
+accepted_by : (labelled : Bool) (newest : Option (ℕ × ℤ)) (free : Option ℕ) → refusal_from labelled newest free ≡ None → IsAccepted labelled newest free
+accepted_by false newest free is = absurd (none-some _ (sym is))
+accepted_by true None free is = absurd (none-some _ (sym is))
+accepted_by true (Some stamp) None is = absurd (none-some _ (sym is))
+accepted_by true (Some stamp) (Some slot) is = record { label = refl; stamp = (stamp, refl); slot = (slot, refl) }
+
+held_within : (table : List (Option Incident)) (slot : ℕ) (x : Option Incident) → slice_get table slot ≡ Some x → slot < length table
+held_within [] slot x is = absurd (none-some x is)
+held_within (s ∷ table) zero x is = omega arith
+held_within (s ∷ table) (suc slot) x is = let a = held_within table slot x is in omega (arith, a)
+
+-- The last record of both media.
+pub record IsNewest (opening : Opening) (events : List Event) (members : MembersState) (placed : ℕ → List Placed) (tick : ℕ) (utc : ℤ) : Type 0 where
+  pub r : Record
+  pub ends : last (all_records (placed 1)) ≡ Some r
+  pub given : last (given_with opening events 1) ≡ Some r
+  pub tick_is : r.tick ≡ tick
+  pub utc_is : r.utc ≡ utc
+  pub next : members.next_place ≡ suc r.place
+
+module _ {tells tells_images : Type 0} (opening : Opening) (events : List Event) (members : MembersState) (placed : ℕ → List Placed) (old : Disk tells tells_images)
+    (stands : Stands opening events members placed old) where
+  capsule : HoldsHistory opening events members.config 0 members.capsule (placed 0) old
+  capsule = stands.media 0 0 (omega arith)
+
+  long_term : HoldsHistory opening events members.config 1 members.long_term (placed 1) old
+  long_term = stands.media 1 1 (omega arith)
+
+  same_end : last (all_records (placed 1)) ≡ last (all_records (placed 0))
+  same_end = one_end (cost (sizes_of members.config)) (usable (sizes_of members.config)) members.config.batch (placed 1) (placed 0) long_term.regular capsule.regular (stands.level 1 1 (omega arith))
+
+  pub newest_record : (tick : ℕ) (utc : ℤ) → members.last ≡ Some (tick, utc) → IsNewest opening events members placed tick utc
+  newest_record tick utc is = go (last (all_records (placed 0))) refl
+    where
+      told_by : (o : Option Record) → last (all_records (placed 0)) ≡ o → option_map of_stamp (stamp_of o None) ≡ Some (tick, utc)
+      told_by o e = ap (λ (o : Option Record). option_map of_stamp (stamp_of o None)) (sym e) ∙ ap (option_map of_stamp) (sym stands.stamp) ∙ sym stands.newest ∙ is
+
+      go : (o : Option Record) → last (all_records (placed 0)) ≡ o → IsNewest opening events members placed tick utc
+      go None e = absurd (none-some (tick, utc) (told_by None e))
+      go (Some r) e =
+          let same : (r.tick, r.utc) ≡ (tick, utc) = same_Some (r.tick, r.utc) (tick, utc) (told_by (Some r) e) in
+          record {
+            r = r;
+            ends = same_end ∙ e;
+            given = sym long_term.retains.window.newest ∙ same_end ∙ e;
+            tick_is = ap (λ (p : ℕ × ℤ). p.0) same;
+            utc_is = ap (λ (p : ℕ × ℤ). p.1) same;
+            next = stands.goes_on ∙ stands.place ∙ ap next_after e;
+          }
+
+  module _ (legal : IsConfiguration members.config) (label : List ℕ) (accepted : save_refusal label members ≡ None) (tick : ℕ) (utc : ℤ) (stamped : members.last ≡ Some (tick, utc)) where
+    pub accepts : IsAccepted (is_label label) members.last (position is_none members.table)
+    accepts = accepted_by (is_label label) members.last (position is_none members.table) accepted
+
+    newest : IsNewest opening events members placed tick utc
+    newest = newest_record tick utc stamped
+
+    some : 0 < members.config.incident_seconds
+    some = legal.incident_low
+
+    -- The first place of its window.
+    pub begins : (a : ℕ) × (first_in_window members.config.incident_seconds (all_records (placed 1)) ≡ Some a)
+    begins = first_there members.config.incident_seconds (all_records (placed 1)) newest.r some newest.ends
+
+    less : members.config.incident_seconds ≤ opening.settings.seconds 1
+    less = subst (λ (s : Settings). members.config.incident_seconds ≤ s.seconds 1) (sym stands.settings) legal.incident_high
+
+    held_order : RecordsAreInOrder (all_records (placed 1))
+    held_order = in_order_records (placed 1) long_term.reads.order
+
+    windows : window members.config.incident_seconds (all_records (placed 1)) ≡ window members.config.incident_seconds (given_with opening events 1)
+    windows = same_window members.config.incident_seconds (given_with opening events 1) (all_records (placed 1)) long_term.order held_order
+        (holds_less members.config.incident_seconds (opening.settings.seconds 1) (given_with opening events 1) (all_records (placed 1)) less long_term.retains.window)
+
+    module _ (a : ℕ) (first : first_in_window members.config.incident_seconds (all_records (placed 1)) ≡ Some a) where
+      ends_there : newest.r.place ≡ members.next_place - 1
+      ends_there = let next = newest.next in omega (arith, next)
+
+      abbrev pub saved : Incident
+      saved = record { label = label; a = a; b = members.next_place - 1; stamp = record { tick = tick; utc = utc } }
+
+      seconds_are : opening.settings.incident_seconds ≡ members.config.incident_seconds
+      seconds_are = ap (λ (s : Settings). s.incident_seconds) stands.settings
+
+      pub may_come : MayCome opening events (Save (suc accepts.slot.0) label a (members.next_place - 1))
+      may_come = (
+        ap (λ (t : List (Option Incident)). option_map suc (position is_none t)) (sym stands.incidents_are) ∙ ap (option_map suc) accepts.slot.1,
+        record {
+          first = ap (λ (n : ℕ). first_in_window n (given_with opening events 1)) seconds_are ∙ ap (λ (w : List Record). option_map (λ r. r.place) (slice_get w 0)) (sym windows) ∙ first;
+          newest = ap (option_map (λ r. r.place)) newest.given ∙ ap Some ends_there;
+        },
+      )
+
+      is_first : IsFirst members.config.incident_seconds (all_records (placed 1)) a
+      is_first = first_is members.config.incident_seconds a (all_records (placed 1)) first
+
+      -- The save is legal where the medium tells.
+      pub saved_legal : tells → IsSave saved
+      saved_legal told =
+          let all = all_legal (placed 1) (legal_batches members.long_term.segment members.long_term.slots (placed 1) (content old.reads members.long_term.medium) (long_term.reads.settled.reads told)) in
+          let last_legal = All-contains IsRecord (all_records (placed 1)) newest.r all (last_contained (all_records (placed 1)) newest.r newest.ends) in
+          let low = a_first members.config.incident_seconds a (all_records (placed 1)) newest.r held_order newest.ends is_first in
+          let place = last_legal.place in
+          let early = last_legal.tick in
+          let ticks = newest.tick_is in
+          let at = ends_there in
+          record {
+            labelled = accepts.label;
+            order = omega (arith, low, at);
+            fits = omega (arith, place, at);
+            tick_low = omega (arith, early, ticks);
+            utc_legal = subst IsStamp newest.utc_is last_legal.utc;
+          }
+
+      -- All its places are there, where none is skipped.
+      pub all_there : IsUnbroken members.config.incident_seconds (given_with opening events 1) → HoldAll a (members.next_place - 1) (placed 1)
+      all_there unbroken = subst (λ (n : ℕ). HoldAll a n (placed 1)) ends_there
+          (unbroken_holds members.config.incident_seconds a (placed 1) newest.r some long_term.reads.order newest.ends first (subst (λ (w : List Record). (place : ℕ) × RunOn place w) (sym windows) unbroken))
+
+      may_stand : HoldAll a (members.next_place - 1) (placed 1) → MayStand opening events members.config.incident_seconds (placed 1) (Some saved)
+      may_stand there = record {
+        there = there;
+        places = save_keeps_places members.config.incident_seconds (opening.settings.seconds 1) (given_with opening events 1) (all_records (placed 1)) a (members.next_place - 1) less long_term.order
+            (record {
+              first = ap (λ (w : List Record). option_map (λ r. r.place) (slice_get w 0)) (sym windows) ∙ first;
+              newest = ap (option_map (λ r. r.place)) newest.given ∙ ap Some ends_there;
+            })
+            long_term.retains.window;
+        short = spans members.config.incident_seconds a (all_records (placed 1)) newest.r held_order newest.ends is_first (members.next_place - 1);
+      }
+
+      module _ (e : Event) (is : e.act ≡ Save (suc accepts.slot.0) label a (members.next_place - 1)) where
+        found : incident_of label a (members.next_place - 1) (find (λ r. r.place == (members.next_place - 1)) (given_with opening events 1)) ≡ Some saved
+        found =
+            let last_one : find (λ r. r.place == (members.next_place - 1)) (given_with opening events 1) ≡ Some newest.r =
+            subst (λ (n : ℕ). find (λ r. r.place == n) (given_with opening events 1) ≡ Some newest.r) ends_there (find_last (given_with opening events 1) newest.r long_term.order newest.given) in
+            ap (incident_of label a (members.next_place - 1)) last_one
+            ∙ ap (λ (p : ℕ × ℤ). Some (record { label = label; a = a; b = members.next_place - 1; stamp = record { tick = p.0; utc = p.1 } })) (λ i. (newest.tick_is i, newest.utc_is i))
+
+        table : incidents opening (events ++ e ∷ []) ≡ with_slot (incidents opening events) (suc accepts.slot.0) (Some saved)
+        table = incidents_with opening events e ∙ ap (table_after (given_with opening events 1) (incidents opening events)) is ∙ ap (with_slot (incidents opening events) (suc accepts.slot.0)) found
+
+        written : HoldAll a (members.next_place - 1) (placed 1) → IsWritten opening events e members.config (placed 1) (with_slot members.table (suc accepts.slot.0) (Some saved))
+        written there = slot_written opening events e members placed old stands (suc accepts.slot.0) (Some saved) (ap records_of_act is) table (may_stand there)
+
+      -- What `Table::save` says of it.
+      pub saves : (new : Disk tells tells_images) (out : Result ℕ SaveRefused) (now : List (Option Incident)) → HoldAll a (members.next_place - 1) (placed 1)
+          → ((slots slot : ℕ) → Settled 1 (HoldsTable slots members.table) old → position is_none members.table ≡ Some slot
+          → ChangesOnly 1 (HoldsEither slot slots members.table (with_slot members.table (suc slot) (Some saved)) (content old.reads 1)) old new)
+          → ((slots slot : ℕ) → Settled 1 (HoldsTable slots members.table) old → position is_none members.table ≡ Some slot
+          → OnOk out (Settled 1 (HoldsBeside slot slots (with_slot members.table (suc slot) (Some saved)) (content old.reads 1)) new))
+          → (tells → SameBut 1 old.reads new.reads) → new.sizes ≡ old.sizes
+          → IfOk out (λ id. now ≡ with_slot members.table id (Some saved)) → IfOk out (λ id. option_map suc (position is_none members.table) ≡ Some id)
+          → Saves opening events label placed (record members { table = now }) old new out
+      saves new out now there moments settled others sizes is_table is_id =
+          let free = accepts.slot.1 in
+          let on_table = table_settled opening events members placed old stands legal in
+          let few = legal.slots_high in
+          let all = stands.slots in
+          let within = held_within members.table accepts.slot.0 None (free_held members.table accepts.slot.0 free) in
+          let low : accepts.slot.0 < 32 = omega (arith, few, all, within) in
+          let changes = moments members.config.incident_slots accepts.slot.0 on_table free in
+          record {
+            id = suc accepts.slot.0;
+            a = a;
+            b = members.next_place - 1;
+            may_come = may_come;
+            told = told_id out is_id;
+            does = λ e is. record {
+              moments = written_moments opening events e members placed old stands (with_slot members.table (suc accepts.slot.0) (Some saved)) (written e is there) accepts.slot.0 low new changes;
+              done = both_ok out
+                  (λ held same. subst (λ (t : List (Option Incident)). Stands opening (events ++ e ∷ []) (record members { table = t }) placed new) (sym same)
+                  (written_stands opening events e members placed old stands (with_slot members.table (suc accepts.slot.0) (Some saved)) (written e is there) accepts.slot.0 low _ new changes others sizes held))
+                  (settled members.config.incident_slots accepts.slot.0 on_table free) (same_table out is_table is_id);
+            };
+          }
+        where
+          same_id : (id : ℕ) → option_map suc (position is_none members.table) ≡ Some id → id ≡ suc accepts.slot.0
+          same_id id e = same_Some id (suc accepts.slot.0) (sym e ∙ ap (option_map suc) accepts.slot.1)
+
+          told_id : (r : Result ℕ SaveRefused) → IfOk r (λ id. option_map suc (position is_none members.table) ≡ Some id) → IfOk r (λ told. told ≡ suc accepts.slot.0)
+          told_id (Ok id) e = same_id id e
+          told_id (Err x) e = tt
+
+          same_table : (r : Result ℕ SaveRefused) → IfOk r (λ id. now ≡ with_slot members.table id (Some saved)) → IfOk r (λ id. option_map suc (position is_none members.table) ≡ Some id)
+              → OnOk r (now ≡ with_slot members.table (suc accepts.slot.0) (Some saved))
+          same_table (Ok id) e f = e ∙ ap (λ (n : ℕ). with_slot members.table n (Some saved)) (same_id id f)
+          same_table (Err x) e f = tt
+
+    -- Nothing is written.
+    pub saves_nothing : (now : MembersState) (new : Disk tells tells_images) (out : Result ℕ SaveRefused) → IsErr out → Unchanged old new → Saves opening events label placed now old new out
+    saves_nothing now new out failed same = record {
+      id = suc accepts.slot.0;
+      a = begins.0;
+      b = members.next_place - 1;
+      may_come = may_come begins.0 begins.1;
+      told = IfOk-from_err out _ failed;
+      does = λ e is. record {
+        moments = moments_and_reads old old new _ (moments_none old _ (λ i now. inl now)) same;
+        done = IfOk-from_err out _ failed;
+      };
+    }
+
+-- What was read before a save changes nothing of it.
+pub after_reading : {tells tells_images : Type 0} (opening : Opening) (events : List Event) (label : List ℕ) (placed : ℕ → List Placed) (members : MembersState) (old mid new : Disk tells tells_images) (out : Result ℕ SaveRefused)
+    → Unchanged old mid → Saves opening events label placed members mid new out → Saves opening events label placed members old new out
+after_reading opening events label placed members old mid new out same s = record {
+  id = s.id;
+  a = s.a;
+  b = s.b;
+  may_come = s.may_come;
+  told = s.told;
+  does = λ e is. let d = s.does e is in record {
+    moments = moments_after_reads old mid new _ same (moments_weaken mid new _ _ d.moments (λ i shown. ⊎_elim (λ now. inl (unchanged_now old mid same i now)) (λ shows. inr shows) shown));
+    done = d.done;
+  };
+}
