@@ -8,6 +8,3 @@ mod streams;
 
 pub use media::FileMedia;
 pub use streams::{StdIn, StdOut};
-
-#[cfg(test)]
-mod tests;

@@ -2,7 +2,5 @@
 #![tactic(auto)]
 
 mod numbers;
-#[cfg(test)]
-mod tests;
 
 pub use numbers::{put, put_u16, put_u32, put_u64, put_u64s, u16_at, u32_at, u64_at};

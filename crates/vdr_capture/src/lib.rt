@@ -5,8 +5,6 @@ mod item;
 mod lane;
 mod lanes;
 mod sums;
-#[cfg(test)]
-mod tests;
 mod work;
 
 pub use lane::{Cause, Lane};

@@ -13,8 +13,6 @@ mod media;
 mod profile;
 mod reading;
 mod scope;
-#[cfg(test)]
-mod tests;
 
 pub use bad::{ConfigBad, KeyPath};
 pub use channel::{Channel, ChannelKind};

@@ -4,8 +4,6 @@
 mod laws;
 mod order;
 mod play;
-#[cfg(test)]
-mod tests;
 
 pub use laws::law_of_plays;
 pub use order::Order;

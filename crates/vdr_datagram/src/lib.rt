@@ -1,8 +1,6 @@
 //! Datagrams of IEC 61162-450: their tokens, whether they can be recorded, the lines of sentence datagrams, and the channels that select them.
 #![tactic(auto)]
 
-#[cfg(test)]
-mod channel_tests;
 mod channels;
 mod cutting;
 mod front;
@@ -11,8 +9,6 @@ mod line;
 mod line_iterator;
 mod marks;
 mod sentences;
-#[cfg(test)]
-mod tests;
 mod tokens;
 
 pub use channels::channel_bits;

@@ -4,8 +4,6 @@
 mod checksums;
 mod decimal;
 mod hexadecimal;
-#[cfg(test)]
-mod tests;
 
 pub use checksums::{checksum, split_checksum};
 pub use decimal::number;

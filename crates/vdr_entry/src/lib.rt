@@ -8,8 +8,6 @@ mod query;
 mod read;
 mod record;
 mod summary;
-#[cfg(test)]
-mod tests;
 mod utc;
 mod write;
 

@@ -17,6 +17,3 @@ pub use item::Item;
 pub use law::law_of_feeds;
 pub use reader::FeedReader;
 pub use trial::trial_item;
-
-#[cfg(test)]
-mod tests;

@@ -8,8 +8,6 @@ mod laws;
 mod part;
 mod read;
 mod step;
-#[cfg(test)]
-mod tests;
 mod track;
 
 pub use header::ImageHeader;

@@ -7,8 +7,6 @@ mod reading;
 mod refused;
 mod save;
 mod table;
-#[cfg(test)]
-mod tests;
 mod writing;
 
 pub use law::{law_of_beside, law_of_tables};

@@ -6,8 +6,6 @@ mod ends;
 mod intake;
 mod item;
 mod rule;
-#[cfg(test)]
-mod tests;
 mod view;
 
 pub use ends::{Feeder, Taker};

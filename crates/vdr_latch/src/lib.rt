@@ -12,8 +12,6 @@ mod latch;
 mod pass;
 mod rule;
 mod stepped;
-#[cfg(test)]
-mod tests;
 mod turn;
 mod view;
 

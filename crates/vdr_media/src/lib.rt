@@ -8,8 +8,6 @@ mod laying;
 mod layout;
 mod refused;
 mod superblock;
-#[cfg(test)]
-mod tests;
 
 pub use formatting::{are_formatted, format};
 pub use layout::{INCIDENT_SIZE, INCIDENTS_FROM, SEGMENTS_FROM, TEXT_FROM, slot_count};

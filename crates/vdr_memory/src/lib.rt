@@ -32,6 +32,3 @@ pub use port::MemoryPort;
 pub use ram::RamMedia;
 pub use sink::MemorySink;
 pub use source::MemorySource;
-
-#[cfg(test)]
-mod tests;

@@ -10,8 +10,6 @@ mod reading;
 mod refused;
 mod same;
 mod superblock;
-#[cfg(test)]
-mod tests;
 mod text;
 
 pub use law::{law_of_contents, law_of_refusals};

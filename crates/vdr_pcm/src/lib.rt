@@ -8,8 +8,6 @@ mod frame_number;
 mod laws;
 mod read;
 mod step;
-#[cfg(test)]
-mod tests;
 mod track;
 
 pub use frame::PcmFrame;

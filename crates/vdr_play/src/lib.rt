@@ -5,8 +5,6 @@ mod escape;
 mod line;
 mod records;
 mod streams;
-#[cfg(test)]
-mod tests;
 mod tracks;
 mod verdicts;
 mod words;

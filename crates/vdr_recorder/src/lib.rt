@@ -10,8 +10,6 @@ mod recording;
 mod run;
 mod saving;
 mod start;
-#[cfg(test)]
-mod tests;
 mod text;
 
 pub use play::PlayRefused;

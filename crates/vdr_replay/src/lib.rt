@@ -7,8 +7,6 @@ mod lanes;
 mod replaying;
 mod running;
 mod sums;
-#[cfg(test)]
-mod tests;
 
 pub use ended::{FeedEnd, ReplayStop, Replayed};
 pub use replaying::replay;

@@ -19,8 +19,6 @@ mod refused;
 mod ring;
 mod surveys;
 mod table;
-#[cfg(test)]
-mod tests;
 
 pub use cursor::Cursor;
 pub use law::{law_of_opening, law_of_stages};

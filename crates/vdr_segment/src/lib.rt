@@ -6,8 +6,6 @@ mod gate;
 mod header;
 mod law;
 mod step;
-#[cfg(test)]
-mod tests;
 mod walking;
 
 pub use batch::{BATCH_HEAD, write_batch};

@@ -7,8 +7,6 @@ mod frame;
 mod laws;
 mod read;
 mod sentence;
-#[cfg(test)]
-mod tests;
 mod write;
 
 pub use bad::Bad;

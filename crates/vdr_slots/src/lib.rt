@@ -4,8 +4,6 @@
 mod area;
 mod law;
 mod reading;
-#[cfg(test)]
-mod tests;
 mod writing;
 
 pub use area::Area;

@@ -7,8 +7,6 @@ mod position;
 mod stepping;
 mod stretch;
 mod surveying;
-#[cfg(test)]
-mod tests;
 
 pub use extent::{Extent, Survey};
 pub use law::{law_of_positions, law_of_surveys};

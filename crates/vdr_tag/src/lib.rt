@@ -10,8 +10,6 @@ mod laws;
 mod read;
 mod split;
 mod tags;
-#[cfg(test)]
-mod tests;
 mod values;
 
 pub use bad::BadTag;

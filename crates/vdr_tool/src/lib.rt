@@ -16,6 +16,3 @@ mod words;
 
 pub use command::{World, run};
 pub use status::{SaveCause, Status};
-
-#[cfg(test)]
-mod tests;

@@ -14,8 +14,6 @@ mod read;
 mod reading;
 mod spelling;
 mod table;
-#[cfg(test)]
-mod tests;
 mod text;
 mod value;
 mod variants;

@@ -12,8 +12,6 @@ mod play;
 mod questions;
 mod refused;
 mod saving;
-#[cfg(test)]
-mod tests;
 
 pub use cursor::Cursor;
 pub use law::law_of_vaults;

@@ -2,9 +2,6 @@
 //! and the last 30 days).
 #![tactic(auto)]
 
-#[cfg(test)]
-mod tests;
-
 ghost use Rattle.std.specs.Prelude.{◌≡◌, ◌≤◌, ◌+◌, ◌^◌};
 ghost use Rattle.vdr_terms.specs.Windows.{in_window};
 

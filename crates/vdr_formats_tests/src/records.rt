@@ -1,0 +1,123 @@
+use arrayvec::ArrayVec;
+use std::test::Fail;
+use vdr_entry::{
+    Content, Counts, Kind, Record, law_of_stamps, one_spelling, put_record, read_record, read_utc,
+    record_at, write_record, write_utc,
+};
+
+/// Seconds since 1970 and their texts, as `date -u` of GNU coreutils prints them.
+const UTC: [(i64, &str); 8] = [
+    (0, "1970-01-01T00:00:00"),
+    (94_694_399, "1972-12-31T23:59:59"),
+    (951_827_696, "2000-02-29T12:34:56"),
+    (1_709_251_199, "2024-02-29T23:59:59"),
+    (1_709_251_200, "2024-03-01T00:00:00"),
+    (4_107_542_399, "2100-02-28T23:59:59"),
+    (4_107_542_400, "2100-03-01T00:00:00"),
+    (253_402_300_799, "9999-12-31T23:59:59"),
+];
+
+#[test]
+fn stamps_print_as_the_calendar_has_them(rt: HostRuntime) {
+    for (seconds, text) in UTC {
+        let mut into = ArrayVec::new();
+        if 0 <= seconds && seconds <= 253_402_300_799 {
+            write_utc(seconds * 1000 + 7, &mut into);
+        }
+        assert_eq!(rt; into.len(), 24);
+        assert_eq!(rt; &into.as_slice()[..19], text.as_bytes(), "at {seconds}");
+        assert_eq!(rt; into.as_slice()[19..], b".007Z"[..], "at {seconds}");
+        assert_eq!(rt; read_utc(into.as_slice()), Some(seconds * 1000 + 7));
+    }
+    law_of_stamps();
+}
+
+/// Texts, and the stamps that they are.
+const TEXTS: [(&str, Option<i64>); 14] = [
+    ("1970-01-01T00:00:00.000Z", Some(0)),
+    ("2024-02-29T23:59:59.999Z", Some(1_709_251_199_999)),
+    ("9999-12-31T23:59:59.999Z", Some(253_402_300_799_999)),
+    ("2023-02-29T00:00:00.000Z", None),
+    ("2024-13-01T00:00:00.000Z", None),
+    ("2024-01-01T24:00:00.000Z", None),
+    ("9999-12-31T24:00:00.000Z", None),
+    ("2016-12-31T23:59:60.000Z", None),
+    ("2024-01-01T00:00:00.000", None),
+    ("2024-01-01T00:00:00.000z", None),
+    ("2024-01-01 00:00:00.000Z", None),
+    (" 2024-01-01T00:00:00.000Z", None),
+    ("2024-01-01T00:00:00.000+", None),
+    ("1969-12-31T23:59:59.999Z", None),
+];
+
+#[test]
+fn only_the_texts_of_stamps_are_read(rt: HostRuntime) {
+    for (text, utc) in TEXTS {
+        assert_eq!(rt; read_utc(text.as_bytes()), utc, "{text}");
+    }
+}
+
+/// A datagram's record (group 3, bits 1, place 513, number 2, tick 1,000, utc 1,704,067,200,000, `AbCdE` NUL), and one
+/// byte more.
+const DATAGRAM: [u8; 51] = [
+    0x01, 0x03, 0x06, 0x00, 0x01, 0x00, 0x00, 0x00, 0x00, 0x00, 0x00, 0x00, 0x01, 0x02, 0x00, 0x00,
+    0x00, 0x00, 0x00, 0x00, 0x02, 0x00, 0x00, 0x00, 0x00, 0x00, 0x00, 0x00, 0xe8, 0x03, 0x00, 0x00,
+    0x00, 0x00, 0x00, 0x00, 0x00, 0xf4, 0x51, 0xc2, 0x8c, 0x01, 0x00, 0x00, 0x41, 0x62, 0x43, 0x64,
+    0x45, 0x00, 0xff,
+];
+
+#[test]
+fn a_datagram_is_written_and_read(rt: HostRuntime) -> Result<(), Fail> {
+    let item = Record::datagram(3, 1, 513, 2, 1000, 1_704_067_200_000, b"AbCdE\0");
+    let mut bytes = [0xff; 51];
+    assert!(rt; item.size() <= 51);
+    assert_eq!(rt; put_record(&item, &mut bytes), 50);
+    assert_eq!(rt; bytes, DATAGRAM);
+    let mut room = vec![in rt.alloc(); 0xff; 1516]?;
+    assert_eq!(rt; write_record(&item, &mut room), 50);
+    assert_eq!(rt; record_at(&room), Some(50));
+    assert_eq!(rt; record_at(&DATAGRAM[..49]), None);
+    let Some((read, size)) = read_record(&DATAGRAM) else {
+        panic!(rt; "no record");
+    };
+    assert_eq!(rt; size, 50);
+    assert_eq!(rt; (read.kind, read.group, read.bits), (Kind::Datagram, 3, 1));
+    assert_eq!(rt; (read.place, read.number), (513, 2));
+    assert_eq!(rt; (read.tick, read.utc), (1000, 1_704_067_200_000));
+    assert!(rt; matches!(read.content(), Content::Datagram(b"AbCdE\0")));
+    one_spelling();
+    Ok(())
+}
+
+#[test]
+fn the_other_kinds_are_written_and_read(rt: HostRuntime) {
+    let missed = Counts {
+        full: 10,
+        rate: 1,
+        bad: 0,
+        large: 7,
+    };
+    let items = [
+        (Record::start(3, 6, 61_000, 60_000), 44),
+        (Record::gap(3, 1, 7, 16, 61_000, 60_000, missed), 84),
+        (Record::stop(3, 8, 61_000, 60_000), 44),
+    ];
+    for (item, size) in &items {
+        let mut bytes = [0xff; 84];
+        assert!(rt; item.size() <= 84);
+        assert_eq!(rt; put_record(item, &mut bytes), *size);
+        let Some((read, taken)) = read_record(&bytes) else {
+            panic!(rt; "no record");
+        };
+        assert_eq!(rt; taken, *size);
+        assert_eq!(rt; (read.kind, read.group), (item.kind, item.group));
+        assert_eq!(rt; (read.place, read.number), (item.place, item.number));
+        assert_eq!(rt; read.payload.as_slice(), item.payload.as_slice());
+    }
+    assert!(rt; matches!(items[0].0.content(), Content::Start));
+    let Content::Gap(counts) = items[1].0.content() else {
+        panic!(rt; "no gap");
+    };
+    assert_eq!(rt; counts, missed);
+    assert!(rt; matches!(items[2].0.content(), Content::Stop));
+}

@@ -1,0 +1,23 @@
+//! Tests of what stands on media, and of media in memory and in files: a module for each crate that is tested. They are proved here, and nowhere else.
+#![tactic(auto)]
+
+#[cfg(test)]
+mod formatting;
+#[cfg(test)]
+mod incidents;
+#[cfg(test)]
+mod memory;
+#[cfg(test)]
+mod openings;
+#[cfg(test)]
+mod rings;
+#[cfg(test)]
+mod segments;
+#[cfg(test)]
+mod slots;
+#[cfg(test)]
+mod streams;
+#[cfg(test)]
+mod surveys;
+#[cfg(test)]
+mod vaults;

@@ -1,0 +1,106 @@
+use vdr_entry::Record;
+use vdr_segment::write_batch;
+use vdr_survey::{Extent, Position, Survey, law_of_positions, law_of_surveys, step, survey};
+
+/// The second batch begins at 163 and ends at 212, where a closed gate stands.
+const SEGMENT_SIZE: usize = 220;
+
+const UTC: i64 = 1_704_067_200_000;
+
+const EXTENT: Extent = Extent {
+    first_tick: 1000,
+    last_place: 42,
+    last_tick: 1400,
+    last_utc: UTC + 400,
+    last_batch: 42,
+};
+
+/// A segment of a Start and a Datagram (places 40 and 41, ticks 1,000 and 1,300), and a batch of a Stop (place 42, tick 1,400).
+fn two_batches() -> ([u8; SEGMENT_SIZE], Survey) {
+    let first = [
+        Record::start(7, 40, 1000, UTC),
+        Record::datagram(3, 5, 41, 0, 1300, UTC + 300, b"AbCdE\0"),
+    ];
+    let second = [Record::stop(7, 42, 1400, UTC + 400)];
+    let mut segment = [0; SEGMENT_SIZE];
+    let end = 64 + write_batch(&first, &mut segment[64..]);
+    write_batch(&second, &mut segment[end..]);
+    let written = Survey::empty().extended(40, &first).extended(40, &second);
+    (segment, written)
+}
+
+#[test]
+fn a_survey_tells_end_extent_and_order(rt: HostRuntime) {
+    let (segment, written) = two_batches();
+    let whole = Survey {
+        end: 212,
+        extent: Some(EXTENT),
+        in_order: true,
+    };
+    let unordered = Survey {
+        in_order: false,
+        ..whole
+    };
+    assert_eq!(rt; written, whole);
+    for (at, byte, want) in [
+        (0, 0xff, Ok(whole)),
+        (64, 0, Ok(Survey::empty())),
+        (81, 39, Ok(unordered)),
+        (
+            180,
+            43,
+            Ok(Survey {
+                extent: Some(Extent {
+                    last_place: 43,
+                    last_batch: 43,
+                    ..EXTENT
+                }),
+                ..unordered
+            }),
+        ),
+        (142, 0x06, Ok(unordered)),
+        (164, 0x2b, Err(163)),
+        (65, 0, Err(64)),
+        (212, 0xa5, Err(212)),
+    ] {
+        let mut odd = segment;
+        odd[at] = byte;
+        assert_eq!(rt; survey(&odd, 40), want, "{byte} in byte {at}");
+    }
+    assert_eq!(rt; survey(&segment, 39), Ok(unordered));
+    law_of_surveys();
+}
+
+/// The places of the records that steps give, and the offset at which they break, None where they end.
+fn stepped(segment: &[u8; SEGMENT_SIZE]) -> ([u64; 4], Option<usize>) {
+    let mut places = [0; 4];
+    let mut position = Position::front();
+    for place in &mut places {
+        match step(segment, position) {
+            Ok(Some((item, next))) => {
+                *place = item.place;
+                position = next;
+            }
+            Ok(None) => return (places, None),
+            Err(at) => return (places, Some(at)),
+        }
+    }
+    (places, None)
+}
+
+#[test]
+fn steps_give_each_record_once(rt: HostRuntime) {
+    let (segment, _) = two_batches();
+    for (at, byte, want) in [
+        (0, 0xff, ([40, 41, 42, 0], None)),
+        (212, 0xa5, ([40, 41, 42, 0], Some(212))),
+        (163, 0, ([40, 41, 0, 0], None)),
+        (164, 0x2b, ([40, 41, 0, 0], Some(163))),
+        (65, 0, ([0; 4], Some(64))),
+    ] {
+        let mut odd = segment;
+        odd[at] = byte;
+        assert_eq!(rt; stepped(&odd), want, "{byte} in byte {at}");
+    }
+    law_of_positions();
+}

@@ -1,0 +1,7 @@
+//! Tests of the recorder and of `replay` on media in memory: a module for each crate that is tested. They are proved here, and nowhere else.
+#![tactic(auto)]
+
+#[cfg(test)]
+mod recordings;
+#[cfg(test)]
+mod replays;

@@ -1,5 +1,0 @@
-use Rattle.vdr_survey.specs.Positions.{IsAt}
-use Rattle.vdr_survey.proofs.tests.stepped.Given as goal
-
-abbrev pub invariant-loop-place : goal.invariant-loop-place
-invariant-loop-place l = IsAt l.segment l.position

@@ -1,0 +1,28 @@
+use Rattle.std.proofs.Common.{◌≡◌, List, [], ◌∷◌, ◌++◌, Some, refl, ap, ◌∙◌, arith, length, length-append}
+use Rattle.vdr_history.specs.Taken.{Captured}
+use Rattle.vdr_terms.specs.Records.{last}
+use Rattle.vdr_intake.specs.Items.{number_after}
+use Rattle.vdr_threads_tests.proofs.intakes.feed.Goals as goal
+use Rattle.vdr_threads_tests.proofs.intakes.feed.Goals.{in-Ok, in-Err}
+
+last_more : (items : List Captured) (c : Captured) → last (items ++ c ∷ []) ≡ Some c
+last_more [] c = refl
+last_more (x ∷ []) c = refl
+last_more (x ∷ y ∷ xs) c = last_more (y ∷ xs) c
+
+pub loop-number-preserved : goal.loop-number-preserved
+loop-number-preserved g c =
+    let i = c.loop-number.invariant in
+    let item = c.item.ensures in
+    elim c.match-offer.branch [
+      | in-Ok w ↦
+          (let t = w.in-Ok.ensures.taken in
+          let next = ap (λ l. number_after (last l)) t.0 ∙ ap number_after (last_more c.loop-number.feeder.pushed c.item.result) in
+          let count = ap length t.0 ∙ length-append c.loop-number.feeder.pushed (c.item.result ∷ []) in
+          record { queue = c.offer.ensures.queue ∙ i.queue; next = omega arith; counted = omega arith })
+      | in-Err w ↦
+          (let t = w.in-Err.ensures.full in
+          let next = ap (λ l. number_after (last l)) t.0 in
+          let count = ap length t.0 in
+          record { queue = c.offer.ensures.queue ∙ i.queue; next = omega arith; counted = omega arith })
+    ]

@@ -1,0 +1,101 @@
+// What a stop, or a fault, of the media leaves of a recording.
+ghost use Rattle.std.specs.Prelude.{◌≡◌, ◌≤◌, length};
+
+use super::*;
+
+// What is played of the four items that are recorded below, record by record.
+const RECORDS: [&str; 6] = [
+    "0 - - 1970-01-01T00:00:00.000Z start\n",
+    "1 NAVD 0 1970-01-01T00:00:00.000Z data 6 AbCdE<00>\n  opaque\n",
+    "2 NAVD 1 1970-01-01T00:00:00.999Z data 6 AbCdE<00>\n  opaque\n",
+    "3 NAVD 2 1970-01-01T00:00:01.000Z data 6 AbCdE<00>\n  opaque\n",
+    "4 NAVD 3 1970-01-01T00:01:00.000Z data 6 AbCdE<00>\n  opaque\n",
+    "5 - - 1970-01-01T00:01:00.000Z stop\n",
+];
+
+// The media are synced as they are opened. The batch of the Start then begins a segment of each medium, by eight writes and syncs;
+// each of the five other batches takes four of each medium.
+const UNTIL_START: u64 = 2 + 16;
+
+const EACH_BATCH: u64 = 8;
+
+const ALL_CALLS: u64 = UNTIL_START + 5 * EACH_BATCH;
+
+// How many batches are acknowledged after so many writes and syncs.
+fn acknowledged(calls: u64) -> usize {
+    if calls < UNTIL_START {
+        return 0;
+    }
+    1 + ((calls - UNTIL_START) / EACH_BATCH) as usize
+}
+
+// The text of the first records.
+fn first_records(alloc: Global, count: usize) -> Result<Vec<u8>, AllocError> {
+    let mut text = Vec::new(alloc);
+    for line in RECORDS.iter().take(count) {
+        text.extend_from_slice(line.as_bytes())?;
+    }
+    Ok(text)
+}
+
+// What a stop after so many writes and syncs leaves is a front of the history, with all that was acknowledged.
+fn assert_stop(
+    rt: &impl Abort,
+    alloc: Global,
+    contents: &[Vec<u8>],
+    feed: &[u8],
+    stop: u64,
+) -> Result<(), Fail>
+    requires { length contents.now ≡ 2 }
+{
+    let (status, _, media) = recorded(alloc, contents, feed, &[], Some(stop))?;
+    assert!(rt; (status == Status::Done) == (stop == ALL_CALLS));
+    let least = first_records(alloc, acknowledged(stop))?;
+    let most = first_records(alloc, acknowledged(stop).saturating_add(1))?;
+    for torn in &WAYS {
+        let left = media.image(&[], torn)?;
+        assert!(rt; left.len() == 2);
+        let printed = played(rt, alloc, "longterm", left)?;
+        assert!(rt; printed == least || printed == most, "{stop}");
+    }
+    Ok(())
+}
+
+#[test]
+fn a_stop_leaves_what_was_acknowledged(rt: HostRuntime) -> Result<(), Fail> {
+    let contents = formatted_bench(rt.alloc())?;
+    let feed = feed_of(rt.alloc(), FOUR)?;
+    for stop in 0..=ALL_CALLS {
+        assert_stop(&rt, rt.alloc(), contents.as_slice(), feed.as_slice(), stop)?;
+    }
+    Ok(())
+}
+
+#[test]
+fn a_fault_of_a_sync_is_told_and_leaves_a_front(rt: HostRuntime) -> Result<(), Fail> {
+    // The third sync of the long-term medium after the Start.
+    const THIRD: u64 = UNTIL_START + EACH_BATCH + 5;
+    let alloc = rt.alloc();
+    let contents = formatted_bench(alloc)?;
+    let feed = feed_of(alloc, FOUR)?;
+    let (_, _, stopped) = recorded(
+        alloc,
+        contents.as_slice(),
+        feed.as_slice(),
+        &[],
+        Some(THIRD),
+    )?;
+    let number = stopped.made().total().saturating_sub(1);
+    let (status, printed, media) = recorded(
+        alloc,
+        contents.as_slice(),
+        feed.as_slice(),
+        &[number],
+        None,
+    )?;
+    assert!(rt; status == Status::MediaFault);
+    assert!(rt; printed.as_slice() == b"status 5 media\n".as_slice());
+    let printed = played(&rt, alloc, "capsule", contents_of(alloc, &media)?)?;
+    assert!(rt; printed == first_records(alloc, 3)?);
+    Ok(())
+}

@@ -1,4 +1,0 @@
-mod committing;
-mod opening;
-mod playing;
-mod saving;
