@@ -8,3 +8,6 @@ mod streams;
 
 pub use media::FileMedia;
 pub use streams::{StdIn, StdOut};
+
+#[cfg(test)]
+mod tests;

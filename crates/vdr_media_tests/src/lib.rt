@@ -1,4 +1,4 @@
-//! Tests of what stands on media, and of media in memory and in files: a module for each crate that is tested. They are proved here, and nowhere else.
+//! Tests of what stands on media, and of media in memory: a module for each crate that is tested. They are proved here, and nowhere else.
 #![tactic(auto)]
 
 #[cfg(test)]
@@ -15,8 +15,6 @@ mod rings;
 mod segments;
 #[cfg(test)]
 mod slots;
-#[cfg(test)]
-mod streams;
 #[cfg(test)]
 mod surveys;
 #[cfg(test)]

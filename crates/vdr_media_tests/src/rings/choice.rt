@@ -128,7 +128,7 @@ fn the_last_record_is_that_of_the_last_segment_with_records(rt: HostRuntime) -> 
     let ring = opened(&rt, rt.alloc(), "41", &SEGMENTS)?;
     assert!(rt; ring.last() == Some((5, 100_999, UTC)));
     assert!(rt; ring.last_batch() == Some(5));
-    let ring = opened(&rt, rt.alloc(), "41", &[(3, 7, 40, None)])?;
+    let ring = opened(&rt, rt.alloc(), "41", &[(3, 7, 0, None)])?;
     assert!(rt; ring.last().is_none() && ring.last_batch().is_none());
     Ok(())
 }

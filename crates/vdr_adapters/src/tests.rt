@@ -1,7 +1,7 @@
+use crate::{FileMedia, StdIn, StdOut};
 use std::fs;
 use std::io::Cursor;
 use std::test::Fail;
-use vdr_adapters::{FileMedia, StdIn, StdOut};
 use vdr_outside::{Media, Sink, Source};
 
 #[test]
