@@ -18,7 +18,7 @@ use vdr_outside::Media;
 use vdr_recorder::{Medium, Query, Recording, State};
 use vdr_terms::{Verdict, recordable};
 
-// The bench configuration: windows of 60 and 600 seconds, for which the media need 11 and 83 slots.
+// The bench configuration: windows of 60 and 600 seconds.
 pub(super) const BENCH: &[u8] =
     b"{\"profile\":\"bench\",\"capsule_seconds\":60,\"long_seconds\":600,\"incident_seconds\":30,\"incident_slots\":2,\"segment\":8192,\"batch\":2048,\"queue\":16,\"groups\":[{\"name\":\"NAVD\",\"datagrams\":2,\"bytes\":200}],\"channels\":[{\"name\":\"heading\",\"group\":\"NAVD\",\"kind\":\"sentence\",\"formatter\":\"HDT\"}]}";
 
@@ -36,10 +36,11 @@ const FIRST_RUN: &[u8] =
 const BOTH_RUNS: &[u8] =
     b"4 NAVD 3 1970-01-01T00:01:00.000Z data 6 AbCdE<00>\n  opaque\n5 - - 1970-01-01T00:01:00.000Z stop\n6 - - 1970-01-01T00:01:00.000Z start\n7 - - 1970-01-01T00:01:00.000Z stop\n";
 
+// Media of 16 and 145 slots, formatted with this configuration.
 pub(super) fn formatted(rt: &impl Abort, alloc: Global, config: &[u8]) -> Result<RamMedia, Fail> {
     let mut media = Vec::new(alloc);
-    media.push(vec![in alloc; 0u8; 122_880]?)?;
-    media.push(vec![in alloc; 0u8; 712_704]?)?;
+    media.push(vec![in alloc; 0u8; 163_840]?)?;
+    media.push(vec![in alloc; 0u8; 1_220_608]?)?;
     assert!(rt; media.len() == 2);
     let mut media = RamMedia::new(media);
     assert!(rt; media.count() == 2);
