@@ -1,5 +1,5 @@
 #!/usr/bin/env python3
-"""Writes harbour.feed: two seconds of a ship's network as she leaves harbour. See docs/FORMATS.md for the form of a feed."""
+"""Writes harbour.feed: two seconds of a ship's network as she leaves harbour. See docs/formats/feed.md for the form of a feed."""
 import struct
 import sys
 

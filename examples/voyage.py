@@ -1,6 +1,6 @@
 #!/usr/bin/env python3
 """Writes voyage.feed: the heading of a ship that turns, once a second for ninety seconds, and four datagrams in second 40, more than
-the bench configuration admits. See docs/FORMATS.md for the form of a feed."""
+the bench configuration admits. See docs/formats/feed.md for the form of a feed."""
 import functools
 import operator
 import struct

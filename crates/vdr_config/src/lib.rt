@@ -1,4 +1,6 @@
 //! The recorder's configuration: what it is, its text, and what it needs of its media.
+//!
+//! The format, with an example: docs/formats/configuration.md.
 #![tactic(auto)]
 
 mod bad;

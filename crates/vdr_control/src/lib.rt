@@ -1,4 +1,6 @@
 //! The orders that a recorder in use takes, and the words that ask for them.
+//!
+//! The format, with an example: docs/formats/words.md.
 #![tactic(auto)]
 
 mod laws;

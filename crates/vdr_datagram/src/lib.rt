@@ -1,4 +1,6 @@
 //! Datagrams of IEC 61162-450: their tokens, whether they can be recorded, the lines of sentence datagrams, and the channels that select them.
+//!
+//! The format, with an example: docs/formats/datagram.md.
 #![tactic(auto)]
 
 mod channels;

@@ -1,4 +1,6 @@
 //! Records: as values, as their bytes on the media, and what they are printed from.
+//!
+//! The format, with an example: docs/MEDIA.md.
 #![tactic(auto)]
 
 mod content;

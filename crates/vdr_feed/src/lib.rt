@@ -1,4 +1,6 @@
 //! The reader of feed files.
+//!
+//! The format, with an example: docs/formats/feed.md.
 #![tactic(auto)]
 
 mod body;

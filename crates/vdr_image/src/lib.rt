@@ -1,6 +1,8 @@
 //! Datagrams of image transfer: the header of a part of an image, and how one part follows another.
 //!
 //! The layout of the header is this project's profile. It is not the binary header of IEC 61162-450, of which only the tokens are used.
+//!
+//! The format, with an example: docs/formats/image.md.
 #![tactic(auto)]
 
 mod header;

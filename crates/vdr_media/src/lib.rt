@@ -1,4 +1,6 @@
 //! The media of a recorder: their layout, and how they are formatted.
+//!
+//! The format, with an example: docs/MEDIA.md.
 #![tactic(auto)]
 
 mod emptying;

@@ -1,6 +1,8 @@
 //! Datagrams of sound: frames of PCM samples, and how one frame follows another.
 //!
 //! The token `PcmFr` and the layout of a frame are this project's profile.
+//!
+//! The format, with an example: docs/formats/pcm.md.
 #![tactic(auto)]
 
 mod frame;

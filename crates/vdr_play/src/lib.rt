@@ -1,4 +1,6 @@
 //! Playback: the recording as text.
+//!
+//! The format, with an example: docs/formats/printed.md.
 #![tactic(auto)]
 
 mod escape;

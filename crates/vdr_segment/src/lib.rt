@@ -1,4 +1,6 @@
 //! Segments: their headers, their batches of records, and a walk over the batches.
+//!
+//! The format, with an example: docs/MEDIA.md.
 #![tactic(auto)]
 
 mod batch;

@@ -1,4 +1,6 @@
 //! Sentences of IEC 61162-1: reading, their fields, and writing.
+//!
+//! The format, with an example: docs/formats/sentence.md.
 #![tactic(auto)]
 
 mod bad;

@@ -1,4 +1,6 @@
 //! TAG blocks of IEC 61162-450.
+//!
+//! The format, with an example: docs/formats/tag.md.
 #![tactic(auto)]
 
 mod bad;

@@ -1,4 +1,6 @@
 //! Readings of the sentences of IEC 61162-1 whose fields are known: what each field says, and the text that this is printed as.
+//!
+//! The format, with an example: docs/formats/readings.md.
 #![tactic(auto)]
 
 mod bad;
