@@ -4,10 +4,11 @@
 
 mod file;
 mod media;
+mod standard;
 mod streams;
+mod trouble;
 
 pub use media::FileMedia;
+pub use standard::StandardStreams;
 pub use streams::{StdIn, StdOut};
-
-#[cfg(test)]
-mod tests;
+pub use trouble::Trouble;

@@ -1,33 +1,126 @@
 ghost use Rattle.std.specs.Prelude.{[], ◌∷◌};
 ghost use Rattle.vdr_outside.specs.Untold.{sizes_alone};
 
-use crate::file::FileMedium;
+use crate::Trouble;
+use crate::file::{Access, FileMedium};
 use std::alloc::AllocError;
+use std::fs;
 use std::fs::{File, Files};
 use vdr_outside::{Failed, Media};
 
+/// The names of the files in their folder.
+const CAPSULE: &str = "capsule.vdr";
+
+const LONG_TERM: &str = "longterm.vdr";
+
 /// The two media of a recorder as the files `capsule.vdr` and `longterm.vdr` of a folder. The files are made beforehand:
-/// the length of a file is the size of its medium, and a file that is missing is a medium of size 0. They tell neither
-/// their contents nor what a stop may leave.
+/// the length of a file or of a block device is the size of its medium, and a file that is missing is a medium of size 0. They
+/// tell neither their contents nor what a stop may leave.
+///
+/// The files are locked as long as they are open, so that nobody else records on them. Where a file is locked already, or can't
+/// be opened, neither is used, and each call fails. Where one of them may only be read, both are opened to be read.
 #[derive(Drop)]
 pub struct FileMedia {
+    // What stood in the way of the folder.
+    folder: Option<Trouble>,
     capsule: FileMedium,
     long_term: FileMedium,
 }
 
 impl FileMedia {
+    /// Two media of size 0, for a command that uses none. No file is opened.
+    pub fn unused() -> FileMedia {
+        FileMedia {
+            folder: None,
+            capsule: FileMedium::unused(),
+            long_term: FileMedium::unused(),
+        }
+    }
+
+    /// Two media of size 0 that are not opened, so that each call fails.
+    pub fn shut() -> FileMedia {
+        let mut media = FileMedia::unused();
+        media.capsule.shut();
+        media.long_term.shut();
+        media
+    }
+
     /// The media in this folder. No file is made, and none is changed before the first write.
     pub fn open<R: AllocGlobal + Files<File = File>>(
         rt: &R,
         folder: &str,
     ) -> Result<FileMedia, AllocError> {
-        let capsule = format!(in rt.alloc(); "{folder}/capsule.vdr")?;
-        let long_term = format!(in rt.alloc(); "{folder}/longterm.vdr")?;
+        let capsule = format!(in rt.alloc(); "{folder}/{CAPSULE}")?;
+        let long_term = format!(in rt.alloc(); "{folder}/{LONG_TERM}")?;
+        let folder = match fs::metadata(rt, folder) {
+            Ok(_) => None,
+            Err(error) => Some(Trouble::System(error)),
+        };
+        let (capsule, long_term) = open_both(rt, capsule.as_str(), long_term.as_str());
         Ok(FileMedia {
-            capsule: FileMedium::open(rt, capsule.as_str()),
-            long_term: FileMedium::open(rt, long_term.as_str()),
+            folder,
+            capsule,
+            long_term,
         })
     }
+
+    /// What stood in the way of the media, by the name of its file: at a call that failed, or as a file that is missing was
+    /// to be opened. None where nothing did.
+    pub fn trouble(&self) -> Option<(&'static str, &Trouble)> {
+        if let Some(trouble) = &self.folder {
+            return Some(("folder", trouble));
+        }
+        let media = [(CAPSULE, &self.capsule), (LONG_TERM, &self.long_term)];
+        let failed = media.iter().any(|(_, medium)| medium.faults > 0);
+        for (name, medium) in media {
+            if medium.faults > 0
+                && let Some(trouble) = medium.trouble()
+            {
+                return Some((name, trouble));
+            }
+        }
+        for (name, medium) in media {
+            if (failed || medium.is_missing())
+                && let Some(trouble) = medium.trouble()
+            {
+                return Some((name, trouble));
+            }
+        }
+        None
+    }
+}
+
+// The media over the files at these paths.
+fn open_both<R: Files<File = File>>(
+    rt: &R,
+    capsule: &str,
+    long_term: &str,
+) -> (FileMedium, FileMedium) {
+    let first = open_pair(rt, capsule, long_term, Access::Full);
+    if !first.0.is_write_protected() && !first.1.is_write_protected() {
+        return first;
+    }
+    let second = open_pair(rt, capsule, long_term, Access::Reading);
+    (second.0.after(first.0), second.1.after(first.1))
+}
+
+// The media as they are opened with this access. The capsule's lock is taken first, and where it can't be had the long-term
+// medium's is not asked for: so of two that open them at one time one has both.
+fn open_pair<R: Files<File = File>>(
+    rt: &R,
+    capsule: &str,
+    long_term: &str,
+    access: Access,
+) -> (FileMedium, FileMedium) {
+    let mut capsule = FileMedium::open(rt, capsule, access);
+    if capsule.is_shut() {
+        return (capsule, FileMedium::closed(rt, long_term));
+    }
+    let long_term = FileMedium::open(rt, long_term, access);
+    if long_term.is_shut() {
+        capsule.shut();
+    }
+    (capsule, long_term)
 }
 
 impl Media for FileMedia {

@@ -1,3 +1,5 @@
 pub mod IdLemmas
+pub mod LineLemmas
 pub mod PlayLemmas
+pub mod WordLemmas
 pub mod Rows

@@ -1,3 +1,4 @@
 -- The orders of a recorder, and the words that spell them (this project's profile).
 pub mod Orders
 pub mod Plays
+pub mod Lines

@@ -1,5 +1,6 @@
 ghost use Rattle.std.specs.Prelude.{◌≡◌, ℕ, List};
 ghost use Rattle.vdr_control.specs.Orders.{PlainOrder};
+ghost use Rattle.vdr_control.specs.Lines.{AsksFor};
 ghost use Rattle.vdr_control.specs.Plays.{SpellsPlay};
 
 use vdr_entry::law_of_stamps;
@@ -10,4 +11,11 @@ pub fn law_of_plays()
         → SpellsPlay medium channel from to a → SpellsPlay medium channel from to b → a ≡ b }
 {
     law_of_stamps();
+}
+
+/// A line asks for one order at most.
+pub fn law_of_lines()
+    ensures { (line : List ℕ) (a b : PlainOrder) → AsksFor line a → AsksFor line b → a ≡ b }
+{
+    law_of_plays();
 }

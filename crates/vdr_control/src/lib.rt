@@ -4,9 +4,11 @@
 #![tactic(auto)]
 
 mod laws;
+mod line;
 mod order;
 mod play;
 
-pub use laws::law_of_plays;
+pub use laws::{law_of_lines, law_of_plays};
+pub use line::read_order;
 pub use order::Order;
 pub use play::read_play;

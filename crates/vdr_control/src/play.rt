@@ -53,7 +53,7 @@ fn read_medium(word: &[u8]) -> Option<Medium>
 }
 
 // The id of an incident, 1 to 32.
-fn read_id(digits: &[u8]) -> Option<u32>
+pub(crate) fn read_id(digits: &[u8]) -> Option<u32>
     ensures found { IfSome result (λ id. (1 ≤ id) × (id ≤ 32) × (digits.now ≡ decimal id)) }
     ensures none { IfNone result ((id : ℕ) → 1 ≤ id → id ≤ 32 → digits.now ≡ decimal id → ⊥) }
 {

@@ -12,3 +12,4 @@ pub mod Media
 pub mod Images
 pub mod Law
 pub mod Ports
+pub mod Links

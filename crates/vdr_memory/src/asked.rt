@@ -1,11 +1,12 @@
-// How often a port in memory was asked, and what it answered.
+// How often a port or a link in memory was asked, and what it answered.
 ghost use Rattle.std.specs.Prelude.{◌≡◌, ◌≤◌};
 ghost use Rattle.vdr_outside.specs.Calls.{asked_again};
+ghost use Rattle.vdr_outside.specs.Hears.{heard_answer};
 ghost use Rattle.vdr_outside.specs.Takes.{answer_of};
 ghost use Rattle.vdr_memory.specs.Ports.{never_asked};
 
 use std::marker::Model;
-use vdr_outside::Taken;
+use vdr_outside::{Heard, Taken};
 
 #[derive(Drop)]
 pub(crate) struct Asked {
@@ -63,5 +64,17 @@ impl Asked {
             Taken::Failed => self.failures = self.failures.saturating_add(1),
             Taken::Datagram { .. } | Taken::Quiet => {}
         }
+    }
+
+    // Counts one more answer to a call for a line.
+    pub(crate) fn count_line(&mut self, answer: Heard)
+        ensures again { self.new ≡ asked_again self.old (heard_answer answer) }
+        ensures later { self.old.failures ≤ self.new.failures }
+    {
+        self.count(match answer {
+            Heard::Line | Heard::Long | Heard::Quiet => Taken::Quiet,
+            Heard::Ended => Taken::Ended,
+            Heard::Failed => Taken::Failed,
+        });
     }
 }

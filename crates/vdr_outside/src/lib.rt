@@ -1,9 +1,10 @@
 //! What the recorder reaches outside, as traits with a written meaning: where bytes come from and where they go, the media,
-//! and where datagrams come from. An object tells what it can of its bytes, and counts its faults in any case.
+//! where datagrams come from, and the links by which an operator asks. An object tells what it can of its bytes, and counts its faults in any case.
 #![tactic(auto)]
 
 mod buffered;
 mod fault;
+mod link;
 mod media;
 mod port;
 mod printing;
@@ -13,6 +14,7 @@ mod through;
 
 pub use buffered::{BufferedSink, Lent, Opening};
 pub use fault::{Failed, Fault, PartRefused};
+pub use link::{Heard, Link};
 pub use media::Media;
 pub use port::{Port, Taken};
 pub use printing::{Printable, print_buffered};

@@ -12,7 +12,9 @@ mod reports;
 mod saving;
 mod status;
 mod summary;
+mod using;
 mod words;
 
 pub use command::{World, run};
 pub use status::{SaveCause, Status};
+pub use using::uses_media;

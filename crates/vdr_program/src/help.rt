@@ -7,10 +7,12 @@ pub(crate) const HELP: &str =
 
 Usage:
   vdr FOLDER COMMAND
-  vdr --help
+  vdr --help (or -h)
   vdr --version
 
-FOLDER holds the media. A command that uses no media takes any folder, such as `.`.
+FOLDER holds the media. A command that uses no media takes any folder, such as `.`. One command at
+a time works on a folder: it locks the media, and another one ends with status 5. Where a command
+ends with another status than 0, a line on the standard error says what stood in the way.
 
 Commands:
   review    Reads a feed of captured datagrams from standard input, to its end, and
@@ -26,13 +28,15 @@ Commands:
             slots has 32,768 bytes and N segments.
   format    Reads a configuration from standard input and formats the media, which are
             the files capsule.vdr and longterm.vdr in FOLDER. They have to be there, as
-            large as `check` says. Media that are formatted already are left as they are.
+            large as `check` says, or be block devices. Media that are formatted already are
+            left as they are.
   reformat  The same, also where the media are formatted already: what they hold is lost.
   replay    Reads a feed from standard input and records it on the media, as one run: by
             the rates of the configuration, and with its gaps marked. Prints for each
             configured group what its port gave, what is recorded of it and what is not,
             and then the number of records of the run. A feed that is refused, or can't
-            be read further, is recorded up to there, and the run is closed.
+            be read further, is recorded up to there, and the run is closed; so it is at the
+            first item of a group that is not configured.
   play MEDIUM CHANNEL FROM TO
             Prints what stands on the media, as `review` does, with the Start and Stop of
             each run. MEDIUM is `capsule` or `longterm`, of which the window is printed,
@@ -58,8 +62,8 @@ Examples:
 
 A voyage on bench media, of which the capsule keeps a minute:
   mkdir voyage
-  truncate -s 122880 voyage/capsule.vdr
-  truncate -s 712704 voyage/longterm.vdr
+  fallocate -l 122880 voyage/capsule.vdr
+  fallocate -l 712704 voyage/longterm.vdr
   vdr voyage format < examples/bench.json
   vdr voyage replay < examples/voyage.feed
       NAVD taken 93 recorded 91 full 0 rate 2 bad 0 large 0
@@ -98,8 +102,9 @@ Exit status, with the line that ends the output:
   4   `status 4 unformatted`: the media are not formatted
   4   `status 4 damaged MEDIUM OFFSET`: a part of this medium, 0 the capsule or 1 the
       long-term medium, is not legal; it begins at OFFSET, in bytes
-  5   `status 5 media`: a medium could not be read, written or synced; what was recorded
-      before stays
+  5   `status 5 media`: a medium is in use by another process, may not be opened or
+      written, or could not be read, written or synced; what was recorded before stays.
+      `play` and `incidents` need no leave to write
   7   `status 7 input`: the input could not be read
   8   the output could not be written
   9   `status 9 memory`: there was not enough memory

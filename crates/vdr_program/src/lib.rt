@@ -1,0 +1,80 @@
+//! The program's command line: its words are judged, the objects of the outside are made for them, and what went wrong is told.
+#![tactic(auto)]
+
+mod explaining;
+mod help;
+
+use explaining::explain;
+use help::{HELP, VERSION};
+use std::alloc::AllocError;
+use std::fs::{File, Files};
+use std::io;
+use std::io::{BufReader, Read};
+use vdr_adapters::{FileMedia, StandardStreams, StdIn, StdOut};
+use vdr_tool::{Status, World, run, uses_media};
+
+/// How many bytes the input is read ahead.
+const READ_AHEAD: usize = 65_536;
+
+// Prints a text for a person, and tells whether that could be done.
+fn tell(rt: &impl Print, text: &str) -> Status {
+    match rt.print(text) {
+        Ok(()) => Status::Done,
+        Err(_) => Status::OutputFault,
+    }
+}
+
+// The media of a folder, for this command. One that uses none opens none, and none is opened beside a standard stream that
+// could not be filled.
+fn media_for<R: AllocGlobal + Files<File = File> + Eprint>(
+    rt: &R,
+    filled: &io::Result<StandardStreams>,
+    folder: &str,
+    command: &[String],
+) -> Result<FileMedia, AllocError> {
+    if !uses_media(command) {
+        return Ok(FileMedia::unused());
+    }
+    if let Err(error) = filled {
+        let _ = eprintln!(rt; "vdr: /dev/null: {error}");
+        return Ok(FileMedia::shut());
+    }
+    FileMedia::open(rt, folder)
+}
+
+/// Does what the words of the program ask for, over this input, the standard output and the media of the folder that the first
+/// word names, and tells how it ended.
+///
+/// `--help`, `-h` and `--version`, as the only word, print what the program says of itself. Where something went wrong, one line on the
+/// standard error says what, if that is known. Standard streams that are closed are filled before any medium is opened.
+pub fn command_line<R: AllocGlobal + Files<File = File> + Print + Eprint, I: Read + Drop>(
+    rt: &R,
+    words: &[String],
+    input: I,
+) -> Status {
+    // Held to the end.
+    let filled = StandardStreams::fill(rt);
+    match words {
+        [word] if word.as_str() == "--help" || word.as_str() == "-h" => return tell(rt, HELP),
+        [word] if word.as_str() == "--version" => return tell(rt, VERSION),
+        _ => {}
+    }
+    let (folder, command) = match words {
+        [folder, command @ ..] => (folder.as_str(), command),
+        [] => (".", words),
+    };
+    let Ok(input) = BufReader::with_capacity(rt.alloc(), READ_AHEAD, input) else {
+        return Status::NoMemory;
+    };
+    let Ok(media) = media_for(rt, &filled, folder, command) else {
+        return Status::NoMemory;
+    };
+    let mut world = World {
+        input: StdIn::new(input),
+        output: StdOut::new(io::writer(rt)),
+        media,
+    };
+    let status = run(rt.alloc(), command, &mut world);
+    explain(rt, status, &world);
+    status
+}

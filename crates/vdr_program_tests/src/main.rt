@@ -1,0 +1,64 @@
+//! Runs the program's command line on files, command by command, as a voyage and its incident go: what it prints is compared with
+//! `stdout`.
+#![tactic(auto)]
+
+use std::fs::{File, Files, OpenFile};
+use std::{fs, io};
+use vdr_program::command_line;
+
+#[cfg(test)]
+mod tests;
+
+/// The words of each command, and the file that is its input.
+const COMMANDS: [(&str, &str); 13] = [
+    ("--version", "/dev/null"),
+    ("media check", "bench.json"),
+    ("media format", "bench.json"),
+    ("media format", "bench.json"),
+    ("media replay", "voyage.feed"),
+    (
+        "media play longterm heading 2024-05-14T06:30:40.000Z 2024-05-14T06:30:41.000Z",
+        "/dev/null",
+    ),
+    ("media save grounding", "/dev/null"),
+    ("media incidents", "/dev/null"),
+    (
+        "media play incident-1 heading 2024-05-14T06:31:28.000Z -",
+        "/dev/null",
+    ),
+    ("media release 1", "/dev/null"),
+    ("media play incident-1 all - -", "/dev/null"),
+    ("media sail", "/dev/null"),
+    ("nowhere play capsule all - -", "/dev/null"),
+];
+
+// Makes a file of this length.
+fn make<R: Files>(rt: &R, path: &str, length: u64) -> io::Result<()> {
+    fs::create(rt, path)?.set_len(length)
+}
+
+// Runs one command, and prints how it ended.
+fn ask<R: AllocGlobal + Files<File = File> + Print + Eprint>(
+    rt: &R,
+    text: &str,
+    input: &str,
+) -> io::Result<()> {
+    let mut words = Vec::new(rt.alloc());
+    for word in text.split(' ') {
+        words.push(word.to_string(rt.alloc())?)?;
+    }
+    println!(rt; "> {text}")?;
+    let status = command_line(rt, words.as_slice(), File::open(rt, input)?);
+    let code = status.code();
+    println!(rt; "< {code}")
+}
+
+fn main(rt: HostRuntime) -> io::Result<()> {
+    fs::create_dir_all(&rt, "media")?;
+    make(&rt, "media/capsule.vdr", 122_880)?;
+    make(&rt, "media/longterm.vdr", 712_704)?;
+    for (text, input) in COMMANDS {
+        ask(&rt, text, input)?;
+    }
+    Ok(())
+}

@@ -1,0 +1,19 @@
+use std::io::Cursor;
+use std::test::Fail;
+use vdr_program::command_line;
+use vdr_tool::Status;
+
+#[test]
+fn the_program_tells_what_it_is(rt: HostRuntime) -> Result<(), Fail> {
+    for (word, wanted) in [
+        ("--help", Status::Done),
+        ("-h", Status::Done),
+        ("--version", Status::Done),
+        ("--halp", Status::Words),
+    ] {
+        let words = vec![in rt.alloc(); word.to_string(rt.alloc())?]?;
+        let status = command_line(&rt, words.as_slice(), Cursor::new(b""));
+        assert_eq!(rt; status.code(), wanted.code());
+    }
+    Ok(())
+}
