@@ -4,3 +4,4 @@ pub mod Repeats
 pub mod Whole
 pub mod Table
 mod Rows
+pub mod Ranges

@@ -8,3 +8,5 @@ pub mod Kept
 pub mod Reopened
 pub mod Regular
 pub mod Worked
+pub mod Unbroken
+pub mod Joined

@@ -1,6 +1,6 @@
 -- Regular members: their victims, and the batch that they lack.
 use Rattle.std.proofs.Common.{ℕ, suc, ◌<◌, ◌≤◌, List, [], ◌∷◌, ◌++◌, length, true, false, All, Contains, sum_by, Option, Some, None, ◌≡◌, ⊎_elim, refl, sym, ap, ◌∙◌, subst, arith}
-use Rattle.std.proofs.lemmas.Bool.{cases_Bool, cond-true, eqb-true}
+use Rattle.std.proofs.lemmas.Bool.{and_parts, cases_Bool, cond-true, eqb-true}
 use Rattle.std.proofs.lemmas.List.Sums.{sum_by-cons, sum_by-append}
 use Rattle.std.proofs.lemmas.List.Elements.{All-nil, All-head, All-tail, All-append, All-contains, Contains-append_left, Contains-append_right, Contains-push}
 use Rattle.std.proofs.lemmas.Grind.{flat_map-append}
@@ -92,7 +92,7 @@ falls_never from [] h order = tt
 falls_never from (r ∷ rs) h (later, more) = (All-head (λ r. from ≤ r.tick) r rs h, falls_never r.tick rs (all_from (λ s. r.tick ≤ s.tick) rs (λ s c. (All-contains (λ s. (r.place < s.place) × (r.tick ≤ s.tick)) rs s later c).1)) more)
 
 -- A batch before which the medium ends follows its last record.
-follows_end : (held batch : List Record) (place : ℕ) → RunOn place batch → begins_at (next_after (last held)) batch ≡ true → AreInOrder (held ++ batch) → FollowOn (last held) batch
+pub follows_end : (held batch : List Record) (place : ℕ) → RunOn place batch → begins_at (next_after (last held)) batch ≡ true → AreInOrder (held ++ batch) → FollowOn (last held) batch
 follows_end held batch place run begins order = go (last held) refl begins
   where
     parts : AreInOrder held × AreInOrder batch × ((x y : Record) → Contains held x → Contains batch y → (x.place < y.place) × (x.tick ≤ y.tick))
@@ -117,7 +117,7 @@ lacked_is_paced sizes members layouts reading m batch place regular there there'
   some = short.0;
   short = short.1;
   order = subst (λ (xs : List Record). FollowOn (last xs) batch) records
-      (follows_end (records_on reading m) batch place run lacks (subst AreInOrder (ap segment_records grown ∙ all_with (reading.batches m) batch) one.order));
+      (follows_end (records_on reading m) batch place run (and_parts _ _ lacks).0 (subst AreInOrder (ap segment_records grown ∙ all_with (reading.batches m) batch) one.order));
   paced = λ s.
       let a = one.paced s in
       let b = ap (batches_size_at s) grown in

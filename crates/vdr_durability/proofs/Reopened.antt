@@ -16,10 +16,10 @@ use Rattle.vdr_durability.specs.Shown.{GoesOnFrom, Shows, opened, pins_on}
 use Rattle.vdr_durability.proofs.Shows.{OnSlot, recorded_with, slots_hold}
 
 module _ (members : List ℕ) (opening : Opening) (events : List Event) (reading : Reading) (shown : Shows members opening events reading) where
-  abbrev Retained : ℕ → Type 0
+  abbrev pub Retained : ℕ → Type 0
   Retained m = Retains (opening.settings.seconds m) (pins_on m (incidents opening events)) (all_records opening m events) (records_on (restored members reading) m)
 
-  retained : (m : ℕ) → Contains members m → Retained m
+  pub retained : (m : ℕ) → Contains members m → Retained m
   retained m there = All-contains Retained members m shown.media.media there
 
   -- Each medium's window is that of the events.
@@ -42,7 +42,7 @@ continues_run : (channels : Channels) (place : ℕ) (rs : List Record) → Conti
 continues_run channels place [] h = tt
 continues_run channels place (r ∷ rs) (e, bits, more) = (e, continues_run channels (suc place) rs more)
 
-run_append : (place : ℕ) (xs ys : List Record) → RunOn place xs → RunOn (place + length xs) ys → RunOn place (xs ++ ys)
+pub run_append : (place : ℕ) (xs ys : List Record) → RunOn place xs → RunOn (place + length xs) ys → RunOn place (xs ++ ys)
 run_append place [] ys h k = subst (λ (n : ℕ). RunOn n ys) (add-zero place) k
 run_append place (x ∷ xs) ys (e, more) k = (e, run_append (suc place) xs ys more (subst (λ (n : ℕ). RunOn n ys) (further place (length xs)) k))
   where
@@ -61,12 +61,12 @@ next_with opening before e =
     let b = length-append (recorded before) (records_of_act e.act) in
     omega (arith, a, b)
 
-events_run : (opening : Opening) (before events : List Event) → MayFollow opening before events → RunOn (next_place opening before) (recorded events)
+pub events_run : (opening : Opening) (before events : List Event) → MayFollow opening before events → RunOn (next_place opening before) (recorded events)
 events_run opening before [] h = tt
 events_run opening before (e ∷ es) (may, more) = run_append (next_place opening before) (records_of_act e.act) (recorded es) (act_runs opening before e.act may)
     (subst (λ (n : ℕ). RunOn n (recorded es)) (next_with opening before e) (events_run opening (before ++ e ∷ []) es more))
 
-last_of_run : (place : ℕ) (r : Record) (rs : List Record) → RunOn place (r ∷ rs) → suc (last_after r rs).place ≡ place + length (r ∷ rs)
+pub last_of_run : (place : ℕ) (r : Record) (rs : List Record) → RunOn place (r ∷ rs) → suc (last_after r rs).place ≡ place + length (r ∷ rs)
 last_of_run place r [] (e, more) = omega (arith, e)
 last_of_run place r (x ∷ xs) (e, more) = let k = last_of_run (suc place) x xs more in omega (arith, k)
 

@@ -1,6 +1,7 @@
 -- What restored media retain: of a batch on its way each medium has it, by its own end or as it is restored.
-use Rattle.std.proofs.Common.{ℕ, suc, ◌<◌, ◌≤◌, List, [], ◌∷◌, ◌++◌, length, true, false, All, Contains, ◌==◌, Option, Some, None, ◌≡◌, ⊎_elim, refl, sym, ap, ◌∙◌, subst, arith, append-nil}
-use Rattle.std.proofs.lemmas.Bool.{cond-true, cond-false, ne_eqb}
+use Rattle.std.proofs.Common.{ℕ, suc, ◌<◌, ◌≤◌, List, [], ◌∷◌, ◌++◌, length, Bool, ◌&&◌, true, false, All, Contains, ◌==◌, Option, Some, None, ◌≡◌, ⊎_elim, refl, sym, ap, ◌∙◌, subst, arith, append-nil}
+use Rattle.std.specs.Prelude.{nat_le}
+use Rattle.std.proofs.lemmas.Bool.{and_from, cond-true, cond-false, le-leb, ne_eqb}
 use Rattle.std.proofs.lemmas.List.Elements.{All-append, All-contains}
 use Rattle.std.proofs.lemmas.Grind.{flat_map-append}
 use Rattle.vdr_terms.specs.Records.{Record, last_after, last}
@@ -12,7 +13,7 @@ use Rattle.vdr_retention.proofs.Lists.{all_from, contains_cases, last_behind, la
 use Rattle.vdr_retention.proofs.Ordered.{parts_in_order, run_on_in_order}
 use Rattle.vdr_retention.proofs.Following.{follow_no_earlier}
 use Rattle.vdr_retention.proofs.Appended.{append_retains}
-use Rattle.vdr_durability.specs.Readings.{Reading, AreLevel, EndBy, EndsMeet, IsPassedOn, begins_at, ends_before, leading_batch, next_after, records_on, restored, with_next}
+use Rattle.vdr_durability.specs.Readings.{Reading, AreLevel, EndBy, EndsMeet, IsPassedOn, begins_at, begins_since, comes_next, ends_before, leading_batch, next_after, records_on, restored, with_next}
 use Rattle.vdr_durability.proofs.Meeting.{then_lack}
 
 pub all_with : (batches : Batches) (batch : List Record) → segment_records (batches ++ batch ∷ []) ≡ segment_records batches ++ batch
@@ -37,10 +38,16 @@ ends_in {X} (y ∷ ys) x e = subst (λ (z : X). EndsIn (y ∷ ys) z) (same (last
     itself y [] = record { front = []; split = refl }
     itself y (z ∷ zs) = let k = itself z zs in record { front = y ∷ k.front; split = ap (λ (xs : List X). y ∷ xs) k.split }
 
+-- A batch at the next place that follows the last record may come next.
+pub comes_behind : (o : Option Record) (batch : List Record) → begins_at (next_after o) batch ≡ true → FollowOn o batch → comes_next o batch ≡ true
+comes_behind None batch begins follow = and_from (begins_at 0 batch) true begins refl
+comes_behind (Some newest) [] begins follow = begins
+comes_behind (Some newest) (r ∷ rs) begins (run, rises) = and_from (r.place == suc newest.place) (nat_le newest.tick r.tick) begins (le-leb newest.tick r.tick rises.0)
+
 -- What ends with a batch in order does not end before it.
 pub ends_not_before : (batches : Batches) (batch : List Record) → AreInOrder batch → last batches ≡ Some batch → ends_before (Some batch) batches ≡ false
 ends_not_before batches [] order e = refl
-ends_not_before batches (r ∷ rs) order e = ap (λ (o : Option Record). begins_at (next_after o) (r ∷ rs)) ends ∙ apart
+ends_not_before batches (r ∷ rs) order e = ap (λ (o : Option Record). comes_next o (r ∷ rs)) ends ∙ ap (λ (b : Bool). b && begins_since (Some (last_after r rs)) (r ∷ rs)) apart
   where
     k : EndsIn batches (r ∷ rs)
     k = ends_in batches (r ∷ rs) e

@@ -130,6 +130,15 @@ same_place (inl (e, inl (f, more))) = omega (arith, ap tick_of f)
 same_place (inl (e, inr all)) = true≢false (sym (all 0 1 (omega arith)))
 same_place (inr all) = true≢false (sym (all 0 0 (omega arith)))
 
+-- Nor do they where the second medium lacks the batch but ends later than it begins.
+abbrev later : Batches
+later = (stop_at 0 0 ∷ stop_at 1 2000 ∷ []) ∷ []
+
+too_late : EndsMeet two_media (read_as (two ∷ later ∷ [])) → ⊥
+too_late (inl (e, inl (f, more))) = omega (arith, ap place_of f)
+too_late (inl (e, inr all)) = true≢false (sym (all 0 1 (omega arith)))
+too_late (inr all) = true≢false (sym (all 0 0 (omega arith)))
+
 -- With an empty first medium the first one that is not empty is off.
 empty_first : EndsOff three_media (read_as ([] ∷ [] ∷ one ∷ [])) 2
 empty_first = record { before = two_media; after = []; split = refl; meet = inl (refl, inl (refl, tt)); off = off }

@@ -1,6 +1,6 @@
 -- What a recorder's media read as, where their ends meet, and what they are once each has the last batch (this project's
 -- profile: a batch goes to the media one after another, and a stop may come between them).
-use Rattle.std.specs.Prelude.{ℕ, suc, ◌<◌, ◌≡◌, ◌⊎◌, ⊤, Bool, true, false, List, [], ◌∷◌, ◌++◌, length, All, ◌==◌, if◌then◌else◌, Option, Some, None}
+use Rattle.std.specs.Prelude.{ℕ, suc, ◌<◌, ◌≡◌, ◌⊎◌, ⊤, Bool, true, false, List, [], ◌∷◌, ◌++◌, length, All, ◌==◌, if◌then◌else◌, ◌&&◌, nat_le, Option, Some, None}
 use Rattle.vdr_terms.specs.Records.{Record, last}
 use Rattle.vdr_history.specs.Histories.{Incident}
 use Rattle.vdr_retention.specs.Layout.{Batches, segment_records}
@@ -40,10 +40,20 @@ abbrev pub begins_at : ℕ → List Record → Bool
 begins_at place [] = false
 begins_at place (r ∷ rs) = r.place == place
 
--- These batches end directly before this one: its first place is the next one of theirs.
+-- Its first tick is not below this record's.
+abbrev pub begins_since : Option Record → List Record → Bool
+begins_since None batch = true
+begins_since (Some newest) [] = false
+begins_since (Some newest) (r ∷ rs) = nat_le newest.tick r.tick
+
+-- The batch may come next behind this record.
+abbrev pub comes_next : Option Record → List Record → Bool
+comes_next newest batch = begins_at (next_after newest) batch && begins_since newest batch
+
+-- These batches end directly before this one: it may come next behind their last record.
 abbrev pub ends_before : Option (List Record) → Batches → Bool
 ends_before None batches = false
-ends_before (Some batch) batches = begins_at (next_after (last (segment_records batches))) batch
+ends_before (Some batch) batches = comes_next (last (segment_records batches)) batch
 
 -- These batches, and the one before which they end.
 abbrev pub with_next : Option (List Record) → Batches → Batches

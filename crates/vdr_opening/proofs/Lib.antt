@@ -13,3 +13,4 @@ pub mod Meeting
 pub mod Causes
 pub mod Whole
 pub mod Assembling
+pub mod Formatted

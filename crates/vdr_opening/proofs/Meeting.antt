@@ -5,7 +5,7 @@ use Rattle.std.proofs.lemmas.Option.{same_Some}
 use Rattle.std.proofs.lemmas.Grind.{flat_map-append}
 use Rattle.vdr_terms.specs.Records.{Record, last}
 use Rattle.vdr_retention.specs.Layout.{segment_records}
-use Rattle.vdr_durability.specs.Readings.{EndsMeet, EndsOff, Reading, begins_at, ends_before, next_after}
+use Rattle.vdr_durability.specs.Readings.{EndsMeet, EndsOff, Reading, comes_next, ends_before}
 use Rattle.vdr_ring.specs.Lasts.{batch_or_none}
 use Rattle.vdr_ring.specs.Sequence.{Placed, all_records, batches_in, batches_of}
 use Rattle.vdr_media.proofs.Two.{all_two}
@@ -28,13 +28,13 @@ one_batch (x ∷ xs) [] is = cc
 one_batch (x ∷ xs) (y ∷ ys) is = same_Some _ _ is
 
 -- a batch that begins somewhere is one
-is_batch : (place : ℕ) (batch : List Record) → begins_at place batch ≡ true → batch_or_none batch ≡ Some batch
-is_batch place [] begins = cc
-is_batch place (r ∷ rs) begins = refl
+is_batch : (newest : Option Record) (batch : List Record) → comes_next newest batch ≡ true → batch_or_none batch ≡ Some batch
+is_batch newest [] comes = cc
+is_batch newest (r ∷ rs) comes = refl
 
-before_batch : (place : ℕ) (batch : List Record) (batches : List (List Record)) → next_after (last (segment_records batches)) ≡ place → ends_before (batch_or_none batch) batches ≡ true → begins_at place batch ≡ true
-before_batch place [] batches is ends = cc
-before_batch place (r ∷ rs) batches is ends = ap (λ (n : ℕ). begins_at n (r ∷ rs)) (sym is) ∙ ends
+before_batch : (newest : Option Record) (batch : List Record) (batches : List (List Record)) → last (segment_records batches) ≡ newest → ends_before (batch_or_none batch) batches ≡ true → comes_next newest batch ≡ true
+before_batch newest [] batches is ends = cc
+before_batch newest (r ∷ rs) batches is ends = ap (λ (o : Option Record). comes_next o (r ∷ rs)) (sym is) ∙ ends
 
 module _ (reading : Reading) (first second : List Placed) (on_capsule : reading.batches 0 ≡ batches_in first) (on_long_term : reading.batches 1 ≡ batches_in second)
     (batch other : List Record) (ends : batch_or_none batch ≡ last (batches_in first)) (other_ends : batch_or_none other ≡ last (batches_in second)) where
@@ -44,18 +44,18 @@ module _ (reading : Reading) (first second : List Placed) (on_capsule : reading.
   waits : last (reading.batches 1) ≡ batch_or_none other
   waits = ap (λ (b : List (List Record)). last b) on_long_term ∙ sym other_ends
 
-  place : next_after (last (segment_records (reading.batches 1))) ≡ next_after (last (all_records second))
-  place = ap (λ (b : List (List Record)). next_after (last (segment_records b))) on_long_term ∙ ap (λ (rs : List Record). next_after (last rs)) (sym (records_are second))
+  newest : last (segment_records (reading.batches 1)) ≡ last (all_records second)
+  newest = ap (λ (b : List (List Record)). last (segment_records b)) on_long_term ∙ ap last (sym (records_are second))
 
   pub meet_level : batch ≡ other → EndsMeet both reading × IsMissing [] reading
   meet_level same =
       let level : last (reading.batches 1) ≡ last (reading.batches 0) = waits ∙ ap batch_or_none (sym same) ∙ sym leads in
       (inl (refl, inl (level, tt)), inl (refl, all_two (λ m. last (reading.batches m) ≡ last (reading.batches 0)) refl level))
 
-  pub meet_passed : begins_at (next_after (last (all_records second))) batch ≡ true → EndsMeet both reading × IsMissing batch reading
-  meet_passed begins =
-      let is : batch_or_none batch ≡ Some batch = is_batch _ batch begins in
-      let here : ends_before (Some batch) (reading.batches 1) ≡ true = ap (λ (n : ℕ). begins_at n batch) place ∙ begins in (
+  pub meet_passed : comes_next (last (all_records second)) batch ≡ true → EndsMeet both reading × IsMissing batch reading
+  meet_passed comes =
+      let is : batch_or_none batch ≡ Some batch = is_batch _ batch comes in
+      let here : ends_before (Some batch) (reading.batches 1) ≡ true = ap (λ (o : Option Record). comes_next o batch) newest ∙ comes in (
         inl (refl, inr (all_one (λ k. ends_before (last (reading.batches 0)) (reading.batches k) ≡ true) 1 (ap (λ (o : Option (List Record)). ends_before o (reading.batches 1)) (leads ∙ is) ∙ here))),
         inr (record {
           split = refl;
@@ -70,7 +70,7 @@ module _ (reading : Reading) (first second : List Placed) (on_capsule : reading.
   level_or_before (inl (same, inr all)) = inr (all 0 0 (omega arith))
   level_or_before (inr all) = inr (all 1 0 (omega arith))
 
-  pub off : (batch ≡ other → ⊥) → begins_at (next_after (last (all_records second))) batch ≡ false → EndsOff both reading 1
+  pub off : (batch ≡ other → ⊥) → comes_next (last (all_records second)) batch ≡ false → EndsOff both reading 1
   off differ elsewhere = record {
     before = 0 ∷ [];
     after = [];
@@ -79,7 +79,7 @@ module _ (reading : Reading) (first second : List Placed) (on_capsule : reading.
     off = λ meet. elim (level_or_before meet) [
       | inl level ↦ differ (one_batch batch other (sym leads ∙ sym level ∙ waits))
       | inr before ↦
-          let begins = before_batch _ batch (reading.batches 1) place (ap (λ (o : Option (List Record)). ends_before o (reading.batches 1)) (sym leads) ∙ before) in
+          let comes = before_batch _ batch (reading.batches 1) newest (ap (λ (o : Option (List Record)). ends_before o (reading.batches 1)) (sym leads) ∙ before) in
           let none : ⊥ = cc in
           none
     ];

@@ -1,5 +1,5 @@
 -- What the capsule and the long-term medium hold, by the parts of their bytes (this project's profile).
-use Rattle.std.specs.Prelude.{◌≡◌, ℕ, List, [], ◌∷◌, length, All, IfSome, Option}
+use Rattle.std.specs.Prelude.{◌≡◌, ℕ, List, [], ◌∷◌, length, replicate, All, IfSome, Option, None}
 use Rattle.vdr_history.specs.Histories.{Incident, Opening}
 use Rattle.vdr_durability.specs.Readings.{Reading}
 use Rattle.vdr_durability.specs.Shown.{opened}
@@ -43,6 +43,10 @@ pub record Contents : Type 0 where
   pub text : List ℕ
   pub placed : ℕ → List Placed
   pub table : List (Option Incident)
+
+-- The contents of media that were just formatted.
+abbrev pub nothing_on : Configuration → (text : List ℕ) → Contents
+nothing_on c text = record { config = c; text = text; placed = λ m. []; table = replicate c.incident_slots None }
 
 -- The image holds these contents.
 pub record HoldsContents (image : Image) (x : Contents) : Type 0 where

@@ -2,7 +2,7 @@
 ghost use Rattle.std.specs.Prelude.{◌≡◌, ◌≢◌, ◌+◌, ◌≤◌, ℕ, List, [], Err, IfOk, OnOk};
 ghost use Rattle.vdr_terms.specs.Records.{last};
 ghost use Rattle.vdr_terms.specs.Sizes.{batch_size};
-ghost use Rattle.vdr_durability.specs.Readings.{EndsMeet, EndsOff, Reading, begins_at, next_after};
+ghost use Rattle.vdr_durability.specs.Readings.{EndsMeet, EndsOff, Reading, comes_next};
 ghost use Rattle.vdr_outside.specs.Disk.{Unchanged};
 ghost use Rattle.vdr_outside.specs.declared.fault.PartRefused.TheVariants.{Damaged};
 ghost use Rattle.vdr_ring.specs.Rings.{HasMedium, Reads, Tells};
@@ -17,18 +17,22 @@ use vdr_entry::Record;
 use vdr_outside::{Media, PartRefused};
 use vdr_ring::Ring;
 
-// Whether a batch begins at the place after the last record of the ring's medium, at place 0 where that has none.
+// Whether a batch may come next on the ring's medium: it begins at the place after the last record, at place 0 where there is none, and
+// no earlier than that record.
 fn follows(batch: &[Record], ring: &Ring) -> bool
-    ensures { (placed : List Placed) → Tells ring.now.slots placed ring.now.table → result ≡ begins_at (next_after (last (all_records placed))) batch.now }
+    ensures { (placed : List Placed) → Tells ring.now.slots placed ring.now.table → result ≡ comes_next (last (all_records placed)) batch.now }
 {
     let Some(first) = batch.first() else {
         return false;
     };
-    first.place.checked_sub(1) == ring.last().map(|(place, _, _)| place)
+    match ring.last() {
+        None => first.place == 0,
+        Some((place, tick, _)) => first.place.checked_sub(1) == Some(place) && tick <= first.tick,
+    }
 }
 
 /// Reads the last batches of both media, and gives the one that the long-term medium lacks, no records where it lacks none.
-/// `Damaged`: the long-term medium ends neither with the batch of the capsule nor directly before it.
+/// `Damaged`: the long-term medium ends neither with the batch of the capsule nor directly before it, so that it could come next there.
 pub(crate) fn missing_batch<M: Media>(
     alloc: Global,
     media: &mut M,

@@ -49,7 +49,8 @@ fn read_formatted<M: Media>(alloc: Global, media: &mut M) -> Result<Opened, Part
 /// configuration (offset 12,288), the headers of the segments, in order of slot, their batches, in order of sequence number, and
 /// their order; then the incident slots by their bytes; then by whether their places are in segments of the long-term medium; then
 /// the two ends, at offset 0 of the long-term medium: they meet where both media end with one batch, or the long-term
-/// medium ends directly before the capsule's last batch (this project's profile). A third medium is not looked at.
+/// medium ends directly before the capsule's last batch, which may come next there by its place and its tick (this project's profile).
+/// A third medium is not looked at.
 pub fn read_media<M: Media>(alloc: Global, media: &mut M) -> Result<Opened, OpenRefused>
     requires two { 2 ≤ length (M.disk media.old).sizes }
     requires three { length (M.disk media.old).sizes ≤ 3 }

@@ -15,7 +15,7 @@ ghost use Rattle.vdr_opening.specs.Refusals.{IsRefused};
 ghost use Rattle.vdr_opening.specs.declared.refused.OpenRefused.TheVariants.{Damaged, NotFormatted};
 ghost use Rattle.vdr_vault.specs.Calls.{SameElsewhere};
 ghost use Rattle.vdr_vault.specs.Openings.{LeavesAll, OpensAtEachMoment};
-ghost use Rattle.vdr_vault.specs.Regularity.{AreRegularMedia};
+ghost use Rattle.vdr_vault.specs.Regularity.{AreSound};
 ghost use Rattle.vdr_vault.specs.Vaults.{AreRings, ShowsHistory, of_stamp};
 ghost use Rattle.vdr_recorder.specs.Making.{CountsItems};
 ghost use Rattle.vdr_recorder.specs.Recordings.{HasRecorded, TellsLeft};
@@ -68,7 +68,7 @@ impl Recording {
     pub fn open<M: Media>(alloc: Global, media: &mut M) -> Result<Recording, OpenRefused>
         requires two { 2 ≤ length (M.disk media.old).sizes }
         requires three { length (M.disk media.old).sizes ≤ 3 }
-        ensures opened { IfOk result (λ r. (x : Contents) → M.tells → HoldsContents (M.disk media.old).reads x → AreRegularMedia x
+        ensures opened { IfOk result (λ r. (x : Contents) → M.tells → HoldsContents (M.disk media.old).reads x → AreSound x
             → (t0 : ℕ) × ((M.disk media.old).clock ≤ t0) × (t0 ≤ (M.disk media.new).clock) × HasRecorded (opening_of x) [] t0 r (M.disk media.new)) }
         ensures contents { IfOk result (λ r. M.tells → IsFormatted (M.disk media.old).reads × (x : Contents) × HoldsContents (M.disk media.old).reads x
             × EndsMeet both (reading_of x) × (r.members.config ≡ x.config) × (r.members.table ≡ x.table)
@@ -76,12 +76,13 @@ impl Recording {
         ensures works { IfOk result (λ r. r.members.failed ≡ false) }
         ensures closed { IfOk result (λ r. r.is_open ≡ false) }
         ensures rings { IfOk result (λ r. AreRings r.members (M.disk media.new).sizes) }
-        ensures moments { (x : Contents) → M.tells → HoldsContents (M.disk media.old).reads x → EndsMeet both (reading_of x) → AreRegularMedia x
+        ensures moments { (x : Contents) → M.tells → HoldsContents (M.disk media.old).reads x → EndsMeet both (reading_of x) → AreSound x
             → OpensAtEachMoment (M.disk media.old) (M.disk media.new) result (ShowsHistory (opening_of x) []) }
         ensures unformatted { result ≡ Err NotFormatted → M.tells → IsUnformatted (M.disk media.old).reads }
         ensures damaged { (m offset : ℕ) → result ≡ Err (Damaged m offset) → M.tells → IsFormatted (M.disk media.old).reads × IsRefused (M.disk media.old).reads m offset }
         ensures untouched { (result ≡ Err NotFormatted) ⊎ ((m : ℕ) × (offset : ℕ) × (result ≡ Err (Damaged m offset)))
             → LeavesAll (M.disk media.old) (M.disk media.new) × (M.tells → (M.disk media.new).reads ≡ (M.disk media.old).reads) }
+        ensures blank { M.tells → IsUnformatted (M.disk media.old).reads → LeavesAll (M.disk media.old) (M.disk media.new) }
         ensures others { M.tells → SameElsewhere (M.disk media.old).reads (M.disk media.new).reads }
         ensures sizes { (M.disk media.new).sizes ≡ (M.disk media.old).sizes }
         ensures cause { HasOpenCause (M.faults media.old) (M.faults media.new) result }

@@ -1,13 +1,13 @@
 // What is kept of an incident, and until when.
 ghost use Rattle.std.specs.Prelude.{◌≡◌, ◌⊎◌, ◌-◌, ℕ, List, suc, is_none, position, option_copied, option_map, IfOk, OnErr, OnOk, None, Some, Err, true, false};
-ghost use Rattle.vdr_history.specs.Histories.{Event, Incident, Opening, all_records as all_given, live, with_slot};
+ghost use Rattle.vdr_history.specs.Histories.{Event, Incident, Opening, live, with_slot};
 ghost use Rattle.vdr_history.specs.Histories.Act.{Look, Release, Save};
 ghost use Rattle.vdr_outside.specs.Disk.{SameBut, Unchanged};
 ghost use Rattle.vdr_ring.specs.Sequence.{Placed};
 ghost use Rattle.vdr_incident.specs.declared.refused.ReleaseRefused.TheVariants.{Fault as AReleaseFault, NoSuch};
 ghost use Rattle.vdr_vault.specs.Vaults.{AreRings, Stands, of_stamp};
 ghost use Rattle.vdr_vault.specs.Plays.{ReadsNoOther};
-ghost use Rattle.vdr_vault.specs.Saves.{HasFaultOn, IsUnbroken, save_refusal};
+ghost use Rattle.vdr_vault.specs.Saves.{HasFaultOn, save_refusal};
 ghost use Rattle.vdr_vault.specs.declared.refused.SaveRefused.{SaveRefused as Refused};
 ghost use Rattle.vdr_vault.specs.declared.refused.SaveRefused.TheVariants.{Damaged, Fault as AFault, Label, Nothing, TableFull};
 ghost use Rattle.vdr_recorder.specs.Recordings.{HasDone, HasRecorded};
@@ -40,7 +40,7 @@ impl Recording {
         ensures reason { (refused : Refused) → result ≡ Err refused → (refused ≡ Label) ⊎ ((refused ≡ Nothing) ⊎ (refused ≡ TableFull))
             → (self.old.members.failed ≡ false) × (save_refusal label.now self.old.members ≡ Some refused) }
         ensures undamaged { (opening : Opening) (events : List Event) (placed : ℕ → List Placed) (m offset : ℕ) → M.tells → Stands opening events self.old.members placed (M.disk media.old)
-            → IsUnbroken self.old.members.config.incident_seconds (all_given opening 1 events) → result ≡ Err (Damaged m offset) → ⊥ }
+            → result ≡ Err (Damaged m offset) → ⊥ }
         ensures damaged { (m offset : ℕ) → result ≡ Err (Damaged m offset) → Unchanged (M.disk media.old) (M.disk media.new) × (self.new.members.failed ≡ false) }
         ensures fails { result ≡ Err AFault → self.new.members.failed ≡ true }
         ensures works { (result ≡ Err AFault → ⊥) → self.new.members.failed ≡ false }

@@ -18,7 +18,7 @@ use Rattle.vdr_config.specs.Grammar.{configuration}
 use Rattle.vdr_config.specs.Sizes.{limits_in, sizes_of}
 use Rattle.vdr_opening.specs.Media.{both, Contents, opening_of}
 use Rattle.vdr_vault.specs.Openings.{GoesOnSynced, OpensAtEachMoment}
-use Rattle.vdr_vault.specs.Regularity.{AreRegularMedia, IsRegularMedium}
+use Rattle.vdr_vault.specs.Regularity.{AreSound, IsRegularMedium}
 use Rattle.vdr_vault.specs.Vaults.{HoldsHistory, ShowsHistory, ring_of}
 use Rattle.vdr_vault.proofs.CommitReady.{one_end}
 use Rattle.vdr_opening.specs.declared.refused.OpenRefused.{OpenRefused}
@@ -26,9 +26,9 @@ use Rattle.vdr_opening.specs.declared.refused.OpenRefused.TheVariants.{Fault}
 use Rattle.vdr_recorder.specs.Recordings.{HasRecorded, Passes, RecordingState, start_of_opening}
 use Rattle.vdr_feed.specs.Reader.{Reading}
 use Rattle.vdr_replay.specs.Answers.{Answers, NothingIsRecorded}
-use Rattle.vdr_replay.specs.Headline.{AccountBy, Headline, PlaysBack, RecordsAre, RunEnd}
+use Rattle.vdr_replay.specs.Headline.{AccountBy, Headline, LeavesHistory, PlaysBack, RecordsAre, RunEnd}
 use Rattle.vdr_replay.specs.Headline.RunEnd.{Broken, Closed, NotStarted}
-use Rattle.vdr_replay.specs.Ran.{Runs}
+use Rattle.vdr_replay.specs.Ran.{HasBroken, HasRun, Runs}
 use Rattle.vdr_replay.specs.Reading.{HasRead}
 use Rattle.vdr_replay.specs.declared.ended.Replayed.{Replayed}
 use Rattle.vdr_replay.specs.declared.ended.ReplayStop.{ReplayStop}
@@ -54,9 +54,9 @@ module _ (shows others : List Event → Image → Type 0) (events : List Event) 
 
 -- The order of what the media were given
 
-module _ (x : Contents) (regular : AreRegularMedia x) where
+module _ (x : Contents) (sound : AreSound x) where
   opened_in_order : (m : ℕ) → Contains both m → AreInOrder ((opening_of x).records m)
-  opened_in_order m there = (All-contains (IsRegularMedium x) both m regular there).order
+  opened_in_order m there = (All-contains (IsRegularMedium x) both m sound.regular there).order
 
   pub order_first : (m : ℕ) → Contains both m → AreInOrder (all_records (opening_of x) m [])
   order_first m there = subst AreInOrder (sym (append-nil ((opening_of x).records m))) (opened_in_order m there)
@@ -102,6 +102,7 @@ module _ (x : Contents) (reads : configuration x.text ≡ Ok x.config) (events :
   headline rose t0 before after feed end history kept passes entry exit pending records accounts = record {
     events = events;
     history = history;
+    order = order;
     pending = pending;
     records = records;
     accounts = accounts;
@@ -120,7 +121,7 @@ no_event_history opening = record { follow = tt; pending = tt }
 no_event_whole : IsWhole []
 no_event_whole = All-nil (λ (e : Event). e.moment ≢ None)
 
-module _ {tells tells_images : Type 0} (x : Contents) (bytes : List ℕ) (rose : Type 0) (reads : configuration x.text ≡ Ok x.config) (regular : AreRegularMedia x) where
+module _ {tells tells_images : Type 0} (x : Contents) (bytes : List ℕ) (rose : Type 0) (reads : configuration x.text ≡ Ok x.config) (sound : AreSound x) where
   kept_since : (synced : ℕ) (disk : Disk tells tells_images) → synced ≤ disk.clock → ((image : Image) → disk.since synced image → ShowsHistory (opening_of x) [] image) → Keeps (ShowsHistory (opening_of x)) [] synced disk
   kept_since synced disk le shown = record {
     rising = omega arith;
@@ -133,11 +134,18 @@ module _ {tells tells_images : Type 0} (x : Contents) (bytes : List ℕ) (rose :
   passes_synced old new goes = moments_weaken old new (λ image. old.now image ⊎ ShowsHistory (opening_of x) [] image) (λ image. old.now image ⊎ ShowsPrefix (ShowsHistory (opening_of x)) [] 0 image) goes.moments
       (λ image p. ⊎_elim (λ now. inl now) (λ shown. inr (record { first = []; rest = []; split = refl; enough = omega arith; shown = shown })) p)
 
+  opened_headline : (old new : Disk tells tells_images) → GoesOnSynced old new (ShowsHistory (opening_of x) []) → Headline x rose old new [] NotStarted
+  opened_headline old new goes = headline x reads [] (order_first x sound) rose goes.synced old new [] NotStarted (no_event_history (opening_of x))
+      (kept_since goes.synced new goes.before_exit goes.since) (passes_synced old new goes) goes.after_entry goes.before_exit (inl no_event_whole) refl (λ g. tt)
+
+  pub opened_leaves : {T : Type 0} (old new : Disk tells tells_images) (result : Result T OpenRefused) → OpensAtEachMoment old new result (ShowsHistory (opening_of x) []) → LeavesHistory x rose old new
+  opened_leaves old new result (inl ends) = inl ends.moments
+  opened_leaves old new result (inr goes) = inr ([], NotStarted, opened_headline old new goes)
+
   -- What opening leaves, whatever it answers.
   pub opened_nothing : {T : Type 0} (old new : Disk tells tells_images) (result : Result T OpenRefused) → OpensAtEachMoment old new result (ShowsHistory (opening_of x) []) → NothingIsRecorded x bytes rose old new
   opened_nothing old new result (inl ends) = inl (λ image left. ends.moments.each image left)
-  opened_nothing old new result (inr goes) = inr (headline x reads [] (order_first x regular) rose goes.synced old new [] NotStarted (no_event_history (opening_of x))
-      (kept_since goes.synced new goes.before_exit goes.since) (passes_synced old new goes) goes.after_entry goes.before_exit (inl no_event_whole) refl (λ g. tt))
+  opened_nothing old new result (inr goes) = inr (opened_headline old new goes)
 
   -- Where opening succeeded.
   pub passes_opened : {T : Type 0} (old new : Disk tells tells_images) (r : T) → OpensAtEachMoment {T = T} old new (Ok r) (ShowsHistory (opening_of x) []) → Passes (opening_of x) [] old new
@@ -149,41 +157,63 @@ module _ {tells tells_images : Type 0} (x : Contents) (bytes : List ℕ) (rose :
 
 -- What a run makes of it
 
-module _ {tells tells_images : Type 0} (x : Contents) (bytes : List ℕ) (rose : Type 0) (reads : configuration x.text ≡ Ok x.config) (regular : AreRegularMedia x) (t0 : ℕ) (r after : RecordingState)
+module _ {tells tells_images : Type 0} (x : Contents) (bytes : List ℕ) (rose : Type 0) (reads : configuration x.text ≡ Ok x.config) (sound : AreSound x) (t0 : ℕ) (r after : RecordingState)
     (old mid new : Disk tells tells_images) (opened : HasRecorded (opening_of x) [] t0 r mid) (passes : Passes (opening_of x) [] old mid) (entry : old.clock ≤ t0) (exit : t0 ≤ mid.clock) where
-  pub begun_nothing : HasRecorded (opening_of x) [] t0 after new → Passes (opening_of x) [] mid new → NothingIsRecorded x bytes rose old new
-  begun_nothing has then = inr (headline x reads [] (order_first x regular) rose t0 old new [] NotStarted has.history has.kept (passes_join (opening_of x) [] [] old mid new passes then)
-      entry (omega (arith, exit, then.later)) (inl no_event_whole) refl (λ g. tt))
+  not_begun : HasRecorded (opening_of x) [] t0 after new → Passes (opening_of x) [] mid new → Headline x rose old new [] NotStarted
+  not_begun has then = headline x reads [] (order_first x sound) rose t0 old new [] NotStarted has.history has.kept (passes_join (opening_of x) [] [] old mid new passes then)
+      entry (omega (arith, exit, then.later)) (inl no_event_whole) refl (λ g. tt)
 
-  module _ (left : Option (List ℕ)) (reader : Reading) (read : HasRead (Some bytes) left reader []) (admits : Admits (limits_in x.config.groups)) where
-    pub answers : (result : Result Replayed ReplayStop) → (result ≡ Err Media → rose) → Runs (opening_of x) t0 left reader x.config.groups after mid new result → Answers x bytes rose old new result
-    answers (Ok r) risen h = record {
+  pub begun_nothing : HasRecorded (opening_of x) [] t0 after new → Passes (opening_of x) [] mid new → NothingIsRecorded x bytes rose old new
+  begun_nothing has then = inr (not_begun has then)
+
+  module _ (left : Option (List ℕ)) (reader : Reading) (admits : Admits (limits_in x.config.groups)) where
+    closed : (r : Replayed) (h : HasRun (opening_of x) t0 left reader x.config.groups after mid new r) → Headline x rose old new h.feed Closed
+    closed r h = headline x reads h.closes.more (order_after x sound t0 _ mid opened h.closes.more h.closes.has.made) rose t0 old new h.feed Closed h.closes.has.history h.closes.has.kept
+        (passes_join (opening_of x) [] h.closes.more old mid new passes h.closes.passes) entry (omega (arith, exit, h.closes.passes.later))
+        (inl ((whole_has_not_failed h.closes.more).1 (sym h.closes.has.failed ∙ h.works))) h.closes.made
+        (closed_accounts (start_of_opening (opening_of x)) h.feed (recorded h.closes.more) admits h.low h.closes.made)
+
+    broken : rose → (h : HasBroken (opening_of x) t0 left reader x.config.groups after mid new) → Headline x rose old new h.feed Broken
+    broken risen h = headline x reads h.breaks.more (order_after x sound t0 _ mid opened h.breaks.more h.breaks.has.made) rose t0 old new h.feed Broken h.breaks.has.history h.breaks.has.kept
+        (passes_join (opening_of x) [] h.breaks.more old mid new passes h.breaks.passes) entry (omega (arith, exit, h.breaks.passes.later))
+        (inr (refl, risen)) (cut_records (start_of_opening (opening_of x)) h.feed (recorded h.breaks.more) h.breaks.cut)
+        (cut_accounts (start_of_opening (opening_of x)) h.feed (recorded h.breaks.more) admits h.low h.breaks.cut)
+
+    -- Whatever is known of the input.
+    pub leaves : (result : Result Replayed ReplayStop) → (result ≡ Err Media → rose) → Runs (opening_of x) t0 left reader x.config.groups after mid new result → LeavesHistory x rose old new
+    leaves (Ok r) risen h = inr (h.feed, Closed, closed r h)
+    leaves (Err Media) risen h = inr (h.feed, Broken, broken (risen refl) h)
+    leaves (Err Place) risen h = inr ([], NotStarted, not_begun h.1.has h.1.passes)
+    leaves (Err Tick) risen h = inr ([], NotStarted, not_begun h.2.has h.2.passes)
+    leaves (Err NoMemory) risen h = absurd h
+    leaves (Err Input) risen h = absurd h
+    leaves (Err (Refused number offset)) risen h = absurd h
+    leaves (Err NotFormatted) risen h = absurd h
+    leaves (Err (Damaged medium offset)) risen h = absurd h
+
+    -- Where it is known.
+    pub answers : HasRead (Some bytes) left reader [] → (result : Result Replayed ReplayStop) → (result ≡ Err Media → rose) → Runs (opening_of x) t0 left reader x.config.groups after mid new result → Answers x bytes rose old new result
+    answers read (Ok r) risen h = record {
       feed = h.feed;
       read = h.read (Some bytes) read;
       configured = h.known;
       may = h.may;
-      left = headline x reads h.closes.more (order_after x regular t0 _ mid opened h.closes.more h.closes.has.made) rose t0 old new h.feed Closed h.closes.has.history h.closes.has.kept
-          (passes_join (opening_of x) [] h.closes.more old mid new passes h.closes.passes) entry (omega (arith, exit, h.closes.passes.later))
-          (inl ((whole_has_not_failed h.closes.more).1 (sym h.closes.has.failed ∙ h.works))) h.closes.made
-          (closed_accounts (start_of_opening (opening_of x)) h.feed (recorded h.closes.more) admits h.low h.closes.made);
+      left = closed r h;
       sums = h.sums;
       total = h.total;
     }
-    answers (Err Media) risen h = λ meet. inr (record {
+    answers read (Err Media) risen h = λ meet. inr (record {
       feed = h.feed;
       rest = (h.read (Some bytes) read).0;
       read = (h.read (Some bytes) read).1;
       configured = h.known;
       may = h.may;
-      left = headline x reads h.breaks.more (order_after x regular t0 _ mid opened h.breaks.more h.breaks.has.made) rose t0 old new h.feed Broken h.breaks.has.history h.breaks.has.kept
-          (passes_join (opening_of x) [] h.breaks.more old mid new passes h.breaks.passes) entry (omega (arith, exit, h.breaks.passes.later))
-          (inr (refl, risen refl)) (cut_records (start_of_opening (opening_of x)) h.feed (recorded h.breaks.more) h.breaks.cut)
-          (cut_accounts (start_of_opening (opening_of x)) h.feed (recorded h.breaks.more) admits h.low h.breaks.cut);
+      left = broken (risen refl) h;
     })
-    answers (Err Place) risen h = (h.0, begun_nothing h.1.has h.1.passes)
-    answers (Err Tick) risen h = (h.0, h.1, begun_nothing h.2.has h.2.passes)
-    answers (Err NoMemory) risen h = absurd h
-    answers (Err Input) risen h = absurd h
-    answers (Err (Refused number offset)) risen h = absurd h
-    answers (Err NotFormatted) risen h = absurd h
-    answers (Err (Damaged medium offset)) risen h = absurd h
+    answers read (Err Place) risen h = (h.0, begun_nothing h.1.has h.1.passes)
+    answers read (Err Tick) risen h = (h.0, h.1, begun_nothing h.2.has h.2.passes)
+    answers read (Err NoMemory) risen h = absurd h
+    answers read (Err Input) risen h = absurd h
+    answers read (Err (Refused number offset)) risen h = absurd h
+    answers read (Err NotFormatted) risen h = absurd h
+    answers read (Err (Damaged medium offset)) risen h = absurd h

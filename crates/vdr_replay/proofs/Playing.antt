@@ -17,6 +17,7 @@ use Rattle.vdr_config.specs.Grammar.{configuration}
 use Rattle.vdr_config.specs.Sizes.{window_of}
 use Rattle.vdr_opening.specs.Media.{both, Contents, HoldsContents, IsMedium, opening_of, reading_of}
 use Rattle.vdr_opening.proofs.Fronts.{one_config}
+use Rattle.vdr_vault.specs.Regularity.{AreSound}
 use Rattle.vdr_vault.specs.Vaults.{ShowsHistory}
 use Rattle.vdr_replay.specs.Headline.{IsThere, PlaysBack}
 use Rattle.vdr_replay.proofs.Ordering.{among_in_order}
@@ -43,7 +44,7 @@ live_there table zero incident e = absurd (none e)
 live_there table (suc i) incident e = slot_there table i incident e
 
 module _ (x : Contents) (reads : configuration x.text ≡ Ok x.config) (events : List Event) (order : (m : ℕ) → Contains both m → AreInOrder (all_records (opening_of x) m events))
-    (image : Image) (y : Contents) (holds : HoldsContents image y) (shown : Shows both (opening_of x) events (reading_of y)) where
+    (image : Image) (y : Contents) (holds : HoldsContents image y) (sound : AreSound y) (shown : Shows both (opening_of x) events (reading_of y)) where
   same_config : y.config ≡ x.config
   same_config = one_config x.text y.config x.config (ap configuration (sym shown.media.text) ∙ config_read image y holds) reads
 
@@ -75,6 +76,7 @@ module _ (x : Contents) (reads : configuration x.text ≡ Ok x.config) (events :
   played_back = record {
     contents = y;
     legible = holds;
+    sound = sound;
     shown = shown;
     played = λ query there. ap (filter (matches query)) (extent_same query.medium there);
   }
@@ -83,4 +85,5 @@ module _ (x : Contents) (reads : configuration x.text ≡ Ok x.config) (events :
 pub plays : (x : Contents) → configuration x.text ≡ Ok x.config → (events : List Event) → ((m : ℕ) → Contains both m → AreInOrder (all_records (opening_of x) m events)) → (image : Image)
     → ShowsHistory (opening_of x) events image → PlaysBack (opening_of x) events image
 plays x reads events order image (members, reading, is_read, shown) =
-    played_back x reads events order image is_read.contents is_read.holds (subst (Shows both (opening_of x) events) is_read.is (subst (λ (ms : List ℕ). Shows ms (opening_of x) events reading) is_read.members_are shown))
+    played_back x reads events order image is_read.reads.contents is_read.reads.holds is_read.sound
+    (subst (Shows both (opening_of x) events) is_read.reads.is (subst (λ (ms : List ℕ). Shows ms (opening_of x) events reading) is_read.reads.members_are shown))

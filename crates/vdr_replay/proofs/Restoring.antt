@@ -1,6 +1,6 @@
 -- What is restored of legible media has rising places.
 use Rattle.std.proofs.Common.{◌≡◌, ◌+◌, ◌<◌, ◌≤◌, ℕ, suc, List, [], ◌∷◌, ◌++◌, length, All, Contains, Bool, true, false, Option, Some, None, ⊎_elim, refl, sym, ap, subst, arith, true≢false}
-use Rattle.std.proofs.lemmas.Bool.{eqb-true}
+use Rattle.std.proofs.lemmas.Bool.{and_parts, eqb-true}
 use Rattle.std.proofs.lemmas.List.Elements.{All-append, All-contains, All-head, All-nil, All-weaker, Contains-append_cases}
 use Rattle.vdr_terms.specs.Order.{RunOn}
 use Rattle.vdr_terms.specs.Records.{Record, last, last_after}
@@ -101,7 +101,7 @@ with_next_rises (Some b) bs h runs = go (ends_before (Some b) bs) refl
     go : (ends : Bool) → ends_before (Some b) bs ≡ ends → PlacesRise (segment_records (with_next (Some b) bs))
     go true e = subst PlacesRise (sym (next_added bs b e))
         (rise_join (segment_records bs) b (next_after (last (segment_records bs))) h (run_rises run.0 b run.1) (below_next (segment_records bs) h)
-        (begins_there (next_after (last (segment_records bs))) run.0 b e run.1))
+        (begins_there (next_after (last (segment_records bs))) run.0 b (and_parts _ _ e).0 run.1))
     go false e = subst (λ (l : Batches). PlacesRise (segment_records l)) (sym (next_kept bs b e)) h
 
 -- What is restored of legible media rises, medium by medium.

@@ -1,13 +1,16 @@
 // A feed is recorded on the media.
 ghost use Rattle.std.specs.Prelude.{◌≡◌, ◌≤◌, ℕ, List, length, sum, Some, Err, IfOk, IsErrOf};
 ghost use Rattle.std.specs.Io.KnownBytes.{IsAtEnd};
+ghost use Rattle.vdr_durability.specs.Readings.{EndsMeet};
 ghost use Rattle.vdr_outside.specs.Causes.{Rose};
 ghost use Rattle.vdr_media.specs.Formatted.{IsFormatted, IsUnformatted};
-ghost use Rattle.vdr_opening.specs.Media.{Contents, HoldsContents};
+ghost use Rattle.vdr_opening.specs.Media.{Contents, HoldsContents, both, reading_of};
 ghost use Rattle.vdr_opening.specs.Refusals.{IsRefused};
 ghost use Rattle.vdr_vault.specs.Calls.{SameElsewhere};
-ghost use Rattle.vdr_vault.specs.Regularity.{AreRegularMedia};
+ghost use Rattle.vdr_vault.specs.Openings.{LeavesAll};
+ghost use Rattle.vdr_vault.specs.Regularity.{AreSound};
 ghost use Rattle.vdr_replay.specs.Answers.{Answers, HasReplayCause, IfOpened, IsLegible, TellsHeader};
+ghost use Rattle.vdr_replay.specs.Headline.{LeavesHistory};
 ghost use Rattle.vdr_replay.specs.declared.ended.FeedEnd.TheVariants.{Whole, Input as InputEnds};
 ghost use Rattle.vdr_replay.specs.declared.ended.ReplayStop.TheVariants.{Damaged, Input, NotFormatted};
 
@@ -40,8 +43,11 @@ pub fn replay<I: Source, M: Media>(
 ) -> Result<Replayed, ReplayStop>
     requires two { 2 ≤ length (M.disk media.old).sizes }
     requires three { length (M.disk media.old).sizes ≤ 3 }
-    ensures replayed { (x : Contents) (bytes : List ℕ) → M.tells → HoldsContents (M.disk media.old).reads x → AreRegularMedia x → I.left input.old ≡ Some bytes
+    ensures replayed { (x : Contents) (bytes : List ℕ) → M.tells → HoldsContents (M.disk media.old).reads x → AreSound x → I.left input.old ≡ Some bytes
         → Answers x bytes (Rose (sum (M.faults media.old)) (sum (M.faults media.new))) (M.disk media.old) (M.disk media.new) result }
+    ensures left { (x : Contents) → M.tells → HoldsContents (M.disk media.old).reads x → EndsMeet both (reading_of x) → AreSound x
+        → LeavesHistory x (Rose (sum (M.faults media.old)) (sum (M.faults media.new))) (M.disk media.old) (M.disk media.new) }
+    ensures blank { M.tells → IsUnformatted (M.disk media.old).reads → LeavesAll (M.disk media.old) (M.disk media.new) }
     ensures header { TellsHeader (I.left input.old) result }
     ensures legible { M.tells → IfOpened result (IsLegible (M.disk media.old).reads) }
     ensures whole { IfOk result (λ r. r.end ≡ Whole → IsAtEnd (I.left input.new)) }

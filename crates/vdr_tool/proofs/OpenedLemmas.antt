@@ -16,7 +16,7 @@ use Rattle.vdr_opening.specs.declared.refused.OpenRefused.TheVariants as opening
 use Rattle.vdr_recorder.specs.Recordings.{HasDone, RecordingState}
 use Rattle.vdr_vault.specs.Calls.{SameElsewhere}
 use Rattle.vdr_vault.specs.Openings.{GoesOnSynced, LeavesAll, OpensAtEachMoment}
-use Rattle.vdr_vault.specs.Regularity.{AreRegularMedia}
+use Rattle.vdr_vault.specs.Regularity.{AreSound}
 use Rattle.vdr_vault.specs.Vaults.{MembersState, ShowsHistory}
 use Rattle.vdr_tool.specs.Incidents.{CanList}
 use Rattle.vdr_tool.specs.Opened.{AreLooks, IsLegibleWith, IsUnopened, IsWorkDone, KeepsContents, MayLeave, MediaEnds, newest_of, status_of_opening}
@@ -97,7 +97,7 @@ module _ {tells tells_images : Type 0} where
       → ((result ≡ Err openings.NotFormatted) ⊎ ((m : ℕ) × (offset : ℕ) × (result ≡ Err (openings.Damaged m offset))) → LeavesAll old new × (tells → new.reads ≡ old.reads))
       → (tells → SameElsewhere old.reads new.reads)
       → HasOpenCause before now result
-      → ((x : Contents) → tells → HoldsContents old.reads x → EndsMeet both (reading_of x) → AreRegularMedia x → OpensAtEachMoment old new result (ShowsHistory (opening_of x) []))
+      → ((x : Contents) → tells → HoldsContents old.reads x → EndsMeet both (reading_of x) → AreSound x → OpensAtEachMoment old new result (ShowsHistory (opening_of x) []))
       → MediaEnds Can Met MayBe old new before now (status_of_opening refused)
   refused_ends Can Met MayBe old new before now result openings.NoMemory may is unformatted damaged untouched others cause moments = record {
     unformatted = λ e. let none : ⊥ = cc in absurd none;
@@ -105,9 +105,9 @@ module _ {tells tells_images : Type 0} where
     fault = λ e. let none : ⊥ = cc in absurd none;
     legible = λ done. absurd done;
     others = others;
-    kept = λ x t holds meet regular. kept_by_opening x MayBe NoMemory old new result may
+    kept = λ x t holds meet sound. kept_by_opening x MayBe NoMemory old new result may
         (λ failed. let clash : Err openings.NoMemory ≡ Err openings.Fault = sym is ∙ failed in let none : ⊥ = cc in absurd none)
-        (moments x t holds meet regular);
+        (moments x t holds meet sound);
   }
   refused_ends Can Met MayBe old new before now result openings.NotFormatted may is unformatted damaged untouched others cause moments =
       let same = untouched (inl is) in
@@ -117,7 +117,7 @@ module _ {tells tells_images : Type 0} where
         fault = λ e. let none : ⊥ = cc in absurd none;
         legible = λ done. absurd done;
         others = others;
-        kept = λ x t holds meet regular. inl (tt, same.0);
+        kept = λ x t holds meet sound. inl (tt, same.0);
       }
   refused_ends Can Met MayBe old new before now result (openings.Damaged m offset) may is unformatted damaged untouched others cause moments =
       let same = untouched (inr (m, offset, is)) in
@@ -127,7 +127,7 @@ module _ {tells tells_images : Type 0} where
         fault = λ e. let none : ⊥ = cc in absurd none;
         legible = λ done. absurd done;
         others = others;
-        kept = λ x t holds meet regular. inl (tt, same.0);
+        kept = λ x t holds meet sound. inl (tt, same.0);
       }
   refused_ends Can Met MayBe old new before now result openings.Fault may is unformatted damaged untouched others cause moments = record {
     unformatted = λ e. let none : ⊥ = cc in absurd none;
@@ -135,13 +135,13 @@ module _ {tells tells_images : Type 0} where
     fault = λ e. cause.in_all is;
     legible = λ done. absurd done;
     others = others;
-    kept = λ x t holds meet regular. kept_by_opening x MayBe MediaFault old new result may (λ failed. tt) (moments x t holds meet regular);
+    kept = λ x t holds meet sound. kept_by_opening x MayBe MediaFault old new result may (λ failed. tt) (moments x t holds meet sound);
   }
 
   -- The work was done.
   pub worked_ends : (Can : Contents → Type 0) (Met : Type 0) (MayBe : List Event → Type 0) (old new : Disk tells tells_images) (before now : List ℕ) (status : Status) → IsWorkDone status
       → (tells → IsLegibleWith old.reads Can) → (tells → SameElsewhere old.reads new.reads)
-      → ((x : Contents) → tells → HoldsContents old.reads x → EndsMeet both (reading_of x) → AreRegularMedia x → KeepsContents x MayBe old new)
+      → ((x : Contents) → tells → HoldsContents old.reads x → EndsMeet both (reading_of x) → AreSound x → KeepsContents x MayBe old new)
       → MediaEnds Can Met MayBe old new before now status
   worked_ends Can Met MayBe old new before now status done legible others kept = ⊎_elim
       (λ (is : status ≡ Done). subst (λ (s : Status). MediaEnds Can Met MayBe old new before now s) (sym is) (record {
@@ -150,7 +150,7 @@ module _ {tells tells_images : Type 0} where
         fault = λ e. let none : ⊥ = cc in absurd none;
         legible = λ d. legible;
         others = others;
-        kept = λ x t holds meet regular. inr (kept x t holds meet regular);
+        kept = λ x t holds meet sound. inr (kept x t holds meet sound);
       }))
       (λ (is : status ≡ OutputFault). subst (λ (s : Status). MediaEnds Can Met MayBe old new before now s) (sym is) (record {
         unformatted = λ e. let none : ⊥ = cc in absurd none;
@@ -158,7 +158,7 @@ module _ {tells tells_images : Type 0} where
         fault = λ e. let none : ⊥ = cc in absurd none;
         legible = λ d. legible;
         others = others;
-        kept = λ x t holds meet regular. inr (kept x t holds meet regular);
+        kept = λ x t holds meet sound. inr (kept x t holds meet sound);
       }))
       (done_either status done)
 
@@ -206,8 +206,8 @@ module _ {tells tells_images : Type 0} where
   pub listed_ends : {T : Type 0} (old new : Disk tells tells_images) (before now : List ℕ) (result : Result T OpenRefused) (r : T) → result ≡ Ok r
       → (members : MembersState) → OpenedOn old members
       → (tells → SameElsewhere old.reads new.reads)
-      → ((x : Contents) → tells → HoldsContents old.reads x → EndsMeet both (reading_of x) → AreRegularMedia x → OpensAtEachMoment old new result (ShowsHistory (opening_of x) []))
+      → ((x : Contents) → tells → HoldsContents old.reads x → EndsMeet both (reading_of x) → AreSound x → OpensAtEachMoment old new result (ShowsHistory (opening_of x) []))
       → (status : Status) → IsWorkDone status → MediaEnds CanList ⊥ AreLooks old new before now status
   listed_ends old new before now result r is members contents others moments status done =
       worked_ends CanList ⊥ AreLooks old new before now status done (legible_so CanList old members contents (λ x t holds c k l. tt)) others
-      (λ x t holds meet regular. kept_opened x AreLooks old new result r is no_looks (moments x t holds meet regular))
+      (λ x t holds meet sound. kept_opened x AreLooks old new result r is no_looks (moments x t holds meet sound))

@@ -33,7 +33,7 @@ module _ {tells tells_images : Type 0} (medium : Medium) (name : List ℕ) (old 
         refused = legible_refused old.reads law Done p.0 p.1 p.2 p.3;
         channel = λ x holds meet lacks. absurd (p.4.channel (lacks_too x p.1 holds p.2 lacks));
         incident = λ x id holds meet there is none. absurd (p.4.incident (misses_too x p.1 holds p.2 (not_live x.table medium id is none)));
-        done = λ x holds meet regular can. tt;
+        done = λ x holds meet sound can. tt;
       }
   plays_all Unformatted output media own ends =
       let un = (ends.media.unformatted refl).1 told in
@@ -41,7 +41,7 @@ module _ {tells tells_images : Type 0} (medium : Medium) (name : List ℕ) (old 
         refused = unformatted_refused old.reads un;
         channel = λ x holds meet lacks. absurd (law.formatted x holds un);
         incident = λ x id holds meet there is none. absurd (law.formatted x holds un);
-        done = λ x holds meet regular can. absurd (law.formatted x holds un);
+        done = λ x holds meet sound can. absurd (law.formatted x holds un);
       }
   plays_all (Damaged k at) output media own ends = ⊎_elim
       (λ refused. let r = refused.1 told in
@@ -49,15 +49,15 @@ module _ {tells tells_images : Type 0} (medium : Medium) (name : List ℕ) (old 
         refused = damaged_refused old.reads law k at r.0 r.1;
         channel = λ x holds meet lacks. absurd (law.either x k at holds meet r.1);
         incident = λ x id holds meet there is none. absurd (law.either x k at holds meet r.1);
-        done = λ x holds meet regular can. absurd (law.either x k at holds meet r.1);
+        done = λ x holds meet sound can. absurd (law.either x k at holds meet r.1);
       })
-      (λ irregular. let h = irregular told in
+      (λ unsound. let h = unsound told in
       let p = h.0 in
       record {
         refused = legible_refused old.reads law (Damaged k at) p.0 p.1 p.2 p.3;
         channel = λ x holds meet lacks. absurd (p.4.channel (lacks_too x p.1 holds p.2 lacks));
         incident = λ x id holds meet there is none. absurd (p.4.incident (misses_too x p.1 holds p.2 (not_live x.table medium id is none)));
-        done = λ x holds meet regular can. absurd (h.1 x holds regular);
+        done = λ x holds meet sound can. absurd (h.1 x holds sound);
       })
       ends.media.damaged
   plays_all NoChannel output media own ends =
@@ -66,7 +66,7 @@ module _ {tells tells_images : Type 0} (medium : Medium) (name : List ℕ) (old 
         refused = legible_refused old.reads law NoChannel h.0 h.1 h.2 h.3;
         channel = λ x holds meet lacks. inl refl;
         incident = λ x id holds meet there is none. absurd (there (lacks_too h.1 x h.2 holds h.4));
-        done = λ x holds meet regular can. absurd (can.channel (lacks_too h.1 x h.2 holds h.4));
+        done = λ x holds meet sound can. absurd (can.channel (lacks_too h.1 x h.2 holds h.4));
       }
   plays_all (NoIncident id) output media own ends =
       let h = ends.no_incident.1 told in
@@ -74,13 +74,13 @@ module _ {tells tells_images : Type 0} (medium : Medium) (name : List ℕ) (old 
         refused = legible_refused old.reads law (NoIncident id) h.0 h.1 h.2 h.3;
         channel = λ x holds meet lacks. absurd (h.4.0 (lacks_too x h.1 holds h.2 lacks));
         incident = λ x other holds meet there is none. inl (one_id medium id other ends.no_incident.0 is);
-        done = λ x holds meet regular can. absurd (can.incident (misses_too h.1 x h.2 holds h.4.1));
+        done = λ x holds meet sound can. absurd (can.incident (misses_too h.1 x h.2 holds h.4.1));
       }
   plays_all NoMemory output media own ends = record {
     refused = memory_refused old.reads;
     channel = λ x holds meet lacks. inr refl;
     incident = λ x id holds meet there is none. inr refl;
-    done = λ x holds meet regular can. tt;
+    done = λ x holds meet sound can. tt;
   }
   plays_all MediaFault output media own ends = absurd (media refl)
   plays_all OutputFault output media own ends = absurd (output refl)

@@ -30,7 +30,7 @@ use Rattle.vdr_recorder.specs.declared.play.PlayRefused.{PlayRefused}
 use Rattle.vdr_recorder.specs.declared.play.PlayRefused.TheVariants as plays
 use Rattle.vdr_vault.specs.Calls.{SameElsewhere}
 use Rattle.vdr_vault.specs.Openings.{OpensAtEachMoment}
-use Rattle.vdr_vault.specs.Regularity.{AreRegularMedia}
+use Rattle.vdr_vault.specs.Regularity.{AreSound}
 use Rattle.vdr_vault.specs.Vaults.{MembersState, ShowsHistory, Stands}
 use Rattle.vdr_tool.specs.Opened.{AreLooks, IsLegibleWith, KeepsContents, MediaEnds, MetUnsound, PrintsText, status_of_opening}
 use Rattle.vdr_tool.specs.Plays.{CanPlay, LacksChannel, LacksIncident, PlayEnds, channel_asked, channel_in, all_records, id_of, play_text, query_of, status_by}
@@ -77,7 +77,7 @@ asked_within c name = has_number (length c.channels) (channel_asked c name)
 module _ {tells tells_images : Type 0} where
   -- A play ends so where it is not of its own refusals.
   pub with_media : (medium : Played) (name : List ℕ) (old new : Disk tells tells_images) (before now : List ℕ) (refused : OpenRefused)
-      → MediaEnds (λ x. CanPlay x medium name) (MetUnsound old (λ x. CanPlay x medium name) AreRegularMedia) AreLooks old new before now (status_of_opening refused)
+      → MediaEnds (λ x. CanPlay x medium name) (MetUnsound old (λ x. CanPlay x medium name)) AreLooks old new before now (status_of_opening refused)
       → PlayEnds medium name old new before now (status_of_opening refused)
   with_media medium name old new before now openings.NoMemory media = record { media = media; no_channel = λ e. let none : ⊥ = cc in absurd none; no_incident = tt }
   with_media medium name old new before now openings.NotFormatted media = record { media = media; no_channel = λ e. let none : ⊥ = cc in absurd none; no_incident = tt }
@@ -88,7 +88,7 @@ module _ {tells tells_images : Type 0} where
   pub channel_ends : {T : Type 0} (medium : Played) (name : List ℕ) (old new : Disk tells tells_images) (before now : List ℕ) (result : Result T OpenRefused) (r : T) → result ≡ Ok r
       → (members : MembersState) → LacksChannel members.config name → OpenedOn old members
       → (tells → SameElsewhere old.reads new.reads)
-      → ((x : Contents) → tells → HoldsContents old.reads x → EndsMeet both (reading_of x) → AreRegularMedia x → OpensAtEachMoment old new result (ShowsHistory (opening_of x) []))
+      → ((x : Contents) → tells → HoldsContents old.reads x → EndsMeet both (reading_of x) → AreSound x → OpensAtEachMoment old new result (ShowsHistory (opening_of x) []))
       → PlayEnds medium name old new before now NoChannel
   channel_ends medium name old new before now result r is members lacks contents others moments = record {
     media = record {
@@ -97,7 +97,7 @@ module _ {tells tells_images : Type 0} where
       fault = λ e. let none : ⊥ = cc in absurd none;
       legible = λ played. absurd played;
       others = others;
-      kept = λ x t holds meet regular. inr (kept_opened x AreLooks old new result r is no_looks (moments x t holds meet regular));
+      kept = λ x t holds meet sound. inr (kept_opened x AreLooks old new result r is no_looks (moments x t holds meet sound));
     };
     no_channel = λ e. legible_so (λ x. LacksChannel x.config name) old members contents (λ x t holds c k l. subst (λ (d : Configuration). LacksChannel d name) c lacks);
     no_incident = tt;
@@ -117,7 +117,7 @@ module _ {tells tells_images : Type 0} (medium : Played) (name : List ℕ) (from
     (wants : Wants r.members.config medium name from to query)
     (works : r.members.failed ≡ false)
     (contents : OpenedOn old r.members)
-    (opened : (x : Contents) → tells → HoldsContents old.reads x → AreRegularMedia x
+    (opened : (x : Contents) → tells → HoldsContents old.reads x → AreSound x
     → (t0 : ℕ) × (old.clock ≤ t0) × (t0 ≤ mid.clock) × HasRecorded (opening_of x) [] t0 r mid) where
   -- The query's channel is there, so that only its incident may be missing.
   channel_is_there : lacks_channel (length r.members.config.channels) query.channel ≡ false
@@ -132,10 +132,10 @@ module _ {tells tells_images : Type 0} (medium : Played) (name : List ℕ) (from
   misses_from : lacks_incident r.members.table (asked_medium medium) ≡ true → Misses
   misses_from e = subst (λ (q : Query). lacks_incident r.members.table q.medium ≡ true) (sym wants.is) e
 
-  -- Where the media are regular, the vault stands on them.
-  standing : (x : Contents) → tells → HoldsContents old.reads x → AreRegularMedia x → (placed : ℕ → List Placed) × Stands (opening_of x) [] r.members placed mid
-  standing x t holds regular =
-      let has = opened x t holds regular in
+  -- Where the media are sound, the vault stands on them.
+  standing : (x : Contents) → tells → HoldsContents old.reads x → AreSound x → (placed : ℕ → List Placed) × Stands (opening_of x) [] r.members placed mid
+  standing x t holds sound =
+      let has = opened x t holds sound in
       let work = has.3.works works in
       (work.placed, work.stands)
 
@@ -146,12 +146,12 @@ module _ {tells tells_images : Type 0} (medium : Played) (name : List ℕ) (from
       (unchanged : Unchanged mid new) (m : ℕ) (cause : HasPlayCause m r.members.failed among now played) (later : NoneFalls before among)
       (others : tells → SameElsewhere old.reads mid.reads) where
     module _ {T : Type 0} (result : Result T OpenRefused)
-        (moments : (x : Contents) → tells → HoldsContents old.reads x → EndsMeet both (reading_of x) → AreRegularMedia x → OpensAtEachMoment old mid result (ShowsHistory (opening_of x) [])) where
-      kept_with_look : (x : Contents) → tells → HoldsContents old.reads x → EndsMeet both (reading_of x) → AreRegularMedia x → KeepsContents x AreLooks old new
-      kept_with_look x t holds meet regular =
-          let has = opened x t holds regular in
+        (moments : (x : Contents) → tells → HoldsContents old.reads x → EndsMeet both (reading_of x) → AreSound x → OpensAtEachMoment old mid result (ShowsHistory (opening_of x) [])) where
+      kept_with_look : (x : Contents) → tells → HoldsContents old.reads x → EndsMeet both (reading_of x) → AreSound x → KeepsContents x AreLooks old new
+      kept_with_look x t holds meet sound =
+          let has = opened x t holds sound in
           let done = looked (opening_of x) [] has.0 has.3 in
-          kept_by_call x AreLooks old mid new result Look r after has.0 (moments x t holds meet regular) has.1 has.2 done (one_look done.event done.act_is)
+          kept_by_call x AreLooks old mid new result Look r after has.0 (moments x t holds meet sound) has.1 has.2 done (one_look done.event done.act_is)
 
       others_too : tells → SameElsewhere old.reads new.reads
       others_too t = subst (λ (image : Image). SameElsewhere old.reads image) (sym (unchanged.reads t)) (others t)
@@ -162,8 +162,8 @@ module _ {tells tells_images : Type 0} (medium : Played) (name : List ℕ) (from
         incident = λ lacks. found (incident.1 (channel_is_there, misses_from (lacks_from r.members.table medium (subst (λ (table : List (Option histories.Incident)). LacksIncident table medium) (sym k) lacks))));
       })
 
-      irregular : (k offset : ℕ) → played ≡ Err (plays.Damaged k offset) → tells → (x : Contents) → HoldsContents old.reads x → AreRegularMedia x → ⊥
-      irregular k offset is t x holds regular = let stands = standing x t holds regular in undamaged (opening_of x) [] stands.0 k offset t stands.1 is
+      unsound : (k offset : ℕ) → played ≡ Err (plays.Damaged k offset) → tells → (x : Contents) → HoldsContents old.reads x → AreSound x → ⊥
+      unsound k offset is t x holds sound = let stands = standing x t holds sound in undamaged (opening_of x) [] stands.0 k offset t stands.1 is
 
       rose : played ≡ Err plays.Fault → Rose (sum before) (sum now)
       rose is = ⊎_elim (λ (failed : r.members.failed ≡ true). let clash : true ≡ false = sym failed ∙ works in let none : ⊥ = cc in absurd none)
@@ -183,7 +183,7 @@ module _ {tells tells_images : Type 0} (medium : Played) (name : List ℕ) (from
           fault = λ e. let none : ⊥ = cc in absurd none;
           legible = λ done. absurd done;
           others = others_too;
-          kept = λ x t holds meet regular. inr (kept_with_look x t holds meet regular);
+          kept = λ x t holds meet sound. inr (kept_with_look x t holds meet sound);
         };
         no_channel = λ e. let none : ⊥ = cc in absurd none;
         no_incident = tt;
@@ -196,7 +196,7 @@ module _ {tells tells_images : Type 0} (medium : Played) (name : List ℕ) (from
           fault = λ e. let none : ⊥ = cc in absurd none;
           legible = λ done. absurd done;
           others = others_too;
-          kept = λ x t holds meet regular. inr (kept_with_look x t holds meet regular);
+          kept = λ x t holds meet sound. inr (kept_with_look x t holds meet sound);
         };
         no_channel = λ e. let none : ⊥ = cc in absurd none;
         no_incident = (
@@ -214,7 +214,7 @@ module _ {tells tells_images : Type 0} (medium : Played) (name : List ℕ) (from
           fault = λ e. rose is;
           legible = λ done. absurd done;
           others = others_too;
-          kept = λ x t holds meet regular. inr (kept_with_look x t holds meet regular);
+          kept = λ x t holds meet sound. inr (kept_with_look x t holds meet sound);
         };
         no_channel = λ e. let none : ⊥ = cc in absurd none;
         no_incident = tt;
@@ -222,11 +222,11 @@ module _ {tells tells_images : Type 0} (medium : Played) (name : List ℕ) (from
       ends_so (Err (plays.Damaged k offset)) is = record {
         media = record {
           unformatted = λ e. let none : ⊥ = cc in absurd none;
-          damaged = inr (λ t. (playable (λ e. let clash : Err (plays.Damaged k offset) ≡ Err plays.NoIncident = sym is ∙ e in let none : ⊥ = cc in absurd none) t, irregular k offset is t));
+          damaged = inr (λ t. (playable (λ e. let clash : Err (plays.Damaged k offset) ≡ Err plays.NoIncident = sym is ∙ e in let none : ⊥ = cc in absurd none) t, unsound k offset is t));
           fault = λ e. let none : ⊥ = cc in absurd none;
           legible = λ done. absurd done;
           others = others_too;
-          kept = λ x t holds meet regular. inr (kept_with_look x t holds meet regular);
+          kept = λ x t holds meet sound. inr (kept_with_look x t holds meet sound);
         };
         no_channel = λ e. let none : ⊥ = cc in absurd none;
         no_incident = tt;
@@ -252,19 +252,19 @@ module _ {tells tells_images : Type 0} (medium : Played) (name : List ℕ) (from
         let config : r.members.config ≡ x.config = c.4 ∙ same c.1 x c.2 holds in
         ap (λ (q : Query). records_text nothing_seen (selected (opening_of x) [] q)) (wants.is ∙ ap (λ (d : Configuration). query_of d medium name from to) config)
 
-    prints_so : (p : Result ⊤ PlayRefused) → played ≡ p → (x : Contents) → tells → HoldsContents old.reads x → AreRegularMedia x → PrintsText (play_text x medium name from to) (status_by p medium) taken wrote
-    prints_so (Ok u) is x t holds regular =
-        let stands = standing x t holds regular in
+    prints_so : (p : Result ⊤ PlayRefused) → played ≡ p → (x : Contents) → tells → HoldsContents old.reads x → AreSound x → PrintsText (play_text x medium name from to) (status_by p medium) taken wrote
+    prints_so (Ok u) is x t holds sound =
+        let stands = standing x t holds sound in
         subst (λ (text : List ℕ). Appends taken wrote text) (text_is x t holds)
         (subst (λ (p : Result ⊤ PlayRefused). OnOk p (Appends taken wrote (records_text nothing_seen (selected (opening_of x) [] query)))) is (printed (opening_of x) [] stands.0 t stands.1))
-    prints_so (Err plays.NoMemory) is x t holds regular = tt
-    prints_so (Err plays.NoChannel) is x t holds regular = tt
-    prints_so (Err plays.NoIncident) is x t holds regular = tt
-    prints_so (Err plays.Fault) is x t holds regular = tt
-    prints_so (Err (plays.Damaged k offset)) is x t holds regular = tt
-    prints_so (Err plays.Output) is x t holds regular =
-        let stands = standing x t holds regular in
+    prints_so (Err plays.NoMemory) is x t holds sound = tt
+    prints_so (Err plays.NoChannel) is x t holds sound = tt
+    prints_so (Err plays.NoIncident) is x t holds sound = tt
+    prints_so (Err plays.Fault) is x t holds sound = tt
+    prints_so (Err (plays.Damaged k offset)) is x t holds sound = tt
+    prints_so (Err plays.Output) is x t holds sound =
+        let stands = standing x t holds sound in
         subst (λ (text : List ℕ). AppendsFront taken wrote text) (text_is x t holds) (front (opening_of x) [] stands.0 t stands.1)
 
-    pub played_prints : (x : Contents) → tells → HoldsContents old.reads x → AreRegularMedia x → PrintsText (play_text x medium name from to) (status_by played medium) taken wrote
+    pub played_prints : (x : Contents) → tells → HoldsContents old.reads x → AreSound x → PrintsText (play_text x medium name from to) (status_by played medium) taken wrote
     played_prints = prints_so played refl

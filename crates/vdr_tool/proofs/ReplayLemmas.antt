@@ -14,7 +14,7 @@ use Rattle.vdr_media.specs.Formatted.{IsFormatted, IsUnformatted}
 use Rattle.vdr_opening.specs.Media.{both, Contents, HoldsContents, opening_of, reading_of}
 use Rattle.vdr_opening.specs.Refusals.{IsRefused}
 use Rattle.vdr_replay.specs.Answers.{Answers, IfOpened, TellsHeader}
-use Rattle.vdr_vault.specs.Regularity.{AreRegularMedia}
+use Rattle.vdr_vault.specs.Regularity.{AreSound}
 use Rattle.vdr_replay.specs.Feeding.{ReadsFeed, most_items}
 use Rattle.vdr_replay.specs.declared.ended.FeedEnd.{FeedEnd}
 use Rattle.vdr_replay.specs.declared.ended.FeedEnd.TheVariants as ends
@@ -51,7 +51,7 @@ is_refused_as status number offset other at is same = subst (IsRefusal number of
 module _ {tells tells_images : Type 0} (bytes : List ℕ) (old new : Disk tells tells_images) (before now : List ℕ) (taken wrote : Option (List ℕ)) (sink_before sink_now : ℕ)
     (told : tells) (law : OneAnswer old.reads) where
   abbrev Told : Result Replayed ReplayStop → Type 0
-  Told answer = (x : Contents) (more : List ℕ) → tells → HoldsContents old.reads x → AreRegularMedia x → Some bytes ≡ Some more → Answers x more (Rose (sum before) (sum now)) old new answer
+  Told answer = (x : Contents) (more : List ℕ) → tells → HoldsContents old.reads x → AreSound x → Some bytes ≡ Some more → Answers x more (Rose (sum before) (sum now)) old new answer
 
   abbrev Legible : Type 0
   Legible = IsFormatted old.reads × (x : Contents) × HoldsContents old.reads x × EndsMeet both (reading_of x)
@@ -67,26 +67,26 @@ module _ {tells tells_images : Type 0} (bytes : List ℕ) (old new : Disk tells 
         header = λ other. absurd (other header);
         unformatted = λ h un. absurd (not_both old.reads legible.0 un);
         damaged = λ h f m offset r. absurd (law.either legible.1 m offset legible.2 legible.3 r);
-        place = λ x h holds meet regular high. let may = (recorded x bytes told holds regular refl).may in absurd (no_place (opening_of x).next_place high may.place);
-        tick = λ x h holds meet regular low high. let may = (recorded x bytes told holds regular refl).may in absurd (no_place (base_after (opening_of x).last) high may.base);
-        refused = λ x feed number offset holds meet regular may reads known.
-            let r = recorded x bytes told holds regular refl in
+        place = λ x h holds meet sound high. let may = (recorded x bytes told holds sound refl).may in absurd (no_place (opening_of x).next_place high may.place);
+        tick = λ x h holds meet sound low high. let may = (recorded x bytes told holds sound refl).may in absurd (no_place (base_after (opening_of x).last) high may.base);
+        refused = λ x feed number offset holds meet sound may reads known.
+            let r = recorded x bytes told holds sound refl in
             absurd (not_refused x.config.groups bytes number offset r.feed feed r.configured known (subst (λ (e : FeedEnd). ReadsFeed x.config.groups bytes e r.feed) is r.read) reads);
-        done = λ x feed holds meet regular may whole known. is_done_as status done;
+        done = λ x feed holds meet sound may whole known. is_done_as status done;
       }
   closed status run input output header legible recorded ends.Input is summary prints = absurd (input prints.0)
   closed status run input output header legible recorded (ends.Refused other at) is summary prints = record {
     header = λ no. absurd (no header);
     unformatted = λ h un. absurd (not_both old.reads legible.0 un);
     damaged = λ h f m offset r. absurd (law.either legible.1 m offset legible.2 legible.3 r);
-    place = λ x h holds meet regular high. let may = (recorded x bytes told holds regular refl).may in absurd (no_place (opening_of x).next_place high may.place);
-    tick = λ x h holds meet regular low high. let may = (recorded x bytes told holds regular refl).may in absurd (no_place (base_after (opening_of x).last) high may.base);
-    refused = λ x feed number offset holds meet regular may reads known.
-        let r = recorded x bytes told holds regular refl in
+    place = λ x h holds meet sound high. let may = (recorded x bytes told holds sound refl).may in absurd (no_place (opening_of x).next_place high may.place);
+    tick = λ x h holds meet sound low high. let may = (recorded x bytes told holds sound refl).may in absurd (no_place (base_after (opening_of x).last) high may.base);
+    refused = λ x feed number offset holds meet sound may reads known.
+        let r = recorded x bytes told holds sound refl in
         is_refused_as status number offset other at prints.0
         (one_refusal x.config.groups bytes number offset other at feed r.feed known r.configured reads (subst (λ (e : FeedEnd). ReadsFeed x.config.groups bytes e r.feed) is r.read));
-    done = λ x feed holds meet regular may whole known.
-        let r = recorded x bytes told holds regular refl in
+    done = λ x feed holds meet sound may whole known.
+        let r = recorded x bytes told holds sound refl in
         absurd (not_refused x.config.groups bytes other at feed r.feed known r.configured whole (subst (λ (e : FeedEnd). ReadsFeed x.config.groups bytes e r.feed) is r.read));
   }
 
@@ -98,10 +98,10 @@ module _ {tells tells_images : Type 0} (bytes : List ℕ) (old new : Disk tells 
     header = λ no. absurd (no header);
     unformatted = λ h un. inr refl;
     damaged = λ h f m offset r. inr refl;
-    place = λ x h holds meet regular high. inr refl;
-    tick = λ x h holds meet regular low high. inr refl;
-    refused = λ x feed number offset holds meet regular may reads known. tt;
-    done = λ x feed holds meet regular may whole known. tt;
+    place = λ x h holds meet sound high. inr refl;
+    tick = λ x h holds meet sound low high. inr refl;
+    refused = λ x feed number offset holds meet sound may reads known. tt;
+    done = λ x feed holds meet sound may whole known. tt;
   }
   stopped stops.Input input media header legible recorded unformatted damaged = absurd (input refl)
   stopped stops.Media input media header legible recorded unformatted damaged = absurd (media refl)
@@ -109,10 +109,10 @@ module _ {tells tells_images : Type 0} (bytes : List ℕ) (old new : Disk tells 
     header = λ no. (header.0, header.1);
     unformatted = λ h un. absurd (header.2 h);
     damaged = λ h f m offset r. absurd (header.2 h);
-    place = λ x h holds meet regular high. absurd (header.2 h);
-    tick = λ x h holds meet regular low high. absurd (header.2 h);
-    refused = λ x feed n at holds meet regular may reads known. absurd (header.2 (reads_header x.config.groups bytes n at feed reads));
-    done = λ x feed holds meet regular may whole known. absurd (header.2 (has_header most_items bytes feed [] whole));
+    place = λ x h holds meet sound high. absurd (header.2 h);
+    tick = λ x h holds meet sound low high. absurd (header.2 h);
+    refused = λ x feed n at holds meet sound may reads known. absurd (header.2 (reads_header x.config.groups bytes n at feed reads));
+    done = λ x feed holds meet sound may whole known. absurd (header.2 (has_header most_items bytes feed [] whole));
   }
   stopped stops.NotFormatted input media header legible recorded unformatted damaged =
       let un = unformatted refl told in
@@ -120,10 +120,10 @@ module _ {tells tells_images : Type 0} (bytes : List ℕ) (old new : Disk tells 
         header = λ no. absurd (no header);
         unformatted = λ h un. inl refl;
         damaged = λ h f m offset r. absurd (not_both old.reads f un);
-        place = λ x h holds meet regular high. absurd (law.formatted x holds un);
-        tick = λ x h holds meet regular low high. absurd (law.formatted x holds un);
-        refused = λ x feed n at holds meet regular may reads known. absurd (law.formatted x holds un);
-        done = λ x feed holds meet regular may whole known. absurd (law.formatted x holds un);
+        place = λ x h holds meet sound high. absurd (law.formatted x holds un);
+        tick = λ x h holds meet sound low high. absurd (law.formatted x holds un);
+        refused = λ x feed n at holds meet sound may reads known. absurd (law.formatted x holds un);
+        done = λ x feed holds meet sound may whole known. absurd (law.formatted x holds un);
       }
   stopped (stops.Damaged k at) input media header legible recorded unformatted damaged =
       let r = damaged k at refl told in
@@ -131,28 +131,28 @@ module _ {tells tells_images : Type 0} (bytes : List ℕ) (old new : Disk tells 
         header = λ no. absurd (no header);
         unformatted = λ h un. absurd (not_both old.reads r.0 un);
         damaged = λ h f m offset also. inl (damaged_alike k at m offset (law.one k at m offset r.1 also));
-        place = λ x h holds meet regular high. absurd (law.either x k at holds meet r.1);
-        tick = λ x h holds meet regular low high. absurd (law.either x k at holds meet r.1);
-        refused = λ x feed n other holds meet regular may reads known. absurd (law.either x k at holds meet r.1);
-        done = λ x feed holds meet regular may whole known. absurd (law.either x k at holds meet r.1);
+        place = λ x h holds meet sound high. absurd (law.either x k at holds meet r.1);
+        tick = λ x h holds meet sound low high. absurd (law.either x k at holds meet r.1);
+        refused = λ x feed n other holds meet sound may reads known. absurd (law.either x k at holds meet r.1);
+        done = λ x feed holds meet sound may whole known. absurd (law.either x k at holds meet r.1);
       }
   stopped stops.Place input media header legible recorded unformatted damaged = record {
     header = λ no. absurd (no header);
     unformatted = λ h un. absurd (not_both old.reads legible.0 un);
     damaged = λ h f m offset r. absurd (law.either legible.1 m offset legible.2 legible.3 r);
-    place = λ x h holds meet regular high. inl refl;
-    tick = λ x h holds meet regular low high. absurd (no_place (opening_of x).next_place (recorded x bytes told holds regular refl).0 low);
-    refused = λ x feed n at holds meet regular may reads known. absurd (no_place (opening_of x).next_place (recorded x bytes told holds regular refl).0 may.place);
-    done = λ x feed holds meet regular may whole known. absurd (no_place (opening_of x).next_place (recorded x bytes told holds regular refl).0 may.place);
+    place = λ x h holds meet sound high. inl refl;
+    tick = λ x h holds meet sound low high. absurd (no_place (opening_of x).next_place (recorded x bytes told holds sound refl).0 low);
+    refused = λ x feed n at holds meet sound may reads known. absurd (no_place (opening_of x).next_place (recorded x bytes told holds sound refl).0 may.place);
+    done = λ x feed holds meet sound may whole known. absurd (no_place (opening_of x).next_place (recorded x bytes told holds sound refl).0 may.place);
   }
   stopped stops.Tick input media header legible recorded unformatted damaged = record {
     header = λ no. absurd (no header);
     unformatted = λ h un. absurd (not_both old.reads legible.0 un);
     damaged = λ h f m offset r. absurd (law.either legible.1 m offset legible.2 legible.3 r);
-    place = λ x h holds meet regular high. absurd (no_place (opening_of x).next_place high (recorded x bytes told holds regular refl).0);
-    tick = λ x h holds meet regular low high. inl refl;
-    refused = λ x feed n at holds meet regular may reads known. absurd (no_place (base_after (opening_of x).last) (recorded x bytes told holds regular refl).1 may.base);
-    done = λ x feed holds meet regular may whole known. absurd (no_place (base_after (opening_of x).last) (recorded x bytes told holds regular refl).1 may.base);
+    place = λ x h holds meet sound high. absurd (no_place (opening_of x).next_place high (recorded x bytes told holds sound refl).0);
+    tick = λ x h holds meet sound low high. inl refl;
+    refused = λ x feed n at holds meet sound may reads known. absurd (no_place (base_after (opening_of x).last) (recorded x bytes told holds sound refl).1 may.base);
+    done = λ x feed holds meet sound may whole known. absurd (no_place (base_after (opening_of x).last) (recorded x bytes told holds sound refl).1 may.base);
   }
 
   by_answer : (status : Status) (answer : Result Replayed ReplayStop) → (status ≡ InputFault → ⊥) → (status ≡ OutputFault → ⊥) → (status ≡ MediaFault → ⊥)

@@ -10,7 +10,7 @@ use Rattle.vdr_vault.specs.Vaults.{tick_utc}
 use Rattle.vdr_vault.proofs.OpenContents.{newest_opened}
 use Rattle.vdr_tool.specs.Incidents.{CanList, IsListStatus, ListsAll}
 use Rattle.vdr_tool.specs.Opened.{IfNoIncident, IsLegibleWith, MediaEnds, MetUnsound, newest_of}
-use Rattle.vdr_tool.specs.Saves.{CanRelease, CanSave, IfSaveRefused, IsJudged, IsSound, IsReleaseStatus, IsSaveStatus, ReleasesAll, SavesAll, save_cause}
+use Rattle.vdr_tool.specs.Saves.{CanRelease, CanSave, IfSaveRefused, IsJudged, IsReleaseStatus, IsSaveStatus, ReleasesAll, SavesAll, save_cause}
 use Rattle.vdr_tool.specs.declared.status.SaveCause.{SaveCause}
 use Rattle.vdr_tool.specs.declared.status.Status.{Status}
 use Rattle.vdr_tool.specs.declared.status.Status.TheVariants.{Done, Words, Config, Small, Unformatted, Formatted, Damaged, MediaFault, InputFault, OutputFault, NoMemory, Feed, NoChannel, NoIncident, SaveRefused, Place, Tick}
@@ -65,7 +65,7 @@ module _ {tells tells_images : Type 0} (old new : Disk tells tells_images) (befo
       (subst (λ (table : List (Option Incident)). save_cause label (newest_of x) table ≡ cause) (law.table x y holds also) judged)
 
   pub saves_all : (label : List ℕ) (status : Status) → (status ≡ OutputFault → ⊥) → (status ≡ MediaFault → ⊥) → IsSaveStatus status
-      → MediaEnds (CanSave label) (MetUnsound old (CanSave label) IsSound) MayBe old new before now status
+      → MediaEnds (CanSave label) (MetUnsound old (CanSave label)) MayBe old new before now status
       → IfSaveRefused status (λ cause. tells → IsLegibleWith old.reads (IsJudged label (Some cause)))
       → SavesAll label old.reads status
   saves_all label Done output media own ends refused =

@@ -1,9 +1,8 @@
 -- What `incidents`, `save` and `release` answer, from what the calls on the media ensure.
 use Rattle.std.specs.Prelude.{sum, IfOk, Bool, true, false, ⊤, is_none, position}
-use Rattle.std.proofs.Common.{◌≡◌, ◌≤◌, ◌⊎◌, ◌∷◌, inl, inr, ⊎_elim, ℕ, ℤ, List, [], Option, Some, None, Result, Ok, Err, append-nil, refl, sym, ap, subst, ◌∙◌}
+use Rattle.std.proofs.Common.{◌≡◌, ◌≤◌, ◌⊎◌, ◌∷◌, inl, inr, ⊎_elim, ℕ, ℤ, List, [], Option, Some, None, Result, Ok, Err, refl, sym, ap, subst, ◌∙◌}
 use Rattle.std.specs.Io.KnownBytes.{Appends}
-use Rattle.vdr_terms.specs.Records.{Record}
-use Rattle.vdr_history.specs.Histories.{Act, Event, Incident, Opening, Settings, all_records, live}
+use Rattle.vdr_history.specs.Histories.{Act, Event, Incident, Opening, live}
 use Rattle.vdr_history.specs.Histories.Act.{Look, Release, Save}
 use Rattle.vdr_durability.specs.Keeping.{moment_of}
 use Rattle.vdr_durability.specs.Readings.{EndsMeet}
@@ -21,13 +20,13 @@ use Rattle.vdr_opening.specs.declared.refused.OpenRefused.TheVariants as opening
 use Rattle.vdr_recorder.specs.Recordings.{HasDone, HasRecorded, RecordingState}
 use Rattle.vdr_vault.specs.Calls.{SameElsewhere}
 use Rattle.vdr_vault.specs.Openings.{OpensAtEachMoment}
-use Rattle.vdr_vault.specs.Regularity.{AreRegularMedia}
-use Rattle.vdr_vault.specs.Saves.{HasFaultOn, IsUnbroken, refusal_from, save_refusal}
+use Rattle.vdr_vault.specs.Regularity.{AreSound}
+use Rattle.vdr_vault.specs.Saves.{HasFaultOn, refusal_from, save_refusal}
 use Rattle.vdr_vault.specs.Vaults.{ShowsHistory, Stands}
 use Rattle.vdr_vault.specs.declared.refused.SaveRefused.{SaveRefused as Refused}
 use Rattle.vdr_vault.specs.declared.refused.SaveRefused.TheVariants as saves
 use Rattle.vdr_tool.specs.Opened.{AreLooks, IfNoIncident, IsLegibleWith, IsOneEvent, IsWorkDone, KeepsContents, MayLeave, MediaEnds, MetUnsound, PrintsText, status_of_opening}
-use Rattle.vdr_tool.specs.Saves.{CanRelease, CanSave, IfSaveRefused, IsJudged, IsSound, ReleasesId, SavesAs, cause_if, save_cause, status_of_release, status_of_save}
+use Rattle.vdr_tool.specs.Saves.{CanRelease, CanSave, IfSaveRefused, IsJudged, ReleasesId, SavesAs, cause_if, save_cause, status_of_release, status_of_save}
 use Rattle.vdr_tool.specs.declared.status.SaveCause.{SaveCause}
 use Rattle.vdr_tool.specs.declared.status.SaveCause.TheVariants.{Label, Nothing, TableFull}
 use Rattle.vdr_tool.specs.declared.status.Status.{Status}
@@ -87,7 +86,7 @@ never_fault true (Some stamp) (Some slot) is = let none : ⊥ = cc in absurd non
 module _ {tells tells_images : Type 0} (old mid new : Disk tells tells_images) (before among now : List ℕ) (r after : RecordingState)
     (works : r.members.failed ≡ false)
     (contents : OpenedOn old r.members)
-    (opened : (x : Contents) → tells → HoldsContents old.reads x → AreRegularMedia x
+    (opened : (x : Contents) → tells → HoldsContents old.reads x → AreSound x
     → (t0 : ℕ) × (old.clock ≤ t0) × (t0 ≤ mid.clock) × HasRecorded (opening_of x) [] t0 r mid)
     (later : NoneFalls before among) (others : tells → SameElsewhere old.reads mid.reads) (beside : tells → SameBut 1 mid.reads new.reads) where
   others_too : tells → SameElsewhere old.reads new.reads
@@ -98,8 +97,8 @@ module _ {tells tells_images : Type 0} (old mid new : Disk tells tells_images) (
       (λ (more : Rose (sum among) (sum now)). rose_after (sum before) (sum among) (sum now) (sum_not_less before among later.same_media later.none_falls) more)
       (cause.in_all is)
 
-  standing : (x : Contents) → tells → HoldsContents old.reads x → AreRegularMedia x → (placed : ℕ → List Placed) × Stands (opening_of x) [] r.members placed mid
-  standing x t holds regular = let work = (opened x t holds regular).3.works works in (work.placed, work.stands)
+  standing : (x : Contents) → tells → HoldsContents old.reads x → AreSound x → (placed : ℕ → List Placed) × Stands (opening_of x) [] r.members placed mid
+  standing x t holds sound = let work = (opened x t holds sound).3.works works in (work.placed, work.stands)
 
   module _ (label : List ℕ) (saved : Result ℕ Refused)
       (saves_so : (opening : Opening) (events : List Event) (t0 : ℕ) → tells → r.members.failed ≡ false → save_refusal label r.members ≡ None → ((m offset : ℕ) → saved ≡ Err (saves.Damaged m offset) → ⊥)
@@ -109,7 +108,7 @@ module _ {tells tells_images : Type 0} (old mid new : Disk tells tells_images) (
       (met_damage : (opening : Opening) (events : List Event) (t0 m offset : ℕ) → tells → saved ≡ Err (saves.Damaged m offset) → HasRecorded opening events t0 r mid → HasDone opening events t0 Look after mid new)
       (refused_so : (refused : Refused) → r.members.failed ≡ false → save_refusal label r.members ≡ Some refused → saved ≡ Err refused)
       (undamaged : (opening : Opening) (events : List Event) (placed : ℕ → List Placed) (m offset : ℕ) → tells → Stands opening events r.members placed mid
-      → IsUnbroken r.members.config.incident_seconds (all_records opening 1 events) → saved ≡ Err (saves.Damaged m offset) → ⊥)
+      → saved ≡ Err (saves.Damaged m offset) → ⊥)
     where
       -- How the label is judged on these media.
       judged : (found : Option Refused) → save_refusal label r.members ≡ found → tells → IsLegibleWith old.reads (IsJudged label (cause_if found))
@@ -118,13 +117,8 @@ module _ {tells tells_images : Type 0} (old mid new : Disk tells tells_images) (
           (subst (λ (table : List (Option Incident)). save_cause label r.members.last table ≡ cause_if found) k (ap (λ (o : Option Refused). cause_if o) is)))
 
       -- What a recorder leaves is not damaged.
-      unsound : (m offset : ℕ) → saved ≡ Err (saves.Damaged m offset) → tells → (x : Contents) → HoldsContents old.reads x → IsSound x → ⊥
-      unsound m offset is t x holds recorded =
-          let stands = standing x t holds recorded.regular in
-          let seconds : x.config.incident_seconds ≡ r.members.config.incident_seconds = ap (λ (s : Settings). s.incident_seconds) stands.1.settings in
-          let unbroken = subst (λ (n : ℕ). IsUnbroken n (all_records (opening_of x) 1 [])) seconds
-          (subst (λ (rs : List Record). IsUnbroken x.config.incident_seconds rs) (sym (append-nil ((opening_of x).records 1))) recorded.unbroken) in
-          undamaged (opening_of x) [] stands.0 m offset t stands.1 unbroken is
+      unsound : (m offset : ℕ) → saved ≡ Err (saves.Damaged m offset) → tells → (x : Contents) → HoldsContents old.reads x → AreSound x → ⊥
+      unsound m offset is t x holds sound = let stands = standing x t holds sound in undamaged (opening_of x) [] stands.0 m offset t stands.1 is
 
       -- Where the save is not refused by the judgement, nothing stands in its way.
       unrefused : (found : Option Refused) → save_refusal label r.members ≡ found → ((refused : Refused) → save_refusal label r.members ≡ Some refused → ⊥) → save_refusal label r.members ≡ None
@@ -132,30 +126,30 @@ module _ {tells tells_images : Type 0} (old mid new : Disk tells tells_images) (
       unrefused (Some refused) is not = absurd (not refused is)
 
       module _ {T : Type 0} (result : Result T OpenRefused)
-          (moments : (x : Contents) → tells → HoldsContents old.reads x → EndsMeet both (reading_of x) → AreRegularMedia x → OpensAtEachMoment old mid result (ShowsHistory (opening_of x) [])) where
+          (moments : (x : Contents) → tells → HoldsContents old.reads x → EndsMeet both (reading_of x) → AreSound x → OpensAtEachMoment old mid result (ShowsHistory (opening_of x) [])) where
         kept_with_save : (moment : Option ℕ) (MayBe : List Event → Type 0) → save_refusal label r.members ≡ None → ((m offset : ℕ) → saved ≡ Err (saves.Damaged m offset) → ⊥) → moment_of after.members.failed new.clock ≡ moment
             → ((events : List Event) → IsOneEvent (SavesAs label) moment events → MayBe events)
-            → (x : Contents) → tells → HoldsContents old.reads x → EndsMeet both (reading_of x) → AreRegularMedia x → KeepsContents x MayBe old new
-        kept_with_save moment MayBe none whole is may x t holds meet regular =
-            let has = opened x t holds regular in
+            → (x : Contents) → tells → HoldsContents old.reads x → EndsMeet both (reading_of x) → AreSound x → KeepsContents x MayBe old new
+        kept_with_save moment MayBe none whole is may x t holds meet sound =
+            let has = opened x t holds sound in
             let save = saves_so (opening_of x) [] has.0 t works none whole has.3 in
             let done = save.4 in
-            kept_by_call x MayBe old mid new result (Save save.0 label save.1 save.2) r after has.0 (moments x t holds meet regular) has.1 has.2 done
+            kept_by_call x MayBe old mid new result (Save save.0 label save.1 save.2) r after has.0 (moments x t holds meet sound) has.1 has.2 done
             (may (done.event ∷ []) (record { event = done.event; is = refl; does = (save.0, save.1, save.2, done.act_is); moment_is = done.moment_is ∙ is }))
 
         kept_refused : (refused : Refused) → save_refusal label r.members ≡ Some refused
-            → (x : Contents) → tells → HoldsContents old.reads x → EndsMeet both (reading_of x) → AreRegularMedia x → KeepsContents x AreLooks old new
-        kept_refused refused is x t holds meet regular =
-            let has = opened x t holds regular in
+            → (x : Contents) → tells → HoldsContents old.reads x → EndsMeet both (reading_of x) → AreSound x → KeepsContents x AreLooks old new
+        kept_refused refused is x t holds meet sound =
+            let has = opened x t holds sound in
             let done = looked (opening_of x) [] has.0 refused (inr is) has.3 in
-            kept_by_call x AreLooks old mid new result Look r after has.0 (moments x t holds meet regular) has.1 has.2 done (one_look done.event done.act_is)
+            kept_by_call x AreLooks old mid new result Look r after has.0 (moments x t holds meet sound) has.1 has.2 done (one_look done.event done.act_is)
 
         pub saved_ends : (status : Status) (id : ℕ) → IsWorkDone status → saved ≡ Ok id → ((saved ≡ Err saves.Fault → ⊥) → after.members.failed ≡ false)
-            → MediaEnds (CanSave label) (MetUnsound old (CanSave label) IsSound) (MayLeave (SavesAs label) new.clock status) old new before now status
+            → MediaEnds (CanSave label) (MetUnsound old (CanSave label)) (MayLeave (SavesAs label) new.clock status) old new before now status
         saved_ends status id done is works_on =
             let works_still = works_on (λ e. let clash : Ok id ≡ Err saves.Fault = sym is ∙ e in let no_one : ⊥ = cc in no_one) in
             let none = unrefused (save_refusal label r.members) refl (λ refused e. let clash : Ok id ≡ Err refused = sym is ∙ refused_so refused works e in let no_one : ⊥ = cc in no_one) in
-            worked_ends (CanSave label) (MetUnsound old (CanSave label) IsSound) (MayLeave (SavesAs label) new.clock status) old new before now status done
+            worked_ends (CanSave label) (MetUnsound old (CanSave label)) (MayLeave (SavesAs label) new.clock status) old new before now status done
             (judged None none) others_too
             (kept_with_save (Some new.clock) (MayLeave (SavesAs label) new.clock status) none (λ m offset e. let clash : Ok id ≡ Err (saves.Damaged m offset) = sym is ∙ e in let no_one : ⊥ = cc in no_one) (ap (λ (b : Bool). moment_of b new.clock) works_still) (λ events one. may_leave (SavesAs label) new.clock status events done one))
 
@@ -171,18 +165,18 @@ module _ {tells tells_images : Type 0} (old mid new : Disk tells tells_images) (
               never (e ∙ ap (λ (x : Refused). Some x) same))
 
           by_judgement : (refused : Refused) (why : SaveCause) → save_refusal label r.members ≡ Some refused
-              → MediaEnds (CanSave label) (MetUnsound old (CanSave label) IsSound) AreLooks old new before now (SaveRefused why)
+              → MediaEnds (CanSave label) (MetUnsound old (CanSave label)) AreLooks old new before now (SaveRefused why)
           by_judgement refused why is = record {
             unformatted = λ e. let none : ⊥ = cc in absurd none;
             damaged = tt;
             fault = λ e. let none : ⊥ = cc in absurd none;
             legible = λ done. absurd done;
             others = others_too;
-            kept = λ x t holds meet regular. inr (kept_refused refused is x t holds meet regular);
+            kept = λ x t holds meet sound. inr (kept_refused refused is x t holds meet sound);
           }
 
           pub unsaved_ends : (refused : Refused) → saved ≡ Err refused
-              → MediaEnds (CanSave label) (MetUnsound old (CanSave label) IsSound) (MayLeave (SavesAs label) new.clock (status_of_save refused)) old new before now (status_of_save refused)
+              → MediaEnds (CanSave label) (MetUnsound old (CanSave label)) (MayLeave (SavesAs label) new.clock (status_of_save refused)) old new before now (status_of_save refused)
           unsaved_ends saves.Label is = by_judgement saves.Label Label (reason saves.Label is (inl refl)).1
           unsaved_ends saves.Nothing is = by_judgement saves.Nothing Nothing (reason saves.Nothing is (inr (inl refl))).1
           unsaved_ends saves.TableFull is = by_judgement saves.TableFull TableFull (reason saves.TableFull is (inr (inr refl))).1
@@ -194,10 +188,10 @@ module _ {tells tells_images : Type 0} (old mid new : Disk tells tells_images) (
                 fault = λ e. let none : ⊥ = cc in absurd none;
                 legible = λ done. absurd done;
                 others = others_too;
-                kept = λ x t holds meet regular.
-                    let has = opened x t holds regular in
+                kept = λ x t holds meet sound.
+                    let has = opened x t holds sound in
                     let done = met_damage (opening_of x) [] has.0 m offset t is has.3 in
-                    inr (kept_by_call x AreLooks old mid new result Look r after has.0 (moments x t holds meet regular) has.1 has.2 done (one_look done.event done.act_is));
+                    inr (kept_by_call x AreLooks old mid new result Look r after has.0 (moments x t holds meet sound) has.1 has.2 done (one_look done.event done.act_is));
               }
           unsaved_ends saves.Fault is =
               let none = unjudged saves.Fault is (never_fault (is_label label) r.members.last (position is_none r.members.table)) in
@@ -207,7 +201,7 @@ module _ {tells tells_images : Type 0} (old mid new : Disk tells tells_images) (
                 fault = λ e. rose (saved ≡ Err saves.Fault) cause is;
                 legible = λ done. absurd done;
                 others = others_too;
-                kept = λ x t holds meet regular. inr (kept_with_save None (MayLeave (SavesAs label) new.clock MediaFault) none (λ m offset e. let clash : Err saves.Fault ≡ Err (saves.Damaged m offset) = sym is ∙ e in let no_one : ⊥ = cc in no_one) (ap (λ (b : Bool). moment_of b new.clock) (fails is)) (λ events one. inr one) x t holds meet regular);
+                kept = λ x t holds meet sound. inr (kept_with_save None (MayLeave (SavesAs label) new.clock MediaFault) none (λ m offset e. let clash : Err saves.Fault ≡ Err (saves.Damaged m offset) = sym is ∙ e in let no_one : ⊥ = cc in no_one) (ap (λ (b : Bool). moment_of b new.clock) (fails is)) (λ events one. inr one) x t holds meet sound);
               }
 
           pub unsaved_refused : (refused : Refused) → saved ≡ Err refused → IfSaveRefused (status_of_save refused) (λ why. tells → IsLegibleWith old.reads (IsJudged label (Some why)))
@@ -239,14 +233,14 @@ module _ {tells tells_images : Type 0} (old mid new : Disk tells tells_images) (
     can saved is = legible_so (λ x. CanRelease id x) old r.members contents (λ x t holds c k l. (saved, subst (λ (table : List (Option Incident)). live table id ≡ Some saved) k is))
 
     module _ {T : Type 0} (result : Result T OpenRefused)
-        (moments : (x : Contents) → tells → HoldsContents old.reads x → EndsMeet both (reading_of x) → AreRegularMedia x → OpensAtEachMoment old mid result (ShowsHistory (opening_of x) [])) where
+        (moments : (x : Contents) → tells → HoldsContents old.reads x → EndsMeet both (reading_of x) → AreSound x → OpensAtEachMoment old mid result (ShowsHistory (opening_of x) [])) where
       kept_with_release : (moment : Option ℕ) (MayBe : List Event → Type 0) (saved : Incident) → live r.members.table id ≡ Some saved → moment_of after.members.failed new.clock ≡ moment
           → ((events : List Event) → IsOneEvent (ReleasesId id) moment events → MayBe events)
-          → (x : Contents) → tells → HoldsContents old.reads x → EndsMeet both (reading_of x) → AreRegularMedia x → KeepsContents x MayBe old new
-      kept_with_release moment MayBe saved live_is is may x t holds meet regular =
-          let has = opened x t holds regular in
+          → (x : Contents) → tells → HoldsContents old.reads x → EndsMeet both (reading_of x) → AreSound x → KeepsContents x MayBe old new
+      kept_with_release moment MayBe saved live_is is may x t holds meet sound =
+          let has = opened x t holds sound in
           let done = releases_so (opening_of x) [] has.0 saved t works live_is has.3 in
-          kept_by_call x MayBe old mid new result (Release id) r after has.0 (moments x t holds meet regular) has.1 has.2 done
+          kept_by_call x MayBe old mid new result (Release id) r after has.0 (moments x t holds meet sound) has.1 has.2 done
           (may (done.event ∷ []) (record { event = done.event; is = refl; does = done.act_is; moment_is = done.moment_is ∙ is }))
 
       pub released_ends : (p : Result ⊤ ReleaseRefused) → released ≡ p
@@ -262,10 +256,10 @@ module _ {tells tells_images : Type 0} (old mid new : Disk tells tells_images) (
         fault = λ e. let none : ⊥ = cc in absurd none;
         legible = λ done. absurd done;
         others = others_too;
-        kept = λ x t holds meet regular.
-            let has = opened x t holds regular in
+        kept = λ x t holds meet sound.
+            let has = opened x t holds sound in
             let done = looked (opening_of x) [] has.0 (inr (reason is).1) has.3 in
-            inr (kept_by_call x AreLooks old mid new result Look r after has.0 (moments x t holds meet regular) has.1 has.2 done (one_look done.event done.act_is));
+            inr (kept_by_call x AreLooks old mid new result Look r after has.0 (moments x t holds meet sound) has.1 has.2 done (one_look done.event done.act_is));
       }
       released_ends (Err releases.Fault) is =
           let live_one = there (live r.members.table id) refl (λ e. let clash : Err releases.Fault ≡ Err releases.NoSuch = sym is ∙ e in let none : ⊥ = cc in none) in
@@ -275,7 +269,7 @@ module _ {tells tells_images : Type 0} (old mid new : Disk tells tells_images) (
             fault = λ e. rose (released ≡ Err releases.Fault) cause is;
             legible = λ done. absurd done;
             others = others_too;
-            kept = λ x t holds meet regular. inr (kept_with_release None (MayLeave (ReleasesId id) new.clock MediaFault) live_one.0 live_one.1 (ap (λ (b : Bool). moment_of b new.clock) (fails is)) (λ events one. inr one) x t holds meet regular);
+            kept = λ x t holds meet sound. inr (kept_with_release None (MayLeave (ReleasesId id) new.clock MediaFault) live_one.0 live_one.1 (ap (λ (b : Bool). moment_of b new.clock) (fails is)) (λ events one. inr one) x t holds meet sound);
           }
 
     pub released_missing : (p : Result ⊤ ReleaseRefused) → released ≡ p → IfNoIncident (status_of_release p id) (λ told. (told ≡ id) × (tells → IsLegibleWith old.reads (λ x. live x.table id ≡ None)))

@@ -15,7 +15,7 @@ use Rattle.vdr_opening.specs.declared.refused.OpenRefused.{OpenRefused}
 use Rattle.vdr_opening.specs.declared.refused.OpenRefused.TheVariants as openings
 use Rattle.vdr_vault.specs.Calls.{SameElsewhere}
 use Rattle.vdr_vault.specs.Openings.{LeavesAll}
-use Rattle.vdr_vault.specs.Regularity.{AreRegularMedia}
+use Rattle.vdr_vault.specs.Regularity.{AreSound}
 use Rattle.vdr_vault.specs.Vaults.{ShowsHistory, of_stamp}
 use Rattle.vdr_tool.specs.StatusLine.{Wrote, status_line}
 use Rattle.vdr_tool.specs.declared.status.Status.{Status}
@@ -102,8 +102,8 @@ module _ {tells tells_images : Type 0} where
 
   -- Legible media were answered as damaged nevertheless, where a part was read that opening leaves unread: what they hold is not
   -- sound.
-  abbrev pub MetUnsound : Disk tells tells_images → (Can Sound : Contents → Type 0) → Type 0
-  MetUnsound old Can Sound = tells → IsLegibleWith old.reads Can × ((x : Contents) → HoldsContents old.reads x → Sound x → ⊥)
+  abbrev pub MetUnsound : Disk tells tells_images → (Can : Contents → Type 0) → Type 0
+  MetUnsound old Can = tells → IsLegibleWith old.reads Can × ((x : Contents) → HoldsContents old.reads x → AreSound x → ⊥)
 
   -- Media that held these contents keep them by some events: since entry a stop left what it might have left at entry, or media that
   -- show what was held or what the events make of it; and from the moment at which opening's syncs had succeeded the media keep the
@@ -128,7 +128,7 @@ module _ {tells tells_images : Type 0} where
     pub legible : IsWorkDone status → tells → IsLegibleWith old.reads Can
     -- what was recorded stays, on each medium and at every moment
     pub others : tells → SameElsewhere old.reads new.reads
-    pub kept : (x : Contents) → tells → HoldsContents old.reads x → EndsMeet both (reading_of x) → AreRegularMedia x
+    pub kept : (x : Contents) → tells → HoldsContents old.reads x → EndsMeet both (reading_of x) → AreSound x
         → (IsUnopened status × LeavesAll old new) ⊎ KeepsContents x MayBe old new
 
 -- Media that can't be opened are refused by their own refusal, or there was no memory.

@@ -15,7 +15,7 @@ use Rattle.vdr_play.specs.Streams.{nothing_seen}
 use Rattle.vdr_play.specs.Texts.{records_text}
 use Rattle.vdr_recorder.specs.declared.play.PlayRefused.{PlayRefused}
 use Rattle.vdr_recorder.specs.declared.play.PlayRefused.TheVariants as plays
-use Rattle.vdr_vault.specs.Regularity.{AreRegularMedia}
+use Rattle.vdr_vault.specs.Regularity.{AreSound}
 use Rattle.vdr_tool.specs.Commands.{Asked}
 use Rattle.vdr_tool.specs.Commands.Asked.{Play}
 use Rattle.vdr_tool.specs.Endings.{IsDone}
@@ -101,7 +101,7 @@ IfPlay command P = ⊤
 module _ {tells tells_images : Type 0} where
   -- What is said where the media were opened, by what they read as at entry.
   pub record PlayEnds (medium : Medium) (name : List ℕ) (old new : Disk tells tells_images) (before now : List ℕ) (status : Status) : Type 0 where
-    pub media : MediaEnds (λ x. CanPlay x medium name) (MetUnsound old (λ x. CanPlay x medium name) AreRegularMedia) AreLooks old new before now status
+    pub media : MediaEnds (λ x. CanPlay x medium name) (MetUnsound old (λ x. CanPlay x medium name)) AreLooks old new before now status
     -- each refusal of the words comes only in its case
     pub no_channel : status ≡ NoChannel → tells → IsLegibleWith old.reads (λ x. LacksChannel x.config name)
     pub no_incident : IfNoIncident status (λ id. (medium ≡ Incident id) × (tells → IsLegibleWith old.reads (λ x. (LacksChannel x.config name → ⊥) × LacksIncident x.table medium)))
@@ -112,7 +112,7 @@ module _ {tells tells_images : Type 0} where
     pub own : IsPlayStatus status
     pub ends : PlayEnds medium name old new before now status
     pub line : status ≡ NoChannel → Wrote (channel_line name) taken wrote sink_before sink_now
-    pub printed : (x : Contents) → tells → HoldsContents old.reads x → AreRegularMedia x → PrintsText (play_text x medium name from to) status taken wrote
+    pub printed : (x : Contents) → tells → HoldsContents old.reads x → AreSound x → PrintsText (play_text x medium name from to) status taken wrote
 
 -- What may be played is, and what may not is refused by its own refusal, or there was no memory.
 pub record PlaysAll (medium : Medium) (name : List ℕ) (image : Image) (status : Status) : Type 0 where
@@ -120,4 +120,4 @@ pub record PlaysAll (medium : Medium) (name : List ℕ) (image : Image) (status 
   pub channel : (x : Contents) → HoldsContents image x → EndsMeet both (reading_of x) → LacksChannel x.config name → (status ≡ NoChannel) ⊎ (status ≡ NoMemory)
   pub incident : (x : Contents) (id : ℕ) → HoldsContents image x → EndsMeet both (reading_of x) → (LacksChannel x.config name → ⊥) → medium ≡ Incident id
       → live x.table id ≡ None → (status ≡ NoIncident id) ⊎ (status ≡ NoMemory)
-  pub done : (x : Contents) → HoldsContents image x → EndsMeet both (reading_of x) → AreRegularMedia x → CanPlay x medium name → IsDone status
+  pub done : (x : Contents) → HoldsContents image x → EndsMeet both (reading_of x) → AreSound x → CanPlay x medium name → IsDone status

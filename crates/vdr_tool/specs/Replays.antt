@@ -12,7 +12,7 @@ use Rattle.vdr_media.specs.Formatted.{IsFormatted, IsUnformatted}
 use Rattle.vdr_opening.specs.Media.{both, Contents, HoldsContents, opening_of, reading_of}
 use Rattle.vdr_opening.specs.Refusals.{IsRefused}
 use Rattle.vdr_vault.specs.Calls.{SameElsewhere}
-use Rattle.vdr_vault.specs.Regularity.{AreRegularMedia}
+use Rattle.vdr_vault.specs.Regularity.{AreSound}
 use Rattle.vdr_replay.specs.Answers.{Answers, HasReplayCause, IfOpened, MayBegin, TellsHeader}
 use Rattle.vdr_replay.specs.Feeding.{AreConfigured, ReadsFeed, most_items}
 use Rattle.vdr_replay.specs.declared.ended.FeedEnd.{FeedEnd}
@@ -72,7 +72,7 @@ module _ {tells tells_images : Type 0} where
     pub answer : Result Replayed ReplayStop
     pub told : TellsRun answer status taken wrote sink_before sink_now
     -- one history of the feed, whole and at every moment
-    pub recorded : (x : Contents) (bytes : List ℕ) → tells → HoldsContents old.reads x → AreRegularMedia x → left ≡ Some bytes
+    pub recorded : (x : Contents) (bytes : List ℕ) → tells → HoldsContents old.reads x → AreSound x → left ≡ Some bytes
         → Answers x bytes (Rose (sum before) (sum now)) old new answer
     -- each refusal comes only in its case
     pub header : TellsHeader left answer
@@ -87,11 +87,11 @@ pub record ReplaysAll (bytes : List ℕ) (image : Image) (status : Status) : Typ
   pub header : take 8 bytes ≢ feed_header → IsRefusal 1 0 status
   pub unformatted : take 8 bytes ≡ feed_header → IsUnformatted image → (status ≡ Unformatted) ⊎ (status ≡ NoMemory)
   pub damaged : take 8 bytes ≡ feed_header → IsFormatted image → (m offset : ℕ) → IsRefused image m offset → (status ≡ Damaged m offset) ⊎ (status ≡ NoMemory)
-  pub place : (x : Contents) → take 8 bytes ≡ feed_header → HoldsContents image x → EndsMeet both (reading_of x) → AreRegularMedia x
+  pub place : (x : Contents) → take 8 bytes ≡ feed_header → HoldsContents image x → EndsMeet both (reading_of x) → AreSound x
       → 2 ^ 62 ≤ (opening_of x).next_place → (status ≡ Place) ⊎ (status ≡ NoMemory)
-  pub tick : (x : Contents) → take 8 bytes ≡ feed_header → HoldsContents image x → EndsMeet both (reading_of x) → AreRegularMedia x
+  pub tick : (x : Contents) → take 8 bytes ≡ feed_header → HoldsContents image x → EndsMeet both (reading_of x) → AreSound x
       → (opening_of x).next_place < 2 ^ 62 → 2 ^ 62 ≤ base_after (opening_of x).last → (status ≡ Tick) ⊎ (status ≡ NoMemory)
-  pub refused : (x : Contents) (feed : List FeedItem) (number offset : ℕ) → HoldsContents image x → EndsMeet both (reading_of x) → AreRegularMedia x → MayBegin (opening_of x)
+  pub refused : (x : Contents) (feed : List FeedItem) (number offset : ℕ) → HoldsContents image x → EndsMeet both (reading_of x) → AreSound x → MayBegin (opening_of x)
       → ReadsFeed x.config.groups bytes (feed_ends.Refused number offset) feed → AreConfigured x.config.groups feed → IsRefusal number offset status
-  pub done : (x : Contents) (feed : List FeedItem) → HoldsContents image x → EndsMeet both (reading_of x) → AreRegularMedia x → MayBegin (opening_of x)
+  pub done : (x : Contents) (feed : List FeedItem) → HoldsContents image x → EndsMeet both (reading_of x) → AreSound x → MayBegin (opening_of x)
       → IsFeed most_items bytes feed → AreConfigured x.config.groups feed → IsDone status

@@ -8,9 +8,9 @@ use Rattle.vdr_outside.specs.Disk.{Disk, Image}
 use Rattle.vdr_incident.specs.Saves.{is_label}
 use Rattle.vdr_incident.specs.declared.refused.ReleaseRefused.{ReleaseRefused}
 use Rattle.vdr_incident.specs.declared.refused.ReleaseRefused.TheVariants as releases
-use Rattle.vdr_opening.specs.Media.{both, Contents, HoldsContents, opening_of, reading_of}
-use Rattle.vdr_vault.specs.Regularity.{AreRegularMedia}
-use Rattle.vdr_vault.specs.Saves.{IsUnbroken, refusal_from}
+use Rattle.vdr_opening.specs.Media.{both, Contents, HoldsContents, reading_of}
+use Rattle.vdr_vault.specs.Regularity.{AreSound}
+use Rattle.vdr_vault.specs.Saves.{refusal_from}
 use Rattle.vdr_vault.specs.declared.refused.SaveRefused.{SaveRefused as Refused}
 use Rattle.vdr_vault.specs.declared.refused.SaveRefused.TheVariants as saves
 use Rattle.vdr_tool.specs.Commands.{Asked}
@@ -94,11 +94,6 @@ IsJudged label cause x = save_cause label (newest_of x) x.table ≡ cause
 abbrev pub CanSave : List ℕ → Contents → Type 0
 CanSave label x = IsJudged label None x
 
--- What a recorder leaves: regular media, in which no place is skipped within the window of an incident.
-pub record IsSound (x : Contents) : Type 0 where
-  pub regular : AreRegularMedia x
-  pub unbroken : IsUnbroken x.config.incident_seconds ((opening_of x).records 1)
-
 -- A save is live under the id.
 abbrev pub CanRelease : ℕ → Contents → Type 0
 CanRelease id x = (saved : Incident) × (live x.table id ≡ Some saved)
@@ -122,7 +117,7 @@ module _ {tells tells_images : Type 0} where
   -- What `save` answers.
   pub record SaveAnswers (label : List ℕ) (old new : Disk tells tells_images) (before now : List ℕ) (taken wrote : Option (List ℕ)) (status : Status) : Type 0 where
     pub own : IsSaveStatus status
-    pub ends : MediaEnds (CanSave label) (MetUnsound old (CanSave label) IsSound) (MayLeave (SavesAs label) new.clock status) old new before now status
+    pub ends : MediaEnds (CanSave label) (MetUnsound old (CanSave label)) (MayLeave (SavesAs label) new.clock status) old new before now status
     pub refused : IfSaveRefused status (λ cause. tells → IsLegibleWith old.reads (IsJudged label (Some cause)))
     pub printed : (x : Contents) → tells → HoldsContents old.reads x → PrintsText (save_text x.table) status taken wrote
 
@@ -138,7 +133,7 @@ pub record SavesAll (label : List ℕ) (image : Image) (status : Status) : Type 
   pub refused : RefusesAll image status
   pub cause : (x : Contents) (cause : SaveCause) → HoldsContents image x → EndsMeet both (reading_of x) → IsJudged label (Some cause) x
       → (status ≡ SaveRefused cause) ⊎ (status ≡ NoMemory)
-  pub done : (x : Contents) → HoldsContents image x → EndsMeet both (reading_of x) → IsSound x → CanSave label x → IsDone status
+  pub done : (x : Contents) → HoldsContents image x → EndsMeet both (reading_of x) → AreSound x → CanSave label x → IsDone status
 
 -- What is live is released, and what is not is refused by its own refusal, or there was no memory.
 pub record ReleasesAll (id : ℕ) (image : Image) (status : Status) : Type 0 where

@@ -3,7 +3,7 @@ ghost use Rattle.std.specs.Prelude.{◌≡◌, ◌≤◌, ◌⊎◌, ◌∷◌, 
 ghost use Rattle.vdr_outside.specs.Causes.{Rose};
 ghost use Rattle.vdr_entry.specs.Queries.{asked};
 ghost use Rattle.vdr_opening.specs.Media.{Contents, HoldsContents};
-ghost use Rattle.vdr_vault.specs.Regularity.{AreRegularMedia};
+ghost use Rattle.vdr_vault.specs.Regularity.{AreSound};
 ghost use Rattle.vdr_tool.specs.Opened.{PrintsText, status_of_opening};
 ghost use Rattle.vdr_tool.specs.Plays.{IsPlayStatus, LacksChannel, PlayAnswers, PlayEnds, ReportsPlay, id_of, play_text, query_of, status_by};
 ghost use Rattle.vdr_tool.specs.StatusLine.{IfConfig, IfFeed, Wrote, WroteLine, channel_line};
@@ -99,7 +99,7 @@ fn play<O: Sink, M: Media>(
     requires three { length (M.disk media.old).sizes ≤ 3 }
     ensures statuses { IsPlayStatus result }
     ensures ends { PlayEnds wanted.entry.medium wanted.entry.channel.now (M.disk media.old) (M.disk media.new) (M.faults media.old) (M.faults media.new) result }
-    ensures printed { (x : Contents) → M.tells → HoldsContents (M.disk media.old).reads x → AreRegularMedia x
+    ensures printed { (x : Contents) → M.tells → HoldsContents (M.disk media.old).reads x → AreSound x
         → PrintsText (play_text x wanted.entry.medium wanted.entry.channel.now wanted.entry.from wanted.entry.to) result (O.taken output.old) (O.taken output.new) }
     ensures silent { (result ≡ Done) ⊎ ((result ≡ OutputFault) ⊎ (output.new ≡ output.old)) }
     ensures output { result ≡ OutputFault → Rose (O.faults output.old) (O.faults output.new) }

@@ -4,7 +4,7 @@ ghost use Rattle.vdr_history.specs.Histories.{live};
 ghost use Rattle.vdr_outside.specs.Causes.{Rose};
 ghost use Rattle.vdr_opening.specs.Media.{Contents, HoldsContents};
 ghost use Rattle.vdr_tool.specs.Opened.{IfNoIncident, IsLegibleWith, IsWorkDone, MayLeave, MediaEnds, MetUnsound, PrintsText};
-ghost use Rattle.vdr_tool.specs.Saves.{CanRelease, CanSave, IfSaveRefused, IsJudged, IsSound, IsReleaseStatus, IsSaveStatus, ReleaseAnswers, ReleasesId, SaveAnswers, SavesAs, id_line, save_text, status_of_release, status_of_save};
+ghost use Rattle.vdr_tool.specs.Saves.{CanRelease, CanSave, IfSaveRefused, IsJudged, IsReleaseStatus, IsSaveStatus, ReleaseAnswers, ReleasesId, SaveAnswers, SavesAs, id_line, save_text, status_of_release, status_of_save};
 ghost use Rattle.vdr_tool.specs.StatusLine.{IfConfig, IfFeed, WroteLine};
 ghost use Rattle.vdr_tool.specs.declared.status.Status.TheVariants.{Done, Words, InputFault, OutputFault};
 
@@ -69,7 +69,7 @@ fn save<O: Sink, M: Media>(alloc: Global, label: &[u8], media: &mut M, output: &
     requires two { 2 ≤ length (M.disk media.old).sizes }
     requires three { length (M.disk media.old).sizes ≤ 3 }
     ensures statuses { IsSaveStatus result }
-    ensures ends { MediaEnds (CanSave label.now) (MetUnsound (M.disk media.old) (CanSave label.now) IsSound) (MayLeave (SavesAs label.now) (M.disk media.new).clock result)
+    ensures ends { MediaEnds (CanSave label.now) (MetUnsound (M.disk media.old) (CanSave label.now)) (MayLeave (SavesAs label.now) (M.disk media.new).clock result)
         (M.disk media.old) (M.disk media.new) (M.faults media.old) (M.faults media.new) result }
     ensures refused { IfSaveRefused result (λ cause. M.tells → IsLegibleWith (M.disk media.old).reads (IsJudged label.now (Some cause))) }
     ensures printed { (x : Contents) → M.tells → HoldsContents (M.disk media.old).reads x → PrintsText (save_text x.table) result (O.taken output.old) (O.taken output.new) }

@@ -1,5 +1,5 @@
 -- A commit: one append after the other.
-use Rattle.std.proofs.Common.{◌≡◌, inr, ℕ, ℤ, false, List, [], ◌∷◌, ◌++◌, Option, None, option_map, Result, Ok, Err, OnOk, refl, sym, ap, ◌∙◌, subst, arith}
+use Rattle.std.proofs.Common.{◌≡◌, ◌<◌, inr, ℕ, ℤ, false, List, [], ◌∷◌, ◌++◌, Option, None, option_map, Result, Ok, Err, OnOk, refl, sym, ap, ◌∙◌, subst, arith}
 use Rattle.std.specs.Prelude.{⊤}
 use Rattle.vdr_terms.specs.Needs.{cost, usable}
 use Rattle.vdr_terms.specs.Records.{Record, last}
@@ -17,7 +17,7 @@ use Rattle.vdr_outside.specs.Moments.{AtEachMoment}
 use Rattle.vdr_outside.specs.declared.fault.Fault.{Fault}
 use Rattle.vdr_outside.proofs.Moments.{moments_join, moments_weaken}
 use Rattle.vdr_config.specs.Configuration.{IsConfiguration}
-use Rattle.vdr_config.specs.Sizes.{sizes_of}
+use Rattle.vdr_config.specs.Sizes.{sizes_of, window_of}
 use Rattle.vdr_media.proofs.Two.{all_two}
 use Rattle.vdr_pace.specs.Media.{IsAppended}
 use Rattle.vdr_ring.specs.Sequence.{Placed, all_records, batches_in, segments_in}
@@ -28,11 +28,11 @@ use Rattle.vdr_incident.specs.Tables.{HoldsTable}
 use Rattle.vdr_opening.specs.Media.{AreThere}
 use Rattle.vdr_vault.specs.Vaults.{MembersState, HoldsHistory, ShowsHistory, Stands, ring_of, tick_utc, working, working_from}
 use Rattle.vdr_vault.specs.Calls.{Commits, MayCommit}
-use Rattle.vdr_vault.proofs.CommitImages.{at_capsule, at_long_term}
+use Rattle.vdr_vault.proofs.CommitImages.{at_capsule, at_long_term, having_sound}
 use Rattle.vdr_vault.proofs.CommitMoments.{Appends, MeetsEnds, one_zero, two, without_or_with, zero_one}
 use Rattle.vdr_vault.proofs.CommitPins.{HoldPins}
-use Rattle.vdr_vault.proofs.CommitReady.{are_there, begins_first, continues, medium_is_ready, one_end, pins_there}
-use Rattle.vdr_vault.proofs.CommitStages.{IsAfter, IsReady, done_after}
+use Rattle.vdr_vault.proofs.CommitReady.{are_there, begins_first, continues, medium_is_ready, one_end, pins_there, windowed}
+use Rattle.vdr_vault.proofs.CommitStages.{IsAfter, IsReady, StaysRegular, done_after, placed_stays}
 use Rattle.vdr_vault.proofs.CommitStands.{history_done, history_meanwhile, newest_with, next_with, same_incidents, stamp_with}
 use Rattle.vdr_vault.proofs.ShownFronts.{table_stays}
 use Rattle.vdr_vault.proofs.ShownHistory.{legible_at}
@@ -105,6 +105,16 @@ module _ {tells tells_images : Type 0} (opening : Opening) (events : List Event)
   long_term_window : members.long_term.seconds ≡ opening.settings.seconds 1
   long_term_window = on_long_term.is_its.seconds ∙ ap (λ (s : Settings). s.seconds 1) (sym stands.settings)
 
+  windows : (m : ℕ) → opening.settings.seconds m ≡ window_of members.config m
+  windows m = ap (λ (s : Settings). s.seconds m) stands.settings
+
+  roomy : (m : ℕ) → 0 < opening.settings.seconds m
+  roomy m = subst (λ (n : ℕ). 0 < n) (sym (windows m)) (windowed members.config m legal)
+
+  long_stays : StaysRegular (sizes_of members.config) 1 (pins_of (incidents opening events)) records (placed 1)
+  long_stays = placed_stays (sizes_of members.config) 1 members.long_term.segment members.long_term.slots members.long_term.seconds (pins_of (incidents opening events)) (given_with opening events 1) records (placed 1)
+      long_term_ready
+
   -- The batch goes to the capsule.
   module _ (capsule : RingState) (stages : Stages) (mid : Disk tells tells_images) (r : Result ⊤ Fault)
       (first : Appends 0 members.capsule capsule [] (given_with opening events 0) records (placed 0) (next_place opening events) stages old mid r) where
@@ -114,8 +124,8 @@ module _ {tells tells_images : Type 0} (opening : Opening) (events : List Event)
 
     pub capsule_moments : AtEachMoment old mid (ShowsEither (ShowsHistory opening) events e old.now)
     capsule_moments = moments_weaken old mid _ _ first.moments (λ i changed.
-        inr (at_capsule opening events members.config members.table stands.incidents_are legal.slots_high e records taken is placed meets members.capsule members.long_term old on_capsule on_long_term
-        capsule_window stands.table stands.there (sizes_of members.config) stages capsule_done i
+        inr (at_capsule opening events members.config members.table stands.incidents_are legal.slots_high e records taken is placed meets windows roomy members.capsule members.long_term old on_capsule on_long_term
+        capsule_window stands.table stands.there long_stays stages capsule_done i
         (record {
           image = changed.image;
           was = changed.was;
@@ -141,14 +151,16 @@ module _ {tells tells_images : Type 0} (opening : Opening) (events : List Event)
 
       capsule_mid : HoldsHistory opening (events ++ e ∷ []) members.config 0 capsule stages.done mid
       capsule_mid = history_done opening events e records taken is members.config 0 members.capsule capsule (placed 0) stages.done old mid on_capsule first.sizes first.same first.room
-          (subst (λ (r : Result ⊤ Fault). OnOk r (rings.Reads capsule stages.done mid)) ok first.done) first.front_read capsule_window (meets.follow 0 0 (omega arith)) capsule_done
+          (subst (λ (r : Result ⊤ Fault). OnOk r (rings.Reads capsule stages.done mid)) ok first.done) first.front_read capsule_window (roomy 0) (meets.follow 0 0 (omega arith)) capsule_done
 
       both_moments : AtEachMoment old new (ShowsEither (ShowsHistory opening) events e old.now)
       both_moments = moments_join old mid new _ capsule_moments (moments_weaken mid new _ _ second.moments (λ i changed.
-          inr (inr (at_long_term opening events members.config members.table stands.incidents_are legal.slots_high e records taken is placed meets stages.done members.long_term mid long_mid
+          inr (inr (at_long_term opening events members.config members.table stands.incidents_are legal.slots_high e records taken is placed meets windows roomy stages.done capsule_mid.reads.order
+          (having_sound opening events members.config members.table stands.incidents_are legal.slots_high e records taken is placed meets windows roomy 0 members.capsule old on_capsule (meets.follow 0 0 (omega arith)) stages.done
+          capsule_mid.reads.order capsule_done capsule_window) members.long_term mid long_mid
           (legible_at opening (events ++ e ∷ []) members.config 0 capsule stages.done mid capsule_mid) capsule_done.ends
           (subst (λ (n : ℕ). Retains n [] (given_with opening events 0 ++ records) (all_records stages.done)) capsule_window capsule_done.retains)
-          long_term_window table_mid (sizes_of members.config) long_stages long_done i
+          long_term_window table_mid long_stages long_done i
           (record {
             image = changed.image;
             was = changed.was;
@@ -166,7 +178,7 @@ module _ {tells tells_images : Type 0} (opening : Opening) (events : List Event)
             (λ m. HoldsHistory opening (events ++ e ∷ []) members.config m (ring_of (with_rings members records capsule long_term) m) (two stages.done long_stages.done m) new)
             (history_meanwhile opening (events ++ e ∷ []) members.config 1 0 capsule stages.done _ mid new zero_one second.moments second.others second.sizes capsule_mid)
             (history_done opening events e records taken is members.config 1 members.long_term long_term (placed 1) long_stages.done mid new long_mid second.sizes second.same second.room
-            reads second.front_read long_term_window (meets.follow 1 1 (omega arith)) long_done);
+            reads second.front_read long_term_window (roomy 1) (meets.follow 1 1 (omega arith)) long_done);
         level = all_two (λ m. last (batches_in (two stages.done long_stages.done m)) ≡ last (batches_in stages.done)) refl (long_done.ends ∙ sym capsule_done.ends);
         incidents_are = stands.incidents_are ∙ sym (same_incidents opening events e records taken is);
         slots = stands.slots;

@@ -28,7 +28,7 @@ use Rattle.vdr_ring.proofs.Placing.{one_sequence}
 use Rattle.vdr_opening.specs.Media.{both, IsMedium}
 use Rattle.vdr_vault.specs.Vaults.{HoldsHistory}
 use Rattle.vdr_vault.proofs.CommitPins.{any_first, any_none}
-use Rattle.vdr_vault.proofs.CommitStages.{IsBefore, IsReady, begun_before, closed_before, placed_before}
+use Rattle.vdr_vault.proofs.CommitStages.{IsBefore, IsReady, StaysRegular, begun_before, begun_stays, closed_before, closed_stays, placed_before, placed_stays}
 use Rattle.vdr_vault.proofs.ShownFronts.{front_stays}
 use Rattle.vdr_vault.proofs.ShownImages.{placed_there}
 
@@ -45,11 +45,12 @@ pub record IsOnItsWay (ring : RingState) (pins : List Pin) (all records : List R
   pub front : SameFront old bytes
 
 -- Its medium is legible, without the batch or with it.
-pub record HoldsBefore (ring : RingState) (pins : List Pin) (all : List Record) (placed : List Placed) (bytes : List ℕ) : Type 0 where
+pub record HoldsBefore (sizes : Sizes) (m : ℕ) (ring : RingState) (pins : List Pin) (all records : List Record) (placed : List Placed) (bytes : List ℕ) : Type 0 where
   pub now : List Placed
   pub holds : HoldsPlaced ring.segment ring.slots now bytes
   pub order : AreInOrder now
   pub before : IsBefore ring.seconds pins all placed now
+  pub stays : StaysRegular sizes m pins records now
 
 pub record HoldsDone (ring : RingState) (stages : Stages) (bytes : List ℕ) : Type 0 where
   pub holds : HoldsPlaced ring.segment ring.slots stages.done bytes
@@ -57,14 +58,17 @@ pub record HoldsDone (ring : RingState) (stages : Stages) (bytes : List ℕ) : T
 
 module _ (sizes : Sizes) (m : ℕ) (ring : RingState) (pins : List Pin) (all records : List Record) (placed : List Placed) (first : ℕ) (ready : IsReady sizes m ring.segment ring.slots ring.seconds pins all records placed) (stages : Stages)
     (are : AreStages ring.segment ring.slots ring.seconds pins placed first records stages) where
-  pub without_or_with : (old bytes : List ℕ) → IsOnItsWay ring pins all records placed stages old bytes → HoldsBefore ring pins all placed bytes ⊎ HoldsDone ring stages bytes
+  pub without_or_with : (old bytes : List ℕ) → IsOnItsWay ring pins all records placed stages old bytes → HoldsBefore sizes m ring pins all records placed bytes ⊎ HoldsDone ring stages bytes
   without_or_with old bytes h =
       ⊎_elim
-      (λ (k : Holds placed). inl (held placed k (placed_before sizes m ring.segment ring.slots ring.seconds pins all records placed first ready stages are)))
+      (λ (k : Holds placed). inl (held placed k (placed_before sizes m ring.segment ring.slots ring.seconds pins all records placed first ready stages are)
+      (placed_stays sizes m ring.segment ring.slots ring.seconds pins all records placed ready)))
       (λ k. ⊎_elim
-      (λ (k : Holds stages.closed). inl (held stages.closed k (closed_before sizes m ring.segment ring.slots ring.seconds pins all records placed first ready stages are)))
+      (λ (k : Holds stages.closed). inl (held stages.closed k (closed_before sizes m ring.segment ring.slots ring.seconds pins all records placed first ready stages are)
+      (closed_stays sizes m ring.segment ring.slots ring.seconds pins all records placed first ready stages are)))
       (λ k. ⊎_elim
-      (λ (k : Holds stages.begun). inl (held stages.begun k (begun_before sizes m ring.segment ring.slots ring.seconds pins all records placed first ready stages are)))
+      (λ (k : Holds stages.begun). inl (held stages.begun k (begun_before sizes m ring.segment ring.slots ring.seconds pins all records placed first ready stages are)
+      (begun_stays sizes m ring.segment ring.slots ring.seconds pins all records placed first ready stages are)))
       (λ k. ⊎_elim
       (λ (k : Holds stages.done). inr (record { holds = k; order = ordered stages.done k }))
       (λ k. absurd (any_none Holds k))
@@ -79,8 +83,8 @@ module _ (sizes : Sizes) (m : ℕ) (ring : RingState) (pins : List Pin) (all rec
       ordered : (ps : List Placed) → Holds ps → AreInOrder ps
       ordered ps k = subst AreInOrder (one_placed ring.segment ring.slots bytes h.kept.now ps h.kept.holds k) h.kept.order
 
-      held : (ps : List Placed) → Holds ps → IsBefore ring.seconds pins all placed ps → HoldsBefore ring pins all placed bytes
-      held ps k before = record { now = ps; holds = k; order = ordered ps k; before = before }
+      held : (ps : List Placed) → Holds ps → IsBefore ring.seconds pins all placed ps → StaysRegular sizes m pins records ps → HoldsBefore sizes m ring pins all records placed bytes
+      held ps k before kept = record { now = ps; holds = k; order = ordered ps k; before = before; stays = kept }
 
 -- The segments of two media.
 abbrev pub two : List Placed → List Placed → ℕ → List Placed

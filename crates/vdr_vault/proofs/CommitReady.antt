@@ -12,9 +12,9 @@ use Rattle.vdr_retention.specs.Layout.{Batches, segment_records}
 use Rattle.vdr_retention.specs.Regular.{FollowOn, IsPaced}
 use Rattle.vdr_retention.specs.Retention.{Retains}
 use Rattle.vdr_retention.proofs.Lists.{all_from, last_behind, last_contained}
-use Rattle.vdr_durability.specs.Readings.{begins_at, ends_before, next_after}
+use Rattle.vdr_durability.specs.Readings.{begins_at, comes_next, ends_before, next_after}
 use Rattle.vdr_durability.specs.Shown.{given_with, pins_of, pins_on}
-use Rattle.vdr_durability.proofs.Restored.{all_with, ends_in}
+use Rattle.vdr_durability.proofs.Restored.{all_with, comes_behind, ends_in}
 use Rattle.vdr_durability.proofs.Shows.{OnSlot, pins_hold, slots_hold}
 use Rattle.vdr_outside.specs.Disk.{Disk}
 use Rattle.vdr_outside.proofs.Moments.{size_read}
@@ -75,9 +75,11 @@ one_end cost usable batch x y h k e =
     ap last (sym (records_are x)) ∙ last_by_batch (batches_in x) (regular_batches cost usable batch x h) ∙ ap last_of e
     ∙ sym (last_by_batch (batches_in y) (regular_batches cost usable batch y k)) ∙ ap last (records_are y)
 
--- A batch from the next place on is the one before which the medium ends.
-pub waits : (placed : List Placed) (records : List Record) (next : ℕ) → next_after (last (all_records placed)) ≡ next → RunOn next records → 0 < length records → ends_before (Some records) (batches_in placed) ≡ true
-waits placed records next is run some = ap (λ (rs : List Record). begins_at (next_after (last rs)) records) (records_are placed) ∙ ap (λ (n : ℕ). begins_at n records) is ∙ begins records run some
+-- A batch from the next place on that follows the last record is the one before which the medium ends.
+pub waits : (placed : List Placed) (records : List Record) (next : ℕ) → next_after (last (all_records placed)) ≡ next → RunOn next records → 0 < length records → FollowOn (last (all_records placed)) records
+    → ends_before (Some records) (batches_in placed) ≡ true
+waits placed records next is run some follow = ap (λ (rs : List Record). comes_next (last rs) records) (records_are placed)
+    ∙ comes_behind (last (all_records placed)) records (ap (λ (n : ℕ). begins_at n records) is ∙ begins records run some) follow
   where
     begins : (records : List Record) → RunOn next records → 0 < length records → begins_at next records ≡ true
     begins [] run lt = absurd (omega (arith, lt))
@@ -129,7 +131,7 @@ are_there table placed h = All-weaker (OnSlot (λ pin. HoldAll pin.a pin.b place
 
 -- It is one that the configuration allows
 
-windowed : (c : Configuration) (m : ℕ) → IsConfiguration c → 0 < window_of c m
+pub windowed : (c : Configuration) (m : ℕ) → IsConfiguration c → 0 < window_of c m
 windowed c m is =
     let a = is.capsule_low in
     let b = is.long_low in

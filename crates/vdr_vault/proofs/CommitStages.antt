@@ -7,10 +7,13 @@ use mathlib.Core.List.{Sublist, sublist-append_right}
 use mathlib.Core.List.Sublist
 use Rattle.vdr_terms.specs.Records.{Record, last_after, last}
 use Rattle.vdr_terms.specs.Needs.{Sizes, cost, usable}
-use Rattle.vdr_retention.specs.Layout.{Batches, segment_records}
+use Rattle.vdr_retention.specs.Layout.{Batches, records_in, segment_records}
+use Rattle.vdr_retention.specs.Regular.{IsPaced}
 use Rattle.vdr_retention.specs.Retention.{Pin, Retains, at_places, within}
 use Rattle.vdr_retention.specs.Victims.{ArePinsOf, MayGo}
 use Rattle.vdr_retention.proofs.Lists.{contains_filter, filter_test, filter_was, last_behind, last_contained}
+use Rattle.vdr_retention.proofs.Appended.{remove_stays_paced}
+use Rattle.vdr_retention.proofs.Paced.{begin_stays_paced}
 use Rattle.vdr_retention.proofs.Needed.{last_stays}
 use Rattle.vdr_retention.proofs.Ordered.{parts_in_order}
 use Rattle.vdr_retention.proofs.Following.{follow_in_order}
@@ -91,6 +94,12 @@ pub record IsBefore (seconds : ℕ) (pins : List Pin) (all : List Record) (place
   pub retains : Retains seconds pins all (all_records now)
   pub pinned : HoldPins pins now
 
+-- And meanwhile the medium is regular, the batch may come next on it, and its pins are allowed with the batch too.
+pub record StaysRegular (sizes : Sizes) (m : ℕ) (pins : List Pin) (records : List Record) (now : List Placed) : Type 0 where
+  pub regular : AreRegular (cost sizes) (usable sizes) sizes.batch now
+  pub paced : IsPaced (cost sizes) sizes.batch (segments_in now) records
+  pub pins_with : ArePinsOf sizes m (all_records now ++ records) pins
+
 -- Once it is.
 pub record IsAfter (sizes : Sizes) (m seconds : ℕ) (pins : List Pin) (all records : List Record) (placed now : List Placed) : Type 0 where
   pub ends : last (batches_in now) ≡ Some records
@@ -107,6 +116,45 @@ pub record IsReady (sizes : Sizes) (m size count seconds : ℕ) (pins : List Pin
   pub order : AreInOrder placed
   pub retains : Retains seconds pins all (all_records placed)
   pub pinned : HoldPins pins placed
+
+segments_append : (xs ys : List Placed) → segments_in (xs ++ ys) ≡ segments_in xs ++ segments_in ys
+segments_append [] ys = refl
+segments_append (x ∷ xs) ys = ap (λ (ss : List Batches). batches_of x ∷ ss) (segments_append xs ys)
+
+module _ (sizes : Sizes) (m size count seconds : ℕ) (pins : List Pin) (all records : List Record) (placed : List Placed) (ready : IsReady sizes m size count seconds pins all records placed) where
+  -- no new record has a pinned place
+  new_unpinned : (pin : Pin) → Contains pins pin → (r : Record) → Contains records r → within pin.a pin.b r ≡ true → ⊥
+  new_unpinned pin there r new inside =
+      let parts = and_parts _ _ inside in
+      let low : pin.a ≤ r.place = leb-true pin.a r.place parts.0 in
+      let high : r.place ≤ pin.b = leb-true r.place pin.b parts.1 in
+      let at = place_recorded pin.b placed ready.order (ready.pinned pin there pin.b (omega (arith, low, high)) (omega arith)) in
+      let later = ((parts_in_order (all_records placed) records (follow_in_order (all_records placed) records (in_order_records placed ready.order) ready.allowed.paced.order)).2 at.0 r at.1 new).0 in
+      let place = at.2 in
+      omega (arith, later, place, high)
+
+  -- What is left of the medium, while the batch may come next.
+  stays : (now : List Placed) → ((r : Record) → Contains (all_records now) r → Contains (all_records placed) r) → AreRegular (cost sizes) (usable sizes) sizes.batch now
+      → IsPaced (cost sizes) sizes.batch (segments_in now) records → StaysRegular sizes m pins records now
+  stays now was regular paced = record {
+    regular = regular;
+    paced = paced;
+    pins_with = record {
+      few = ready.allowed.saves.few;
+      short = λ pin there r s k l. ready.allowed.saves.short pin there r s (pinned pin there r k) (pinned pin there s l);
+    };
+  }
+    where
+      pinned : (pin : Pin) → Contains pins pin → (r : Record) → Contains (at_places pin.a pin.b (all_records now ++ records)) r → Contains (at_places pin.a pin.b (all_records placed)) r
+      pinned pin there r h =
+          let inside = filter_test (within pin.a pin.b) (all_records now ++ records) r h in
+          ⊎_elim
+          (λ (k : Contains (all_records now) r). contains_filter (within pin.a pin.b) (all_records placed) r (was r k) inside)
+          (λ (k : Contains records r). absurd (new_unpinned pin there r k inside))
+          (Contains-append_cases (all_records now) records r (filter_was (within pin.a pin.b) (all_records now ++ records) r h))
+
+  pub placed_stays : StaysRegular sizes m pins records placed
+  placed_stays = stays placed (λ r h. h) ready.allowed.regular ready.allowed.paced
 
 module _ (sizes : Sizes) (m size count seconds : ℕ) (pins : List Pin) (all records : List Record) (placed : List Placed) (first : ℕ) (ready : IsReady sizes m size count seconds pins all records placed) (stages : Stages)
     (are : AreStages size count seconds pins placed first records stages) where
@@ -222,6 +270,33 @@ module _ (sizes : Sizes) (m size count seconds : ℕ) (pins : List Pin) (all rec
       (λ k. subst (λ (p : Batches × Batches). Sublist p.0 p.1) (λ i. (sym (ap batches_in k.4 ∙ batches_append k.0 k.2) i, sym (ap batches_in k.3 ∙ batches_append k.0 (k.1 ∷ k.2)) i))
       (Sublist.append (Sublist.refl (batches_in k.0)) (sublist-append_right (batches_of k.1) (batches_in k.2))))
       leaves
+
+  closed_paced : IsPaced (cost sizes) sizes.batch (segments_in stages.closed) records
+  closed_paced = ⊎_elim
+      (λ (e : stages.closed ≡ placed). subst (λ (ps : List Placed). IsPaced (cost sizes) sizes.batch (segments_in ps) records) (sym e) ready.allowed.paced)
+      (λ k. subst (λ (ss : List Batches). IsPaced (cost sizes) sizes.batch ss records) (sym (ap segments_in k.4 ∙ segments_append k.0 k.2))
+      (remove_stays_paced (cost sizes) sizes.batch seconds pins (segments_in k.0) (batches_of k.1) (segments_in k.2) records ready.allowed.some
+      (subst (λ (ss : List Batches). MayGo seconds pins (records_in ss) (batches_of k.1)) (ap segments_in k.3 ∙ segments_append k.0 (k.1 ∷ k.2)) k.5)
+      (subst (λ (ss : List Batches). IsPaced (cost sizes) sizes.batch ss records) (ap segments_in k.3 ∙ segments_append k.0 (k.1 ∷ k.2)) ready.allowed.paced)))
+      leaves
+
+  begun_paced : IsPaced (cost sizes) sizes.batch (segments_in stages.begun) records
+  begun_paced = go are
+    where
+      go : AreStages size count seconds pins placed first records stages → IsPaced (cost sizes) sizes.batch (segments_in stages.begun) records
+      go (inl g) = subst (λ (ps : List Placed). IsPaced (cost sizes) sizes.batch (segments_in ps) records) (sym g.begun) ready.allowed.paced
+      go (inr b) = subst (λ (ss : List Batches). IsPaced (cost sizes) sizes.batch ss records)
+          (sym (ap segments_in b.begun ∙ segments_append stages.closed (new_segment b.slot (next_seq (last placed)) first ∷ [])))
+          (begin_stays_paced (cost sizes) sizes.batch (segments_in stages.closed) records closed_paced)
+
+  pub closed_stays : StaysRegular sizes m pins records stages.closed
+  closed_stays = stays sizes m size count seconds pins all records placed ready stages.closed was_there
+      (stages_regular sizes m size count seconds pins placed first records stages ready.allowed are).0 closed_paced
+
+  pub begun_stays : StaysRegular sizes m pins records stages.begun
+  begun_stays = stays sizes m size count seconds pins all records placed ready stages.begun
+      (λ r h. was_there r (subst (λ (rs : List Record). Contains rs r) (sym (records_are stages.begun) ∙ ap segment_records begun_batches ∙ records_are stages.closed) h))
+      (stages_regular sizes m size count seconds pins placed first records stages ready.allowed are).1 begun_paced
 
   pub done_after : IsAfter sizes m seconds pins all records placed stages.done
   done_after = record {

@@ -29,6 +29,8 @@ use Rattle.vdr_ring.proofs.NextSegment.{last_index}
 use Rattle.vdr_ring.proofs.Runs.{after_last}
 use Rattle.vdr_opening.specs.Media.{HasFront}
 use Rattle.vdr_opening.specs.Answers.{IsRingOf}
+use Rattle.vdr_durability.specs.Soundness.{IsUnbroken}
+use Rattle.vdr_durability.proofs.Unbroken.{unbroken_follows}
 use Rattle.vdr_vault.specs.Vaults.{HoldsHistory, of_stamp, tick_utc}
 use Rattle.vdr_vault.proofs.CommitStages.{IsAfter}
 use Rattle.vdr_vault.proofs.ShownFronts.{front_stays}
@@ -76,10 +78,10 @@ module _ (opening : Opening) (events : List Event) (e : Event) (records : List R
   module _ {tells tells_images : Type 0} where
     pub history_done : (c : Configuration) (m : ℕ) (ring new_ring : RingState) (placed now : List Placed) (old new : Disk tells tells_images) → HoldsHistory opening events c m ring placed old
         → new.sizes ≡ old.sizes → IsSameRing ring new_ring → HasMedium new_ring new.sizes → rings.Reads new_ring now new → (tells → SameFront (content old.reads m) (content new.reads m))
-        → ring.seconds ≡ opening.settings.seconds m → FollowOn (last (given_with opening events m)) records
+        → ring.seconds ≡ opening.settings.seconds m → 0 < opening.settings.seconds m → FollowOn (last (given_with opening events m)) records
         → IsAfter (sizes_of c) m ring.seconds (pins_on m (incidents opening events)) (given_with opening events m) records placed now
         → HoldsHistory opening (events ++ e ∷ []) c m new_ring now new
-    history_done c m ring new_ring placed now old new h sizes same room reads front window follow after = record {
+    history_done c m ring new_ring placed now old new h sizes same room reads front window some follow after = record {
       is_its = record {
         medium = same.medium ∙ h.is_its.medium;
         segment = same.segment ∙ h.is_its.segment;
@@ -95,6 +97,7 @@ module _ (opening : Opening) (events : List Event) (e : Event) (records : List R
           (subst (λ (t : List (Option Incident)). Retains (opening.settings.seconds m) (pins_on m t) (given_with opening events m ++ records) (all_records now)) (sym same_incidents)
           (subst (λ (n : ℕ). Retains n (pins_on m (incidents opening events)) (given_with opening events m ++ records) (all_records now)) window after.retains));
       pins = subst (λ (t : List (Option Incident)). ArePinsOf (sizes_of c) m (all_records now) (pins_on m t)) (sym same_incidents) after.pins_are;
+      unbroken = subst (IsUnbroken (opening.settings.seconds m)) (sym (given_more m)) (unbroken_follows (opening.settings.seconds m) (given_with opening events m) records some h.order follow h.unbroken);
     }
 
 -- A medium while another changes
@@ -113,6 +116,7 @@ history_meanwhile opening events c m k ring placed P old new ne moments others s
   order = h.order;
   retains = h.retains;
   pins = h.pins;
+  unbroken = h.unbroken;
 }
   where
     differs : ring.medium ≢ m

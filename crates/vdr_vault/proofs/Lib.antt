@@ -37,3 +37,5 @@ pub mod Released
 pub mod SavePlaces
 pub mod Saved
 pub mod SaveSteps
+pub mod Sounding
+pub mod SoundMedia

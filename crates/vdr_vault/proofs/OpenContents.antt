@@ -24,6 +24,7 @@ use Rattle.vdr_opening.specs.Media.{both, Contents, HoldsContents, IsMedium, ope
 use Rattle.vdr_opening.specs.Settings.{settings_of}
 use Rattle.vdr_opening.specs.Answers.{IsMissing, IsOpened, OpenedState}
 use Rattle.vdr_opening.proofs.ContentsHeld.{are_legal, one_capsule, one_config, one_incidents, one_long_term}
+use Rattle.vdr_vault.specs.Regularity.{AreSound}
 use Rattle.vdr_vault.specs.Vaults.{ShowsHistory, of_stamp, tick_utc}
 use Rattle.vdr_vault.proofs.CommitMoments.{one}
 use Rattle.vdr_vault.proofs.ShownImages.{are_members, has_long_term, records_are}
@@ -79,11 +80,11 @@ module _ {tells tells_images : Type 0} where
   }
 
 -- Contents whose ends meet show what is opened on them.
-pub restored_shown : (x : Contents) (image : Image) → HoldsContents image x → EndsMeet both (reading_of x) → ShowsHistory (opening_of x) [] image
-restored_shown x image holds meet = (
+pub restored_shown : (x : Contents) (image : Image) → HoldsContents image x → EndsMeet both (reading_of x) → AreSound x → ShowsHistory (opening_of x) [] image
+restored_shown x image holds meet sound = (
   both,
   reading_of x,
-  record { members_are = refl; contents = x; holds = holds; is = refl },
+  record { reads = record { members_are = refl; contents = x; holds = holds; is = refl }; sound = sound },
   opened_shows both (settings_of x.config x.text) (reading_of x) (reading_of x) are_members has_long_term refl refl meet
       (all_two (λ m. Retains (window_of x.config m) (pins_on m x.table) (records_on (restored both (reading_of x)) m) (records_on (restored both (reading_of x)) m))
       (retains_itself (window_of x.config 0) (pins_on 0 x.table) (records_on (restored both (reading_of x)) 0))

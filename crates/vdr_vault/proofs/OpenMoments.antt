@@ -1,15 +1,17 @@
 -- What holds at every moment of an opening, call by call.
-use Rattle.std.proofs.Common.{◌≡◌, inl, inr, ℕ, List, [], None, option_map, false, All, sym, subst}
+use Rattle.std.proofs.Common.{◌≡◌, inl, inr, ℕ, List, [], None, option_map, false, All, sym, subst, arith}
 use Rattle.vdr_terms.specs.Records.{Record, last}
 use Rattle.vdr_durability.specs.Readings.{EndsMeet, next_after}
 use Rattle.vdr_outside.specs.Disk.{Disk, Durable, Image, Unchanged}
 use Rattle.vdr_outside.specs.Moments.{AtEachMoment}
 use Rattle.vdr_outside.proofs.Moments.{moments_after_reads, moments_and_reads, moments_join, moments_none, moments_weaken}
+use Rattle.vdr_media.specs.Formatted.{IsFormatted, IsUnformatted}
 use Rattle.vdr_ring.specs.Sequence.{Placed, all_records}
 use Rattle.vdr_ring.specs.Rings.{HoldsPlaced, Tells}
 use Rattle.vdr_opening.specs.Media.{both, Contents, HoldsContents, opening_of, reading_of}
 use Rattle.vdr_opening.specs.Answers.{IsOpened, OpenedState}
 use Rattle.vdr_vault.specs.Calls.{SameElsewhere}
+use Rattle.vdr_vault.specs.Regularity.{AreSound}
 use Rattle.vdr_vault.specs.Vaults.{MembersState, ShowsHistory, tick_utc}
 use Rattle.vdr_vault.specs.Openings.{GoesOnBehind, GoesOnSynced, LeavesAll, opened_with}
 use Rattle.vdr_vault.proofs.OpenContents.{held_durable, opened_on, restored_shown}
@@ -17,6 +19,11 @@ use Rattle.vdr_vault.proofs.OpenContents.{held_durable, opened_on, restored_show
 -- A vault that is made of what was opened, wherever it goes on.
 abbrev pub vault_of : OpenedState → MembersState
 vault_of o = record { config = o.config; capsule = o.capsule; long_term = o.long_term; table = o.table; next_place = 0; last = None; failed = false }
+
+-- Media are formatted or not.
+pub never_both : (image : Image) → IsFormatted image → IsUnformatted image → ⊥
+never_both image formatted (inl small) = let room = formatted.room in omega (arith, room, small)
+never_both image formatted (inr closed) = closed formatted.gate
 
 pub same_elsewhere : (a b c : Image) → b ≡ a → SameElsewhere b c → SameElsewhere a c
 same_elsewhere a b c same h = subst (λ (i : Image). SameElsewhere i c) same h
@@ -29,8 +36,8 @@ module _ {tells tells_images : Type 0} where
       subst (λ (rs : List Record). IsOpened (opened_with (vault_of o) rs) x new) (sym is) (opened_on o x y new (subst (λ (i : Image). HoldsContents i x) (sym (same.reads told)) h) was)
 
   -- Calls that only read durable media.
-  pub reading_shown : (x : Contents) (old new : Disk tells tells_images) → Unchanged old new → All (λ m. Durable m old) both → HoldsContents old.reads x → EndsMeet both (reading_of x) → AtEachMoment old new (ShowsHistory (opening_of x) [])
-  reading_shown x old new same durable h meet = moments_and_reads old old new _ (moments_none old _ (λ i now. restored_shown x i (held_durable x old durable h i now) meet)) same
+  pub reading_shown : (x : Contents) (old new : Disk tells tells_images) → Unchanged old new → All (λ m. Durable m old) both → HoldsContents old.reads x → EndsMeet both (reading_of x) → AreSound x → AtEachMoment old new (ShowsHistory (opening_of x) [])
+  reading_shown x old new same durable h meet sound = moments_and_reads old old new _ (moments_none old _ (λ i now. restored_shown x i (held_durable x old durable h i now) meet sound)) same
 
   -- Once the syncs have succeeded.
   pub goes_on_synced : (shows : Image → Type 0) (old mid new : Disk tells tells_images) → LeavesAll old mid → AtEachMoment mid new shows → GoesOnSynced old new shows

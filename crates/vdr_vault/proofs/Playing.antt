@@ -67,6 +67,7 @@ module _ {tells tells_images : Type 0} where
     order = h.order;
     retains = h.retains;
     pins = h.pins;
+    unbroken = h.unbroken;
   }
 
   -- with other rings that have read

@@ -27,7 +27,7 @@ use Rattle.vdr_ring.specs.Stages.{AreStages, Continues, Stages}
 use Rattle.vdr_opening.specs.Media.{both, Contents, HasFront, opening_of, reading_of}
 use Rattle.vdr_opening.specs.Answers.{IsMissing, IsOpened, IsRingOf}
 use Rattle.vdr_vault.specs.Vaults.{AreRings, MembersState, Stands, ring_of}
-use Rattle.vdr_vault.specs.Regularity.{AreRegularMedia}
+use Rattle.vdr_vault.specs.Regularity.{AreSound}
 use Rattle.vdr_vault.specs.Openings.{GoesOnBehind, Reconciles, opened_with}
 use Rattle.vdr_vault.proofs.ShownFronts.{front_stays, table_stays}
 use Rattle.vdr_vault.proofs.CommitMoments.{zero_one}
@@ -59,7 +59,7 @@ with_ring members ring = record members { long_term = ring }
 
 module _ {tells tells_images : Type 0} where
   module _ (x : Contents) (members : MembersState) (missing : List Record) (disk : Disk tells tells_images) (told : tells) (working : members.failed ≡ false) (are : AreRings members disk.sizes)
-      (o : IsOpened (opened_with members missing) x disk) (regular : AreRegularMedia x) (behind : GoesOnBehind x members) where
+      (o : IsOpened (opened_with members missing) x disk) (sound : AreSound x) (behind : GoesOnBehind x members) where
     its : (m : ℕ) → IsRingOf members.config disk.sizes m (ring_of members m) → IsRingOf x.config disk.sizes m (ring_of members m)
     its m h = subst (λ (c : Configuration). IsRingOf c disk.sizes m (ring_of members m)) o.config h
 
@@ -72,13 +72,13 @@ module _ {tells tells_images : Type 0} where
     -- No batch is missing.
     pub reconciled_level : missing ≡ [] → Reconciles x members disk disk (Ok tt)
     reconciled_level none =
-        let opened = level_opened x regular (all_two (λ m. AreInOrder (x.placed m)) (o.holds.media 0 0 (omega arith)).segments.order (o.holds.media 1 1 (omega arith)).segments.order) o.holds.there
+        let opened = level_opened x sound.regular (all_two (λ m. AreInOrder (x.placed m)) (o.holds.media 0 0 (omega arith)).segments.order (o.holds.media 1 1 (omega arith)).segments.order) o.holds.there
         (none_missing x missing none o.missing) in
         record {
-          moments = moments_none disk _ (λ i now. opened_shown x x.placed i opened (held_durable x disk (all_two (λ m. Durable m disk) capsule_durable long_term_durable) o.holds i now));
+          moments = moments_none disk _ (λ i now. opened_shown x x.placed i opened sound (held_durable x disk (all_two (λ m. Durable m disk) capsule_durable long_term_durable) o.holds i now));
           done = (
             x.placed,
-            opened_stands x members x.placed disk regular opened (record {
+            opened_stands x members x.placed disk sound opened (record {
               working = working;
               config = o.config;
               table = o.table;
@@ -100,7 +100,7 @@ module _ {tells tells_images : Type 0} where
       lacks = record {
         told = told;
         holds = o.holds;
-        regular = regular;
+        sound = sound;
         passed = some_missing x missing some o.missing;
         capsule = capsule_durable;
         is_its = its 1 (are 1 1 (omega arith));
@@ -164,7 +164,7 @@ module _ {tells tells_images : Type 0} where
           others_now t = subst (λ (m : ℕ). SameBut m disk.reads new.reads) medium (others t)
 
           stands : rings.Reads ring stages.done new → Stands (opening_of x) [] (with_ring members ring) (with_long_term x.placed stages.done) new
-          stands reads = opened_stands x (with_ring members ring) (with_long_term x.placed stages.done) new regular (done_opened x missing members.long_term disk lacks stages are_stages) (record {
+          stands reads = opened_stands x (with_ring members ring) (with_long_term x.placed stages.done) new sound (done_opened x missing members.long_term disk lacks stages are_stages) (record {
             working = working;
             config = o.config;
             table = o.table;

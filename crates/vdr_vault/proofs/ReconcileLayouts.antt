@@ -32,11 +32,11 @@ layout_of (inl none) = record { older = []; newest = [] }
 layout_of (inr (older, newest, split, regular)) = record { older = older; newest = newest }
 
 module _ (c u b : ℕ) (placed : List Placed) where
-  laid_out : (r : AreRegular c u b placed) → batches_in placed ≡ layouts.batches_in (segments_of (layout_of r))
+  pub laid_out : (r : AreRegular c u b placed) → batches_in placed ≡ layouts.batches_in (segments_of (layout_of r))
   laid_out (inl none) = ap batches_in none
   laid_out (inr (older, newest, split, regular)) = sym (batches_of_segments placed) ∙ ap layouts.batches_in split
 
-  as_laid_out : (r : AreRegular c u b placed) → IsRegular c u b (layout_of r).older (layout_of r).newest
+  pub as_laid_out : (r : AreRegular c u b placed) → IsRegular c u b (layout_of r).older (layout_of r).newest
   as_laid_out (inl none) = record {
     order = tt;
     filled = All-nil (λ segment. u < batches_size segment);
@@ -49,6 +49,13 @@ module _ (c u b : ℕ) (placed : List Placed) where
   paced_there : (r : AreRegular c u b placed) (records : List Record) → IsPaced c b (segments_of (layout_of r)) records → IsPaced c b (segments_in placed) records
   paced_there (inl none) records h = subst (λ (ps : List Placed). IsPaced c b (segments_in ps) records) (sym none) (record { some = h.some; short = h.short; order = h.order; paced = λ s. h.paced s })
   paced_there (inr (older, newest, split, regular)) records h = subst (λ (segments : List Batches). IsPaced c b segments records) (sym split) h
+
+  -- and the other way
+  pub paced_laid_out : (r : AreRegular c u b placed) (records : List Record) → IsPaced c b (segments_in placed) records → IsPaced c b (segments_of (layout_of r)) records
+  paced_laid_out (inl none) records h =
+      let k : IsPaced c b [] records = subst (λ (ps : List Placed). IsPaced c b (segments_in ps) records) none h in
+      record { some = k.some; short = k.short; order = k.order; paced = λ s. k.paced s }
+  paced_laid_out (inr (older, newest, split, regular)) records h = subst (λ (segments : List Batches). IsPaced c b segments records) split h
 
   records_there : (r : AreRegular c u b placed) → records_in (segments_of (layout_of r)) ≡ all_records placed
   records_there (inl none) = ap all_records (sym none)

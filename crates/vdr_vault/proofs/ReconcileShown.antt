@@ -8,7 +8,7 @@ use Rattle.vdr_retention.specs.Layout.{segment_records}
 use Rattle.vdr_retention.specs.Regular.{FollowOn}
 use Rattle.vdr_retention.specs.Retention.{Retains}
 use Rattle.vdr_retention.specs.Victims.{ArePinsOf}
-use Rattle.vdr_durability.specs.Readings.{AreLevel, IsPassedOn, begins_at, ends_before, leading_batch, next_after, records_on, restored, with_next}
+use Rattle.vdr_durability.specs.Readings.{AreLevel, IsPassedOn, comes_next, ends_before, leading_batch, records_on, restored, with_next}
 use Rattle.vdr_durability.specs.Shown.{pins_on}
 use Rattle.vdr_durability.proofs.Restored.{ends_not_before, follow_is_in_order, level_restored, next_added, next_kept, passed_leads}
 use Rattle.vdr_durability.proofs.Shows.{reconciled_shows, reconciling_shows, retains_itself}
@@ -22,7 +22,7 @@ use Rattle.vdr_ring.proofs.Medium.{in_order_records}
 use Rattle.vdr_opening.specs.Media.{both, AreThere, Contents, HoldsContents, opening_of, reading_of}
 use Rattle.vdr_opening.specs.Settings.{settings_of}
 use Rattle.vdr_vault.specs.Vaults.{ShowsHistory, reading_with}
-use Rattle.vdr_vault.specs.Regularity.{AreRegularMedia}
+use Rattle.vdr_vault.specs.Regularity.{AreRegularMedia, AreSound}
 use Rattle.vdr_vault.proofs.ShownImages.{are_members, has_capsule, has_long_term, records_are}
 use Rattle.vdr_vault.proofs.CommitMoments.{one}
 use Rattle.vdr_vault.proofs.ReconcileLayouts.{pins_read, segments_read}
@@ -51,11 +51,11 @@ in_order placed h = All-weaker (λ m. AreInOrder (placed m)) (λ m. RecordsAreIn
     (λ m k. subst RecordsAreInOrder (sym (records_are (placed m))) (in_order_records (placed m) k)) both h
 
 -- They show what was opened.
-pub opened_shown : (x : Contents) (placed : ℕ → List Placed) (image : Image) → AreOpened x placed → HoldsContents image (with_placed x placed) → ShowsHistory (opening_of x) [] image
-opened_shown x placed image opened holds = (
+pub opened_shown : (x : Contents) (placed : ℕ → List Placed) (image : Image) → AreOpened x placed → AreSound (with_placed x placed) → HoldsContents image (with_placed x placed) → ShowsHistory (opening_of x) [] image
+opened_shown x placed image opened sound holds = (
   both,
   reading_of (with_placed x placed),
-  record { members_are = refl; contents = with_placed x placed; holds = holds; is = refl },
+  record { reads = record { members_are = refl; contents = with_placed x placed; holds = holds; is = refl }; sound = sound },
   reconciled_shows both (settings_of x.config x.text) (reading_of x) (reading_of (with_placed x placed)) are_members has_long_term refl
       (record {
         text = refl;
@@ -108,18 +108,18 @@ module _ (x : Contents) (batch : List Record) (passed : IsPassedOn both (0 ∷ [
 
   -- Segments of the long-term medium without it
   module _ (now : List Placed) (retains : Retains (window_of x.config 1) (pins_on 1 x.table) (all_records (x.placed 1)) (all_records now)) where
-    still_waits : ends_before (Some batch) (batches_in now) ≡ true
+    pub still_waits : ends_before (Some batch) (batches_in now) ≡ true
     still_waits =
-        ap (λ (rs : List Record). begins_at (next_after (last rs)) batch) (records_are now)
-        ∙ ap (λ (o : Option Record). begins_at (next_after o) batch) retains.window.newest
-        ∙ sym (ap (λ (rs : List Record). begins_at (next_after (last rs)) batch) (records_are (x.placed 1))) ∙ waits
+        ap (λ (rs : List Record). comes_next (last rs) batch) (records_are now)
+        ∙ ap (λ (o : Option Record). comes_next o batch) retains.window.newest
+        ∙ sym (ap (λ (rs : List Record). comes_next (last rs) batch) (records_are (x.placed 1))) ∙ waits
 
     -- show what was opened too.
-    pub waiting_shown : (image : Image) → HoldsContents image (with_placed x (with_long_term x.placed now)) → ShowsHistory (opening_of x) [] image
-    waiting_shown image holds = (
+    pub waiting_shown : (image : Image) → AreSound (with_placed x (with_long_term x.placed now)) → HoldsContents image (with_placed x (with_long_term x.placed now)) → ShowsHistory (opening_of x) [] image
+    waiting_shown image sound holds = (
       both,
       reading_of (with_placed x (with_long_term x.placed now)),
-      record { members_are = refl; contents = with_placed x (with_long_term x.placed now); holds = holds; is = refl },
+      record { reads = record { members_are = refl; contents = with_placed x (with_long_term x.placed now); holds = holds; is = refl }; sound = sound },
       reconciling_shows both (settings_of x.config x.text) (reading_of x) (reading_of (with_placed x (with_long_term x.placed now))) (0 ∷ []) (1 ∷ []) batch are_members has_long_term refl refl leads
           (record { split = refl; some = omega arith; given_end = one (λ m. last (batches_in (with_long_term x.placed now m)) ≡ Some batch) 0 (passed.given_end 0 0 (omega arith)); waiting_end = one (λ m. ends_before (Some batch) (batches_in (with_long_term x.placed now m)) ≡ true) 1 still_waits })
           (follow_is_in_order (last (all_records (x.placed 1))) batch follow)

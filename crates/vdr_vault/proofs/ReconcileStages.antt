@@ -1,7 +1,7 @@
 -- What the long-term medium has while the batch that it lacks is appended to it.
-use Rattle.std.proofs.Common.{◌≡◌, inl, inr, ⊎_elim, ℕ, zero, suc, ◌+◌, ◌<◌, ◌≤◌, List, [], ◌∷◌, ◌++◌, length, get_or, All, Some, ◌==◌, refl, sym, ap, ◌∙◌, subst, arith}
+use Rattle.std.proofs.Common.{◌≡◌, inl, inr, ⊎_elim, ℕ, zero, suc, ◌+◌, ◌<◌, ◌≤◌, List, [], ◌∷◌, ◌++◌, length, get_or, true, All, Some, ◌==◌, refl, sym, ap, ◌∙◌, subst, arith}
 use Rattle.std.specs.Prelude.{Any}
-use Rattle.std.proofs.lemmas.Bool.{cond_both}
+use Rattle.std.proofs.lemmas.Bool.{and_parts, cond_both}
 use Rattle.vdr_terms.specs.Records.{Record, last}
 use Rattle.vdr_terms.specs.Needs.{cost, needed_slots, slots_in, usable}
 use Rattle.vdr_terms.specs.Order.{RunOn}
@@ -9,7 +9,7 @@ use Rattle.vdr_terms.specs.Sizes.{batch_size}
 use Rattle.vdr_retention.specs.Regular.{FollowOn}
 use Rattle.vdr_retention.specs.Retention.{Retains}
 use Rattle.vdr_retention.specs.Victims.{ArePinsOf}
-use Rattle.vdr_durability.specs.Readings.{IsPassedOn, begins_at, next_after, records_on, restored}
+use Rattle.vdr_durability.specs.Readings.{IsPassedOn, comes_next, ends_before, next_after, records_on, restored}
 use Rattle.vdr_durability.specs.Shown.{pins_of, pins_on}
 use Rattle.vdr_durability.proofs.Shows.{retains_itself}
 use Rattle.vdr_outside.specs.Disk.{Disk, Durable, Image, content}
@@ -28,16 +28,21 @@ use Rattle.vdr_ring.proofs.Keeping.{orders_of}
 use Rattle.vdr_opening.specs.Media.{both, Contents, HasFront, HoldsContents, IsMedium, opening_of, reading_of}
 use Rattle.vdr_opening.specs.Answers.{IsRingOf}
 use Rattle.vdr_vault.specs.Vaults.{ShowsHistory}
-use Rattle.vdr_vault.specs.Regularity.{AreRegularMedia}
+use Rattle.vdr_durability.specs.Soundness.{IsUnbroken}
+use Rattle.vdr_vault.specs.Regularity.{AreSound}
+use Rattle.vdr_ring.proofs.Medium.{in_order_records}
+use Rattle.vdr_retention.proofs.Following.{follow_in_order}
+use Rattle.vdr_vault.proofs.Sounding.{IsSoundAlone, no_pins, sound_level, sound_passed, unbroken_waiting}
+use Rattle.vdr_durability.proofs.Unbroken.{unbroken_held}
 use Rattle.vdr_vault.proofs.ShownFronts.{front_stays, table_stays}
 use Rattle.vdr_vault.proofs.ShownImages.{placed_there, records_are}
 use Rattle.vdr_vault.proofs.CommitPins.{HoldPins}
 use Rattle.vdr_vault.proofs.CommitReady.{are_there, begins_first, continues, pins_there}
-use Rattle.vdr_vault.proofs.CommitStages.{IsAfter, IsBefore, IsReady, begun_before, closed_before, done_after, placed_before}
-use Rattle.vdr_vault.proofs.CommitMoments.{changes_both, zero_one}
+use Rattle.vdr_vault.proofs.CommitStages.{IsAfter, IsBefore, IsReady, StaysRegular, begun_before, begun_stays, closed_before, closed_stays, done_after, placed_before, placed_stays}
+use Rattle.vdr_vault.proofs.CommitMoments.{changes_both, one, zero_one}
 use Rattle.vdr_vault.proofs.ReconcileBatch.{last_is_legal, last_runs_on, runs_from}
 use Rattle.vdr_vault.proofs.ReconcileLayouts.{missing_is_paced, pins_read, segments_read}
-use Rattle.vdr_vault.proofs.ReconcileShown.{AreOpened, capsule_restored, leads, long_term_restored, opened_shown, waiting_shown, waits, with_long_term, with_placed}
+use Rattle.vdr_vault.proofs.ReconcileShown.{AreOpened, capsule_restored, leads, long_term_restored, opened_shown, still_waits, waiting_shown, waits, with_long_term, with_placed}
 
 -- The place after the last record of the long-term medium.
 abbrev pub first_place : Contents → ℕ
@@ -61,7 +66,7 @@ windowed c m is =
 pub record Lacks {tells tells_images : Type 0} (x : Contents) (batch : List Record) (ring : RingState) (disk : Disk tells tells_images) : Type 0 where
   pub told : tells
   pub holds : HoldsContents disk.reads x
-  pub regular : AreRegularMedia x
+  pub sound : AreSound x
   pub passed : IsPassedOn both (0 ∷ []) (1 ∷ []) batch (reading_of x)
   pub capsule : Durable 0 disk
   pub is_its : IsRingOf x.config disk.sizes 1 ring
@@ -82,9 +87,9 @@ module _ {tells tells_images : Type 0} (x : Contents) (batch : List Record) (rin
   ready : IsReady (sizes_of x.config) 1 ring.segment ring.slots ring.seconds (pins_of x.table) (all_records (x.placed 1)) batch (x.placed 1)
   ready = record {
     allowed = record {
-      regular = segments_read x h.regular 1 1 (omega arith);
-      paced = missing_is_paced x h.regular batch runs.0 (h.passed.given_end 0 0 (omega arith)) (h.passed.waiting_end 0 1 (omega arith)) runs.1;
-      saves = pins_read x h.regular 1 1 (omega arith);
+      regular = segments_read x h.sound.regular 1 1 (omega arith);
+      paced = missing_is_paced x h.sound.regular batch runs.0 (h.passed.given_end 0 0 (omega arith)) (h.passed.waiting_end 0 1 (omega arith)) runs.1;
+      saves = pins_read x h.sound.regular 1 1 (omega arith);
       slots = subst (λ (n : ℕ). needed_slots (sizes_of x.config) 1 ≤ n) (sym (h.is_its.slots ∙ ap (λ (n : ℕ). slots_in (sizes_of x.config) n) (sym (size_read disk 1 h.told)))) (h.holds.media 1 1 (omega arith)).front.configured.fits;
       segment = sym h.is_its.segment;
       room = let low = h.ranges.segment_low in let four = h.ranges.four_batches in omega (arith, low, four);
@@ -99,10 +104,38 @@ module _ {tells tells_images : Type 0} (x : Contents) (batch : List Record) (rin
   follow : FollowOn (last (all_records (x.placed 1))) batch
   follow = ready.allowed.paced.order
 
+  -- Each medium is sound by itself: the capsule as it is, the long-term medium with the batch.
+  capsule_sound : IsSoundAlone x.config 0 (x.placed 0) x.table (all_records (x.placed 0))
+  capsule_sound = record {
+    regular = segments_read x h.sound.regular 0 0 (omega arith);
+    pins = no_pins x.config (all_records (x.placed 0));
+    unbroken = subst (IsUnbroken (window_of x.config 0)) (capsule_restored x batch h.passed follow) (h.sound.unbroken 0 0 (omega arith));
+  }
+
+  unbroken_with : IsUnbroken (window_of x.config 1) (all_records (x.placed 1) ++ batch)
+  unbroken_with = subst (IsUnbroken (window_of x.config 1)) (long_term_restored x batch h.passed follow) (h.sound.unbroken 1 1 (omega arith))
+
+  waiting_sound : (now : List Placed) → AreInOrder now → Retains (window_of x.config 1) (pins_on 1 x.table) (all_records (x.placed 1)) (all_records now) → StaysRegular (sizes_of x.config) 1 (pins_of x.table) batch now
+      → AreSound (with_placed x (with_long_term x.placed now))
+  waiting_sound now order retains stays = sound_passed (with_placed x (with_long_term x.placed now)) batch
+      (record {
+        split = refl;
+        some = omega arith;
+        given_end = one (λ m. last (batches_in (with_long_term x.placed now m)) ≡ Some batch) 0 (h.passed.given_end 0 0 (omega arith));
+        waiting_end = one (λ m. ends_before (Some batch) (batches_in (with_long_term x.placed now m)) ≡ true) 1 (still_waits x batch h.passed follow now retains);
+      })
+      stays.paced capsule_sound
+      (record {
+        regular = stays.regular;
+        pins = stays.pins_with;
+        unbroken = unbroken_waiting (window_of x.config 1) (all_records (x.placed 1)) (all_records now) batch (in_order_records (x.placed 1) ready.order) (in_order_records now order) follow stays.paced.order
+            (pins_on 1 x.table) retains unbroken_with;
+      })
+
   -- The batch goes on where the medium ends.
   pub lacked_goes_on : Continues (x.placed 1) (first_place x) batch
   lacked_goes_on = continues (x.placed 1) batch (first_place x) ready.order refl
-      (runs_from batch (first_place x) runs.0 runs.1 (ap (λ (rs : List Record). begins_at (next_after (last rs)) batch) (sym (records_are (x.placed 1))) ∙ waits x batch h.passed follow)) ready.allowed.paced.some follow
+      (runs_from batch (first_place x) runs.0 runs.1 (and_parts _ _ (ap (λ (rs : List Record). comes_next (last rs) batch) (sym (records_are (x.placed 1))) ∙ waits x batch h.passed follow)).0) ready.allowed.paced.some follow
 
   module _ (stages : Stages) (are : AreStages ring.segment ring.slots ring.seconds (pins_of x.table) (x.placed 1) (first_place x) batch stages) where
     orders : AreInOrder stages.closed × AreInOrder stages.begun × AreInOrder stages.done
@@ -123,8 +156,8 @@ module _ {tells tells_images : Type 0} (x : Contents) (batch : List Record) (rin
           (retains_itself (window_of x.config 0) (pins_on 0 x.table) (all_records (x.placed 0))))
           (subst (λ (rs : List Record). Retains (window_of x.config 1) (pins_of x.table) rs (all_records stages.done)) (sym (long_term_restored x batch h.passed follow))
           (subst (λ (n : ℕ). Retains n (pins_of x.table) (all_records (x.placed 1) ++ batch) (all_records stages.done)) h.is_its.seconds done.retains));
-      regular = all_two (λ m. AreRegular (cost (sizes_of x.config)) (usable (sizes_of x.config)) x.config.batch (with_long_term x.placed stages.done m)) (segments_read x h.regular 0 0 (omega arith)) done.regular;
-      pins = all_two (λ m. ArePinsOf (sizes_of x.config) m (all_records (with_long_term x.placed stages.done m)) (pins_on m x.table)) (pins_read x h.regular 0 0 (omega arith)) done.pins_are;
+      regular = all_two (λ m. AreRegular (cost (sizes_of x.config)) (usable (sizes_of x.config)) x.config.batch (with_long_term x.placed stages.done m)) (segments_read x h.sound.regular 0 0 (omega arith)) done.regular;
+      pins = all_two (λ m. ArePinsOf (sizes_of x.config) m (all_records (with_long_term x.placed stages.done m)) (pins_on m x.table)) (pins_read x h.sound.regular 0 0 (omega arith)) done.pins_are;
       there = are_there x.table stages.done done.pinned;
     }
 
@@ -142,19 +175,31 @@ module _ {tells tells_images : Type 0} (x : Contents) (batch : List Record) (rin
       there = are_there x.table now pinned;
     }
 
-    before_shown : (now : List Placed) → AreInOrder now → IsBefore ring.seconds (pins_of x.table) (all_records (x.placed 1)) (x.placed 1) now → (i : Image)
+    before_shown : (now : List Placed) → AreInOrder now → IsBefore ring.seconds (pins_of x.table) (all_records (x.placed 1)) (x.placed 1) now → StaysRegular (sizes_of x.config) 1 (pins_of x.table) batch now → (i : Image)
         → Changed 1 (λ b. HoldsAny ring.segment ring.slots (x.placed 1 ∷ stages.closed ∷ stages.begun ∷ stages.done ∷ []) b × SameFront (content disk.reads 1) b) disk.now i
         → HoldsPlaced ring.segment ring.slots now (content i 1) → ShowsHistory (opening_of x) [] i
-    before_shown now order k i c held = waiting_shown x batch h.passed follow now
-        (subst (λ (n : ℕ). Retains n (pins_of x.table) (all_records (x.placed 1)) (all_records now)) h.is_its.seconds k.retains) i (stage_held now order k.pinned i c held)
+    before_shown now order k stays i c held = waiting_shown x batch h.passed follow now retained i (waiting_sound now order retained stays) (stage_held now order k.pinned i c held)
+      where
+        retained : Retains (window_of x.config 1) (pins_of x.table) (all_records (x.placed 1)) (all_records now)
+        retained = subst (λ (n : ℕ). Retains n (pins_of x.table) (all_records (x.placed 1)) (all_records now)) h.is_its.seconds k.retains
+
+    done_sound : AreSound (with_placed x (with_long_term x.placed stages.done))
+    done_sound = sound_level (with_placed x (with_long_term x.placed stages.done)) done_opened.level done_opened.order capsule_sound
+        (record {
+          regular = done.regular;
+          pins = done.pins_are;
+          unbroken = unbroken_held (window_of x.config 1) (all_records (x.placed 1) ++ batch) (all_records stages.done)
+              (follow_in_order (all_records (x.placed 1)) batch (in_order_records (x.placed 1) ready.order) follow) (in_order_records stages.done orders.2)
+              (subst (λ (n : ℕ). Retains n (pins_of x.table) (all_records (x.placed 1) ++ batch) (all_records stages.done)) h.is_its.seconds done.retains).window unbroken_with;
+        })
 
     -- At every moment they show what was opened.
     pub appending_shown : (new : Disk tells tells_images) → ChangesOnly 1 (HoldsAny ring.segment ring.slots (x.placed 1 ∷ stages.closed ∷ stages.begun ∷ stages.done ∷ [])) disk new
         → ChangesOnly 1 (SameFront (content disk.reads 1)) disk new → AtEachMoment disk new (ShowsHistory (opening_of x) [])
     appending_shown new slots front = moments_weaken disk new _ _ (changes_both 1 _ _ disk new slots front) (λ i c.
         any_of_four (λ ps. HoldsPlaced ring.segment ring.slots ps (content i 1)) (ShowsHistory (opening_of x) [] i) (x.placed 1) stages.closed stages.begun stages.done
-        (before_shown (x.placed 1) ready.order (placed_before _ _ _ _ _ _ _ _ _ (first_place x) ready stages are) i c)
-        (before_shown stages.closed orders.0 (closed_before _ _ _ _ _ _ _ _ _ (first_place x) ready stages are) i c)
-        (before_shown stages.begun orders.1 (begun_before _ _ _ _ _ _ _ _ _ (first_place x) ready stages are) i c)
-        (λ held. opened_shown x (with_long_term x.placed stages.done) i done_opened (stage_held stages.done orders.2 done.pinned i c held))
+        (before_shown (x.placed 1) ready.order (placed_before _ _ _ _ _ _ _ _ _ (first_place x) ready stages are) (placed_stays _ _ _ _ _ _ _ _ _ ready) i c)
+        (before_shown stages.closed orders.0 (closed_before _ _ _ _ _ _ _ _ _ (first_place x) ready stages are) (closed_stays _ _ _ _ _ _ _ _ _ (first_place x) ready stages are) i c)
+        (before_shown stages.begun orders.1 (begun_before _ _ _ _ _ _ _ _ _ (first_place x) ready stages are) (begun_stays _ _ _ _ _ _ _ _ _ (first_place x) ready stages are) i c)
+        (λ held. opened_shown x (with_long_term x.placed stages.done) i done_opened done_sound (stage_held stages.done orders.2 done.pinned i c held))
         c.has.0)

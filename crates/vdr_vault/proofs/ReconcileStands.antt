@@ -25,7 +25,8 @@ use Rattle.vdr_opening.specs.Media.{both, AreThere, Contents, HasFront, opening_
 use Rattle.vdr_opening.specs.Settings.{settings_of}
 use Rattle.vdr_opening.specs.Answers.{IsRingOf}
 use Rattle.vdr_vault.specs.Vaults.{AreRings, HoldsHistory, MembersState, Stands, of_stamp, ring_of, tick_utc}
-use Rattle.vdr_vault.specs.Regularity.{AreRegularMedia}
+use Rattle.vdr_durability.specs.Soundness.{IsUnbroken}
+use Rattle.vdr_vault.specs.Regularity.{AreSound}
 use Rattle.vdr_vault.proofs.ReconcileShown.{AreOpened}
 use Rattle.vdr_vault.proofs.ShownPlaces.{stamp_told}
 use Rattle.vdr_media.proofs.Two.{all_two}
@@ -54,7 +55,7 @@ module _ {tells tells_images : Type 0} where
     pub next : members.next_place ≡ next_after (last (all_records (placed 0)))
     pub last_is : members.last ≡ option_map tick_utc (last (all_records (placed 0)))
 
-  module _ (x : Contents) (members : MembersState) (placed : ℕ → List Placed) (disk : Disk tells tells_images) (regular : AreRegularMedia x) (opened : AreOpened x placed) (v : ReadsVault x members placed disk) where
+  module _ (x : Contents) (members : MembersState) (placed : ℕ → List Placed) (disk : Disk tells tells_images) (sound : AreSound x) (opened : AreOpened x placed) (v : ReadsVault x members placed disk) where
     abbrev given : ℕ → List Record
     given m = records_on (restored both (reading_of x)) m
 
@@ -64,8 +65,8 @@ module _ {tells tells_images : Type 0} where
     history : (m : ℕ) → IsRingOf members.config disk.sizes m (ring_of members m) → rings.Reads (ring_of members m) (placed m) disk → (tells → HasFront m x.config x.text (content disk.reads m)) → AreInOrder (given m)
         → Retains (window_of x.config m) (pins_on m x.table) (given m) (all_records (placed m))
         → AreRegular (cost (sizes_of x.config)) (usable (sizes_of x.config)) x.config.batch (placed m) → ArePinsOf (sizes_of x.config) m (all_records (placed m)) (pins_on m x.table)
-        → HoldsHistory (opening_of x) [] members.config m (ring_of members m) (placed m) disk
-    history m its reads front order retains segments pins = subst (λ (c : Configuration). HoldsHistory (opening_of x) [] c m (ring_of members m) (placed m) disk) (sym v.config) (record {
+        → IsUnbroken (window_of x.config m) (given m) → HoldsHistory (opening_of x) [] members.config m (ring_of members m) (placed m) disk
+    history m its reads front order retains segments pins unbroken = subst (λ (c : Configuration). HoldsHistory (opening_of x) [] c m (ring_of members m) (placed m) disk) (sym v.config) (record {
       is_its = subst (λ (c : Configuration). IsRingOf c disk.sizes m (ring_of members m)) v.config its;
       reads = reads;
       front = front;
@@ -73,6 +74,7 @@ module _ {tells tells_images : Type 0} where
       order = subst AreInOrder (sym (all_given m)) order;
       retains = subst (λ (rs : List Record). Retains (window_of x.config m) (pins_on m x.table) rs (all_records (placed m))) (sym (all_given m)) retains;
       pins = pins;
+      unbroken = subst (IsUnbroken (window_of x.config m)) (sym (all_given m)) unbroken;
     })
 
     ends : last (given 0) ≡ last (all_records (placed 0))
@@ -86,10 +88,10 @@ module _ {tells tells_images : Type 0} where
       settings = ap (λ (c : Configuration). settings_of c x.text) (sym v.config);
       working = v.working;
       media = all_two (λ m. HoldsHistory (opening_of x) [] members.config m (ring_of members m) (placed m) disk)
-          (history 0 (v.rings_are 0 0 (omega arith)) (v.reads 0 0 (omega arith)) (λ told. v.fronts told 0 0 (omega arith)) (regular 0 0 (omega arith)).order (opened.retains 0 0 (omega arith))
-          (opened.regular 0 0 (omega arith)) (opened.pins 0 0 (omega arith)))
-          (history 1 (v.rings_are 1 1 (omega arith)) (v.reads 1 1 (omega arith)) (λ told. v.fronts told 1 1 (omega arith)) (regular 1 1 (omega arith)).order (opened.retains 1 1 (omega arith))
-          (opened.regular 1 1 (omega arith)) (opened.pins 1 1 (omega arith)));
+          (history 0 (v.rings_are 0 0 (omega arith)) (v.reads 0 0 (omega arith)) (λ told. v.fronts told 0 0 (omega arith)) (sound.regular 0 0 (omega arith)).order (opened.retains 0 0 (omega arith))
+          (opened.regular 0 0 (omega arith)) (opened.pins 0 0 (omega arith)) (sound.unbroken 0 0 (omega arith)))
+          (history 1 (v.rings_are 1 1 (omega arith)) (v.reads 1 1 (omega arith)) (λ told. v.fronts told 1 1 (omega arith)) (sound.regular 1 1 (omega arith)).order (opened.retains 1 1 (omega arith))
+          (opened.regular 1 1 (omega arith)) (opened.pins 1 1 (omega arith)) (sound.unbroken 1 1 (omega arith)));
       level = opened.level;
       incidents_are = v.table;
       slots = ap length v.table ∙ v.slots ∙ ap (λ (c : Configuration). c.incident_slots) (sym v.config);

@@ -16,7 +16,8 @@ use Rattle.vdr_ring.specs.Lookup.{HoldAll}
 use Rattle.vdr_ring.specs.Order.{AreInOrder, AreInPlace, HasPlace}
 use Rattle.vdr_ring.specs.Sequence.{Placed, all_records, first_of, records_of}
 use Rattle.vdr_ring.proofs.Beginning.{any_left, any_right}
-use Rattle.vdr_vault.specs.Saves.{first_in_window, IsUnbroken}
+use Rattle.vdr_durability.specs.Soundness.{IsUnbroken}
+use Rattle.vdr_vault.specs.Saves.{first_in_window}
 use Rattle.vdr_vault.proofs.CommitPins.{any_one, record_at}
 
 -- No record has a greater place or tick than the last one.

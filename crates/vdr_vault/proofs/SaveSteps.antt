@@ -2,7 +2,7 @@
 use Rattle.std.proofs.Common.{◌≡◌, ◌-◌, ◌/◌, ℕ, ℤ, suc, List, option_map, Option, None, Some, Result, Ok, Err, OnOk, refl, sym, ap, ◌∙◌, subst, arith}
 use Rattle.std.specs.Prelude.{IfOk, IsErr, is_none, position}
 use Rattle.vdr_terms.specs.Records.{Record, last, second}
-use Rattle.vdr_history.specs.Histories.{Event, Incident, Opening, with_slot}
+use Rattle.vdr_history.specs.Histories.{Event, Incident, Opening, with_slot, Settings}
 use Rattle.vdr_durability.specs.Shown.{given_with}
 use Rattle.vdr_outside.specs.Disk.{Disk, SameBut, Unchanged, content}
 use Rattle.vdr_outside.specs.Moments.{ChangesOnly, Settled}
@@ -13,7 +13,9 @@ use Rattle.vdr_ring.specs.Sequence.{Placed, all_records}
 use Rattle.vdr_ring.specs.Order.{AreInOrder}
 use Rattle.vdr_ring.specs.Lookup.{HoldAll}
 use Rattle.vdr_ring.specs.Rings.{Reads, Tells}
-use Rattle.vdr_vault.specs.Saves.{IsUnbroken, Saves, first_in_window, save_refusal}
+use Rattle.vdr_durability.specs.Soundness.{IsUnbroken}
+use Rattle.vdr_durability.proofs.Unbroken.{unbroken_less}
+use Rattle.vdr_vault.specs.Saves.{Saves, first_in_window, save_refusal}
 use Rattle.vdr_vault.specs.Plays.{ReadsOn}
 use Rattle.vdr_vault.specs.Vaults.{MembersState, Stands}
 use Rattle.vdr_vault.specs.Walks.{HasRead}
@@ -75,10 +77,14 @@ module _ {tells tells_images : Type 0} where
 
     module _ (a : ℕ) (first : first_in_window members.config.incident_seconds (all_records (placed 1)) ≡ Some a) where
       -- Its save is legal and all its places are there, where none is skipped.
-      pub never_refused : tells → IsUnbroken members.config.incident_seconds (given_with opening events 1)
-          → IsNone members label a tick utc → ⊥
-      never_refused told unbroken none =
-          let reads = (may.stands.media 1 1 (omega arith)).reads in
+      pub never_refused : tells → IsNone members label a tick utc → ⊥
+      never_refused told none =
+          let long = may.stands.media 1 1 (omega arith) in
+          let window : opening.settings.seconds 1 ≡ members.config.long_seconds = ap (λ (s : Settings). s.seconds 1) may.stands.settings in
+          let high = may.legal.incident_high in
+          let unbroken : IsUnbroken members.config.incident_seconds (given_with opening events 1) =
+          unbroken_less members.config.incident_seconds (opening.settings.seconds 1) (given_with opening events 1) (omega (arith, high, window)) long.order long.unbroken in
+          let reads = long.reads in
           none (placed 1) reads.table reads.order (all_there opening events members placed disk may.stands may.legal label may.accepted tick utc may.stamped a first unbroken)
           (saved_legal opening events members placed disk may.stands may.legal label may.accepted tick utc may.stamped a first told)
 

@@ -30,7 +30,8 @@ use Rattle.vdr_ring.specs.Sequence.{Placed, all_records, batches_in}
 use Rattle.vdr_ring.specs.Lookup.{HoldAll}
 use Rattle.vdr_ring.proofs.Beginning.{legal_batches}
 use Rattle.vdr_ring.proofs.Medium.{in_order_records}
-use Rattle.vdr_vault.specs.Saves.{Does, IsUnbroken, Saves, first_in_window, refusal_from, save_refusal}
+use Rattle.vdr_durability.specs.Soundness.{IsUnbroken}
+use Rattle.vdr_vault.specs.Saves.{Does, Saves, first_in_window, refusal_from, save_refusal}
 use Rattle.vdr_vault.specs.Vaults.{HoldsHistory, MembersState, Stands, of_stamp, tick_utc}
 use Rattle.vdr_vault.specs.declared.refused.SaveRefused.{SaveRefused}
 use Rattle.vdr_vault.proofs.CommitReady.{one_end}

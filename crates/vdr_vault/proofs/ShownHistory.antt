@@ -3,7 +3,7 @@ use Rattle.std.proofs.Common.{◌≡◌, ℕ, ◌+◌, List, [], ◌∷◌, ◌+
 use Rattle.std.proofs.lemmas.List.Elements.{All-weaker}
 use Rattle.vdr_terms.specs.Order.{AreInOrder}
 use Rattle.vdr_terms.specs.Records.{Record}
-use Rattle.vdr_history.specs.Histories.{Event, Incident, Opening, all_records, incidents, last_stamp, next_place, recorded, records_of_act, stamp_of, table_after}
+use Rattle.vdr_history.specs.Histories.{Event, Incident, Opening, Settings, all_records, incidents, last_stamp, next_place, recorded, records_of_act, stamp_of, table_after}
 use Rattle.vdr_terms.specs.Records as terms
 use Rattle.vdr_retention.specs.Retention.{Retains}
 use Rattle.vdr_retention.specs.Victims.{ArePinsOf}
@@ -13,7 +13,7 @@ use Rattle.vdr_outside.specs.Disk.{Disk, Durable, Image, Unchanged, content}
 use Rattle.vdr_outside.specs.Parts.{part}
 use Rattle.vdr_outside.proofs.Moments.{settled_still, size_read}
 use Rattle.vdr_config.specs.Configuration.{Configuration}
-use Rattle.vdr_config.specs.Sizes.{sizes_of}
+use Rattle.vdr_config.specs.Sizes.{sizes_of, window_of}
 use Rattle.vdr_ring.specs.Sequence.{Placed}
 use Rattle.vdr_ring.specs.Sequence as sequence
 use Rattle.vdr_ring.specs.Rings.{RingState, HoldsPlaced}
@@ -22,7 +22,13 @@ use Rattle.vdr_incident.specs.Tables.{HoldsTable}
 use Rattle.vdr_opening.specs.Media.{both, HasFront, HoldsContents, IsMedium}
 use Rattle.vdr_opening.specs.Answers.{IsRingOf}
 use Rattle.vdr_vault.specs.Vaults.{MembersState, HoldsHistory, ShowsHistory, Stands, of_stamp, ring_of}
+use Rattle.vdr_durability.specs.Soundness.{IsUnbroken}
+use Rattle.vdr_vault.specs.Regularity.{AreSound}
 use Rattle.vdr_vault.proofs.ShownImages.{placed_there, shown_level}
+use Rattle.vdr_vault.proofs.Sounding.{IsSoundAlone, sound_level}
+use Rattle.vdr_durability.proofs.Unbroken.{unbroken_held}
+use Rattle.vdr_ring.specs.Order.{AreInOrder as InOrder}
+use Rattle.vdr_ring.proofs.Medium.{in_order_records}
 
 module _ {tells tells_images : Type 0} where
   module _ (opening : Opening) (events : List Event) (c : Configuration) (m : ℕ) (ring : RingState) (placed : List Placed) (disk : Disk tells tells_images) (h : HoldsHistory opening events c m ring placed disk) where
@@ -46,11 +52,31 @@ module _ {tells tells_images : Type 0} where
           };
         }
 
+  -- A medium at rest is sound by itself.
+  pub sound_alone : (opening : Opening) (events : List Event) (c : Configuration) (m : ℕ) (ring : RingState) (placed : List Placed) (table : List (Option Incident)) (disk : Disk tells tells_images)
+      → HoldsHistory opening events c m ring placed disk → opening.settings.seconds m ≡ window_of c m → table ≡ incidents opening events
+      → IsSoundAlone c m placed table (sequence.all_records placed)
+  sound_alone opening events c m ring placed table disk h window is = record {
+    regular = h.regular;
+    pins = subst (λ (t : List (Option Incident)). ArePinsOf (sizes_of c) m (sequence.all_records placed) (pins_on m t)) (sym is) h.pins;
+    unbroken = subst (λ (n : ℕ). IsUnbroken n (sequence.all_records placed)) window
+        (unbroken_held (opening.settings.seconds m) (given_with opening events m) (sequence.all_records placed) h.order (in_order_records placed h.reads.order) h.retains.window h.unbroken);
+  }
+
+  pub stands_sound : (opening : Opening) (events : List Event) (members : MembersState) (placed : ℕ → List Placed) (disk : Disk tells tells_images) → Stands opening events members placed disk
+      → AreSound (record { config = members.config; text = opening.settings.text; placed = placed; table = members.table })
+  stands_sound opening events members placed disk stands =
+      sound_level (record { config = members.config; text = opening.settings.text; placed = placed; table = members.table }) stands.level
+      (All-weaker (λ m. HoldsHistory opening events members.config m (ring_of members m) (placed m) disk) (λ m. InOrder (placed m)) (λ m h. h.reads.order) both stands.media)
+      (sound_alone opening events members.config 0 members.capsule (placed 0) members.table disk (stands.media 0 0 (omega arith)) (ap (λ (s : Settings). s.seconds 0) stands.settings) stands.incidents_are)
+      (sound_alone opening events members.config 1 members.long_term (placed 1) members.table disk (stands.media 1 1 (omega arith)) (ap (λ (s : Settings). s.seconds 1) stands.settings) stands.incidents_are)
+
   -- What a stop may leave of a vault at rest shows all its events.
   pub stand_shows : (opening : Opening) (events : List Event) (members : MembersState) (placed : ℕ → List Placed) (disk : Disk tells tells_images) → Stands opening events members placed disk
       → (image : Image) → disk.now image → ShowsHistory opening events image
   stand_shows opening events members placed disk stands image now =
-      shown_level opening events (record { config = members.config; text = opening.settings.text; placed = placed; table = members.table }) image holds refl stands.incidents_are stands.level
+      shown_level opening events (record { config = members.config; text = opening.settings.text; placed = placed; table = members.table }) image holds
+      (stands_sound opening events members placed disk stands) refl stands.incidents_are stands.level
       (All-weaker (λ m. HoldsHistory opening events members.config m (ring_of members m) (placed m) disk)
       (λ m. Retains (opening.settings.seconds m) (pins_on m (incidents opening events)) (given_with opening events m) (sequence.all_records (placed m))) (λ m h. h.retains) both stands.media)
     where
@@ -85,6 +111,7 @@ module _ {tells tells_images : Type 0} where
     order = h.order;
     retains = h.retains;
     pins = h.pins;
+    unbroken = h.unbroken;
   }
 
   pub stands_still : (opening : Opening) (events : List Event) (members : MembersState) (placed : ℕ → List Placed) (old new : Disk tells tells_images) → Unchanged old new
@@ -135,6 +162,7 @@ module _ (opening : Opening) (events : List Event) (e : Event) (none : records_o
       retains = subst (λ (all : List Record). Retains (opening.settings.seconds m) (pins_on m (incidents opening (events ++ e ∷ []))) all (sequence.all_records placed)) (sym (same_given m))
           (subst (λ (t : List (Option Incident)). Retains (opening.settings.seconds m) (pins_on m t) (all_records opening m events) (sequence.all_records placed)) (sym same_table) h.retains);
       pins = subst (λ (t : List (Option Incident)). ArePinsOf (sizes_of c) m (sequence.all_records placed) (pins_on m t)) (sym same_table) h.pins;
+      unbroken = subst (IsUnbroken (opening.settings.seconds m)) (sym (same_given m)) h.unbroken;
     }
 
     pub stands_silent : {tells tells_images : Type 0} (members : MembersState) (placed : ℕ → List Placed) (disk : Disk tells tells_images) → Stands opening events members placed disk → Stands opening (events ++ e ∷ []) members placed disk

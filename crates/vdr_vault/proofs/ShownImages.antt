@@ -24,6 +24,7 @@ use Rattle.vdr_ring.specs.Rings.{RingState, HoldsPlaced}
 use Rattle.vdr_ring.proofs.Medium.{in_order_records}
 use Rattle.vdr_opening.specs.Media.{both, Contents, HoldsContents, IsMedium, reading_of}
 use Rattle.vdr_opening.specs.Answers.{IsRingOf}
+use Rattle.vdr_vault.specs.Regularity.{AreSound}
 use Rattle.vdr_vault.specs.Vaults.{ShowsHistory}
 
 pub are_members : AreMembers both
@@ -49,7 +50,7 @@ records_are (p ∷ ps) =
 abbrev pub RetainsGiven : Opening → List Event → (given : ℕ → List Record) → (placed : ℕ → List Placed) → ℕ → Type 0
 RetainsGiven opening events given placed m = Retains (opening.settings.seconds m) (pins_on m (incidents opening events)) (given m) (all_records (placed m))
 
-module _ (opening : Opening) (events : List Event) (x : Contents) (image : Image) (holds : HoldsContents image x) (text : x.text ≡ opening.settings.text) (table : x.table ≡ incidents opening events) where
+module _ (opening : Opening) (events : List Event) (x : Contents) (image : Image) (holds : HoldsContents image x) (sound : AreSound x) (text : x.text ≡ opening.settings.text) (table : x.table ≡ incidents opening events) where
   read_retained : (given : ℕ → List Record) (m : ℕ) → RetainsGiven opening events given x.placed m
       → Retains (opening.settings.seconds m) (pins_on m (incidents opening events)) (given m) (segment_records (batches_in (x.placed m)))
   read_retained given m h = subst (Retains (opening.settings.seconds m) (pins_on m (incidents opening events)) (given m)) (sym (records_are (x.placed m))) h
@@ -59,7 +60,7 @@ module _ (opening : Opening) (events : List Event) (x : Contents) (image : Image
   shown_level level retained = (
     both,
     reading_of x,
-    record { members_are = refl; contents = x; holds = holds; is = refl },
+    record { reads = record { members_are = refl; contents = x; holds = holds; is = refl }; sound = sound },
     level_shows both opening events (reading_of x) are_members has_long_term text table level
         (All-weaker (λ m. IsMedium m x.config x.text (x.placed m) (content image m)) (λ m. RecordsAreInOrder (segment_records (batches_in (x.placed m))))
         (λ m h. subst RecordsAreInOrder (sym (records_are (x.placed m))) (in_order_records (x.placed m) h.segments.order)) both holds.media)
@@ -76,7 +77,7 @@ module _ (opening : Opening) (events : List Event) (x : Contents) (image : Image
   shown_passed e records taken given waiting is passed follow here there = (
     both,
     reading_of x,
-    record { members_are = refl; contents = x; holds = holds; is = refl },
+    record { reads = record { members_are = refl; contents = x; holds = holds; is = refl }; sound = sound },
     subst (λ (a : Act). Shows both opening (events ++ record { act = a; moment = e.moment } ∷ []) (reading_of x)) (sym is)
         (commit_shows both given waiting opening events records taken e.moment (reading_of x) are_members has_long_term text table passed follow
         (All-weaker (RetainsGiven opening events (λ m. all_given opening m events ++ records) x.placed) (λ m. Retains (opening.settings.seconds m) (pins_on m (incidents opening events)) (all_given opening m events ++ records) (segment_records (batches_in (x.placed m))))

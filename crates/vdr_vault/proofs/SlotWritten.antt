@@ -3,7 +3,7 @@ use Rattle.std.proofs.Common.{◌≡◌, ◌⊎◌, inl, inr, ⊎_elim, ◌<◌,
 use Rattle.std.proofs.lemmas.List.Elements.{All-weaker}
 use Rattle.vdr_terms.specs.Records.{Record, last}
 use Rattle.vdr_terms.specs.Order.{AreInOrder}
-use Rattle.vdr_history.specs.Histories.{Event, Incident, Opening, incidents, records_of_act}
+use Rattle.vdr_history.specs.Histories.{Event, Incident, Opening, Settings, incidents, records_of_act}
 use Rattle.vdr_retention.specs.Retention.{HoldsPlaces, Pin, Retains}
 use Rattle.vdr_retention.specs.Victims.{ArePinsOf}
 use Rattle.vdr_durability.specs.Keeping.{ShowsEither}
@@ -25,7 +25,11 @@ use Rattle.vdr_vault.specs.Vaults.{HoldsHistory, MembersState, ShowsHistory, Sta
 use Rattle.vdr_vault.proofs.BesideSlot.{front_beside, medium_beside, placed_beside, slot_beside}
 use Rattle.vdr_vault.proofs.CommitMoments.{zero_one}
 use Rattle.vdr_vault.proofs.CommitStands.{history_meanwhile}
-use Rattle.vdr_vault.proofs.ShownHistory.{durable_at, held_at, legible_at, same_given, same_next, same_stamp}
+use Rattle.vdr_vault.proofs.ShownHistory.{durable_at, held_at, legible_at, same_given, same_next, same_stamp, sound_alone, stands_sound}
+use Rattle.vdr_vault.proofs.Sounding.{IsSoundAlone, no_pins, sound_level}
+use Rattle.vdr_durability.specs.Soundness.{IsUnbroken}
+use Rattle.vdr_vault.specs.Regularity.{AreSound}
+use Rattle.vdr_ring.specs.Order.{AreInOrder as InOrder}
 use Rattle.vdr_vault.proofs.ShownImages.{RetainsGiven, shown_level}
 
 -- An event that records nothing and leaves this table, and what the long-term medium has of it.
@@ -59,6 +63,19 @@ module _ {tells tells_images : Type 0} (opening : Opening) (events : List Event)
   long_term_retains = subst (λ (p : List Record × List (Option Incident)). Retains (opening.settings.seconds 1) (pins_of p.1) p.0 (all_records (placed 1)))
       (λ i. (sym (same_given opening events e written.silent 1) i, sym written.table i)) (record { window = long_term.retains.window; places = written.places })
 
+  -- With the other table the media are as sound.
+  written_sound : AreSound (record { config = members.config; text = opening.settings.text; placed = placed; table = after })
+  written_sound = sound_level (record { config = members.config; text = opening.settings.text; placed = placed; table = after }) stands.level
+      (all_two (λ m. InOrder (placed m)) capsule.reads.order long_term.reads.order)
+      (record { regular = capsule.regular; pins = no_pins members.config (all_records (placed 0)); unbroken = alone_capsule.unbroken })
+      (record { regular = long_term.regular; pins = written.pins; unbroken = alone_long_term.unbroken })
+    where
+      alone_capsule : IsSoundAlone members.config 0 (placed 0) members.table (all_records (placed 0))
+      alone_capsule = sound_alone opening events members.config 0 members.capsule (placed 0) members.table old capsule (ap (λ (s : Settings). s.seconds 0) stands.settings) stands.incidents_are
+
+      alone_long_term : IsSoundAlone members.config 1 (placed 1) members.table (all_records (placed 1))
+      alone_long_term = sound_alone opening events members.config 1 members.long_term (placed 1) members.table old long_term (ap (λ (s : Settings). s.seconds 1) stands.settings) stands.incidents_are
+
   -- What an image holds of which the slot alone was written.
   module _ (slot : ℕ) (low : slot < 32) (P : List ℕ → Type 0) (i : Image) (changed : Changed 1 P old.now i) where
     told : tells
@@ -79,12 +96,14 @@ module _ {tells tells_images : Type 0} (opening : Opening) (events : List Event)
 
     pub shows_before : HoldsBeside slot members.config.incident_slots members.table (content old.reads 1) (content i 1) → ShowsHistory opening events i
     shows_before h =
-        shown_level opening events (record { config = members.config; text = opening.settings.text; placed = placed; table = members.table }) i (holds members.table stands.there h) refl
+        shown_level opening events (record { config = members.config; text = opening.settings.text; placed = placed; table = members.table }) i (holds members.table stands.there h)
+        (stands_sound opening events members placed old stands) refl
         stands.incidents_are stands.level (all_two (RetainsGiven opening events (given_with opening events) placed) capsule.retains long_term.retains)
 
     pub shows_after : HoldsBeside slot members.config.incident_slots after (content old.reads 1) (content i 1) → ShowsHistory opening with_event i
     shows_after h =
-        shown_level opening with_event (record { config = members.config; text = opening.settings.text; placed = placed; table = after }) i (holds after written.there h) refl
+        shown_level opening with_event (record { config = members.config; text = opening.settings.text; placed = placed; table = after }) i (holds after written.there h)
+        written_sound refl
         (sym written.table) stands.level (all_two (RetainsGiven opening with_event (given_with opening with_event) placed) capsule_retains long_term_retains)
 
   pub written_moments : (slot : ℕ) → slot < 32 → (new : Disk tells tells_images)
@@ -108,6 +127,7 @@ module _ {tells tells_images : Type 0} (opening : Opening) (events : List Event)
     order = subst AreInOrder (sym (same_given opening events e written.silent m)) h.order;
     retains = retains;
     pins = pins;
+    unbroken = subst (IsUnbroken (opening.settings.seconds m)) (sym (same_given opening events e written.silent m)) h.unbroken;
   }
 
   -- Once it is written.
@@ -138,6 +158,7 @@ module _ {tells tells_images : Type 0} (opening : Opening) (events : List Event)
       order = long_term.order;
       retains = long_term.retains;
       pins = long_term.pins;
+      unbroken = long_term.unbroken;
     }
 
     pub written_stands : Stands opening with_event (with_table members after) placed new

@@ -1,4 +1,4 @@
--- Regular contents of media: what a recorder leaves (this project's profile).
+-- Sound contents of media: what a recorder leaves (this project's profile).
 use Rattle.std.specs.Prelude.{◌≤◌, ℕ, All}
 use Rattle.vdr_terms.specs.Order.{AreInOrder}
 use Rattle.vdr_terms.specs.Needs.{cost, usable}
@@ -6,7 +6,8 @@ use Rattle.vdr_retention.specs.Layout.{batches_size_at}
 use Rattle.vdr_retention.specs.Victims.{ArePinsOf}
 use Rattle.vdr_durability.specs.Readings.{records_on, restored}
 use Rattle.vdr_durability.specs.Shown.{pins_on}
-use Rattle.vdr_config.specs.Sizes.{sizes_of}
+use Rattle.vdr_durability.specs.Soundness.{IsUnbroken}
+use Rattle.vdr_config.specs.Sizes.{sizes_of, window_of}
 use Rattle.vdr_ring.specs.Regularity.{AreRegular}
 use Rattle.vdr_opening.specs.Media.{both, Contents, reading_of}
 
@@ -20,3 +21,12 @@ pub record IsRegularMedium (x : Contents) (m : ℕ) : Type 0 where
 
 abbrev pub AreRegularMedia : Contents → Type 0
 AreRegularMedia x = All (IsRegularMedium x) both
+
+-- No place is skipped in the window of medium m, as it is restored.
+abbrev pub IsUnbrokenMedium : Contents → ℕ → Type 0
+IsUnbrokenMedium x m = IsUnbroken (window_of x.config m) (records_on (restored both (reading_of x)) m)
+
+-- What every image holds that a recorder may leave: regular media, in whose windows no place is skipped.
+pub record AreSound (x : Contents) : Type 0 where
+  pub regular : AreRegularMedia x
+  pub unbroken : All (IsUnbrokenMedium x) both

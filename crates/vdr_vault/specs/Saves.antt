@@ -2,7 +2,6 @@
 -- kept).
 use Rattle.std.specs.Prelude.{◌≡◌, ◌⊎◌, ◌∷◌, ◌++◌, ℕ, ℤ, Bool, true, false, List, [], get_or, sum, is_none, position, Option, Some, None, option_map, slice_get, Result, OnOk, IfOk, ⊤}
 use Rattle.vdr_terms.specs.Records.{Record, last, second}
-use Rattle.vdr_terms.specs.Order.{RunOn}
 use Rattle.vdr_terms.specs.Windows.{window}
 use Rattle.vdr_history.specs.Histories.{Event, Opening, MayCome}
 use Rattle.vdr_history.specs.Histories.Act.{Save}
@@ -42,10 +41,6 @@ save_refusal label members = refusal_from (is_label label) members.last (positio
 -- The place of the first record in the window of so many seconds.
 abbrev pub first_in_window : ℕ → List Record → Option ℕ
 first_in_window seconds records = option_map (λ r. r.place) (slice_get (window seconds records) 0)
-
--- No place is skipped in the window of so many seconds.
-abbrev pub IsUnbroken : ℕ → List Record → Type 0
-IsUnbroken seconds records = (place : ℕ) × RunOn place (window seconds records)
 
 -- No count of faults falls. A call was answered with a fault where a write had failed before, and else only where the count of
 -- medium m rose, and so the sum.

@@ -19,6 +19,8 @@ use Rattle.vdr_ring.specs.Rings as rings
 use Rattle.vdr_incident.specs.Tables.{HoldsTable}
 use Rattle.vdr_opening.specs.Settings.{settings_of}
 use Rattle.vdr_opening.specs.Media.{both, HasFront, AreThere, Reads}
+use Rattle.vdr_durability.specs.Soundness.{IsUnbroken}
+use Rattle.vdr_vault.specs.Regularity.{AreSound}
 use Rattle.vdr_opening.specs.Answers.{IsRingOf}
 
 -- A vault without its media: the configuration, a ring on each medium, the incidents, the next place with tick and utc of the
@@ -59,9 +61,14 @@ AreRings members sizes = All (λ m. IsRingOf members.config sizes m (ring_of mem
 abbrev pub reading_with : (text : List ℕ) (placed : ℕ → List Placed) (table : List (Option Incident)) → Reading
 reading_with text placed table = record { batches = λ m. batches_in (placed m); table = table; text = text }
 
--- The image is legible and shows these events.
+-- The image is legible as media of these numbers, reads so, and is sound.
+pub record ReadsSound (image : Image) (members : List ℕ) (reading : Reading) : Type 0 where
+  pub reads : Reads image members reading
+  pub sound : AreSound reads.contents
+
+-- The image is legible and sound, and shows these events.
 abbrev pub ShowsHistory : Opening → List Event → Image → Type 0
-ShowsHistory opening events image = ImageShows Reads opening events image
+ShowsHistory opening events image = ImageShows ReadsSound opening events image
 
 module _ {tells tells_images : Type 0} where
   -- Medium m has these segments, which are regular, and retains of all that it was given its window and the live incidents.
@@ -73,6 +80,7 @@ module _ {tells tells_images : Type 0} where
     pub order : AreInOrder (given_with opening events m)
     pub retains : Retains (opening.settings.seconds m) (pins_on m (incidents opening events)) (given_with opening events m) (all_records placed)
     pub pins : ArePinsOf (sizes_of c) m (all_records placed) (pins_on m (incidents opening events))
+    pub unbroken : IsUnbroken (opening.settings.seconds m) (given_with opening events m)
 
   -- A vault at rest after these events: nothing is unsynced, both media end with the last batch, and all that was recorded and
   -- saved stands on them as far as it is to be retained.

@@ -1,7 +1,11 @@
 ghost use Rattle.std.specs.Prelude.{◌≡◌, ◌∷◌, ◌++◌, ℕ, List, []};
 ghost use Rattle.vdr_history.specs.Histories.{Event, Opening, all_records, incidents, records_of_act, table_after};
+ghost use Rattle.vdr_durability.specs.Readings.{EndsMeet};
 ghost use Rattle.vdr_outside.specs.Disk.{Image, Unchanged};
+ghost use Rattle.vdr_config.specs.Configuration.{Configuration};
 ghost use Rattle.vdr_ring.specs.Sequence.{Placed};
+ghost use Rattle.vdr_opening.specs.Media.{Contents, HoldsContents, both, nothing_on, reading_of};
+ghost use Rattle.vdr_vault.specs.Regularity.{AreSound};
 ghost use Rattle.vdr_vault.specs.Vaults.{MembersState, ShowsHistory, Stands};
 
 use vdr_outside::Media;
@@ -16,4 +20,10 @@ pub fn law_of_vaults<M: Media>(old: &M, new: &M)
     ensures silent { (opening : Opening) (events : List Event) (e : Event) (members : MembersState) (placed : ℕ → List Placed) → records_of_act e.act ≡ []
         → table_after (all_records opening 1 events) (incidents opening events) e.act ≡ incidents opening events
         → Stands opening events members placed (M.disk new.now) → Stands opening (events ++ e ∷ []) members placed (M.disk new.now) }
+{}
+
+/// Media that were just formatted are sound. Soundness is a fact of an image: of what it holds, all is sound or nothing is.
+pub fn law_of_sound_media()
+    ensures empty { (c : Configuration) (text : List ℕ) → AreSound (nothing_on c text) }
+    ensures same { (image : Image) (x y : Contents) → HoldsContents image x → HoldsContents image y → EndsMeet both (reading_of x) × AreSound x → EndsMeet both (reading_of y) × AreSound y }
 {}

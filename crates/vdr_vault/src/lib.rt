@@ -14,6 +14,6 @@ mod refused;
 mod saving;
 
 pub use cursor::Cursor;
-pub use law::law_of_vaults;
+pub use law::{law_of_sound_media, law_of_vaults};
 pub use members::Members;
 pub use refused::SaveRefused;

@@ -11,7 +11,7 @@ ghost use Rattle.vdr_opening.specs.Refusals.{IsRefused};
 ghost use Rattle.vdr_opening.specs.Answers.{HasOpenCause, IsOpened};
 ghost use Rattle.vdr_opening.specs.declared.refused.OpenRefused.TheVariants.{Damaged, NotFormatted};
 ghost use Rattle.vdr_vault.specs.Vaults.{AreRings, ShowsHistory, Stands, of_stamp};
-ghost use Rattle.vdr_vault.specs.Regularity.{AreRegularMedia};
+ghost use Rattle.vdr_vault.specs.Regularity.{AreSound};
 ghost use Rattle.vdr_vault.specs.Calls.{SameElsewhere};
 ghost use Rattle.vdr_vault.specs.Openings.{GoesOnBehind, HasCauseOnBoth, LeavesAll, OpensAtEachMoment, Reconciles, opened_with};
 
@@ -41,7 +41,7 @@ impl Members {
         requires rings { AreRings self.old (M.disk media.old).sizes }
         requires works { self.old.failed ≡ false }
         requires fits { missing.now ≢ [] → 64 + batch_size missing.now + 1 ≤ self.old.config.segment }
-        ensures reconciled { (x : Contents) → M.tells → IsOpened (opened_with self.old missing.now) x (M.disk media.old) → AreRegularMedia x
+        ensures reconciled { (x : Contents) → M.tells → IsOpened (opened_with self.old missing.now) x (M.disk media.old) → AreSound x
             → GoesOnBehind x self.old → Reconciles x self.new (M.disk media.old) (M.disk media.new) result }
         ensures config { self.new.config ≡ self.old.config }
         ensures table { self.new.table ≡ self.old.table }
@@ -63,7 +63,7 @@ impl Members {
     fn open_synced<M: Media>(alloc: Global, media: &mut M) -> Result<Members, OpenRefused>
         requires two { 2 ≤ length (M.disk media.old).sizes }
         requires three { length (M.disk media.old).sizes ≤ 3 }
-        ensures opened { IfOk result (λ members. (x : Contents) → M.tells → All (λ m. Durable m (M.disk media.old)) both → HoldsContents (M.disk media.old).reads x → AreRegularMedia x
+        ensures opened { IfOk result (λ members. (x : Contents) → M.tells → All (λ m. Durable m (M.disk media.old)) both → HoldsContents (M.disk media.old).reads x → AreSound x
             → (placed : ℕ → List Placed) × Stands (opening_of x) [] members placed (M.disk media.new)) }
         ensures contents { IfOk result (λ members. M.tells → All (λ m. Durable m (M.disk media.old)) both
             → IsFormatted (M.disk media.old).reads × (x : Contents) × HoldsContents (M.disk media.old).reads x
@@ -71,13 +71,14 @@ impl Members {
             × (members.last ≡ option_map of_stamp (opening_of x).last)) }
         ensures works { IfOk result (λ members. members.failed ≡ false) }
         ensures rings { IfOk result (λ members. AreRings members (M.disk media.new).sizes) }
-        ensures moments { (x : Contents) → M.tells → All (λ m. Durable m (M.disk media.old)) both → HoldsContents (M.disk media.old).reads x → EndsMeet both (reading_of x) → AreRegularMedia x
+        ensures moments { (x : Contents) → M.tells → All (λ m. Durable m (M.disk media.old)) both → HoldsContents (M.disk media.old).reads x → EndsMeet both (reading_of x) → AreSound x
             → AtEachMoment (M.disk media.old) (M.disk media.new) (ShowsHistory (opening_of x) []) }
         ensures unformatted { result ≡ Err NotFormatted → M.tells → IsUnformatted (M.disk media.old).reads }
         ensures damaged { (m offset : ℕ) → result ≡ Err (Damaged m offset) → M.tells → All (λ k. Durable k (M.disk media.old)) both
             → IsFormatted (M.disk media.old).reads × IsRefused (M.disk media.old).reads m offset }
         ensures untouched { (result ≡ Err NotFormatted) ⊎ ((m : ℕ) × (offset : ℕ) × (result ≡ Err (Damaged m offset)))
             → Unchanged (M.disk media.old) (M.disk media.new) }
+        ensures blank { M.tells → IsUnformatted (M.disk media.old).reads → Unchanged (M.disk media.old) (M.disk media.new) }
         ensures others { M.tells → SameElsewhere (M.disk media.old).reads (M.disk media.new).reads }
         ensures sizes { (M.disk media.new).sizes ≡ (M.disk media.old).sizes }
         ensures cause { HasOpenCause (M.faults media.old) (M.faults media.new) result }
@@ -111,24 +112,26 @@ impl Members {
     /// `NotFormatted` and `Damaged` come exactly as `vdr_opening::read_media` says, and nothing was written. `Fault`: a call failed, and
     /// the count of faults of that medium rose.
     ///
-    /// Where the media are regular, a stop at each moment leaves what a stop before the call might have left, until the syncs have
-    /// succeeded; from then on media that show what was opened, with the batch that the long-term medium lacks.
+    /// Where the media are sound, a stop at each moment leaves what a stop before the call might have left, until the syncs have
+    /// succeeded; from then on media that show what was opened, with the batch that the long-term medium lacks. Of media that are not formatted it leaves what a stop before the call
+    /// might have left, whatever is answered.
     pub fn open<M: Media>(alloc: Global, media: &mut M) -> Result<Members, OpenRefused>
         requires two { 2 ≤ length (M.disk media.old).sizes }
         requires three { length (M.disk media.old).sizes ≤ 3 }
-        ensures opened { IfOk result (λ members. (x : Contents) → M.tells → HoldsContents (M.disk media.old).reads x → AreRegularMedia x
+        ensures opened { IfOk result (λ members. (x : Contents) → M.tells → HoldsContents (M.disk media.old).reads x → AreSound x
             → (placed : ℕ → List Placed) × Stands (opening_of x) [] members placed (M.disk media.new)) }
         ensures contents { IfOk result (λ members. M.tells → IsFormatted (M.disk media.old).reads × (x : Contents) × HoldsContents (M.disk media.old).reads x
             × EndsMeet both (reading_of x) × (members.config ≡ x.config) × (members.table ≡ x.table)
             × (members.last ≡ option_map of_stamp (opening_of x).last)) }
         ensures works { IfOk result (λ members. members.failed ≡ false) }
         ensures rings { IfOk result (λ members. AreRings members (M.disk media.new).sizes) }
-        ensures moments { (x : Contents) → M.tells → HoldsContents (M.disk media.old).reads x → EndsMeet both (reading_of x) → AreRegularMedia x
+        ensures moments { (x : Contents) → M.tells → HoldsContents (M.disk media.old).reads x → EndsMeet both (reading_of x) → AreSound x
             → OpensAtEachMoment (M.disk media.old) (M.disk media.new) result (ShowsHistory (opening_of x) []) }
         ensures unformatted { result ≡ Err NotFormatted → M.tells → IsUnformatted (M.disk media.old).reads }
         ensures damaged { (m offset : ℕ) → result ≡ Err (Damaged m offset) → M.tells → IsFormatted (M.disk media.old).reads × IsRefused (M.disk media.old).reads m offset }
         ensures untouched { (result ≡ Err NotFormatted) ⊎ ((m : ℕ) × (offset : ℕ) × (result ≡ Err (Damaged m offset)))
             → LeavesAll (M.disk media.old) (M.disk media.new) × (M.tells → (M.disk media.new).reads ≡ (M.disk media.old).reads) }
+        ensures blank { M.tells → IsUnformatted (M.disk media.old).reads → LeavesAll (M.disk media.old) (M.disk media.new) }
         ensures others { M.tells → SameElsewhere (M.disk media.old).reads (M.disk media.new).reads }
         ensures sizes { (M.disk media.new).sizes ≡ (M.disk media.old).sizes }
         ensures cause { HasOpenCause (M.faults media.old) (M.faults media.new) result }

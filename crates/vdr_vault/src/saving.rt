@@ -1,7 +1,7 @@
 // What is kept of an incident, and until when.
 ghost use Rattle.std.specs.Prelude.{◌≡◌, ◌≢◌, ◌⊎◌, ◌-◌, ◌≤◌, ℕ, ℤ, suc, List, length, is_none, position, option_map, IfOk, IfNone, IfSome, OnErr, OnOk, None, Some, Err, Ok, true, false, IsTrue};
 ghost use Rattle.vdr_terms.specs.Records.{Record, last, second};
-ghost use Rattle.vdr_history.specs.Histories.{Event, Incident, Opening, all_records as all_given, live, with_slot};
+ghost use Rattle.vdr_history.specs.Histories.{Event, Incident, Opening, live, with_slot};
 ghost use Rattle.vdr_history.specs.Histories.Act.{Release};
 ghost use Rattle.vdr_outside.specs.Disk.{SameBut, Unchanged};
 ghost use Rattle.vdr_config.specs.Configuration.{IsConfiguration};
@@ -15,7 +15,7 @@ ghost use Rattle.vdr_incident.specs.declared.refused.ReleaseRefused.TheVariants.
 ghost use Rattle.vdr_vault.specs.Vaults.{AreRings, Stands, of_stamp};
 ghost use Rattle.vdr_vault.specs.Walks.{HasRead};
 ghost use Rattle.vdr_vault.specs.Plays.{ReadsNoOther, ReadsOn};
-ghost use Rattle.vdr_vault.specs.Saves.{Does, HasFaultOn, IsUnbroken, Saves, first_in_window, save_refusal};
+ghost use Rattle.vdr_vault.specs.Saves.{Does, HasFaultOn, Saves, first_in_window, save_refusal};
 ghost use Rattle.vdr_vault.specs.declared.refused.SaveRefused.{SaveRefused as Refused};
 ghost use Rattle.vdr_vault.specs.declared.refused.SaveRefused.TheVariants.{Damaged, Fault as AFault, Label, Nothing, TableFull};
 
@@ -146,7 +146,7 @@ impl Members {
         ensures saves { (opening : Opening) (events : List Event) (placed : ℕ → List Placed) → M.tells → Stands opening events self.old placed (M.disk media.old)
             → Saves opening events label.now placed self.new (M.disk media.old) (M.disk media.new) result }
         ensures undamaged { (opening : Opening) (events : List Event) (placed : ℕ → List Placed) (m offset : ℕ) → M.tells → Stands opening events self.old placed (M.disk media.old)
-            → IsUnbroken self.old.config.incident_seconds (all_given opening 1 events) → result ≡ Err (Damaged m offset) → ⊥ }
+            → result ≡ Err (Damaged m offset) → ⊥ }
         ensures stands { (opening : Opening) (events : List Event) (placed : ℕ → List Placed) (m offset : ℕ) → M.tells → result ≡ Err (Damaged m offset)
             → Stands opening events self.old placed (M.disk media.old) → Stands opening events self.new placed (M.disk media.new) }
         ensures damaged { (m offset : ℕ) → result ≡ Err (Damaged m offset) → Unchanged (M.disk media.old) (M.disk media.new)
@@ -196,7 +196,7 @@ impl Members {
         ensures saves { (opening : Opening) (events : List Event) (placed : ℕ → List Placed) → M.tells → Stands opening events self.old placed (M.disk media.old)
             → save_refusal label.now self.old ≡ None → Saves opening events label.now placed self.new (M.disk media.old) (M.disk media.new) result }
         ensures undamaged { (opening : Opening) (events : List Event) (placed : ℕ → List Placed) (m offset : ℕ) → M.tells → Stands opening events self.old placed (M.disk media.old)
-            → IsUnbroken self.old.config.incident_seconds (all_given opening 1 events) → result ≡ Err (Damaged m offset) → ⊥ }
+            → result ≡ Err (Damaged m offset) → ⊥ }
         ensures stands { (opening : Opening) (events : List Event) (placed : ℕ → List Placed) (m offset : ℕ) → M.tells → result ≡ Err (Damaged m offset)
             → Stands opening events self.old placed (M.disk media.old) → Stands opening events self.new placed (M.disk media.new) }
         ensures damaged { (m offset : ℕ) → result ≡ Err (Damaged m offset) → Unchanged (M.disk media.old) (M.disk media.new)

@@ -1,7 +1,7 @@
-use Rattle.std.proofs.Common.{◌≡◌, ◌↔◌, ℕ, Bool, false, List, IsTrue, refl, sym, ◌∙◌, ap, subst}
+use Rattle.std.proofs.Common.{◌≡◌, ◌↔◌, Bool, false, List, Option, IsTrue, refl, sym, ◌∙◌, ap, subst}
 use Rattle.std.proofs.lemmas.Result.{err_from_is_err_and}
 use Rattle.vdr_terms.specs.Records.{Record}
-use Rattle.vdr_durability.specs.Readings.{begins_at}
+use Rattle.vdr_durability.specs.Readings.{comes_next}
 use Rattle.vdr_media.proofs.Two.{second_of}
 use Rattle.vdr_ring.proofs.Faults.{same_err}
 use Rattle.vdr_opening.specs.Answers.{IsMissing}
@@ -11,8 +11,8 @@ use Rattle.vdr_opening.proofs.Fronts.{named}
 use Rattle.vdr_opening.proofs.Meeting.{meet_level, meet_passed, off}
 use Rattle.vdr_opening.proofs.ends.missing_batch.Goals as goal
 
-begins_as : (place : ℕ) (lent batch : List Record) (follows : Bool) → lent ≡ batch → follows ≡ begins_at place lent → begins_at place batch ≡ follows
-begins_as place lent batch follows lent_is tested = ap (λ (l : List Record). begins_at place l) (sym lent_is) ∙ sym tested
+comes_as : (newest : Option Record) (lent batch : List Record) (follows : Bool) → lent ≡ batch → follows ≡ comes_next newest lent → comes_next newest batch ≡ follows
+comes_as newest lent batch follows lent_is tested = ap (λ (l : List Record). comes_next newest l) (sym lent_is) ∙ sym tested
 
 not_same : (a b x y : List Record) (same : Bool) → IsTrue same ↔ (a ≡ b) → same ≡ false → a ≡ x → b ≡ y → x ≡ y → ⊥
 not_same a b x y same tested differ a_is b_is is =
@@ -59,7 +59,7 @@ returns-then-not-follows-clause-damaged g c m offset e told first second on_caps
     let other_ends = c.in_ok-other.ensures.batch told second long_term_reads in
     let tells = (c.read_last_batch-2.ensures.reads second long_term_reads).table in
     let at = named _ _ _ _ _ refl e in
-    let elsewhere = begins_as _ _ _ _ c.deref-3.ensures.value (c.follows.ensures second tells) ∙ c.if-not-follows.true in
+    let elsewhere = comes_as _ _ _ _ c.deref-3.ensures.value (c.follows.ensures second tells) ∙ c.if-not-follows.true in
     (at.0, at.1, off reading first second first_is second_is _ _ ends other_ends (not_same _ _ _ _ _ c.same_records.ensures c.if-same_records.false c.deref.ensures.value c.deref-2.ensures.value) elsewhere)
 
 pub returns-clause-missing : goal.returns-clause-missing
@@ -68,7 +68,7 @@ returns-clause-missing g c told first second on_capsule on_long_term reading fir
     let long_term_reads = reads_still _ _ _ _ c.read_last_batch.ensures.unchanged on_long_term in
     let other_ends = c.in_ok-other.ensures.batch told second long_term_reads in
     let tells = (c.read_last_batch-2.ensures.reads second long_term_reads).table in
-    meet_passed reading first second first_is second_is _ _ ends other_ends (begins_as _ _ _ _ c.deref-3.ensures.value (c.follows.ensures second tells) ∙ c.if-not-follows.false)
+    meet_passed reading first second first_is second_is _ _ ends other_ends (comes_as _ _ _ _ c.deref-3.ensures.value (c.follows.ensures second tells) ∙ c.if-not-follows.false)
 
 pub returns-clause-reads_capsule : goal.returns-clause-reads_capsule
 returns-clause-reads_capsule g c placed reads = reads_still _ _ _ _ c.read_last_batch-2.ensures.unchanged (c.read_last_batch.ensures.reads placed reads)

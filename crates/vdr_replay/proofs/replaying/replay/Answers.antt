@@ -1,12 +1,14 @@
-use Rattle.std.proofs.Common.{[], ℕ, List, Option, Result, Err, sym, ap, ◌∙◌, subst}
+use Rattle.std.proofs.Common.{[], inl, ℕ, List, Option, Result, Err, sym, ap, ◌∙◌, subst}
 use Rattle.std.specs.Prelude.{sum}
 use Rattle.std.proofs.lemmas.Result.{err_from_is_err_and}
 use Rattle.vdr_outside.specs.Causes.{Rose}
 use Rattle.vdr_outside.proofs.Counts.{none_falls_join}
+use Rattle.vdr_outside.proofs.Moments.{moments_none}
 use Rattle.vdr_config.specs.Configuration.{Configuration, IsConfiguration}
 use Rattle.vdr_feed.specs.Reader.{Reading, begun_reading}
 use Rattle.vdr_opening.specs.Media.{opening_of}
 use Rattle.vdr_opening.specs.declared.refused.OpenRefused.{OpenRefused}
+use Rattle.vdr_vault.proofs.OpenMoments.{never_both}
 use Rattle.vdr_recorder.proofs.Opened.{meet_as}
 use Rattle.vdr_replay.specs.Answers.{Answers, IfOpened, IsLegible}
 use Rattle.vdr_replay.specs.Ran.{Runs}
@@ -14,7 +16,7 @@ use Rattle.vdr_replay.specs.Reading.{HasRead}
 use Rattle.vdr_replay.specs.declared.ended.Replayed.{Replayed}
 use Rattle.vdr_replay.specs.declared.ended.ReplayStop.{ReplayStop}
 use Rattle.vdr_replay.proofs.Causes.{replay_after, rose_joined, sum_of_rose}
-use Rattle.vdr_replay.proofs.Headlines.{answers, begun_nothing, passes_opened}
+use Rattle.vdr_replay.proofs.Headlines.{answers, begun_nothing, leaves, opened_leaves, passes_opened}
 use Rattle.vdr_replay.proofs.Opened.{admits_all, damaged_by, header_says, open_stops, opened_says, opening_says}
 use Rattle.vdr_replay.proofs.Passing.{passes_first}
 use Rattle.vdr_replay.proofs.Playing.{config_read}
@@ -22,12 +24,12 @@ use Rattle.vdr_replay.proofs.Reading.{read_first}
 use Rattle.vdr_replay.proofs.replaying.replay.Goals as goal
 
 pub returns-in_err-recording-clause-replayed : goal.returns-in_err-recording-clause-replayed
-returns-in_err-recording-clause-replayed g c = λ x bytes told holds regular known.
+returns-in_err-recording-clause-replayed g c = λ x bytes told holds sound known.
     let p = err_from_is_err_and c.from_residual-in_err-recording.result c.from_residual-in_err-recording.ensures.1 in
     let rose = Rose (sum (g.M.Media.faults c.args.media.now)) (sum (g.M.Media.faults c.open.new.media)) in
     subst (Answers x bytes rose (g.M.Media.disk c.args.media.now) (g.M.Media.disk c.open.new.media)) (sym (p.1 ∙ ap (λ (stop : ReplayStop). Err stop) p.2))
-    (open_stops x bytes rose (config_read (g.M.Media.disk c.args.media.now).reads x holds) regular (g.M.Media.disk c.args.media.now) (g.M.Media.disk c.open.new.media) c.open.result
-    c.in_err-recording.field-0.0 c.in_err-recording.was (λ either. (c.open.ensures.untouched either).0) (λ meet. c.open.ensures.moments x told holds meet regular))
+    (open_stops x bytes rose (config_read (g.M.Media.disk c.args.media.now).reads x holds) sound (g.M.Media.disk c.args.media.now) (g.M.Media.disk c.open.new.media) c.open.result
+    c.in_err-recording.field-0.0 c.in_err-recording.was (λ either. (c.open.ensures.untouched either).0) (λ meet. c.open.ensures.moments x told holds meet sound))
 
 pub returns-in_err-recording-clause-damaged : goal.returns-in_err-recording-clause-damaged
 returns-in_err-recording-clause-damaged g c = λ m offset is.
@@ -36,32 +38,65 @@ returns-in_err-recording-clause-damaged g c = λ m offset is.
     ∙ ap (λ (e : OpenRefused). Err e) (damaged_by c.in_err-recording.field-0.0 m offset (sym (p.1 ∙ ap (λ (stop : ReplayStop). Err stop) p.2) ∙ is)))
 
 pub returns-in_err-lanes-clause-replayed : goal.returns-in_err-lanes-clause-replayed
-returns-in_err-lanes-clause-replayed g c = λ x bytes told holds regular known.
+returns-in_err-lanes-clause-replayed g c = λ x bytes told holds sound known.
     let p = err_from_is_err_and c.from_residual-in_err-lanes.result c.from_residual-in_err-lanes.ensures.1 in
     let rose = Rose (sum (g.M.Media.faults c.args.media.now)) (sum (g.M.Media.faults c.open.new.media)) in
     let reads = config_read (g.M.Media.disk c.args.media.now).reads x holds in
-    let opened = c.in_ok-recording.ensures.opened x told holds regular in
+    let opened = c.in_ok-recording.ensures.opened x told holds sound in
     subst (Answers x bytes rose (g.M.Media.disk c.args.media.now) (g.M.Media.disk c.open.new.media)) (sym (p.1 ∙ ap (λ (stop : ReplayStop). Err stop) p.2))
-    (λ meet. begun_nothing x bytes rose reads regular opened.0 c.in_ok-recording.recording c.in_ok-recording.recording (g.M.Media.disk c.args.media.now) (g.M.Media.disk c.open.new.media) (g.M.Media.disk c.open.new.media) opened.3
-    (passes_opened x bytes rose reads regular (g.M.Media.disk c.args.media.now) (g.M.Media.disk c.open.new.media) c.in_ok-recording.recording (c.in_ok-recording.ensures.moments x told holds meet regular))
+    (λ meet. begun_nothing x bytes rose reads sound opened.0 c.in_ok-recording.recording c.in_ok-recording.recording (g.M.Media.disk c.args.media.now) (g.M.Media.disk c.open.new.media) (g.M.Media.disk c.open.new.media) opened.3
+    (passes_opened x bytes rose reads sound (g.M.Media.disk c.args.media.now) (g.M.Media.disk c.open.new.media) c.in_ok-recording.recording (c.in_ok-recording.ensures.moments x told holds meet sound))
     opened.1 opened.2 opened.3 (passes_first (opening_of x) [] (g.M.Media.disk c.open.new.media)))
 
 pub returns-clause-replayed : goal.returns-clause-replayed
-returns-clause-replayed g c = λ x bytes told holds regular known.
+returns-clause-replayed g c = λ x bytes told holds sound known.
     let rose = Rose (sum (g.M.Media.faults c.args.media.now)) (sum (g.M.Media.faults c.record_run.new.media)) in
     let reads = config_read (g.M.Media.disk c.args.media.now).reads x holds in
-    let opened = c.in_ok-recording.ensures.opened x told holds regular in
+    let opened = c.in_ok-recording.ensures.opened x told holds sound in
     let was = c.in_ok-recording.ensures.contents told in
     let meet = meet_as was.1 x (c.law_of_contents.ensures.placed (g.M.Media.disk c.args.media.now).reads was.1 x was.2 holds) was.3 in
     let same = was.4 ∙ (c.law_of_contents.ensures.config (g.M.Media.disk c.args.media.now).reads was.1 x was.2 holds).0 in
     let begins = subst (λ (first : Option (List ℕ)). HasRead first (g.I.Source.left c.header.new.input) c.header.new.self []) known
     (read_first _ _ _ c.in_ok-header.ensures.bytes (c.in_ok-header.ensures.ready ∙ ap (λ (r : Reading). begun_reading r.limit) c.new-reader.ensures)) in
-    answers x bytes rose reads regular opened.0 c.in_ok-recording.recording c.record_run.new.recording (g.M.Media.disk c.args.media.now) (g.M.Media.disk c.open.new.media) (g.M.Media.disk c.record_run.new.media) opened.3
-    (passes_opened x bytes rose reads regular (g.M.Media.disk c.args.media.now) (g.M.Media.disk c.open.new.media) c.in_ok-recording.recording (c.in_ok-recording.ensures.moments x told holds meet regular))
-    opened.1 opened.2 (g.I.Source.left c.header.new.input) c.header.new.self begins (admits_all x.config (subst IsConfiguration (c.config.ensures ∙ same) c.new.ensures.legal)) c.record_run.result
+    answers x bytes rose reads sound opened.0 c.in_ok-recording.recording c.record_run.new.recording (g.M.Media.disk c.args.media.now) (g.M.Media.disk c.open.new.media) (g.M.Media.disk c.record_run.new.media) opened.3
+    (passes_opened x bytes rose reads sound (g.M.Media.disk c.args.media.now) (g.M.Media.disk c.open.new.media) c.in_ok-recording.recording (c.in_ok-recording.ensures.moments x told holds meet sound))
+    opened.1 opened.2 (g.I.Source.left c.header.new.input) c.header.new.self (admits_all x.config (subst IsConfiguration (c.config.ensures ∙ same) c.new.ensures.legal)) begins c.record_run.result
     (λ is. sum_of_rose _ _ (none_falls_join _ _ _ c.open.ensures.cause.later c.record_run.ensures.cause.later) (rose_joined _ _ _ c.open.ensures.cause.later (c.record_run.ensures.cause.by_medium is)))
     (subst (λ (config : Configuration). Runs (opening_of x) opened.0 (g.I.Source.left c.header.new.input) c.header.new.self config.groups c.record_run.new.recording (g.M.Media.disk c.open.new.media) (g.M.Media.disk c.record_run.new.media) c.record_run.result) same
     (c.record_run.ensures.ran (opening_of x) opened.0 told opened.3))
+
+pub returns-in_err-header-clause-left : goal.returns-in_err-header-clause-left
+returns-in_err-header-clause-left g c = λ x told holds meet sound. inl (moments_none (g.M.Media.disk c.args.media.now) (λ i. (g.M.Media.disk c.args.media.now).now i) (λ i now. now))
+
+pub returns-in_err-recording-clause-left : goal.returns-in_err-recording-clause-left
+returns-in_err-recording-clause-left g c = λ x told holds meet sound.
+    let rose = Rose (sum (g.M.Media.faults c.args.media.now)) (sum (g.M.Media.faults c.open.new.media)) in
+    opened_leaves x [] rose (config_read (g.M.Media.disk c.args.media.now).reads x holds) sound (g.M.Media.disk c.args.media.now) (g.M.Media.disk c.open.new.media) c.open.result (c.open.ensures.moments x told holds meet sound)
+
+pub returns-in_err-lanes-clause-left : goal.returns-in_err-lanes-clause-left
+returns-in_err-lanes-clause-left g c = λ x told holds meet sound.
+    let rose = Rose (sum (g.M.Media.faults c.args.media.now)) (sum (g.M.Media.faults c.open.new.media)) in
+    opened_leaves x [] rose (config_read (g.M.Media.disk c.args.media.now).reads x holds) sound (g.M.Media.disk c.args.media.now) (g.M.Media.disk c.open.new.media) c.open.result (c.open.ensures.moments x told holds meet sound)
+
+pub returns-clause-left : goal.returns-clause-left
+returns-clause-left g c = λ x told holds meet sound.
+    let rose = Rose (sum (g.M.Media.faults c.args.media.now)) (sum (g.M.Media.faults c.record_run.new.media)) in
+    let reads = config_read (g.M.Media.disk c.args.media.now).reads x holds in
+    let opened = c.in_ok-recording.ensures.opened x told holds sound in
+    let was = c.in_ok-recording.ensures.contents told in
+    let same = was.4 ∙ (c.law_of_contents.ensures.config (g.M.Media.disk c.args.media.now).reads was.1 x was.2 holds).0 in
+    leaves x [] rose reads sound opened.0 c.in_ok-recording.recording c.record_run.new.recording (g.M.Media.disk c.args.media.now) (g.M.Media.disk c.open.new.media) (g.M.Media.disk c.record_run.new.media) opened.3
+    (passes_opened x [] rose reads sound (g.M.Media.disk c.args.media.now) (g.M.Media.disk c.open.new.media) c.in_ok-recording.recording (c.in_ok-recording.ensures.moments x told holds meet sound))
+    opened.1 opened.2 (g.I.Source.left c.header.new.input) c.header.new.self (admits_all x.config (subst IsConfiguration (c.config.ensures ∙ same) c.new.ensures.legal)) c.record_run.result
+    (λ is. sum_of_rose _ _ (none_falls_join _ _ _ c.open.ensures.cause.later c.record_run.ensures.cause.later) (rose_joined _ _ _ c.open.ensures.cause.later (c.record_run.ensures.cause.by_medium is)))
+    (subst (λ (config : Configuration). Runs (opening_of x) opened.0 (g.I.Source.left c.header.new.input) c.header.new.self config.groups c.record_run.new.recording (g.M.Media.disk c.open.new.media) (g.M.Media.disk c.record_run.new.media) c.record_run.result) same
+    (c.record_run.ensures.ran (opening_of x) opened.0 told opened.3))
+
+pub returns-in_err-header-clause-blank : goal.returns-in_err-header-clause-blank
+returns-in_err-header-clause-blank g c told un = moments_none (g.M.Media.disk c.args.media.now) (λ i. (g.M.Media.disk c.args.media.now).now i) (λ i now. now)
+
+pub returns-clause-blank : goal.returns-clause-blank
+returns-clause-blank g c told un = absurd (never_both (g.M.Media.disk c.args.media.now).reads (c.in_ok-recording.ensures.contents told).0 un)
 
 pub returns-clause-cause : goal.returns-clause-cause
 returns-clause-cause g c = replay_after _ _ _ c.record_run.result c.open.ensures.cause.later c.record_run.ensures.cause

@@ -31,5 +31,5 @@ returns-clause-met_damage g c = rw (sym c.self.view_is) (λ opening events t0 m 
     (λ placed stands. c.save.ensures.stands opening events placed m offset told damage stands))
 
 pub returns-clause-undamaged : goal.returns-clause-undamaged
-returns-clause-undamaged g c = rw (sym c.self.view_is) (λ opening events placed m offset told stands unbroken damage.
-    c.save.ensures.undamaged opening events placed m offset told stands unbroken damage)
+returns-clause-undamaged g c = rw (sym c.self.view_is) (λ opening events placed m offset told stands damage.
+    c.save.ensures.undamaged opening events placed m offset told stands damage)

@@ -1,21 +1,22 @@
 use Rattle.std.proofs.Common.{◌≡◌, ℕ, List, [], All, inr, sym, subst}
 use Rattle.std.proofs.lemmas.Result.{IfOk-weaker}
 use Rattle.vdr_outside.specs.Disk.{Durable, Image}
-use Rattle.vdr_media.specs.Formatted.{IsFormatted}
+use Rattle.vdr_outside.proofs.Moments.{moments_and_reads}
+use Rattle.vdr_media.specs.Formatted.{IsFormatted, IsUnformatted}
 use Rattle.vdr_ring.specs.Sequence.{Placed}
 use Rattle.vdr_opening.specs.Media.{both, Contents, HoldsContents, opening_of}
 use Rattle.vdr_opening.specs.Refusals.{IsRefused}
 use Rattle.vdr_vault.specs.Vaults.{ShowsHistory, Stands}
-use Rattle.vdr_vault.specs.Regularity.{AreRegularMedia}
+use Rattle.vdr_vault.specs.Regularity.{AreSound}
 use Rattle.vdr_vault.proofs.OpenCauses.{cause_after}
 use Rattle.vdr_vault.proofs.OpenMoments.{goes_on_synced}
 use Rattle.vdr_vault.proofs.members.Members.open.Goals as goal
 
 pub returns-clause-opened : goal.returns-clause-opened
 returns-clause-opened g c = IfOk-weaker c.open_synced.result
-    (λ members. (x : Contents) → g.M.Media.tells → All (λ m. Durable m (g.M.Media.disk c.sync_both.new.media)) both → HoldsContents (g.M.Media.disk c.sync_both.new.media).reads x → AreRegularMedia x
+    (λ members. (x : Contents) → g.M.Media.tells → All (λ m. Durable m (g.M.Media.disk c.sync_both.new.media)) both → HoldsContents (g.M.Media.disk c.sync_both.new.media).reads x → AreSound x
     → (placed : ℕ → List Placed) × Stands (opening_of x) [] members placed (g.M.Media.disk c.open_synced.new.media))
-    (λ members. (x : Contents) → g.M.Media.tells → HoldsContents (g.M.Media.disk c.args.media.now).reads x → AreRegularMedia x
+    (λ members. (x : Contents) → g.M.Media.tells → HoldsContents (g.M.Media.disk c.args.media.now).reads x → AreSound x
     → (placed : ℕ → List Placed) × Stands (opening_of x) [] members placed (g.M.Media.disk c.open_synced.new.media))
     (λ members h x told holds regular. h x told c.in-Ok.ensures.durable (subst (λ (i : Image). HoldsContents i x) (sym (c.sync_both.ensures.reads told)) holds) regular)
     c.open_synced.ensures.opened
@@ -23,6 +24,10 @@ returns-clause-opened g c = IfOk-weaker c.open_synced.result
 pub returns-clause-moments : goal.returns-clause-moments
 returns-clause-moments g c x told holds meet regular = inr (goes_on_synced (ShowsHistory (opening_of x) []) (g.M.Media.disk c.args.media.now) (g.M.Media.disk c.sync_both.new.media) (g.M.Media.disk c.open_synced.new.media)
     c.sync_both.ensures.moments (c.open_synced.ensures.moments x told c.in-Ok.ensures.durable (subst (λ (i : Image). HoldsContents i x) (sym (c.sync_both.ensures.reads told)) holds) meet regular))
+
+pub returns-clause-blank : goal.returns-clause-blank
+returns-clause-blank g c told un = moments_and_reads (g.M.Media.disk c.args.media.now) (g.M.Media.disk c.sync_both.new.media) (g.M.Media.disk c.open_synced.new.media) (λ i. (g.M.Media.disk c.args.media.now).now i)
+    c.sync_both.ensures.moments (c.open_synced.ensures.blank told (subst IsUnformatted (sym (c.sync_both.ensures.reads told)) un))
 
 pub returns-clause-damaged : goal.returns-clause-damaged
 returns-clause-damaged g c m offset is told =

@@ -3,14 +3,14 @@ use Rattle.std.proofs.lemmas.Result.{err_from_is_err_and}
 use Rattle.vdr_outside.proofs.Moments.{moments_after_reads}
 use Rattle.vdr_vault.proofs.OpenCauses.{fault_unless_ok, no_fault}
 use Rattle.vdr_vault.proofs.OpenContents.{newest_opened}
-use Rattle.vdr_vault.proofs.OpenMoments.{goes_on, read_on, reading_shown, same_elsewhere}
+use Rattle.vdr_vault.proofs.OpenMoments.{goes_on, never_both, read_on, reading_shown, same_elsewhere}
 use Rattle.vdr_ring.proofs.Faults.{same_err}
 use Rattle.vdr_media.proofs.Two.{second_of}
 use Rattle.vdr_outside.proofs.Counts.{none_falls_join}
 use Rattle.vdr_vault.proofs.members.Members.open_synced.Goals as goal
 
 pub returns-in_err-config-clause-moments : goal.returns-in_err-config-clause-moments
-returns-in_err-config-clause-moments g c x told durable holds meet regular = reading_shown x (g.M.Media.disk c.args.media.now) (g.M.Media.disk c.read_media.new.media) c.read_media.ensures.unchanged durable holds meet
+returns-in_err-config-clause-moments g c x told durable holds meet regular = reading_shown x (g.M.Media.disk c.args.media.now) (g.M.Media.disk c.read_media.new.media) c.read_media.ensures.unchanged durable holds meet regular
 
 pub returns-in_err-config-clause-damaged : goal.returns-in_err-config-clause-damaged
 returns-in_err-config-clause-damaged g c =
@@ -22,6 +22,9 @@ returns-in_default-clause-moments g c x told durable holds meet regular =
     let was = rw (sym c.config.view_is) at c.in_ok-config.ensures.opened told durable in
     let o = read_on _ c.deref.result.now x was.0 (g.M.Media.disk c.args.media.now) (g.M.Media.disk c.read_media.new.media) told c.read_media.ensures.unchanged c.deref.ensures.value holds was.1 in
     moments_after_reads _ (g.M.Media.disk c.read_media.new.media) (g.M.Media.disk c.reconcile.new.media) _ c.read_media.ensures.unchanged (c.reconcile.ensures.reconciled x told o regular (goes_on x _ _ (g.M.Media.disk c.read_media.new.media) told o c.ending-next_place.ensures.next_place c.ending-next_place.ensures.last)).moments
+
+pub returns-in_default-clause-blank : goal.returns-in_default-clause-blank
+returns-in_default-clause-blank g c told un = absurd (never_both _ (c.in_ok-config.ensures.formatted told) un)
 
 pub returns-in_default-clause-others : goal.returns-in_default-clause-others
 returns-in_default-clause-others g c told = same_elsewhere _ _ _ (c.read_media.ensures.unchanged.reads told) (c.reconcile.ensures.others told)
@@ -50,6 +53,9 @@ returns-clause-moments g c x told durable holds meet regular =
     let was = rw (sym c.config.view_is) at c.in_ok-config.ensures.opened told durable in
     let o = read_on _ c.deref.result.now x was.0 (g.M.Media.disk c.args.media.now) (g.M.Media.disk c.read_media.new.media) told c.read_media.ensures.unchanged c.deref.ensures.value holds was.1 in
     moments_after_reads _ (g.M.Media.disk c.read_media.new.media) (g.M.Media.disk c.reconcile.new.media) _ c.read_media.ensures.unchanged (c.reconcile.ensures.reconciled x told o regular (goes_on x _ _ (g.M.Media.disk c.read_media.new.media) told o c.ending-next_place.ensures.next_place c.ending-next_place.ensures.last)).moments
+
+pub returns-clause-blank : goal.returns-clause-blank
+returns-clause-blank g c told un = absurd (never_both _ (c.in_ok-config.ensures.formatted told) un)
 
 pub returns-clause-cause : goal.returns-clause-cause
 returns-clause-cause g c = no_fault _ _ _ (none_falls_join _ _ _ c.read_media.ensures.cause.later c.reconcile.ensures.cause.later)

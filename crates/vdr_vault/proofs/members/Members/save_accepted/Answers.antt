@@ -4,8 +4,7 @@ use Rattle.std.proofs.lemmas.Int.{ints, to_z-of_z}
 use mir.Val.{SFits}
 use Rattle.vdr_ring.specs.Sequence.{Placed, all_records}
 use Rattle.vdr_vault.specs.Vaults.{MembersState}
-use Rattle.vdr_durability.specs.Shown.{given_with}
-use Rattle.vdr_vault.specs.Saves.{IsUnbroken, first_in_window}
+use Rattle.vdr_vault.specs.Saves.{first_in_window}
 use Rattle.vdr_vault.specs.declared.refused.SaveRefused.{SaveRefused}
 use Rattle.vdr_vault.specs.declared.refused.SaveRefused.TheVariants.{Damaged}
 use Rattle.vdr_vault.proofs.Saved.{after_reading}
@@ -20,7 +19,7 @@ returns-in_err-a-clause-saves g c opening events placed told stands =
     c.first_of_incident.ensures.read.unchanged
 
 pub returns-in_err-a-clause-undamaged : goal.returns-in_err-a-clause-undamaged
-returns-in_err-a-clause-undamaged g c opening events placed m offset told stands unbroken is =
+returns-in_err-a-clause-undamaged g c opening events placed m offset told stands is =
     let p = err_from_is_err_and c.from_residual.result c.from_residual.ensures.1 in
     by_newest opening events c.args.self.now placed (g.M.Media.disk c.args.media.now) c.args.label.now c.args.tick c.args.utc
     (record { stands = stands; legal = c.law_of_limits.ensures; accepted = c.requires.accepted; stamped = c.requires.newest })
@@ -34,7 +33,7 @@ returns-in_default-clause-saves g c opening events placed told stands =
     c.first_of_incident.ensures.read.unchanged
 
 pub returns-in_default-clause-undamaged : goal.returns-in_default-clause-undamaged
-returns-in_default-clause-undamaged g c opening events placed m offset told stands unbroken is =
+returns-in_default-clause-undamaged g c opening events placed m offset told stands is =
     let fits : SFits w64 c.args.utc = omega (arith, ints, c.ranges.utc.sfits) in
     let mid = g.M.Media.disk c.first_of_incident.new.media in
     let before : MaySave opening events c.args.self.now placed (g.M.Media.disk c.args.media.now) c.args.label.now c.args.tick c.args.utc =
@@ -45,7 +44,7 @@ returns-in_default-clause-undamaged g c opening events placed m offset told stan
     c.first_of_incident.ensures.members c.first_of_incident.ensures.read before in
     let seconds = ap (λ (s : MembersState). s.config.incident_seconds) c.self.view_is ∙ seconds_still c.args.self.now c.first_of_incident.new.self c.first_of_incident.ensures.members in
     never_refused opening events _ placed mid c.args.label.now c.args.tick c.args.utc (subst (λ (s : MembersState). MaySave opening events s placed mid c.args.label.now c.args.tick c.args.utc) (sym c.self.view_is) now)
-    c.in_ok-a.a (ap (λ (n : ℕ). first_in_window n (all_records (placed 1))) seconds ∙ first) told (subst (λ (n : ℕ). IsUnbroken n (given_with opening events 1)) (sym seconds) unbroken)
+    c.in_ok-a.a (ap (λ (n : ℕ). first_in_window n (all_records (placed 1))) seconds ∙ first) told
     (subst (λ (p : MembersState × ℤ). IsNone p.0 c.args.label.now c.in_ok-a.a c.args.tick p.1) (λ i. (sym c.self.view_is i, to_z-of_z w64 c.args.utc fits i)) c.in_default.ensures.none)
 
 pub returns-in_err-save-clause-cause : goal.returns-in_err-save-clause-cause
