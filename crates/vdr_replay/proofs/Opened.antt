@@ -19,7 +19,8 @@ use Rattle.vdr_vault.specs.Regularity.{AreSound}
 use Rattle.vdr_vault.specs.Vaults.{ShowsHistory}
 use Rattle.vdr_feed.specs.declared.fault.FeedFault.{FeedFault}
 use Rattle.vdr_feed.specs.declared.fault.FeedFault.TheVariants as faults
-use Rattle.vdr_replay.specs.Answers.{Answers, IfOpened}
+use Rattle.vdr_replay.specs.Answers.{Answers, EndsAtHeader, IfOpened, RefusesMedia}
+use Rattle.vdr_replay.specs.Ran.{StopsIn}
 use Rattle.vdr_replay.specs.Stops.{stop_by_feed, stop_by_opening}
 use Rattle.vdr_replay.specs.declared.ended.Replayed.{Replayed}
 use Rattle.vdr_replay.specs.declared.ended.ReplayStop.{ReplayStop}
@@ -80,3 +81,44 @@ opening_says refusals.NoMemory P = tt
 opening_says refusals.NotFormatted P = tt
 opening_says (refusals.Damaged m offset) P = tt
 opening_says refusals.Fault P = tt
+
+-- Of the header's refusal the media know nothing, and of theirs the header.
+pub header_of_feed : {P : Type 0} (fault : FeedFault) → RefusesMedia (Err (stop_by_feed fault)) → P
+header_of_feed faults.Fault refuses = absurd refuses
+header_of_feed (faults.Refused number offset) refuses = absurd refuses
+
+pub not_at_header : {P : Type 0} (e : OpenRefused) → EndsAtHeader (Err (stop_by_opening e)) → P
+not_at_header refusals.NoMemory ends = absurd ends
+not_at_header refusals.NotFormatted ends = absurd ends
+not_at_header (refusals.Damaged m offset) ends = absurd ends
+not_at_header refusals.Fault ends = absurd ends
+
+pub refused_media : {T : Type 0} (result : Result T OpenRefused) (e : OpenRefused) → result ≡ Err e → RefusesMedia (Err (stop_by_opening e))
+    → (result ≡ Err refusals.NotFormatted) ⊎ ((m : ℕ) × (offset : ℕ) × (result ≡ Err (refusals.Damaged m offset)))
+refused_media result refusals.NoMemory is refuses = absurd refuses
+refused_media result refusals.NotFormatted is refuses = inl is
+refused_media result (refusals.Damaged m offset) is refuses = inr (m, offset, is)
+refused_media result refusals.Fault is refuses = absurd refuses
+
+-- A run that was begun is refused neither by its header nor by the media.
+pub begun_header : {P : Type 0} (answer : Result Replayed ReplayStop) → StopsIn answer → EndsAtHeader answer → P
+begun_header (Ok r) stops ends = absurd ends
+begun_header (Err NoMemory) stops ends = absurd ends
+begun_header (Err Input) stops ends = absurd stops
+begun_header (Err (Refused number offset)) stops ends = absurd stops
+begun_header (Err NotFormatted) stops ends = absurd ends
+begun_header (Err (Damaged m offset)) stops ends = absurd ends
+begun_header (Err Place) stops ends = absurd ends
+begun_header (Err Tick) stops ends = absurd ends
+begun_header (Err Media) stops ends = absurd ends
+
+pub begun_media : {P : Type 0} (answer : Result Replayed ReplayStop) → StopsIn answer → RefusesMedia answer → P
+begun_media (Ok r) stops refuses = absurd refuses
+begun_media (Err NoMemory) stops refuses = absurd refuses
+begun_media (Err Input) stops refuses = absurd refuses
+begun_media (Err (Refused number offset)) stops refuses = absurd refuses
+begun_media (Err NotFormatted) stops refuses = absurd stops
+begun_media (Err (Damaged m offset)) stops refuses = absurd stops
+begun_media (Err Place) stops refuses = absurd refuses
+begun_media (Err Tick) stops refuses = absurd refuses
+begun_media (Err Media) stops refuses = absurd refuses

@@ -89,6 +89,30 @@ IfOpened (Err NotFormatted) P = ⊤
 IfOpened (Err (Damaged medium offset)) P = ⊤
 IfOpened (Err Media) P = ⊤
 
+-- It ended at the feed's header: that was refused, or the source failed there.
+abbrev pub EndsAtHeader : Result Replayed ReplayStop → Type 0
+EndsAtHeader (Err Input) = ⊤
+EndsAtHeader (Err (Refused number offset)) = ⊤
+EndsAtHeader (Ok r) = ⊥
+EndsAtHeader (Err NoMemory) = ⊥
+EndsAtHeader (Err NotFormatted) = ⊥
+EndsAtHeader (Err (Damaged medium offset)) = ⊥
+EndsAtHeader (Err Place) = ⊥
+EndsAtHeader (Err Tick) = ⊥
+EndsAtHeader (Err Media) = ⊥
+
+-- The media were refused.
+abbrev pub RefusesMedia : Result Replayed ReplayStop → Type 0
+RefusesMedia (Err NotFormatted) = ⊤
+RefusesMedia (Err (Damaged medium offset)) = ⊤
+RefusesMedia (Ok r) = ⊥
+RefusesMedia (Err NoMemory) = ⊥
+RefusesMedia (Err Input) = ⊥
+RefusesMedia (Err (Refused number offset)) = ⊥
+RefusesMedia (Err Place) = ⊥
+RefusesMedia (Err Tick) = ⊥
+RefusesMedia (Err Media) = ⊥
+
 -- No count of faults falls, and the media failed only where the count of one of them rose, and so their sum.
 pub record HasReplayCause (before now : List ℕ) (result : Result Replayed ReplayStop) : Type 0 where
   pub later : NoneFalls before now

@@ -9,7 +9,7 @@ ghost use Rattle.vdr_opening.specs.Refusals.{IsRefused};
 ghost use Rattle.vdr_vault.specs.Calls.{SameElsewhere};
 ghost use Rattle.vdr_vault.specs.Openings.{LeavesAll};
 ghost use Rattle.vdr_vault.specs.Regularity.{AreSound};
-ghost use Rattle.vdr_replay.specs.Answers.{Answers, HasReplayCause, IfOpened, IsLegible, TellsHeader};
+ghost use Rattle.vdr_replay.specs.Answers.{Answers, EndsAtHeader, HasReplayCause, IfOpened, IsLegible, RefusesMedia, TellsHeader};
 ghost use Rattle.vdr_replay.specs.Headline.{LeavesHistory};
 ghost use Rattle.vdr_replay.specs.declared.ended.FeedEnd.TheVariants.{Whole, Input as InputEnds};
 ghost use Rattle.vdr_replay.specs.declared.ended.ReplayStop.TheVariants.{Damaged, Input, NotFormatted};
@@ -31,7 +31,8 @@ const MOST_ITEMS: u64 = 4_294_967_295;
 /// group; and the run is closed.
 ///
 /// The feed ends with the input, or where an item is refused: as `vdr_feed::FeedReader::item` says, or by 4 where its group is not
-/// configured. What was read before is recorded. An item that is refused counts for nothing. Faults and refusals of the input and of
+/// configured. What was read before is recorded. An item that is refused counts for nothing. Where the header is refused, or can't be
+/// read, the media are not touched, and where the media are refused nothing is written. Faults and refusals of the input and of
 /// the media are told by `FeedEnd` and `ReplayStop`.
 ///
 /// At every moment a stop leaves the media as before opening, or as media that play back the first of the run's events on what was
@@ -49,6 +50,8 @@ pub fn replay<I: Source, M: Media>(
         → LeavesHistory x (Rose (sum (M.faults media.old)) (sum (M.faults media.new))) (M.disk media.old) (M.disk media.new) }
     ensures blank { M.tells → IsUnformatted (M.disk media.old).reads → LeavesAll (M.disk media.old) (M.disk media.new) }
     ensures header { TellsHeader (I.left input.old) result }
+    ensures unopened { EndsAtHeader result → media.new ≡ media.old }
+    ensures untouched { RefusesMedia result → LeavesAll (M.disk media.old) (M.disk media.new) × (M.tells → (M.disk media.new).reads ≡ (M.disk media.old).reads) }
     ensures legible { M.tells → IfOpened result (IsLegible (M.disk media.old).reads) }
     ensures whole { IfOk result (λ r. r.end ≡ Whole → IsAtEnd (I.left input.new)) }
     ensures input_ends { IfOk result (λ r. r.end ≡ InputEnds → Rose (I.faults input.old) (I.faults input.new)) }

@@ -5,6 +5,8 @@ pub mod OpenedCompleteness
 pub mod OpenedLemmas
 pub mod PlayCompleteness
 pub mod PlayLemmas
+pub mod PlayedBack
+pub mod ReplayEndings
 pub mod ReplayLemmas
 pub mod Rows
 pub mod SaveCompleteness

@@ -5,19 +5,10 @@ use Rattle.vdr_outside.specs.Disk.{Image}
 use Rattle.vdr_media.specs.Formatted.{IsFormatted, IsUnformatted}
 use Rattle.vdr_opening.specs.Media.{both, Contents, HoldsContents, reading_of}
 use Rattle.vdr_opening.specs.Refusals.{IsRefused}
-use Rattle.vdr_tool.specs.Opened.{RefusesAll}
+use Rattle.vdr_tool.specs.Opened.{OneAnswer, RefusesAll}
 use Rattle.vdr_tool.specs.declared.status.Status.{Status}
 use Rattle.vdr_tool.specs.declared.status.Status.TheVariants.{Damaged, NoMemory, Unformatted}
 use Rattle.vdr_tool.proofs.FormatLemmas.{not_both}
-
--- What media hold, and how they are refused, has one answer.
-pub record OneAnswer (image : Image) : Type 0 where
-  pub config : (x y : Contents) → HoldsContents image x → HoldsContents image y → x.config ≡ y.config
-  pub placed : (x y : Contents) → HoldsContents image x → HoldsContents image y → x.placed 0 ≡ y.placed 0
-  pub table : (x y : Contents) → HoldsContents image x → HoldsContents image y → x.table ≡ y.table
-  pub formatted : (x : Contents) → HoldsContents image x → IsUnformatted image → ⊥
-  pub either : (x : Contents) (m offset : ℕ) → HoldsContents image x → EndsMeet both (reading_of x) → IsRefused image m offset → ⊥
-  pub one : (m offset k other : ℕ) → IsRefused image m offset → IsRefused image k other → (m ≡ k) × (offset ≡ other)
 
 pub damaged_alike : (m offset k other : ℕ) → (m ≡ k) × (offset ≡ other) → Damaged m offset ≡ Damaged k other
 damaged_alike m offset k other same = λ i. Damaged (same.0 i) (same.1 i)

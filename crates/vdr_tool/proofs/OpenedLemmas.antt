@@ -1,12 +1,14 @@
 -- What commands on recorded media answer, from what opening them and one call of the recorder ensure.
 use Rattle.std.specs.Prelude.{IsErrOf}
-use Rattle.std.proofs.Common.{◌≡◌, ◌≤◌, ◌⊎◌, ◌∷◌, inl, inr, ⊎_elim, ℕ, List, [], Result, Ok, Err, refl, sym, subst, arith, ◌∙◌}
+use Rattle.std.proofs.Common.{◌≡◌, ◌≤◌, ◌⊎◌, ◌∷◌, ◌++◌, ap, inl, inr, ⊎_elim, ℕ, List, [], Result, Ok, Err, refl, sym, subst, arith, ◌∙◌}
 use Rattle.std.proofs.lemmas.List.Elements.{All-cons, All-nil}
-use Rattle.vdr_history.specs.Histories.{Act, Event}
+use Rattle.vdr_terms.specs.Records.{Record}
+use Rattle.vdr_history.specs.Histories.{Act, Event, recorded, records_of_act}
 use Rattle.vdr_history.specs.Histories.Act.{Look}
 use Rattle.vdr_durability.specs.Keeping.{ShowsPrefix}
 use Rattle.vdr_durability.specs.Readings.{EndsMeet}
 use Rattle.vdr_outside.specs.Disk.{Disk, Image}
+use Rattle.vdr_config.specs.Grammar.{configuration}
 use Rattle.vdr_media.specs.Formatted.{IsFormatted, IsUnformatted}
 use Rattle.vdr_opening.specs.Answers.{HasOpenCause}
 use Rattle.vdr_opening.specs.Media.{both, Contents, HoldsContents, opening_of, reading_of}
@@ -16,12 +18,15 @@ use Rattle.vdr_opening.specs.declared.refused.OpenRefused.TheVariants as opening
 use Rattle.vdr_recorder.specs.Recordings.{HasDone, RecordingState}
 use Rattle.vdr_vault.specs.Calls.{SameElsewhere}
 use Rattle.vdr_vault.specs.Openings.{GoesOnSynced, LeavesAll, OpensAtEachMoment}
-use Rattle.vdr_vault.specs.Regularity.{AreSound}
 use Rattle.vdr_vault.specs.Vaults.{MembersState, ShowsHistory}
 use Rattle.vdr_tool.specs.Incidents.{CanList}
-use Rattle.vdr_tool.specs.Opened.{AreLooks, IsLegibleWith, IsUnopened, IsWorkDone, KeepsContents, MayLeave, MediaEnds, newest_of, status_of_opening}
+use Rattle.vdr_tool.specs.Endings.{IsWorkDone}
+use Rattle.vdr_tool.specs.Opened.{AreLooks, IsLegibleWith, IsUnopened, KeepsContents, MayLeave, MediaEnds, WasRecorded, newest_of, status_of_opening}
+use Rattle.vdr_tool.specs.Outside.{MediaSeen}
 use Rattle.vdr_tool.specs.declared.status.Status.{Status}
 use Rattle.vdr_tool.specs.declared.status.Status.TheVariants.{Done, Words, Config, Small, Unformatted, Formatted, Damaged, MediaFault, InputFault, OutputFault, NoMemory, Feed, NoChannel, NoIncident, SaveRefused, Place, Tick}
+use Rattle.vdr_replay.proofs.Playing.{config_read}
+use Rattle.vdr_tool.proofs.PlayedBack.{keeps_played, prefix_played}
 
 -- What was opened stays, where nothing is recorded.
 first_of_all : (x : Contents) (events : List Event) (image : Image) → ShowsHistory (opening_of x) [] image → ShowsPrefix (ShowsHistory (opening_of x)) events 0 image
@@ -60,56 +65,56 @@ done_either Place is = absurd is
 done_either Tick is = absurd is
 
 module _ {tells tells_images : Type 0} where
-  keeps_opened : (x : Contents) (MayBe : List Event → Type 0) → MayBe [] → (old new : Disk tells tells_images) → GoesOnSynced old new (ShowsHistory (opening_of x) []) → KeepsContents x MayBe old new
-  keeps_opened x MayBe may old new goes = record {
+  keeps_opened : (x : Contents) → configuration x.text ≡ Ok x.config → WasRecorded x → (MayBe : List Event → Type 0) → MayBe [] → (old new : Disk tells tells_images) → GoesOnSynced old new (ShowsHistory (opening_of x) []) → KeepsContents x MayBe old new
+  keeps_opened x reads sound MayBe may old new goes = record {
     events = [];
     may_be = may;
     history = record { follow = tt; pending = tt };
-    since_entry = λ image s. ⊎_elim (λ was. inl was) (λ shows. inr (first_of_all x [] image shows)) (goes.moments.each image s);
+    since_entry = λ image s. ⊎_elim (λ was. inl was) (λ shows. inr (prefix_played x reads sound [] refl 0 image (first_of_all x [] image shows))) (goes.moments.each image s);
     synced = goes.synced;
     after_entry = goes.after_entry;
     before_exit = goes.before_exit;
-    kept = record {
+    kept = keeps_played x reads sound [] refl goes.synced new (record {
       rising = omega arith;
       pending = tt;
       prefixes = λ t image from upto s. first_of_all x [] image (goes.since image (new.earlier goes.synced t image from s));
       now = λ whole image n. goes.since image (new.counts_now goes.synced image goes.before_exit n);
-    };
+    });
   }
 
-  kept_by_opening : {T : Type 0} (x : Contents) (MayBe : List Event → Type 0) (status : Status) (old new : Disk tells tells_images) (result : Result T OpenRefused) → MayBe []
+  kept_by_opening : {T : Type 0} (x : Contents) → configuration x.text ≡ Ok x.config → WasRecorded x → (MayBe : List Event → Type 0) (status : Status) (old new : Disk tells tells_images) (result : Result T OpenRefused) → MayBe []
       → (IsErrOf result openings.Fault → IsUnopened status) → OpensAtEachMoment old new result (ShowsHistory (opening_of x) [])
       → (IsUnopened status × LeavesAll old new) ⊎ KeepsContents x MayBe old new
-  kept_by_opening x MayBe status old new result may unopened (inl ends) = inl (unopened ends.failed, ends.moments)
-  kept_by_opening x MayBe status old new result may unopened (inr goes) = inr (keeps_opened x MayBe may old new goes)
+  kept_by_opening x reads sound MayBe status old new result may unopened (inl ends) = inl (unopened ends.failed, ends.moments)
+  kept_by_opening x reads sound MayBe status old new result may unopened (inr goes) = inr (keeps_opened x reads sound MayBe may old new goes)
 
   -- The media were opened, and nothing else was done.
-  pub kept_opened : {T : Type 0} (x : Contents) (MayBe : List Event → Type 0) (old new : Disk tells tells_images) (result : Result T OpenRefused) (r : T) → result ≡ Ok r → MayBe []
+  pub kept_opened : {T : Type 0} (x : Contents) → configuration x.text ≡ Ok x.config → WasRecorded x → (MayBe : List Event → Type 0) (old new : Disk tells tells_images) (result : Result T OpenRefused) (r : T) → result ≡ Ok r → MayBe []
       → OpensAtEachMoment old new result (ShowsHistory (opening_of x) []) → KeepsContents x MayBe old new
-  kept_opened x MayBe old new result r is may (inl ends) = let clash : Ok r ≡ Err openings.Fault = sym is ∙ ends.failed in let none : ⊥ = cc in absurd none
-  kept_opened x MayBe old new result r is may (inr goes) = keeps_opened x MayBe may old new goes
+  kept_opened x reads sound MayBe old new result r is may (inl ends) = let clash : Ok r ≡ Err openings.Fault = sym is ∙ ends.failed in let none : ⊥ = cc in absurd none
+  kept_opened x reads sound MayBe old new result r is may (inr goes) = keeps_opened x reads sound MayBe may old new goes
 
   -- The media were not opened.
-  pub refused_ends : {T : Type 0} (Can : Contents → Type 0) (Met : Type 0) (MayBe : List Event → Type 0) (old new : Disk tells tells_images) (before now : List ℕ)
+  pub refused_ends : {T : Type 0} (Can : Contents → Type 0) (Met : Type 0) (MayBe : List Event → Type 0) (old new : MediaSeen tells tells_images)
       (result : Result T OpenRefused) (refused : OpenRefused) → MayBe [] → result ≡ Err refused
-      → (result ≡ Err openings.NotFormatted → tells → IsUnformatted old.reads)
-      → ((m offset : ℕ) → result ≡ Err (openings.Damaged m offset) → tells → IsFormatted old.reads × IsRefused old.reads m offset)
-      → ((result ≡ Err openings.NotFormatted) ⊎ ((m : ℕ) × (offset : ℕ) × (result ≡ Err (openings.Damaged m offset))) → LeavesAll old new × (tells → new.reads ≡ old.reads))
-      → (tells → SameElsewhere old.reads new.reads)
-      → HasOpenCause before now result
-      → ((x : Contents) → tells → HoldsContents old.reads x → EndsMeet both (reading_of x) → AreSound x → OpensAtEachMoment old new result (ShowsHistory (opening_of x) []))
-      → MediaEnds Can Met MayBe old new before now (status_of_opening refused)
-  refused_ends Can Met MayBe old new before now result openings.NoMemory may is unformatted damaged untouched others cause moments = record {
+      → (result ≡ Err openings.NotFormatted → tells → IsUnformatted old.disk.reads)
+      → ((m offset : ℕ) → result ≡ Err (openings.Damaged m offset) → tells → IsFormatted old.disk.reads × IsRefused old.disk.reads m offset)
+      → ((result ≡ Err openings.NotFormatted) ⊎ ((m : ℕ) × (offset : ℕ) × (result ≡ Err (openings.Damaged m offset))) → LeavesAll old.disk new.disk × (tells → new.disk.reads ≡ old.disk.reads))
+      → (tells → SameElsewhere old.disk.reads new.disk.reads)
+      → HasOpenCause old.faults new.faults result
+      → ((x : Contents) → tells → HoldsContents old.disk.reads x → EndsMeet both (reading_of x) → WasRecorded x → OpensAtEachMoment old.disk new.disk result (ShowsHistory (opening_of x) []))
+      → MediaEnds Can Met MayBe old new (status_of_opening refused)
+  refused_ends Can Met MayBe old new result openings.NoMemory may is unformatted damaged untouched others cause moments = record {
     unformatted = λ e. let none : ⊥ = cc in absurd none;
     damaged = tt;
     fault = λ e. let none : ⊥ = cc in absurd none;
     legible = λ done. absurd done;
     others = others;
-    kept = λ x t holds meet sound. kept_by_opening x MayBe NoMemory old new result may
+    kept = λ x t holds meet regular. kept_by_opening x (config_read old.disk.reads x holds) regular MayBe NoMemory old.disk new.disk result may
         (λ failed. let clash : Err openings.NoMemory ≡ Err openings.Fault = sym is ∙ failed in let none : ⊥ = cc in absurd none)
-        (moments x t holds meet sound);
+        (moments x t holds meet regular);
   }
-  refused_ends Can Met MayBe old new before now result openings.NotFormatted may is unformatted damaged untouched others cause moments =
+  refused_ends Can Met MayBe old new result openings.NotFormatted may is unformatted damaged untouched others cause moments =
       let same = untouched (inl is) in
       record {
         unformatted = λ e. (record { leaves = same.0; reads = same.1 }, unformatted is);
@@ -117,9 +122,9 @@ module _ {tells tells_images : Type 0} where
         fault = λ e. let none : ⊥ = cc in absurd none;
         legible = λ done. absurd done;
         others = others;
-        kept = λ x t holds meet sound. inl (tt, same.0);
+        kept = λ x t holds meet regular. inl (tt, same.0);
       }
-  refused_ends Can Met MayBe old new before now result (openings.Damaged m offset) may is unformatted damaged untouched others cause moments =
+  refused_ends Can Met MayBe old new result (openings.Damaged m offset) may is unformatted damaged untouched others cause moments =
       let same = untouched (inr (m, offset, is)) in
       record {
         unformatted = λ e. let none : ⊥ = cc in absurd none;
@@ -127,38 +132,38 @@ module _ {tells tells_images : Type 0} where
         fault = λ e. let none : ⊥ = cc in absurd none;
         legible = λ done. absurd done;
         others = others;
-        kept = λ x t holds meet sound. inl (tt, same.0);
+        kept = λ x t holds meet regular. inl (tt, same.0);
       }
-  refused_ends Can Met MayBe old new before now result openings.Fault may is unformatted damaged untouched others cause moments = record {
+  refused_ends Can Met MayBe old new result openings.Fault may is unformatted damaged untouched others cause moments = record {
     unformatted = λ e. let none : ⊥ = cc in absurd none;
     damaged = tt;
     fault = λ e. cause.in_all is;
     legible = λ done. absurd done;
     others = others;
-    kept = λ x t holds meet sound. kept_by_opening x MayBe MediaFault old new result may (λ failed. tt) (moments x t holds meet sound);
+    kept = λ x t holds meet regular. kept_by_opening x (config_read old.disk.reads x holds) regular MayBe MediaFault old.disk new.disk result may (λ failed. tt) (moments x t holds meet regular);
   }
 
   -- The work was done.
-  pub worked_ends : (Can : Contents → Type 0) (Met : Type 0) (MayBe : List Event → Type 0) (old new : Disk tells tells_images) (before now : List ℕ) (status : Status) → IsWorkDone status
-      → (tells → IsLegibleWith old.reads Can) → (tells → SameElsewhere old.reads new.reads)
-      → ((x : Contents) → tells → HoldsContents old.reads x → EndsMeet both (reading_of x) → AreSound x → KeepsContents x MayBe old new)
-      → MediaEnds Can Met MayBe old new before now status
-  worked_ends Can Met MayBe old new before now status done legible others kept = ⊎_elim
-      (λ (is : status ≡ Done). subst (λ (s : Status). MediaEnds Can Met MayBe old new before now s) (sym is) (record {
+  pub worked_ends : (Can : Contents → Type 0) (Met : Type 0) (MayBe : List Event → Type 0) (old new : MediaSeen tells tells_images) (status : Status) → IsWorkDone status
+      → (tells → IsLegibleWith old.disk.reads Can) → (tells → SameElsewhere old.disk.reads new.disk.reads)
+      → ((x : Contents) → tells → HoldsContents old.disk.reads x → EndsMeet both (reading_of x) → WasRecorded x → KeepsContents x MayBe old.disk new.disk)
+      → MediaEnds Can Met MayBe old new status
+  worked_ends Can Met MayBe old new status done legible others kept = ⊎_elim
+      (λ (is : status ≡ Done). subst (λ (s : Status). MediaEnds Can Met MayBe old new s) (sym is) (record {
         unformatted = λ e. let none : ⊥ = cc in absurd none;
         damaged = tt;
         fault = λ e. let none : ⊥ = cc in absurd none;
         legible = λ d. legible;
         others = others;
-        kept = λ x t holds meet sound. inr (kept x t holds meet sound);
+        kept = λ x t holds meet regular. inr (kept x t holds meet regular);
       }))
-      (λ (is : status ≡ OutputFault). subst (λ (s : Status). MediaEnds Can Met MayBe old new before now s) (sym is) (record {
+      (λ (is : status ≡ OutputFault). subst (λ (s : Status). MediaEnds Can Met MayBe old new s) (sym is) (record {
         unformatted = λ e. let none : ⊥ = cc in absurd none;
         damaged = tt;
         fault = λ e. let none : ⊥ = cc in absurd none;
         legible = λ d. legible;
         others = others;
-        kept = λ x t holds meet sound. inr (kept x t holds meet sound);
+        kept = λ x t holds meet regular. inr (kept x t holds meet regular);
       }))
       (done_either status done)
 
@@ -180,34 +185,38 @@ module _ {tells tells_images : Type 0} where
   since_opening x events old mid result (inr goes) image s = ⊎_elim (λ was. inl was) (λ shows. inr (first_of_all x events image shows)) (goes.moments.each image s)
 
   -- A call of the recorder was one event on the media that were opened.
-  pub kept_by_call : {T : Type 0} (x : Contents) (MayBe : List Event → Type 0) (old mid new : Disk tells tells_images) (result : Result T OpenRefused) (act : Act) (r after : RecordingState) (t0 : ℕ)
+  pub kept_by_call : {T : Type 0} (x : Contents) → configuration x.text ≡ Ok x.config → WasRecorded x → (MayBe : List Event → Type 0) (old mid new : Disk tells tells_images) (result : Result T OpenRefused) (act : Act) → records_of_act act ≡ [] → (r after : RecordingState) (t0 : ℕ)
       → OpensAtEachMoment old mid result (ShowsHistory (opening_of x) []) → old.clock ≤ t0 → t0 ≤ mid.clock → (done : HasDone (opening_of x) [] t0 act after mid new)
       → MayBe (done.event ∷ []) → KeepsContents x MayBe old new
-  kept_by_call x MayBe old mid new result act r after t0 moments from upto done may =
+  kept_by_call x reads sound MayBe old mid new result act none r after t0 moments from upto done may =
+      let silent : recorded (done.event ∷ []) ≡ [] = ap (λ (a : Act). records_of_act a ++ []) done.act_is ∙ ap (λ (rs : List Record). rs ++ []) none in
       let entry : old.clock ≤ mid.clock = omega (arith, from, upto) in
       record {
         events = done.event ∷ [];
         may_be = may;
         history = done.has.history;
         since_entry = λ image s. ⊎_elim
+            (λ was. inl was)
+            (λ shows. inr (prefix_played x reads sound (done.event ∷ []) silent 0 image shows))
+            (⊎_elim
             (λ earlier. since_opening x (done.event ∷ []) old mid result moments image earlier)
             (λ here. ⊎_elim
             (λ now. since_opening x (done.event ∷ []) old mid result moments image (mid.counts_now old.clock image entry now))
             (λ shows. inr shows)
             here)
-            (done.passes.before old.clock image entry s);
+            (done.passes.before old.clock image entry s));
         synced = t0;
         after_entry = from;
         before_exit = omega (arith, upto, done.passes.later);
-        kept = done.has.kept;
+        kept = keeps_played x reads sound (done.event ∷ []) silent t0 new done.has.kept;
       }
 
   -- What was opened is listed.
-  pub listed_ends : {T : Type 0} (old new : Disk tells tells_images) (before now : List ℕ) (result : Result T OpenRefused) (r : T) → result ≡ Ok r
-      → (members : MembersState) → OpenedOn old members
-      → (tells → SameElsewhere old.reads new.reads)
-      → ((x : Contents) → tells → HoldsContents old.reads x → EndsMeet both (reading_of x) → AreSound x → OpensAtEachMoment old new result (ShowsHistory (opening_of x) []))
-      → (status : Status) → IsWorkDone status → MediaEnds CanList ⊥ AreLooks old new before now status
-  listed_ends old new before now result r is members contents others moments status done =
-      worked_ends CanList ⊥ AreLooks old new before now status done (legible_so CanList old members contents (λ x t holds c k l. tt)) others
-      (λ x t holds meet sound. kept_opened x AreLooks old new result r is no_looks (moments x t holds meet sound))
+  pub listed_ends : {T : Type 0} (old new : MediaSeen tells tells_images) (result : Result T OpenRefused) (r : T) → result ≡ Ok r
+      → (members : MembersState) → OpenedOn old.disk members
+      → (tells → SameElsewhere old.disk.reads new.disk.reads)
+      → ((x : Contents) → tells → HoldsContents old.disk.reads x → EndsMeet both (reading_of x) → WasRecorded x → OpensAtEachMoment old.disk new.disk result (ShowsHistory (opening_of x) []))
+      → (status : Status) → IsWorkDone status → MediaEnds CanList ⊥ AreLooks old new status
+  listed_ends old new result r is members contents others moments status done =
+      worked_ends CanList ⊥ AreLooks old new status done (legible_so CanList old.disk members contents (λ x t holds c k l. tt)) others
+      (λ x t holds meet regular. kept_opened x (config_read old.disk.reads x holds) regular AreLooks old.disk new.disk result r is no_looks (moments x t holds meet regular))

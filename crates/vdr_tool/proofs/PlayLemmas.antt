@@ -30,11 +30,12 @@ use Rattle.vdr_recorder.specs.declared.play.PlayRefused.{PlayRefused}
 use Rattle.vdr_recorder.specs.declared.play.PlayRefused.TheVariants as plays
 use Rattle.vdr_vault.specs.Calls.{SameElsewhere}
 use Rattle.vdr_vault.specs.Openings.{OpensAtEachMoment}
-use Rattle.vdr_vault.specs.Regularity.{AreSound}
 use Rattle.vdr_vault.specs.Vaults.{MembersState, ShowsHistory, Stands}
-use Rattle.vdr_tool.specs.Opened.{AreLooks, IsLegibleWith, KeepsContents, MediaEnds, MetUnsound, PrintsText, status_of_opening}
+use Rattle.vdr_tool.specs.Opened.{AreLooks, IsLegibleWith, KeepsContents, MediaEnds, MetUnsound, PrintsText, WasRecorded, status_of_opening}
+use Rattle.vdr_tool.specs.Outside.{MediaSeen, OutputSeen}
 use Rattle.vdr_tool.specs.Plays.{CanPlay, LacksChannel, LacksIncident, PlayEnds, channel_asked, channel_in, all_records, id_of, play_text, query_of, status_by}
 use Rattle.vdr_tool.specs.declared.status.Status.TheVariants.{Done, NoChannel, OutputFault}
+use Rattle.vdr_replay.proofs.Playing.{config_read}
 use Rattle.vdr_tool.proofs.OpenedLemmas.{OpenedOn, kept_by_call, kept_opened, legible_so, no_looks, one_look, worked_ends}
 
 none_of : {A : Type 0} (o : Option A) → is_none o ≡ true → o ≡ None
@@ -76,30 +77,30 @@ asked_within c name = has_number (length c.channels) (channel_asked c name)
 
 module _ {tells tells_images : Type 0} where
   -- A play ends so where it is not of its own refusals.
-  pub with_media : (medium : Played) (name : List ℕ) (old new : Disk tells tells_images) (before now : List ℕ) (refused : OpenRefused)
-      → MediaEnds (λ x. CanPlay x medium name) (MetUnsound old (λ x. CanPlay x medium name)) AreLooks old new before now (status_of_opening refused)
-      → PlayEnds medium name old new before now (status_of_opening refused)
-  with_media medium name old new before now openings.NoMemory media = record { media = media; no_channel = λ e. let none : ⊥ = cc in absurd none; no_incident = tt }
-  with_media medium name old new before now openings.NotFormatted media = record { media = media; no_channel = λ e. let none : ⊥ = cc in absurd none; no_incident = tt }
-  with_media medium name old new before now (openings.Damaged m offset) media = record { media = media; no_channel = λ e. let none : ⊥ = cc in absurd none; no_incident = tt }
-  with_media medium name old new before now openings.Fault media = record { media = media; no_channel = λ e. let none : ⊥ = cc in absurd none; no_incident = tt }
+  pub with_media : (medium : Played) (name : List ℕ) (old new : MediaSeen tells tells_images) (refused : OpenRefused)
+      → MediaEnds (λ x. CanPlay x medium name) (MetUnsound old.disk (λ x. CanPlay x medium name)) AreLooks old new (status_of_opening refused)
+      → PlayEnds medium name old new (status_of_opening refused)
+  with_media medium name old new openings.NoMemory media = record { media = media; no_channel = λ e. let none : ⊥ = cc in absurd none; no_incident = tt }
+  with_media medium name old new openings.NotFormatted media = record { media = media; no_channel = λ e. let none : ⊥ = cc in absurd none; no_incident = tt }
+  with_media medium name old new (openings.Damaged m offset) media = record { media = media; no_channel = λ e. let none : ⊥ = cc in absurd none; no_incident = tt }
+  with_media medium name old new openings.Fault media = record { media = media; no_channel = λ e. let none : ⊥ = cc in absurd none; no_incident = tt }
 
   -- No such channel is configured.
-  pub channel_ends : {T : Type 0} (medium : Played) (name : List ℕ) (old new : Disk tells tells_images) (before now : List ℕ) (result : Result T OpenRefused) (r : T) → result ≡ Ok r
-      → (members : MembersState) → LacksChannel members.config name → OpenedOn old members
-      → (tells → SameElsewhere old.reads new.reads)
-      → ((x : Contents) → tells → HoldsContents old.reads x → EndsMeet both (reading_of x) → AreSound x → OpensAtEachMoment old new result (ShowsHistory (opening_of x) []))
-      → PlayEnds medium name old new before now NoChannel
-  channel_ends medium name old new before now result r is members lacks contents others moments = record {
+  pub channel_ends : {T : Type 0} (medium : Played) (name : List ℕ) (old new : MediaSeen tells tells_images) (result : Result T OpenRefused) (r : T) → result ≡ Ok r
+      → (members : MembersState) → LacksChannel members.config name → OpenedOn old.disk members
+      → (tells → SameElsewhere old.disk.reads new.disk.reads)
+      → ((x : Contents) → tells → HoldsContents old.disk.reads x → EndsMeet both (reading_of x) → WasRecorded x → OpensAtEachMoment old.disk new.disk result (ShowsHistory (opening_of x) []))
+      → PlayEnds medium name old new NoChannel
+  channel_ends medium name old new result r is members lacks contents others moments = record {
     media = record {
       unformatted = λ e. let none : ⊥ = cc in absurd none;
       damaged = tt;
       fault = λ e. let none : ⊥ = cc in absurd none;
       legible = λ played. absurd played;
       others = others;
-      kept = λ x t holds meet sound. inr (kept_opened x AreLooks old new result r is no_looks (moments x t holds meet sound));
+      kept = λ x t holds meet regular. inr (kept_opened x (config_read old.disk.reads x holds) regular AreLooks old.disk new.disk result r is no_looks (moments x t holds meet regular));
     };
-    no_channel = λ e. legible_so (λ x. LacksChannel x.config name) old members contents (λ x t holds c k l. subst (λ (d : Configuration). LacksChannel d name) c lacks);
+    no_channel = λ e. legible_so (λ x. LacksChannel x.config name) old.disk members contents (λ x t holds c k l. subst (λ (d : Configuration). LacksChannel d name) c lacks);
     no_incident = tt;
   }
 
@@ -112,13 +113,13 @@ pub wanted_so : (config : Configuration) (medium : Played) (name : List ℕ) (fr
     → Wants config medium name from to query
 wanted_so config medium name from to query is there = record { is = is; there = there }
 
-module _ {tells tells_images : Type 0} (medium : Played) (name : List ℕ) (from to : ℤ) (old mid new : Disk tells tells_images) (before among now : List ℕ)
+module _ {tells tells_images : Type 0} (medium : Played) (name : List ℕ) (from to : ℤ) (old mid new : MediaSeen tells tells_images)
     (r after : RecordingState) (query : Query) (played : Result ⊤ PlayRefused)
     (wants : Wants r.members.config medium name from to query)
     (works : r.members.failed ≡ false)
-    (contents : OpenedOn old r.members)
-    (opened : (x : Contents) → tells → HoldsContents old.reads x → AreSound x
-    → (t0 : ℕ) × (old.clock ≤ t0) × (t0 ≤ mid.clock) × HasRecorded (opening_of x) [] t0 r mid) where
+    (contents : OpenedOn old.disk r.members)
+    (opened : (x : Contents) → tells → HoldsContents old.disk.reads x → WasRecorded x
+    → (t0 : ℕ) × (old.disk.clock ≤ t0) × (t0 ≤ mid.disk.clock) × HasRecorded (opening_of x) [] t0 r mid.disk) where
   -- The query's channel is there, so that only its incident may be missing.
   channel_is_there : lacks_channel (length r.members.config.channels) query.channel ≡ false
   channel_is_there = subst (λ (q : Query). lacks_channel (length r.members.config.channels) q.channel ≡ false) (sym wants.is) (asked_within r.members.config name)
@@ -132,47 +133,47 @@ module _ {tells tells_images : Type 0} (medium : Played) (name : List ℕ) (from
   misses_from : lacks_incident r.members.table (asked_medium medium) ≡ true → Misses
   misses_from e = subst (λ (q : Query). lacks_incident r.members.table q.medium ≡ true) (sym wants.is) e
 
-  -- Where the media are sound, the vault stands on them.
-  standing : (x : Contents) → tells → HoldsContents old.reads x → AreSound x → (placed : ℕ → List Placed) × Stands (opening_of x) [] r.members placed mid
-  standing x t holds sound =
-      let has = opened x t holds sound in
+  -- Where the media are regular, the vault stands on them.
+  standing : (x : Contents) → tells → HoldsContents old.disk.reads x → WasRecorded x → (placed : ℕ → List Placed) × Stands (opening_of x) [] r.members placed mid.disk
+  standing x t holds regular =
+      let has = opened x t holds regular in
       let work = has.3.works works in
       (work.placed, work.stands)
 
   module _ (channel : (played ≡ Err plays.NoChannel) ↔ (lacks_channel (length r.members.config.channels) query.channel ≡ true))
       (incident : (played ≡ Err plays.NoIncident) ↔ ((lacks_channel (length r.members.config.channels) query.channel ≡ false) × Misses))
-      (undamaged : (opening : Opening) (events : List Event) (placed : ℕ → List Placed) (m offset : ℕ) → tells → Stands opening events r.members placed mid → played ≡ Err (plays.Damaged m offset) → ⊥)
-      (looked : (opening : Opening) (events : List Event) (t0 : ℕ) → HasRecorded opening events t0 r mid → HasDone opening events t0 Look after mid new)
-      (unchanged : Unchanged mid new) (m : ℕ) (cause : HasPlayCause m r.members.failed among now played) (later : NoneFalls before among)
-      (others : tells → SameElsewhere old.reads mid.reads) where
+      (undamaged : (opening : Opening) (events : List Event) (placed : ℕ → List Placed) (m offset : ℕ) → tells → Stands opening events r.members placed mid.disk → played ≡ Err (plays.Damaged m offset) → ⊥)
+      (looked : (opening : Opening) (events : List Event) (t0 : ℕ) → HasRecorded opening events t0 r mid.disk → HasDone opening events t0 Look after mid.disk new.disk)
+      (unchanged : Unchanged mid.disk new.disk) (m : ℕ) (cause : HasPlayCause m r.members.failed mid.faults new.faults played) (later : NoneFalls old.faults mid.faults)
+      (others : tells → SameElsewhere old.disk.reads mid.disk.reads) where
     module _ {T : Type 0} (result : Result T OpenRefused)
-        (moments : (x : Contents) → tells → HoldsContents old.reads x → EndsMeet both (reading_of x) → AreSound x → OpensAtEachMoment old mid result (ShowsHistory (opening_of x) [])) where
-      kept_with_look : (x : Contents) → tells → HoldsContents old.reads x → EndsMeet both (reading_of x) → AreSound x → KeepsContents x AreLooks old new
-      kept_with_look x t holds meet sound =
-          let has = opened x t holds sound in
+        (moments : (x : Contents) → tells → HoldsContents old.disk.reads x → EndsMeet both (reading_of x) → WasRecorded x → OpensAtEachMoment old.disk mid.disk result (ShowsHistory (opening_of x) [])) where
+      kept_with_look : (x : Contents) → tells → HoldsContents old.disk.reads x → EndsMeet both (reading_of x) → WasRecorded x → KeepsContents x AreLooks old.disk new.disk
+      kept_with_look x t holds meet regular =
+          let has = opened x t holds regular in
           let done = looked (opening_of x) [] has.0 has.3 in
-          kept_by_call x AreLooks old mid new result Look r after has.0 (moments x t holds meet sound) has.1 has.2 done (one_look done.event done.act_is)
+          kept_by_call x (config_read old.disk.reads x holds) regular AreLooks old.disk mid.disk new.disk result Look refl r after has.0 (moments x t holds meet regular) has.1 has.2 done (one_look done.event done.act_is)
 
-      others_too : tells → SameElsewhere old.reads new.reads
-      others_too t = subst (λ (image : Image). SameElsewhere old.reads image) (sym (unchanged.reads t)) (others t)
+      others_too : tells → SameElsewhere old.disk.reads new.disk.reads
+      others_too t = subst (λ (image : Image). SameElsewhere old.disk.reads image) (sym (unchanged.reads t)) (others t)
 
-      playable : (played ≡ Err plays.NoIncident → ⊥) → tells → IsLegibleWith old.reads (λ x. CanPlay x medium name)
-      playable found = legible_so (λ x. CanPlay x medium name) old r.members contents (λ x t holds c k l. record {
+      playable : (played ≡ Err plays.NoIncident → ⊥) → tells → IsLegibleWith old.disk.reads (λ x. CanPlay x medium name)
+      playable found = legible_so (λ x. CanPlay x medium name) old.disk r.members contents (λ x t holds c k l. record {
         channel = λ lacks. wants.there (subst (λ (d : Configuration). LacksChannel d name) (sym c) lacks);
         incident = λ lacks. found (incident.1 (channel_is_there, misses_from (lacks_from r.members.table medium (subst (λ (table : List (Option histories.Incident)). LacksIncident table medium) (sym k) lacks))));
       })
 
-      unsound : (k offset : ℕ) → played ≡ Err (plays.Damaged k offset) → tells → (x : Contents) → HoldsContents old.reads x → AreSound x → ⊥
-      unsound k offset is t x holds sound = let stands = standing x t holds sound in undamaged (opening_of x) [] stands.0 k offset t stands.1 is
+      irregular : (k offset : ℕ) → played ≡ Err (plays.Damaged k offset) → tells → (x : Contents) → HoldsContents old.disk.reads x → WasRecorded x → ⊥
+      irregular k offset is t x holds regular = let stands = standing x t holds regular in undamaged (opening_of x) [] stands.0 k offset t stands.1 is
 
-      rose : played ≡ Err plays.Fault → Rose (sum before) (sum now)
+      rose : played ≡ Err plays.Fault → Rose (sum old.faults) (sum new.faults)
       rose is = ⊎_elim (λ (failed : r.members.failed ≡ true). let clash : true ≡ false = sym failed ∙ works in let none : ⊥ = cc in absurd none)
-          (λ (more : Rose (sum among) (sum now)). rose_after (sum before) (sum among) (sum now) (sum_not_less before among later.same_media later.none_falls) more)
+          (λ (more : Rose (sum mid.faults) (sum new.faults)). rose_after (sum old.faults) (sum mid.faults) (sum new.faults) (sum_not_less old.faults mid.faults later.same_media later.none_falls) more)
           (cause.in_all is)
 
-      ends_so : (p : Result ⊤ PlayRefused) → played ≡ p → PlayEnds medium name old new before now (status_by p medium)
+      ends_so : (p : Result ⊤ PlayRefused) → played ≡ p → PlayEnds medium name old new (status_by p medium)
       ends_so (Ok x) is = record {
-        media = worked_ends _ _ AreLooks old new before now Done tt (playable (λ e. let clash : Ok x ≡ Err plays.NoIncident = sym is ∙ e in let none : ⊥ = cc in absurd none)) others_too kept_with_look;
+        media = worked_ends _ _ AreLooks old new Done tt (playable (λ e. let clash : Ok x ≡ Err plays.NoIncident = sym is ∙ e in let none : ⊥ = cc in absurd none)) others_too kept_with_look;
         no_channel = λ e. let none : ⊥ = cc in absurd none;
         no_incident = tt;
       }
@@ -183,7 +184,7 @@ module _ {tells tells_images : Type 0} (medium : Played) (name : List ℕ) (from
           fault = λ e. let none : ⊥ = cc in absurd none;
           legible = λ done. absurd done;
           others = others_too;
-          kept = λ x t holds meet sound. inr (kept_with_look x t holds meet sound);
+          kept = λ x t holds meet regular. inr (kept_with_look x t holds meet regular);
         };
         no_channel = λ e. let none : ⊥ = cc in absurd none;
         no_incident = tt;
@@ -196,12 +197,12 @@ module _ {tells tells_images : Type 0} (medium : Played) (name : List ℕ) (from
           fault = λ e. let none : ⊥ = cc in absurd none;
           legible = λ done. absurd done;
           others = others_too;
-          kept = λ x t holds meet sound. inr (kept_with_look x t holds meet sound);
+          kept = λ x t holds meet regular. inr (kept_with_look x t holds meet regular);
         };
         no_channel = λ e. let none : ⊥ = cc in absurd none;
         no_incident = (
           medium_is r.members.table medium misses,
-          legible_so (λ x. (LacksChannel x.config name → ⊥) × LacksIncident x.table medium) old r.members contents (λ x t holds c k l. (
+          legible_so (λ x. (LacksChannel x.config name → ⊥) × LacksIncident x.table medium) old.disk r.members contents (λ x t holds c k l. (
             (λ lacks. wants.there (subst (λ (d : Configuration). LacksChannel d name) (sym c) lacks)),
             subst (λ (table : List (Option histories.Incident)). LacksIncident table medium) k (lacks_is r.members.table medium misses),
           )),
@@ -214,7 +215,7 @@ module _ {tells tells_images : Type 0} (medium : Played) (name : List ℕ) (from
           fault = λ e. rose is;
           legible = λ done. absurd done;
           others = others_too;
-          kept = λ x t holds meet sound. inr (kept_with_look x t holds meet sound);
+          kept = λ x t holds meet regular. inr (kept_with_look x t holds meet regular);
         };
         no_channel = λ e. let none : ⊥ = cc in absurd none;
         no_incident = tt;
@@ -222,49 +223,49 @@ module _ {tells tells_images : Type 0} (medium : Played) (name : List ℕ) (from
       ends_so (Err (plays.Damaged k offset)) is = record {
         media = record {
           unformatted = λ e. let none : ⊥ = cc in absurd none;
-          damaged = inr (λ t. (playable (λ e. let clash : Err (plays.Damaged k offset) ≡ Err plays.NoIncident = sym is ∙ e in let none : ⊥ = cc in absurd none) t, unsound k offset is t));
+          damaged = inr (λ t. (playable (λ e. let clash : Err (plays.Damaged k offset) ≡ Err plays.NoIncident = sym is ∙ e in let none : ⊥ = cc in absurd none) t, irregular k offset is t));
           fault = λ e. let none : ⊥ = cc in absurd none;
           legible = λ done. absurd done;
           others = others_too;
-          kept = λ x t holds meet sound. inr (kept_with_look x t holds meet sound);
+          kept = λ x t holds meet regular. inr (kept_with_look x t holds meet regular);
         };
         no_channel = λ e. let none : ⊥ = cc in absurd none;
         no_incident = tt;
       }
       ends_so (Err plays.Output) is = record {
-        media = worked_ends _ _ AreLooks old new before now OutputFault tt (playable (λ e. let clash : Err plays.Output ≡ Err plays.NoIncident = sym is ∙ e in let none : ⊥ = cc in absurd none)) others_too kept_with_look;
+        media = worked_ends _ _ AreLooks old new OutputFault tt (playable (λ e. let clash : Err plays.Output ≡ Err plays.NoIncident = sym is ∙ e in let none : ⊥ = cc in absurd none)) others_too kept_with_look;
         no_channel = λ e. let none : ⊥ = cc in absurd none;
         no_incident = tt;
       }
 
-      pub played_ends : PlayEnds medium name old new before now (status_by played medium)
+      pub played_ends : PlayEnds medium name old new (status_by played medium)
       played_ends = ends_so played refl
 
-  module _ (same : (x y : Contents) → HoldsContents old.reads x → HoldsContents old.reads y → x.config ≡ y.config) (taken wrote : Option (List ℕ))
-      (printed : (opening : Opening) (events : List Event) (placed : ℕ → List Placed) → tells → Stands opening events r.members placed mid
-      → OnOk played (Appends taken wrote (records_text nothing_seen (selected opening events query))))
-      (front : (opening : Opening) (events : List Event) (placed : ℕ → List Placed) → tells → Stands opening events r.members placed mid
-      → AppendsFront taken wrote (records_text nothing_seen (selected opening events query))) where
-    text_is : (x : Contents) → tells → HoldsContents old.reads x → records_text nothing_seen (selected (opening_of x) [] query) ≡ play_text x medium name from to
+  module _ (same : (x y : Contents) → HoldsContents old.disk.reads x → HoldsContents old.disk.reads y → x.config ≡ y.config) (was next : OutputSeen)
+      (printed : (opening : Opening) (events : List Event) (placed : ℕ → List Placed) → tells → Stands opening events r.members placed mid.disk
+      → OnOk played (Appends was.taken next.taken (records_text nothing_seen (selected opening events query))))
+      (front : (opening : Opening) (events : List Event) (placed : ℕ → List Placed) → tells → Stands opening events r.members placed mid.disk
+      → AppendsFront was.taken next.taken (records_text nothing_seen (selected opening events query))) where
+    text_is : (x : Contents) → tells → HoldsContents old.disk.reads x → records_text nothing_seen (selected (opening_of x) [] query) ≡ play_text x medium name from to
     unfolding play_text
     text_is x t holds =
         let c = contents t in
         let config : r.members.config ≡ x.config = c.4 ∙ same c.1 x c.2 holds in
         ap (λ (q : Query). records_text nothing_seen (selected (opening_of x) [] q)) (wants.is ∙ ap (λ (d : Configuration). query_of d medium name from to) config)
 
-    prints_so : (p : Result ⊤ PlayRefused) → played ≡ p → (x : Contents) → tells → HoldsContents old.reads x → AreSound x → PrintsText (play_text x medium name from to) (status_by p medium) taken wrote
-    prints_so (Ok u) is x t holds sound =
-        let stands = standing x t holds sound in
-        subst (λ (text : List ℕ). Appends taken wrote text) (text_is x t holds)
-        (subst (λ (p : Result ⊤ PlayRefused). OnOk p (Appends taken wrote (records_text nothing_seen (selected (opening_of x) [] query)))) is (printed (opening_of x) [] stands.0 t stands.1))
-    prints_so (Err plays.NoMemory) is x t holds sound = tt
-    prints_so (Err plays.NoChannel) is x t holds sound = tt
-    prints_so (Err plays.NoIncident) is x t holds sound = tt
-    prints_so (Err plays.Fault) is x t holds sound = tt
-    prints_so (Err (plays.Damaged k offset)) is x t holds sound = tt
-    prints_so (Err plays.Output) is x t holds sound =
-        let stands = standing x t holds sound in
-        subst (λ (text : List ℕ). AppendsFront taken wrote text) (text_is x t holds) (front (opening_of x) [] stands.0 t stands.1)
+    prints_so : (p : Result ⊤ PlayRefused) → played ≡ p → (x : Contents) → tells → HoldsContents old.disk.reads x → WasRecorded x → PrintsText (play_text x medium name from to) (status_by p medium) was next
+    prints_so (Ok u) is x t holds regular =
+        let stands = standing x t holds regular in
+        subst (λ (text : List ℕ). Appends was.taken next.taken text) (text_is x t holds)
+        (subst (λ (p : Result ⊤ PlayRefused). OnOk p (Appends was.taken next.taken (records_text nothing_seen (selected (opening_of x) [] query)))) is (printed (opening_of x) [] stands.0 t stands.1))
+    prints_so (Err plays.NoMemory) is x t holds regular = tt
+    prints_so (Err plays.NoChannel) is x t holds regular = tt
+    prints_so (Err plays.NoIncident) is x t holds regular = tt
+    prints_so (Err plays.Fault) is x t holds regular = tt
+    prints_so (Err (plays.Damaged k offset)) is x t holds regular = tt
+    prints_so (Err plays.Output) is x t holds regular =
+        let stands = standing x t holds regular in
+        subst (λ (text : List ℕ). AppendsFront was.taken next.taken text) (text_is x t holds) (front (opening_of x) [] stands.0 t stands.1)
 
-    pub played_prints : (x : Contents) → tells → HoldsContents old.reads x → AreSound x → PrintsText (play_text x medium name from to) (status_by played medium) taken wrote
+    pub played_prints : (x : Contents) → tells → HoldsContents old.disk.reads x → WasRecorded x → PrintsText (play_text x medium name from to) (status_by played medium) was next
     played_prints = prints_so played refl

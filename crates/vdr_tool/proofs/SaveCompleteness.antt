@@ -3,18 +3,20 @@ use Rattle.std.proofs.Common.{◌≡◌, inl, inr, ⊎_elim, ℕ, ℤ, List, ◌
 use Rattle.std.proofs.lemmas.List.Elements.{All-head}
 use Rattle.vdr_terms.specs.Records.{last}
 use Rattle.vdr_history.specs.Histories.{Event, Incident, live}
-use Rattle.vdr_outside.specs.Disk.{Disk, Image, content}
+use Rattle.vdr_outside.specs.Disk.{Image, content}
 use Rattle.vdr_ring.specs.Sequence.{Placed, all_records}
 use Rattle.vdr_opening.specs.Media.{Contents, HoldsContents, IsMedium}
 use Rattle.vdr_vault.specs.Vaults.{tick_utc}
 use Rattle.vdr_vault.proofs.OpenContents.{newest_opened}
 use Rattle.vdr_tool.specs.Incidents.{CanList, IsListStatus, ListsAll}
-use Rattle.vdr_tool.specs.Opened.{IfNoIncident, IsLegibleWith, MediaEnds, MetUnsound, newest_of}
-use Rattle.vdr_tool.specs.Saves.{CanRelease, CanSave, IfSaveRefused, IsJudged, IsReleaseStatus, IsSaveStatus, ReleasesAll, SavesAll, save_cause}
+use Rattle.vdr_tool.specs.Opened.{IfNoIncident, IsLegibleWith, MediaEnds, MetUnsound, OneAnswer, newest_of}
+use Rattle.vdr_tool.specs.Outside.{MediaSeen}
+use Rattle.vdr_tool.specs.Releases.{CanRelease, IsReleaseStatus, ReleasesAll}
+use Rattle.vdr_tool.specs.Saves.{CanSave, IfSaveRefused, IsJudged, IsSaveStatus, SavesAll, save_cause}
 use Rattle.vdr_tool.specs.declared.status.SaveCause.{SaveCause}
 use Rattle.vdr_tool.specs.declared.status.Status.{Status}
 use Rattle.vdr_tool.specs.declared.status.Status.TheVariants.{Done, Words, Config, Small, Unformatted, Formatted, Damaged, MediaFault, InputFault, OutputFault, NoMemory, Feed, NoChannel, NoIncident, SaveRefused, Place, Tick}
-use Rattle.vdr_tool.proofs.OpenedCompleteness.{OneAnswer, damaged_refused, legible_refused, memory_refused, unformatted_refused}
+use Rattle.vdr_tool.proofs.OpenedCompleteness.{damaged_refused, legible_refused, memory_refused, unformatted_refused}
 
 -- The last record of what the image holds is one.
 one_newest : (image : Image) (law : OneAnswer image) (x y : Contents) → HoldsContents image x → HoldsContents image y → newest_of x ≡ newest_of y
@@ -34,16 +36,16 @@ not_both_live : {P : Type 0} (table other : List (Option Incident)) (id : ℕ) (
 not_both_live table other id saved same is none =
     let clash : Some saved ≡ None = sym is ∙ (ap (λ (t : List (Option Incident)). live t id) same ∙ none) in let no_one : ⊥ = cc in absurd no_one
 
-module _ {tells tells_images : Type 0} (old new : Disk tells tells_images) (before now : List ℕ) (told : tells) (law : OneAnswer old.reads) (MayBe : List Event → Type 0) where
-  pub lists_all : (status : Status) → (status ≡ OutputFault → ⊥) → (status ≡ MediaFault → ⊥) → IsListStatus status → MediaEnds CanList ⊥ MayBe old new before now status → ListsAll old.reads status
-  lists_all Done output media own ends = let p = ends.legible tt told in record { refused = legible_refused old.reads law Done p.0 p.1 p.2 p.3; done = λ x holds meet. tt }
+module _ {tells tells_images : Type 0} (old new : MediaSeen tells tells_images) (told : tells) (law : OneAnswer old.disk.reads) (MayBe : List Event → Type 0) where
+  pub lists_all : (status : Status) → (status ≡ OutputFault → ⊥) → (status ≡ MediaFault → ⊥) → IsListStatus status → MediaEnds CanList ⊥ MayBe old new status → ListsAll old.disk.reads status
+  lists_all Done output media own ends = let p = ends.legible tt told in record { refused = legible_refused old.disk.reads law Done p.0 p.1 p.2 p.3; done = λ x holds meet. tt }
   lists_all Unformatted output media own ends =
-      let un = (ends.unformatted refl).1 told in record { refused = unformatted_refused old.reads un; done = λ x holds meet. absurd (law.formatted x holds un) }
+      let un = (ends.unformatted refl).1 told in record { refused = unformatted_refused old.disk.reads un; done = λ x holds meet. absurd (law.formatted x holds un) }
   lists_all (Damaged k at) output media own ends = ⊎_elim
-      (λ refused. let r = refused.1 told in record { refused = damaged_refused old.reads law k at r.0 r.1; done = λ x holds meet. absurd (law.either x k at holds meet r.1) })
+      (λ refused. let r = refused.1 told in record { refused = damaged_refused old.disk.reads law k at r.0 r.1; done = λ x holds meet. absurd (law.either x k at holds meet r.1) })
       (λ none. absurd none)
       ends.damaged
-  lists_all NoMemory output media own ends = record { refused = memory_refused old.reads; done = λ x holds meet. tt }
+  lists_all NoMemory output media own ends = record { refused = memory_refused old.disk.reads; done = λ x holds meet. tt }
   lists_all MediaFault output media own ends = absurd (media refl)
   lists_all OutputFault output media own ends = absurd (output refl)
   lists_all Words output media own ends = absurd own
@@ -59,40 +61,40 @@ module _ {tells tells_images : Type 0} (old new : Disk tells tells_images) (befo
   lists_all (SaveRefused cause) output media own ends = absurd own
 
   -- A save is judged in one way on all contents of the image.
-  judged_too : (label : List ℕ) (cause : Option SaveCause) (x y : Contents) → HoldsContents old.reads x → HoldsContents old.reads y → IsJudged label cause x → IsJudged label cause y
+  judged_too : (label : List ℕ) (cause : Option SaveCause) (x y : Contents) → HoldsContents old.disk.reads x → HoldsContents old.disk.reads y → IsJudged label cause x → IsJudged label cause y
   judged_too label cause x y holds also judged =
-      subst (λ (newest : Option (ℕ × ℤ)). save_cause label newest y.table ≡ cause) (one_newest old.reads law x y holds also)
+      subst (λ (newest : Option (ℕ × ℤ)). save_cause label newest y.table ≡ cause) (one_newest old.disk.reads law x y holds also)
       (subst (λ (table : List (Option Incident)). save_cause label (newest_of x) table ≡ cause) (law.table x y holds also) judged)
 
   pub saves_all : (label : List ℕ) (status : Status) → (status ≡ OutputFault → ⊥) → (status ≡ MediaFault → ⊥) → IsSaveStatus status
-      → MediaEnds (CanSave label) (MetUnsound old (CanSave label)) MayBe old new before now status
-      → IfSaveRefused status (λ cause. tells → IsLegibleWith old.reads (IsJudged label (Some cause)))
-      → SavesAll label old.reads status
+      → MediaEnds (CanSave label) (MetUnsound old.disk (CanSave label)) MayBe old new status
+      → IfSaveRefused status (λ cause. tells → IsLegibleWith old.disk.reads (IsJudged label (Some cause)))
+      → SavesAll label old.disk.reads status
   saves_all label Done output media own ends refused =
       let p = ends.legible tt told in
       record {
-        refused = legible_refused old.reads law Done p.0 p.1 p.2 p.3;
+        refused = legible_refused old.disk.reads law Done p.0 p.1 p.2 p.3;
         cause = λ x cause holds meet is. no_cause cause (save_cause label (newest_of x) x.table) (judged_too label None p.1 x p.2 holds p.4) is;
         done = λ x holds meet recorded can. tt;
       }
   saves_all label Unformatted output media own ends refused =
       let un = (ends.unformatted refl).1 told in
       record {
-        refused = unformatted_refused old.reads un;
+        refused = unformatted_refused old.disk.reads un;
         cause = λ x cause holds meet is. absurd (law.formatted x holds un);
         done = λ x holds meet recorded can. absurd (law.formatted x holds un);
       }
   saves_all label (Damaged k at) output media own ends refused = ⊎_elim
       (λ opening. let r = opening.1 told in
       record {
-        refused = damaged_refused old.reads law k at r.0 r.1;
+        refused = damaged_refused old.disk.reads law k at r.0 r.1;
         cause = λ x cause holds meet is. absurd (law.either x k at holds meet r.1);
         done = λ x holds meet recorded can. absurd (law.either x k at holds meet r.1);
       })
       (λ unsound. let h = unsound told in
       let p = h.0 in
       record {
-        refused = legible_refused old.reads law (Damaged k at) p.0 p.1 p.2 p.3;
+        refused = legible_refused old.disk.reads law (Damaged k at) p.0 p.1 p.2 p.3;
         cause = λ x cause holds meet is. no_cause cause (save_cause label (newest_of x) x.table) (judged_too label None p.1 x p.2 holds p.4) is;
         done = λ x holds meet recorded can. absurd (h.1 x holds recorded);
       })
@@ -100,12 +102,12 @@ module _ {tells tells_images : Type 0} (old new : Disk tells tells_images) (befo
   saves_all label (SaveRefused why) output media own ends refused =
       let h = refused told in
       record {
-        refused = legible_refused old.reads law (SaveRefused why) h.0 h.1 h.2 h.3;
+        refused = legible_refused old.disk.reads law (SaveRefused why) h.0 h.1 h.2 h.3;
         cause = λ x cause holds meet is. inl (one_cause why cause (save_cause label (newest_of x) x.table) (judged_too label (Some why) h.1 x h.2 holds h.4) is);
         done = λ x holds meet recorded can. no_cause why (save_cause label (newest_of x) x.table) can (judged_too label (Some why) h.1 x h.2 holds h.4);
       }
   saves_all label NoMemory output media own ends refused = record {
-    refused = memory_refused old.reads;
+    refused = memory_refused old.disk.reads;
     cause = λ x cause holds meet is. inr refl;
     done = λ x holds meet recorded can. tt;
   }
@@ -123,27 +125,27 @@ module _ {tells tells_images : Type 0} (old new : Disk tells tells_images) (befo
   saves_all label (NoIncident id) output media own ends refused = absurd own
 
   pub releases_all : (id : ℕ) (status : Status) → (status ≡ MediaFault → ⊥) → IsReleaseStatus status
-      → MediaEnds (CanRelease id) ⊥ MayBe old new before now status
-      → IfNoIncident status (λ asked. (asked ≡ id) × (tells → IsLegibleWith old.reads (λ x. live x.table id ≡ None)))
-      → ReleasesAll id old.reads status
+      → MediaEnds (CanRelease id) ⊥ MayBe old new status
+      → IfNoIncident status (λ asked. (asked ≡ id) × (tells → IsLegibleWith old.disk.reads (λ x. live x.table id ≡ None)))
+      → ReleasesAll id old.disk.reads status
   releases_all id Done media own ends missing =
       let p = ends.legible tt told in
       record {
-        refused = legible_refused old.reads law Done p.0 p.1 p.2 p.3;
+        refused = legible_refused old.disk.reads law Done p.0 p.1 p.2 p.3;
         incident = λ x holds meet none. not_both_live p.1.table x.table id p.4.0 (law.table p.1 x p.2 holds) p.4.1 none;
         done = λ x holds meet can. tt;
       }
   releases_all id Unformatted media own ends missing =
       let un = (ends.unformatted refl).1 told in
       record {
-        refused = unformatted_refused old.reads un;
+        refused = unformatted_refused old.disk.reads un;
         incident = λ x holds meet none. absurd (law.formatted x holds un);
         done = λ x holds meet can. absurd (law.formatted x holds un);
       }
   releases_all id (Damaged k at) media own ends missing = ⊎_elim
       (λ opening. let r = opening.1 told in
       record {
-        refused = damaged_refused old.reads law k at r.0 r.1;
+        refused = damaged_refused old.disk.reads law k at r.0 r.1;
         incident = λ x holds meet none. absurd (law.either x k at holds meet r.1);
         done = λ x holds meet can. absurd (law.either x k at holds meet r.1);
       })
@@ -152,11 +154,11 @@ module _ {tells tells_images : Type 0} (old new : Disk tells tells_images) (befo
   releases_all id (NoIncident asked) media own ends missing =
       let h = missing.1 told in
       record {
-        refused = legible_refused old.reads law (NoIncident asked) h.0 h.1 h.2 h.3;
+        refused = legible_refused old.disk.reads law (NoIncident asked) h.0 h.1 h.2 h.3;
         incident = λ x holds meet none. inl (ap (λ (n : ℕ). NoIncident n) missing.0);
         done = λ x holds meet can. not_both_live x.table h.1.table id can.0 (law.table x h.1 holds h.2) can.1 h.4;
       }
-  releases_all id NoMemory media own ends missing = record { refused = memory_refused old.reads; incident = λ x holds meet none. inr refl; done = λ x holds meet can. tt }
+  releases_all id NoMemory media own ends missing = record { refused = memory_refused old.disk.reads; incident = λ x holds meet none. inr refl; done = λ x holds meet can. tt }
   releases_all id MediaFault media own ends missing = absurd (media refl)
   releases_all id OutputFault media own ends missing = absurd own
   releases_all id Words media own ends missing = absurd own

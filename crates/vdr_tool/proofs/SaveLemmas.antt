@@ -20,21 +20,24 @@ use Rattle.vdr_opening.specs.declared.refused.OpenRefused.TheVariants as opening
 use Rattle.vdr_recorder.specs.Recordings.{HasDone, HasRecorded, RecordingState}
 use Rattle.vdr_vault.specs.Calls.{SameElsewhere}
 use Rattle.vdr_vault.specs.Openings.{OpensAtEachMoment}
-use Rattle.vdr_vault.specs.Regularity.{AreSound}
 use Rattle.vdr_vault.specs.Saves.{HasFaultOn, refusal_from, save_refusal}
 use Rattle.vdr_vault.specs.Vaults.{ShowsHistory, Stands}
 use Rattle.vdr_vault.specs.declared.refused.SaveRefused.{SaveRefused as Refused}
 use Rattle.vdr_vault.specs.declared.refused.SaveRefused.TheVariants as saves
-use Rattle.vdr_tool.specs.Opened.{AreLooks, IfNoIncident, IsLegibleWith, IsOneEvent, IsWorkDone, KeepsContents, MayLeave, MediaEnds, MetUnsound, PrintsText, status_of_opening}
-use Rattle.vdr_tool.specs.Saves.{CanRelease, CanSave, IfSaveRefused, IsJudged, ReleasesId, SavesAs, cause_if, save_cause, status_of_release, status_of_save}
+use Rattle.vdr_tool.specs.Endings.{IsWorkDone}
+use Rattle.vdr_tool.specs.Opened.{AreLooks, IfNoIncident, IsLegibleWith, IsOneEvent, KeepsContents, MayLeave, MediaEnds, MetUnsound, PrintsText, WasRecorded, status_of_opening}
+use Rattle.vdr_tool.specs.Outside.{MediaSeen, OutputSeen, Prints, PrintsFront}
+use Rattle.vdr_tool.specs.Releases.{CanRelease, ReleasesId, status_of_release}
+use Rattle.vdr_tool.specs.Saves.{CanSave, IfSaveRefused, IsJudged, SavesAs, cause_if, save_cause, status_of_save}
 use Rattle.vdr_tool.specs.declared.status.SaveCause.{SaveCause}
 use Rattle.vdr_tool.specs.declared.status.SaveCause.TheVariants.{Label, Nothing, TableFull}
 use Rattle.vdr_tool.specs.declared.status.Status.{Status}
 use Rattle.vdr_tool.specs.declared.status.Status.TheVariants.{Done, MediaFault, OutputFault, SaveRefused}
+use Rattle.vdr_replay.proofs.Playing.{config_read}
 use Rattle.vdr_tool.proofs.OpenedLemmas.{OpenedOn, done_either, kept_by_call, legible_so, one_look, worked_ends}
 
 -- Of a refused opening nothing is printed.
-pub prints_nothing : (text : List ℕ) (refused : OpenRefused) (old new : Option (List ℕ)) → PrintsText text (status_of_opening refused) old new
+pub prints_nothing : (text : List ℕ) (refused : OpenRefused) (old new : OutputSeen) → PrintsText text (status_of_opening refused) old new
 prints_nothing text openings.NoMemory old new = tt
 prints_nothing text openings.NotFormatted old new = tt
 prints_nothing text (openings.Damaged m offset) old new = tt
@@ -53,10 +56,10 @@ no_incident_refused P (openings.Damaged m offset) = tt
 no_incident_refused P openings.Fault = tt
 
 -- The text, or a front of it.
-pub prints_as : (status : Status) (text other : List ℕ) (old new : Option (List ℕ)) → text ≡ other → PrintsText text status old new → PrintsText other status old new
+pub prints_as : (status : Status) (text other : List ℕ) (old new : OutputSeen) → text ≡ other → PrintsText text status old new → PrintsText other status old new
 prints_as status text other old new same prints = subst (λ (t : List ℕ). PrintsText t status old new) same prints
 
-pub prints_all : (status : Status) (text : List ℕ) (old new : Option (List ℕ)) → (status ≡ Done → Appends old new text) → (status ≡ OutputFault → AppendsFront old new text) → IsWorkDone status
+pub prints_all : (status : Status) (text : List ℕ) (old new : OutputSeen) → (status ≡ Done → Prints text old new) → (status ≡ OutputFault → PrintsFront text old new) → IsWorkDone status
     → PrintsText text status old new
 prints_all status text old new all front done = ⊎_elim
     (λ (is : status ≡ Done). subst (λ (s : Status). PrintsText text s old new) (sym is) (all is))
@@ -83,41 +86,41 @@ never_fault true None free is = let none : ⊥ = cc in absurd none
 never_fault true (Some stamp) None is = let none : ⊥ = cc in absurd none
 never_fault true (Some stamp) (Some slot) is = let none : ⊥ = cc in absurd none
 
-module _ {tells tells_images : Type 0} (old mid new : Disk tells tells_images) (before among now : List ℕ) (r after : RecordingState)
+module _ {tells tells_images : Type 0} (old mid new : MediaSeen tells tells_images) (r after : RecordingState)
     (works : r.members.failed ≡ false)
-    (contents : OpenedOn old r.members)
-    (opened : (x : Contents) → tells → HoldsContents old.reads x → AreSound x
-    → (t0 : ℕ) × (old.clock ≤ t0) × (t0 ≤ mid.clock) × HasRecorded (opening_of x) [] t0 r mid)
-    (later : NoneFalls before among) (others : tells → SameElsewhere old.reads mid.reads) (beside : tells → SameBut 1 mid.reads new.reads) where
-  others_too : tells → SameElsewhere old.reads new.reads
+    (contents : OpenedOn old.disk r.members)
+    (opened : (x : Contents) → tells → HoldsContents old.disk.reads x → WasRecorded x
+    → (t0 : ℕ) × (old.disk.clock ≤ t0) × (t0 ≤ mid.disk.clock) × HasRecorded (opening_of x) [] t0 r mid.disk)
+    (later : NoneFalls old.faults mid.faults) (others : tells → SameElsewhere old.disk.reads mid.disk.reads) (beside : tells → SameBut 1 mid.disk.reads new.disk.reads) where
+  others_too : tells → SameElsewhere old.disk.reads new.disk.reads
   others_too t = λ k not_first not_second. beside t k not_second ∙ others t k not_first not_second
 
-  rose : (faulted : Type 0) → HasFaultOn 1 r.members.failed among now faulted → faulted → Rose (sum before) (sum now)
+  rose : (faulted : Type 0) → HasFaultOn 1 r.members.failed mid.faults new.faults faulted → faulted → Rose (sum old.faults) (sum new.faults)
   rose faulted cause is = ⊎_elim (λ (failed : r.members.failed ≡ true). let clash : true ≡ false = sym failed ∙ works in let none : ⊥ = cc in absurd none)
-      (λ (more : Rose (sum among) (sum now)). rose_after (sum before) (sum among) (sum now) (sum_not_less before among later.same_media later.none_falls) more)
+      (λ (more : Rose (sum mid.faults) (sum new.faults)). rose_after (sum old.faults) (sum mid.faults) (sum new.faults) (sum_not_less old.faults mid.faults later.same_media later.none_falls) more)
       (cause.in_all is)
 
-  standing : (x : Contents) → tells → HoldsContents old.reads x → AreSound x → (placed : ℕ → List Placed) × Stands (opening_of x) [] r.members placed mid
-  standing x t holds sound = let work = (opened x t holds sound).3.works works in (work.placed, work.stands)
+  standing : (x : Contents) → tells → HoldsContents old.disk.reads x → WasRecorded x → (placed : ℕ → List Placed) × Stands (opening_of x) [] r.members placed mid.disk
+  standing x t holds regular = let work = (opened x t holds regular).3.works works in (work.placed, work.stands)
 
   module _ (label : List ℕ) (saved : Result ℕ Refused)
       (saves_so : (opening : Opening) (events : List Event) (t0 : ℕ) → tells → r.members.failed ≡ false → save_refusal label r.members ≡ None → ((m offset : ℕ) → saved ≡ Err (saves.Damaged m offset) → ⊥)
-      → HasRecorded opening events t0 r mid → (id : ℕ) × (a : ℕ) × (b : ℕ) × IfOk saved (λ told. told ≡ id) × HasDone opening events t0 (Save id label a b) after mid new)
+      → HasRecorded opening events t0 r mid.disk → (id : ℕ) × (a : ℕ) × (b : ℕ) × IfOk saved (λ told. told ≡ id) × HasDone opening events t0 (Save id label a b) after mid.disk new.disk)
       (looked : (opening : Opening) (events : List Event) (t0 : ℕ) (refused : Refused) → (r.members.failed ≡ true) ⊎ (save_refusal label r.members ≡ Some refused)
-      → HasRecorded opening events t0 r mid → HasDone opening events t0 Look after mid new)
-      (met_damage : (opening : Opening) (events : List Event) (t0 m offset : ℕ) → tells → saved ≡ Err (saves.Damaged m offset) → HasRecorded opening events t0 r mid → HasDone opening events t0 Look after mid new)
+      → HasRecorded opening events t0 r mid.disk → HasDone opening events t0 Look after mid.disk new.disk)
+      (met_damage : (opening : Opening) (events : List Event) (t0 m offset : ℕ) → tells → saved ≡ Err (saves.Damaged m offset) → HasRecorded opening events t0 r mid.disk → HasDone opening events t0 Look after mid.disk new.disk)
       (refused_so : (refused : Refused) → r.members.failed ≡ false → save_refusal label r.members ≡ Some refused → saved ≡ Err refused)
-      (undamaged : (opening : Opening) (events : List Event) (placed : ℕ → List Placed) (m offset : ℕ) → tells → Stands opening events r.members placed mid
+      (undamaged : (opening : Opening) (events : List Event) (placed : ℕ → List Placed) (m offset : ℕ) → tells → Stands opening events r.members placed mid.disk
       → saved ≡ Err (saves.Damaged m offset) → ⊥)
     where
       -- How the label is judged on these media.
-      judged : (found : Option Refused) → save_refusal label r.members ≡ found → tells → IsLegibleWith old.reads (IsJudged label (cause_if found))
-      judged found is = legible_so (IsJudged label (cause_if found)) old r.members contents (λ x t holds c k l.
+      judged : (found : Option Refused) → save_refusal label r.members ≡ found → tells → IsLegibleWith old.disk.reads (IsJudged label (cause_if found))
+      judged found is = legible_so (IsJudged label (cause_if found)) old.disk r.members contents (λ x t holds c k l.
           subst (λ (newest : Option (ℕ × ℤ)). save_cause label newest x.table ≡ cause_if found) l
           (subst (λ (table : List (Option Incident)). save_cause label r.members.last table ≡ cause_if found) k (ap (λ (o : Option Refused). cause_if o) is)))
 
       -- What a recorder leaves is not damaged.
-      unsound : (m offset : ℕ) → saved ≡ Err (saves.Damaged m offset) → tells → (x : Contents) → HoldsContents old.reads x → AreSound x → ⊥
+      unsound : (m offset : ℕ) → saved ≡ Err (saves.Damaged m offset) → tells → (x : Contents) → HoldsContents old.disk.reads x → WasRecorded x → ⊥
       unsound m offset is t x holds sound = let stands = standing x t holds sound in undamaged (opening_of x) [] stands.0 m offset t stands.1 is
 
       -- Where the save is not refused by the judgement, nothing stands in its way.
@@ -126,37 +129,37 @@ module _ {tells tells_images : Type 0} (old mid new : Disk tells tells_images) (
       unrefused (Some refused) is not = absurd (not refused is)
 
       module _ {T : Type 0} (result : Result T OpenRefused)
-          (moments : (x : Contents) → tells → HoldsContents old.reads x → EndsMeet both (reading_of x) → AreSound x → OpensAtEachMoment old mid result (ShowsHistory (opening_of x) [])) where
-        kept_with_save : (moment : Option ℕ) (MayBe : List Event → Type 0) → save_refusal label r.members ≡ None → ((m offset : ℕ) → saved ≡ Err (saves.Damaged m offset) → ⊥) → moment_of after.members.failed new.clock ≡ moment
+          (moments : (x : Contents) → tells → HoldsContents old.disk.reads x → EndsMeet both (reading_of x) → WasRecorded x → OpensAtEachMoment old.disk mid.disk result (ShowsHistory (opening_of x) [])) where
+        kept_with_save : (moment : Option ℕ) (MayBe : List Event → Type 0) → save_refusal label r.members ≡ None → ((m offset : ℕ) → saved ≡ Err (saves.Damaged m offset) → ⊥) → moment_of after.members.failed new.disk.clock ≡ moment
             → ((events : List Event) → IsOneEvent (SavesAs label) moment events → MayBe events)
-            → (x : Contents) → tells → HoldsContents old.reads x → EndsMeet both (reading_of x) → AreSound x → KeepsContents x MayBe old new
-        kept_with_save moment MayBe none whole is may x t holds meet sound =
-            let has = opened x t holds sound in
+            → (x : Contents) → tells → HoldsContents old.disk.reads x → EndsMeet both (reading_of x) → WasRecorded x → KeepsContents x MayBe old.disk new.disk
+        kept_with_save moment MayBe none whole is may x t holds meet regular =
+            let has = opened x t holds regular in
             let save = saves_so (opening_of x) [] has.0 t works none whole has.3 in
             let done = save.4 in
-            kept_by_call x MayBe old mid new result (Save save.0 label save.1 save.2) r after has.0 (moments x t holds meet sound) has.1 has.2 done
+            kept_by_call x (config_read old.disk.reads x holds) regular MayBe old.disk mid.disk new.disk result (Save save.0 label save.1 save.2) refl r after has.0 (moments x t holds meet regular) has.1 has.2 done
             (may (done.event ∷ []) (record { event = done.event; is = refl; does = (save.0, save.1, save.2, done.act_is); moment_is = done.moment_is ∙ is }))
 
         kept_refused : (refused : Refused) → save_refusal label r.members ≡ Some refused
-            → (x : Contents) → tells → HoldsContents old.reads x → EndsMeet both (reading_of x) → AreSound x → KeepsContents x AreLooks old new
-        kept_refused refused is x t holds meet sound =
-            let has = opened x t holds sound in
+            → (x : Contents) → tells → HoldsContents old.disk.reads x → EndsMeet both (reading_of x) → WasRecorded x → KeepsContents x AreLooks old.disk new.disk
+        kept_refused refused is x t holds meet regular =
+            let has = opened x t holds regular in
             let done = looked (opening_of x) [] has.0 refused (inr is) has.3 in
-            kept_by_call x AreLooks old mid new result Look r after has.0 (moments x t holds meet sound) has.1 has.2 done (one_look done.event done.act_is)
+            kept_by_call x (config_read old.disk.reads x holds) regular AreLooks old.disk mid.disk new.disk result Look refl r after has.0 (moments x t holds meet regular) has.1 has.2 done (one_look done.event done.act_is)
 
         pub saved_ends : (status : Status) (id : ℕ) → IsWorkDone status → saved ≡ Ok id → ((saved ≡ Err saves.Fault → ⊥) → after.members.failed ≡ false)
-            → MediaEnds (CanSave label) (MetUnsound old (CanSave label)) (MayLeave (SavesAs label) new.clock status) old new before now status
+            → MediaEnds (CanSave label) (MetUnsound old.disk (CanSave label)) (MayLeave (SavesAs label) new.disk.clock status) old new status
         saved_ends status id done is works_on =
             let works_still = works_on (λ e. let clash : Ok id ≡ Err saves.Fault = sym is ∙ e in let no_one : ⊥ = cc in no_one) in
             let none = unrefused (save_refusal label r.members) refl (λ refused e. let clash : Ok id ≡ Err refused = sym is ∙ refused_so refused works e in let no_one : ⊥ = cc in no_one) in
-            worked_ends (CanSave label) (MetUnsound old (CanSave label)) (MayLeave (SavesAs label) new.clock status) old new before now status done
+            worked_ends (CanSave label) (MetUnsound old.disk (CanSave label)) (MayLeave (SavesAs label) new.disk.clock status) old new status done
             (judged None none) others_too
-            (kept_with_save (Some new.clock) (MayLeave (SavesAs label) new.clock status) none (λ m offset e. let clash : Ok id ≡ Err (saves.Damaged m offset) = sym is ∙ e in let no_one : ⊥ = cc in no_one) (ap (λ (b : Bool). moment_of b new.clock) works_still) (λ events one. may_leave (SavesAs label) new.clock status events done one))
+            (kept_with_save (Some new.disk.clock) (MayLeave (SavesAs label) new.disk.clock status) none (λ m offset e. let clash : Ok id ≡ Err (saves.Damaged m offset) = sym is ∙ e in let no_one : ⊥ = cc in no_one) (ap (λ (b : Bool). moment_of b new.disk.clock) works_still) (λ events one. may_leave (SavesAs label) new.disk.clock status events done one))
 
         module _ (reason : (refused : Refused) → saved ≡ Err refused → (refused ≡ saves.Label) ⊎ ((refused ≡ saves.Nothing) ⊎ (refused ≡ saves.TableFull))
             → (r.members.failed ≡ false) × (save_refusal label r.members ≡ Some refused))
             (fails : saved ≡ Err saves.Fault → after.members.failed ≡ true)
-            (cause : HasFaultOn 1 r.members.failed among now (saved ≡ Err saves.Fault)) where
+            (cause : HasFaultOn 1 r.members.failed mid.faults new.faults (saved ≡ Err saves.Fault)) where
           -- What a judgement never answers was not judged.
           unjudged : (refused : Refused) → saved ≡ Err refused → (save_refusal label r.members ≡ Some refused → ⊥) → save_refusal label r.members ≡ None
           unjudged refused is never = unrefused (save_refusal label r.members) refl (λ other e.
@@ -165,18 +168,18 @@ module _ {tells tells_images : Type 0} (old mid new : Disk tells tells_images) (
               never (e ∙ ap (λ (x : Refused). Some x) same))
 
           by_judgement : (refused : Refused) (why : SaveCause) → save_refusal label r.members ≡ Some refused
-              → MediaEnds (CanSave label) (MetUnsound old (CanSave label)) AreLooks old new before now (SaveRefused why)
+              → MediaEnds (CanSave label) (MetUnsound old.disk (CanSave label)) AreLooks old new (SaveRefused why)
           by_judgement refused why is = record {
             unformatted = λ e. let none : ⊥ = cc in absurd none;
             damaged = tt;
             fault = λ e. let none : ⊥ = cc in absurd none;
             legible = λ done. absurd done;
             others = others_too;
-            kept = λ x t holds meet sound. inr (kept_refused refused is x t holds meet sound);
+            kept = λ x t holds meet regular. inr (kept_refused refused is x t holds meet regular);
           }
 
           pub unsaved_ends : (refused : Refused) → saved ≡ Err refused
-              → MediaEnds (CanSave label) (MetUnsound old (CanSave label)) (MayLeave (SavesAs label) new.clock (status_of_save refused)) old new before now (status_of_save refused)
+              → MediaEnds (CanSave label) (MetUnsound old.disk (CanSave label)) (MayLeave (SavesAs label) new.disk.clock (status_of_save refused)) old new (status_of_save refused)
           unsaved_ends saves.Label is = by_judgement saves.Label Label (reason saves.Label is (inl refl)).1
           unsaved_ends saves.Nothing is = by_judgement saves.Nothing Nothing (reason saves.Nothing is (inr (inl refl))).1
           unsaved_ends saves.TableFull is = by_judgement saves.TableFull TableFull (reason saves.TableFull is (inr (inr refl))).1
@@ -188,10 +191,10 @@ module _ {tells tells_images : Type 0} (old mid new : Disk tells tells_images) (
                 fault = λ e. let none : ⊥ = cc in absurd none;
                 legible = λ done. absurd done;
                 others = others_too;
-                kept = λ x t holds meet sound.
-                    let has = opened x t holds sound in
+                kept = λ x t holds meet regular.
+                    let has = opened x t holds regular in
                     let done = met_damage (opening_of x) [] has.0 m offset t is has.3 in
-                    inr (kept_by_call x AreLooks old mid new result Look r after has.0 (moments x t holds meet sound) has.1 has.2 done (one_look done.event done.act_is));
+                    inr (kept_by_call x (config_read old.disk.reads x holds) regular AreLooks old.disk mid.disk new.disk result Look refl r after has.0 (moments x t holds meet regular) has.1 has.2 done (one_look done.event done.act_is));
               }
           unsaved_ends saves.Fault is =
               let none = unjudged saves.Fault is (never_fault (is_label label) r.members.last (position is_none r.members.table)) in
@@ -201,10 +204,10 @@ module _ {tells tells_images : Type 0} (old mid new : Disk tells tells_images) (
                 fault = λ e. rose (saved ≡ Err saves.Fault) cause is;
                 legible = λ done. absurd done;
                 others = others_too;
-                kept = λ x t holds meet sound. inr (kept_with_save None (MayLeave (SavesAs label) new.clock MediaFault) none (λ m offset e. let clash : Err saves.Fault ≡ Err (saves.Damaged m offset) = sym is ∙ e in let no_one : ⊥ = cc in no_one) (ap (λ (b : Bool). moment_of b new.clock) (fails is)) (λ events one. inr one) x t holds meet sound);
+                kept = λ x t holds meet regular. inr (kept_with_save None (MayLeave (SavesAs label) new.disk.clock MediaFault) none (λ m offset e. let clash : Err saves.Fault ≡ Err (saves.Damaged m offset) = sym is ∙ e in let no_one : ⊥ = cc in no_one) (ap (λ (b : Bool). moment_of b new.disk.clock) (fails is)) (λ events one. inr one) x t holds meet regular);
               }
 
-          pub unsaved_refused : (refused : Refused) → saved ≡ Err refused → IfSaveRefused (status_of_save refused) (λ why. tells → IsLegibleWith old.reads (IsJudged label (Some why)))
+          pub unsaved_refused : (refused : Refused) → saved ≡ Err refused → IfSaveRefused (status_of_save refused) (λ why. tells → IsLegibleWith old.disk.reads (IsJudged label (Some why)))
           unsaved_refused saves.Label is = judged (Some saves.Label) (reason saves.Label is (inl refl)).1
           unsaved_refused saves.Nothing is = judged (Some saves.Nothing) (reason saves.Nothing is (inr (inl refl))).1
           unsaved_refused saves.TableFull is = judged (Some saves.TableFull) (reason saves.TableFull is (inr (inr refl))).1
@@ -212,54 +215,54 @@ module _ {tells tells_images : Type 0} (old mid new : Disk tells tells_images) (
           unsaved_refused saves.Fault is = tt
 
   module _ (id : ℕ) (released : Result ⊤ ReleaseRefused)
-      (releases_so : (opening : Opening) (events : List Event) (t0 : ℕ) (saved : Incident) → tells → r.members.failed ≡ false → live r.members.table id ≡ Some saved → HasRecorded opening events t0 r mid
-      → HasDone opening events t0 (Release id) after mid new)
+      (releases_so : (opening : Opening) (events : List Event) (t0 : ℕ) (saved : Incident) → tells → r.members.failed ≡ false → live r.members.table id ≡ Some saved → HasRecorded opening events t0 r mid.disk
+      → HasDone opening events t0 (Release id) after mid.disk new.disk)
       (looked : (opening : Opening) (events : List Event) (t0 : ℕ) → (r.members.failed ≡ true) ⊎ (live r.members.table id ≡ None)
-      → HasRecorded opening events t0 r mid → HasDone opening events t0 Look after mid new)
+      → HasRecorded opening events t0 r mid.disk → HasDone opening events t0 Look after mid.disk new.disk)
       (refused_so : r.members.failed ≡ false → live r.members.table id ≡ None → released ≡ Err releases.NoSuch)
       (reason : released ≡ Err releases.NoSuch → (r.members.failed ≡ false) × (live r.members.table id ≡ None))
       (fails : released ≡ Err releases.Fault → after.members.failed ≡ true)
       (works_on : (released ≡ Err releases.Fault → ⊥) → after.members.failed ≡ false)
-      (cause : HasFaultOn 1 r.members.failed among now (released ≡ Err releases.Fault)) where
+      (cause : HasFaultOn 1 r.members.failed mid.faults new.faults (released ≡ Err releases.Fault)) where
     -- What is not refused is live.
     there : (found : Option Incident) → live r.members.table id ≡ found → (released ≡ Err releases.NoSuch → ⊥) → (saved : Incident) × (live r.members.table id ≡ Some saved)
     there None is not = absurd (not (refused_so works is))
     there (Some saved) is not = (saved, is)
 
-    missing : live r.members.table id ≡ None → tells → IsLegibleWith old.reads (λ x. live x.table id ≡ None)
-    missing none = legible_so (λ x. live x.table id ≡ None) old r.members contents (λ x t holds c k l. subst (λ (table : List (Option Incident)). live table id ≡ None) k none)
+    missing : live r.members.table id ≡ None → tells → IsLegibleWith old.disk.reads (λ x. live x.table id ≡ None)
+    missing none = legible_so (λ x. live x.table id ≡ None) old.disk r.members contents (λ x t holds c k l. subst (λ (table : List (Option Incident)). live table id ≡ None) k none)
 
-    can : (saved : Incident) → live r.members.table id ≡ Some saved → tells → IsLegibleWith old.reads (λ x. CanRelease id x)
-    can saved is = legible_so (λ x. CanRelease id x) old r.members contents (λ x t holds c k l. (saved, subst (λ (table : List (Option Incident)). live table id ≡ Some saved) k is))
+    can : (saved : Incident) → live r.members.table id ≡ Some saved → tells → IsLegibleWith old.disk.reads (λ x. CanRelease id x)
+    can saved is = legible_so (λ x. CanRelease id x) old.disk r.members contents (λ x t holds c k l. (saved, subst (λ (table : List (Option Incident)). live table id ≡ Some saved) k is))
 
     module _ {T : Type 0} (result : Result T OpenRefused)
-        (moments : (x : Contents) → tells → HoldsContents old.reads x → EndsMeet both (reading_of x) → AreSound x → OpensAtEachMoment old mid result (ShowsHistory (opening_of x) [])) where
-      kept_with_release : (moment : Option ℕ) (MayBe : List Event → Type 0) (saved : Incident) → live r.members.table id ≡ Some saved → moment_of after.members.failed new.clock ≡ moment
+        (moments : (x : Contents) → tells → HoldsContents old.disk.reads x → EndsMeet both (reading_of x) → WasRecorded x → OpensAtEachMoment old.disk mid.disk result (ShowsHistory (opening_of x) [])) where
+      kept_with_release : (moment : Option ℕ) (MayBe : List Event → Type 0) (saved : Incident) → live r.members.table id ≡ Some saved → moment_of after.members.failed new.disk.clock ≡ moment
           → ((events : List Event) → IsOneEvent (ReleasesId id) moment events → MayBe events)
-          → (x : Contents) → tells → HoldsContents old.reads x → EndsMeet both (reading_of x) → AreSound x → KeepsContents x MayBe old new
-      kept_with_release moment MayBe saved live_is is may x t holds meet sound =
-          let has = opened x t holds sound in
+          → (x : Contents) → tells → HoldsContents old.disk.reads x → EndsMeet both (reading_of x) → WasRecorded x → KeepsContents x MayBe old.disk new.disk
+      kept_with_release moment MayBe saved live_is is may x t holds meet regular =
+          let has = opened x t holds regular in
           let done = releases_so (opening_of x) [] has.0 saved t works live_is has.3 in
-          kept_by_call x MayBe old mid new result (Release id) r after has.0 (moments x t holds meet sound) has.1 has.2 done
+          kept_by_call x (config_read old.disk.reads x holds) regular MayBe old.disk mid.disk new.disk result (Release id) refl r after has.0 (moments x t holds meet regular) has.1 has.2 done
           (may (done.event ∷ []) (record { event = done.event; is = refl; does = done.act_is; moment_is = done.moment_is ∙ is }))
 
       pub released_ends : (p : Result ⊤ ReleaseRefused) → released ≡ p
-          → MediaEnds (λ x. CanRelease id x) ⊥ (MayLeave (ReleasesId id) new.clock (status_of_release p id)) old new before now (status_of_release p id)
+          → MediaEnds (λ x. CanRelease id x) ⊥ (MayLeave (ReleasesId id) new.disk.clock (status_of_release p id)) old new (status_of_release p id)
       released_ends (Ok u) is =
           let live_one = there (live r.members.table id) refl (λ e. let clash : Ok u ≡ Err releases.NoSuch = sym is ∙ e in let none : ⊥ = cc in none) in
           let works_still = works_on (λ e. let clash : Ok u ≡ Err releases.Fault = sym is ∙ e in let none : ⊥ = cc in none) in
-          worked_ends (λ x. CanRelease id x) ⊥ (MayLeave (ReleasesId id) new.clock Done) old new before now Done tt (can live_one.0 live_one.1) others_too
-          (kept_with_release (Some new.clock) (MayLeave (ReleasesId id) new.clock Done) live_one.0 live_one.1 (ap (λ (b : Bool). moment_of b new.clock) works_still) (λ events one. one))
+          worked_ends (λ x. CanRelease id x) ⊥ (MayLeave (ReleasesId id) new.disk.clock Done) old new Done tt (can live_one.0 live_one.1) others_too
+          (kept_with_release (Some new.disk.clock) (MayLeave (ReleasesId id) new.disk.clock Done) live_one.0 live_one.1 (ap (λ (b : Bool). moment_of b new.disk.clock) works_still) (λ events one. one))
       released_ends (Err releases.NoSuch) is = record {
         unformatted = λ e. let none : ⊥ = cc in absurd none;
         damaged = tt;
         fault = λ e. let none : ⊥ = cc in absurd none;
         legible = λ done. absurd done;
         others = others_too;
-        kept = λ x t holds meet sound.
-            let has = opened x t holds sound in
+        kept = λ x t holds meet regular.
+            let has = opened x t holds regular in
             let done = looked (opening_of x) [] has.0 (inr (reason is).1) has.3 in
-            inr (kept_by_call x AreLooks old mid new result Look r after has.0 (moments x t holds meet sound) has.1 has.2 done (one_look done.event done.act_is));
+            inr (kept_by_call x (config_read old.disk.reads x holds) regular AreLooks old.disk mid.disk new.disk result Look refl r after has.0 (moments x t holds meet regular) has.1 has.2 done (one_look done.event done.act_is));
       }
       released_ends (Err releases.Fault) is =
           let live_one = there (live r.members.table id) refl (λ e. let clash : Err releases.Fault ≡ Err releases.NoSuch = sym is ∙ e in let none : ⊥ = cc in none) in
@@ -269,16 +272,16 @@ module _ {tells tells_images : Type 0} (old mid new : Disk tells tells_images) (
             fault = λ e. rose (released ≡ Err releases.Fault) cause is;
             legible = λ done. absurd done;
             others = others_too;
-            kept = λ x t holds meet sound. inr (kept_with_release None (MayLeave (ReleasesId id) new.clock MediaFault) live_one.0 live_one.1 (ap (λ (b : Bool). moment_of b new.clock) (fails is)) (λ events one. inr one) x t holds meet sound);
+            kept = λ x t holds meet regular. inr (kept_with_release None (MayLeave (ReleasesId id) new.disk.clock MediaFault) live_one.0 live_one.1 (ap (λ (b : Bool). moment_of b new.disk.clock) (fails is)) (λ events one. inr one) x t holds meet regular);
           }
 
-    pub released_missing : (p : Result ⊤ ReleaseRefused) → released ≡ p → IfNoIncident (status_of_release p id) (λ told. (told ≡ id) × (tells → IsLegibleWith old.reads (λ x. live x.table id ≡ None)))
+    pub released_missing : (p : Result ⊤ ReleaseRefused) → released ≡ p → IfNoIncident (status_of_release p id) (λ told. (told ≡ id) × (tells → IsLegibleWith old.disk.reads (λ x. live x.table id ≡ None)))
     released_missing (Ok u) is = tt
     released_missing (Err releases.NoSuch) is = (refl, missing (reason is).1)
     released_missing (Err releases.Fault) is = tt
 
 -- Of a refused save nothing is printed.
-pub unsaved_prints : (text : List ℕ) (refused : Refused) (old new : Option (List ℕ)) → PrintsText text (status_of_save refused) old new
+pub unsaved_prints : (text : List ℕ) (refused : Refused) (old new : OutputSeen) → PrintsText text (status_of_save refused) old new
 unsaved_prints text saves.Label old new = tt
 unsaved_prints text saves.Nothing old new = tt
 unsaved_prints text saves.TableFull old new = tt

@@ -7,7 +7,8 @@ use Rattle.vdr_control.specs.Orders.PlainOrder.{Play as PlayOrder, Status as Sta
 use Rattle.vdr_control.specs.Plays.{SpellsPlay}
 use Rattle.vdr_tool.specs.Commands.{Asked, plain}
 use Rattle.vdr_tool.specs.Commands.Asked.{Review, Check, Format, Replay, Play, Incidents, Save, Release}
-use Rattle.vdr_tool.specs.Words.{Spells}
+use Rattle.vdr_tool.specs.Plays.{AskedPlay}
+use Rattle.vdr_tool.specs.Runs.{Spells}
 use Rattle.vdr_tool.specs.declared.words.Command.{Command}
 
 -- The same words spell the same.
@@ -18,12 +19,9 @@ spelled_along medium m channel c from f to t order p q r s h =
 
 -- Five words are those of a play.
 pub record FiveWords (word medium channel from to : List ℕ) (command : Asked) : Type 0 where
-  pub asked : Medium
-  pub name : List ℕ
-  pub since : ℤ
-  pub until : ℤ
-  pub is : command ≡ Play asked name since until
-  pub spelled : SpellsPlay medium channel from to (PlayOrder asked name since until)
+  pub asked : AskedPlay
+  pub is : command ≡ Play asked
+  pub spelled : SpellsPlay medium channel from to (PlayOrder asked.medium asked.channel asked.from asked.to)
 
 pub five_words : (word medium channel from to : List ℕ) (command : Asked) → Spells (word ∷ medium ∷ channel ∷ from ∷ to ∷ []) command → FiveWords word medium channel from to command
 five_words word medium channel from to (Review None) s = let e = s.words in let none : ⊥ = cc in absurd none
@@ -35,7 +33,7 @@ five_words word medium channel from to Replay s = let e = s.words in let none : 
 five_words word medium channel from to Incidents s = let e = s.words in let none : ⊥ = cc in absurd none
 five_words word medium channel from to (Save label) s = let e = s.words in let none : ⊥ = cc in absurd none
 five_words word medium channel from to (Release id) s = let e = s.words in let none : ⊥ = cc in absurd none
-five_words word medium channel from to (Play asked name since until) s =
+five_words word medium channel from to (Play asked) s =
     let p = s.words in
     let e : word ∷ medium ∷ channel ∷ from ∷ to ∷ [] ≡ codes "play" ∷ p.medium ∷ p.channel ∷ p.from ∷ p.to ∷ [] = p.words in
     let a : p.medium ≡ medium = cc in
@@ -44,24 +42,25 @@ five_words word medium channel from to (Play asked name since until) s =
     let d : p.to ≡ to = cc in
     record {
       asked = asked;
-      name = name;
-      since = since;
-      until = until;
       is = refl;
-      spelled = spelled_along p.medium medium p.channel channel p.from from p.to to (PlayOrder asked name since until) a b c d p.spelled;
+      spelled = spelled_along p.medium medium p.channel channel p.from from p.to to (PlayOrder asked.medium asked.channel asked.from asked.to) a b c d p.spelled;
     }
+
+-- The play of an order.
+abbrev pub play_of : (medium : Medium) (channel : List ℕ) (from to : ℤ) → Asked
+play_of medium channel from to = Play (record { medium = medium; channel = channel; from = from; to = to })
 
 as_command : PlainOrder → Asked
 as_command StatusOrder = Check
 as_command (SaveOrder label) = Check
 as_command (ReleaseOrder id) = Check
-as_command (PlayOrder medium channel from to) = Play medium channel from to
+as_command (PlayOrder medium channel from to) = play_of medium channel from to
 
 -- One order is one command.
-pub one_command : (medium other : Medium) (channel name : List ℕ) (from since to until : ℤ) → PlayOrder medium channel from to ≡ PlayOrder other name since until
-    → Play medium channel from to ≡ Play other name since until
+pub one_command : (medium : Medium) (channel : List ℕ) (from to : ℤ) (asked : AskedPlay) → PlayOrder medium channel from to ≡ PlayOrder asked.medium asked.channel asked.from asked.to
+    → play_of medium channel from to ≡ Play asked
 unfolding as_command
-one_command medium other channel name from since to until same = ap as_command same
+one_command medium channel from to asked same = ap as_command same
 
 -- No command is asked for.
 pub none_asked : {P : Type 0} (r : Option Command) (command : Asked) → r ≡ None → option_map plain r ≡ Some command → P

@@ -8,8 +8,11 @@ use Rattle.vdr_config.specs.declared.bad.ConfigBad.TheVariants as bad
 use Rattle.vdr_config.specs.Configuration.{Configuration}
 use Rattle.vdr_config.specs.Sizes.{sizes_of}
 use Rattle.vdr_config.specs.Grammar.{configuration}
+use Rattle.vdr_tool.specs.Outside.{OutputSeen, Writes}
+use Rattle.vdr_tool.specs.StatusLine.{IfConfig}
 use Rattle.vdr_tool.specs.declared.checking.CheckStop.{CheckStop}
 use Rattle.vdr_tool.specs.declared.checking.CheckStop.TheVariants.{Input, Memory, Refused}
+use Rattle.vdr_tool.specs.declared.status.Status.{Status}
 
 -- The number of configured groups.
 abbrev pub groups_of : Configuration → ℕ
@@ -68,3 +71,8 @@ key_of bad.TooLong = codes "-"
 -- The status line of a refusal.
 unfoldable pub refusal_line : ConfigBad → List ℕ
 refusal_line bad = codes "status 3 config " ++ decimal (number_of bad) ++ codes " " ++ escaped (key_of bad) ++ codes "\n"
+
+-- The input is refused by the grammar, and its refusal is written, with the key.
+abbrev pub RefusesConfig : Status → (left : Option (List ℕ)) → (old new : OutputSeen) → Type 0
+RefusesConfig status left old new = IfConfig status (λ number. (bad : ConfigBad) × (number_of bad ≡ number) × IfKnown left (λ bytes. configuration bytes ≡ Err bad)
+    × Writes (refusal_line bad) old new)

@@ -1,9 +1,31 @@
 -- How a command ended, where nothing failed outside.
-use Rattle.std.specs.Prelude.{◌≡◌, ℕ, ⊤}
+use Rattle.std.specs.Prelude.{◌≡◌, ℕ, Result, Ok, Err, ⊤}
 use Rattle.vdr_config.specs.declared.bad.ConfigBad.{ConfigBad}
 use Rattle.vdr_tool.specs.Check.{number_of}
+use Rattle.vdr_tool.specs.Outside.{OutputSeen, Writes}
+use Rattle.vdr_tool.specs.StatusLine.{status_line}
 use Rattle.vdr_tool.specs.declared.status.Status.{Status}
-use Rattle.vdr_tool.specs.declared.status.Status.TheVariants.{Done, Config, Small, Unformatted, Formatted, Damaged, MediaFault, NoMemory, Feed, NoChannel, NoIncident, SaveRefused, Place, Tick}
+use Rattle.vdr_tool.specs.declared.status.Status.TheVariants.{Done, Config, OutputFault, NoMemory, Feed, NoChannel}
+
+-- The status of a command that succeeded, or ended otherwise.
+abbrev pub ending : Result ⊤ Status → Status
+ending (Ok x) = Done
+ending (Err status) = status
+
+-- The line of the status is written. Done has none, nor has an output that failed; the lines of Config and NoChannel are written by
+-- the commands themselves, since they name a key or a channel.
+abbrev pub WritesLine : Status → (old new : OutputSeen) → Type 0
+WritesLine Done old new = new ≡ old
+WritesLine OutputFault old new = new ≡ old
+WritesLine (Config number) old new = new ≡ old
+WritesLine NoChannel old new = new ≡ old
+WritesLine status old new = Writes (status_line status) old new
+
+-- The work was done; its text may have failed.
+abbrev pub IsWorkDone : Status → Type 0
+IsWorkDone Done = ⊤
+IsWorkDone OutputFault = ⊤
+IsWorkDone status = ⊥
 
 -- All was done, or there was no memory.
 abbrev pub IsDone : Status → Type 0
@@ -22,17 +44,3 @@ abbrev pub IsConfigRefusal : ConfigBad → Status → Type 0
 IsConfigRefusal bad (Config number) = number ≡ number_of bad
 IsConfigRefusal bad NoMemory = ⊤
 IsConfigRefusal bad status = ⊥
-
--- Neither a medium nor what it holds is spoken of.
-abbrev pub IsTextAlone : Status → Type 0
-IsTextAlone (Small small) = ⊥
-IsTextAlone Unformatted = ⊥
-IsTextAlone Formatted = ⊥
-IsTextAlone (Damaged medium offset) = ⊥
-IsTextAlone MediaFault = ⊥
-IsTextAlone NoChannel = ⊥
-IsTextAlone (NoIncident id) = ⊥
-IsTextAlone (SaveRefused cause) = ⊥
-IsTextAlone Place = ⊥
-IsTextAlone Tick = ⊥
-IsTextAlone status = ⊤

@@ -1,14 +1,14 @@
 -- What `incidents` prints and answers (this project's profile; IMO MSC.333(90) asks that the record of an incident be kept).
-use Rattle.std.specs.Prelude.{ℕ, zero, suc, List, [], ◌++◌, codes, decimal, Option, Some, None, ⊤}
+use Rattle.std.specs.Prelude.{◌≡◌, ◌⊎◌, ◌∷◌, ℕ, zero, suc, List, [], ◌++◌, codes, decimal, Option, Some, None, ⊤}
 use Rattle.vdr_history.specs.Histories.{Incident, live}
 use Rattle.vdr_durability.specs.Readings.{EndsMeet}
-use Rattle.vdr_outside.specs.Disk.{Disk, Image}
+use Rattle.vdr_outside.specs.Disk.{Image}
 use Rattle.vdr_entry.specs.Utc.{utc_text}
 use Rattle.vdr_opening.specs.Media.{both, Contents, HoldsContents, reading_of}
-use Rattle.vdr_tool.specs.Commands.{Asked}
-use Rattle.vdr_tool.specs.Commands.Asked.{Incidents}
-use Rattle.vdr_tool.specs.Endings.{IsDone}
+use Rattle.vdr_tool.specs.Endings.{IsDone, IsWorkDone}
 use Rattle.vdr_tool.specs.Opened.{AreLooks, MediaEnds, PrintsText, RefusesAll}
+use Rattle.vdr_tool.specs.Outside.{NothingFailed, OutputFailed, Outside}
+use Rattle.vdr_tool.specs.Promises.{Promise}
 use Rattle.vdr_tool.specs.declared.status.Status.{Status}
 use Rattle.vdr_tool.specs.declared.status.Status.TheVariants.{Done, Unformatted, Damaged, MediaFault, OutputFault, NoMemory}
 
@@ -52,22 +52,33 @@ IsListStatus OutputFault = ⊤
 IsListStatus NoMemory = ⊤
 IsListStatus status = ⊥
 
--- What is said of a command that lists the live saves.
-abbrev pub IfIncidents : Asked → Type 0 → Type 0
-IfIncidents Incidents P = P
-IfIncidents command P = ⊤
-
 -- Any legible media are listed.
 abbrev pub CanList : Contents → Type 0
 CanList x = ⊤
-
--- What `incidents` answers.
-pub record IncidentsAnswers {tells tells_images : Type 0} (old new : Disk tells tells_images) (before now : List ℕ) (taken wrote : Option (List ℕ)) (status : Status) : Type 0 where
-  pub own : IsListStatus status
-  pub ends : MediaEnds CanList ⊥ AreLooks old new before now status
-  pub printed : (x : Contents) → tells → HoldsContents old.reads x → PrintsText (incidents_text x.table) status taken wrote
 
 -- What is legible is listed, and what is not is refused by its own refusal, or there was no memory.
 pub record ListsAll (image : Image) (status : Status) : Type 0 where
   pub refused : RefusesAll image status
   pub done : (x : Contents) → HoldsContents image x → EndsMeet both (reading_of x) → IsDone status
+
+-- What `incidents` owes.
+pub record Lists {tells tells_images : Type 0} (old new : Outside tells tells_images) (status : Status) : Type 0 where
+  pub own : IsListStatus status
+  -- the live saves are printed
+  pub printed : (x : Contents) → tells → HoldsContents old.media.disk.reads x → PrintsText (incidents_text x.table) status old.output new.output
+  -- each failure comes only with its cause
+  pub output : status ≡ OutputFault → OutputFailed old.output new.output
+  pub silent : IsWorkDone status ⊎ (new.output ≡ old.output)
+  -- the media, and what is said of them
+  pub media : MediaEnds CanList ⊥ AreLooks old.media new.media status
+  -- nothing else comes in the place of the list, or of a refusal, but want of memory
+  pub complete : NothingFailed old new → tells → ListsAll old.media.disk.reads status
+
+abbrev pub listing : Promise
+listing = record {
+  words = λ texts. texts ≡ codes "incidents" ∷ [];
+  legal = ⊤;
+  reads_input = ⊥;
+  uses_media = ⊤;
+  owes = λ old new status. Lists old new status;
+}

@@ -1,13 +1,10 @@
 -- What is said of every command that opens recorded media: how opening is refused, and what the media keep (this project's profile).
-use Rattle.std.specs.Prelude.{◌≡◌, ◌≤◌, ◌⊎◌, ◌∷◌, ℕ, ℤ, List, [], length, sum, All, option_map, Option, Some, None, ⊤}
-use Rattle.std.specs.Io.KnownBytes.{Appends}
+use Rattle.std.specs.Prelude.{◌≡◌, ◌≤◌, ◌⊎◌, ◌∷◌, ℕ, ℤ, List, [], length, All, option_map, Option, Some, None, ⊤}
 use Rattle.vdr_history.specs.Histories.{Act, Event, IsHistory}
 use Rattle.vdr_history.specs.Histories.Act.{Look}
 use Rattle.vdr_durability.specs.Keeping.{Keeps, ShowsPrefix}
 use Rattle.vdr_durability.specs.Readings.{EndsMeet}
-use Rattle.vdr_outside.specs.Causes.{Rose}
 use Rattle.vdr_outside.specs.Disk.{Disk, Image}
-use Rattle.vdr_outside.specs.Writes.{AppendsFront}
 use Rattle.vdr_media.specs.Formatted.{IsFormatted, IsUnformatted}
 use Rattle.vdr_opening.specs.Media.{both, Contents, HoldsContents, opening_of, reading_of}
 use Rattle.vdr_opening.specs.Refusals.{IsRefused}
@@ -16,8 +13,10 @@ use Rattle.vdr_opening.specs.declared.refused.OpenRefused.TheVariants as opening
 use Rattle.vdr_vault.specs.Calls.{SameElsewhere}
 use Rattle.vdr_vault.specs.Openings.{LeavesAll}
 use Rattle.vdr_vault.specs.Regularity.{AreSound}
-use Rattle.vdr_vault.specs.Vaults.{ShowsHistory, of_stamp}
-use Rattle.vdr_tool.specs.StatusLine.{Wrote, status_line}
+use Rattle.vdr_vault.specs.Vaults.{of_stamp}
+use Rattle.vdr_replay.specs.Headline.{PlaysBack}
+use Rattle.vdr_tool.specs.Endings.{IsWorkDone}
+use Rattle.vdr_tool.specs.Outside.{MediaFailed, MediaSeen, OutputSeen, Prints, PrintsFront}
 use Rattle.vdr_tool.specs.declared.status.Status.{Status}
 use Rattle.vdr_tool.specs.declared.status.Status.TheVariants.{Done, Unformatted, Damaged, MediaFault, OutputFault, NoMemory, NoIncident}
 
@@ -37,12 +36,6 @@ abbrev pub IfNoIncident : Status → (ℕ → Type 0) → Type 0
 IfNoIncident (NoIncident id) P = P id
 IfNoIncident status P = ⊤
 
--- The work was done; its text may have failed.
-abbrev pub IsWorkDone : Status → Type 0
-IsWorkDone Done = ⊤
-IsWorkDone OutputFault = ⊤
-IsWorkDone status = ⊥
-
 -- Opening may have ended before its syncs had succeeded.
 abbrev pub IsUnopened : Status → Type 0
 IsUnopened Unformatted = ⊤
@@ -51,16 +44,14 @@ IsUnopened MediaFault = ⊤
 IsUnopened status = ⊥
 
 -- The output grew by the text, or by a front of it where the output failed.
-abbrev pub PrintsText : List ℕ → Status → Option (List ℕ) → Option (List ℕ) → Type 0
-PrintsText text Done old new = Appends old new text
-PrintsText text OutputFault old new = AppendsFront old new text
+abbrev pub PrintsText : List ℕ → Status → (old new : OutputSeen) → Type 0
+PrintsText text Done old new = Prints text old new
+PrintsText text OutputFault old new = PrintsFront text old new
 PrintsText text status old new = ⊤
 
--- What is written of a status in which the work was not done: its line alone. Of the others nothing is written.
-abbrev pub Reports : Status → Option (List ℕ) → Option (List ℕ) → (before now : ℕ) → Type 0
-Reports Done old new before now = (new ≡ old) × (now ≡ before)
-Reports OutputFault old new before now = (new ≡ old) × (now ≡ before)
-Reports status old new before now = Wrote (status_line status) old new before now
+-- The media hold what a recorder left of them: the premise of each promise that speaks of what was recorded.
+abbrev pub WasRecorded : Contents → Type 0
+WasRecorded x = AreSound x
 
 -- The image is legible, the ends of its media meet, and P holds of its contents.
 abbrev pub IsLegibleWith : Image → (Contents → Type 0) → Type 0
@@ -103,35 +94,44 @@ module _ {tells tells_images : Type 0} where
   -- Legible media were answered as damaged nevertheless, where a part was read that opening leaves unread: what they hold is not
   -- sound.
   abbrev pub MetUnsound : Disk tells tells_images → (Can : Contents → Type 0) → Type 0
-  MetUnsound old Can = tells → IsLegibleWith old.reads Can × ((x : Contents) → HoldsContents old.reads x → AreSound x → ⊥)
+  MetUnsound old Can = tells → IsLegibleWith old.reads Can × ((x : Contents) → HoldsContents old.reads x → WasRecorded x → ⊥)
 
   -- Media that held these contents keep them by some events: since entry a stop left what it might have left at entry, or media that
-  -- show what was held or what the events make of it; and from the moment at which opening's syncs had succeeded the media keep the
-  -- events.
+  -- play back what was held or what the events make of it; and from the moment at which opening's syncs had succeeded the media keep
+  -- the events.
   pub record KeepsContents (x : Contents) (MayBe : List Event → Type 0) (before after : Disk tells tells_images) : Type 0 where
     pub events : List Event
     pub may_be : MayBe events
     pub history : IsHistory (opening_of x) events
-    pub since_entry : (image : Image) → after.since before.clock image → before.now image ⊎ ShowsPrefix (ShowsHistory (opening_of x)) events 0 image
+    pub since_entry : (image : Image) → after.since before.clock image → before.now image ⊎ ShowsPrefix (PlaysBack (opening_of x)) events 0 image
     pub synced : ℕ
     pub after_entry : before.clock ≤ synced
     pub before_exit : synced ≤ after.clock
-    pub kept : Keeps (ShowsHistory (opening_of x)) events synced after
+    pub kept : Keeps (PlaysBack (opening_of x)) events synced after
 
   -- What is said where media are opened for work that can be done on contents of which Can holds, by what they read as at entry.
   -- Met is what else may be answered as damage.
-  pub record MediaEnds (Can : Contents → Type 0) (Met : Type 0) (MayBe : List Event → Type 0) (old new : Disk tells tells_images) (before now : List ℕ) (status : Status) : Type 0 where
+  pub record MediaEnds (Can : Contents → Type 0) (Met : Type 0) (MayBe : List Event → Type 0) (old new : MediaSeen tells tells_images) (status : Status) : Type 0 where
     -- each refusal comes only in its case
-    pub unformatted : status ≡ Unformatted → IsUntouched old new × (tells → IsUnformatted old.reads)
-    pub damaged : IfDamaged status (λ m offset. IsRefusedAt old new m offset ⊎ Met)
-    pub fault : status ≡ MediaFault → Rose (sum before) (sum now)
-    pub legible : IsWorkDone status → tells → IsLegibleWith old.reads Can
+    pub unformatted : status ≡ Unformatted → IsUntouched old.disk new.disk × (tells → IsUnformatted old.disk.reads)
+    pub damaged : IfDamaged status (λ m offset. IsRefusedAt old.disk new.disk m offset ⊎ Met)
+    pub fault : status ≡ MediaFault → MediaFailed old new
+    pub legible : IsWorkDone status → tells → IsLegibleWith old.disk.reads Can
     -- what was recorded stays, on each medium and at every moment
-    pub others : tells → SameElsewhere old.reads new.reads
-    pub kept : (x : Contents) → tells → HoldsContents old.reads x → EndsMeet both (reading_of x) → AreSound x
-        → (IsUnopened status × LeavesAll old new) ⊎ KeepsContents x MayBe old new
+    pub others : tells → SameElsewhere old.disk.reads new.disk.reads
+    pub kept : (x : Contents) → tells → HoldsContents old.disk.reads x → EndsMeet both (reading_of x) → WasRecorded x
+        → (IsUnopened status × LeavesAll old.disk new.disk) ⊎ KeepsContents x MayBe old.disk new.disk
 
 -- Media that can't be opened are refused by their own refusal, or there was no memory.
 pub record RefusesAll (image : Image) (status : Status) : Type 0 where
   pub unformatted : IsUnformatted image → (status ≡ Unformatted) ⊎ (status ≡ NoMemory)
   pub damaged : IsFormatted image → (m offset : ℕ) → IsRefused image m offset → (status ≡ Damaged m offset) ⊎ (status ≡ NoMemory)
+
+-- What media hold, and how they are refused, has one answer.
+pub record OneAnswer (image : Image) : Type 0 where
+  pub config : (x y : Contents) → HoldsContents image x → HoldsContents image y → x.config ≡ y.config
+  pub placed : (x y : Contents) → HoldsContents image x → HoldsContents image y → x.placed 0 ≡ y.placed 0
+  pub table : (x y : Contents) → HoldsContents image x → HoldsContents image y → x.table ≡ y.table
+  pub formatted : (x : Contents) → HoldsContents image x → IsUnformatted image → ⊥
+  pub either : (x : Contents) (m offset : ℕ) → HoldsContents image x → EndsMeet both (reading_of x) → IsRefused image m offset → ⊥
+  pub one : (m offset k other : ℕ) → IsRefused image m offset → IsRefused image k other → (m ≡ k) × (offset ≡ other)

@@ -1,11 +1,11 @@
 -- What `play` answers, and what it leaves of the media (this project's profile).
-use Rattle.std.specs.Prelude.{◌≡◌, ◌≢◌, ◌⊎◌, if◌then◌else◌, ℕ, ℤ, List, [], position, bytes_eq, codes, Option, None, Result, Ok, Err, ⊤}
+use Rattle.std.specs.Prelude.{◌≡◌, ◌≢◌, ◌⊎◌, ◌∷◌, if◌then◌else◌, ℕ, ℤ, List, [], position, bytes_eq, codes, Option, None, Result, Ok, Err, ⊤}
 use Rattle.vdr_terms.specs.Queries.{Query}
 use Rattle.vdr_history.specs.Histories.{live}
 use Rattle.vdr_history.specs.Histories as histories
 use Rattle.vdr_durability.specs.Readings.{EndsMeet}
 use Rattle.vdr_playback.specs.Playback.{selected}
-use Rattle.vdr_outside.specs.Disk.{Disk, Image}
+use Rattle.vdr_outside.specs.Disk.{Image}
 use Rattle.vdr_config.specs.Configuration.{Configuration}
 use Rattle.vdr_entry.specs.Queries.{asked_medium}
 use Rattle.vdr_entry.specs.declared.query.Medium.{Medium}
@@ -15,14 +15,22 @@ use Rattle.vdr_play.specs.Streams.{nothing_seen}
 use Rattle.vdr_play.specs.Texts.{records_text}
 use Rattle.vdr_recorder.specs.declared.play.PlayRefused.{PlayRefused}
 use Rattle.vdr_recorder.specs.declared.play.PlayRefused.TheVariants as plays
-use Rattle.vdr_vault.specs.Regularity.{AreSound}
-use Rattle.vdr_tool.specs.Commands.{Asked}
-use Rattle.vdr_tool.specs.Commands.Asked.{Play}
-use Rattle.vdr_tool.specs.Endings.{IsDone}
-use Rattle.vdr_tool.specs.Opened.{AreLooks, IfNoIncident, IsLegibleWith, MediaEnds, MetUnsound, PrintsText, RefusesAll}
-use Rattle.vdr_tool.specs.StatusLine.{Wrote, channel_line, status_line}
+use Rattle.vdr_control.specs.Orders.PlainOrder.{Play as PlayOrder}
+use Rattle.vdr_control.specs.Plays.{SpellsPlay}
+use Rattle.vdr_tool.specs.Endings.{IsDone, IsWorkDone}
+use Rattle.vdr_tool.specs.Opened.{AreLooks, IfNoIncident, IsLegibleWith, MediaEnds, MetUnsound, PrintsText, RefusesAll, WasRecorded}
+use Rattle.vdr_tool.specs.Outside.{MediaSeen, NothingFailed, OutputFailed, Outside, Writes}
+use Rattle.vdr_tool.specs.Promises.{Promise}
+use Rattle.vdr_tool.specs.StatusLine.{IsNoChannel, channel_line}
 use Rattle.vdr_tool.specs.declared.status.Status.{Status}
 use Rattle.vdr_tool.specs.declared.status.Status.TheVariants.{Done, Unformatted, Damaged, MediaFault, OutputFault, NoMemory, NoChannel, NoIncident}
+
+-- The four words of a play: the medium or the incident, the channel's name, and the first and the last stamp.
+pub record AskedPlay : Type 0 where
+  pub medium : Medium
+  pub channel : List ℕ
+  pub from : ℤ
+  pub to : ℤ
 
 -- The name that stands for all records. No channel has it.
 abbrev pub all_records : List ℕ
@@ -58,13 +66,6 @@ query_of c medium name from to = record { medium = asked_medium medium; channel 
 unfoldable pub play_text : Contents → Medium → (name : List ℕ) → (from to : ℤ) → List ℕ
 play_text x medium name from to = records_text nothing_seen (selected (opening_of x) [] (query_of x.config medium name from to))
 
--- What is written of a status in which nothing is played: its line alone. Of the others nothing is written.
-abbrev pub ReportsPlay : Status → (name : List ℕ) → Option (List ℕ) → Option (List ℕ) → (before now : ℕ) → Type 0
-ReportsPlay Done name old new before now = (new ≡ old) × (now ≡ before)
-ReportsPlay OutputFault name old new before now = (new ≡ old) × (now ≡ before)
-ReportsPlay NoChannel name old new before now = Wrote (channel_line name) old new before now
-ReportsPlay status name old new before now = Wrote (status_line status) old new before now
-
 -- The id of an incident, 0 where none is asked for.
 abbrev pub id_of : Medium → ℕ
 id_of Capsule = 0
@@ -93,26 +94,22 @@ IsPlayStatus NoChannel = ⊤
 IsPlayStatus (NoIncident id) = ⊤
 IsPlayStatus status = ⊥
 
--- What is said of a command that plays.
-abbrev pub IfPlay : Asked → (Medium → List ℕ → ℤ → ℤ → Type 0) → Type 0
-IfPlay (Play medium channel from to) P = P medium channel from to
-IfPlay command P = ⊤
+-- `play`, and its words: the medium, the channel, and the bounds of the stamps.
+pub record ArePlayWords (texts : List (List ℕ)) (asked : AskedPlay) : Type 0 where
+  pub medium : List ℕ
+  pub channel : List ℕ
+  pub from : List ℕ
+  pub to : List ℕ
+  pub words : texts ≡ codes "play" ∷ medium ∷ channel ∷ from ∷ to ∷ []
+  pub spelled : SpellsPlay medium channel from to (PlayOrder asked.medium asked.channel asked.from asked.to)
 
 module _ {tells tells_images : Type 0} where
   -- What is said where the media were opened, by what they read as at entry.
-  pub record PlayEnds (medium : Medium) (name : List ℕ) (old new : Disk tells tells_images) (before now : List ℕ) (status : Status) : Type 0 where
-    pub media : MediaEnds (λ x. CanPlay x medium name) (MetUnsound old (λ x. CanPlay x medium name)) AreLooks old new before now status
+  pub record PlayEnds (medium : Medium) (name : List ℕ) (old new : MediaSeen tells tells_images) (status : Status) : Type 0 where
+    pub media : MediaEnds (λ x. CanPlay x medium name) (MetUnsound old.disk (λ x. CanPlay x medium name)) AreLooks old new status
     -- each refusal of the words comes only in its case
-    pub no_channel : status ≡ NoChannel → tells → IsLegibleWith old.reads (λ x. LacksChannel x.config name)
-    pub no_incident : IfNoIncident status (λ id. (medium ≡ Incident id) × (tells → IsLegibleWith old.reads (λ x. (LacksChannel x.config name → ⊥) × LacksIncident x.table medium)))
-
-  -- What `play` answers.
-  pub record PlayAnswers (medium : Medium) (name : List ℕ) (from to : ℤ) (old new : Disk tells tells_images) (before now : List ℕ)
-      (taken wrote : Option (List ℕ)) (sink_before sink_now : ℕ) (status : Status) : Type 0 where
-    pub own : IsPlayStatus status
-    pub ends : PlayEnds medium name old new before now status
-    pub line : status ≡ NoChannel → Wrote (channel_line name) taken wrote sink_before sink_now
-    pub printed : (x : Contents) → tells → HoldsContents old.reads x → AreSound x → PrintsText (play_text x medium name from to) status taken wrote
+    pub no_channel : status ≡ NoChannel → tells → IsLegibleWith old.disk.reads (λ x. LacksChannel x.config name)
+    pub no_incident : IfNoIncident status (λ id. (medium ≡ Incident id) × (tells → IsLegibleWith old.disk.reads (λ x. (LacksChannel x.config name → ⊥) × LacksIncident x.table medium)))
 
 -- What may be played is, and what may not is refused by its own refusal, or there was no memory.
 pub record PlaysAll (medium : Medium) (name : List ℕ) (image : Image) (status : Status) : Type 0 where
@@ -120,4 +117,28 @@ pub record PlaysAll (medium : Medium) (name : List ℕ) (image : Image) (status 
   pub channel : (x : Contents) → HoldsContents image x → EndsMeet both (reading_of x) → LacksChannel x.config name → (status ≡ NoChannel) ⊎ (status ≡ NoMemory)
   pub incident : (x : Contents) (id : ℕ) → HoldsContents image x → EndsMeet both (reading_of x) → (LacksChannel x.config name → ⊥) → medium ≡ Incident id
       → live x.table id ≡ None → (status ≡ NoIncident id) ⊎ (status ≡ NoMemory)
-  pub done : (x : Contents) → HoldsContents image x → EndsMeet both (reading_of x) → AreSound x → CanPlay x medium name → IsDone status
+  pub done : (x : Contents) → HoldsContents image x → EndsMeet both (reading_of x) → WasRecorded x → CanPlay x medium name → IsDone status
+
+-- What `play` owes.
+pub record Plays {tells tells_images : Type 0} (asked : AskedPlay) (old new : Outside tells tells_images) (status : Status) : Type 0 where
+  pub own : IsPlayStatus status
+  -- what is selected of what the media hold is printed
+  pub printed : (x : Contents) → tells → HoldsContents old.media.disk.reads x → WasRecorded x
+      → PrintsText (play_text x asked.medium asked.channel asked.from asked.to) status old.output new.output
+  -- each refusal and failure comes only with its cause
+  pub output : status ≡ OutputFault → OutputFailed old.output new.output
+  pub line : status ≡ NoChannel → Writes (channel_line asked.channel) old.output new.output
+  pub silent : IsWorkDone status ⊎ (IsNoChannel status ⊎ (new.output ≡ old.output))
+  -- the media, and what is said of them
+  pub media : PlayEnds asked.medium asked.channel old.media new.media status
+  -- nothing else comes in the place of a play, or of a refusal, but want of memory
+  pub complete : NothingFailed old new → tells → PlaysAll asked.medium asked.channel old.media.disk.reads status
+
+abbrev pub playing : AskedPlay → Promise
+playing asked = record {
+  words = λ texts. ArePlayWords texts asked;
+  legal = ⊤;
+  reads_input = ⊥;
+  uses_media = ⊤;
+  owes = λ old new status. Plays asked old new status;
+}

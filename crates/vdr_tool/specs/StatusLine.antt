@@ -1,5 +1,5 @@
 -- How a status is told (this project's profile).
-use Rattle.std.specs.Prelude.{◌⊎◌, ◌==◌, if◌then◌else◌, ℕ, List, [], ◌++◌, codes, decimal, Option, ⊤}
+use Rattle.std.specs.Prelude.{◌⊎◌, ◌==◌, ◌≤◌, if◌then◌else◌, ℕ, List, [], ◌++◌, codes, decimal, Option, ⊤}
 use Rattle.std.specs.Io.KnownBytes.{Appends}
 use Rattle.vdr_entry.specs.Escape.{escaped}
 use Rattle.vdr_outside.specs.Causes.{Rose}
@@ -80,18 +80,11 @@ status_line (SaveRefused cause) = save_line cause
 status_line Place = codes "status 13 place\n"
 status_line Tick = codes "status 13 tick\n"
 
--- The output grew by a front of the text, and by all of it unless the sink's count rose.
+-- The output grew by a front of the text, and by all of it unless the sink's count rose, which never falls.
 pub record Wrote (text : List ℕ) (old new : Option (List ℕ)) (before now : ℕ) : Type 0 where
   pub front : AppendsFront old new text
   pub all : Appends old new text ⊎ Rose before now
-
--- A status other than Done, Config, OutputFault and NoChannel has written its line, and nothing else.
-abbrev pub WroteLine : Status → Option (List ℕ) → Option (List ℕ) → ℕ → ℕ → Type 0
-WroteLine Done old new before now = ⊤
-WroteLine OutputFault old new before now = ⊤
-WroteLine (Config number) old new before now = ⊤
-WroteLine NoChannel old new before now = ⊤
-WroteLine status old new before now = Wrote (status_line status) old new before now
+  pub later : before ≤ now
 
 -- What is said of a feed's refusal.
 abbrev pub IfFeed : Status → (ℕ → ℕ → Type 0) → Type 0
@@ -107,3 +100,12 @@ IfSmall status P = ⊤
 abbrev pub IfConfig : Status → (ℕ → Type 0) → Type 0
 IfConfig (Config number) P = P number
 IfConfig status P = ⊤
+
+-- The status is a configuration's refusal, or that of a channel.
+abbrev pub IsConfig : Status → Type 0
+IsConfig (Config number) = ⊤
+IsConfig status = ⊥
+
+abbrev pub IsNoChannel : Status → Type 0
+IsNoChannel NoChannel = ⊤
+IsNoChannel status = ⊥

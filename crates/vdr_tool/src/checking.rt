@@ -1,29 +1,37 @@
 // What a configuration needs, read from its text.
-ghost use Rattle.std.specs.Prelude.{◌≡◌, ◌≤◌, ◌+◌, ◌++◌, Result, Ok, Err, length, IfOk, IsErrOf};
-ghost use Rattle.std.specs.Io.KnownBytes.{IsAtEnd};
+ghost use Rattle.std.specs.Prelude.{◌≡◌, ◌≤◌, ◌⊎◌, ◌+◌, ◌++◌, Result, Ok, Err, length, IfOk, IsErrOf};
+ghost use Rattle.std.specs.Io.KnownBytes.{Appends, IsAtEnd};
 ghost use Rattle.arrayvec.specs.ArrayVec.{array_vec_len};
 ghost use Rattle.vdr_outside.specs.Causes.{Rose};
+ghost use Rattle.vdr_outside.specs.Writes.{AppendsFront};
 ghost use Rattle.vdr_feed.specs.Reader.{IfKnown};
 ghost use Rattle.vdr_config.specs.declared.bad.ConfigBad.{ConfigBad as Bad};
 ghost use Rattle.vdr_config.specs.Configuration.{Configuration};
 ghost use Rattle.vdr_config.specs.Grammar.{configuration, Refuses};
-ghost use Rattle.vdr_tool.specs.Check.{IfChecked, IfRefusedStop, IfRefusedText, check_text, groups_of, need_line};
+ghost use Rattle.vdr_tool.specs.Check.{IfChecked, IfRefusedStop, IfRefusedText, check_text, groups_of, need_line, number_of, refusal_line};
+ghost use Rattle.vdr_tool.specs.Checks.{Checks, IsCheckStatus};
+ghost use Rattle.vdr_tool.specs.Endings.{IsWorkDone, ending};
+ghost use Rattle.vdr_tool.specs.StatusLine.{IfConfig, IsConfig, Wrote};
 ghost use Rattle.vdr_tool.specs.declared.checking.CheckStop.TheVariants.{Input};
+ghost use Rattle.vdr_tool.specs.declared.status.Status.TheVariants.{Done, InputFault, OutputFault, Words};
 
+use crate::command::Outer;
+use crate::refusal::{number_of, report_refusal};
 use crate::reports::{ROOM, push_text};
+use crate::{Status, World};
 use arrayvec::ArrayVec;
 use itoa::Buffer;
 use std::alloc::Global;
 use vdr_config::{Config, ConfigBad, needs, read_config};
 use vdr_feed::fill;
-use vdr_outside::Source;
+use vdr_outside::{Media, Sink, Source, write_all};
 
 /// So many bytes tell that a text is longer than the longest configuration.
 pub(crate) const ENOUGH: usize = 16_381;
 
-/// Why a text has no needs.
+// Why a text has no needs.
 #[derive(Drop)]
-pub(crate) enum CheckStop {
+enum CheckStop {
     Input,
     Memory,
     Refused(ConfigBad),
@@ -71,11 +79,8 @@ fn stopped_by(bad: ConfigBad) -> CheckStop
     }
 }
 
-/// What the configuration that the input is needs. The input is read to its end, unless it is too long.
-pub(crate) fn check<I: Source>(
-    alloc: Global,
-    input: &mut I,
-) -> Result<ArrayVec<u8, ROOM>, CheckStop>
+// What the configuration that the input is needs. The input is read to its end, unless it is too long.
+fn check<I: Source>(alloc: Global, input: &mut I) -> Result<ArrayVec<u8, ROOM>, CheckStop>
     ensures text { IfOk result (λ text. IsAtEnd (I.left input.new) × IfChecked (I.left input.old) (λ needs. text.items ≡ needs)) }
     ensures refused { IfRefusedText result (λ bad. IfKnown (I.left input.old) (λ bytes. configuration bytes ≡ Err bad)) }
     ensures failed { IsErrOf result Input → Rose (I.faults input.old) (I.faults input.new) }
@@ -89,4 +94,49 @@ pub(crate) fn check<I: Source>(
         Ok(config) => Ok(text_of(&config)),
         Err(bad) => Err(stopped_by(bad)),
     }
+}
+
+// Reads a configuration and prints what it needs.
+fn print_needs<I: Source, O: Sink>(
+    alloc: Global,
+    input: &mut I,
+    output: &mut O,
+) -> Result<(), Status>
+    ensures statuses { IsCheckStatus (ending result) }
+    ensures done { ending result ≡ Done → IsAtEnd (I.left input.new) × IfChecked (I.left input.old) (λ text. Appends (O.taken output.old) (O.taken output.new) text) }
+    ensures config { IfConfig (ending result) (λ number. (bad : Bad) × (number_of bad ≡ number) × IfKnown (I.left input.old) (λ bytes. configuration bytes ≡ Err bad)
+        × Wrote (refusal_line bad) (O.taken output.old) (O.taken output.new) (O.faults output.old) (O.faults output.new)) }
+    ensures input { ending result ≡ InputFault → Rose (I.faults input.old) (I.faults input.new) }
+    ensures output { ending result ≡ OutputFault → Rose (O.faults output.old) (O.faults output.new)
+        × IfChecked (I.left input.old) (λ text. AppendsFront (O.taken output.old) (O.taken output.new) text) }
+    ensures silent { IsWorkDone (ending result) ⊎ (IsConfig (ending result) ⊎ (output.new ≡ output.old)) }
+    ensures later { O.faults output.old ≤ O.faults output.new }
+{
+    match check(alloc, input) {
+        Ok(text) => match write_all(output, text.as_slice()) {
+            Ok(()) => Ok(()),
+            Err(_) => Err(Status::OutputFault),
+        },
+        Err(CheckStop::Refused(bad)) => {
+            report_refusal(&bad, output);
+            Err(Status::Config {
+                number: number_of(&bad),
+            })
+        }
+        Err(CheckStop::Input) => Err(Status::InputFault),
+        Err(CheckStop::Memory) => Err(Status::NoMemory),
+    }
+}
+
+/// Prints what the configuration that the input is needs.
+pub(crate) fn answer_check<I: Source + Drop, O: Sink + Drop, M: Media + Drop>(
+    alloc: Global,
+    world: &mut World<I, O, M>,
+) -> Result<(), Status>
+    ensures owed { let at = ⟦<World<I, O, M> as Outer>⟧.outside in Checks (at world.old) (at world.new) (ending result) }
+    ensures known { ending result ≡ Words → ⊥ }
+    ensures later { O.faults world.old.output ≤ O.faults world.new.output }
+    ensures untouched { world.new.media ≡ world.old.media }
+{
+    print_needs(alloc, &mut world.input, &mut world.output)
 }

@@ -7,13 +7,14 @@ ghost use Rattle.vdr_outside.specs.Causes.{HasCause, Rose};
 ghost use Rattle.vdr_outside.specs.Writes.{AppendsFront};
 ghost use Rattle.vdr_entry.specs.Utc.{utc_text};
 ghost use Rattle.vdr_opening.specs.Media.{Contents, HoldsContents};
-ghost use Rattle.vdr_tool.specs.Incidents.{CanList, IncidentsAnswers, IsListStatus, incident_row, incidents_text, row_if};
+ghost use Rattle.vdr_tool.specs.Endings.{IsWorkDone, ending};
+ghost use Rattle.vdr_tool.specs.Incidents.{CanList, IsListStatus, Lists, incident_row, incidents_text, row_if};
 ghost use Rattle.vdr_tool.specs.Opened.{AreLooks, MediaEnds, PrintsText};
-ghost use Rattle.vdr_tool.specs.StatusLine.{IfConfig, IfFeed, WroteLine};
-ghost use Rattle.vdr_tool.specs.declared.status.Status.TheVariants.{Done, Words, InputFault, OutputFault};
+ghost use Rattle.vdr_tool.specs.declared.status.Status.TheVariants.{OutputFault, Words};
 
-use crate::playing::status_of;
-use crate::reports::{ROOM, push_text, report_undone};
+use crate::command::Outer;
+use crate::opening::law_of_openings;
+use crate::reports::{ROOM, push_text};
 use crate::{Status, World};
 use arrayvec::ArrayVec;
 use itoa::Buffer;
@@ -88,47 +89,44 @@ fn print_incidents<O: Sink>(recording: &Recording, out: &mut O) -> Result<(), Fa
     Ok(())
 }
 
-// Lists the live saves, and tells how it ended, without a status line.
-fn list<O: Sink, M: Media>(alloc: Global, media: &mut M, output: &mut O) -> Status
-    requires two { 2 ≤ length (M.disk media.old).sizes }
-    requires three { length (M.disk media.old).sizes ≤ 3 }
-    ensures statuses { IsListStatus result }
-    ensures ends { MediaEnds CanList ⊥ AreLooks (M.disk media.old) (M.disk media.new) (M.faults media.old) (M.faults media.new) result }
-    ensures printed { (x : Contents) → M.tells → HoldsContents (M.disk media.old).reads x → PrintsText (incidents_text x.table) result (O.taken output.old) (O.taken output.new) }
-    ensures silent { (result ≡ Done) ⊎ ((result ≡ OutputFault) ⊎ (output.new ≡ output.old)) }
-    ensures output { result ≡ OutputFault → Rose (O.faults output.old) (O.faults output.new) }
-    ensures sizes { (M.disk media.new).sizes ≡ (M.disk media.old).sizes }
+// Opens the media and prints the live saves.
+fn list<I: Source + Drop, O: Sink + Drop, M: Media + Drop>(
+    alloc: Global,
+    world: &mut World<I, O, M>,
+) -> Result<(), Status>
+    requires two { 2 ≤ length (M.disk world.old.media).sizes }
+    requires three { length (M.disk world.old.media).sizes ≤ 3 }
+    ensures statuses { IsListStatus (ending result) }
+    ensures media { let at = ⟦<World<I, O, M> as Outer>⟧.outside in MediaEnds CanList ⊥ AreLooks (at world.old).media (at world.new).media (ending result) }
+    ensures printed { let at = ⟦<World<I, O, M> as Outer>⟧.outside in (x : Contents) → M.tells → HoldsContents (M.disk world.old.media).reads x
+        → PrintsText (incidents_text x.table) (ending result) (at world.old).output (at world.new).output }
+    ensures silent { IsWorkDone (ending result) ⊎ (world.new.output ≡ world.old.output) }
+    ensures output { ending result ≡ OutputFault → Rose (O.faults world.old.output) (O.faults world.new.output) }
+    ensures later { O.faults world.old.output ≤ O.faults world.new.output }
+    ensures sizes { (M.disk world.new.media).sizes ≡ (M.disk world.old.media).sizes }
+    ensures unread { world.new.input ≡ world.old.input }
 {
     law_of_contents();
-    let recording = match Recording::open(alloc, media) {
-        Ok(recording) => recording,
-        Err(refused) => return status_of(refused),
-    };
-    match print_incidents(&recording, output) {
-        Ok(()) => Status::Done,
-        Err(_) => Status::OutputFault,
+    let recording = Recording::open(alloc, &mut world.media)?;
+    match print_incidents(&recording, &mut world.output) {
+        Ok(()) => Ok(()),
+        Err(_) => Err(Status::OutputFault),
     }
 }
 
-/// Lists the live saves. Where something is refused or fails, the status line stands alone.
+/// Lists the live saves.
 pub(crate) fn answer_incidents<I: Source + Drop, O: Sink + Drop, M: Media + Drop>(
     alloc: Global,
     world: &mut World<I, O, M>,
-) -> Status
+) -> Result<(), Status>
     requires two { 2 ≤ length (M.disk world.old.media).sizes }
     requires three { length (M.disk world.old.media).sizes ≤ 3 }
-    ensures words { result ≡ Words → ⊥ }
-    ensures feed { IfFeed result (λ number offset. ⊥) }
-    ensures config { IfConfig result (λ number. ⊥) }
-    ensures input { result ≡ InputFault → ⊥ }
-    ensures output { result ≡ OutputFault → Rose (O.faults world.old.output) (O.faults world.new.output) }
-    ensures line { WroteLine result (O.taken world.old.output) (O.taken world.new.output) (O.faults world.old.output) (O.faults world.new.output) }
-    ensures unread { world.new.input ≡ world.old.input }
+    ensures owed { let at = ⟦<World<I, O, M> as Outer>⟧.outside in Lists (at world.old) (at world.new) (ending result) }
+    ensures known { ending result ≡ Words → ⊥ }
+    ensures later { O.faults world.old.output ≤ O.faults world.new.output }
     ensures sizes { (M.disk world.new.media).sizes ≡ (M.disk world.old.media).sizes }
-    ensures incidents { IncidentsAnswers (M.disk world.old.media) (M.disk world.new.media) (M.faults world.old.media) (M.faults world.new.media)
-        (O.taken world.old.output) (O.taken world.new.output) result }
+    ensures unread { world.new.input ≡ world.old.input }
 {
-    let status = list(alloc, &mut world.media, &mut world.output);
-    report_undone(status, &mut world.output);
-    status
+    law_of_openings();
+    list(alloc, world)
 }

@@ -1,68 +1,51 @@
 // Playing what was recorded.
-ghost use Rattle.std.specs.Prelude.{◌≡◌, ◌≤◌, ◌⊎◌, ◌∷◌, [], ℕ, length, IfSome, IfNone};
+ghost use Rattle.std.specs.Prelude.{◌≡◌, ◌≤◌, ◌⊎◌, length, IfSome, IfNone};
 ghost use Rattle.vdr_outside.specs.Causes.{Rose};
 ghost use Rattle.vdr_entry.specs.Queries.{asked};
 ghost use Rattle.vdr_opening.specs.Media.{Contents, HoldsContents};
-ghost use Rattle.vdr_vault.specs.Regularity.{AreSound};
-ghost use Rattle.vdr_tool.specs.Opened.{PrintsText, status_of_opening};
-ghost use Rattle.vdr_tool.specs.Plays.{IsPlayStatus, LacksChannel, PlayAnswers, PlayEnds, ReportsPlay, id_of, play_text, query_of, status_by};
-ghost use Rattle.vdr_tool.specs.StatusLine.{IfConfig, IfFeed, Wrote, WroteLine, channel_line};
-ghost use Rattle.vdr_tool.specs.declared.status.Status.TheVariants.{Done, Words, InputFault, OutputFault, NoChannel};
+ghost use Rattle.vdr_tool.specs.Commands.{plain_play};
+ghost use Rattle.vdr_tool.specs.Endings.{IsWorkDone, ending};
+ghost use Rattle.vdr_tool.specs.Opened.{PrintsText, WasRecorded};
+ghost use Rattle.vdr_tool.specs.Plays.{IsPlayStatus, LacksChannel, PlayEnds, Plays, id_of, play_text, query_of, status_by};
+ghost use Rattle.vdr_tool.specs.StatusLine.{IsNoChannel, Wrote, channel_line};
+ghost use Rattle.vdr_tool.specs.declared.status.Status.TheVariants.{NoChannel, OutputFault, Words};
 
+use crate::command::Outer;
+use crate::opening::law_of_openings;
 use crate::refusal::report_channel;
-use crate::reports::report;
+use crate::words::Wanted;
 use crate::{Status, World};
 use std::alloc::Global;
 use vdr_entry::{Medium, Query};
-use vdr_opening::{OpenRefused, law_of_contents};
+use vdr_opening::law_of_contents;
 use vdr_outside::{Media, Sink, Source};
 use vdr_recorder::{PlayRefused, Recording};
 
 /// The channel's name that stands for all records.
 const ALL: &[u8] = b"all";
 
-/// What is asked for: the records of a channel whose stamps are within these bounds.
-#[derive(Clone, Copy, Drop)]
-pub(crate) struct Wanted<'a> {
-    pub(crate) medium: Medium,
-    pub(crate) channel: &'a [u8],
-    pub(crate) from: i64,
-    pub(crate) to: i64,
-}
-
-/// How a refusal of the media ends the command.
-pub(crate) fn status_of(refused: OpenRefused) -> Status
-    ensures { result ≡ status_of_opening refused }
-{
-    match refused {
-        OpenRefused::NoMemory => Status::NoMemory,
-        OpenRefused::NotFormatted => Status::Unformatted,
-        OpenRefused::Damaged { medium, offset } => Status::Damaged { medium, offset },
-        OpenRefused::Fault => Status::MediaFault,
-    }
-}
-
-// How a play ends the command. Only an incident's id is asked for in vain.
-fn status_by(played: Result<(), PlayRefused>, medium: Medium) -> Status
-    ensures { result ≡ status_by played medium }
-{
-    match played {
-        Ok(()) => Status::Done,
-        Err(PlayRefused::NoMemory) => Status::NoMemory,
-        Err(PlayRefused::NoChannel) => Status::NoChannel,
-        Err(PlayRefused::NoIncident) => Status::NoIncident(id_of(medium)),
-        Err(PlayRefused::Fault) => Status::MediaFault,
-        Err(PlayRefused::Damaged { medium, offset }) => Status::Damaged { medium, offset },
-        Err(PlayRefused::Output) => Status::OutputFault,
-    }
-}
-
+// The id of an incident, 0 where none is asked for.
 fn id_of(medium: Medium) -> u32
     ensures { result ≡ id_of medium }
 {
     match medium {
         Medium::Capsule | Medium::LongTerm => 0,
         Medium::Incident(id) => id,
+    }
+}
+
+// How a play of this medium ends the command. Only an incident's id is asked for in vain.
+fn ended_by(played: Result<(), PlayRefused>, medium: Medium) -> Result<(), Status>
+    ensures { ending result ≡ status_by played medium }
+{
+    match played {
+        Ok(()) => Ok(()),
+        Err(PlayRefused::NoMemory) => Err(Status::NoMemory),
+        Err(PlayRefused::NoChannel) => Err(Status::NoChannel),
+        Err(PlayRefused::NoIncident) => Err(Status::NoIncident(id_of(medium))),
+        Err(PlayRefused::Fault) => Err(Status::MediaFault),
+        Err(PlayRefused::Damaged { medium, offset }) => Err(Status::Damaged { medium, offset }),
+        Err(PlayRefused::Output) => Err(Status::OutputFault),
     }
 }
 
@@ -88,66 +71,50 @@ fn query_of(recording: &Recording, wanted: Wanted<'_>) -> Option<Query>
     Some(query)
 }
 
-// Plays, and tells how it ended, without a status line.
-fn play<O: Sink, M: Media>(
+// Opens the media and plays what is wanted.
+fn play<I: Source + Drop, O: Sink + Drop, M: Media + Drop>(
     alloc: Global,
     wanted: Wanted<'_>,
-    media: &mut M,
-    output: &mut O,
-) -> Status
-    requires two { 2 ≤ length (M.disk media.old).sizes }
-    requires three { length (M.disk media.old).sizes ≤ 3 }
-    ensures statuses { IsPlayStatus result }
-    ensures ends { PlayEnds wanted.entry.medium wanted.entry.channel.now (M.disk media.old) (M.disk media.new) (M.faults media.old) (M.faults media.new) result }
-    ensures printed { (x : Contents) → M.tells → HoldsContents (M.disk media.old).reads x → AreSound x
-        → PrintsText (play_text x wanted.entry.medium wanted.entry.channel.now wanted.entry.from wanted.entry.to) result (O.taken output.old) (O.taken output.new) }
-    ensures silent { (result ≡ Done) ⊎ ((result ≡ OutputFault) ⊎ (output.new ≡ output.old)) }
-    ensures output { result ≡ OutputFault → Rose (O.faults output.old) (O.faults output.new) }
-    ensures sizes { (M.disk media.new).sizes ≡ (M.disk media.old).sizes }
+    world: &mut World<I, O, M>,
+) -> Result<(), Status>
+    requires two { 2 ≤ length (M.disk world.old.media).sizes }
+    requires three { length (M.disk world.old.media).sizes ≤ 3 }
+    ensures statuses { IsPlayStatus (ending result) }
+    ensures media { let at = ⟦<World<I, O, M> as Outer>⟧.outside in PlayEnds wanted.entry.medium wanted.entry.channel.now (at world.old).media (at world.new).media (ending result) }
+    ensures printed { let at = ⟦<World<I, O, M> as Outer>⟧.outside in (x : Contents) → M.tells → HoldsContents (M.disk world.old.media).reads x → WasRecorded x
+        → PrintsText (play_text x wanted.entry.medium wanted.entry.channel.now wanted.entry.from wanted.entry.to) (ending result) (at world.old).output (at world.new).output }
+    ensures line { ending result ≡ NoChannel
+        → Wrote (channel_line wanted.entry.channel.now) (O.taken world.old.output) (O.taken world.new.output) (O.faults world.old.output) (O.faults world.new.output) }
+    ensures silent { IsWorkDone (ending result) ⊎ (IsNoChannel (ending result) ⊎ (world.new.output ≡ world.old.output)) }
+    ensures output { ending result ≡ OutputFault → Rose (O.faults world.old.output) (O.faults world.new.output) }
+    ensures later { O.faults world.old.output ≤ O.faults world.new.output }
+    ensures sizes { (M.disk world.new.media).sizes ≡ (M.disk world.old.media).sizes }
+    ensures unread { world.new.input ≡ world.old.input }
 {
     law_of_contents();
-    let mut recording = match Recording::open(alloc, media) {
-        Ok(recording) => recording,
-        Err(refused) => return status_of(refused),
-    };
+    let mut recording = Recording::open(alloc, &mut world.media)?;
     let Some(query) = query_of(&recording, wanted) else {
-        return Status::NoChannel;
+        report_channel(wanted.channel, &mut world.output);
+        return Err(Status::NoChannel);
     };
-    let played = recording.play(alloc, media, &query, output);
-    status_by(played, wanted.medium)
+    let played = recording.play(alloc, &mut world.media, &query, &mut world.output);
+    ended_by(played, wanted.medium)
 }
 
-// Writes the line of a status in which nothing is played.
-fn report_played<O: Sink>(status: Status, channel: &[u8], output: &mut O)
-    ensures { ReportsPlay status channel.now (O.taken output.old) (O.taken output.new) (O.faults output.old) (O.faults output.new) }
-{
-    match status {
-        Status::Done | Status::OutputFault => {}
-        Status::NoChannel => report_channel(channel, output),
-        _ => report(status, output),
-    }
-}
-
-/// Plays what is wanted. Where something is refused or fails, the status line stands alone.
+/// Plays what is wanted.
 pub(crate) fn answer_play<I: Source + Drop, O: Sink + Drop, M: Media + Drop>(
     alloc: Global,
     wanted: Wanted<'_>,
     world: &mut World<I, O, M>,
-) -> Status
+) -> Result<(), Status>
     requires two { 2 ≤ length (M.disk world.old.media).sizes }
     requires three { length (M.disk world.old.media).sizes ≤ 3 }
-    ensures words { result ≡ Words → ⊥ }
-    ensures feed { IfFeed result (λ number offset. ⊥) }
-    ensures config { IfConfig result (λ number. ⊥) }
-    ensures input { result ≡ InputFault → ⊥ }
-    ensures output { result ≡ OutputFault → Rose (O.faults world.old.output) (O.faults world.new.output) }
-    ensures line { WroteLine result (O.taken world.old.output) (O.taken world.new.output) (O.faults world.old.output) (O.faults world.new.output) }
-    ensures unread { world.new.input ≡ world.old.input }
+    ensures owed { let at = ⟦<World<I, O, M> as Outer>⟧.outside in Plays (plain_play wanted.entry) (at world.old) (at world.new) (ending result) }
+    ensures known { ending result ≡ Words → ⊥ }
+    ensures later { O.faults world.old.output ≤ O.faults world.new.output }
     ensures sizes { (M.disk world.new.media).sizes ≡ (M.disk world.old.media).sizes }
-    ensures plays { PlayAnswers wanted.entry.medium wanted.entry.channel.now wanted.entry.from wanted.entry.to (M.disk world.old.media) (M.disk world.new.media)
-        (M.faults world.old.media) (M.faults world.new.media) (O.taken world.old.output) (O.taken world.new.output) (O.faults world.old.output) (O.faults world.new.output) result }
+    ensures unread { world.new.input ≡ world.old.input }
 {
-    let status = play(alloc, wanted, &mut world.media, &mut world.output);
-    report_played(status, wanted.channel, &mut world.output);
-    status
+    law_of_openings();
+    play(alloc, wanted, world)
 }

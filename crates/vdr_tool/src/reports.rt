@@ -1,7 +1,7 @@
 ghost use Rattle.std.specs.Prelude.{◌≡◌, ◌≤◌, ◌+◌, ◌++◌, length};
 ghost use Rattle.arrayvec.specs.ArrayVec.{array_vec_len};
-ghost use Rattle.vdr_tool.specs.Opened.{Reports};
-ghost use Rattle.vdr_tool.specs.StatusLine.{damaged_line, feed_line, incident_line, medium_name, save_line, small_line, status_line, Wrote};
+ghost use Rattle.vdr_tool.specs.Endings.{WritesLine};
+ghost use Rattle.vdr_tool.specs.StatusLine.{damaged_line, feed_line, incident_line, medium_name, save_line, small_line, status_line};
 
 use crate::{SaveCause, Status};
 use arrayvec::ArrayVec;
@@ -114,20 +114,16 @@ fn line_of(status: Status) -> ArrayVec<u8, ROOM>
     line
 }
 
-/// Writes the line of a status.
+/// Writes the line of a status, if it has one.
 pub(crate) fn report<O: Sink>(status: Status, output: &mut O)
-    ensures { Wrote (status_line status) (O.taken output.old) (O.taken output.new) (O.faults output.old) (O.faults output.new) }
-{
-    let line = line_of(status);
-    let _ = write_all(output, line.as_slice());
-}
-
-/// Writes the line of a status in which the work was not done.
-pub(crate) fn report_undone<O: Sink>(status: Status, output: &mut O)
-    ensures { Reports status (O.taken output.old) (O.taken output.new) (O.faults output.old) (O.faults output.new) }
+    ensures line { WritesLine status (record { taken = O.taken output.old; faults = O.faults output.old }) (record { taken = O.taken output.new; faults = O.faults output.new }) }
+    ensures later { O.faults output.old ≤ O.faults output.new }
 {
     match status {
-        Status::Done | Status::OutputFault => {}
-        _ => report(status, output),
+        Status::Done | Status::OutputFault | Status::Config { .. } | Status::NoChannel => {}
+        _ => {
+            let line = line_of(status);
+            let _ = write_all(output, line.as_slice());
+        }
     }
 }

@@ -1,6 +1,10 @@
 ghost use Rattle.std.specs.Prelude.{◌≡◌};
 
 use vdr_config::TooSmall;
+use vdr_opening::OpenRefused;
+use vdr_recorder::SaveRefused;
+use vdr_replay::ReplayStop;
+use vdr_review::Stop;
 
 /// Why an incident is not saved. The cases stand in the order in which they are tested.
 #[derive(Clone, Copy, Debug, PartialEq, Eq, Drop)]
@@ -74,6 +78,70 @@ impl Status {
             Status::NoChannel | Status::NoIncident(_) => 11,
             Status::SaveRefused(_) => 12,
             Status::Place | Status::Tick => 13,
+        }
+    }
+}
+
+impl From<Stop> for Status {
+    ghost use Rattle.vdr_tool.specs.Reviews.{status_of_review};
+
+    ghost from_gives = { λ stop status. status ≡ status_of_review stop };
+
+    fn from(stop: Stop) -> Status {
+        match stop {
+            Stop::Input => Status::InputFault,
+            Stop::Memory => Status::NoMemory,
+            Stop::Refused { number, offset } => Status::Feed { number, offset },
+        }
+    }
+}
+
+impl From<OpenRefused> for Status {
+    ghost use Rattle.vdr_tool.specs.Opened.{status_of_opening};
+
+    ghost from_gives = { λ refused status. status ≡ status_of_opening refused };
+
+    fn from(refused: OpenRefused) -> Status {
+        match refused {
+            OpenRefused::NoMemory => Status::NoMemory,
+            OpenRefused::NotFormatted => Status::Unformatted,
+            OpenRefused::Damaged { medium, offset } => Status::Damaged { medium, offset },
+            OpenRefused::Fault => Status::MediaFault,
+        }
+    }
+}
+
+impl From<ReplayStop> for Status {
+    ghost use Rattle.vdr_tool.specs.Replays.{status_of_stop};
+
+    ghost from_gives = { λ stop status. status ≡ status_of_stop stop };
+
+    fn from(stop: ReplayStop) -> Status {
+        match stop {
+            ReplayStop::NoMemory => Status::NoMemory,
+            ReplayStop::Input => Status::InputFault,
+            ReplayStop::Refused { number, offset } => Status::Feed { number, offset },
+            ReplayStop::NotFormatted => Status::Unformatted,
+            ReplayStop::Damaged { medium, offset } => Status::Damaged { medium, offset },
+            ReplayStop::Place => Status::Place,
+            ReplayStop::Tick => Status::Tick,
+            ReplayStop::Media => Status::MediaFault,
+        }
+    }
+}
+
+impl From<SaveRefused> for Status {
+    ghost use Rattle.vdr_tool.specs.Saves.{status_of_save};
+
+    ghost from_gives = { λ refused status. status ≡ status_of_save refused };
+
+    fn from(refused: SaveRefused) -> Status {
+        match refused {
+            SaveRefused::Label => Status::SaveRefused(SaveCause::Label),
+            SaveRefused::Nothing => Status::SaveRefused(SaveCause::Nothing),
+            SaveRefused::TableFull => Status::SaveRefused(SaveCause::TableFull),
+            SaveRefused::Damaged { medium, offset } => Status::Damaged { medium, offset },
+            SaveRefused::Fault => Status::MediaFault,
         }
     }
 }

@@ -3,47 +3,43 @@ ghost use Rattle.std.specs.Prelude.{◌≡◌, ◌≤◌, ◌∷◌, [], ℕ, So
 ghost use Rattle.vdr_terms.specs.declared.rate.Rate.{Rate as RateTold};
 ghost use Rattle.vdr_config.specs.Configuration.{IsRate};
 ghost use Rattle.vdr_tool.specs.Commands.{Asked, plain};
-ghost use Rattle.vdr_tool.specs.Words.{Asks, Spells};
+ghost use Rattle.vdr_tool.specs.Runs.{Asks, Spells};
 
 use itoa::Buffer;
 use vdr_config::Rate;
 use vdr_control::{Order, law_of_plays, read_play};
 use vdr_entry::Medium;
 
+/// What is to be played: the records of a channel, or all where it is `all`, whose UTC stamps are from `from` to `to`, both included,
+/// in milliseconds since 1970.
+#[derive(Clone, Copy, Drop)]
+pub(crate) struct Wanted<'a> {
+    /// An incident's id is 1 to 32.
+    pub(crate) medium: Medium,
+    pub(crate) channel: &'a [u8],
+    pub(crate) from: i64,
+    pub(crate) to: i64,
+}
+
 /// What the words ask for.
 #[derive(Clone, Copy, Drop)]
 pub(crate) enum Command<'a> {
     /// A review, in which each group has this rate if there is one.
-    Review {
-        rate: Option<Rate>,
-    },
+    Review { rate: Option<Rate> },
     /// What a configuration needs.
     Check,
     /// The media are formatted, also where they are formatted already if it is to be done again.
-    Format {
-        again: bool,
-    },
+    Format { again: bool },
     /// A feed is recorded on the media.
     Replay,
-    /// What was recorded is played: the records of a channel, or of all where it is `all`, whose UTC stamps are from `from` to
-    /// `to`, both included, in milliseconds since 1970.
-    Play {
-        /// An incident's id is 1 to 32.
-        medium: Medium,
-        channel: &'a [u8],
-        from: i64,
-        to: i64,
-    },
+    /// What was recorded is played.
+    Play(Wanted<'a>),
     /// The live saves are listed.
     Incidents,
     /// An incident is saved under this label. What it holds is judged by the save.
-    Save {
-        label: &'a [u8],
-    },
+    Save { label: &'a [u8] },
     /// The save of this id, 1 to 32, is released.
-    Release {
-        id: u32,
-    },
+    Release { id: u32 },
 }
 
 // A number within these limits, in decimal digits without a sign and without a leading zero.
@@ -152,12 +148,12 @@ fn five_words<'a>(
             channel,
             from,
             to,
-        } => Some(Command::Play {
+        } => Some(Command::Play(Wanted {
             medium,
             channel,
             from,
             to,
-        }),
+        })),
         _ => None,
     }
 }

@@ -10,14 +10,14 @@ use Rattle.vdr_opening.specs.Media.{opening_of}
 use Rattle.vdr_opening.specs.declared.refused.OpenRefused.{OpenRefused}
 use Rattle.vdr_vault.proofs.OpenMoments.{never_both}
 use Rattle.vdr_recorder.proofs.Opened.{meet_as}
-use Rattle.vdr_replay.specs.Answers.{Answers, IfOpened, IsLegible}
+use Rattle.vdr_replay.specs.Answers.{Answers, EndsAtHeader, IfOpened, IsLegible, RefusesMedia}
 use Rattle.vdr_replay.specs.Ran.{Runs}
 use Rattle.vdr_replay.specs.Reading.{HasRead}
 use Rattle.vdr_replay.specs.declared.ended.Replayed.{Replayed}
 use Rattle.vdr_replay.specs.declared.ended.ReplayStop.{ReplayStop}
 use Rattle.vdr_replay.proofs.Causes.{replay_after, rose_joined, sum_of_rose}
 use Rattle.vdr_replay.proofs.Headlines.{answers, begun_nothing, leaves, opened_leaves, passes_opened}
-use Rattle.vdr_replay.proofs.Opened.{admits_all, damaged_by, header_says, open_stops, opened_says, opening_says}
+use Rattle.vdr_replay.proofs.Opened.{admits_all, begun_header, begun_media, damaged_by, header_of_feed, header_says, not_at_header, open_stops, opened_says, opening_says, refused_media}
 use Rattle.vdr_replay.proofs.Passing.{passes_first}
 use Rattle.vdr_replay.proofs.Playing.{config_read}
 use Rattle.vdr_replay.proofs.Reading.{read_first}
@@ -124,3 +124,34 @@ returns-clause-legible g c = λ told.
     let was = c.in_ok-recording.ensures.contents told in
     let legible : IsLegible (g.M.Media.disk c.args.media.now).reads = (was.0, was.1, was.2, was.3) in
     opened_says c.record_run.result (IsLegible (g.M.Media.disk c.args.media.now).reads) legible
+
+pub returns-in_err-header-clause-untouched : goal.returns-in_err-header-clause-untouched
+returns-in_err-header-clause-untouched g c = λ refuses.
+    let p = err_from_is_err_and c.from_residual.result c.from_residual.ensures.1 in
+    header_of_feed c.in_err-header.field-0.0 (subst RefusesMedia (p.1 ∙ ap (λ (stop : ReplayStop). Err stop) p.2) refuses)
+
+pub returns-in_err-recording-clause-unopened : goal.returns-in_err-recording-clause-unopened
+returns-in_err-recording-clause-unopened g c = λ ends.
+    let p = err_from_is_err_and c.from_residual-in_err-recording.result c.from_residual-in_err-recording.ensures.1 in
+    not_at_header c.in_err-recording.field-0.0 (subst EndsAtHeader (p.1 ∙ ap (λ (stop : ReplayStop). Err stop) p.2) ends)
+
+pub returns-in_err-recording-clause-untouched : goal.returns-in_err-recording-clause-untouched
+returns-in_err-recording-clause-untouched g c = λ refuses.
+    let p = err_from_is_err_and c.from_residual-in_err-recording.result c.from_residual-in_err-recording.ensures.1 in
+    c.open.ensures.untouched (refused_media c.open.result c.in_err-recording.field-0.0 c.in_err-recording.was (subst RefusesMedia (p.1 ∙ ap (λ (stop : ReplayStop). Err stop) p.2) refuses))
+
+pub returns-in_err-lanes-clause-unopened : goal.returns-in_err-lanes-clause-unopened
+returns-in_err-lanes-clause-unopened g c = λ ends.
+    let p = err_from_is_err_and c.from_residual-in_err-lanes.result c.from_residual-in_err-lanes.ensures.1 in
+    absurd (subst EndsAtHeader (p.1 ∙ ap (λ (stop : ReplayStop). Err stop) p.2) ends)
+
+pub returns-in_err-lanes-clause-untouched : goal.returns-in_err-lanes-clause-untouched
+returns-in_err-lanes-clause-untouched g c = λ refuses.
+    let p = err_from_is_err_and c.from_residual-in_err-lanes.result c.from_residual-in_err-lanes.ensures.1 in
+    absurd (subst RefusesMedia (p.1 ∙ ap (λ (stop : ReplayStop). Err stop) p.2) refuses)
+
+pub returns-clause-unopened : goal.returns-clause-unopened
+returns-clause-unopened g c = λ ends. begun_header c.record_run.result c.record_run.ensures.stops ends
+
+pub returns-clause-untouched : goal.returns-clause-untouched
+returns-clause-untouched g c = λ refuses. begun_media c.record_run.result c.record_run.ensures.stops refuses

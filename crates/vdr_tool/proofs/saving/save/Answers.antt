@@ -1,51 +1,68 @@
-use Rattle.std.proofs.Common.{Some, sym, subst}
-use Rattle.vdr_tool.specs.Opened.{IsLegibleWith, MayLeave, MediaEnds, MetUnsound}
-use Rattle.vdr_tool.specs.Saves.{CanSave, IfSaveRefused, IsJudged, SavesAs}
-use Rattle.vdr_tool.specs.declared.status.Status.{Status}
+use Rattle.std.proofs.Common.{List, Option, Some, ◌∙◌, ap, suc, sym}
+use Rattle.std.specs.Prelude.{is_none, option_map, position}
+use Rattle.std.proofs.lemmas.Result.{err_from_is_err_and}
+use Rattle.vdr_history.specs.Histories.{Incident}
+use Rattle.vdr_tool.specs.Opened.{MetUnsound}
+use Rattle.vdr_tool.specs.Endings.{ending}
+use Rattle.vdr_tool.specs.Outside.{MediaSeen, OutputSeen}
+use Rattle.vdr_tool.specs.Saves.{CanSave, SavesAs, id_line, save_text}
 use Rattle.vdr_tool.proofs.OpenedLemmas.{no_act, refused_ends}
-use Rattle.vdr_tool.proofs.SaveLemmas.{saved_ends, unsaved_ends, unsaved_refused}
+use Rattle.vdr_tool.proofs.SaveLemmas.{prints_as, saved_ends, unsaved_ends, unsaved_refused}
 use Rattle.vdr_tool.proofs.saving.save.Goals as goal
 
-pub returns-in-Err-clause-ends : goal.returns-in-Err-clause-ends
-returns-in-Err-clause-ends g c =
+pub returns-in_err-recording-clause-media : goal.returns-in_err-recording-clause-media
+returns-in_err-recording-clause-media g c =
     let told = c.open.ensures in
-    let old = g.M.Media.disk c.args.media.now in
-    let new = g.M.Media.disk c.open.new.media in
+    let refused = c.in_err-recording.field-0.0 in
     let label = c.args.label.now in
-    subst (λ (s : Status). MediaEnds (CanSave label) (MetUnsound old (CanSave label)) (MayLeave (SavesAs label) new.clock s) old new (g.M.Media.faults c.args.media.now) (g.M.Media.faults c.open.new.media) s)
-    (sym c.status_of.ensures)
-    (refused_ends (CanSave label) (MetUnsound old (CanSave label)) _ old new _ _ c.open.result c.in-Err.refused (no_act (SavesAs label) new.clock c.in-Err.refused) c.in-Err.is
+    let p = err_from_is_err_and c.from_residual.result c.from_residual.ensures.1 in
+    rw (p.1, p.2)
+    (refused_ends (CanSave label) (MetUnsound (g.M.Media.disk c.args.world.now.media) (CanSave label)) _ _ _ c.open.result refused
+    (no_act (SavesAs label) (g.M.Media.disk c.open.new.media).clock refused) c.in_err-recording.was
     told.unformatted told.damaged told.untouched told.others told.cause told.moments)
 
-pub returns-in-Ok-save-clause-ends : goal.returns-in-Ok-save-clause-ends
-returns-in-Ok-save-clause-ends g c =
-    let told = c.in-Ok.ensures in
+pub returns-in_err-id-clause-media : goal.returns-in_err-id-clause-media
+returns-in_err-id-clause-media g c =
+    let told = c.in_ok-recording.ensures in
     let save = c.save.ensures in
-    saved_ends (g.M.Media.disk c.args.media.now) (g.M.Media.disk c.open.new.media) (g.M.Media.disk c.save.new.media) _ (g.M.Media.faults c.open.new.media) _ c.in-Ok.recording c.save.new.self
+    let old : MediaSeen g.M.Media.tells g.M.Media.tells_images = record { disk = g.M.Media.disk c.args.world.now.media; faults = g.M.Media.faults c.args.world.now.media; bytes_read = g.M.Media.bytes_read c.args.world.now.media } in
+    let mid : MediaSeen g.M.Media.tells g.M.Media.tells_images = record { disk = g.M.Media.disk c.open.new.media; faults = g.M.Media.faults c.open.new.media; bytes_read = g.M.Media.bytes_read c.open.new.media } in
+    let new : MediaSeen g.M.Media.tells g.M.Media.tells_images = record { disk = g.M.Media.disk c.save.new.media; faults = g.M.Media.faults c.save.new.media; bytes_read = g.M.Media.bytes_read c.save.new.media } in
+    let p = err_from_is_err_and c.from_residual-in_err-id.result c.from_residual-in_err-id.ensures.1 in
+    rw (p.1, p.2)
+    (unsaved_ends old mid new c.in_ok-recording.recording c.save.new.self
     told.works told.contents told.opened c.open.ensures.cause.later c.open.ensures.others save.others c.args.label.now c.save.result save.saved save.looked save.met_damage (λ refused works is. (save.refused refused works is).0) save.undamaged
-    c.open.result c.open.ensures.moments c.print_id.result c.in-Ok-save.id c.print_id.ensures.done c.in-Ok-save.is save.works
+    c.open.result c.open.ensures.moments save.reason save.fails save.cause c.in_err-id.field-0.0 c.in_err-id.was)
 
-pub returns-clause-ends : goal.returns-clause-ends
-returns-clause-ends g c =
-    let told = c.in-Ok.ensures in
+pub returns-in_err-id-clause-refused : goal.returns-in_err-id-clause-refused
+returns-in_err-id-clause-refused g c =
+    let told = c.in_ok-recording.ensures in
     let save = c.save.ensures in
-    let old = g.M.Media.disk c.args.media.now in
-    let new = g.M.Media.disk c.save.new.media in
-    let label = c.args.label.now in
-    subst (λ (s : Status). MediaEnds (CanSave label) (MetUnsound old (CanSave label)) (MayLeave (SavesAs label) new.clock s) old new (g.M.Media.faults c.args.media.now) (g.M.Media.faults c.save.new.media) s)
-    (sym c.status_of_save.ensures)
-    (unsaved_ends old (g.M.Media.disk c.open.new.media) new _ (g.M.Media.faults c.open.new.media) _ c.in-Ok.recording c.save.new.self
-    told.works told.contents told.opened c.open.ensures.cause.later c.open.ensures.others save.others label c.save.result save.saved save.looked save.met_damage (λ refused works is. (save.refused refused works is).0) save.undamaged
-    c.open.result c.open.ensures.moments save.reason save.fails save.cause c.in-Err-save.refused c.in-Err-save.is)
+    let old : MediaSeen g.M.Media.tells g.M.Media.tells_images = record { disk = g.M.Media.disk c.args.world.now.media; faults = g.M.Media.faults c.args.world.now.media; bytes_read = g.M.Media.bytes_read c.args.world.now.media } in
+    let mid : MediaSeen g.M.Media.tells g.M.Media.tells_images = record { disk = g.M.Media.disk c.open.new.media; faults = g.M.Media.faults c.open.new.media; bytes_read = g.M.Media.bytes_read c.open.new.media } in
+    let new : MediaSeen g.M.Media.tells g.M.Media.tells_images = record { disk = g.M.Media.disk c.save.new.media; faults = g.M.Media.faults c.save.new.media; bytes_read = g.M.Media.bytes_read c.save.new.media } in
+    let p = err_from_is_err_and c.from_residual-in_err-id.result c.from_residual-in_err-id.ensures.1 in
+    rw (p.1, p.2)
+    (unsaved_refused old mid new c.in_ok-recording.recording c.save.new.self
+    told.works told.contents told.opened c.open.ensures.cause.later c.open.ensures.others save.others c.args.label.now c.save.result save.saved save.looked save.met_damage (λ refused works is. (save.refused refused works is).0) save.undamaged
+    c.open.result c.open.ensures.moments save.reason save.fails save.cause c.in_err-id.field-0.0 c.in_err-id.was)
 
-pub returns-clause-refused : goal.returns-clause-refused
-returns-clause-refused g c =
-    let told = c.in-Ok.ensures in
+pub returns-clause-media : goal.returns-clause-media
+returns-clause-media g c =
+    let told = c.in_ok-recording.ensures in
     let save = c.save.ensures in
-    let old = g.M.Media.disk c.args.media.now in
-    let label = c.args.label.now in
-    subst (λ (s : Status). IfSaveRefused s (λ cause. g.M.Media.tells → IsLegibleWith old.reads (IsJudged label (Some cause))))
-    (sym c.status_of_save.ensures)
-    (unsaved_refused old (g.M.Media.disk c.open.new.media) (g.M.Media.disk c.save.new.media) (g.M.Media.faults c.args.media.now) (g.M.Media.faults c.open.new.media) (g.M.Media.faults c.save.new.media) c.in-Ok.recording c.save.new.self
-    told.works told.contents told.opened c.open.ensures.cause.later c.open.ensures.others save.others label c.save.result save.saved save.looked save.met_damage (λ refused works is. (save.refused refused works is).0) save.undamaged
-    c.open.result c.open.ensures.moments save.reason save.fails save.cause c.in-Err-save.refused c.in-Err-save.is)
+    let old : MediaSeen g.M.Media.tells g.M.Media.tells_images = record { disk = g.M.Media.disk c.args.world.now.media; faults = g.M.Media.faults c.args.world.now.media; bytes_read = g.M.Media.bytes_read c.args.world.now.media } in
+    let mid : MediaSeen g.M.Media.tells g.M.Media.tells_images = record { disk = g.M.Media.disk c.open.new.media; faults = g.M.Media.faults c.open.new.media; bytes_read = g.M.Media.bytes_read c.open.new.media } in
+    let new : MediaSeen g.M.Media.tells g.M.Media.tells_images = record { disk = g.M.Media.disk c.save.new.media; faults = g.M.Media.faults c.save.new.media; bytes_read = g.M.Media.bytes_read c.save.new.media } in
+    saved_ends old mid new c.in_ok-recording.recording c.save.new.self
+    told.works told.contents told.opened c.open.ensures.cause.later c.open.ensures.others save.others c.args.label.now c.save.result save.saved save.looked save.met_damage (λ refused works is. (save.refused refused works is).0) save.undamaged
+    c.open.result c.open.ensures.moments _ c.in_ok-id.id c.print_id.ensures.done c.in_ok-id.was save.works
+
+pub returns-clause-printed : goal.returns-clause-printed
+returns-clause-printed g c = λ x t holds.
+    let read = c.in_ok-recording.ensures.contents t in
+    let table = read.5 ∙ c.law_of_contents.ensures.table (g.M.Media.disk c.args.world.now.media).reads read.1 x read.2 holds in
+    let was : OutputSeen = record { taken = g.O.Sink.taken c.args.world.now.output; faults = g.O.Sink.faults c.args.world.now.output } in
+    let next : OutputSeen = record { taken = g.O.Sink.taken c.print_id.new.output; faults = g.O.Sink.faults c.print_id.new.output } in
+    prints_as (ending c.print_id.result) (id_line (Some c.in_ok-id.id)) (save_text x.table) was next
+    (ap id_line (sym c.in_ok-id.ensures.id ∙ ap (λ (slots : List (Option Incident)). option_map suc (position is_none slots)) table)) c.print_id.ensures.printed

@@ -1,0 +1,40 @@
+use Rattle.std.proofs.Common.{refl}
+use Rattle.std.proofs.lemmas.Result.{err_from_is_err_and}
+use Rattle.vdr_tool.specs.Outside.{MediaSeen}
+use Rattle.vdr_tool.specs.Releases.{CanRelease, ReleasesId}
+use Rattle.vdr_tool.proofs.OpenedLemmas.{no_act, refused_ends}
+use Rattle.vdr_tool.proofs.SaveLemmas.{released_ends, released_missing}
+use Rattle.vdr_tool.proofs.releasing.release.Goals as goal
+
+pub returns-in_err-recording-clause-media : goal.returns-in_err-recording-clause-media
+returns-in_err-recording-clause-media g c =
+    let told = c.open.ensures in
+    let refused = c.in_err-recording.field-0.0 in
+    let p = err_from_is_err_and c.from_residual.result c.from_residual.ensures.1 in
+    rw (p.1, p.2)
+    (refused_ends (CanRelease c.args.id) ⊥ _ _ _ c.open.result refused (no_act (ReleasesId c.args.id) (g.M.Media.disk c.open.new.media).clock refused) c.in_err-recording.was
+    told.unformatted told.damaged told.untouched told.others told.cause told.moments)
+
+pub returns-clause-media : goal.returns-clause-media
+returns-clause-media g c =
+    let told = c.in_ok-recording.ensures in
+    let release = c.release-released.ensures in
+    let old : MediaSeen g.M.Media.tells g.M.Media.tells_images = record { disk = g.M.Media.disk c.args.world.now.media; faults = g.M.Media.faults c.args.world.now.media; bytes_read = g.M.Media.bytes_read c.args.world.now.media } in
+    let mid : MediaSeen g.M.Media.tells g.M.Media.tells_images = record { disk = g.M.Media.disk c.open.new.media; faults = g.M.Media.faults c.open.new.media; bytes_read = g.M.Media.bytes_read c.open.new.media } in
+    let new : MediaSeen g.M.Media.tells g.M.Media.tells_images = record { disk = g.M.Media.disk c.release-released.new.media; faults = g.M.Media.faults c.release-released.new.media; bytes_read = g.M.Media.bytes_read c.release-released.new.media } in
+    rw c.ended_by.ensures
+    (released_ends old mid new c.in_ok-recording.recording c.release-released.new.self
+    told.works told.contents told.opened c.open.ensures.cause.later c.open.ensures.others release.others c.args.id c.release-released.result release.released release.looked (λ works none. (release.refused works none).0)
+    release.reason release.fails release.works release.cause c.open.result c.open.ensures.moments c.release-released.result refl)
+
+pub returns-clause-no_incident : goal.returns-clause-no_incident
+returns-clause-no_incident g c =
+    let told = c.in_ok-recording.ensures in
+    let release = c.release-released.ensures in
+    let old : MediaSeen g.M.Media.tells g.M.Media.tells_images = record { disk = g.M.Media.disk c.args.world.now.media; faults = g.M.Media.faults c.args.world.now.media; bytes_read = g.M.Media.bytes_read c.args.world.now.media } in
+    let mid : MediaSeen g.M.Media.tells g.M.Media.tells_images = record { disk = g.M.Media.disk c.open.new.media; faults = g.M.Media.faults c.open.new.media; bytes_read = g.M.Media.bytes_read c.open.new.media } in
+    let new : MediaSeen g.M.Media.tells g.M.Media.tells_images = record { disk = g.M.Media.disk c.release-released.new.media; faults = g.M.Media.faults c.release-released.new.media; bytes_read = g.M.Media.bytes_read c.release-released.new.media } in
+    rw c.ended_by.ensures
+    (released_missing old mid new c.in_ok-recording.recording c.release-released.new.self
+    told.works told.contents told.opened c.open.ensures.cause.later c.open.ensures.others release.others c.args.id c.release-released.result release.released release.looked (λ works none. (release.refused works none).0)
+    release.reason release.fails release.works release.cause c.release-released.result refl)

@@ -1,0 +1,53 @@
+-- What `run` promises: each command has its page, and its row here.
+use Rattle.std.specs.Prelude.{◌≡◌, ◌≤◌, ℕ, List, String, map, string_bytes}
+use Rattle.std.specs.declared.alloc.Global.{Global}
+use Rattle.vdr_tool.specs.Checks.{checking}
+use Rattle.vdr_tool.specs.Commands.{Asked}
+use Rattle.vdr_tool.specs.Commands.Asked.{Review, Check, Format, Replay, Play, Incidents, Save, Release}
+use Rattle.vdr_tool.specs.Endings.{WritesLine}
+use Rattle.vdr_tool.specs.Formats.{formatting}
+use Rattle.vdr_tool.specs.Incidents.{listing}
+use Rattle.vdr_tool.specs.Outside.{OutputSeen, Outside}
+use Rattle.vdr_tool.specs.Plays.{playing}
+use Rattle.vdr_tool.specs.Promises.{Promise}
+use Rattle.vdr_tool.specs.Releases.{releasing}
+use Rattle.vdr_tool.specs.Replays.{replaying}
+use Rattle.vdr_tool.specs.Reviews.{reviewing}
+use Rattle.vdr_tool.specs.Saves.{saving}
+use Rattle.vdr_tool.specs.declared.status.Status.{Status}
+use Rattle.vdr_tool.specs.declared.status.Status.TheVariants.{Words}
+
+abbrev pub page : Asked → Promise
+page (Review rate) = reviewing rate
+page Check = checking
+page (Format again) = formatting again
+page Replay = replaying
+page (Play asked) = playing asked
+page Incidents = listing
+page (Save label) = saving label
+page (Release id) = releasing id
+
+-- The texts are those of a command.
+pub record Spells (texts : List (List ℕ)) (command : Asked) : Type 0 where
+  pub words : (page command).words texts
+  pub legal : (page command).legal
+
+abbrev pub Asks : List (String Global) → Asked → Type 0
+Asks words command = Spells (map string_bytes words) command
+
+module _ {tells tells_images : Type 0} where
+  -- The command did what it owes, and then the line of its status was written.
+  pub record Ends (command : Asked) (old new : Outside tells tells_images) (status : Status) : Type 0 where
+    pub between : OutputSeen
+    pub owed : (page command).owes old (record { input = new.input; output = between; media = new.media }) status
+    pub line : WritesLine status between new.output
+    pub later : (old.output.faults ≤ between.faults) × (between.faults ≤ new.output.faults)
+
+  -- What the program owes for its words.
+  pub record Runs (words : List (String Global)) (old new : Outside tells tells_images) (status : Status) : Type 0 where
+    -- what they ask for is done; where they ask for nothing, that is told, and the line stands alone
+    pub done : (command : Asked) → Asks words command → Ends command old new status
+    pub refused : ((command : Asked) → Asks words command → ⊥) → (status ≡ Words) × WritesLine Words old.output new.output
+    pub words_only : status ≡ Words → (command : Asked) → Asks words command → ⊥
+    -- no size changes
+    pub sizes : new.media.disk.sizes ≡ old.media.disk.sizes
