@@ -1,14 +1,20 @@
-//! The objects of the outside over the operating system: the standard streams, and the media as files. They tell no
-//! content, and count their faults.
+//! The objects of the outside over the operating system: the standard streams, the media as files, the ports of the transmission groups
+//! over UDP, and the operator's link over TCP. They tell no content, and count their faults.
 #![tactic(auto)]
 
+mod calls;
 mod file;
 mod media;
+mod pending;
 mod standard;
 mod streams;
+mod tcp;
 mod trouble;
+mod udp;
 
 pub use media::FileMedia;
 pub use standard::StandardStreams;
 pub use streams::{StdIn, StdOut};
+pub use tcp::TcpLink;
 pub use trouble::Trouble;
+pub use udp::UdpPort;

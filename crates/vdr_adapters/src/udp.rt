@@ -1,0 +1,169 @@
+ghost use Rattle.std.specs.Prelude.{◌≡◌, ◌≤◌, ◌<◌, ◌^◌, false, None, [], length, IfOk, OnErr};
+ghost use Rattle.vdr_terms.specs.Stamps.{IsStamp};
+
+use crate::calls::Calls;
+use arrayvec::ArrayVec;
+use std::io;
+use std::io::ErrorKind;
+use std::net::{Ipv4Addr, Net, SocketAddr, UdpSocket};
+use std::time::{Clock, Duration};
+use vdr_outside::{Port, Taken};
+
+/// The port of the first transmission group (IEC 61162-450). That of group g is g higher.
+const FIRST_PORT: u16 = 60_001;
+
+/// How many milliseconds a take waits for a datagram.
+const WAIT: u64 = 50;
+
+/// One byte more than a datagram may have.
+const LONGEST: usize = 1473;
+
+/// The greatest `received`.
+const LAST_RECEIVED: u64 = (1 << 48) - 1;
+
+/// The last millisecond of the year 9999.
+const LAST_STAMP: u64 = 253_402_300_799_999;
+
+/// The datagrams of a transmission group, as they come to its UDP port on all addresses of the host. The port is bound at the first
+/// take. A bind or a receive that fails is told on the standard error, and counted. It tells no content.
+#[derive(Drop)]
+pub struct UdpPort<R: Net + Clock + Eprint + Drop> {
+    rt: R,
+    number: u16,
+    // The reading of the monotonic clock as capture began.
+    began: Duration,
+    socket: Option<UdpSocket>,
+    // The last `received`.
+    floor: u64,
+    calls: Calls,
+    faults: u64,
+    ghost small: { floor < 2 ^ 48 },
+}
+
+impl<R: Net + Clock + Eprint + Drop> UdpPort<R> {
+    /// The port of a group, 0 to 15. `began` is the reading of the monotonic clock as capture began, from which `received` counts.
+    pub fn new(rt: R, group: u8, began: Duration) -> UdpPort<R>
+        requires { group < 16 }
+    {
+        UdpPort::with_number(rt, FIRST_PORT + u16::from(group), began)
+    }
+
+    /// A port of this number.
+    pub fn with_number(rt: R, number: u16, began: Duration) -> UdpPort<R> {
+        UdpPort {
+            rt,
+            number,
+            began,
+            socket: None,
+            floor: 0,
+            calls: Calls::new(),
+            faults: 0,
+        }
+    }
+
+    // Binds the port, if that was not done yet.
+    fn bind(&mut self) -> io::Result<()>
+        ensures floor { self.new.floor ≡ self.old.floor }
+        ensures calls { self.new.calls ≡ self.old.calls }
+        ensures faults { self.new.faults ≡ self.old.faults }
+    {
+        if self.socket.is_none() {
+            let address = SocketAddr::from((Ipv4Addr::UNSPECIFIED, self.number));
+            let socket = UdpSocket::bind(&self.rt, address)?;
+            socket.set_read_timeout(Some(Duration::from_millis(WAIT)))?;
+            self.socket = Some(socket);
+        }
+        Ok(())
+    }
+
+    // Receives a datagram, and tells whether one came in time.
+    fn receive(&mut self, into: &mut ArrayVec<u8, LONGEST>) -> io::Result<bool>
+        ensures none { IfOk result (λ came. came ≡ false → into.new.items ≡ []) }
+        ensures failed { OnErr result (into.new.items ≡ []) }
+        ensures short { length into.new.items ≤ LONGEST }
+        ensures floor { self.new.floor ≡ self.old.floor }
+        ensures calls { self.new.calls ≡ self.old.calls }
+        ensures faults { self.new.faults ≡ self.old.faults }
+    {
+        into.clear();
+        self.bind()?;
+        let Some(socket) = &self.socket else {
+            return Ok(false);
+        };
+        let mut buffer = [0; LONGEST];
+        match socket.recv(&mut buffer) {
+            Ok(count) => {
+                let _ = into.try_extend_from_slice(&buffer[..count]);
+                Ok(true)
+            }
+            Err(error) if is_no_fault(&error) => Ok(false),
+            Err(error) => Err(error),
+        }
+    }
+
+    // The milliseconds since capture began. They never fall, also where the clock can't be read.
+    fn received(&self) -> u64
+        ensures later { self.now.floor ≤ result }
+        ensures small { result < 2 ^ 48 }
+    {
+        let elapsed = match self.rt.monotonic() {
+            Ok(now) => now.saturating_sub(self.began),
+            Err(_) => Duration::ZERO,
+        };
+        milliseconds(elapsed, LAST_RECEIVED).max(self.floor)
+    }
+
+    // The stamp of now: the system's clock, within the range of stamps, and the first stamp where it can't be read.
+    fn utc(&self) -> i64
+        ensures { IsStamp result }
+    {
+        let since = self.rt.since_1970().unwrap_or(Duration::ZERO);
+        milliseconds(since, LAST_STAMP) as i64
+    }
+}
+
+// The milliseconds of a time, and the most where they are more.
+fn milliseconds(time: Duration, most: u64) -> u64
+    ensures { result ≤ most }
+{
+    u64::try_from(time.as_millis()).unwrap_or(most).min(most)
+}
+
+// Whether a wait ended without a datagram: in vain, or by a signal.
+pub(crate) fn is_no_fault(error: &io::Error) -> bool {
+    matches!(
+        error.kind(),
+        ErrorKind::WouldBlock | ErrorKind::TimedOut | ErrorKind::Interrupted
+    )
+}
+
+impl<R: Net + Clock + Eprint + Drop> Port for UdpPort<R> {
+    ghost standing = { λ s. record { left = None; taken = None; floor = s.floor } };
+
+    ghost asked = { λ s. s.calls };
+
+    ghost faults = { λ s. s.faults };
+
+    fn take(&mut self, into: &mut ArrayVec<u8, LONGEST>) -> Taken {
+        match self.receive(into) {
+            Ok(false) => {
+                self.calls.count();
+                Taken::Quiet
+            }
+            Ok(true) => {
+                let received = self.received();
+                let utc = self.utc();
+                self.floor = received;
+                self.calls.count();
+                Taken::Datagram { received, utc }
+            }
+            Err(error) => {
+                let number = self.number;
+                let _ = eprintln!(self.rt; "vdr: UDP port {number}: {error}");
+                self.faults = self.faults.saturating_add(1);
+                self.calls.count_failure();
+                Taken::Failed
+            }
+        }
+    }
+}
