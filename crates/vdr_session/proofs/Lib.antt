@@ -1,0 +1,13 @@
+pub mod Popped
+pub mod Marked
+pub mod Told
+pub mod Gathered
+pub mod LanesRan
+pub mod LanesFed
+pub mod Numbered
+pub mod Steps
+pub mod Starts
+pub mod Faults
+pub mod Closes
+pub mod Ends
+pub mod Sessions

@@ -1,0 +1,604 @@
+-- A session, from what it left under its media and what its counters came to.
+use Rattle.std.proofs.Common.{◌≡◌, ◌≢◌, ◌⊎◌, inl, inr, ◌<◌, ◌≤◌, ◌+◌, ◌-◌, ◌++◌, ◌&&◌, ℕ, zero, suc, Bool, true, false, true≢false, List, [], ◌∷◌, All, Option, Some, None, length, get_or, is_some, if◌then◌else◌, count_by, ⊎_elim, refl, sym, ap, ◌∙◌, subst, arith, append-nil}
+use Rattle.std.specs.Prelude.{IfSome, sum}
+use Rattle.std.proofs.lemmas.Bool.{cases_Bool}
+use Rattle.std.proofs.lemmas.List.Elements.{All-head, All-nil, All-tail}
+use Rattle.vdr_terms.specs.declared.counts.Counts.{Counts}
+use Rattle.vdr_terms.specs.declared.rate.Rate.{Rate}
+use Rattle.vdr_terms.specs.Rates.{is_configured, limit_of}
+use Rattle.vdr_terms.specs.Rates.Limit.{AtMost}
+use Rattle.vdr_terms.specs.Records.{Item, Record, none_missed}
+use Rattle.vdr_terms.specs.Counting.{Tally}
+use Rattle.vdr_terms.specs.Datagrams.{is_bad, is_large, verdict}
+use Rattle.vdr_history.specs.Accounts.{Accounts, AccountsPrefix}
+use Rattle.vdr_history.specs.FullCounts.{AreFullSteps, FullCounts}
+use Rattle.vdr_config.specs.Configuration.{Configuration, IsConfiguration, IsRate}
+use Rattle.vdr_config.specs.Sizes.{limits_in}
+use Rattle.vdr_history.specs.Histories.{Event, Opening, Settings, recorded}
+use Rattle.vdr_history.specs.Recorder.{closed_run, recorder_after}
+use Rattle.vdr_history.specs.Runs.{RunStart, base_of}
+use Rattle.vdr_history.specs.Sums.{Sums, counted_by, missed_before, missed_in, recorded_in}
+use Rattle.vdr_history.specs.Taken.{AllFeed, Captured, Feeds, of_group}
+use Rattle.vdr_core.specs.Law.{Admits}
+use Rattle.vdr_core.specs.Summary.{CloseAddsUp}
+use Rattle.vdr_core.proofs.RunSums.{close_adds_up}
+use Rattle.vdr_core.proofs.Feeding.{counts_path}
+use Rattle.vdr_durability.specs.Keeping.{IsWhole}
+use Rattle.vdr_durability.proofs.Whole.{whole_has_not_failed}
+use Rattle.vdr_intake.specs.Ends.{Feeding, QueueId, Taking, full_of}
+use Rattle.vdr_opening.specs.Settings.{settings_of}
+use Rattle.vdr_outside.specs.Disk.{Disk}
+use Rattle.vdr_outside.specs.declared.port.Port.{Ghosts as PortTells}
+use Rattle.vdr_capture.specs.declared.lane.Cause.{Cause}
+use Rattle.vdr_capture.specs.declared.lane.Lane.{Lane}
+use Rattle.vdr_capture.specs.declared.sums.GroupSums.{GroupSums}
+use Rattle.vdr_capture.specs.declared.sums.Outcome.{Outcome}
+use Rattle.vdr_capture.specs.declared.sums.Outcome.TheVariants.{Done, NoMemory, Place, Tick, MediaFault, PortFault, LinkFault}
+use Rattle.vdr_recorder.specs.Making.{CountsItems}
+use Rattle.vdr_recorder.specs.Recordings.{HasRecorded, RecordingState, start_of_opening}
+use Rattle.vdr_recorder.proofs.Continuing.{left_place}
+use Rattle.vdr_session.specs.declared.mark.Mark.{Mark}
+use Rattle.vdr_session.specs.declared.records.Began.{Began}
+use Rattle.vdr_session.specs.declared.records.Began.TheVariants as starts
+use Rattle.vdr_session.specs.declared.session.SessionEnd.{SessionEnd}
+use Rattle.vdr_session.specs.Closed.{NotBegun, RanLanes}
+use Rattle.vdr_session.specs.Ended.{EndsRun, HasEnded, IsToldAs, IsWithPorts}
+use Rattle.vdr_session.specs.Events.{is_started, run_records, start_of}
+use Rattle.vdr_session.specs.Feeding.{LaneFed, LaneGave}
+use Rattle.vdr_session.specs.Lanes.{AllPopped, IsDrained, popped_by}
+use Rattle.vdr_session.specs.Marks.{has_fault, is_begun, taken_in}
+use Rattle.vdr_session.specs.Ran.{IsSetUp, LaneIsReady, PortRan, PortRests}
+use Rattle.vdr_session.specs.Sessions.{AccountBy, AreSums, CountsFull, HasGroups, KeepsSession, LaneTold, OutcomeMeans, RecordsAre, RecordsSession, Session, has_groups, is_closed, sums_of}
+use Rattle.vdr_session.specs.Standing.{MayBegin, StartMeans}
+use Rattle.vdr_session.specs.Summing.{KnowsFull, paired, summed}
+use Rattle.vdr_session.proofs.Closes.{closed_accounts, cut_accounts}
+use Rattle.vdr_session.proofs.Gathered.{gather}
+use Rattle.vdr_session.proofs.LanesFed.{each_fed, feeds_all, none_lost}
+use Rattle.vdr_session.proofs.LanesRan.{first_of, ready_group}
+use Rattle.vdr_session.proofs.Popped.{no_default}
+
+-- Whether a run was begun
+abbrev pub has_begun : Began → Bool
+has_begun starts.Begun = true
+has_begun starts.Place = false
+has_begun starts.Tick = false
+has_begun starts.Fault = false
+
+-- The lanes
+
+-- a lane that ran
+pub lane_ran : {P : Type 0} (tells : PortTells P) (turns capacity g : ℕ) (b : Bool) (rate : Option Rate) (queue : Option QueueId) (first taker : Option Taking) (intake : Option (QueueId × Taking)) (orig old new : Lane P) (given : List Item) (rest : Counts)
+    → b ≡ is_configured (limit_of rate) → intake ≡ paired queue taker → IsSetUp b g capacity queue first orig old → LaneGave tells turns g queue taker old new given rest
+    → LaneTold tells turns capacity true g rate intake orig.port new given rest
+lane_ran {P} tells turns capacity g b None None first taker intake orig old new given rest conf is set gave =
+    subst (λ (i : Option (QueueId × Taking)). LaneTold tells turns capacity true g None i orig.port new given rest) (sym is)
+    (record { same = ap (λ (l : Lane P). l.port) gave.0 ∙ set.port; none = gave.1; none_missed = gave.2 }, ap (λ (l : Lane P). l.cause) gave.0 ∙ set.cause)
+lane_ran tells turns capacity g b None (Some queue) first taker intake orig old new given rest conf is set gave = absurd (true≢false (set.known ∙ conf))
+lane_ran tells turns capacity g b (Some rate) None first taker intake orig old new given rest conf is set gave = absurd (true≢false (sym (set.known ∙ conf)))
+lane_ran tells turns capacity g b (Some rate) (Some queue) first None intake orig old new given rest conf is set gave = absurd gave
+lane_ran tells turns capacity g b (Some rate) (Some queue) None (Some taker) intake orig old new given rest conf is set gave = absurd set.ready
+lane_ran {P} tells turns capacity g b (Some rate) (Some queue) (Some first) (Some taker) intake orig old new given rest conf is set gave =
+    subst (λ (i : Option (QueueId × Taking)). LaneTold tells turns capacity true g (Some rate) i orig.port new given rest) (sym is)
+    (set.ready.1, set.room, subst (λ (p : P). PortRan tells turns g queue taker p new.port new.tally new.cause given rest) set.port gave)
+
+-- a lane of a session whose run was not begun
+pub lane_rested : {P : Type 0} (tells : PortTells P) (turns capacity g : ℕ) (b : Bool) (rate : Option Rate) (queue : Option QueueId) (first taker : Option Taking) (intake : Option (QueueId × Taking)) (orig old new : Lane P)
+    → b ≡ is_configured (limit_of rate) → intake ≡ paired queue taker → IsSetUp b g capacity queue first orig old → new ≡ old → taker ≡ first
+    → LaneTold tells turns capacity false g rate intake orig.port new [] none_missed
+lane_rested {P} tells turns capacity g b None None first taker intake orig old new conf is set same takers =
+    subst (λ (i : Option (QueueId × Taking)). LaneTold tells turns capacity false g None i orig.port new [] none_missed) (sym is)
+    (record { same = ap (λ (l : Lane P). l.port) same ∙ set.port; none = refl; none_missed = refl }, ap (λ (l : Lane P). l.cause) same ∙ set.cause)
+lane_rested tells turns capacity g b None (Some queue) first taker intake orig old new conf is set same takers = absurd (true≢false (set.known ∙ conf))
+lane_rested tells turns capacity g b (Some rate) None first taker intake orig old new conf is set same takers = absurd (true≢false (sym (set.known ∙ conf)))
+lane_rested tells turns capacity g b (Some rate) (Some queue) None taker intake orig old new conf is set same takers = absurd set.ready
+lane_rested {P} tells turns capacity g b (Some rate) (Some queue) (Some first) taker intake orig old new conf is set same takers =
+    subst (λ (i : Option (QueueId × Taking)). LaneTold tells turns capacity false g (Some rate) i orig.port new [] none_missed) (sym (is ∙ ap (paired (Some queue)) takers))
+    (set.ready.1, set.room, record { same = ap (λ (l : Lane P). l.port) same ∙ set.port; none = refl; none_missed = refl })
+
+-- Nothing was given, nothing taken
+pub nothing_feeds : (items : List Captured) → items ≡ [] → AllFeed (items ++ []) (λ _. none_missed) (λ _. [])
+nothing_feeds items none = record {
+  lanes = λ g. subst (λ (xs : List Captured). Feeds g (of_group g (xs ++ [])) none_missed []) (sym none)
+      (record { inside = []; since = []; order = refl; is_queued = refl; is_counted = record { bad = refl; large = refl; rate = refl; all = refl } });
+  beyond = λ g high. refl;
+}
+
+-- The records
+
+module _ (start : RunStart) (admits : Admits start.limits) (items lost : List Captured) (rest : ℕ → Counts) (given : ℕ → List Item) (feed : AllFeed (items ++ lost) rest given) (records : List Record) where
+  feed_closed : lost ≡ [] → AllFeed items rest given
+  feed_closed none = subst (λ (xs : List Captured). AllFeed xs rest given) (ap (λ (xs : List Captured). items ++ xs) none ∙ append-nil items) feed
+
+  pub accounts_closed : lost ≡ [] → records ≡ closed_run start items rest → (g : ℕ)
+      → Accounts (start.limits g) (base_of start) records g (given g)
+      × Sums g (given g) (length (of_group g items)) ((missed_before (of_group g items)).full + (rest g).full) records
+      × ((capacity full_steps : ℕ) → AreFullSteps capacity full_steps (of_group g items) (rest g) → FullCounts capacity full_steps g (of_group g items) (rest g) (given g) records)
+  accounts_closed none is g = closed_accounts start admits items rest given (feed_closed none) records is g
+
+  accounts_cut : RecordsAre MediaFault start items lost rest records → (g : ℕ) → AccountsPrefix (start.limits g) (base_of start) records g (given g)
+  accounts_cut (inl none) g =
+      subst (λ (rs : List Record). AccountsPrefix (start.limits g) (base_of start) rs g (given g)) (sym none) ([], given g, refl, record { gaps = tt; accounted = refl })
+  accounts_cut (inr (inl made)) g = cut_accounts start admits items lost rest given feed records made g
+  accounts_cut (inr (inr both)) g = (given g, [], sym (append-nil (given g)), (accounts_closed both.0 both.1 g).0)
+
+  pub account_by : (outcome : Outcome) → RecordsAre outcome start items lost rest records → (g : ℕ) → AccountBy outcome start records g (given g)
+  account_by Done are g = (accounts_closed are.0 are.1 g).0
+  account_by NoMemory are g = tt
+  account_by Place are g = tt
+  account_by Tick are g = tt
+  account_by MediaFault are g = accounts_cut are g
+  account_by (PortFault k) are g = (accounts_closed are.0 are.1 g).0
+  account_by (LinkFault i) are g = (accounts_closed are.0 are.1 g).0
+
+  sums_path : (s t : GroupSums) → s.taken ≡ t.taken → s.recorded ≡ t.recorded → s.counts ≡ t.counts → s ≡ t
+  sums_path s t p q r = λ i. record { taken = p i; recorded = q i; counts = r i }
+
+  -- Of a group whose port ran and whose queue was drained
+  module _ (none : lost ≡ []) (closed : records ≡ closed_run start items rest) {P : Type 0} (tells : PortTells P) (turns g : ℕ) (small : g < 16) (queue : QueueId) (taker : Taking) (old new : P) (tally : Tally)
+      (told : Option Cause) (ran : PortRan tells turns g queue taker old new tally told (given g) (rest g)) (popped : of_group g items ≡ taker.popped) (drained : AllPopped taker.popped taker.joined) where
+    all_pushed : ran.feeder.pushed ≡ taker.popped
+    all_pushed = subst (AllPopped taker.popped) ran.joined drained
+
+    full_steps : (missed_before (of_group g items)).full + (rest g).full ≡ ran.feeder.full
+    full_steps =
+        (λ i. (missed_before ((popped ∙ sym all_pushed) i)).full + (sym ran.rest_is i).full)
+        ∙ ran.captured.items.by_steps
+
+    sums_told : summed start items tally g ≡ sums_of g (given g) records
+    sums_told =
+        let close : CloseAddsUp start items rest g = close_adds_up start items rest g small in
+        let sums = (accounts_closed none closed g).1 in
+        let by_rate = (feed.lanes g).is_counted.rate in
+        let merged = ap (λ (c : Counts). c.rate) close.missed in
+        let run = ap (λ (rs : List Record). (missed_in g rs).rate) closed in
+        let rates : (counted_by (recorder_after start items) g).rate ≡ (missed_in g records).rate = omega (arith, by_rate, merged, run) in
+        sums_path (summed start items tally g) (sums_of g (given g) records)
+        (ran.captured.items.taken ∙ ap length ran.given_is)
+        (sym close.recorded ∙ ap (recorded_in g) (sym closed))
+        (counts_path (summed start items tally g).counts (missed_in g records)
+        (ran.captured.items.full ∙ sym full_steps ∙ sym sums.full)
+        rates
+        (ran.captured.items.bad ∙ ap (λ (xs : List Item). count_by (λ i. is_bad (verdict i.bytes)) xs) ran.given_is ∙ sym sums.bad)
+        (ran.captured.items.large ∙ ap (λ (xs : List Item). count_by (λ i. is_large (verdict i.bytes)) xs) ran.given_is ∙ sym sums.large))
+
+    full_told : (capacity : ℕ) → queue.capacity ≡ capacity → KnowsFull taker → FullCounts capacity (full_of taker.joined) g taker.popped (rest g) (given g) records
+    full_told capacity room knows =
+        let held : 0 < ran.feeder.full → taker.queue.capacity ≤ length ran.feeder.pushed = subst (λ (o : Option Feeding). IfSome o (λ feeder. 0 < feeder.full → taker.queue.capacity ≤ length feeder.pushed)) ran.joined knows in
+        let same_room = ap (λ (q : QueueId). q.capacity) ran.of_queue.1 in
+        let pushed = ap length (all_pushed ∙ sym popped) in
+        let counts = (accounts_closed none closed g).2 capacity ran.feeder.full (record {
+          counted = full_steps;
+          held = λ some. (let h = held some in omega (arith, h, same_room, room, pushed));
+        }) in
+        subst (λ (xs : List Captured). FullCounts capacity (full_of taker.joined) g xs (rest g) (given g) records) popped
+        (subst (λ (n : ℕ). FullCounts capacity n g (of_group g items) (rest g) (given g) records) (ap full_of (sym ran.joined)) counts)
+
+-- The history, by what was told
+
+pub closed_is_done : (outcome end : Outcome) → (began : Began) → IsToldAs began outcome → IsWithPorts outcome end → is_closed end ≡ true → (outcome ≡ Done) × (began ≡ starts.Begun)
+closed_is_done outcome end began told (inr ports) closed = (ports.0, begun began (subst (IsToldAs began) ports.0 told))
+  where
+    begun : (began : Began) → IsToldAs began Done → began ≡ starts.Begun
+    begun starts.Begun told = refl
+    begun starts.Place told = let none : ⊥ = cc in absurd none
+    begun starts.Tick told = let none : ⊥ = cc in absurd none
+    begun starts.Fault told = let none : ⊥ = cc in absurd none
+closed_is_done outcome end began told (inl same) closed = by began told (ap is_closed (sym same) ∙ closed)
+  where
+    by : (began : Began) → IsToldAs began outcome → is_closed outcome ≡ true → (outcome ≡ Done) × (began ≡ starts.Begun)
+    by starts.Begun (inl done) is = (done, refl)
+    by starts.Begun (inr fault) is = absurd (true≢false (sym is ∙ ap is_closed fault))
+    by starts.Place told is = absurd (true≢false (sym is ∙ ap is_closed told))
+    by starts.Tick told is = absurd (true≢false (sym is ∙ ap is_closed told))
+    by starts.Fault told is = absurd (true≢false (sym is ∙ ap is_closed told))
+
+-- what is told is no want of memory
+pub has_memory : (outcome end : Outcome) (began : Began) → IsToldAs began outcome → IsWithPorts outcome end → end ≡ NoMemory → ⊥
+has_memory outcome end began told (inr (done, g, is)) e = never g (sym is ∙ e)
+  where
+    never : (g : ℕ) → PortFault g ≡ NoMemory → ⊥
+    never g e = cc
+has_memory outcome end began told (inl same) e = by began (subst (IsToldAs began) (sym same ∙ e) told)
+  where
+    by : (began : Began) → IsToldAs began NoMemory → ⊥
+    by starts.Begun (inl e) = cc
+    by starts.Begun (inr e) = cc
+    by starts.Place e = cc
+    by starts.Tick e = cc
+    by starts.Fault e = cc
+
+outcome_means : (opening : Opening) (began : Began) (outcome end : Outcome) → IsToldAs began outcome → IsWithPorts outcome end → StartMeans opening began → OutcomeMeans opening end
+outcome_means opening starts.Begun outcome end told ports means = by told ports
+  where
+    by : (outcome ≡ Done) ⊎ (outcome ≡ MediaFault) → IsWithPorts outcome end → OutcomeMeans opening end
+    by told (inr (done, g, is)) = subst (OutcomeMeans opening) (sym is) means
+    by (inl done) (inl same) = subst (OutcomeMeans opening) (sym (same ∙ done)) means
+    by (inr fault) (inl same) = subst (OutcomeMeans opening) (sym (same ∙ fault)) tt
+outcome_means opening starts.Place outcome end told ports means = by ports
+  where
+    never : Place ≡ Done → ⊥
+    never e = cc
+
+    by : IsWithPorts outcome end → OutcomeMeans opening end
+    by (inr (done, g, is)) = absurd (never (sym told ∙ done))
+    by (inl same) = subst (OutcomeMeans opening) (sym (same ∙ told)) means
+outcome_means opening starts.Tick outcome end told ports means = by ports
+  where
+    never : Tick ≡ Done → ⊥
+    never e = cc
+
+    by : IsWithPorts outcome end → OutcomeMeans opening end
+    by (inr (done, g, is)) = absurd (never (sym told ∙ done))
+    by (inl same) = subst (OutcomeMeans opening) (sym (same ∙ told)) means
+outcome_means opening starts.Fault outcome end told ports means = by ports
+  where
+    never : MediaFault ≡ Done → ⊥
+    never e = cc
+
+    by : IsWithPorts outcome end → OutcomeMeans opening end
+    by (inr (done, g, is)) = absurd (never (sym told ∙ done))
+    by (inl same) = subst (OutcomeMeans opening) (sym (same ∙ told)) tt
+
+-- the records of a run that was not begun, and of one that was
+module _ (opening : Opening) (marks : List Mark) (rest : ℕ → Counts) (records : List Record) (lost : List Captured) where
+  abbrev RunOrClosed : Type 0
+  RunOrClosed = (records ≡ run_records opening marks) ⊎ ((records ≡ closed_run (start_of opening) (taken_in marks) rest) × (is_begun marks ≡ true) × (has_fault marks ≡ false))
+
+  none_recorded : is_started marks ≡ false → is_begun marks ≡ false → RunOrClosed → records ≡ []
+  none_recorded idle refused (inl is) = is ∙ (λ i. if idle i then (recorder_after (start_of opening) (taken_in marks)).made else [])
+  none_recorded idle refused (inr (is, begun, none)) = absurd (true≢false (sym begun ∙ refused))
+
+  cut_recorded : (has_fault marks ≡ false → is_begun marks ≡ true → lost ≡ []) → RunOrClosed → RecordsAre MediaFault (start_of opening) (taken_in marks) lost rest records
+  cut_recorded whole (inr (is, begun, none)) = inr (inr (whole none begun, is))
+  cut_recorded whole (inl is) = by (cases_Bool (is_started marks))
+    where
+      by : (is_started marks ≡ true) ⊎ (is_started marks ≡ false) → RecordsAre MediaFault (start_of opening) (taken_in marks) lost rest records
+      by (inl on) = inr (inl (is ∙ (λ i. if on i then (recorder_after (start_of opening) (taken_in marks)).made else [])))
+      by (inr idle) = inl (is ∙ (λ i. if idle i then (recorder_after (start_of opening) (taken_in marks)).made else []))
+
+  module _ (began : Began) (outcome end : Outcome) (told : IsToldAs began outcome) (ports : IsWithPorts outcome end) (whole : has_fault marks ≡ false → is_begun marks ≡ true → lost ≡ []) (run : RunOrClosed)
+      (closed : outcome ≡ Done → records ≡ closed_run (start_of opening) (taken_in marks) rest) (works : outcome ≡ Done → has_fault marks ≡ false) (begun : began ≡ starts.Begun → is_begun marks ≡ true)
+      (refused : (began ≡ starts.Begun → ⊥) → is_begun marks ≡ false) (idle : (began ≡ starts.Place) ⊎ (began ≡ starts.Tick) → is_started marks ≡ false) where
+    abbrev Are : Outcome → Type 0
+    Are o = RecordsAre o (start_of opening) (taken_in marks) lost rest records
+
+    are_closed : began ≡ starts.Begun → outcome ≡ Done → (lost ≡ []) × (records ≡ closed_run (start_of opening) (taken_in marks) rest)
+    are_closed is done = (whole (works done) (begun is), closed done)
+
+    by_ports : Are outcome → (outcome ≡ Done → (g : ℕ) → Are (PortFault g)) → IsWithPorts outcome end → Are end
+    by_ports are closes (inl same) = subst Are (sym same) are
+    by_ports are closes (inr (done, g, is)) = subst Are (sym is) (closes done g)
+
+    are : (b : Began) → began ≡ b → IsToldAs b outcome → Are outcome
+    are starts.Begun is (inl done) = subst Are (sym done) (are_closed is done)
+    are starts.Begun is (inr fault) = subst Are (sym fault) (cut_recorded whole run)
+    are starts.Place is told = subst Are (sym told) (none_recorded (idle (inl is)) (refused (λ e. other (sym is ∙ e))) run)
+      where
+        other : starts.Place ≡ starts.Begun → ⊥
+        other e = cc
+    are starts.Tick is told = subst Are (sym told) (none_recorded (idle (inr is)) (refused (λ e. other (sym is ∙ e))) run)
+      where
+        other : starts.Tick ≡ starts.Begun → ⊥
+        other e = cc
+    are starts.Fault is told = subst Are (sym told) (cut_recorded whole run)
+
+    pub records_are : Are end
+    records_are = by_ports (are began refl told) (λ done g. are_closed (begun_of done) done) ports
+      where
+        begun_of : outcome ≡ Done → began ≡ starts.Begun
+        begun_of done = (closed_is_done outcome Done began told (inl (sym done)) refl).1
+
+-- The session
+
+refused_is_not_begun : (began : Began) → began ≡ starts.Begun → (began ≡ starts.Place) ⊎ (began ≡ starts.Tick) → ⊥
+refused_is_not_begun began is (inl e) = cc
+refused_is_not_begun began is (inr e) = cc
+
+pending_told : {W : Type 0} (outcome end : Outcome) → IsWithPorts outcome end → W ⊎ (outcome ≡ MediaFault) → W ⊎ (end ≡ MediaFault)
+pending_told outcome end ports (inl whole) = inl whole
+pending_told outcome end (inl same) (inr fault) = inr (same ∙ fault)
+pending_told outcome end (inr (done, g, is)) (inr fault) = absurd (never (sym done ∙ fault))
+  where
+    never : Done ≡ MediaFault → ⊥
+    never e = cc
+
+settings_limits : (opening : Opening) (c : Configuration) (text : List ℕ) → opening.settings ≡ settings_of c text → opening.settings.limits ≡ limits_in c.groups
+settings_limits opening c text e = ap (λ (s : Settings). s.limits) e
+
+pair_same : {A B : Type 0} (a : A) (b : B) (p : A × B) → Some (a, b) ≡ Some p → (a, b) ≡ p
+pair_same a b p e = cc
+
+some_rate : (o : Option Rate) → is_configured (limit_of o) ≡ is_some o
+some_rate None = refl
+some_rate (Some rate) = refl
+
+module _ {P : Type 0} (port_tells : PortTells P) {tells tells_images : Type 0} (turns capacity : ℕ) (rates : List (Option Rate)) (configured : List Bool) (queues : List (Option QueueId)) (first last : List (Option Taking))
+    (orig old new : List (Lane P)) (recording : RecordingState) (at_first : Disk tells tells_images) (sizes faults : List ℕ) (outcome : Outcome) (r : RecordingState) (disk : Disk tells tells_images) (now : List ℕ) (end : SessionEnd)
+    (conf : (g : ℕ) → g < 16 → get_or configured g false ≡ is_configured (limits_in rates g)) (lengths : (length orig ≡ 16) × (length old ≡ 16) × (length new ≡ 16))
+    (set : (g : ℕ) (d : Lane P) → g < 16 → IsSetUp (get_or configured g false) g capacity (get_or queues g None) (get_or first g None) (get_or orig g d) (get_or old g d))
+    (e : HasEnded port_tells turns (λ g. is_configured (limits_in rates g)) queues first last old new (record { clock = at_first.clock; now = at_first.now; since = at_first.since; reads = at_first.reads })
+    (λ opening t0. HasRecorded opening [] t0 recording at_first) sizes faults outcome r disk now)
+    (ports : IsWithPorts outcome end.outcome)
+    (sums : (start : RunStart) (popped : List Captured) → CountsItems start popped r.maker → (g : ℕ) (d : Lane P) → g < 16 → is_some (get_or queues g None) ≡ true
+    → get_or end.groups g None ≡ Some (summed start popped (get_or new g d).tally g))
+    (total : end.records ≡ r.members.next_place - recording.members.next_place)
+    (intakes : (g : ℕ) → g < 16 → get_or end.intakes g None ≡ paired (get_or queues g None) (get_or last g None))
+    (knows : (g : ℕ) (i : QueueId × Taking) → g < 16 → get_or end.intakes g None ≡ Some i → KnowsFull i.1)
+    (admits : Admits (limits_in rates)) (rates_are : recording.members.config.groups ≡ rates) (works : recording.members.failed ≡ false) where
+  abbrev items : List Captured
+  items = taken_in e.marks
+
+  some_queue : (g : ℕ) (d : Lane P) → g < 16 → is_some (get_or queues g None) ≡ is_some (get_or rates g None)
+  some_queue g d small = (set g d small).known ∙ conf g small ∙ some_rate (get_or rates g None)
+
+  -- By what the ports gave
+  module _ (given : ℕ → List Item) (lost : List Captured) (feed : AllFeed (items ++ lost) e.rest given) (whole : has_fault e.marks ≡ false → is_begun e.marks ≡ true → lost ≡ [])
+      (lanes : (g : ℕ) (d : Lane P) → g < 16 → LaneTold port_tells turns capacity (has_begun e.began) g (get_or rates g None) (get_or end.intakes g None) (get_or orig g d).port (get_or new g d) (given g) (e.rest g))
+      (begun : e.began ≡ starts.Begun → is_begun e.marks ≡ true)
+      (closes : e.began ≡ starts.Begun → has_fault e.marks ≡ false → (g : ℕ) (d : Lane P) → g < 16
+      → LaneGave port_tells turns g (get_or queues g None) (get_or last g None) (get_or old g d) (get_or new g d) (given g) (e.rest g) × (of_group g items ≡ popped_by (get_or last g None)) × IsDrained (get_or last g None)) where
+    module _ (opening : Opening) (t0 : ℕ) (told : tells) (h : HasRecorded opening [] t0 recording at_first) where
+      run : EndsRun (record { clock = at_first.clock; now = at_first.now; since = at_first.since; reads = at_first.reads }) opening e.marks t0 e.rest outcome r disk
+      run = (e.told told opening t0 h).0
+
+      abbrev records : List Record
+      records = recorded run.events
+
+      admits_here : Admits (start_of opening).limits
+      admits_here = subst Admits (sym (settings_limits opening recording.members.config opening.settings.text (h.works works).stands.settings ∙ ap limits_in rates_are)) admits
+
+      told_are : RecordsAre end.outcome (start_of opening) items lost e.rest records
+      told_are = records_are opening e.marks e.rest records lost e.began outcome end.outcome e.told_as ports whole run.records (λ done. (run.closed done).0) (λ done. (e.works done).0) begun
+          (λ ne. (e.lanes.refused ne).refused) (λ either. (idle_of either).0)
+        where
+          idle_of : (either : (e.began ≡ starts.Place) ⊎ (e.began ≡ starts.Tick)) → (is_started e.marks ≡ false) × (has_fault e.marks ≡ false)
+          idle_of either = (e.lanes.refused (λ is. refused_is_not_begun e.began is either)).idle either
+
+      module _ (closed : is_closed end.outcome ≡ true) where
+        done : (outcome ≡ Done) × (e.began ≡ starts.Begun)
+        done = closed_is_done outcome end.outcome e.began e.told_as ports closed
+
+        none : lost ≡ []
+        none = whole (e.works done.0).0 (begun done.1)
+
+        sums_at : (g : ℕ) → g < 16 → (queue : Option QueueId) (taker : Option Taking) (was now : Lane P) → is_some queue ≡ true → LaneGave port_tells turns g queue taker was now (given g) (e.rest g)
+            → of_group g items ≡ popped_by taker → IsDrained taker → summed (start_of opening) items now.tally g ≡ sums_of g (given g) records
+        sums_at g small None taker was now there gave popped drained = absurd (true≢false (sym there))
+        sums_at g small (Some queue) None was now there gave popped drained = absurd gave
+        sums_at g small (Some queue) (Some taker) was now there gave popped drained =
+            sums_told (start_of opening) admits_here items lost e.rest given feed records none (run.closed done.0).0 port_tells turns g small queue taker was.port now.port now.tally now.cause gave popped drained
+
+        are_sums : AreSums rates given records end.groups
+        are_sums g small there =
+            let d = first_of new (let l = lengths.2 in omega (arith, l)) in
+            let c = closes done.1 (e.works done.0).0 g d small in
+            let is : is_some (get_or queues g None) ≡ true = some_queue g d small ∙ there in
+            sums (start_of opening) items (run.closed done.0).1 g d small is
+            ∙ ap (λ (s : GroupSums). Some s) (sums_at g small (get_or queues g None) (get_or last g None) (get_or old g d) (get_or new g d) is c.0 c.1 c.2)
+
+        full_at : (g : ℕ) → g < 16 → (queue : Option QueueId) (taker : Option Taking) (was now : Lane P) (intake : QueueId × Taking) → paired queue taker ≡ Some intake → LaneGave port_tells turns g queue taker was now (given g) (e.rest g)
+            → of_group g items ≡ popped_by taker → IsDrained taker → IfSome queue (λ q. q.capacity ≡ capacity) → KnowsFull intake.1 → FullCounts capacity (full_of intake.1.joined) g intake.1.popped (e.rest g) (given g) records
+        full_at g small None taker was now intake is gave popped drained room knows = let never : ⊥ = cc in absurd never
+        full_at g small (Some queue) None was now intake is gave popped drained room knows = absurd gave
+        full_at g small (Some queue) (Some taker) was now intake is gave popped drained room knows =
+            let same = pair_same queue taker intake is in
+            subst (λ (i : QueueId × Taking). FullCounts capacity (full_of i.1.joined) g i.1.popped (e.rest g) (given g) records) same
+            (full_told (start_of opening) admits_here items lost e.rest given feed records none (run.closed done.0).0 port_tells turns g small queue taker was.port now.port now.tally now.cause gave popped drained
+            capacity room (subst (λ (i : QueueId × Taking). KnowsFull i.1) (sym same) knows))
+
+        counts_full : CountsFull capacity given e.rest records end.intakes
+        counts_full g intake small there =
+            let d = first_of new (let l = lengths.2 in omega (arith, l)) in
+            let c = closes done.1 (e.works done.0).0 g d small in
+            full_at g small (get_or queues g None) (get_or last g None) (get_or old g d) (get_or new g d) intake (sym (intakes g small) ∙ there) c.0 c.1 c.2 (set g d small).room (knows g intake small there)
+
+        is_total : end.records ≡ length records
+        is_total =
+            let a = h.told.place in
+            let b = run.has.told.place in
+            let c = left_place opening run.events ((whole_has_not_failed run.events).1 (sym run.has.failed ∙ (e.works done.0).1)) in
+            omega (arith, total, a, b, c)
+
+      pub is_told : (events : List Event) × KeepsSession opening t0 end.outcome at_first disk events × RecordsSession (start_of_opening opening) rates capacity given e.rest items lost end (recorded events)
+      is_told = (
+        run.events,
+        record {
+          history = run.has.history;
+          made = run.has.made;
+          kept = run.has.kept;
+          passes = record { later = run.passes.later; each = run.passes.each; before = run.passes.earlier };
+          pending = pending_told outcome end.outcome ports run.pending;
+          means = outcome_means opening e.began outcome end.outcome e.told_as ports (e.told told opening t0 h).1;
+        },
+        record {
+          are = told_are;
+          accounts = account_by (start_of opening) admits_here items lost e.rest given feed records end.outcome told_are;
+          sums = are_sums;
+          total = is_total;
+          full = counts_full;
+        },
+      )
+
+    pub session : end.outcome ≢ NoMemory → Session port_tells turns capacity rates orig new recording at_first disk end
+    session memory = record {
+      began = has_begun e.began;
+      given = given;
+      rest = e.rest;
+      items = items;
+      lost = lost;
+      feed = feed;
+      lanes = λ _. lanes;
+      runs = λ closed. ap has_begun (closed_is_done outcome end.outcome e.began e.told_as ports closed).1;
+      told = λ told opening t0 h. is_told opening t0 told h;
+    }
+
+  -- A run that was begun
+  module _ (is : e.began ≡ starts.Begun) where
+    abbrev ran : RanLanes port_tells turns (λ g. is_configured (limits_in rates g)) queues last old new e.marks
+    ran = e.lanes.ran is
+
+    abbrev lane : Lane P
+    lane = first_of new (let l = lengths.2 in omega (arith, l))
+
+    abbrev fed : (g : ℕ) → LaneFed port_tells turns g (get_or queues g None) (get_or last g None) (get_or old g lane) (get_or new g lane) (e.rest g)
+    fed = each_fed port_tells turns queues last old new lane e.rest ran.sixteen
+        (λ g small. ready_group (λ _. get_or configured g false) g (get_or queues g None) (get_or first g None) (get_or old g lane) (set g lane small).ready) (λ g small. ran.lanes g lane small) (e.missed is)
+
+    gave : (g : ℕ) (d : Lane P) → g < 16 → LaneGave port_tells turns g (get_or queues g None) (get_or last g None) (get_or old g d) (get_or new g d) (fed g).given (e.rest g)
+    gave g d small =
+        subst (λ (x : Lane P × Lane P). LaneGave port_tells turns g (get_or queues g None) (get_or last g None) x.0 x.1 (fed g).given (e.rest g))
+        (λ i. (no_default old g lane d (let l = lengths.1 in omega (arith, l, small)) i, no_default new g lane d (let l = lengths.2 in omega (arith, l, small)) i)) ((fed g).lane small)
+
+    pub session_ran : end.outcome ≢ NoMemory → Session port_tells turns capacity rates orig new recording at_first disk end
+    session_ran memory =
+        let lost = ran.lost ++ gather (λ g. (fed g).queued) 16 in
+        let whole : has_fault e.marks ≡ false → lost ≡ [] = λ none. none_lost port_tells turns queues last old new lane e.rest ran.sixteen
+        (λ g small. ready_group (λ _. get_or configured g false) g (get_or queues g None) (get_or first g None) (get_or old g lane) (set g lane small).ready) (λ g small. ran.lanes g lane small) (e.missed is)
+        ran.lost (ran.whole none) (ran.drained none) in
+        session (λ g. (fed g).given) lost
+        (feeds_all port_tells turns queues last old new lane e.rest ran.sixteen
+        (λ g small. ready_group (λ _. get_or configured g false) g (get_or queues g None) (get_or first g None) (get_or old g lane) (set g lane small).ready) (λ g small. ran.lanes g lane small) (e.missed is)
+        items ran.lost ran.popped)
+        (λ none _. whole none)
+        (λ g d small. subst (λ (b : Bool). LaneTold port_tells turns capacity b g (get_or rates g None) (get_or end.intakes g None) (get_or orig g d).port (get_or new g d) (fed g).given (e.rest g)) (sym (ap has_begun is))
+        (lane_ran port_tells turns capacity g (get_or configured g false) (get_or rates g None) (get_or queues g None) (get_or first g None) (get_or last g None) (get_or end.intakes g None) (get_or orig g d) (get_or old g d) (get_or new g d)
+        (fed g).given (e.rest g) (conf g small) (intakes g small) (set g d small) (gave g d small)))
+        (λ _. ran.begun)
+        (λ _ none g d small. (
+          gave g d small,
+          ap (of_group g) (sym (ap (λ (xs : List Captured). items ++ xs) (ran.whole none) ∙ append-nil items)) ∙ ran.popped.each g small,
+          ran.drained none g small,
+        ))
+        memory
+
+  -- One that was not
+  module _ (ne : e.began ≡ starts.Begun → ⊥) where
+    rested : NotBegun e.began first last old new e.marks
+    rested = e.lanes.refused ne
+
+    not_begun : (b : Began) → (b ≡ starts.Begun → ⊥) → has_begun b ≡ false
+    not_begun starts.Begun ne = absurd (ne refl)
+    not_begun starts.Place ne = refl
+    not_begun starts.Tick ne = refl
+    not_begun starts.Fault ne = refl
+
+    pub session_rested : end.outcome ≢ NoMemory → Session port_tells turns capacity rates orig new recording at_first disk end
+    session_rested memory = session (λ _. []) []
+        (subst (λ (rest : ℕ → Counts). AllFeed (items ++ []) rest (λ _. [])) (λ i g. sym (e.quiet ne g) i) (nothing_feeds items rested.none))
+        (λ _ _. refl)
+        (λ g d small. subst (λ (x : Bool × Counts). LaneTold port_tells turns capacity x.0 g (get_or rates g None) (get_or end.intakes g None) (get_or orig g d).port (get_or new g d) [] x.1) (λ i. (sym (not_begun e.began ne) i, sym (e.quiet ne g) i))
+        (lane_rested port_tells turns capacity g (get_or configured g false) (get_or rates g None) (get_or queues g None) (get_or first g None) (get_or last g None) (get_or end.intakes g None) (get_or orig g d) (get_or old g d) (get_or new g d)
+        (conf g small) (intakes g small) (set g d small) (ap (λ (ls : List (Lane P)). get_or ls g d) rested.lanes) (ap (λ (ts : List (Option Taking)). get_or ts g None) rested.takers)))
+        (λ is. absurd (ne is))
+        (λ is. absurd (ne is))
+        memory
+
+  pub session_of : Session port_tells turns capacity rates orig new recording at_first disk end
+  session_of = by e.began refl
+    where
+      memory : end.outcome ≢ NoMemory
+      memory = has_memory outcome end.outcome e.began e.told_as ports
+
+      by : (b : Began) → e.began ≡ b → Session port_tells turns capacity rates orig new recording at_first disk end
+      by starts.Begun is = session_ran is memory
+      by starts.Place is = session_rested (λ b. place_is_not (sym is ∙ b)) memory
+        where
+          place_is_not : starts.Place ≡ starts.Begun → ⊥
+          place_is_not e = cc
+      by starts.Tick is = session_rested (λ b. tick_is_not (sym is ∙ b)) memory
+        where
+          tick_is_not : starts.Tick ≡ starts.Begun → ⊥
+          tick_is_not e = cc
+      by starts.Fault is = session_rested (λ b. fault_is_not (sym is ∙ b)) memory
+        where
+          fault_is_not : starts.Fault ≡ starts.Begun → ⊥
+          fault_is_not e = cc
+
+-- What is there of a session that ended with memory
+
+told_groups : {P : Type 0} (tells : PortTells P) (turns capacity : ℕ) (began : Bool) (g : ℕ) (rate : Option Rate) (intake : Option (QueueId × Taking)) (port : P) (lane : Lane P) (given : List Item) (rest : Counts)
+    → LaneTold tells turns capacity began g rate intake port lane given rest → is_some intake ≡ is_some rate
+told_groups tells turns capacity began g None None port lane given rest h = refl
+told_groups tells turns capacity began g None (Some intake) port lane given rest h = absurd h
+told_groups tells turns capacity began g (Some rate) None port lane given rest h = absurd h
+told_groups tells turns capacity began g (Some rate) (Some intake) port lane given rest h = refl
+
+pub queues_some : {P : Type 0} {capacity : ℕ} (configured : List Bool) (rates : List (Option Rate)) (queues : List (Option QueueId)) (takers : List (Option Taking)) (orig old : List (Lane P)) → length orig ≡ 16
+    → ((g : ℕ) → g < 16 → get_or configured g false ≡ is_configured (limits_in rates g))
+    → ((g : ℕ) (d : Lane P) → g < 16 → IsSetUp (get_or configured g false) g capacity (get_or queues g None) (get_or takers g None) (get_or orig g d) (get_or old g d)) → (g : ℕ) → g < 16
+    → is_some (get_or queues g None) ≡ is_some (get_or rates g None)
+queues_some configured rates queues takers orig old sixteen conf set g small = (set g (first_of orig (omega (arith, sixteen))) small).known ∙ conf g small ∙ some_rate (get_or rates g None)
+
+with_memory : (o : Outcome) → o ≢ NoMemory → has_groups o ≡ true
+with_memory Done ne = refl
+with_memory NoMemory ne = absurd (ne refl)
+with_memory Place ne = refl
+with_memory Tick ne = refl
+with_memory MediaFault ne = refl
+with_memory (PortFault g) ne = refl
+with_memory (LinkFault i) ne = refl
+
+pub groups_of : {P : Type 0} (tells : PortTells P) {media_tells images : Type 0} (turns capacity : ℕ) (rates : List (Option Rate)) (queues : List (Option QueueId)) (old new : List (Lane P)) (recording : RecordingState) (before after : Disk media_tells images)
+    (end : SessionEnd) → Session tells turns capacity rates old new recording before after end → end.outcome ≢ NoMemory → length new ≡ 16
+    → ((g : ℕ) → g < 16 → is_some (get_or end.groups g None) ≡ is_some (get_or queues g None)) → ((g : ℕ) → g < 16 → is_some (get_or queues g None) ≡ is_some (get_or rates g None)) → HasGroups rates end
+groups_of tells turns capacity rates queues old new recording before after end s memory sixteen sums same =
+    let d = first_of new (omega (arith, sixteen)) in
+    let there = with_memory end.outcome memory in
+    record {
+      sums = λ g small. sums g small ∙ same g small ∙ ap (λ (b : Bool). b && is_some (get_or rates g None)) (sym there);
+      intakes = λ g small. told_groups tells turns capacity s.began g (get_or rates g None) (get_or end.intakes g None) (get_or old g d).port (get_or new g d) (s.given g) (s.rest g) (s.lanes memory g d small)
+          ∙ ap (λ (b : Bool). b && is_some (get_or rates g None)) (sym there);
+    }
+
+pub ports_memory : (outcome end : Outcome) (began : Began) → IsToldAs began outcome → IsWithPorts outcome end → end ≢ NoMemory
+ports_memory outcome end began told ports = has_memory outcome end began told ports
+
+-- Where there was no memory, nothing was done.
+pub no_memory_session : {P : Type 0} (tells : PortTells P) {media_tells images : Type 0} (turns capacity : ℕ) (rates : List (Option Rate)) (old new : List (Lane P)) (recording : RecordingState) (disk : Disk media_tells images) (end : SessionEnd)
+    → end.outcome ≡ NoMemory → Session tells turns capacity rates old new recording disk disk end
+no_memory_session {P} tells {media_tells} {images} turns capacity rates old new recording disk end is =
+    let open_ : is_closed end.outcome ≡ false = ap is_closed is in
+    record {
+      began = false;
+      given = λ _. [];
+      rest = λ _. none_missed;
+      items = [];
+      lost = [];
+      feed = nothing_feeds [] refl;
+      lanes = λ ne. absurd (ne is);
+      runs = λ closed. absurd (true≢false (sym closed ∙ open_));
+      told = λ told opening t0 h. (
+        [],
+        record {
+          history = h.history;
+          made = h.made;
+          kept = h.kept;
+          passes = record { later = omega arith; each = λ i since. inl (disk.only_now i since); before = λ t i early since. inl since };
+          pending = inl (All-nil (λ (e : Event). e.moment ≢ None));
+          means = subst (OutcomeMeans opening) (sym is) tt;
+        },
+        record {
+          are = subst (λ (o : Outcome). RecordsAre o (start_of_opening opening) [] [] (λ _. none_missed) (recorded [])) (sym is) refl;
+          accounts = λ g. subst (λ (o : Outcome). AccountBy o (start_of_opening opening) (recorded []) g []) (sym is) tt;
+          sums = λ closed. absurd (true≢false (sym closed ∙ open_));
+          total = λ closed. absurd (true≢false (sym closed ∙ open_));
+          full = λ closed. absurd (true≢false (sym closed ∙ open_));
+        },
+      );
+    }
+
+-- A legal configuration admits a datagram a second of each of its groups.
+rate_at : (rates : List (Option Rate)) (g : ℕ) → All (λ rate. IfSome rate IsRate) rates → IfSome (get_or rates g None) IsRate
+rate_at [] g h = tt
+rate_at (rate ∷ rates) zero h = All-head (λ (rate : Option Rate). IfSome rate IsRate) rate rates h
+rate_at (rate ∷ rates) (suc g) h = rate_at rates g (All-tail (λ (rate : Option Rate). IfSome rate IsRate) rate rates h)
+
+pub admits_all : (c : Configuration) → IsConfiguration c → Admits (limits_in c.groups)
+admits_all c legal g rate is = go (get_or c.groups g None) (rate_at c.groups g legal.rates) is
+  where
+    go : (o : Option Rate) → IfSome o IsRate → limit_of o ≡ AtMost rate → 1 ≤ rate.datagrams
+    go None h e = let none : ⊥ = cc in absurd none
+    go (Some r) h e = subst (λ (r : Rate). 1 ≤ r.datagrams) (same r e) h.0
+      where
+        same : (r : Rate) → AtMost r ≡ AtMost rate → r ≡ rate
+        same r e = cc

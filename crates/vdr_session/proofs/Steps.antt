@@ -1,0 +1,488 @@
+-- A recorder under the latch after one more mark.
+use Rattle.std.proofs.Common.{◌≡◌, ◌≢◌, ◌⊎◌, inl, inr, ◌<◌, ◌≤◌, ◌+◌, ◌*◌, ◌/◌, ◌^◌, ◌++◌, ◌&&◌, ◌||◌, ℕ, Bool, true, false, true≢false, List, [], ◌∷◌, All, Option, Some, None, length, drop, filter, flat_map, is_some, cond, not, if◌then◌else◌, ⊎_elim, refl, sym, ap, ◌∙◌, subst, arith, append-nil, append_assoc}
+use Rattle.std.specs.Prelude.{sum, Result, Ok, Err, OnOk, OnErr, IsErr, is_ok}
+use Rattle.std.specs.List.{list_any}
+use Rattle.std.proofs.lemmas.Bool.{cases_Bool, cond-false, cond-true}
+use Rattle.std.proofs.lemmas.Grind.{flat_map-append}
+use Rattle.std.proofs.lemmas.List.{length-append}
+use Rattle.std.proofs.lemmas.List.Elements.{All-cons, All-head, All-nil, All-tail}
+use Rattle.std.proofs.lemmas.List.Folds.{list_any-append}
+use Rattle.std.proofs.Math.Seq.{drop-append_seam}
+use Rattle.vdr_terms.specs.Counting.{next_number}
+use Rattle.vdr_terms.specs.Records.{Record}
+use Rattle.vdr_terms.specs.declared.rate.Rate.{Rate}
+use Rattle.vdr_history.specs.Histories.{Act, Event, Opening, recorded, records_of_act}
+use Rattle.vdr_history.specs.Histories.Act.{Commit}
+use Rattle.vdr_history.specs.Recorder.{begun, recorder_after}
+use Rattle.vdr_history.specs.Runs.{RunStart}
+use Rattle.vdr_history.specs.RunStates.{RunState, after_act, begin_run, next_start, recorder_in, state_left}
+use Rattle.vdr_history.specs.Taken.{Captured}
+use Rattle.vdr_core.proofs.Commits.{further_items}
+use Rattle.vdr_core.proofs.RecorderHistory.{inside_begins_none}
+use Rattle.vdr_config.specs.Configuration.{Configuration}
+use Rattle.vdr_pace.specs.Commits.{item_size}
+use Rattle.vdr_durability.specs.Keeping.{IsWhole, ShowsPrefix, moment_of}
+use Rattle.vdr_durability.proofs.Whole.{whole_has_not_failed}
+use Rattle.vdr_outside.specs.Causes.{NoneFalls, Rose}
+use Rattle.vdr_outside.specs.Disk.{Disk, Image, content}
+use Rattle.vdr_outside.proofs.Counts.{none_fell, none_falls_join, rose_after, sum_not_less}
+use Rattle.vdr_vault.specs.Calls.{SameElsewhere}
+use Rattle.vdr_vault.specs.Vaults.{AreRings, ShowsHistory}
+use Rattle.vdr_recorder.specs.Making.{counted_of, numbers_of}
+use Rattle.vdr_recorder.specs.Recordings.{HasDone, HasRecorded, Passes, RecordingState}
+use Rattle.vdr_recorder.proofs.Answering.{same_disk}
+use Rattle.vdr_recorder.proofs.Continuing.{has_moment, left_with}
+use Rattle.vdr_recorder.proofs.Looking.{look_done}
+use Rattle.vdr_session.specs.declared.mark.Did.{Did}
+use Rattle.vdr_session.specs.declared.mark.Did.TheVariants.{Begin, Take, Save, Release, Look}
+use Rattle.vdr_session.specs.declared.mark.Mark.{Mark}
+use Rattle.vdr_session.specs.Events.{act_of, added_records, event_of, events_of, is_started, run_records, start_of}
+use Rattle.vdr_session.specs.Marks.{IsMarkOf, begins, is_begun, is_leading, taken_by, taken_in}
+use Rattle.vdr_session.specs.Standing.{AreFew, Before, HasSession, IsAt, IsFresh, IsKept, IsTaking, PassesSince, batch_mark, start_mark}
+use Rattle.vdr_session.proofs.Faults.{none_leads}
+use Rattle.vdr_session.proofs.Marked.{taken_more}
+use Rattle.vdr_session.proofs.Numbered.{numbers_append}
+use Rattle.vdr_session.proofs.Told.{events_more}
+
+-- booleans
+or_none : (b : Bool) → (b || false) ≡ b
+or_none true = refl
+or_none false = refl
+
+and_true : (b c : Bool) → c ≡ true → (b && c) ≡ b
+and_true true c e = e
+and_true false c e = refl
+
+some_true : {X : Type 0} (o : Option X) → o ≢ None → is_some o ≡ true
+some_true None ne = absurd (ne refl)
+some_true (Some x) ne = refl
+
+-- one more mark
+pub started_more : (marks : List Mark) (m : Mark) → is_started (marks ++ m ∷ []) ≡ (is_started marks || begins m.did)
+started_more marks m = list_any-append (λ (m : Mark). begins m.did) marks (m ∷ []) ∙ ap (λ (b : Bool). is_started marks || b) (or_none (begins m.did))
+
+pub begun_grows : (marks : List Mark) (m : Mark) → is_begun (marks ++ m ∷ []) ≡ (is_begun marks || (begins m.did && is_some m.moment))
+begun_grows marks m = list_any-append (λ (m : Mark). begins m.did && is_some m.moment) marks (m ∷ []) ∙ ap (λ (b : Bool). is_begun marks || b) (or_none (begins m.did && is_some m.moment))
+
+pub all_more : (marks : List Mark) (m : Mark) → All (λ m. m.moment ≢ None) marks → m.moment ≢ None → All (λ m. m.moment ≢ None) (marks ++ m ∷ [])
+all_more [] m all some = All-cons (λ (m : Mark). m.moment ≢ None) m [] some (All-nil (λ (m : Mark). m.moment ≢ None))
+all_more (x ∷ xs) m all some =
+    All-cons (λ (m : Mark). m.moment ≢ None) x (xs ++ m ∷ []) (All-head (λ (m : Mark). m.moment ≢ None) x xs all) (all_more xs m (All-tail (λ (m : Mark). m.moment ≢ None) x xs all) some)
+
+-- where no mark met a fault, a run that was started was begun
+pub begun_whole : (marks : List Mark) → All (λ m. m.moment ≢ None) marks → is_begun marks ≡ is_started marks
+begun_whole [] all = refl
+begun_whole (m ∷ marks) all = λ i. and_true (begins m.did) (is_some m.moment) (some_true m.moment (All-head (λ (m : Mark). m.moment ≢ None) m marks all)) i
+    || begun_whole marks (All-tail (λ (m : Mark). m.moment ≢ None) m marks all) i
+
+-- a mark that begins nothing, and one that takes nothing
+started_same : (marks : List Mark) (m : Mark) → begins m.did ≡ false → is_started (marks ++ m ∷ []) ≡ is_started marks
+started_same marks m none = started_more marks m ∙ ap (λ (b : Bool). is_started marks || b) none ∙ or_none (is_started marks)
+
+begun_none : (marks : List Mark) (m : Mark) → (begins m.did && is_some m.moment) ≡ false → is_begun (marks ++ m ∷ []) ≡ is_begun marks
+begun_none marks m none = begun_grows marks m ∙ ap (λ (b : Bool). is_begun marks || b) none ∙ or_none (is_begun marks)
+
+taken_same_by : (marks : List Mark) (m : Mark) → taken_by m.did ≡ [] → taken_in (marks ++ m ∷ []) ≡ taken_in marks
+taken_same_by marks m none = taken_more marks m ∙ ap (λ (xs : List Captured). taken_in marks ++ xs) none ∙ append-nil (taken_in marks)
+
+no_moment : (failed : Bool) (clock : ℕ) → failed ≡ true → is_some (moment_of failed clock) ≡ false
+no_moment failed clock fails = ap (λ (b : Bool). is_some (moment_of b clock)) fails
+
+-- what was made is a front of what is made with further items
+pub added : (start : RunStart) (taken items : List Captured) (records : List Record) → (recorder_after start (taken ++ items)).made ≡ (recorder_after start taken).made ++ records
+    → added_records start taken items ≡ records
+added start taken items records made =
+    ap (drop (length (recorder_after start taken).made)) made ∙ drop-append_seam (recorder_after start taken).made records
+
+front_shown : {shows : List Event → Image → Type 0} (events more : List Event) (least : ℕ) (image : Image) → ShowsPrefix shows events least image → ShowsPrefix shows (events ++ more) least image
+front_shown events more least image h = record {
+  first = h.first;
+  rest = h.rest ++ more;
+  split = ap (λ (es : List Event). es ++ more) h.split ∙ append_assoc h.first h.rest more;
+  enough = h.enough;
+  shown = h.shown;
+}
+
+abbrev Possible : Before → Opening → List Event → Image → Type 0
+Possible before opening es i = before.now i ⊎ ShowsPrefix (ShowsHistory opening) es 0 i
+
+module _ {tells tells_images : Type 0} (before : Before) (opening : Opening) where
+  -- what held of a stop since the session began holds after one more event
+  pub passes_more : (events : List Event) (e : Event) (old new : Disk tells tells_images) → PassesSince before opening events old → Passes opening (events ++ e ∷ []) old new
+      → PassesSince before opening (events ++ e ∷ []) new
+  passes_more events e old new p q = record {
+    later = omega (arith, p.later, q.later);
+    each = λ i since. ⊎_elim (λ (was : old.since before.clock i). weaker i (p.each i was)) (in_call i) (q.before before.clock i p.later since);
+    earlier = λ t i early since. ⊎_elim
+        (λ (was : old.since t i). ⊎_elim (λ (h : before.since t i). inl h) (λ (h : Possible before opening events i). inr (weaker i h)) (p.earlier t i early was))
+        (λ h. inr (in_call i h))
+        (q.before t i (omega (arith, early, p.later)) since);
+  }
+    where
+      weaker : (i : Image) → Possible before opening events i → Possible before opening (events ++ e ∷ []) i
+      weaker i h = ⊎_elim (λ (was : before.now i). inl was) (λ (shown : ShowsPrefix (ShowsHistory opening) events 0 i). inr (front_shown events (e ∷ []) 0 i shown)) h
+
+      in_call : (i : Image) → (old.now i ⊎ ShowsPrefix (ShowsHistory opening) (events ++ e ∷ []) 0 i) → Possible before opening (events ++ e ∷ []) i
+      in_call i h = ⊎_elim (λ (now : old.now i). weaker i (p.each i (old.counts_now before.clock i p.later now))) (λ (shown : ShowsPrefix (ShowsHistory opening) (events ++ e ∷ []) 0 i). inr shown) h
+
+  module _ (marks : List Mark) (t0 : ℕ) (r : RecordingState) (old : Disk tells tells_images) (s : HasSession before opening marks t0 r old) (m : Mark) (after : RecordingState) (new : Disk tells tells_images)
+      (d : HasDone opening (events_of opening marks) t0 (act_of opening (taken_in marks) (events_of opening marks) m.did) after old new) (moment_is : m.moment ≡ moment_of after.members.failed new.clock)
+      (lasts : after.members.failed ≡ false → r.members.failed ≡ false) where
+    abbrev events : List Event
+    events = events_of opening marks
+
+    abbrev own : Event
+    own = event_of opening (taken_in marks) events m
+
+    own_is : d.event ≡ own
+    own_is = λ i. record { act = d.act_is i; moment = (d.moment_is ∙ sym moment_is) i }
+
+    events_are : events ++ d.event ∷ [] ≡ events_of opening (marks ++ m ∷ [])
+    events_are = ap (λ (e : Event). events ++ e ∷ []) own_is ∙ sym (events_more opening marks m)
+
+    has_more : HasRecorded opening (events_of opening (marks ++ m ∷ [])) t0 after new
+    has_more = subst (λ (es : List Event). HasRecorded opening es t0 after new) events_are d.has
+
+    since_more : PassesSince before opening (events_of opening (marks ++ m ∷ [])) new
+    since_more = subst (λ (es : List Event). PassesSince before opening es new) events_are (passes_more events d.event old new s.passes d.passes)
+
+    recorded_more : recorded (events_of opening (marks ++ m ∷ [])) ≡ run_records opening marks ++ records_of_act (act_of opening (taken_in marks) events m.did)
+    recorded_more =
+        ap recorded (events_more opening marks m)
+        ∙ flat_map-append (λ (e : Event). records_of_act e.act) events (own ∷ [])
+        ∙ (λ i. s.made i ++ append-nil (records_of_act own.act) i)
+
+    left_more : after.members.failed ≡ false → state_left opening (events_of opening (marks ++ m ∷ [])) ≡ after_act (state_left opening events) (act_of opening (taken_in marks) events m.did)
+    left_more goes =
+        ap (state_left opening) (events_more opening marks m)
+        ∙ left_with opening events own ((whole_has_not_failed events).1 (sym s.has.failed ∙ lasts goes)) (has_moment after.members.failed new.clock m.moment moment_is goes)
+
+    -- the mark begins nothing, takes nothing and records nothing
+    pub still_session : begins m.did ≡ false → taken_by m.did ≡ [] → records_of_act (act_of opening (taken_in marks) events m.did) ≡ []
+        → ((t : RunState) → after_act t (act_of opening (taken_in marks) events m.did) ≡ t) → HasSession before opening (marks ++ m ∷ []) t0 after new
+    still_session begins_none takes_none records_none leaves = record {
+      has = has_more;
+      made = recorded_more
+          ∙ ap (λ (rs : List Record). run_records opening marks ++ rs) records_none
+          ∙ append-nil (run_records opening marks)
+          ∙ (λ i. if (sym (started_same marks m begins_none) i) then (recorder_after (start_of opening) (sym (taken_same_by marks m takes_none) i)).made else []);
+      begun = λ goes is.
+          let left = left_more goes ∙ leaves (state_left opening events) in
+          let was = s.begun (lasts goes) (sym (begun_none marks m (ap (λ (b : Bool). b && is_some m.moment) begins_none)) ∙ is) in
+          (ap (λ (t : RunState). t.start) left ∙ was.0, ap (λ (t : RunState). t.popped) left ∙ was.1 ∙ sym (taken_same_by marks m takes_none));
+      next = λ goes idle. ap next_start (left_more goes ∙ leaves (state_left opening events)) ∙ s.next (lasts goes) (sym (started_same marks m begins_none) ∙ idle);
+      passes = since_more;
+    }
+
+    -- the mark began the run
+    pub begun_session : m.did ≡ Begin → r.members.failed ≡ false → is_started marks ≡ false → taken_in marks ≡ [] → HasSession before opening (marks ++ m ∷ []) t0 after new
+    begun_session did_is works idle none =
+        let act_is : act_of opening (taken_in marks) events m.did ≡ Commit (begun (start_of opening)).made [] = ap (act_of opening (taken_in marks) events) did_is in
+        let begins_is : begins m.did ≡ true = ap begins did_is in
+        let takes_none : taken_by m.did ≡ [] = ap taken_by did_is in
+        let taken : taken_in (marks ++ m ∷ []) ≡ [] = taken_same_by marks m takes_none ∙ none in
+        let started : is_started (marks ++ m ∷ []) ≡ true = started_more marks m ∙ (λ i. idle i || begins_is i) in
+        record {
+          has = has_more;
+          made = recorded_more
+              ∙ (λ i. (if idle i then (recorder_after (start_of opening) (taken_in marks)).made else []) ++ records_of_act (act_is i))
+              ∙ (λ i. if (sym started i) then (recorder_after (start_of opening) (sym taken i)).made else []);
+          begun = λ goes is.
+              let left = left_more goes ∙ ap (after_act (state_left opening events)) act_is in
+              (ap (λ (t : RunState). t.start) left ∙ s.next works idle, ap (λ (t : RunState). t.popped) left ∙ sym taken);
+          next = λ goes none_started. absurd (true≢false (sym started ∙ none_started));
+          passes = since_more;
+        }
+
+    -- the mark took items
+    pub taken_session : (items : List Captured) → m.did ≡ Take items → is_started marks ≡ true
+        → (recorder_after (start_of opening) (taken_in marks ++ items)).made ≡ (recorder_after (start_of opening) (taken_in marks)).made ++ added_records (start_of opening) (taken_in marks) items
+        → (after.members.failed ≡ false → is_begun marks ≡ true) → HasSession before opening (marks ++ m ∷ []) t0 after new
+    taken_session items did_is started made was_begun =
+        let act_is : act_of opening (taken_in marks) events m.did ≡ Commit (added_records (start_of opening) (taken_in marks) items) items = ap (act_of opening (taken_in marks) events) did_is in
+        let begins_none : begins m.did ≡ false = ap begins did_is in
+        let taken : taken_in (marks ++ m ∷ []) ≡ taken_in marks ++ items = taken_more marks m ∙ ap (λ (did : Did). taken_in marks ++ taken_by did) did_is in
+        let still : is_started (marks ++ m ∷ []) ≡ true = started_same marks m begins_none ∙ started in
+        let none_begins : begin_run (added_records (start_of opening) (taken_in marks) items) ≡ false =
+        inside_begins_none (added_records (start_of opening) (taken_in marks) items) (further_items (start_of opening) (taken_in marks) items (added_records (start_of opening) (taken_in marks) items) made).1 in
+        record {
+          has = has_more;
+          made = recorded_more
+              ∙ (λ i. (if started i then (recorder_after (start_of opening) (taken_in marks)).made else []) ++ records_of_act (act_is i))
+              ∙ sym made
+              ∙ (λ i. if (sym still i) then (recorder_after (start_of opening) (sym taken i)).made else []);
+          begun = λ goes is.
+              let left = left_more goes ∙ ap (after_act (state_left opening events)) act_is in
+              let was = s.begun (lasts goes) (was_begun goes) in (
+                ap (λ (t : RunState). t.start) left
+                    ∙ cond-false (begin_run (added_records (start_of opening) (taken_in marks) items)) (next_start (state_left opening events)) (state_left opening events).start none_begins
+                    ∙ was.0,
+                ap (λ (t : RunState). t.popped) left
+                    ∙ cond-false (begin_run (added_records (start_of opening) (taken_in marks) items)) items ((state_left opening events).popped ++ items) none_begins
+                    ∙ ap (λ (xs : List Captured). xs ++ items) was.1
+                    ∙ sym taken,
+              );
+          next = λ goes none_started. absurd (true≢false (sym still ∙ none_started));
+          passes = since_more;
+        }
+
+-- the marks of a start and of a batch
+begin_told : (r after : RecordingState) → r.members.failed ≡ false → (after.is_open ≡ true) ⊎ (after.members.failed ≡ true)
+    → cond r.members.failed Look (cond after.is_open Begin (cond after.members.failed Begin Look)) ≡ Begin
+begin_told r after works (inl opened) =
+    cond-false r.members.failed Look (cond after.is_open Begin (cond after.members.failed Begin Look)) works
+    ∙ cond-true after.is_open Begin (cond after.members.failed Begin Look) opened
+begin_told r after works (inr fails) =
+    cond-false r.members.failed Look (cond after.is_open Begin (cond after.members.failed Begin Look)) works
+    ∙ ap (λ (did : Did). cond after.is_open Begin did) (cond-true after.members.failed Begin Look fails)
+    ∙ both after.is_open
+  where
+    both : (b : Bool) → cond b Begin Begin ≡ Begin
+    both true = refl
+    both false = refl
+
+look_told : (r : RecordingState) → r.is_open ≡ false → (r.members.failed ≡ true) ⊎ (r.members.failed ≡ false) → cond r.members.failed Look (cond r.is_open Begin (cond r.members.failed Begin Look)) ≡ Look
+look_told r closed (inl fails) = cond-true r.members.failed Look (cond r.is_open Begin (cond r.members.failed Begin Look)) fails
+look_told r closed (inr works) =
+    cond-false r.members.failed Look (cond r.is_open Begin (cond r.members.failed Begin Look)) works
+    ∙ cond-false r.is_open Begin (cond r.members.failed Begin Look) closed
+    ∙ cond-false r.members.failed Begin Look works
+
+-- a batch is taken whole where it was taken at all
+moment_told : (after : Bool) (clock : ℕ) (b : Bool) → after ≡ b → not b ≡ is_some (moment_of after clock)
+moment_told after clock true e = sym (ap (λ (b : Bool). is_some (moment_of b clock)) e)
+moment_told after clock false e = sym (ap (λ (b : Bool). is_some (moment_of b clock)) e)
+
+works_told : {T E : Type 0} (after : Bool) (clock : ℕ) (result : Result T E) → OnOk result (after ≡ false) → OnErr result (after ≡ true) → is_ok result ≡ is_some (moment_of after clock)
+works_told after clock (Ok x) goes fails = moment_told after clock false goes
+works_told after clock (Err e) goes fails = moment_told after clock true fails
+
+pub mark_is : {T E : Type 0} (items : List Captured) (failed after : Bool) (clock : ℕ) (result : Result T E) (works : Bool) → works ≡ is_ok result → (failed ≡ true → IsErr result)
+    → OnOk result (after ≡ false) → OnErr result (after ≡ true) → IsMarkOf items works (batch_mark failed items after clock)
+mark_is items false after clock result works is none goes fails =
+    record { lost = []; split = sym (append-nil items); whole = λ good. refl; told = is ∙ works_told after clock result goes fails }
+mark_is items true after clock (Ok x) works is none goes fails = absurd (true≢false (sym (none refl)))
+mark_is items true after clock (Err e) works is none goes fails =
+    record { lost = items; split = refl; whole = λ good. absurd (true≢false (sym good ∙ is)); told = is ∙ moment_told after clock true fails }
+
+-- a fault after a call has its cause
+pub rose_of : {T E : Type 0} (result : Result T E) (fails_after : Bool) (P : Type 0) → OnOk result (fails_after ≡ false) → OnErr result P → fails_after ≡ true → P
+rose_of (Ok x) b P works cause fails = absurd (true≢false (sym fails ∙ works))
+rose_of (Err e) b P works cause fails = cause
+
+-- What a call leaves at home.
+pub record StaysHome {tells tells_images : Type 0} (r : RecordingState) (old : Disk tells tells_images) (was : List ℕ) (after : RecordingState) (new : Disk tells tells_images) (now : List ℕ) : Type 0 where
+  pub config : after.members.config ≡ r.members.config
+  pub rings : AreRings after.members new.sizes
+  pub sizes : new.sizes ≡ old.sizes
+  pub later : NoneFalls was now
+  pub rose : after.members.failed ≡ true → (r.members.failed ≡ true) ⊎ Rose (sum was) (sum now)
+  pub elsewhere : tells → SameElsewhere old.reads new.reads
+
+module _ {tells tells_images : Type 0} (before : Before) (began : Opening → ℕ → Type 0) (rates : List (Option Rate)) (room : ℕ) (sizes faults : List ℕ) (marks : List Mark) (r : RecordingState)
+    (old : Disk tells tells_images) (was : List ℕ) (k : IsKept before began rates room sizes faults marks r old was) where
+  -- with what holds at home, the rest is the stage and the history
+  kept_by : (m : Mark) (after : RecordingState) (new : Disk tells tells_images) (now : List ℕ) → StaysHome r old was after new now → IsAt (marks ++ m ∷ []) after
+      → (tells → (opening : Opening) (t0 : ℕ) → began opening t0 → HasSession before opening (marks ++ m ∷ []) t0 after new) → IsKept before began rates room sizes faults (marks ++ m ∷ []) after new now
+  kept_by m after new now home stage told = record {
+    rates_are = ap (λ (c : Configuration). c.groups) home.config ∙ k.rates_are;
+    sixteen = k.sixteen;
+    room_is = ap (λ (c : Configuration). c.batch / item_size) home.config ∙ k.room_is;
+    rings = home.rings;
+    sizes_are = home.sizes ∙ k.sizes_are;
+    elsewhere = λ told n ne ne1. home.elsewhere told n ne ne1 ∙ k.elsewhere told n ne ne1;
+    later = none_falls_join faults was now k.later home.later;
+    rose = λ fails. ⊎_elim
+        (λ (had : r.members.failed ≡ true). let more = sum_not_less was now home.later.same_media home.later.none_falls in let rose = k.rose had in omega (arith, more, rose))
+        (λ (rose : Rose (sum was) (sum now)). rose_after (sum faults) (sum was) (sum now) (sum_not_less faults was k.later.same_media k.later.none_falls) rose)
+        (home.rose fails);
+    stage = stage;
+    told = told;
+  }
+
+  home_same : StaysHome r old was r old was
+  home_same = record { config = refl; rings = k.rings; sizes = refl; later = none_fell was; rose = λ fails. inl fails; elsewhere = λ told n ne ne1. refl }
+
+  abbrev look_mark : Mark
+  look_mark = record { did = Look; moment = moment_of r.members.failed old.clock }
+
+  -- a call that touched nothing
+  pub look_kept : IsKept before began rates room sizes faults (marks ++ look_mark ∷ []) r old was
+  look_kept = kept_by look_mark r old was home_same
+      (record {
+        open_is = λ is. let o = k.stage.open_is (sym (begun_none marks look_mark refl) ∙ is) in (
+          o.0,
+          record {
+            place = subst (λ (xs : List Captured). r.maker.place ≤ 2 ^ 62 + 2 * length xs) (sym (taken_same_by marks look_mark refl)) o.1.place;
+            numbers = subst (λ (xs : List Captured). (g : ℕ) → g < 16 → next_number (counted_of r.maker g).pending ≤ numbers_of g xs) (sym (taken_same_by marks look_mark refl)) o.1.numbers;
+          },
+        );
+        idle = λ is. let o = k.stage.idle (sym (started_same marks look_mark refl) ∙ is) in (o.0, taken_same_by marks look_mark refl ∙ o.1);
+        whole = λ goes. all_more marks look_mark (k.stage.whole goes) (has_moment r.members.failed old.clock look_mark.moment refl goes);
+      })
+      (λ told opening t0 b.
+      let s = k.told told opening t0 b in
+      still_session before opening marks t0 r old s look_mark r old
+      (look_done opening (events_of opening marks) t0 r old old s.has r.members (same_disk old) refl refl refl refl refl (λ placed stands. stands))
+      refl (λ goes. goes) refl refl refl (λ t. refl))
+
+  -- a start and a batch that touched nothing
+  pub start_look_kept : r.is_open ≡ false → (after : RecordingState) (new : Disk tells tells_images) (now : List ℕ) → after ≡ r → new ≡ old → now ≡ was
+      → IsKept before began rates room sizes faults (marks ++ start_mark r after new.clock ∷ []) after new now
+  start_look_kept closed after new now same same_disk_ same_now =
+      subst (λ (x : RecordingState × Disk tells tells_images × List ℕ). IsKept before began rates room sizes faults (marks ++ start_mark r x.0 x.1.clock ∷ []) x.0 x.1 x.2)
+      (λ i. (sym same i, sym same_disk_ i, sym same_now i))
+      (subst (λ (did : Did). IsKept before began rates room sizes faults (marks ++ record { did = did; moment = moment_of r.members.failed old.clock } ∷ []) r old was)
+      (sym (look_told r closed (cases_Bool r.members.failed))) look_kept)
+
+  pub batch_look_kept : (items : List Captured) → r.members.failed ≡ true → (after : RecordingState) (new : Disk tells tells_images) (now : List ℕ) → after ≡ r → new ≡ old → now ≡ was
+      → IsKept before began rates room sizes faults (marks ++ batch_mark r.members.failed items after.members.failed new.clock ∷ []) after new now
+  batch_look_kept items fails after new now same same_disk_ same_now =
+      subst (λ (x : RecordingState × Disk tells tells_images × List ℕ). IsKept before began rates room sizes faults (marks ++ batch_mark r.members.failed items x.0.members.failed x.1.clock ∷ []) x.0 x.1 x.2)
+      (λ i. (sym same i, sym same_disk_ i, sym same_now i))
+      (subst (λ (did : Did). IsKept before began rates room sizes faults (marks ++ record { did = did; moment = moment_of r.members.failed old.clock } ∷ []) r old was)
+      (sym (cond-true r.members.failed Look (Take items) fails)) look_kept)
+
+  -- no run was begun where none is open
+  pub none_started : r.is_open ≡ false → r.members.failed ≡ false → (is_begun marks ≡ false) × (is_started marks ≡ false)
+  none_started closed works = let none : is_begun marks ≡ false = none_begun_yet (cases_Bool (is_begun marks)) in (none, sym (begun_whole marks (k.stage.whole works)) ∙ none)
+    where
+      none_begun_yet : (is_begun marks ≡ true) ⊎ (is_begun marks ≡ false) → is_begun marks ≡ false
+      none_begun_yet (inl is) = absurd (true≢false (sym (k.stage.open_is is).0 ∙ closed))
+      none_begun_yet (inr none) = none
+
+  -- a run is started where one is open
+  pub is_on : r.is_open ≡ true → is_started marks ≡ true
+  is_on opened = on (cases_Bool (is_started marks))
+    where
+      on : (is_started marks ≡ true) ⊎ (is_started marks ≡ false) → is_started marks ≡ true
+      on (inl is) = is
+      on (inr none) = absurd (true≢false (sym opened ∙ (k.stage.idle none).0))
+
+  module _ (after : RecordingState) (new : Disk tells tells_images) (now : List ℕ) (home : StaysHome r old was after new now) (works : r.members.failed ≡ false) where
+    abbrev begin_mark : Mark
+    begin_mark = record { did = Begin; moment = moment_of after.members.failed new.clock }
+
+    -- a start that called the media
+    pub begin_kept : r.is_open ≡ false
+        → (after.members.failed ≡ false → (after.is_open ≡ true) × (after.maker.place ≤ 2 ^ 62) × ((g : ℕ) → g < 16 → next_number (counted_of after.maker g).pending ≡ 0))
+        → ((opening : Opening) (events : List Event) (t0 : ℕ) → tells → HasRecorded opening events t0 r old → HasDone opening events t0 (Commit (begun (next_start (state_left opening events))).made []) after old new)
+        → IsKept before began rates room sizes faults (marks ++ begin_mark ∷ []) after new now
+    begin_kept closed opens done =
+        let none = none_started closed works in
+        let idle = k.stage.idle none.1 in
+        let started : is_started (marks ++ begin_mark ∷ []) ≡ true = started_more marks begin_mark ∙ ap (λ (b : Bool). b || true) none.1 in
+        kept_by begin_mark after new now home
+        (record {
+          open_is = λ is. opened (none.0) is (cases_Bool after.members.failed);
+          idle = λ is. absurd (true≢false (sym started ∙ is));
+          whole = λ goes. all_more marks begin_mark (k.stage.whole works) (has_moment after.members.failed new.clock begin_mark.moment refl goes);
+        })
+        (λ told opening t0 b.
+        let s = k.told told opening t0 b in
+        begun_session before opening marks t0 r old s begin_mark after new
+        (subst (λ (start : RunStart). HasDone opening (events_of opening marks) t0 (Commit (begun start).made []) after old new) (s.next works none.1) (done opening (events_of opening marks) t0 told s.has))
+        refl (λ goes. works) refl works none.1 idle.1)
+      where
+        opened : is_begun marks ≡ false → is_begun (marks ++ begin_mark ∷ []) ≡ true → (after.members.failed ≡ true) ⊎ (after.members.failed ≡ false) → (after.is_open ≡ true) × AreFew (marks ++ begin_mark ∷ []) after
+        opened none is (inl fails) = absurd (true≢false (sym is ∙ begun_none marks begin_mark (no_moment after.members.failed new.clock fails) ∙ none))
+        opened none is (inr goes) = let o = opens goes in (o.0, record { place = (let p = o.1 in omega (arith, p)); numbers = λ g small. let n = o.2 g small in omega (arith, n) })
+
+    pub start_kept : r.is_open ≡ false → (after.is_open ≡ true) ⊎ (after.members.failed ≡ true)
+        → (after.members.failed ≡ false → (after.is_open ≡ true) × (after.maker.place ≤ 2 ^ 62) × ((g : ℕ) → g < 16 → next_number (counted_of after.maker g).pending ≡ 0))
+        → ((opening : Opening) (events : List Event) (t0 : ℕ) → tells → HasRecorded opening events t0 r old → HasDone opening events t0 (Commit (begun (next_start (state_left opening events))).made []) after old new)
+        → IsKept before began rates room sizes faults (marks ++ start_mark r after new.clock ∷ []) after new now
+    start_kept closed how opens done =
+        subst (λ (did : Did). IsKept before began rates room sizes faults (marks ++ record { did = did; moment = moment_of after.members.failed new.clock } ∷ []) after new now)
+        (sym (begin_told r after works how)) (begin_kept closed opens done)
+
+    module _ (items : List Captured) where
+      abbrev take_mark : Mark
+      take_mark = record { did = Take items; moment = moment_of after.members.failed new.clock }
+
+      -- a batch that called the media
+      pub take_kept : r.is_open ≡ true → after.is_open ≡ true → after.maker.place ≤ r.maker.place + 2 * length items
+          → ((g : ℕ) → g < 16 → next_number (counted_of after.maker g).pending ≤ next_number (counted_of r.maker g).pending + numbers_of g items)
+          → ((opening : Opening) (events : List Event) (t0 : ℕ) → tells → HasRecorded opening events t0 r old
+          → (records : List Record)
+          × ((recorder_after (state_left opening events).start ((state_left opening events).popped ++ items)).made ≡ (recorder_in (state_left opening events)).made ++ records)
+          × HasDone opening events t0 (Commit records items) after old new)
+          → IsKept before began rates room sizes faults (marks ++ take_mark ∷ []) after new now
+      take_kept open_was open_is place numbers done =
+          let started : is_started marks ≡ true = is_on open_was in
+          let is_begun_now : is_begun marks ≡ true = begun_whole marks (k.stage.whole works) ∙ started in
+          let few = (k.stage.open_is is_begun_now).1 in
+          let taken : taken_in (marks ++ take_mark ∷ []) ≡ taken_in marks ++ items = taken_more marks take_mark in
+          kept_by take_mark after new now home
+          (record {
+            open_is = λ is. (
+              open_is,
+              record {
+                place = (let l = ap length taken in let m = length-append (taken_in marks) items in let p = few.place in omega (arith, l, m, p, place));
+                numbers = λ g small. let n = numbers g small in let o = few.numbers g small in let e = ap (numbers_of g) taken in let a = numbers_append g (taken_in marks) items in omega (arith, n, o, e, a);
+              },
+            );
+            idle = λ is. absurd (true≢false (sym (started_same marks take_mark refl ∙ started) ∙ is));
+            whole = λ goes. all_more marks take_mark (k.stage.whole works) (has_moment after.members.failed new.clock take_mark.moment refl goes);
+          })
+          (λ told opening t0 b.
+          let s = k.told told opening t0 b in
+          let at_ = s.begun works is_begun_now in
+          let d = done opening (events_of opening marks) t0 told s.has in
+          let made : (recorder_after (start_of opening) (taken_in marks ++ items)).made ≡ (recorder_after (start_of opening) (taken_in marks)).made ++ d.0 =
+          subst (λ (x : RunStart × List Captured). (recorder_after x.0 (x.1 ++ items)).made ≡ (recorder_after x.0 x.1).made ++ d.0) (λ i. (at_.0 i, at_.1 i)) d.1 in
+          let same : added_records (start_of opening) (taken_in marks) items ≡ d.0 = added (start_of opening) (taken_in marks) items d.0 made in
+          taken_session before opening marks t0 r old s take_mark after new
+          (subst (λ (rs : List Record). HasDone opening (events_of opening marks) t0 (Commit rs items) after old new) (sym same) d.2)
+          refl (λ goes. works) items refl started
+          (made ∙ ap (λ (rs : List Record). (recorder_after (start_of opening) (taken_in marks)).made ++ rs) (sym same))
+          (λ goes. is_begun_now))
+
+      pub batch_kept : r.is_open ≡ true → after.is_open ≡ true → after.maker.place ≤ r.maker.place + 2 * length items
+          → ((g : ℕ) → g < 16 → next_number (counted_of after.maker g).pending ≤ next_number (counted_of r.maker g).pending + numbers_of g items)
+          → ((opening : Opening) (events : List Event) (t0 : ℕ) → tells → HasRecorded opening events t0 r old
+          → (records : List Record)
+          × ((recorder_after (state_left opening events).start ((state_left opening events).popped ++ items)).made ≡ (recorder_in (state_left opening events)).made ++ records)
+          × HasDone opening events t0 (Commit records items) after old new)
+          → IsKept before began rates room sizes faults (marks ++ batch_mark r.members.failed items after.members.failed new.clock ∷ []) after new now
+      batch_kept open_was open_is place numbers done =
+          subst (λ (did : Did). IsKept before began rates room sizes faults (marks ++ record { did = did; moment = moment_of after.members.failed new.clock } ∷ []) after new now)
+          (sym (cond-false r.members.failed Look (Take items) works)) (take_kept open_was open_is place numbers done)
+
+module _ {tells tells_images : Type 0} (before : Before) (began : Opening → ℕ → Type 0) (rates : List (Option Rate)) (room : ℕ) (sizes faults : List ℕ) where
+  pub fresh_kept : (marks : List Mark) (r : RecordingState) (disk : Disk tells tells_images) (now : List ℕ) → IsKept before began rates room sizes faults marks r disk now → filter is_leading marks ≡ [] → IsFresh r disk
+  fresh_kept marks r disk now k e = record { rings = k.rings; closed = (k.stage.idle (none_leads is_leading (λ m. refl) marks e)).0 }
+
+  pub taking_kept : (marks : List Mark) (r : RecordingState) (disk : Disk tells tells_images) (now : List ℕ) → IsKept before began rates room sizes faults marks r disk now → is_begun marks ≡ true
+      → IsTaking rates room (taken_in marks) r disk
+  taking_kept marks r disk now k is =
+      let o = k.stage.open_is is in
+      record { rings = k.rings; open_is = o.0; rates_are = k.rates_are; sixteen = k.sixteen; room_is = k.room_is; place = o.1.place; numbers = o.1.numbers }
+
+  -- before any turn
+  pub first_kept : (r : RecordingState) (disk : Disk tells tells_images) (now : List ℕ) → (r.members.config.groups ≡ rates) × (r.members.config.batch / item_size ≡ room) × (length rates ≡ 16)
+      → AreRings r.members disk.sizes → (r.is_open ≡ false) × (r.members.failed ≡ false) → disk.sizes ≡ sizes → now ≡ faults
+      → (before.clock ≡ disk.clock) × ((i : Image) → disk.now i → before.now i) × ((t : ℕ) (i : Image) → disk.since t i → before.since t i) × (disk.reads ≡ before.reads)
+      → ((opening : Opening) (t0 : ℕ) → began opening t0 → HasRecorded opening [] t0 r disk) → IsKept before began rates room sizes faults [] r disk now
+  first_kept r disk now config rings new sizes_are faults_are was has = record {
+    rates_are = config.0;
+    sixteen = config.2;
+    room_is = config.1;
+    rings = rings;
+    sizes_are = sizes_are;
+    elsewhere = λ told n ne ne1. ap (λ (image : Image). content image n) was.3;
+    later = subst (λ (fs : List ℕ). NoneFalls fs now) faults_are (none_fell now);
+    rose = λ fails. absurd (true≢false (sym fails ∙ new.1));
+    stage = record { open_is = λ is. absurd (true≢false (sym is)); idle = λ is. (new.0, refl); whole = λ goes. All-nil (λ (m : Mark). m.moment ≢ None) };
+    told = λ told opening t0 b. record {
+      has = has opening t0 b;
+      made = refl;
+      begun = λ goes is. absurd (true≢false (sym is));
+      next = λ goes idle. refl;
+      passes = record {
+        later = (let c = was.0 in omega (arith, c));
+        each = λ i since. inl (was.1 i (disk.only_now i (subst (λ (t : ℕ). disk.since t i) was.0 since)));
+        earlier = λ t i early since. inl (was.2 t i since);
+      };
+    };
+  }

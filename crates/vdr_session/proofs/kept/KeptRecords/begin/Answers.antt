@@ -1,0 +1,152 @@
+use Rattle.std.proofs.Common.{◌≡◌, ◌⊎◌, inl, inr, ◌++◌, ◌<◌, ◌≤◌, ◌^◌, ℕ, Bool, true, false, true≢false, List, [], ◌∷◌, Result, Ok, Err, sym, refl, ap, ◌∙◌}
+use Rattle.std.proofs.lemmas.Bool.{cases_Bool}
+use Rattle.vdr_recorder.specs.declared.run.StartRefused.{StartRefused}
+use Rattle.vdr_recorder.specs.declared.run.StartRefused.TheVariants.{Place, Tick, Fault}
+use Rattle.vdr_history.specs.Histories.{Opening}
+use Rattle.vdr_history.specs.Runs.{base_after}
+use Rattle.vdr_session.specs.Events.{is_started}
+use Rattle.vdr_session.specs.Standing.{Before, HasSession, IsKept, MayBegin, start_mark}
+use Rattle.vdr_session.specs.declared.records.Began.TheVariants as began
+use Rattle.vdr_session.specs.declared.records.Began.TheVariants.{Begun}
+use Rattle.vdr_session.specs.Marks.{has_fault}
+use Rattle.vdr_session.proofs.Faults.{no_fault}
+use Rattle.vdr_session.proofs.Starts.{may_begin, no_place, no_tick}
+use Rattle.vdr_session.specs.declared.mark.Mark.{Mark}
+use Rattle.vdr_session.proofs.Steps.{start_kept, start_look_kept}
+use Rattle.vdr_session.proofs.kept.KeptRecords.begin.Goals as goal
+
+ok_no_fault : {T : Type 0} (x : T) (e : StartRefused) → Ok x ≡ Err e → ⊥
+ok_no_fault x e is = cc
+
+fault_is_not : {T : Type 0} (x y : StartRefused) → x ≡ Fault → (Fault ≡ y → ⊥) → ◌≡◌ {A = Result T StartRefused} (Err x) (Err y) → ⊥
+fault_is_not {T} x y is other e = other (sym is ∙ same x y e)
+  where
+    same : (x y : StartRefused) → ◌≡◌ {A = Result T StartRefused} (Err x) (Err y) → x ≡ y
+    same x y e = cc
+
+not_place : Fault ≡ Place → ⊥
+not_place e = cc
+
+not_tick : Fault ≡ Tick → ⊥
+not_tick e = cc
+
+pub returns-in-Ok-clause-leaves : goal.returns-in-Ok-clause-leaves
+returns-in-Ok-clause-leaves g c = λ history h. (by_failed history h.0 (cases_Bool c.args.self.now.recording.members.failed), h.1)
+  where
+    by_failed : (history : List Mark) → IsKept (record { clock = g.O.Lent.clock; now = g.O.Lent.now; since = g.O.Lent.since; reads = g.O.Lent.reads }) g.O.Lent.began g.O.Lent.rates g.O.Lent.room g.O.Lent.sizes g.O.Lent.faults history
+        c.args.self.now.recording (g.M.Media.disk c.args.self.now.media.now) (g.M.Media.faults c.args.self.now.media.now)
+        → (c.args.self.now.recording.members.failed ≡ true) ⊎ (c.args.self.now.recording.members.failed ≡ false)
+        → IsKept (record { clock = g.O.Lent.clock; now = g.O.Lent.now; since = g.O.Lent.since; reads = g.O.Lent.reads }) g.O.Lent.began g.O.Lent.rates g.O.Lent.room g.O.Lent.sizes g.O.Lent.faults (history ++ start_mark c.args.self.now.recording c.start.new.self (g.M.Media.disk c.start.new.media).clock ∷ [])
+        c.start.new.self (g.M.Media.disk c.start.new.media) (g.M.Media.faults c.start.new.media)
+    by_failed history k (inl fails) = absurd (ok_no_fault c.in-Ok.field-0 Fault (c.in-Ok.ensures.failed fails).0)
+    by_failed history k (inr works) =
+        start_kept (record { clock = g.O.Lent.clock; now = g.O.Lent.now; since = g.O.Lent.since; reads = g.O.Lent.reads }) g.O.Lent.began g.O.Lent.rates g.O.Lent.room g.O.Lent.sizes g.O.Lent.faults history
+        c.args.self.now.recording (g.M.Media.disk c.args.self.now.media.now) (g.M.Media.faults c.args.self.now.media.now) k
+        c.start.new.self (g.M.Media.disk c.start.new.media) (g.M.Media.faults c.start.new.media)
+        (record {
+          config = c.in-Ok.ensures.config;
+          rings = c.in-Ok.ensures.rings;
+          sizes = c.in-Ok.ensures.sizes;
+          later = c.in-Ok.ensures.cause.later;
+          rose = λ fails. absurd (true≢false (sym fails ∙ c.in-Ok.ensures.works));
+          elsewhere = c.in-Ok.ensures.others;
+        })
+        works c.requires.closed (inl c.in-Ok.ensures.open) (λ goes. (c.in-Ok.ensures.open, c.in-Ok.ensures.numbers.0, c.in-Ok.ensures.numbers.1))
+        (λ opening events t0 told has. c.in-Ok.ensures.started opening events t0 told works has (ok_no_fault c.in-Ok.field-0 Place) (ok_no_fault c.in-Ok.field-0 Tick))
+
+pub returns-in-Err-Place-clause-leaves : goal.returns-in-Err-Place-clause-leaves
+returns-in-Err-Place-clause-leaves g c = λ history h.
+    let same = c.in-Err-Place.ensures.refused (inl (ap Err c.in-Err-Place.field-0-is)) in (
+      start_look_kept (record { clock = g.O.Lent.clock; now = g.O.Lent.now; since = g.O.Lent.since; reads = g.O.Lent.reads }) g.O.Lent.began g.O.Lent.rates g.O.Lent.room g.O.Lent.sizes g.O.Lent.faults history
+          c.args.self.now.recording (g.M.Media.disk c.args.self.now.media.now) (g.M.Media.faults c.args.self.now.media.now) h.0
+          c.requires.closed c.start.new.self (g.M.Media.disk c.start.new.media) (g.M.Media.faults c.start.new.media)
+          same.0 (ap g.M.Media.disk same.1) (ap g.M.Media.faults same.1),
+      h.1,
+    )
+
+pub returns-in-Err-Tick-clause-leaves : goal.returns-in-Err-Tick-clause-leaves
+returns-in-Err-Tick-clause-leaves g c = λ history h.
+    let same = c.in-Err-Tick.ensures.refused (inr (ap Err c.in-Err-Tick.field-0-is)) in (
+      start_look_kept (record { clock = g.O.Lent.clock; now = g.O.Lent.now; since = g.O.Lent.since; reads = g.O.Lent.reads }) g.O.Lent.began g.O.Lent.rates g.O.Lent.room g.O.Lent.sizes g.O.Lent.faults history
+          c.args.self.now.recording (g.M.Media.disk c.args.self.now.media.now) (g.M.Media.faults c.args.self.now.media.now) h.0
+          c.requires.closed c.start.new.self (g.M.Media.disk c.start.new.media) (g.M.Media.faults c.start.new.media)
+          same.0 (ap g.M.Media.disk same.1) (ap g.M.Media.faults same.1),
+      h.1,
+    )
+
+pub returns-in-Err-Fault-clause-leaves : goal.returns-in-Err-Fault-clause-leaves
+returns-in-Err-Fault-clause-leaves g c = λ history h. (by_failed history h.0 (cases_Bool c.args.self.now.recording.members.failed), h.1)
+  where
+    by_failed : (history : List Mark) → IsKept (record { clock = g.O.Lent.clock; now = g.O.Lent.now; since = g.O.Lent.since; reads = g.O.Lent.reads }) g.O.Lent.began g.O.Lent.rates g.O.Lent.room g.O.Lent.sizes g.O.Lent.faults history
+        c.args.self.now.recording (g.M.Media.disk c.args.self.now.media.now) (g.M.Media.faults c.args.self.now.media.now)
+        → (c.args.self.now.recording.members.failed ≡ true) ⊎ (c.args.self.now.recording.members.failed ≡ false)
+        → IsKept (record { clock = g.O.Lent.clock; now = g.O.Lent.now; since = g.O.Lent.since; reads = g.O.Lent.reads }) g.O.Lent.began g.O.Lent.rates g.O.Lent.room g.O.Lent.sizes g.O.Lent.faults (history ++ start_mark c.args.self.now.recording c.start.new.self (g.M.Media.disk c.start.new.media).clock ∷ [])
+        c.start.new.self (g.M.Media.disk c.start.new.media) (g.M.Media.faults c.start.new.media)
+    by_failed history k (inl fails) =
+        let same = c.in-Err-Fault.ensures.failed fails in
+        start_look_kept (record { clock = g.O.Lent.clock; now = g.O.Lent.now; since = g.O.Lent.since; reads = g.O.Lent.reads }) g.O.Lent.began g.O.Lent.rates g.O.Lent.room g.O.Lent.sizes g.O.Lent.faults history
+        c.args.self.now.recording (g.M.Media.disk c.args.self.now.media.now) (g.M.Media.faults c.args.self.now.media.now) k
+        c.requires.closed c.start.new.self (g.M.Media.disk c.start.new.media) (g.M.Media.faults c.start.new.media)
+        same.1 (ap g.M.Media.disk same.2) (ap g.M.Media.faults same.2)
+    by_failed history k (inr works) =
+        let is : Err c.in-Err-Fault.field-0 ≡ Err Fault = ap Err c.in-Err-Fault.field-0-is in
+        let fails = c.in-Err-Fault.ensures.fails is in
+        start_kept (record { clock = g.O.Lent.clock; now = g.O.Lent.now; since = g.O.Lent.since; reads = g.O.Lent.reads }) g.O.Lent.began g.O.Lent.rates g.O.Lent.room g.O.Lent.sizes g.O.Lent.faults history
+        c.args.self.now.recording (g.M.Media.disk c.args.self.now.media.now) (g.M.Media.faults c.args.self.now.media.now) k
+        c.start.new.self (g.M.Media.disk c.start.new.media) (g.M.Media.faults c.start.new.media)
+        (record {
+          config = c.in-Err-Fault.ensures.config;
+          rings = c.in-Err-Fault.ensures.rings;
+          sizes = c.in-Err-Fault.ensures.sizes;
+          later = c.in-Err-Fault.ensures.cause.later;
+          rose = λ _. c.in-Err-Fault.ensures.cause.in_all is;
+          elsewhere = c.in-Err-Fault.ensures.others;
+        })
+        works c.requires.closed (inr fails) (λ goes. absurd (true≢false (sym fails ∙ goes)))
+        (λ opening events t0 told has. c.in-Err-Fault.ensures.started opening events t0 told works has (fault_is_not c.in-Err-Fault.field-0 Place c.in-Err-Fault.field-0-is not_place) (fault_is_not c.in-Err-Fault.field-0 Tick c.in-Err-Fault.field-0-is not_tick))
+
+-- a start that was answered otherwise than by a fault found no fault before it
+works_before : (failed : Bool) (e : StartRefused) (P : Type 0) → (failed ≡ true → ◌≡◌ {A = Result (Unit {0}) StartRefused} (Err e) (Err Fault)) → (Fault ≡ e → ⊥) → (failed ≡ false → P) → P
+works_before true e P fault other goes = absurd (other (sym (same e Fault (fault refl))))
+  where
+    same : (x y : StartRefused) → ◌≡◌ {A = Result (Unit {0}) StartRefused} (Err x) (Err y) → x ≡ y
+    same x y e = cc
+works_before false e P fault other goes = goes refl
+
+begun_is_no_refusal : (Begun ≡ began.Place) ⊎ (Begun ≡ began.Tick) → ⊥
+begun_is_no_refusal (inl e) = cc
+begun_is_no_refusal (inr e) = cc
+
+fault_is_no_refusal : (began.Fault ≡ began.Place) ⊎ (began.Fault ≡ began.Tick) → ⊥
+fault_is_no_refusal (inl e) = cc
+fault_is_no_refusal (inr e) = cc
+
+pub returns-in-Ok-clause-means : goal.returns-in-Ok-clause-means
+returns-in-Ok-clause-means g c = λ history h idle. (
+  (λ told opening t0 b. by_failed (h.0.told told opening t0 b) idle (cases_Bool c.args.self.now.recording.members.failed)),
+  (λ either. absurd (begun_is_no_refusal either)),
+)
+  where
+    by_failed : {history : List Mark} {before : Before} {opening : Opening} {t0 : ℕ} → HasSession before opening history t0 c.args.self.now.recording (g.M.Media.disk c.args.self.now.media.now) → is_started history ≡ false
+        → (c.args.self.now.recording.members.failed ≡ true) ⊎ (c.args.self.now.recording.members.failed ≡ false) → MayBegin opening
+    by_failed s idle (inl fails) = absurd (ok_no_fault c.in-Ok.field-0 Fault (c.in-Ok.ensures.failed fails).0)
+    by_failed s idle (inr works) = may_begin s works idle (c.in-Ok.ensures.place works) (c.in-Ok.ensures.tick works) (ok_no_fault c.in-Ok.field-0 Place) (ok_no_fault c.in-Ok.field-0 Tick)
+
+pub returns-in-Err-Place-clause-means : goal.returns-in-Err-Place-clause-means
+returns-in-Err-Place-clause-means g c = λ history h idle.
+    let before : (P : Type 0) → (c.args.self.now.recording.members.failed ≡ false → P) → P =
+    λ P goes. works_before c.args.self.now.recording.members.failed c.in-Err-Place.field-0 P (λ fails. (c.in-Err-Place.ensures.failed fails).0) (λ e. not_place (e ∙ c.in-Err-Place.field-0-is)) goes in (
+      (λ told opening t0 b. before (2 ^ 62 ≤ opening.next_place) (λ works. no_place (h.0.told told opening t0 b) works idle ((c.in-Err-Place.ensures.place works).0 (ap Err c.in-Err-Place.field-0-is)))),
+      (λ either. before (has_fault history ≡ false) (λ works. no_fault history (h.0.stage.whole works))),
+    )
+
+pub returns-in-Err-Tick-clause-means : goal.returns-in-Err-Tick-clause-means
+returns-in-Err-Tick-clause-means g c = λ history h idle.
+    let before : (P : Type 0) → (c.args.self.now.recording.members.failed ≡ false → P) → P =
+    λ P goes. works_before c.args.self.now.recording.members.failed c.in-Err-Tick.field-0 P (λ fails. (c.in-Err-Tick.ensures.failed fails).0) (λ e. not_tick (e ∙ c.in-Err-Tick.field-0-is)) goes in (
+      (λ told opening t0 b. before ((opening.next_place < 2 ^ 62) × (2 ^ 62 ≤ base_after opening.last)) (λ works. no_tick (h.0.told told opening t0 b) works idle ((c.in-Err-Tick.ensures.tick works).0 (ap Err c.in-Err-Tick.field-0-is)))),
+      (λ either. before (has_fault history ≡ false) (λ works. no_fault history (h.0.stage.whole works))),
+    )
+
+pub returns-in-Err-Fault-clause-means : goal.returns-in-Err-Fault-clause-means
+returns-in-Err-Fault-clause-means g c = λ history h idle. ((λ told opening t0 b. tt), (λ either. absurd (fault_is_no_refusal either)))

@@ -1,0 +1,75 @@
+use Rattle.std.proofs.Common.{◌≡◌, ◌≢◌, ◌⊎◌, inl, inr, ◌<◌, ◌≤◌, ◌+◌, ◌*◌, ◌++◌, ℕ, Bool, true, false, true≢false, List, [], ◌∷◌, Option, All, Result, Ok, Err, length, cond, sym, refl, ap, ◌∙◌, subst, arith}
+use Rattle.std.proofs.lemmas.Bool.{cases_Bool}
+use Rattle.std.proofs.lemmas.List.{length-append}
+use Rattle.vdr_terms.specs.declared.rate.Rate.{Rate}
+use Rattle.vdr_terms.specs.Rates.{is_configured}
+use Rattle.vdr_history.specs.Taken.{Captured}
+use Rattle.vdr_config.specs.Sizes.{limits_in}
+use Rattle.vdr_intake.specs.Items.{most_items}
+use Rattle.std.specs.Prelude.{sum}
+use Rattle.vdr_outside.specs.Causes.{Rose}
+use Rattle.vdr_session.proofs.LanesFed.{all_behind}
+use Rattle.vdr_session.proofs.Numbered.{items_few, numbers_append, numbers_small}
+use Rattle.vdr_session.specs.Marks.{IsMarkOf}
+use Rattle.vdr_session.specs.Standing.{IsKept, batch_mark}
+use Rattle.vdr_session.specs.declared.mark.Mark.{Mark}
+use Rattle.vdr_session.proofs.Steps.{StaysHome, batch_kept, batch_look_kept, mark_is, rose_of}
+use Rattle.vdr_session.proofs.kept.KeptRecords.take_batch.Goals as goal
+
+pub take_batch-requires-clause-configured : goal.take_batch-requires-clause-configured
+take_batch-requires-clause-configured g c =
+    let popped = c.requires.0 in
+    subst (λ (rates : List (Option Rate)). All (λ (x : Captured). is_configured (limits_in rates x.group) ≡ true) c.args.items.now) (sym c.requires.1.rates_are)
+    (all_behind (λ (x : Captured). is_configured (limits_in g.O.Lent.rates x.group) ≡ true) popped c.args.items.now c.requires.2.known)
+
+pub take_batch-requires-clause-places : goal.take_batch-requires-clause-places
+take_batch-requires-clause-places g c =
+    let popped = c.requires.0 in
+    let place = c.requires.1.place in
+    let few = items_few g.O.Lent.rates (popped ++ c.args.items.now) c.requires.1.sixteen c.requires.2.known c.requires.2.runs in
+    let l = length-append popped c.args.items.now in
+    omega (arith, place, few, l)
+
+pub take_batch-requires-clause-numbers : goal.take_batch-requires-clause-numbers
+take_batch-requires-clause-numbers g c = λ n small.
+    let popped = c.requires.0 in
+    let number = c.requires.1.numbers n small in
+    let few = numbers_small n (popped ++ c.args.items.now) (c.requires.2.runs n) in
+    let a = numbers_append n popped c.args.items.now in
+    omega (arith, number, few, a)
+
+pub returns-clause-leaves : goal.returns-clause-leaves
+returns-clause-leaves g c = λ history h. (by_failed history h.0 (cases_Bool c.args.self.now.recording.members.failed), h.1)
+  where
+    by_failed : (history : List Mark) → (k : IsKept (record { clock = g.O.Lent.clock; now = g.O.Lent.now; since = g.O.Lent.since; reads = g.O.Lent.reads }) g.O.Lent.began g.O.Lent.rates g.O.Lent.room g.O.Lent.sizes g.O.Lent.faults history c.args.self.now.recording
+        (g.M.Media.disk c.args.self.now.media.now) (g.M.Media.faults c.args.self.now.media.now))
+        → (c.args.self.now.recording.members.failed ≡ true) ⊎ (c.args.self.now.recording.members.failed ≡ false)
+        → IsKept (record { clock = g.O.Lent.clock; now = g.O.Lent.now; since = g.O.Lent.since; reads = g.O.Lent.reads }) g.O.Lent.began g.O.Lent.rates g.O.Lent.room g.O.Lent.sizes g.O.Lent.faults
+        (history ++ batch_mark c.args.self.now.recording.members.failed c.args.items.now c.take_batch.new.self.members.failed (g.M.Media.disk c.take_batch.new.media).clock ∷ []) c.take_batch.new.self
+        (g.M.Media.disk c.take_batch.new.media) (g.M.Media.faults c.take_batch.new.media)
+    by_failed history k (inl fails) =
+        let same = c.take_batch.ensures.failed fails in
+        batch_look_kept (record { clock = g.O.Lent.clock; now = g.O.Lent.now; since = g.O.Lent.since; reads = g.O.Lent.reads }) g.O.Lent.began g.O.Lent.rates g.O.Lent.room g.O.Lent.sizes g.O.Lent.faults history c.args.self.now.recording
+        (g.M.Media.disk c.args.self.now.media.now) (g.M.Media.faults c.args.self.now.media.now) k c.args.items.now fails c.take_batch.new.self
+        (g.M.Media.disk c.take_batch.new.media) (g.M.Media.faults c.take_batch.new.media)
+        same.1 (ap g.M.Media.disk same.2) (ap g.M.Media.faults same.2)
+    by_failed history k (inr works) =
+        let e = c.take_batch.ensures in
+        batch_kept (record { clock = g.O.Lent.clock; now = g.O.Lent.now; since = g.O.Lent.since; reads = g.O.Lent.reads }) g.O.Lent.began g.O.Lent.rates g.O.Lent.room g.O.Lent.sizes g.O.Lent.faults history c.args.self.now.recording
+        (g.M.Media.disk c.args.self.now.media.now) (g.M.Media.faults c.args.self.now.media.now) k c.take_batch.new.self
+        (g.M.Media.disk c.take_batch.new.media) (g.M.Media.faults c.take_batch.new.media)
+        (record {
+          config = e.config;
+          rings = e.rings;
+          sizes = e.sizes;
+          later = e.cause.later;
+          rose = λ fails. rose_of c.take_batch.result c.take_batch.new.self.members.failed
+              ((c.args.self.now.recording.members.failed ≡ true) ⊎ Rose (sum (g.M.Media.faults c.args.self.now.media.now)) (sum (g.M.Media.faults c.take_batch.new.media)))
+              e.works e.cause.in_all fails;
+          elsewhere = e.others;
+        })
+        works c.args.items.now c.requires.1.open_is e.open e.places e.numbers (λ opening events t0 told has. e.taken opening events t0 told works has)
+
+pub returns-clause-mark : goal.returns-clause-mark
+returns-clause-mark g c = mark_is c.args.items.now c.args.self.now.recording.members.failed c.take_batch.new.self.members.failed (g.M.Media.disk c.take_batch.new.media).clock c.take_batch.result c.is_ok.result
+    c.is_ok.ensures.value (λ fails. (c.take_batch.ensures.failed fails).0) c.take_batch.ensures.works c.take_batch.ensures.fails

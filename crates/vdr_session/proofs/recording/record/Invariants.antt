@@ -1,0 +1,18 @@
+use Rattle.std.proofs.Common.{[], ◌/◌}
+use Rattle.vdr_pace.specs.Commits.{item_size}
+use Rattle.vdr_recorder.specs.Recordings.{HasRecorded}
+use Rattle.vdr_session.proofs.recording.record.Given as goal
+
+abbrev pub ghosts-run_lent : goal.ghosts-run_lent
+ghosts-run_lent g a = record {
+  name = a.media.ghost_name;
+  began = λ opening t0. HasRecorded opening [] t0 a.recording (g.M.Media.disk a.media.now);
+  clock = (g.M.Media.disk a.media.now).clock;
+  now = (g.M.Media.disk a.media.now).now;
+  since = (g.M.Media.disk a.media.now).since;
+  reads = (g.M.Media.disk a.media.now).reads;
+  rates = a.recording.members.config.groups;
+  room = a.recording.members.config.batch / item_size;
+  sizes = (g.M.Media.disk a.media.now).sizes;
+  faults = g.M.Media.faults a.media.now;
+}

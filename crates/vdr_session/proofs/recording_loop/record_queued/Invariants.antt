@@ -1,0 +1,15 @@
+use Rattle.std.proofs.Common.{◌≡◌, ◌≤◌, ◌<◌, List, [], true, vec_capacity, length}
+use Rattle.vdr_session.specs.Lanes.{AreMet, ArePopped, StayJoined}
+use Rattle.vdr_session.specs.Marks.{is_begun, taken_in}
+use Rattle.vdr_session.proofs.recording_loop.record_queued.Given as goal
+
+abbrev pub invariant-loop : goal.invariant-loop
+invariant-loop g l =
+    ((l.pass.latch ≡ l.initial.pass.latch) × (l.pass.parts ≡ l.initial.pass.parts) × (l.pass.leads ≡ true) × (is_begun l.pass.own ≡ true))
+    × AreMet g.T.Records.configured l.queues l.takers
+    × ArePopped (taken_in l.pass.own) l.takers
+    × StayJoined l.initial.takers l.takers
+    × (l.room ≤ vec_capacity l.batch.items)
+    × (l.batch.items.items ≡ [])
+    × (length l.takers ≡ 16)
+    × (l.first < 16)

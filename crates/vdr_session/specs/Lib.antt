@@ -1,0 +1,12 @@
+pub mod Marks
+pub mod Lanes
+pub mod Events
+pub mod Joins
+pub mod Feeding
+pub mod Ran
+pub mod Closed
+pub mod Standing
+pub mod Closing
+pub mod Summing
+pub mod Ended
+pub mod Sessions

@@ -1,0 +1,52 @@
+// A start and a batch: what the recorder's loop does in a turn at the latch.
+ghost use Rattle.std.specs.Prelude.{◌≡◌, ℕ, Bool, List, []};
+
+use crate::records::{Began, Records};
+use vdr_intake::Captured;
+use vdr_latch::Job;
+
+/// The items that were popped and are not yet recorded, and whether the media still work.
+#[derive(Drop)]
+pub(crate) struct Batch {
+    pub items: Vec<Captured>,
+    pub works: bool,
+}
+
+impl<T: Records> Job<T> for Batch {
+    ghost use Rattle.vdr_history.specs.Taken.{Captured as CapturedTold};
+    ghost use Rattle.vdr_session.specs.Marks.{IsMarkOf, MayTake};
+
+    ghost asks = { λ j x. (popped : List CapturedTold) × T.takes popped x × MayTake T.room T.configured popped j.items.items };
+
+    ghost event = { λ j x _ y. T.batch x j.items.items y };
+
+    ghost relates = { λ j x l y. IsMarkOf j.items.items l.works (T.batch x j.items.items y) × (l.items ≡ j.items) };
+
+    fn work(&mut self, value: &mut T) {
+        self.works = value.take_batch(self.items.as_slice());
+    }
+}
+
+/// A start, and how the run began.
+#[derive(Drop)]
+pub(crate) struct Start {
+    pub began: Began,
+}
+
+impl<T: Records> Job<T> for Start {
+    ghost use Rattle.std.specs.Prelude.{◌⊎◌, false};
+    ghost use Rattle.vdr_session.specs.declared.records.Began.TheVariants.{Place, Tick};
+    ghost use Rattle.vdr_session.specs.declared.mark.Mark.{Mark};
+    ghost use Rattle.vdr_session.specs.Events.{is_started};
+    ghost use Rattle.vdr_session.specs.Marks.{IsStartOf, has_fault};
+
+    ghost asks = { λ _ x. T.fresh x };
+
+    ghost event = { λ _ x _ y. T.start x y };
+
+    ghost relates = { λ _ x l y. IsStartOf l.began (T.start x y) × ((history : List Mark) → T.leaves history x → is_started history ≡ false → T.means l.began × ((l.began ≡ Place) ⊎ (l.began ≡ Tick) → has_fault history ≡ false)) };
+
+    fn work(&mut self, value: &mut T) {
+        self.began = value.begin();
+    }
+}

@@ -1,0 +1,122 @@
+// The recorder that lies under the latch, with the media that were lent to the session.
+use crate::mark::Mark;
+use crate::records::{Began, Records};
+use std::marker::{Brand, PhantomData};
+use vdr_intake::Captured;
+use vdr_latch::Stepped;
+use vdr_outside::Media;
+use vdr_recorder::{Recording, StartRefused};
+
+/// The recorder and the media as the session began. The one call that makes it picks them.
+pub(crate) trait Lent {
+    ghost use Rattle.std.specs.Prelude.{ℕ, List};
+    ghost use Rattle.vdr_terms.specs.declared.rate.Rate.{Rate};
+    ghost use Rattle.std.specs.Prelude.{Option};
+    ghost use Rattle.vdr_history.specs.Histories.{Opening};
+    ghost use Rattle.vdr_outside.specs.Disk.{Image};
+
+    /// The reference to the media.
+    ghost name: { ℕ };
+
+    /// It was a recorder over this opening, whose media keep the empty history since then.
+    ghost began: { Opening → ℕ → Type 0 };
+
+    /// The moment, and what a stop might have left then, and since each moment before.
+    ghost clock: { ℕ };
+
+    ghost now: { Image → Type 0 };
+
+    ghost since: { ℕ → Image → Type 0 };
+
+    /// What the media read as then, where that is told.
+    ghost reads: { Image };
+
+    /// The rates of the configured groups, and how many items a batch may have.
+    ghost rates: { List (Option Rate) };
+
+    ghost room: { ℕ };
+
+    ghost sizes: { List ℕ };
+
+    /// The media's counts of faults.
+    ghost faults: { List ℕ };
+}
+
+impl Lent for Brand {
+    ghost use Rattle.std.specs.Prelude.{[]};
+
+    ghost name = { 0 };
+
+    ghost began = { λ _ _. Unit {0} };
+
+    ghost clock = { 0 };
+
+    ghost now = { λ _. Unit {0} };
+
+    ghost since = { λ _ _. Unit {0} };
+
+    ghost reads = { [] };
+
+    ghost rates = { [] };
+
+    ghost room = { 0 };
+
+    ghost sizes = { [] };
+
+    ghost faults = { [] };
+}
+
+/// A recorder with its media. The reference is the one that it was made with.
+#[derive(Drop)]
+pub(crate) struct Kept<'a, M: Media, O: Lent> {
+    pub recording: Recording,
+    pub media: &'a mut M,
+    pub of: PhantomData<O>,
+}
+
+impl<'a, M: Media, O: Lent> Stepped for Kept<'a, M, O> {
+    ghost use Rattle.std.specs.Prelude.{◌≡◌};
+    ghost use Rattle.vdr_session.specs.Marks.{is_leading};
+    ghost use Rattle.vdr_session.specs.Standing.{IsKept};
+
+    type Event = Mark;
+
+    ghost leaves = { λ marks k. IsKept (record { clock = O.clock; now = O.now; since = O.since; reads = O.reads }) O.began O.rates O.room O.sizes O.faults marks k.recording (M.disk k.media.now) (M.faults k.media.now) × (k.media.ghost_name ≡ O.name) };
+
+    ghost leading = { is_leading };
+}
+
+impl<'a, M: Media, O: Lent> Records for Kept<'a, M, O> {
+    ghost use Rattle.vdr_terms.specs.Rates.{is_configured};
+    ghost use Rattle.vdr_config.specs.Sizes.{limits_in};
+    ghost use Rattle.vdr_session.specs.Standing.{IsFresh, IsTaking, StartMeans, batch_mark, start_mark};
+    ghost use Rattle.vdr_history.specs.Histories.{Opening};
+    ghost use Rattle.std.specs.Prelude.{ℕ};
+
+    ghost room = { O.room };
+
+    ghost configured = { λ g. is_configured (limits_in O.rates g) };
+
+    ghost takes = { λ popped k. IsTaking O.rates O.room popped k.recording (M.disk k.media.now) };
+
+    ghost batch = { λ k items l. batch_mark k.recording.members.failed items l.recording.members.failed (M.disk l.media.now).clock };
+
+    ghost fresh = { λ k. IsFresh k.recording (M.disk k.media.now) };
+
+    ghost means = { λ began. M.tells → (opening : Opening) (t0 : ℕ) → O.began opening t0 → StartMeans opening began };
+
+    ghost start = { λ k l. start_mark k.recording l.recording (M.disk l.media.now).clock };
+
+    fn begin(&mut self) -> Began {
+        match self.recording.start(self.media) {
+            Ok(()) => Began::Begun,
+            Err(StartRefused::Place) => Began::Place,
+            Err(StartRefused::Tick) => Began::Tick,
+            Err(StartRefused::Fault) => Began::Fault,
+        }
+    }
+
+    fn take_batch(&mut self, items: &[Captured]) -> bool {
+        self.recording.take_batch(self.media, items).is_ok()
+    }
+}

@@ -1,0 +1,27 @@
+//! A recording session: captures beside each other, the recorder's loop, and one latch round the recorder.
+#![tactic(auto)]
+
+mod batch;
+mod done;
+mod ending;
+mod fork;
+mod joining;
+mod kept;
+mod lent;
+mod making;
+mod mark;
+mod plan;
+mod popping;
+mod recording;
+mod recording_loop;
+mod records;
+mod running;
+mod session;
+mod summing;
+mod under_latch;
+
+pub use mark::{Did, Mark};
+pub use recording::record;
+pub use records::Began;
+pub use session::SessionEnd;
+pub use vdr_capture::{GroupSums, Outcome};

@@ -1,0 +1,69 @@
+// The recorder's loop.
+ghost use Rattle.std.specs.Prelude.{◌≡◌, ◌≤◌, ◌<◌, ◌++◌, ℕ, List, [], true, false, length, vec_capacity};
+ghost use Rattle.vdr_history.specs.Taken.{Captured as CapturedTold};
+ghost use Rattle.vdr_session.specs.declared.mark.Mark.{Mark as Marked};
+ghost use Rattle.vdr_session.specs.Lanes.{AreDrained, AreMet, ArePopped, StayJoined};
+ghost use Rattle.vdr_session.specs.Marks.{is_begun, is_leading, has_fault, taken_in};
+
+use crate::batch::Batch;
+use crate::done::Done;
+use crate::mark::Mark;
+use crate::popping::pop_all;
+use crate::records::Records;
+use std::sync::Wait;
+use vdr_intake::{Intake, Taker};
+use vdr_latch::{Latch, LatchPass};
+
+/// Pops what is queued and takes it into the run, a batch in each turn at the latch. It ends once it has read that the captures are done and
+/// has then found every queue empty, or once the media have failed. Says whether they still work.
+///
+/// Each round begins at the group after that of the round before, so that a busy group keeps none waiting for good. A round that found
+/// nothing is followed by a short sleep.
+pub(crate) fn record_queued<T: Records, R: Wait>(
+    rt: &R,
+    latch: &Latch<T>,
+    pass: &mut LatchPass<Mark>,
+    queues: &[Option<Intake>; 16],
+    takers: &mut [Option<Taker>; 16],
+    batch: &mut Batch,
+    room: usize,
+    done: &Done,
+) -> bool
+    requires latch { pass.old.latch ≡ latch.now }
+    requires leads { (pass.old.leads ≡ true) × (is_begun pass.old.own ≡ true) }
+    requires marks { (m : Marked) → T.leading m ≡ is_leading m }
+    requires takes { (history : List Marked) (x : T) → T.leaves history x → is_begun history ≡ true → T.takes (taken_in history) x }
+    requires met { AreMet T.configured queues.now takers.old }
+    requires popped { ArePopped (taken_in pass.old.own) takers.old }
+    requires room { (0 < room) × (room ≤ T.room) × (room ≤ vec_capacity batch.old.items) }
+    requires empty { batch.old.items.items ≡ [] }
+    ensures pass { (pass.new.latch ≡ pass.old.latch) × (pass.new.parts ≡ pass.old.parts) × (pass.new.leads ≡ true) × (is_begun pass.new.own ≡ true) }
+    ensures met { AreMet T.configured queues.now takers.new }
+    ensures popped { (lost : List CapturedTold) × ArePopped (taken_in pass.new.own ++ lost) takers.new × (result ≡ true → lost ≡ []) }
+    ensures joined { StayJoined takers.old takers.new }
+    ensures fails { result ≡ false → has_fault pass.new.seen ≡ true }
+    ensures drained { result ≡ true → AreDrained takers.new }
+    ensures sixteen { length takers.new ≡ 16 }
+    ensures room { room ≤ vec_capacity batch.new.items }
+    ensures empty { batch.new.items.items ≡ [] }
+{
+    let mut first = 0;
+    for _ in rt.forever() {
+        let last = done.is_set();
+        let empty = pop_all(rt, queues, takers, &mut batch.items, room, first);
+        first = (first + 1) % 16;
+        if batch.items.is_empty() {
+            if last && empty {
+                return true;
+            }
+            done.sleep(rt);
+        } else {
+            latch.turn::<Batch, R>(rt, pass, batch);
+            batch.items.clear();
+            if !batch.works {
+                return false;
+            }
+        }
+    }
+    unreachable!()
+}
