@@ -15,6 +15,11 @@ const TCP: (u16, &str) = (61_990, "127.0.0.1:61990");
 /// How often a test looks for a datagram or a line.
 const LOOKS: u32 = 40;
 
+// A value that may go to another thread.
+fn sendable<T: Send>(value: T) -> T {
+    value
+}
+
 // The next answer of a port that isn't quiet.
 fn next_taken<P: Port>(port: &mut P, into: &mut ArrayVec<u8, 1473>) -> Taken {
     for _ in 0..LOOKS {
@@ -42,7 +47,7 @@ fn hears<R: Abort, L: Link>(rt: &R, link: &mut L, heard: Heard, line: &[u8]) {
 
 #[test]
 fn a_port_gives_what_comes_to_it(rt: HostRuntime) -> Result<(), Fail> {
-    let mut port = UdpPort::with_number(rt, UDP.0, rt.monotonic()?);
+    let mut port = sendable(UdpPort::with_number(rt, UDP.0, rt.monotonic()?));
     let mut into = ArrayVec::new();
     assert!(rt; port.take(&mut into) == Taken::Quiet);
     let sender = UdpSocket::bind(&rt, "127.0.0.1:0")?;
@@ -66,7 +71,7 @@ fn a_port_gives_what_comes_to_it(rt: HostRuntime) -> Result<(), Fail> {
 
 #[test]
 fn a_link_serves_one_peer_after_another(rt: HostRuntime) -> Result<(), Fail> {
-    let mut link = TcpLink::with_number(rt, TCP.0);
+    let mut link = sendable(TcpLink::with_number(rt, TCP.0));
     hears(&rt, &mut link, Heard::Quiet, b"");
     let mut peer = TcpStream::connect(&rt, TCP.1)?;
     peer.write_all(b"STATUS\r\nSAVE do")?;

@@ -1,22 +1,22 @@
 -- What the runs of a life leave, joined to one history.
-use Rattle.std.proofs.Common.{◌≡◌, ◌≤◌, inl, inr, ℕ, List, [], ◌∷◌, ◌++◌, All, Contains, Option, Some, Ok, refl, sym, ap, ◌∙◌, subst, append_assoc, arith}
+use Rattle.std.proofs.Common.{◌≡◌, ◌⊎◌, inr, ℕ, List, [], ◌∷◌, ◌++◌, Contains, Option, Some, Ok, refl, sym, ap, ◌∙◌, subst, append_assoc, append-nil, ⊎_elim, arith}
 use Rattle.std.proofs.lemmas.List.Elements.{All-contains, All-weaker}
 use Rattle.std.proofs.lemmas.Grind.{flat_map-append}
 use Rattle.vdr_terms.specs.Order.{AreInOrder}
 use Rattle.vdr_terms.specs.Records.{Record, last}
 use Rattle.vdr_terms.specs.Windows.{window}
 use Rattle.vdr_history.specs.Histories.{Event, Incident, MayFollow, Opening, all_records, incidents, recorded, records_of_act}
-use Rattle.vdr_retention.specs.Layout.{Batches, segment_records}
+use Rattle.vdr_retention.specs.Layout.{segment_records}
 use Rattle.vdr_retention.specs.Retention.{Retains, at_places}
-use Rattle.vdr_retention.proofs.Lists.{contains_here}
+use Rattle.vdr_retention.proofs.Lists.{all_from, contains_here}
 use Rattle.vdr_retention.proofs.Ordered.{parts_in_order}
 use Rattle.vdr_durability.specs.FurtherRuns.{IsTwoRuns}
 use Rattle.vdr_durability.specs.Keeping.{ShowsPrefix}
-use Rattle.vdr_durability.specs.Readings.{Reading, records_on, restored, with_next}
+use Rattle.vdr_durability.specs.Readings.{EndsMeet, Reading, records_on, restored, with_next}
 use Rattle.vdr_durability.specs.Shown.{RetainsOn, Shows, given_with, opened, pins_on}
 use Rattle.vdr_durability.proofs.Joined.{lives_follow, lives_order, lives_show}
 use Rattle.vdr_durability.proofs.Reopened.{reopened_places, reopened_window}
-use Rattle.vdr_outside.specs.Disk.{Image, content}
+use Rattle.vdr_outside.specs.Disk.{Disk, Image}
 use Rattle.vdr_config.specs.Configuration.{Configuration}
 use Rattle.vdr_config.specs.Grammar.{configuration}
 use Rattle.vdr_config.specs.Sizes.{window_of}
@@ -24,18 +24,19 @@ use Rattle.vdr_config.proofs.Ranges.{ranges_of}
 use Rattle.vdr_media.specs.Formatted.{IsEmptyHistory}
 use Rattle.vdr_media.proofs.Two.{all_two}
 use Rattle.vdr_ring.specs.Sequence.{batches_in}
-use Rattle.vdr_opening.specs.Media.{both, Contents, HoldsContents, IsMedium, nothing_on, opening_of, reading_of}
+use Rattle.vdr_opening.specs.Media.{both, Contents, HoldsContents, nothing_on, opening_of, reading_of}
 use Rattle.vdr_opening.specs.Settings.{settings_of}
 use Rattle.vdr_opening.proofs.ContentsHeld.{are_legal, one_capsule, one_configured_text, one_incidents, one_long_term}
 use Rattle.vdr_opening.proofs.Formatted.{empty_holds, empty_meet}
 use Rattle.vdr_opening.proofs.Fronts.{one_config}
+use Rattle.vdr_vault.specs.Openings.{LeavesAll}
 use Rattle.vdr_vault.specs.Regularity.{AreSound, IsRegularMedium}
 use Rattle.vdr_vault.specs.Vaults.{ShowsHistory}
 use Rattle.vdr_vault.proofs.OpenContents.{restored_shown, same_meet}
 use Rattle.vdr_vault.proofs.SoundMedia.{sound_as, sound_nothing}
-use Rattle.vdr_life.specs.Lives.{IsRun, Life, first_opening}
+use Rattle.vdr_life.specs.Lives.{IsRun, Life, LivesOn, first_opening}
 use Rattle.vdr_life.specs.Lives.Life.{formatted, ran}
-use Rattle.vdr_life.specs.Ours.{IsOurs}
+use Rattle.vdr_life.specs.Ours.{IsOurs, RestAs}
 
 -- The first events of a run are one
 
@@ -53,6 +54,9 @@ run_front x first rest events split run = record {
   order = All-weaker (λ m. AreInOrder (given_with (opening_of x) events m)) (λ m. AreInOrder (given_with (opening_of x) first m))
       (λ m h. order_front (opening_of x) m first rest (subst (λ (es : List Event). AreInOrder (all_records (opening_of x) m es)) split h)) both run.order;
 }
+
+pub run_in_order : (x : Contents) (events : List Event) → MayFollow (opening_of x) [] events → ((m : ℕ) → Contains both m → AreInOrder (all_records (opening_of x) m events)) → IsRun x events
+run_in_order x events follow order = record { follow = follow; order = all_from (λ m. AreInOrder (given_with (opening_of x) events m)) both order }
 
 -- What media show depends on what both read as alone.
 module _ (opening : Opening) (events : List Event) (r s : Reading) (first : r.batches 0 ≡ s.batches 0) (second : r.batches 1 ≡ s.batches 1) (table : r.table ≡ s.table) (text : r.text ≡ s.text) where
@@ -178,3 +182,29 @@ module _ (c : Configuration) (text : List ℕ) where
   pub life_places : (all : List Event) (image : Image) (x : Contents) (incident : Incident) → Life c text all image → HoldsContents image x → Contains x.table (Some incident)
       → at_places incident.a incident.b ((opening_of x).records 1) ≡ at_places incident.a incident.b (recorded all)
   life_places all image x incident life holds live = places_on all image (lives_so all image life) x holds incident live
+
+  -- What media with a life hold.
+  pub record LifeHolds (image : Image) : Type 0 where
+    pub contents : Contents
+    pub holds : HoldsContents image contents
+    pub meet : EndsMeet both (reading_of contents)
+    pub sound : AreSound contents
+
+  pub life_holds : (all : List Event) (image : Image) → Life c text all image → LifeHolds image
+  life_holds all image life = let l = lives_so all image life in record { contents = l.contents; holds = l.holds; meet = l.shown.media.ends; sound = l.sound }
+
+  module _ {tells tells_images : Type 0} (all : List Event) (image : Image) (old new : Disk tells tells_images) (rest : RestAs image old) (life : Life c text all image) where
+    rested : (i : Image) → old.now i → Life c text (all ++ []) i
+    rested i now = subst (λ (es : List Event). Life c text es i) (sym (append-nil all)) (subst (Life c text all) (sym (rest.alone i now)) life)
+
+    -- A call that writes nothing.
+    pub lives_still : LeavesAll old new → LivesOn c text all old new
+    lives_still leaves = record { events = []; each = λ i left. ([], [], refl, rested i (leaves.each i left)) }
+
+    -- And one that leaves what shows the first events of a run.
+    pub lives_on : (x : Contents) (events : List Event) → HoldsContents image x → IsRun x events
+        → ((i : Image) → new.since old.clock i → old.now i ⊎ ShowsPrefix (ShowsHistory (opening_of x)) events 0 i) → LivesOn c text all old new
+    lives_on x events holds run left = record {
+      events = events;
+      each = λ i since. ⊎_elim (λ now. ([], events, refl, rested i now)) (λ (shown : ShowsPrefix (ShowsHistory (opening_of x)) events 0 i). life_stopped all events image i x life holds run shown) (left i since);
+    }

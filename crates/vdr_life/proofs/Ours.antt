@@ -1,7 +1,7 @@
 -- Images of this product: what leaves them so, and what they hold.
-use Rattle.std.proofs.Common.{◌≡◌, ◌≤◌, ◌⊎◌, inl, inr, ℕ, List, Result, ⊎_elim, sym, subst, arith}
+use Rattle.std.proofs.Common.{◌≤◌, ◌⊎◌, inl, inr, ℕ, List, Result, ⊎_elim, sym, subst, arith}
 use Rattle.vdr_history.specs.Histories.{Event, Opening}
-use Rattle.vdr_durability.specs.Readings.{EndsMeet, Reading}
+use Rattle.vdr_durability.specs.Readings.{EndsMeet}
 use Rattle.vdr_outside.specs.Disk.{Disk, Image, Unchanged}
 use Rattle.vdr_config.specs.Configuration.{Configuration}
 use Rattle.vdr_media.specs.Formatted.{IsEmptyHistory, IsEmptyHistoryOf, IsUnformatted}

@@ -24,7 +24,7 @@ pub(crate) fn blank(alloc: Global) -> Result<Vec<Vec<u8>>, AllocError>
 }
 
 /// A lane for each of these ports, whose numbers are the groups.
-pub(crate) fn lanes_of<P>(alloc: Global, ports: Vec<P>) -> Result<Vec<Lane<P>>, AllocError>
+pub(crate) fn lanes_of<P: Drop>(alloc: Global, ports: Vec<P>) -> Result<Vec<Lane<P>>, AllocError>
     requires { length ports.items ≡ 16 }
     ensures all { IfOk result (λ lanes. length lanes.items ≡ 16) }
     ensures groups { IfOk result (λ lanes. (g : ℕ) (d : _) → g < 16 → (get_or lanes.items g d).group ≡ g) }

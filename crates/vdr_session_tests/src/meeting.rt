@@ -50,7 +50,14 @@ fn ports_that_meet_are_recorded_beside_each_other(rt: HostRuntime) -> Result<(),
     let Ok(recording) = Recording::open(alloc, &mut media) else {
         return Err("the media are not opened".into());
     };
-    let end = record(&rt, alloc, recording, &mut media, lanes.as_mut_slice(), 10_000);
+    let end = record(
+        &rt,
+        alloc,
+        recording,
+        &mut media,
+        lanes.as_mut_slice(),
+        10_000,
+    );
     assert!(rt; end.outcome == Outcome::Done);
     assert!(rt; end.records == 6);
     for group in [NAVD, VDRD] {

@@ -30,8 +30,9 @@ const QUIET: Giving = Giving {
     fails_at: None,
 };
 
-const THREE: Giving = Giving {
-    good: 3,
+// No more than the rate admits, whenever they are taken.
+const TWO_GOOD: Giving = Giving {
+    good: 2,
     apart: 1_000,
     ..QUIET
 };
@@ -42,11 +43,19 @@ fn port(rt: &impl Abort, alloc: Global, giving: Giving) -> Result<MemoryPort, Al
         assert!(rt; number < 1_000 && giving.apart <= 1_000);
         let received = number * giving.apart;
         let bytes = vec![in alloc; b'U', b'd', b'P', b'b', b'C', 0]?;
-        items.push(PortItem { received, utc: 0, bytes })?;
+        items.push(PortItem {
+            received,
+            utc: 0,
+            bytes,
+        })?;
     }
     for _ in 0..giving.bad {
         let bytes = vec![in alloc; b'X']?;
-        items.push(PortItem { received: 1_000_000, utc: 0, bytes })?;
+        items.push(PortItem {
+            received: 1_000_000,
+            utc: 0,
+            bytes,
+        })?;
     }
     let mut failing = Vec::new(alloc);
     if let Some(take) = giving.fails_at {
@@ -56,7 +65,12 @@ fn port(rt: &impl Abort, alloc: Global, giving: Giving) -> Result<MemoryPort, Al
     Ok(MemoryPort::new(items, failing, Vec::new(alloc)))
 }
 
-fn ports(rt: &impl Abort, alloc: Global, navd: Giving, vdrd: Giving) -> Result<Vec<MemoryPort>, AllocError> {
+fn ports(
+    rt: &impl Abort,
+    alloc: Global,
+    navd: Giving,
+    vdrd: Giving,
+) -> Result<Vec<MemoryPort>, AllocError> {
     let mut ports = Vec::with_capacity(alloc, 16)?;
     for group in 0..16u8 {
         let giving = match group {
@@ -101,22 +115,95 @@ type Sums = (u64, u64, Counts);
 // The ports, the takes, and what comes of them: the outcome, the sums of NAVD and of VDRD, and the records.
 type Case = (Giving, Giving, u64, Outcome, Sums, Sums, u64);
 
-const CASES: [Case; 6] = [
-    (QUIET, QUIET, 10, Outcome::Done, (0, 0, NONE), (0, 0, NONE), 2),
-    (THREE, THREE, 10, Outcome::Done, (3, 3, NONE), (3, 3, NONE), 8),
+const CASES: [Case; 7] = [
+    (
+        QUIET,
+        QUIET,
+        10,
+        Outcome::Done,
+        (0, 0, NONE),
+        (0, 0, NONE),
+        2,
+    ),
+    (
+        TWO_GOOD,
+        TWO_GOOD,
+        10,
+        Outcome::Done,
+        (2, 2, NONE),
+        (2, 2, NONE),
+        6,
+    ),
     // all takes are used up
-    (THREE, QUIET, 2, Outcome::Done, (2, 2, NONE), (0, 0, NONE), 4),
+    (
+        TWO_GOOD,
+        QUIET,
+        1,
+        Outcome::Done,
+        (1, 1, NONE),
+        (0, 0, NONE),
+        3,
+    ),
     // a port fails, and both fail
-    (THREE, Giving { fails_at: Some(1), ..THREE }, 10, Outcome::PortFault(4), (3, 3, NONE), (1, 1, NONE), 6),
-    (Giving { fails_at: Some(2), ..THREE }, Giving { fails_at: Some(0), ..THREE }, 10, Outcome::PortFault(3), (2, 2, NONE), (0, 0, NONE), 4),
-    // a rate of two a second, and a closing Gap of each group
-    (Giving { apart: 0, ..THREE }, Giving { bad: 1, ..THREE }, 10, Outcome::Done, (3, 2, Counts { rate: 1, ..NONE }), (4, 3, Counts { bad: 1, ..NONE }), 9),
+    (
+        TWO_GOOD,
+        Giving {
+            fails_at: Some(1),
+            ..TWO_GOOD
+        },
+        10,
+        Outcome::PortFault(VDRD),
+        (2, 2, NONE),
+        (1, 1, NONE),
+        5,
+    ),
+    (
+        Giving {
+            fails_at: Some(1),
+            ..TWO_GOOD
+        },
+        Giving {
+            fails_at: Some(0),
+            ..TWO_GOOD
+        },
+        10,
+        Outcome::PortFault(NAVD),
+        (1, 1, NONE),
+        (0, 0, NONE),
+        3,
+    ),
+    // a datagram that is none, and a closing Gap of its group
+    (
+        TWO_GOOD,
+        Giving { bad: 1, ..TWO_GOOD },
+        10,
+        Outcome::Done,
+        (2, 2, NONE),
+        (3, 2, Counts { bad: 1, ..NONE }),
+        7,
+    ),
+    // a third one in one second, at a rate of two
+    (
+        Giving {
+            good: 3,
+            apart: 0,
+            ..QUIET
+        },
+        QUIET,
+        10,
+        Outcome::Done,
+        (3, 2, Counts { rate: 1, ..NONE }),
+        (0, 0, NONE),
+        5,
+    ),
 ];
 
 fn same(sums: Option<GroupSums>, expected: Sums) -> bool {
     match sums {
         None => false,
-        Some(sums) => sums.taken == expected.0 && sums.recorded == expected.1 && sums.counts == expected.2,
+        Some(sums) => sums.taken == expected.0
+            && sums.recorded == expected.1
+            && sums.counts == expected.2,
     }
 }
 
@@ -154,27 +241,30 @@ fn formatted(rt: &impl Abort, alloc: Global) -> Result<Vec<Vec<u8>>, AllocError>
     Ok(contents)
 }
 
-// Power that goes after so many writes and syncs: the media are not opened, or the session is told as a fault of the media, and else it is done.
+// After how many writes and syncs the power goes, and how the session ends; None where the media are not opened.
+const STOPS: [(Option<u64>, Option<Outcome>); 5] = [
+    (Some(0), None),
+    (Some(2), None),
+    // in the Start, and in what comes after it
+    (Some(3), Some(Outcome::MediaFault)),
+    (Some(11), Some(Outcome::MediaFault)),
+    (None, Some(Outcome::Done)),
+];
+
+// The ports are captured to their ends wherever the media fail.
 #[test]
 fn a_session_ends_where_the_media_fail(rt: HostRuntime) -> Result<(), Fail> {
     let alloc = rt.alloc();
-    let mut faults = 0;
-    let mut is_done = false;
-    for stop in 0..64 {
+    for (stop, outcome) in STOPS {
         let contents = formatted(&rt, alloc)?;
-        let mut media = MemoryMedia::new(alloc, contents, Vec::new(alloc), Some(stop))?;
+        let mut media = MemoryMedia::new(alloc, contents, Vec::new(alloc), stop)?;
         assert!(rt; media.count() == 2);
-        let Some(end) = session(&rt, alloc, &mut media, THREE, THREE, 10)? else {
-            assert!(rt; faults == 0);
-            continue;
+        let end = session(&rt, alloc, &mut media, TWO_GOOD, TWO_GOOD, 10)?;
+        let told = match &end {
+            None => None,
+            Some(end) => Some(end.outcome),
         };
-        is_done = end.outcome == Outcome::Done;
-        if !is_done {
-            assert!(rt; end.outcome == Outcome::MediaFault);
-            assert!(rt; end.records <= 8);
-            faults += 1;
-        }
+        assert!(rt; told == outcome);
     }
-    assert!(rt; faults >= 2 && is_done);
     Ok(())
 }

@@ -115,6 +115,7 @@ module _ {tells tells_images : Type 0} (again : Bool) (left : Option (List ℕ))
     others = others;
     others_meanwhile = meanwhile;
     moments = λ either. absurd (elim either [ inl is ↦ cc | inr is ↦ cc ]);
+    leaves = λ either. absurd (elim either [ inl is ↦ cc | inr is ↦ cc ]);
   }
   refused_answers (refusal.Config bad) tested formatted fits untouched fault moments = record {
     formatted = λ is. let none : ⊥ = cc in absurd none;
@@ -126,6 +127,7 @@ module _ {tells tells_images : Type 0} (again : Bool) (left : Option (List ℕ))
     others = others;
     others_meanwhile = meanwhile;
     moments = λ either. absurd (elim either [ inl is ↦ cc | inr is ↦ cc ]);
+    leaves = λ either. absurd (elim either [ inl is ↦ cc | inr is ↦ cc ]);
   }
   refused_answers refusal.AlreadyFormatted tested formatted fits untouched fault moments =
       let c = read_as (configuration text) tested in
@@ -139,6 +141,7 @@ module _ {tells tells_images : Type 0} (again : Bool) (left : Option (List ℕ))
         others = others;
         others_meanwhile = meanwhile;
         moments = λ either. absurd (elim either [ inl is ↦ cc | inr is ↦ cc ]);
+        leaves = λ either. absurd (elim either [ inl is ↦ cc | inr is ↦ cc ]);
       }
   refused_answers (refusal.TooSmall small) tested formatted fits untouched fault moments =
       let c = read_as (configuration text) tested in
@@ -152,6 +155,7 @@ module _ {tells tells_images : Type 0} (again : Bool) (left : Option (List ℕ))
         others = others;
         others_meanwhile = meanwhile;
         moments = λ either. absurd (elim either [ inl is ↦ cc | inr is ↦ cc ]);
+        leaves = λ either. absurd (elim either [ inl is ↦ cc | inr is ↦ cc ]);
       }
   refused_answers refusal.Fault tested formatted fits untouched fault moments =
       let c = read_as (configuration text) tested in
@@ -166,6 +170,7 @@ module _ {tells tells_images : Type 0} (again : Bool) (left : Option (List ℕ))
         others_meanwhile = meanwhile;
         moments = λ either rest. known left text (λ d bytes. FormatsAtEachMoment {T = ⊤} {E = Status} old.disk new.disk (Err MediaFault) (IsEmptyHistoryOf (members old.disk.sizes) bytes)) c.0 (whole c.0 c.1) c.1
             (failed_moments refusal.Fault (moments rest));
+        leaves = λ either rest. (text, failed_moments refusal.Fault (moments rest));
       }
 
   -- A success of the media's call.
@@ -191,6 +196,7 @@ module _ {tells tells_images : Type 0} (again : Bool) (left : Option (List ℕ))
         others = others;
         others_meanwhile = meanwhile;
         moments = λ either rest. known left text (λ d bytes. FormatsAtEachMoment {T = ⊤} {E = Status} old.disk new.disk (Ok tt) (IsEmptyHistoryOf (members old.disk.sizes) bytes)) c.0 (whole c.0 c.1) c.1 (done_moments (moments rest));
+        leaves = λ either rest. (text, done_moments (moments rest));
       }
 
 -- Media are not both.

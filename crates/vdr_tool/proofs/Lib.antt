@@ -14,3 +14,5 @@ pub mod SaveLemmas
 pub mod Summing
 pub mod Texts
 pub mod WordLemmas
+pub mod Lives
+pub mod LifeGoesOn

@@ -18,6 +18,7 @@ use Rattle.vdr_opening.specs.declared.refused.OpenRefused.TheVariants as opening
 use Rattle.vdr_recorder.specs.Recordings.{HasDone, RecordingState}
 use Rattle.vdr_vault.specs.Calls.{SameElsewhere}
 use Rattle.vdr_vault.specs.Openings.{GoesOnSynced, LeavesAll, OpensAtEachMoment}
+use Rattle.vdr_vault.proofs.OpenMoments.{never_both}
 use Rattle.vdr_vault.specs.Vaults.{MembersState, ShowsHistory}
 use Rattle.vdr_tool.specs.Incidents.{CanList}
 use Rattle.vdr_tool.specs.Endings.{IsWorkDone}
@@ -100,21 +101,23 @@ module _ {tells tells_images : Type 0} where
       → (result ≡ Err openings.NotFormatted → tells → IsUnformatted old.disk.reads)
       → ((m offset : ℕ) → result ≡ Err (openings.Damaged m offset) → tells → IsFormatted old.disk.reads × IsRefused old.disk.reads m offset)
       → ((result ≡ Err openings.NotFormatted) ⊎ ((m : ℕ) × (offset : ℕ) × (result ≡ Err (openings.Damaged m offset))) → LeavesAll old.disk new.disk × (tells → new.disk.reads ≡ old.disk.reads))
+      → (tells → IsUnformatted old.disk.reads → LeavesAll old.disk new.disk)
       → (tells → SameElsewhere old.disk.reads new.disk.reads)
       → HasOpenCause old.faults new.faults result
       → ((x : Contents) → tells → HoldsContents old.disk.reads x → EndsMeet both (reading_of x) → WasRecorded x → OpensAtEachMoment old.disk new.disk result (ShowsHistory (opening_of x) []))
       → MediaEnds Can Met MayBe old new (status_of_opening refused)
-  refused_ends Can Met MayBe old new result openings.NoMemory may is unformatted damaged untouched others cause moments = record {
+  refused_ends Can Met MayBe old new result openings.NoMemory may is unformatted damaged untouched blank others cause moments = record {
     unformatted = λ e. let none : ⊥ = cc in absurd none;
     damaged = tt;
     fault = λ e. let none : ⊥ = cc in absurd none;
     legible = λ done. absurd done;
     others = others;
+    blank = blank;
     kept = λ x t holds meet regular. kept_by_opening x (config_read old.disk.reads x holds) regular MayBe NoMemory old.disk new.disk result may
         (λ failed. let clash : Err openings.NoMemory ≡ Err openings.Fault = sym is ∙ failed in let none : ⊥ = cc in absurd none)
         (moments x t holds meet regular);
   }
-  refused_ends Can Met MayBe old new result openings.NotFormatted may is unformatted damaged untouched others cause moments =
+  refused_ends Can Met MayBe old new result openings.NotFormatted may is unformatted damaged untouched blank others cause moments =
       let same = untouched (inl is) in
       record {
         unformatted = λ e. (record { leaves = same.0; reads = same.1 }, unformatted is);
@@ -122,9 +125,10 @@ module _ {tells tells_images : Type 0} where
         fault = λ e. let none : ⊥ = cc in absurd none;
         legible = λ done. absurd done;
         others = others;
+        blank = blank;
         kept = λ x t holds meet regular. inl (tt, same.0);
       }
-  refused_ends Can Met MayBe old new result (openings.Damaged m offset) may is unformatted damaged untouched others cause moments =
+  refused_ends Can Met MayBe old new result (openings.Damaged m offset) may is unformatted damaged untouched blank others cause moments =
       let same = untouched (inr (m, offset, is)) in
       record {
         unformatted = λ e. let none : ⊥ = cc in absurd none;
@@ -132,14 +136,16 @@ module _ {tells tells_images : Type 0} where
         fault = λ e. let none : ⊥ = cc in absurd none;
         legible = λ done. absurd done;
         others = others;
+        blank = blank;
         kept = λ x t holds meet regular. inl (tt, same.0);
       }
-  refused_ends Can Met MayBe old new result openings.Fault may is unformatted damaged untouched others cause moments = record {
+  refused_ends Can Met MayBe old new result openings.Fault may is unformatted damaged untouched blank others cause moments = record {
     unformatted = λ e. let none : ⊥ = cc in absurd none;
     damaged = tt;
     fault = λ e. cause.in_all is;
     legible = λ done. absurd done;
     others = others;
+    blank = blank;
     kept = λ x t holds meet regular. kept_by_opening x (config_read old.disk.reads x holds) regular MayBe MediaFault old.disk new.disk result may (λ failed. tt) (moments x t holds meet regular);
   }
 
@@ -155,6 +161,7 @@ module _ {tells tells_images : Type 0} where
         fault = λ e. let none : ⊥ = cc in absurd none;
         legible = λ d. legible;
         others = others;
+        blank = λ t un. absurd (never_both old.disk.reads (legible t).0 un);
         kept = λ x t holds meet regular. inr (kept x t holds meet regular);
       }))
       (λ (is : status ≡ OutputFault). subst (λ (s : Status). MediaEnds Can Met MayBe old new s) (sym is) (record {
@@ -163,6 +170,7 @@ module _ {tells tells_images : Type 0} where
         fault = λ e. let none : ⊥ = cc in absurd none;
         legible = λ d. legible;
         others = others;
+        blank = λ t un. absurd (never_both old.disk.reads (legible t).0 un);
         kept = λ x t holds meet regular. inr (kept x t holds meet regular);
       }))
       (done_either status done)

@@ -30,6 +30,7 @@ use Rattle.vdr_recorder.specs.declared.play.PlayRefused.{PlayRefused}
 use Rattle.vdr_recorder.specs.declared.play.PlayRefused.TheVariants as plays
 use Rattle.vdr_vault.specs.Calls.{SameElsewhere}
 use Rattle.vdr_vault.specs.Openings.{OpensAtEachMoment}
+use Rattle.vdr_vault.proofs.OpenMoments.{never_both}
 use Rattle.vdr_vault.specs.Vaults.{MembersState, ShowsHistory, Stands}
 use Rattle.vdr_tool.specs.Opened.{AreLooks, IsLegibleWith, KeepsContents, MediaEnds, MetUnsound, PrintsText, WasRecorded, status_of_opening}
 use Rattle.vdr_tool.specs.Outside.{MediaSeen, OutputSeen}
@@ -98,6 +99,7 @@ module _ {tells tells_images : Type 0} where
       fault = λ e. let none : ⊥ = cc in absurd none;
       legible = λ played. absurd played;
       others = others;
+      blank = λ t un. absurd (never_both old.disk.reads (contents t).0 un);
       kept = λ x t holds meet regular. inr (kept_opened x (config_read old.disk.reads x holds) regular AreLooks old.disk new.disk result r is no_looks (moments x t holds meet regular));
     };
     no_channel = λ e. legible_so (λ x. LacksChannel x.config name) old.disk members contents (λ x t holds c k l. subst (λ (d : Configuration). LacksChannel d name) c lacks);
@@ -184,6 +186,7 @@ module _ {tells tells_images : Type 0} (medium : Played) (name : List ℕ) (from
           fault = λ e. let none : ⊥ = cc in absurd none;
           legible = λ done. absurd done;
           others = others_too;
+          blank = λ t un. absurd (never_both old.disk.reads (contents t).0 un);
           kept = λ x t holds meet regular. inr (kept_with_look x t holds meet regular);
         };
         no_channel = λ e. let none : ⊥ = cc in absurd none;
@@ -197,6 +200,7 @@ module _ {tells tells_images : Type 0} (medium : Played) (name : List ℕ) (from
           fault = λ e. let none : ⊥ = cc in absurd none;
           legible = λ done. absurd done;
           others = others_too;
+          blank = λ t un. absurd (never_both old.disk.reads (contents t).0 un);
           kept = λ x t holds meet regular. inr (kept_with_look x t holds meet regular);
         };
         no_channel = λ e. let none : ⊥ = cc in absurd none;
@@ -215,6 +219,7 @@ module _ {tells tells_images : Type 0} (medium : Played) (name : List ℕ) (from
           fault = λ e. rose is;
           legible = λ done. absurd done;
           others = others_too;
+          blank = λ t un. absurd (never_both old.disk.reads (contents t).0 un);
           kept = λ x t holds meet regular. inr (kept_with_look x t holds meet regular);
         };
         no_channel = λ e. let none : ⊥ = cc in absurd none;
@@ -227,6 +232,7 @@ module _ {tells tells_images : Type 0} (medium : Played) (name : List ℕ) (from
           fault = λ e. let none : ⊥ = cc in absurd none;
           legible = λ done. absurd done;
           others = others_too;
+          blank = λ t un. absurd (never_both old.disk.reads (contents t).0 un);
           kept = λ x t holds meet regular. inr (kept_with_look x t holds meet regular);
         };
         no_channel = λ e. let none : ⊥ = cc in absurd none;

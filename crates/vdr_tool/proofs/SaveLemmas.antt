@@ -21,6 +21,7 @@ use Rattle.vdr_recorder.specs.Recordings.{HasDone, HasRecorded, RecordingState}
 use Rattle.vdr_vault.specs.Calls.{SameElsewhere}
 use Rattle.vdr_vault.specs.Openings.{OpensAtEachMoment}
 use Rattle.vdr_vault.specs.Saves.{HasFaultOn, refusal_from, save_refusal}
+use Rattle.vdr_vault.proofs.OpenMoments.{never_both}
 use Rattle.vdr_vault.specs.Vaults.{ShowsHistory, Stands}
 use Rattle.vdr_vault.specs.declared.refused.SaveRefused.{SaveRefused as Refused}
 use Rattle.vdr_vault.specs.declared.refused.SaveRefused.TheVariants as saves
@@ -175,6 +176,7 @@ module _ {tells tells_images : Type 0} (old mid new : MediaSeen tells tells_imag
             fault = λ e. let none : ⊥ = cc in absurd none;
             legible = λ done. absurd done;
             others = others_too;
+            blank = λ t un. absurd (never_both old.disk.reads (contents t).0 un);
             kept = λ x t holds meet regular. inr (kept_refused refused is x t holds meet regular);
           }
 
@@ -191,6 +193,7 @@ module _ {tells tells_images : Type 0} (old mid new : MediaSeen tells tells_imag
                 fault = λ e. let none : ⊥ = cc in absurd none;
                 legible = λ done. absurd done;
                 others = others_too;
+                blank = λ t un. absurd (never_both old.disk.reads (contents t).0 un);
                 kept = λ x t holds meet regular.
                     let has = opened x t holds regular in
                     let done = met_damage (opening_of x) [] has.0 m offset t is has.3 in
@@ -204,6 +207,7 @@ module _ {tells tells_images : Type 0} (old mid new : MediaSeen tells tells_imag
                 fault = λ e. rose (saved ≡ Err saves.Fault) cause is;
                 legible = λ done. absurd done;
                 others = others_too;
+                blank = λ t un. absurd (never_both old.disk.reads (contents t).0 un);
                 kept = λ x t holds meet regular. inr (kept_with_save None (MayLeave (SavesAs label) new.disk.clock MediaFault) none (λ m offset e. let clash : Err saves.Fault ≡ Err (saves.Damaged m offset) = sym is ∙ e in let no_one : ⊥ = cc in no_one) (ap (λ (b : Bool). moment_of b new.disk.clock) (fails is)) (λ events one. inr one) x t holds meet regular);
               }
 
@@ -259,6 +263,7 @@ module _ {tells tells_images : Type 0} (old mid new : MediaSeen tells tells_imag
         fault = λ e. let none : ⊥ = cc in absurd none;
         legible = λ done. absurd done;
         others = others_too;
+        blank = λ t un. absurd (never_both old.disk.reads (contents t).0 un);
         kept = λ x t holds meet regular.
             let has = opened x t holds regular in
             let done = looked (opening_of x) [] has.0 (inr (reason is).1) has.3 in
@@ -272,6 +277,7 @@ module _ {tells tells_images : Type 0} (old mid new : MediaSeen tells tells_imag
             fault = λ e. rose (released ≡ Err releases.Fault) cause is;
             legible = λ done. absurd done;
             others = others_too;
+            blank = λ t un. absurd (never_both old.disk.reads (contents t).0 un);
             kept = λ x t holds meet regular. inr (kept_with_release None (MayLeave (ReleasesId id) new.disk.clock MediaFault) live_one.0 live_one.1 (ap (λ (b : Bool). moment_of b new.disk.clock) (fails is)) (λ events one. inr one) x t holds meet regular);
           }
 

@@ -86,6 +86,9 @@ module _ {tells tells_images : Type 0} where
     -- at each moment, where nothing of medium 0 is unsynced at entry
     pub moments : (status ≡ Done) ⊎ (status ≡ MediaFault) → Durable 0 old.disk
         → IfConfiguration left (λ c bytes. FormatsAtEachMoment old.disk new.disk (outcome_of status) (IsEmptyHistoryOf (members old.disk.sizes) bytes))
+    -- and whatever is known of the input, with some text
+    pub leaves : (status ≡ Done) ⊎ (status ≡ MediaFault) → Durable 0 old.disk
+        → (text : List ℕ) × FormatsAtEachMoment old.disk new.disk (outcome_of status) (IsEmptyHistoryOf (members old.disk.sizes) text)
 
   -- What `format` and `reformat` owe. They print nothing.
   pub record Formats (again : Bool) (old new : Outside tells tells_images) (status : Status) : Type 0 where

@@ -16,3 +16,4 @@ pub mod Runs
 pub mod Saves
 pub mod StatusLine
 pub mod Summaries
+pub mod Lives

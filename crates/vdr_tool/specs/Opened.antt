@@ -119,6 +119,7 @@ module _ {tells tells_images : Type 0} where
     pub legible : IsWorkDone status → tells → IsLegibleWith old.disk.reads Can
     -- what was recorded stays, on each medium and at every moment
     pub others : tells → SameElsewhere old.disk.reads new.disk.reads
+    pub blank : tells → IsUnformatted old.disk.reads → LeavesAll old.disk new.disk
     pub kept : (x : Contents) → tells → HoldsContents old.disk.reads x → EndsMeet both (reading_of x) → WasRecorded x
         → (IsUnopened status × LeavesAll old.disk new.disk) ⊎ KeepsContents x MayBe old.disk new.disk
 

@@ -10,7 +10,7 @@ returns-in_err-recording-clause-media g c =
     let told = c.open.ensures in
     let p = err_from_is_err_and c.from_residual.result c.from_residual.ensures.1 in
     rw (p.1, p.2)
-    (refused_ends CanList ⊥ AreLooks _ _ c.open.result c.in_err-recording.field-0.0 no_looks c.in_err-recording.was told.unformatted told.damaged told.untouched told.others told.cause told.moments)
+    (refused_ends CanList ⊥ AreLooks _ _ c.open.result c.in_err-recording.field-0.0 no_looks c.in_err-recording.was told.unformatted told.damaged told.untouched told.blank told.others told.cause told.moments)
 
 pub returns-in-Ok-clause-media : goal.returns-in-Ok-clause-media
 returns-in-Ok-clause-media g c =

@@ -11,7 +11,7 @@ returns-in_err-recording-clause-media g c =
     let p = err_from_is_err_and c.from_residual.result c.from_residual.ensures.1 in
     rw (p.1, p.2)
     (with_media _ _ _ _ c.in_err-recording.field-0.0 (refused_ends _ _ AreLooks _ _ c.open.result c.in_err-recording.field-0.0 no_looks c.in_err-recording.was
-    told.unformatted told.damaged told.untouched told.others told.cause told.moments))
+    told.unformatted told.damaged told.untouched told.blank told.others told.cause told.moments))
 
 pub returns-in_default-clause-media : goal.returns-in_default-clause-media
 returns-in_default-clause-media g c =

@@ -13,7 +13,7 @@ returns-in_err-recording-clause-media g c =
     let p = err_from_is_err_and c.from_residual.result c.from_residual.ensures.1 in
     rw (p.1, p.2)
     (refused_ends (CanRelease c.args.id) ⊥ _ _ _ c.open.result refused (no_act (ReleasesId c.args.id) (g.M.Media.disk c.open.new.media).clock refused) c.in_err-recording.was
-    told.unformatted told.damaged told.untouched told.others told.cause told.moments)
+    told.unformatted told.damaged told.untouched told.blank told.others told.cause told.moments)
 
 pub returns-clause-media : goal.returns-clause-media
 returns-clause-media g c =

@@ -19,7 +19,7 @@ returns-in_err-recording-clause-media g c =
     rw (p.1, p.2)
     (refused_ends (CanSave label) (MetUnsound (g.M.Media.disk c.args.world.now.media) (CanSave label)) _ _ _ c.open.result refused
     (no_act (SavesAs label) (g.M.Media.disk c.open.new.media).clock refused) c.in_err-recording.was
-    told.unformatted told.damaged told.untouched told.others told.cause told.moments)
+    told.unformatted told.damaged told.untouched told.blank told.others told.cause told.moments)
 
 pub returns-in_err-id-clause-media : goal.returns-in_err-id-clause-media
 returns-in_err-id-clause-media g c =

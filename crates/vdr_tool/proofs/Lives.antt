@@ -1,0 +1,79 @@
+-- Media of this product stay so over each command.
+use Rattle.std.proofs.Common.{◌≡◌, ◌≤◌, ◌⊎◌, inl, inr, ⊎_elim, ℕ, Bool, List, Option, Result, arith}
+use Rattle.vdr_history.specs.Histories.{Event}
+use Rattle.vdr_durability.specs.Keeping.{ShowsPrefix}
+use Rattle.vdr_outside.specs.Disk.{Disk, Durable, Image, Unchanged}
+use Rattle.vdr_opening.specs.Media.{Contents, opening_of}
+use Rattle.vdr_vault.specs.Openings.{LeavesAll}
+use Rattle.vdr_replay.specs.Headline.{LeavesHistory, PlaysBack}
+use Rattle.vdr_replay.specs.declared.ended.Replayed.{Replayed}
+use Rattle.vdr_replay.specs.declared.ended.ReplayStop.{ReplayStop}
+use Rattle.vdr_life.specs.Ours.{AreOurs, IsOurs, StayOurs}
+use Rattle.vdr_life.proofs.Ours.{ours_formatted, ours_opened, ours_unchanged}
+use Rattle.vdr_tool.specs.Commands.{Asked}
+use Rattle.vdr_tool.specs.Commands.Asked.{Review, Check, Format, Replay, Play, Incidents, Save, Release}
+use Rattle.vdr_tool.specs.Formats.{FormatEnds, outcome_of}
+use Rattle.vdr_tool.specs.Opened.{IsUnopened, KeepsContents, MediaEnds}
+use Rattle.vdr_tool.specs.Lives.{StartsSynced}
+use Rattle.vdr_tool.specs.Outside.{MediaSeen, Outside}
+use Rattle.vdr_tool.specs.Replays.{ReplayEnds}
+use Rattle.vdr_tool.specs.Runs.{page}
+use Rattle.vdr_tool.specs.declared.status.Status.{Status}
+use Rattle.vdr_tool.specs.declared.status.Status.TheVariants.{Done, MediaFault}
+
+played_ours : (x : Contents) (events : List Event) (image : Image) → PlaysBack (opening_of x) events image → IsOurs image
+played_ours x events image p = inr (p.contents, p.legible, p.shown.media.ends, p.sound)
+
+module _ {tells tells_images : Type 0} where
+  abbrev Left : Disk tells tells_images → Disk tells tells_images → Type 0
+  Left old new = LeavesAll old new ⊎ ((old.clock ≤ new.clock) × ((image : Image) → new.since old.clock image → old.now image ⊎ IsOurs image))
+
+  -- What recorded contents are left as.
+  kept_ours : (x : Contents) (MayBe : List Event → Type 0) (status : Status) (old new : Disk tells tells_images) → (IsUnopened status × LeavesAll old new) ⊎ KeepsContents x MayBe old new → Left old new
+  kept_ours x MayBe status old new (inl unopened) = inl unopened.1
+  kept_ours x MayBe status old new (inr kept) = inr (
+    (let first = kept.after_entry in let then = kept.before_exit in omega (arith, first, then)),
+    λ image left. ⊎_elim (λ now. inl now) (λ (shown : ShowsPrefix (PlaysBack (opening_of x)) kept.events 0 image). inr (played_ours x shown.first image shown.shown)) (kept.since_entry image left),
+  )
+
+  left_ours : (x : Contents) (rose : Type 0) (old new : Disk tells tells_images) → LeavesHistory x rose old new → Left old new
+  left_ours x rose old new (inl leaves) = inl leaves
+  left_ours x rose old new (inr (feed, end, h)) = inr (
+    (let first = h.after_entry in let then = h.before_exit in omega (arith, first, then)),
+    λ image left. ⊎_elim (λ now. inl now) (λ (shown : ShowsPrefix (PlaysBack (opening_of x)) h.events 0 image). inr (played_ours x shown.first image shown.shown)) (h.since_entry image left),
+  )
+
+  pub media_lives : {Can : Contents → Type 0} {Met : Type 0} {MayBe : List Event → Type 0} (old new : MediaSeen tells tells_images) (status : Status) → MediaEnds Can Met MayBe old new status
+      → tells_images → AreOurs old.disk → StayOurs old.disk new.disk
+  media_lives {MayBe = MayBe} old new status h told ours = ours_opened old.disk new.disk told ours h.blank
+      (λ x t holds meet sound. kept_ours x MayBe status old.disk new.disk (h.kept x t holds meet sound))
+
+  pub replay_lives : (left : Option (List ℕ)) (old new : MediaSeen tells tells_images) (answer : Result Replayed ReplayStop) → ReplayEnds left old new answer → tells_images → AreOurs old.disk → StayOurs old.disk new.disk
+  replay_lives left old new answer h told ours = ours_opened old.disk new.disk told ours h.blank (λ x t holds meet sound. left_ours x _ old.disk new.disk (h.left x t holds meet sound))
+
+  pub format_lives : (again : Bool) (left : Option (List ℕ)) (old new : MediaSeen tells tells_images) (status : Status) → FormatEnds again left old new status → Durable 0 old.disk → AreOurs old.disk → StayOurs old.disk new.disk
+  format_lives again left old new status h synced ours = by h.untouched
+    where
+      formatted : (status ≡ Done) ⊎ (status ≡ MediaFault) → StayOurs old.disk new.disk
+      formatted either = let k = h.leaves either synced in ours_formatted old.disk new.disk (outcome_of status) k.0 ours k.1
+
+      by : (status ≡ Done) ⊎ ((status ≡ MediaFault) ⊎ Unchanged old.disk new.disk) → StayOurs old.disk new.disk
+      by (inl done) = formatted (inl done)
+      by (inr (inl fault)) = formatted (inr fault)
+      by (inr (inr same)) = ours_unchanged old.disk new.disk same ours
+
+  -- What each command that uses the media leaves of them.
+  pub lives_of : (command : Asked) (old new : Outside tells tells_images) (status : Status) → (page command).owes old new status → (page command).uses_media
+      → tells_images → StartsSynced command old.media.disk → AreOurs old.media.disk → StayOurs old.media.disk new.media.disk
+  lives_of (Review rate) old new status owed uses told synced ours = absurd uses
+  lives_of Check old new status owed uses told synced ours = absurd uses
+  lives_of (Format again) old new status owed uses told synced ours = format_lives again old.input.left old.media new.media status owed.media synced ours
+  lives_of Replay old new status owed uses told synced ours = replay_lives old.input.left old.media new.media owed.answer owed.media told ours
+  lives_of (Play asked) old new status owed uses told synced ours = media_lives old.media new.media status owed.media.media told ours
+  lives_of Incidents old new status owed uses told synced ours = media_lives old.media new.media status owed.media told ours
+  lives_of (Save label) old new status owed uses told synced ours = media_lives old.media new.media status owed.media told ours
+  lives_of (Release id) old new status owed uses told synced ours = media_lives old.media new.media status owed.media told ours
+
+  -- Media that no call was made on.
+  pub ours_still : (disk : Disk tells tells_images) → AreOurs disk → StayOurs disk disk
+  ours_still disk ours = record { later = omega arith; each = λ image left. ours image (disk.only_now image left) }

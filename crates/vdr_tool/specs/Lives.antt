@@ -1,0 +1,28 @@
+-- What a life of the media asks of the moment at which a command begins (this project's profile).
+use Rattle.std.specs.Prelude.{⊤}
+use Rattle.vdr_outside.specs.Disk.{Disk, Durable}
+use Rattle.vdr_tool.specs.Commands.{Asked}
+use Rattle.vdr_tool.specs.Commands.Asked.{Review, Check, Format, Replay, Play, Incidents, Save, Release}
+
+-- Nothing of the capsule is unsynced where the media are to be formatted: its gate is read before it is written. So it is after each
+-- start of the recorder, and after each command but one that a fault ended.
+abbrev pub StartsSynced : {tells tells_images : Type 0} → Asked → Disk tells tells_images → Type 0
+StartsSynced (Format again) disk = Durable 0 disk
+StartsSynced (Review rate) disk = ⊤
+StartsSynced Check disk = ⊤
+StartsSynced Replay disk = ⊤
+StartsSynced (Play asked) disk = ⊤
+StartsSynced Incidents disk = ⊤
+StartsSynced (Save label) disk = ⊤
+StartsSynced (Release id) disk = ⊤
+
+-- The command does not format the media.
+abbrev pub FormatsNothing : Asked → Type 0
+FormatsNothing (Format again) = ⊥
+FormatsNothing (Review rate) = ⊤
+FormatsNothing Check = ⊤
+FormatsNothing Replay = ⊤
+FormatsNothing (Play asked) = ⊤
+FormatsNothing Incidents = ⊤
+FormatsNothing (Save label) = ⊤
+FormatsNothing (Release id) = ⊤
