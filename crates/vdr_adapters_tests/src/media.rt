@@ -116,9 +116,11 @@ fn one_file_under_two_names_is_refused(rt: HostRuntime) -> Result<(), Fail> {
 #[test]
 fn what_may_only_be_read_is_read(rt: HostRuntime) -> Result<(), Fail> {
     folder(&rt, "evidence")?;
-    let mut permissions = fs::metadata(&rt, "evidence/longterm.vdr")?.permissions();
-    permissions.set_readonly(true);
-    fs::set_permissions(&rt, "evidence/longterm.vdr", permissions)?;
+    for path in ["evidence/capsule.vdr", "evidence/longterm.vdr"] {
+        let mut permissions = fs::metadata(&rt, path)?.permissions();
+        permissions.set_readonly(true);
+        fs::set_permissions(&rt, path, permissions)?;
+    }
     // Whoever may do everything may write it nonetheless.
     let may_write = OpenOptions::new()
         .write(true)
@@ -131,7 +133,7 @@ fn what_may_only_be_read_is_read(rt: HostRuntime) -> Result<(), Fail> {
     let words = if may_write {
         ""
     } else {
-        "longterm.vdr: Permission denied"
+        "capsule.vdr: Permission denied"
     };
     tells(&rt, &media, words)?;
     // Two may read at once.

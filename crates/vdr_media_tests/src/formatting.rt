@@ -61,12 +61,9 @@ fn formatted_media_begin_with_their_superblocks(rt: HostRuntime) -> Result<(), F
     assert!(rt; media.contents(1).starts_with(&long));
     let medium = media.contents(1);
     assert!(rt; medium.len() == 712_704);
-    assert_eq!(rt;
-        &medium[12_288..12_292],
-        [0x13, 0x01, 0x00, 0x00].as_slice()
-    );
+    assert!(rt; &medium[12_288..12_292] == [0x13, 0x01, 0x00, 0x00].as_slice());
     assert!(rt; medium[12_292..].starts_with(BENCH));
-    assert_eq!(rt; media.contents(2), [7; 40].as_slice());
+    assert!(rt; media.contents(2) == [7; 40].as_slice());
     Ok(())
 }
 
@@ -80,13 +77,21 @@ fn formatted_media_are_refused_unless_they_are_formatted_again(
     let mut media = MemoryMedia::new(alloc, media, Vec::new(alloc), None)?;
     let refused = try_format(&rt, alloc, &mut media, SHORT, false);
     assert!(rt; matches!(&refused, Err(FormatRefused::AlreadyFormatted)));
-    assert_eq!(rt; (media.made().changes(), media.bytes_read(0)), (0, 1));
+    assert!(rt; (media.made().changes(), media.bytes_read(0)) == (0, 1));
     assert!(rt; try_format(&rt, alloc, &mut media, SHORT, true).is_ok());
     let changes = media.made().changes();
     let refused = try_format(&rt, alloc, &mut media, SHORT, false);
     assert!(rt; matches!(&refused, Err(FormatRefused::AlreadyFormatted)));
-    assert_eq!(rt; media.made().changes(), changes);
+    assert!(rt; media.made().changes() == changes);
     Ok(())
+}
+
+// What the media are too small for, where that is why they are refused.
+fn small_of(answer: Result<(), FormatRefused>) -> Option<TooSmall> {
+    match answer {
+        Err(FormatRefused::TooSmall(small)) => Some(small),
+        _ => None,
+    }
 }
 
 #[test]
@@ -97,27 +102,33 @@ fn refusals_come_in_their_order_and_change_nothing(rt: HostRuntime) -> Result<()
     let mut media = MemoryMedia::new(alloc, media, Vec::new(alloc), None)?;
     let refused = try_format(&rt, alloc, &mut media, b"{", false);
     assert!(rt; matches!(&refused, Err(FormatRefused::Config(ConfigBad::Json))));
-    assert_eq!(rt; media.made().total(), 0);
+    assert!(rt; media.made().total() == 0);
     let refused = try_format(&rt, alloc, &mut media, BENCH, false);
     assert!(rt; matches!(&refused, Err(FormatRefused::AlreadyFormatted)));
-    let Err(FormatRefused::TooSmall(small)) = try_format(&rt, alloc, &mut media, BENCH, true) else {
-        return Err("not refused as too small".into());
+    let capsule = TooSmall {
+        medium: 0,
+        need: 11,
+        have: 10,
     };
-    assert_eq!(rt; (small.medium, small.need, small.have), (0, 11, 10));
-    assert_eq!(rt; media.made().changes(), 0);
+    let refused = try_format(&rt, alloc, &mut media, BENCH, true);
+    assert!(rt; small_of(refused) == Some(capsule));
+    assert!(rt; media.made().changes() == 0);
+    Ok(())
+}
+
+#[test]
+fn media_that_are_too_small_keep_their_zeros(rt: HostRuntime) -> Result<(), Fail> {
+    let alloc = rt.alloc();
     let media = filled(alloc, 122_880, 0, 0)?;
     assert!(rt; media.len() <= 3);
     let mut media = RamMedia::new(media);
-    let Err(FormatRefused::TooSmall(small)) = try_format(&rt, alloc, &mut media, BENCH, false)
-    else {
-        return Err("not refused as too small".into());
-    };
     let long = TooSmall {
         medium: 1,
         need: 83,
         have: 0,
     };
-    assert_eq!(rt; small, long);
+    let refused = try_format(&rt, alloc, &mut media, BENCH, false);
+    assert!(rt; small_of(refused) == Some(long));
     assert!(rt; media.contents(0).iter().all(|byte| *byte == 0));
     Ok(())
 }

@@ -72,33 +72,51 @@ fn last_of(table: &Table, id: u32) -> u64 {
     }
 }
 
+fn save(
+    rt: &impl Abort,
+    media: &mut MemoryMedia,
+    table: &mut Table,
+    letter: u8,
+    b: u64,
+) -> Result<u32, TableRefused> {
+    assert!(rt; 32 <= letter && letter <= 126 && 40 <= b);
+    expect_room(rt, media);
+    table.save(media, &save_of(letter, b))
+}
+
+fn release(
+    rt: &impl Abort,
+    media: &mut MemoryMedia,
+    table: &mut Table,
+    id: u32,
+) -> Result<(), ReleaseRefused> {
+    expect_room(rt, media);
+    table.release(media, id)
+}
+
+// The table has so many saves, and those of ids 1 and 2 end with these places.
+fn assert_table(rt: &impl Abort, table: &Table, count: u8, first: u64, second: u64) {
+    assert!(rt; table.count() == count && table.is_full() == (count == 2));
+    assert!(rt; last_of(table, 1) == first && last_of(table, 2) == second);
+}
+
 #[test]
 fn a_save_takes_the_free_slot_of_least_index(rt: HostRuntime) -> Result<(), Fail> {
     let mut media = media_with(&rt, rt.alloc(), &[], None)?;
     let mut table = table_on(&rt, &mut media);
-    assert_eq!(rt; table.count(), 0);
-    for (b, id) in [(50, 1), (60, 2)] {
-        expect_room(&rt, &media);
-        assert!(rt; table.save(&mut media, &save_of(b'A', b)) == Ok(id));
-        assert_eq!(rt; table.is_full(), id == 2);
-    }
-    expect_room(&rt, &media);
-    assert!(rt; table.save(&mut media, &save_of(b'B', 70)) == Err(TableRefused::TableFull));
-    expect_room(&rt, &media);
-    assert!(rt; table.release(&mut media, 3) == Err(ReleaseRefused::NoSuch));
-    expect_room(&rt, &media);
-    assert!(rt; table.release(&mut media, 1) == Ok(()));
-    assert_eq!(rt;
-        (table.count(), last_of(&table, 1), last_of(&table, 2)),
-        (1, 0, 60)
-    );
-    expect_room(&rt, &media);
-    assert!(rt; table.save(&mut media, &save_of(b'C', 80)) == Ok(1));
-    let again = table_on(&rt, &mut media);
-    assert_eq!(rt;
-        (again.count(), last_of(&again, 1), last_of(&again, 2)),
-        (2, 80, 60)
-    );
+    assert_table(&rt, &table, 0, 0, 0);
+    assert!(rt; save(&rt, &mut media, &mut table, b'A', 50) == Ok(1));
+    assert_table(&rt, &table, 1, 50, 0);
+    assert!(rt; save(&rt, &mut media, &mut table, b'A', 60) == Ok(2));
+    assert_table(&rt, &table, 2, 50, 60);
+    let refused = save(&rt, &mut media, &mut table, b'B', 70);
+    assert!(rt; refused == Err(TableRefused::TableFull));
+    let refused = release(&rt, &mut media, &mut table, 3);
+    assert!(rt; refused == Err(ReleaseRefused::NoSuch));
+    assert!(rt; release(&rt, &mut media, &mut table, 1).is_ok());
+    assert_table(&rt, &table, 1, 0, 60);
+    assert!(rt; save(&rt, &mut media, &mut table, b'C', 80) == Ok(1));
+    assert_table(&rt, &table_on(&rt, &mut media), 2, 80, 60);
     law_of_tables();
     law_of_beside();
     Ok(())
@@ -122,8 +140,8 @@ fn a_save_is_made_of_legal_parts_alone(rt: HostRuntime) -> Result<(), Fail> {
     for &(size, a, tick, utc, made) in &PARTS {
         assert!(rt; size <= 65);
         let label = &text[..size];
-        assert_eq!(rt; is_label(label), size == 1 || size == 64);
-        assert_eq!(rt; Save::new(label, a, 50, tick, utc).is_some(), made);
+        assert!(rt; is_label(label) == (size == 1 || size == 64));
+        assert!(rt; Save::new(label, a, 50, tick, utc).is_some() == made);
     }
     Ok(())
 }
@@ -207,7 +225,7 @@ fn a_stop_leaves_the_table_before_or_with_the_save(rt: HostRuntime) -> Result<()
         let old = is_saved(&rt, media.image(&[], &Torn::Old)?);
         let new = is_saved(&rt, media.image(&[], &Torn::New)?);
         let open = is_saved(&rt, media.image(&[], &Torn::Filled(OPEN_GATE))?);
-        assert_eq!(rt; (old, new, open), *saved, "a stop after {stop} calls");
+        assert!(rt; (old, new, open) == *saved, "a stop after {stop} calls");
     }
     Ok(())
 }

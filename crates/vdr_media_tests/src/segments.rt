@@ -31,22 +31,22 @@ fn a_header_is_written_and_read(rt: HostRuntime) {
         first: 40,
         summary: None,
     };
-    assert_eq!(rt; read_header(&bytes), Some(new));
+    assert!(rt; read_header(&bytes) == Some(new));
     let mut part = [0xff; SUMMARY_SIZE];
     write_summary(&SUMMARY, &mut part);
     bytes[SUMMARY_GATE] = OPEN_GATE;
     bytes[18..62].copy_from_slice(&part);
-    assert_eq!(rt; bytes, HEADER);
+    assert!(rt; bytes == HEADER);
     bytes[0] = OPEN_GATE;
     let left = Header {
         summary: Some(SUMMARY),
         ..new
     };
-    assert_eq!(rt; read_header(&bytes), Some(left));
+    assert!(rt; read_header(&bytes) == Some(left));
     for at in [62, 63] {
         let mut odd = HEADER;
         odd[at] = 1;
-        assert_eq!(rt; read_header(&odd), None, "byte {at}");
+        assert!(rt; read_header(&odd) == None, "byte {at}");
     }
 }
 
@@ -73,8 +73,8 @@ fn a_batch_is_written_and_walked(rt: HostRuntime) {
         Record::datagram(3, 5, 41, 0, 86_400_400, 1_704_067_200_400, line),
     ];
     let mut bytes = [0xff; 122];
-    assert_eq!(rt; write_batch(&items, &mut bytes), 120);
-    assert_eq!(rt; bytes, BATCH);
+    assert!(rt; write_batch(&items, &mut bytes) == 120);
+    assert!(rt; bytes == BATCH);
     law_of_segments();
     law_of_walks();
     law_of_writes();
@@ -93,7 +93,7 @@ fn a_walk_tells_batch_end_and_broken(rt: HostRuntime) {
         (122, 122, Walk::End),
         (122, usize::MAX, Walk::End),
     ] {
-        assert_eq!(rt; walk(&BATCH[..end], at), want, "{end} bytes at {at}");
+        assert!(rt; walk(&BATCH[..end], at) == want, "{end} bytes at {at}");
     }
     for (at, byte, want) in [
         (0, 0x00, Walk::End),
@@ -108,6 +108,6 @@ fn a_walk_tells_batch_end_and_broken(rt: HostRuntime) {
     ] {
         let mut odd = BATCH;
         odd[at] = byte;
-        assert_eq!(rt; walk(&odd, 0), want, "{byte} in byte {at}");
+        assert!(rt; walk(&odd, 0) == want, "{byte} in byte {at}");
     }
 }

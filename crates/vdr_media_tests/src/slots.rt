@@ -26,19 +26,32 @@ fn area_on<M: Media>(rt: &impl Abort, media: &M) -> Area
     }
 }
 
-// Begins segment 7 in slot 1, appends two batches, each of one Start, and closes the slot.
-fn write_slot<M: Media>(rt: &impl Abort, media: &mut M) -> Result<(), Fault> {
+fn begin<M: Media>(rt: &impl Abort, media: &mut M) -> Result<(), Fault> {
+    let area = area_on(rt, media);
+    begin_segment(media, area, 1, 7, 40)
+}
+
+// Appends a batch of one Start.
+fn append<M: Media>(rt: &impl Abort, media: &mut M, at: usize) -> Result<(), Fault> {
+    assert!(rt; at < 200);
     let start = Record::start(7, 40, 86_400_000, 1_704_067_200_000);
     let mut batch = [0; 50];
     assert!(rt; write_batch(&[start], &mut batch) == 49);
     let area = area_on(rt, media);
-    begin_segment(media, area, 1, 7, 40)?;
-    let area = area_on(rt, media);
-    append_batch(media, area, 1, 64, &batch)?;
-    let area = area_on(rt, media);
-    append_batch(media, area, 1, 113, &batch)?;
+    append_batch(media, area, 1, at, &batch)
+}
+
+fn close<M: Media>(rt: &impl Abort, media: &mut M) -> Result<(), Fault> {
     let area = area_on(rt, media);
     close_slot(media, area, 1)
+}
+
+// Begins segment 7 in slot 1, appends two batches, each of one Start, and closes the slot.
+fn write_slot<M: Media>(rt: &impl Abort, media: &mut M) -> Result<(), Fault> {
+    begin(rt, media)?;
+    append(rt, media, 64)?;
+    append(rt, media, 113)?;
+    close(rt, media)
 }
 
 // Media of which medium 1 has closed slots, and no segment behind their gates.
@@ -69,7 +82,7 @@ fn what_stands_behind_a_gate_is_synced_before_it_opens(rt: HostRuntime) -> Resul
     let mut media = new_media(&rt, rt.alloc(), None)?;
     assert!(rt; write_slot(&rt, &mut media).is_ok());
     let calls = media.calls();
-    assert_eq!(rt; calls.len(), 14);
+    assert!(rt; calls.len() == 14);
     for (index, (at, length)) in WRITES.iter().enumerate() {
         let write = Call {
             medium: 1,
@@ -148,7 +161,7 @@ fn a_stop_leaves_the_slot_as_before_or_as_after_a_call(rt: HostRuntime) -> Resul
         let old = batches_in(&rt, alloc, media.image(&[], &Torn::Old)?)?;
         let new = batches_in(&rt, alloc, media.image(&[], &Torn::New)?)?;
         let open = batches_in(&rt, alloc, media.image(&[], &Torn::Filled(OPEN_GATE))?)?;
-        assert_eq!(rt; (old, new, open), *held, "a stop after {stop} calls");
+        assert!(rt; (old, new, open) == *held, "a stop after {stop} calls");
     }
     Ok(())
 }

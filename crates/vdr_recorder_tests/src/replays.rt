@@ -144,10 +144,7 @@ fn feeds_are_recorded_on_formatted_media(rt: HostRuntime) -> Result<(), Fail> {
     for (items, cut, failing, expected) in &rows {
         let feed = feed_of(alloc, items, *cut)?;
         let failing = vec![in alloc; *failing]?;
-        assert_eq!(rt;
-            answer(&rt, alloc, &mut media, feed, failing),
-            Ok(*expected)
-        );
+        assert!(rt; answer(&rt, alloc, &mut media, feed, failing) == Ok(*expected));
     }
     Ok(())
 }
@@ -168,10 +165,7 @@ fn what_is_refused_is_not_recorded(rt: HostRuntime) -> Result<(), Fail> {
     for (feed, failing, expected) in &rows {
         let failing = vec![in alloc; *failing]?;
         let feed = feed.to_vec(alloc)?;
-        assert_eq!(rt;
-            answer(&rt, alloc, &mut media, feed, failing),
-            Err(*expected)
-        );
+        assert!(rt; answer(&rt, alloc, &mut media, feed, failing) == Err(*expected));
     }
     Ok(())
 }

@@ -1,7 +1,8 @@
 // Lanes over ports of tests, and the media of a recorder of two groups.
-ghost use Rattle.std.specs.Prelude.{◌≡◌, ◌≤◌, ◌<◌, ◌+◌, ℕ, length, get_or, IfOk};
+ghost use Rattle.std.specs.Prelude.{◌≡◌, ◌<◌, ℕ, length, get_or, IfOk};
 
 use std::alloc::{AllocError, Global};
+use std::test::Fail;
 use vdr_capture::Lane;
 
 /// Bench windows, and groups NAVD and VDRD of two datagrams a second, each with a queue of 16 items.
@@ -13,27 +14,27 @@ pub(crate) const NAVD: u8 = 3;
 
 pub(crate) const VDRD: u8 = 4;
 
-/// The media that the configuration needs, with nothing on them.
-pub(crate) fn blank(alloc: Global) -> Result<Vec<Vec<u8>>, AllocError>
-    ensures { IfOk result (λ media. length media.items ≡ 2) }
-{
+/// The contents of the media that the configuration needs, with nothing on them.
+pub(crate) fn blank(alloc: Global) -> Result<Vec<Vec<u8>>, AllocError> {
     let mut media = Vec::with_capacity(alloc, 2)?;
     media.push(vec![in alloc; 0u8; 163_840]?)?;
     media.push(vec![in alloc; 0u8; 1_220_608]?)?;
     Ok(media)
 }
 
-/// A lane for each of these ports, whose numbers are the groups.
-pub(crate) fn lanes_of<P: Drop>(alloc: Global, ports: Vec<P>) -> Result<Vec<Lane<P>>, AllocError>
-    requires { length ports.items ≡ 16 }
+/// A lane for each of the groups, over these ports in their order.
+pub(crate) fn lanes_of<P: Drop>(alloc: Global, ports: Vec<P>) -> Result<Vec<Lane<P>>, Fail>
     ensures all { IfOk result (λ lanes. length lanes.items ≡ 16) }
     ensures groups { IfOk result (λ lanes. (g : ℕ) (d : _) → g < 16 → (get_or lanes.items g d).group ≡ g) }
 {
+    let mut ports = ports;
+    ports.reverse();
     let mut lanes = Vec::with_capacity(alloc, 16)?;
-    let mut group = 0;
-    for port in ports {
+    for group in 0..16u8 {
+        let Some(port) = ports.pop() else {
+            return Err("there are too few ports".into());
+        };
         lanes.push(Lane::new(port, group))?;
-        group += 1;
     }
     Ok(lanes)
 }

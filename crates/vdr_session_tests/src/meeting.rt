@@ -41,7 +41,9 @@ fn ports<C: Clock + Copy>(clock: C, alloc: Global) -> Result<Vec<GatedPort<C>>, 
 #[test]
 fn ports_that_meet_are_recorded_beside_each_other(rt: HostRuntime) -> Result<(), Fail> {
     let alloc = rt.alloc();
-    let mut media = RamMedia::new(blank(alloc)?);
+    let contents = blank(alloc)?;
+    assert!(rt; contents.len() == 2);
+    let mut media = RamMedia::new(contents);
     assert!(rt; media.count() == 2);
     assert!(rt; format(alloc, &mut media, TWO, false).is_ok());
     let ports = ports(&rt, alloc)?;

@@ -1,5 +1,4 @@
 // Sessions over ports and media in memory, by how they end.
-ghost use Rattle.std.specs.Prelude.{◌≡◌, length, IfOk};
 
 use crate::lanes::{NAVD, TWO, VDRD, blank, lanes_of};
 use std::alloc::{AllocError, Global};
@@ -91,7 +90,7 @@ fn session<M: Media + Send, R: Abort + Threads + Wait + Sync>(
     navd: Giving,
     vdrd: Giving,
     turns: u64,
-) -> Result<Option<SessionEnd>, AllocError> {
+) -> Result<Option<SessionEnd>, Fail> {
     assert!(rt; media.count() == 2 && turns <= 1_000);
     let ports = ports(rt, alloc, navd, vdrd)?;
     assert!(rt; ports.len() == 16);
@@ -211,7 +210,9 @@ fn same(sums: Option<GroupSums>, expected: Sums) -> bool {
 fn sessions_end_and_add_up_as_their_ports_give(rt: HostRuntime) -> Result<(), Fail> {
     let alloc = rt.alloc();
     for (navd, vdrd, turns, outcome, navd_sums, vdrd_sums, records) in CASES {
-        let mut media = RamMedia::new(blank(alloc)?);
+        let contents = blank(alloc)?;
+        assert!(rt; contents.len() == 2);
+        let mut media = RamMedia::new(contents);
         assert!(rt; media.count() == 2);
         assert!(rt; format(alloc, &mut media, TWO, false).is_ok());
         let Some(end) = session(&rt, alloc, &mut media, navd, vdrd, turns)? else {
@@ -226,10 +227,10 @@ fn sessions_end_and_add_up_as_their_ports_give(rt: HostRuntime) -> Result<(), Fa
 }
 
 // The contents of media with the configuration.
-fn formatted(rt: &impl Abort, alloc: Global) -> Result<Vec<Vec<u8>>, AllocError>
-    ensures { IfOk result (λ contents. length contents.items ≡ 2) }
-{
-    let mut media = RamMedia::new(blank(alloc)?);
+fn formatted(rt: &impl Abort, alloc: Global) -> Result<Vec<Vec<u8>>, AllocError> {
+    let contents = blank(alloc)?;
+    assert!(rt; contents.len() == 2);
+    let mut media = RamMedia::new(contents);
     assert!(rt; media.count() == 2);
     assert!(rt; format(alloc, &mut media, TWO, false).is_ok());
     let mut contents = Vec::with_capacity(alloc, 2)?;
@@ -257,6 +258,7 @@ fn a_session_ends_where_the_media_fail(rt: HostRuntime) -> Result<(), Fail> {
     let alloc = rt.alloc();
     for (stop, outcome) in STOPS {
         let contents = formatted(&rt, alloc)?;
+        assert!(rt; contents.len() == 2);
         let mut media = MemoryMedia::new(alloc, contents, Vec::new(alloc), stop)?;
         assert!(rt; media.count() == 2);
         let end = session(&rt, alloc, &mut media, TWO_GOOD, TWO_GOOD, 10)?;

@@ -5,6 +5,7 @@ mod script;
 
 use script::{Script, Step};
 use std::alloc::Global;
+use std::process::Abort;
 use std::sync::Wait;
 use std::test::Fail;
 use vdr_capture::{Cause, Counts, Lane, capture};
@@ -76,17 +77,27 @@ fn captured<R: Wait>(
     })
 }
 
+// A capture has left this: how it ended, how often the port was asked and gave, and what the worker counted, in all and since
+// the last push.
+fn assert_left(
+    rt: &impl Abort,
+    left: &Left,
+    cause: Cause,
+    calls: (u64, u64),
+    missed: (Counts, Counts),
+) {
+    assert!(rt; left.cause == Some(cause));
+    assert!(rt; (left.asked, left.taken) == calls);
+    assert!(rt; (left.totals, left.since) == missed);
+}
+
 #[test]
 fn a_queue_that_nobody_pops_fills_up(rt: HostRuntime) -> Result<(), Fail> {
     let left = captured(&rt, rt.alloc(), &[Step::Good; 20], 21, 16).ok_or("memory")?;
-    assert_eq!(rt; left.cause, Some(Cause::Ended));
-    assert_eq!(rt; (left.asked, left.taken), (21, 20));
-    assert_eq!(rt;
-        (left.totals, left.since),
-        (counts(4, 0, 0), counts(4, 0, 0))
-    );
-    assert_eq!(rt; left.pushed.len(), 16);
-    assert_eq!(rt; left.pushed.last(), Some(&(15, 7500, counts(0, 0, 0))));
+    let missed = (counts(4, 0, 0), counts(4, 0, 0));
+    assert_left(&rt, &left, Cause::Ended, (21, 20), missed);
+    let last = (15, 7500, counts(0, 0, 0));
+    assert!(rt; left.pushed.len() == 16 && left.pushed.last() == Some(&last));
     Ok(())
 }
 
@@ -105,21 +116,14 @@ fn each_datagram_is_pushed_or_counted(rt: HostRuntime) -> Result<(), Fail> {
         Step::Good,
     ];
     let left = captured(&rt, rt.alloc(), &steps, 100, 2).ok_or("memory")?;
-    assert_eq!(rt; left.cause, Some(Cause::Failed));
-    assert_eq!(rt; (left.asked, left.taken), (9, 7));
-    assert_eq!(rt;
-        (left.totals, left.since),
-        (counts(1, 2, 2), counts(1, 0, 1))
-    );
-    assert_eq!(rt;
-        left.pushed.as_slice(),
-        [(0, 0, counts(0, 0, 0)), (4, 2000, counts(0, 2, 1))].as_slice()
-    );
+    let pushed = [(0, 0, counts(0, 0, 0)), (4, 2000, counts(0, 2, 1))];
+    let missed = (counts(1, 2, 2), counts(1, 0, 1));
+    assert_left(&rt, &left, Cause::Failed, (9, 7), missed);
+    assert!(rt; left.pushed.as_slice() == pushed.as_slice());
 
     let cut = captured(&rt, rt.alloc(), &steps, 4, 2).ok_or("memory")?;
-    assert_eq!(rt; cut.cause, Some(Cause::Turns));
-    assert_eq!(rt; (cut.asked, cut.taken), (4, 3));
-    assert_eq!(rt; (cut.totals, cut.since), (counts(0, 1, 1), counts(0, 1, 1)));
-    assert_eq!(rt; cut.pushed.as_slice(), [(0, 0, counts(0, 0, 0))].as_slice());
+    let missed = (counts(0, 1, 1), counts(0, 1, 1));
+    assert_left(&rt, &cut, Cause::Turns, (4, 3), missed);
+    assert!(rt; cut.pushed.as_slice() == &pushed[..1]);
     Ok(())
 }

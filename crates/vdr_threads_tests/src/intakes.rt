@@ -41,22 +41,22 @@ fn an_item_handed_back_is_taken_after_a_pop(rt: HostRuntime) -> Result<(), Fail>
     let Err(second) = queue.offer(&rt, &mut feeder, item(1, 0)) else {
         return Err("the second item was taken".into());
     };
-    assert_eq!(rt; (feeder.full(), second.number), (1, 1));
+    assert!(rt; (feeder.full(), second.number) == (1, 1));
     let first = queue.next(&rt, &mut taker);
     assert!(rt; matches!(&first, Some(first) if first.number == 0));
     assert!(rt; queue.next(&rt, &mut taker).is_none());
     let Ok(()) = queue.offer(&rt, &mut feeder, second) else {
         return Err("the second item was handed back again".into());
     };
-    assert_eq!(rt; feeder.full(), 1);
+    assert!(rt; feeder.full() == 1);
     let last = queue.next(&rt, &mut taker);
     assert!(rt;
         matches!(&last, Some(last) if last.number == 1 && last.bytes.as_slice() == b"AbCdE\0".as_slice())
     );
     assert!(rt; queue.next(&rt, &mut taker).is_none());
-    assert_eq!(rt; taker.full(), 0);
+    assert!(rt; taker.full() == 0);
     queue.join(&mut taker, feeder);
-    assert_eq!(rt; taker.full(), 1);
+    assert!(rt; taker.full() == 1);
     assert!(rt; queue.next(&rt, &mut taker).is_none());
     Ok(())
 }
@@ -131,7 +131,7 @@ fn each_item_is_popped_once_in_order_or_counted_as_full(rt: HostRuntime) -> Resu
     let full = feeder.full();
     queue.join(&mut taker, feeder);
     assert!(rt; queue.next(&rt, &mut taker).is_none());
-    assert_eq!(rt; taker.full(), full);
-    assert_eq!(rt; (count.checked_add(full), in_order), (Some(ITEMS), true));
+    assert!(rt; taker.full() == full);
+    assert!(rt; (count.checked_add(full), in_order) == (Some(ITEMS), true));
     Ok(())
 }

@@ -11,7 +11,7 @@ fn two_threads_count_each_turn_once(rt: HostRuntime) -> Result<(), Fail> {
         let Some((count, as_answered)) = counted_by_two(&rt, rt.alloc(), turns, stays) else {
             panic!(rt; "no memory for a latch")
         };
-        assert_eq!(rt; count, 2 * u64::from(turns), "{stays} stays");
+        assert!(rt; count == 2 * u64::from(turns), "{stays} stays");
         assert!(rt; as_answered, "{stays} stays");
     }
     Ok(())
@@ -22,9 +22,9 @@ fn what_a_turn_does_behind_a_lent_reference_stays(rt: HostRuntime) -> Result<(),
     let mut bytes = Vec::new(rt.alloc());
     for byte in 0..200 {
         let put = put_beside_a_look(&rt, rt.alloc(), &mut bytes, byte);
-        assert_eq!(rt; put, Some(true), "byte {byte}");
-        assert_eq!(rt; bytes.len(), usize::from(byte) + 1);
-        assert_eq!(rt; bytes.last(), Some(&byte));
+        assert!(rt; put == Some(true), "byte {byte}");
+        assert!(rt; bytes.len() == usize::from(byte) + 1);
+        assert!(rt; bytes.last() == Some(&byte));
     }
     Ok(())
 }

@@ -6,7 +6,6 @@ use Rattle.vdr_feed.specs.Feed.{IsFeed, IsRefused}
 use Rattle.vdr_feed.specs.Reader.{IfKnown}
 use Rattle.vdr_feed.specs.Law.{NoFeedIsRefused, OneRefusal}
 use Rattle.vdr_review.specs.Review.{most_items, IfReviewed}
-use Rattle.vdr_config.specs.declared.bad.ConfigBad.{ConfigBad}
 use Rattle.vdr_config.specs.Configuration.{Configuration}
 use Rattle.vdr_config.specs.Grammar.{configuration}
 use Rattle.vdr_tool.specs.Check.{IfChecked, RefusesConfig, number_of}

@@ -11,7 +11,7 @@ use Rattle.vdr_history.specs.Histories.Act.{Look}
 use Rattle.vdr_durability.specs.Readings.{EndsMeet}
 use Rattle.vdr_playback.specs.Playback.{selected}
 use Rattle.vdr_outside.specs.Causes.{NoneFalls, Rose}
-use Rattle.vdr_outside.specs.Disk.{Disk, Image, Unchanged}
+use Rattle.vdr_outside.specs.Disk.{Image, Unchanged}
 use Rattle.vdr_outside.specs.Writes.{AppendsFront}
 use Rattle.vdr_outside.proofs.Counts.{rose_after, sum_not_less}
 use Rattle.vdr_config.specs.Configuration.{Configuration, Selector}

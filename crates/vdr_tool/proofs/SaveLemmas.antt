@@ -1,14 +1,12 @@
 -- What `incidents`, `save` and `release` answer, from what the calls on the media ensure.
 use Rattle.std.specs.Prelude.{sum, IfOk, Bool, true, false, ⊤, is_none, position}
 use Rattle.std.proofs.Common.{◌≡◌, ◌≤◌, ◌⊎◌, ◌∷◌, inl, inr, ⊎_elim, ℕ, ℤ, List, [], Option, Some, None, Result, Ok, Err, refl, sym, ap, subst, ◌∙◌}
-use Rattle.std.specs.Io.KnownBytes.{Appends}
 use Rattle.vdr_history.specs.Histories.{Act, Event, Incident, Opening, live}
 use Rattle.vdr_history.specs.Histories.Act.{Look, Release, Save}
 use Rattle.vdr_durability.specs.Keeping.{moment_of}
 use Rattle.vdr_durability.specs.Readings.{EndsMeet}
 use Rattle.vdr_outside.specs.Causes.{NoneFalls, Rose}
-use Rattle.vdr_outside.specs.Disk.{Disk, SameBut}
-use Rattle.vdr_outside.specs.Writes.{AppendsFront}
+use Rattle.vdr_outside.specs.Disk.{SameBut}
 use Rattle.vdr_outside.proofs.Counts.{rose_after, sum_not_less}
 use Rattle.vdr_incident.specs.Saves.{is_label}
 use Rattle.vdr_incident.specs.declared.refused.ReleaseRefused.{ReleaseRefused}

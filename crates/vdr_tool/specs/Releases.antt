@@ -1,5 +1,5 @@
 -- `release ID`: an incident is released (this project's profile).
-use Rattle.std.specs.Prelude.{◌≡◌, ◌≤◌, ◌⊎◌, ◌∷◌, ℕ, List, [], codes, decimal, Option, Some, None, Result, Ok, Err, ⊤}
+use Rattle.std.specs.Prelude.{◌≡◌, ◌≤◌, ◌⊎◌, ◌∷◌, ℕ, [], codes, decimal, Some, None, Result, Ok, Err, ⊤}
 use Rattle.vdr_history.specs.Histories.{Act, Incident, live}
 use Rattle.vdr_history.specs.Histories.Act.{Release as Releasing}
 use Rattle.vdr_durability.specs.Readings.{EndsMeet}

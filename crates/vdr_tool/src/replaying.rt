@@ -1,9 +1,7 @@
 // Recording a feed on the media.
 ghost use Rattle.std.specs.Prelude.{◌≡◌, ◌≤◌, Err, length};
-ghost use Rattle.std.specs.Io.KnownBytes.{IsAtEnd};
-ghost use Rattle.vdr_outside.specs.Causes.{Rose};
 ghost use Rattle.vdr_tool.specs.Endings.{ending};
-ghost use Rattle.vdr_tool.specs.Replays.{PrintsRun, Replays, status_of_stop};
+ghost use Rattle.vdr_tool.specs.Replays.{PrintsRun, Replays};
 ghost use Rattle.vdr_tool.specs.Summaries.{summary_text};
 ghost use Rattle.vdr_tool.specs.declared.status.Status.TheVariants.{OutputFault, Words};
 

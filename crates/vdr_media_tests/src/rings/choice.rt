@@ -118,7 +118,7 @@ fn oldest_segment_outside_window_and_pins_goes(rt: HostRuntime) -> Result<(), Fa
         if let Some((a, b)) = pin {
             pins.add(a, b);
         }
-        assert_eq!(rt; ring.victim(&pins), expected, "{seconds} seconds");
+        assert!(rt; ring.victim(&pins) == expected, "{seconds} seconds");
     }
     Ok(())
 }
@@ -128,7 +128,7 @@ fn the_last_record_is_that_of_the_last_segment_with_records(rt: HostRuntime) -> 
     let ring = opened(&rt, rt.alloc(), "41", &SEGMENTS)?;
     assert!(rt; ring.last() == Some((5, 100_999, UTC)));
     assert!(rt; ring.last_batch() == Some(5));
-    let ring = opened(&rt, rt.alloc(), "41", &[(3, 7, 0, None)])?;
+    let ring = opened(&rt, rt.alloc(), "41", &[(3, 0, 0, None)])?;
     assert!(rt; ring.last().is_none() && ring.last_batch().is_none());
     Ok(())
 }

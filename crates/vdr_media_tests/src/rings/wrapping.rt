@@ -88,25 +88,18 @@ fn the_last_minute_is_held_after_each_of_600_batches(rt: HostRuntime) -> Result<
     let alloc = rt.alloc();
     let mut media = RamMedia::new(capsule(alloc)?);
     let mut ring = open(&rt, alloc, &mut media)?;
-    assert_eq!(rt; (ring.last(), ring.next_slot(None)), (None, None));
+    assert!(rt; (ring.last(), ring.next_slot(None)) == (None, None));
     append_all(&rt, &mut media, &mut ring, 0, FIRST_ROUND);
-    assert_eq!(rt;
-        (ring.next_slot(None), ring.victim(&Pins::new())),
-        (Some((0, 0)), 0)
-    );
+    assert!(rt; (ring.next_slot(None), ring.victim(&Pins::new())) == (Some((0, 0)), 0));
     append_all(&rt, &mut media, &mut ring, FIRST_ROUND, 600);
-    assert_eq!(rt;
-        (ring.next_slot(None), ring.next_slot(Some(10))),
-        (Some((1, 1)), Some((0, 11)))
-    );
+    assert!(rt; (ring.next_slot(None), ring.next_slot(Some(10))) == (Some((1, 1)), Some((0, 11))));
     // The last batch of segment 1 is of second 53, and that of the medium of second 299.
-    assert_eq!(rt;
+    assert!(rt;
         (
             ring.first_since(53),
             ring.first_since(54),
             ring.first_since(300)
-        ),
-        (Some((1, 1)), Some((2, 2)), None)
+        ) == (Some((1, 1)), Some((2, 2)), None)
     );
     assert!(rt; ring.holds(54, 599) && !ring.holds(53, 599));
     Ok(())
@@ -135,9 +128,9 @@ fn a_stop_leaves_the_last_minute_without_the_batch_or_with_it(rt: HostRuntime) -
         )?;
         let mut ring = open(&rt, alloc, &mut media)?;
         append_all(&rt, &mut media, &mut ring, 0, FIRST_ROUND);
-        assert_eq!(rt; media.made().changes(), CALLS_BEFORE);
+        assert!(rt; media.made().changes() == CALLS_BEFORE);
         let done = append(&rt, &mut media, &mut ring, FIRST_ROUND).is_ok();
-        assert_eq!(rt; done, stop == 10);
+        assert!(rt; done == (stop == 10));
         for torn in [Torn::Old, Torn::New, Torn::Filled(0xA5)] {
             let (last, held) = last_minute(&rt, alloc, media.image(&[], &torn)?)?;
             assert!(rt; held && (last == FIRST_ROUND || (last == FIRST_ROUND - 1 && !done)));
@@ -151,15 +144,14 @@ fn opening_reads_each_header_and_each_segment_once(rt: HostRuntime) -> Result<()
     let alloc = rt.alloc();
     let mut media = MemoryMedia::new(alloc, capsule(alloc)?, Vec::new(alloc), None)?;
     let mut ring = open(&rt, alloc, &mut media)?;
-    assert_eq!(rt; media.bytes_read(0), 11 * 64);
+    assert!(rt; media.bytes_read(0) == 11 * 64);
     append_all(&rt, &mut media, &mut ring, 0, 100);
     let changes = media.made().changes();
     let again = open(&rt, alloc, &mut media)?;
-    assert_eq!(rt;
-        (media.bytes_read(0), media.made().changes()),
-        (2 * 11 * 64 + 2 * 8_192, changes)
+    assert!(rt;
+        (media.bytes_read(0), media.made().changes()) == (2 * 11 * 64 + 2 * 8_192, changes)
     );
-    assert_eq!(rt; again.last(), ring.last());
+    assert!(rt; again.last() == ring.last());
     Ok(())
 }
 
@@ -180,7 +172,7 @@ fn step<M: Media>(
 {
     let read = ring.read_span(media, slot, visit);
     let place = visit.item().map(|item| item.place);
-    assert_eq!(rt; read, Ok(place.is_some()));
+    assert!(rt; read == Ok(place.is_some()));
     place
 }
 
@@ -196,24 +188,12 @@ fn a_cursor_steps_from_record_to_record_of_a_slot(rt: HostRuntime) -> Result<(),
     };
     let closed = ring.victim(&Pins::new());
     let mut visit = Cursor::new();
-    assert_eq!(rt;
-        step(&rt, &mut media, &mut ring, first, &mut visit),
-        Some(0)
-    );
-    assert_eq!(rt;
-        step(&rt, &mut media, &mut ring, first, &mut visit),
-        Some(1)
-    );
-    assert_eq!(rt;
-        step(&rt, &mut media, &mut ring, second, &mut visit),
-        Some(54)
-    );
-    assert_eq!(rt;
-        step(&rt, &mut media, &mut ring, second, &mut visit),
-        Some(55)
-    );
-    assert_eq!(rt; step(&rt, &mut media, &mut ring, second, &mut visit), None);
-    assert_eq!(rt; step(&rt, &mut media, &mut ring, closed, &mut visit), None);
+    assert!(rt; step(&rt, &mut media, &mut ring, first, &mut visit) == Some(0));
+    assert!(rt; step(&rt, &mut media, &mut ring, first, &mut visit) == Some(1));
+    assert!(rt; step(&rt, &mut media, &mut ring, second, &mut visit) == Some(54));
+    assert!(rt; step(&rt, &mut media, &mut ring, second, &mut visit) == Some(55));
+    assert!(rt; step(&rt, &mut media, &mut ring, second, &mut visit) == None);
+    assert!(rt; step(&rt, &mut media, &mut ring, closed, &mut visit) == None);
     Ok(())
 }
 

@@ -34,23 +34,22 @@ fn both_media_read_with_a_batch(rt: HostRuntime) -> Result<(), Fail> {
     let Ok(mut members) = Members::open(alloc, &mut media) else {
         return Err("not opened".into());
     };
-    assert_eq!(rt; (members.next_place(), members.last()), (0, None));
+    assert!(rt; (members.next_place(), members.last()) == (0, None));
     assert!(rt; members.config().batch >= 2_048);
     let start = Record::start(1, 0, 0, UTC);
     assert!(rt; members.commit(&mut media, &[start]).is_ok());
-    assert_eq!(rt; (members.next_place(), members.last()), (1, Some((0, UTC))));
+    assert!(rt; (members.next_place(), members.last()) == (1, Some((0, UTC))));
     assert!(rt; media.count() == 2);
     let Ok(again) = Members::open(alloc, &mut media) else {
         return Err("not opened again".into());
     };
     for m in 0..2 {
-        assert_eq!(rt;
-            last_on(&rt, alloc, &mut media, BENCH, m)?,
-            Some((0, 0, UTC)),
+        assert!(rt;
+            last_on(&rt, alloc, &mut media, BENCH, m)? == Some((0, 0, UTC)),
             "medium {m}"
         );
     }
-    assert_eq!(rt; (again.next_place(), again.last()), (1, Some((0, UTC))));
+    assert!(rt; (again.next_place(), again.last()) == (1, Some((0, UTC))));
     assert!(rt; !members.failed());
     Ok(())
 }

@@ -106,6 +106,68 @@ fn saved(members: &Members, id: u32) -> Option<(u64, u64, u64)> {
     Some((save.a, save.b, save.tick))
 }
 
+// A call, with its answer.
+#[derive(Drop)]
+enum Order {
+    Save(&'static [u8], Result<u32, SaveRefused>),
+    ReleaseOfOne(Result<(), ReleaseRefused>),
+}
+
+// Calls before a record is made.
+const BEFORE: [Order; 2] = [
+    Order::Save(b"", Err(SaveRefused::Label)),
+    Order::Save(b"a", Err(SaveRefused::Nothing)),
+];
+
+// Calls, and whether saves of ids 1 and 2 are live then.
+const AFTER: [(Order, bool, bool); 7] = [
+    (Order::Save(b"a", Ok(1)), true, false),
+    (Order::Save(b"b", Ok(2)), true, true),
+    (Order::Save(b"\x1f", Err(SaveRefused::Label)), true, true),
+    (Order::Save(b"c", Err(SaveRefused::TableFull)), true, true),
+    (Order::ReleaseOfOne(Ok(())), false, true),
+    (
+        Order::ReleaseOfOne(Err(ReleaseRefused::NoSuch)),
+        false,
+        true,
+    ),
+    (Order::Save(b"c", Ok(1)), true, true),
+];
+
+// Whether the call answers what it is to answer.
+fn answers<M: Media>(media: &mut M, members: &mut Members, order: &Order) -> bool
+    requires { AreRings members.old (M.disk media.old).sizes }
+    ensures { AreRings members.new (M.disk media.new).sizes }
+{
+    match order {
+        Order::Save(label, answer) => save(media, members, label) == *answer,
+        Order::ReleaseOfOne(answer) => release(media, members, 1) == *answer,
+    }
+}
+
+// What is kept of the three records is live under this id, or nothing is.
+fn is_kept(members: &Members, id: u32, live: bool) -> bool {
+    saved(members, id) == if live { Some((1, 2, 50_999)) } else { None }
+}
+
+fn assert_before<M: Media>(rt: &impl Abort, media: &mut M, members: &mut Members)
+    requires { AreRings members.old (M.disk media.old).sizes }
+    ensures { AreRings members.new (M.disk media.new).sizes }
+{
+    for order in &BEFORE {
+        assert!(rt; answers(media, members, order));
+    }
+}
+
+fn assert_after<M: Media>(rt: &impl Abort, media: &mut M, members: &mut Members)
+    requires { AreRings members.old (M.disk media.old).sizes }
+{
+    for (order, first, second) in &AFTER {
+        assert!(rt; answers(media, members, order));
+        assert!(rt; is_kept(members, 1, *first) && is_kept(members, 2, *second));
+    }
+}
+
 #[test]
 fn saves_are_refused_in_order_and_take_the_least_free_id(rt: HostRuntime) -> Result<(), Fail> {
     let alloc = rt.alloc();
@@ -113,36 +175,9 @@ fn saves_are_refused_in_order_and_take_the_least_free_id(rt: HostRuntime) -> Res
     let Some(mut members) = open(&rt, alloc, &mut media) else {
         return Err("not opened".into());
     };
-    assert_eq!(rt;
-        save(&mut media, &mut members, b""),
-        Err(SaveRefused::Label)
-    );
-    assert_eq!(rt;
-        save(&mut media, &mut members, b"a"),
-        Err(SaveRefused::Nothing)
-    );
+    assert_before(&rt, &mut media, &mut members);
     record_all(&rt, &mut media, &mut members);
-    assert_eq!(rt; save(&mut media, &mut members, b"a"), Ok(1));
-    assert_eq!(rt; save(&mut media, &mut members, b"b"), Ok(2));
-    assert_eq!(rt;
-        save(&mut media, &mut members, b"\x1f"),
-        Err(SaveRefused::Label)
-    );
-    assert_eq!(rt;
-        save(&mut media, &mut members, b"c"),
-        Err(SaveRefused::TableFull)
-    );
-    assert_eq!(rt; saved(&members, 1), Some((1, 2, 50_999)));
-    assert_eq!(rt; release(&mut media, &mut members, 1), Ok(()));
-    assert_eq!(rt;
-        release(&mut media, &mut members, 1),
-        Err(ReleaseRefused::NoSuch)
-    );
-    assert_eq!(rt;
-        (saved(&members, 1), saved(&members, 2)),
-        (None, Some((1, 2, 50_999)))
-    );
-    assert_eq!(rt; save(&mut media, &mut members, b"c"), Ok(1));
+    assert_after(&rt, &mut media, &mut members);
     Ok(())
 }
 

@@ -83,6 +83,6 @@ fn an_incident_is_kept_until_its_release(rt: HostRuntime) -> Result<(), Fail> {
         tick: 41_000,
         incidents: 0,
     };
-    assert_eq!(rt; recording.status(), expected);
+    assert!(rt; recording.status() == expected);
     Ok(())
 }

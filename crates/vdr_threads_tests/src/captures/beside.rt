@@ -4,10 +4,12 @@ ghost use Rattle.vdr_capture.specs.Lanes.{IsReady};
 
 use super::{counts, popped};
 use std::alloc::{AllocError, Global};
+use std::process::Abort;
+use std::sync::Wait;
 use std::test::Fail;
 use std::time::Clock;
 use vdr_capture::{Cause, Lane, capture_all};
-use vdr_intake::{Feeder, Intake};
+use vdr_intake::{Feeder, Intake, Taker};
 use vdr_memory::{Flag, GatedPort, meeting_ports};
 
 // A lane that holds this feeder.
@@ -25,6 +27,29 @@ fn empty_port<C: Clock + Copy>(clock: C, alloc: Global) -> Result<GatedPort<C>, 
     let gate = Flag::new(alloc)?;
     gate.set();
     Ok(GatedPort::new(clock, Vec::new(alloc), gate))
+}
+
+// The lane without a feeder was not asked, and the ports of the others ended.
+fn assert_causes<C: Clock + Copy>(rt: &impl Abort, lanes: &[Lane<GatedPort<C>>; 3]) {
+    let [idle, one, other] = lanes;
+    assert!(rt; idle.cause == None && idle.port.takes() == 0);
+    assert!(rt; one.cause == Some(Cause::Ended));
+    assert!(rt; other.cause == Some(Cause::Ended));
+}
+
+// Both items of a port are in this queue.
+fn assert_two_items<R: Wait + Abort>(
+    rt: &R,
+    alloc: Global,
+    queue: &Intake,
+    taker: Taker,
+) -> Result<(), Fail>
+    requires { taker.queue ≡ queue.now }
+{
+    let none = counts(0, 0, 0);
+    let pushed = popped(rt, alloc, queue, taker).ok_or("memory")?;
+    assert!(rt; pushed.as_slice() == [(0, 0, none), (1, 0, none)].as_slice());
+    Ok(())
 }
 
 #[test]
@@ -57,21 +82,10 @@ fn ports_that_meet_are_captured_beside_each_other(rt: HostRuntime) -> Result<(),
     ];
     capture_all(&rt, &mut lanes, 10_000, &queues);
 
-    let idle = &lanes[0];
-    assert_eq!(rt; idle.cause, None);
-    assert_eq!(rt; idle.port.takes(), 0);
-    let one = &lanes[1];
-    assert_eq!(rt; one.cause, Some(Cause::Ended));
-    let other = &lanes[2];
-    assert_eq!(rt; other.cause, Some(Cause::Ended));
+    assert_causes(&rt, &lanes);
     let [_, _, _, Some(navd), Some(vdrd), ..] = &queues else {
         unreachable!()
     };
-    let none = counts(0, 0, 0);
-    let two_items = [(0, 0, none), (1, 0, none)];
-    let pushed = popped(&rt, rt.alloc(), navd, navd_taker).ok_or("memory")?;
-    assert_eq!(rt; pushed.as_slice(), two_items.as_slice());
-    let pushed = popped(&rt, rt.alloc(), vdrd, vdrd_taker).ok_or("memory")?;
-    assert_eq!(rt; pushed.as_slice(), two_items.as_slice());
-    Ok(())
+    assert_two_items(&rt, rt.alloc(), navd, navd_taker)?;
+    assert_two_items(&rt, rt.alloc(), vdrd, vdrd_taker)
 }

@@ -71,28 +71,24 @@ fn a_stop_leaves_what_was_acknowledged(rt: HostRuntime) -> Result<(), Fail> {
     Ok(())
 }
 
+// The number of the third sync of the long-term medium after the Start, among all calls of a recording.
+fn third_sync(alloc: Global, contents: &[Vec<u8>], feed: &[u8]) -> Result<u64, AllocError>
+    requires { length contents.now ≡ 2 }
+{
+    const THIRD: u64 = UNTIL_START + EACH_BATCH + 5;
+    let (_, _, stopped) = recorded(alloc, contents, feed, &[], Some(THIRD))?;
+    Ok(stopped.made().total().saturating_sub(1))
+}
+
 #[test]
 fn a_fault_of_a_sync_is_told_and_leaves_a_front(rt: HostRuntime) -> Result<(), Fail> {
-    // The third sync of the long-term medium after the Start.
-    const THIRD: u64 = UNTIL_START + EACH_BATCH + 5;
     let alloc = rt.alloc();
     let contents = formatted_bench(alloc)?;
+    let contents = contents.as_slice();
     let feed = feed_of(alloc, FOUR)?;
-    let (_, _, stopped) = recorded(
-        alloc,
-        contents.as_slice(),
-        feed.as_slice(),
-        &[],
-        Some(THIRD),
-    )?;
-    let number = stopped.made().total().saturating_sub(1);
-    let (status, printed, media) = recorded(
-        alloc,
-        contents.as_slice(),
-        feed.as_slice(),
-        &[number],
-        None,
-    )?;
+    let feed = feed.as_slice();
+    let number = third_sync(alloc, contents, feed)?;
+    let (status, printed, media) = recorded(alloc, contents, feed, &[number], None)?;
     assert!(rt; status == Status::MediaFault);
     assert!(rt; printed.as_slice() == b"status 5 media\n".as_slice());
     let printed = played(&rt, alloc, "capsule", contents_of(alloc, &media)?)?;

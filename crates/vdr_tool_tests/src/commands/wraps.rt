@@ -85,6 +85,39 @@ fn assert_opened_again(
     Ok(())
 }
 
+// What a recording of the feed leaves that stops after so many writes and syncs.
+fn stopped(
+    alloc: Global,
+    contents: &[Vec<u8>],
+    feed: &[u8],
+    stop: u64,
+) -> Result<MemoryMedia, AllocError>
+    requires { length contents.now ≡ 2 }
+{
+    let (_, _, media) = recorded(alloc, contents, feed, &[], Some(stop))?;
+    Ok(media)
+}
+
+// The batch is in both windows, whatever stops an opening.
+fn assert_batch_in_windows(
+    rt: &impl Abort,
+    alloc: Global,
+    media: &MemoryMedia,
+) -> Result<(), Fail> {
+    let image = media.image(&[], &Torn::New)?;
+    let image = image.as_slice();
+    assert!(rt; image.len() == 2);
+    let expected = windows(rt, alloc, image)?;
+    for window in &expected {
+        let text = str::from_utf8(window.as_slice())?;
+        assert!(rt; text.contains("\n976 NAVD 975 2024-01-01T00:06:30.000Z data 44 "));
+    }
+    for stop in 0..=OPENING + 1 {
+        assert_opened_again(rt, alloc, image, stop, &expected)?;
+    }
+    Ok(())
+}
+
 #[test]
 fn a_stop_leaves_the_windows_as_slots_are_written_again(rt: HostRuntime) -> Result<(), Fail> {
     let alloc = rt.alloc();
@@ -92,25 +125,11 @@ fn a_stop_leaves_the_windows_as_slots_are_written_again(rt: HostRuntime) -> Resu
     let contents = contents.as_slice();
     let feed = generated(alloc, 5_000)?;
     let feed = feed.as_slice();
-    let (_, _, media) = recorded(alloc, contents, feed, &[], Some(8_000))?;
-    let victim = first_victim(media.calls());
+    let victim = first_victim(stopped(alloc, contents, feed, 8_000)?.calls());
     // The slot is closed, and its close is not synced.
-    let stop = Some(victim.saturating_add(1));
-    let (_, _, media) = recorded(alloc, contents, feed, &[], stop)?;
+    let media = stopped(alloc, contents, feed, victim.saturating_add(1))?;
     assert_window_before(&rt, alloc, &media)?;
     // The capsule has the batch, and the long-term medium lacks it: the slot was closed and begun, and the batch written.
-    let stop = Some(victim.saturating_add(10));
-    let (_, _, media) = recorded(alloc, contents, feed, &[], stop)?;
-    let image = media.image(&[], &Torn::New)?;
-    let image = image.as_slice();
-    assert!(rt; image.len() == 2);
-    let expected = windows(&rt, alloc, image)?;
-    for window in &expected {
-        let text = str::from_utf8(window.as_slice())?;
-        assert!(rt; text.contains("\n976 NAVD 975 2024-01-01T00:06:30.000Z data 44 "));
-    }
-    for stop in 0..=OPENING + 1 {
-        assert_opened_again(&rt, alloc, image, stop, &expected)?;
-    }
-    Ok(())
+    let media = stopped(alloc, contents, feed, victim.saturating_add(10))?;
+    assert_batch_in_windows(&rt, alloc, &media)
 }
