@@ -66,6 +66,19 @@ fn lock(file: &File, access: Access) -> Result<(), Trouble> {
     }
 }
 
+/// What says that the file at a path may only be read, None where it may be written or is missing. It is opened, and not locked.
+pub(crate) fn protection_of<R: Files<File = File>>(rt: &R, path: &str) -> Option<Trouble> {
+    match OpenOptions::new().write(true).open(rt, path) {
+        Ok(_) => None,
+        Err(error) => match error.kind() {
+            ErrorKind::PermissionDenied | ErrorKind::ReadOnlyFilesystem => {
+                Some(Trouble::System(error))
+            }
+            _ => None,
+        },
+    }
+}
+
 // Whether the system keeps nothing of such a file to be synced, as on a file system that has no writes.
 fn has_nothing_to_sync(error: &io::Error) -> bool {
     matches!(
@@ -141,10 +154,10 @@ impl FileMedium {
         self.place = Place::Shut;
     }
 
-    /// The same medium, with what stood in the way as it was to be opened for writing.
-    pub(crate) fn after(self, first: FileMedium) -> FileMedium {
+    /// The same medium, with what stands in the way of writing to it.
+    pub(crate) fn protected_by(self, protection: Option<Trouble>) -> FileMedium {
         FileMedium {
-            trouble: self.trouble.or(first.trouble),
+            trouble: self.trouble.or(protection),
             ..self
         }
     }
@@ -157,17 +170,6 @@ impl FileMedium {
     /// Whether there is a file, and it can't be opened.
     pub(crate) fn is_shut(&self) -> bool {
         matches!(self.place, Place::Shut)
-    }
-
-    /// Whether the file could not be opened since it may not be written.
-    pub(crate) fn is_write_protected(&self) -> bool {
-        match &self.trouble {
-            Some(Trouble::System(error)) => matches!(
-                error.kind(),
-                ErrorKind::PermissionDenied | ErrorKind::ReadOnlyFilesystem
-            ),
-            Some(Trouble::InUse) | None => false,
-        }
     }
 
     /// What stood in the way as it was opened, or at the last call that failed.

@@ -2,7 +2,7 @@ ghost use Rattle.std.specs.Prelude.{[], ◌∷◌};
 ghost use Rattle.vdr_outside.specs.Untold.{sizes_alone};
 
 use crate::Trouble;
-use crate::file::{Access, FileMedium};
+use crate::file::{Access, FileMedium, protection_of};
 use std::alloc::AllocError;
 use std::fs;
 use std::fs::{File, Files};
@@ -90,18 +90,21 @@ impl FileMedia {
     }
 }
 
-// The media over the files at these paths.
+// The media over the files at these paths. Where one of them may only be read, both are opened to be read.
 fn open_both<R: Files<File = File>>(
     rt: &R,
     capsule: &str,
     long_term: &str,
 ) -> (FileMedium, FileMedium) {
-    let first = open_pair(rt, capsule, long_term, Access::Full);
-    if !first.0.is_write_protected() && !first.1.is_write_protected() {
-        return first;
+    let protections = (protection_of(rt, capsule), protection_of(rt, long_term));
+    if protections.0.is_none() && protections.1.is_none() {
+        return open_pair(rt, capsule, long_term, Access::Full);
     }
-    let second = open_pair(rt, capsule, long_term, Access::Reading);
-    (second.0.after(first.0), second.1.after(first.1))
+    let opened = open_pair(rt, capsule, long_term, Access::Reading);
+    (
+        opened.0.protected_by(protections.0),
+        opened.1.protected_by(protections.1),
+    )
 }
 
 // The media as they are opened with this access. The capsule's lock is taken first, and where it can't be had the long-term

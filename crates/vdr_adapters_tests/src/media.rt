@@ -116,11 +116,9 @@ fn one_file_under_two_names_is_refused(rt: HostRuntime) -> Result<(), Fail> {
 #[test]
 fn what_may_only_be_read_is_read(rt: HostRuntime) -> Result<(), Fail> {
     folder(&rt, "evidence")?;
-    for path in ["evidence/capsule.vdr", "evidence/longterm.vdr"] {
-        let mut permissions = fs::metadata(&rt, path)?.permissions();
-        permissions.set_readonly(true);
-        fs::set_permissions(&rt, path, permissions)?;
-    }
+    let mut permissions = fs::metadata(&rt, "evidence/longterm.vdr")?.permissions();
+    permissions.set_readonly(true);
+    fs::set_permissions(&rt, "evidence/longterm.vdr", permissions)?;
     // Whoever may do everything may write it nonetheless.
     let may_write = OpenOptions::new()
         .write(true)
@@ -133,7 +131,7 @@ fn what_may_only_be_read_is_read(rt: HostRuntime) -> Result<(), Fail> {
     let words = if may_write {
         ""
     } else {
-        "capsule.vdr: Permission denied"
+        "longterm.vdr: Permission denied"
     };
     tells(&rt, &media, words)?;
     // Two may read at once.
