@@ -3,7 +3,7 @@
 
 use std::env;
 use std::process::ExitCode;
-use vdr_program::command_line;
+use vdr_program::{command_line, udp_lanes};
 use vdr_tool::Status;
 
 fn main(rt: HostRuntime) -> ExitCode {
@@ -16,6 +16,9 @@ fn main(rt: HostRuntime) -> ExitCode {
             }
         }
     }
-    let status = command_line(&rt, words.as_slice(), rt.stdin());
+    let Ok(mut lanes) = udp_lanes(&rt, rt.alloc()) else {
+        return ExitCode::from(Status::NoMemory.code());
+    };
+    let status = command_line(&rt, words.as_slice(), rt.stdin(), lanes.as_mut_slice());
     ExitCode::from(status.code())
 }

@@ -37,6 +37,12 @@ Commands:
             and then the number of records of the run. A feed that is refused, or can't
             be read further, is recorded up to there, and the run is closed; so it is at the
             first item of a group that is not configured.
+  record TURNS
+            Records what comes to the UDP ports of the configured groups, 60001 and up, as one
+            run: by the rates of the configuration, and with its gaps marked. Each port is asked
+            TURNS times at most (1 to 1,000,000,000,000), and waits up to 50 milliseconds each
+            time, so that 72000 is an hour or less. Prints what `replay` prints. A port that
+            fails is told at the end, and the others go on.
   play MEDIUM CHANNEL FROM TO
             Prints what stands on the media, as `review` does, with the Start and Stop of
             each run. MEDIUM is `capsule` or `longterm`, of which the window is printed,
@@ -105,6 +111,8 @@ Exit status, with the line that ends the output:
   5   `status 5 media`: a medium is in use by another process, may not be opened or
       written, or could not be read, written or synced; what was recorded before stays.
       `play` and `incidents` need no leave to write
+  6   `status 6 port GROUP`: the UDP port of this group could not be bound or read, the least
+      group where several could not; the run is closed, and its summary stands above
   7   `status 7 input`: the input could not be read
   8   the output could not be written
   9   `status 9 memory`: there was not enough memory

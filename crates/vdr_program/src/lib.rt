@@ -1,17 +1,26 @@
 //! The program's command line: its words are judged, the objects of the outside are made for them, and what went wrong is told.
 #![tactic(auto)]
 
+ghost use Rattle.std.specs.Prelude.{◌≡◌, ◌<◌, ℕ, length, slice_index_or};
+
 mod explaining;
 mod help;
+mod lanes;
 
 use explaining::explain;
 use help::{HELP, VERSION};
+pub use lanes::udp_lanes;
 use std::alloc::AllocError;
 use std::fs::{File, Files};
 use std::io;
 use std::io::{BufReader, Read};
+use std::sync::Wait;
+use std::thread::Threads;
 use vdr_adapters::{FileMedia, StandardStreams, StdIn, StdOut};
-use vdr_tool::{Status, World, run, uses_media};
+use vdr_capture::Lane;
+use vdr_live::{run, uses_media};
+use vdr_outside::Port;
+use vdr_tool::{Status, World};
 
 /// How many bytes the input is read ahead.
 const READ_AHEAD: usize = 65_536;
@@ -42,16 +51,20 @@ fn media_for<R: AllocGlobal + Files<File = File> + Eprint>(
     FileMedia::open(rt, folder)
 }
 
-/// Does what the words of the program ask for, over this input, the standard output and the media of the folder that the first
-/// word names, and tells how it ended.
+/// Does what the words of the program ask for, over this input, the standard output, the media of the folder that the first
+/// word names, and the ports of these lanes, and tells how it ended.
 ///
 /// `--help`, `-h` and `--version`, as the only word, print what the program says of itself. Where something went wrong, one line on the
-/// standard error says what, if that is known. Standard streams that are closed are filled before any medium is opened.
-pub fn command_line<R: AllocGlobal + Files<File = File> + Print + Eprint, I: Read + Drop>(
-    rt: &R,
-    words: &[String],
-    input: I,
-) -> Status {
+/// standard error says what, if that is known. Standard streams that are closed are filled before any medium is opened, and before any
+/// port is asked.
+pub fn command_line<
+    R: AllocGlobal + Files<File = File> + Print + Eprint + Threads + Wait + Sync,
+    I: Read + Drop,
+    P: Port + Send,
+>(rt: &R, words: &[String], input: I, lanes: &mut [Lane<P>]) -> Status
+    requires sixteen { length lanes.old ≡ 16 }
+    requires groups { (g : ℕ) (d : _) → g < 16 → (slice_index_or lanes.old g d).group ≡ g }
+{
     // Held to the end.
     let filled = StandardStreams::fill(rt);
     match words {
@@ -74,7 +87,7 @@ pub fn command_line<R: AllocGlobal + Files<File = File> + Print + Eprint, I: Rea
         output: StdOut::new(io::writer(rt)),
         media,
     };
-    let status = run(rt.alloc(), command, &mut world);
+    let status = run(rt, rt.alloc(), command, &mut world, lanes);
     explain(rt, status, &world);
     status
 }

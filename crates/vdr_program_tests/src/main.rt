@@ -2,9 +2,15 @@
 //! `stdout`.
 #![tactic(auto)]
 
+ghost use Rattle.std.specs.Prelude.{◌≡◌, ◌<◌, ℕ, length, slice_index_or};
+
 use std::fs::{File, Files, OpenFile};
+use std::sync::Wait;
+use std::thread::Threads;
 use std::{fs, io};
-use vdr_program::command_line;
+use vdr_capture::Lane;
+use vdr_outside::Port;
+use vdr_program::{command_line, udp_lanes};
 
 #[cfg(test)]
 mod tests;
@@ -37,18 +43,20 @@ fn make<R: Files>(rt: &R, path: &str, length: u64) -> io::Result<()> {
     fs::create(rt, path)?.set_len(length)
 }
 
-// Runs one command, and prints how it ended.
-fn ask<R: AllocGlobal + Files<File = File> + Print + Eprint>(
-    rt: &R,
-    text: &str,
-    input: &str,
-) -> io::Result<()> {
+// Runs one command over these ports, and prints how it ended.
+fn ask<
+    R: AllocGlobal + Files<File = File> + Print + Eprint + Threads + Wait + Sync,
+    P: Port + Send,
+>(rt: &R, lanes: &mut [Lane<P>], text: &str, input: &str) -> io::Result<()>
+    requires sixteen { length lanes.old ≡ 16 }
+    requires groups { (g : ℕ) (d : _) → g < 16 → (slice_index_or lanes.old g d).group ≡ g }
+{
     let mut words = Vec::new(rt.alloc());
     for word in text.split(' ') {
         words.push(word.to_string(rt.alloc())?)?;
     }
     println!(rt; "> {text}")?;
-    let status = command_line(rt, words.as_slice(), File::open(rt, input)?);
+    let status = command_line(rt, words.as_slice(), File::open(rt, input)?, lanes);
     let code = status.code();
     println!(rt; "< {code}")
 }
@@ -58,7 +66,8 @@ fn main(rt: HostRuntime) -> io::Result<()> {
     make(&rt, "media/capsule.vdr", 122_880)?;
     make(&rt, "media/longterm.vdr", 712_704)?;
     for (text, input) in COMMANDS {
-        ask(&rt, text, input)?;
+        let mut lanes = udp_lanes(&rt, rt.alloc())?;
+        ask(&rt, lanes.as_mut_slice(), text, input)?;
     }
     Ok(())
 }

@@ -1,6 +1,6 @@
 use std::io::Cursor;
 use std::test::Fail;
-use vdr_program::command_line;
+use vdr_program::{command_line, udp_lanes};
 use vdr_tool::Status;
 
 #[test]
@@ -12,7 +12,13 @@ fn the_program_tells_what_it_is(rt: HostRuntime) -> Result<(), Fail> {
         ("--halp", Status::Words),
     ] {
         let words = vec![in rt.alloc(); word.to_string(rt.alloc())?]?;
-        let status = command_line(&rt, words.as_slice(), Cursor::new(b""));
+        let mut lanes = udp_lanes(&rt, rt.alloc())?;
+        let status = command_line(
+            &rt,
+            words.as_slice(),
+            Cursor::new(b""),
+            lanes.as_mut_slice(),
+        );
         assert_eq!(rt; status.code(), wanted.code());
     }
     Ok(())

@@ -41,10 +41,10 @@ use Rattle.vdr_replay.proofs.Playing.{plays}
 -- What shows the first of some events, in other words
 
 module _ (shows others : List Event → Image → Type 0) (events : List Event) (to : (first rest : List Event) → events ≡ first ++ rest → (image : Image) → shows first image → others first image) where
-  prefix_told : (least : ℕ) (image : Image) → ShowsPrefix shows events least image → ShowsPrefix others events least image
+  pub prefix_told : (least : ℕ) (image : Image) → ShowsPrefix shows events least image → ShowsPrefix others events least image
   prefix_told least image p = record { first = p.first; rest = p.rest; split = p.split; enough = p.enough; shown = to p.first p.rest p.split image p.shown }
 
-  keeps_told : {tells tells_images : Type 0} (t0 : ℕ) (disk : Disk tells tells_images) → Keeps shows events t0 disk → Keeps others events t0 disk
+  pub keeps_told : {tells tells_images : Type 0} (t0 : ℕ) (disk : Disk tells tells_images) → Keeps shows events t0 disk → Keeps others events t0 disk
   keeps_told t0 disk h = record {
     rising = h.rising;
     pending = h.pending;
@@ -92,7 +92,7 @@ module _ (x : Contents) (sound : AreSound x) where
 -- The headline of a run
 
 module _ (x : Contents) (reads : configuration x.text ≡ Ok x.config) (events : List Event) (order : (m : ℕ) → Contains both m → AreInOrder (all_records (opening_of x) m events)) where
-  back : (first rest : List Event) → events ≡ first ++ rest → (image : Image) → ShowsHistory (opening_of x) first image → PlaysBack (opening_of x) first image
+  pub back : (first rest : List Event) → events ≡ first ++ rest → (image : Image) → ShowsHistory (opening_of x) first image → PlaysBack (opening_of x) first image
   back first rest split image h = plays x reads first (λ m there. front_in_order (opening_of x) m first rest events split (order m there)) image h
 
   pub headline : {tells tells_images : Type 0} (rose : Type 0) (t0 : ℕ) (before after : Disk tells tells_images) (feed : List FeedItem) (end : RunEnd)
@@ -115,14 +115,14 @@ module _ (x : Contents) (reads : configuration x.text ≡ Ok x.config) (events :
 
 -- Before the run
 
-no_event_history : (opening : Opening) → IsHistory opening []
+pub no_event_history : (opening : Opening) → IsHistory opening []
 no_event_history opening = record { follow = tt; pending = tt }
 
-no_event_whole : IsWhole []
+pub no_event_whole : IsWhole []
 no_event_whole = All-nil (λ (e : Event). e.moment ≢ None)
 
 module _ {tells tells_images : Type 0} (x : Contents) (bytes : List ℕ) (rose : Type 0) (reads : configuration x.text ≡ Ok x.config) (sound : AreSound x) where
-  kept_since : (synced : ℕ) (disk : Disk tells tells_images) → synced ≤ disk.clock → ((image : Image) → disk.since synced image → ShowsHistory (opening_of x) [] image) → Keeps (ShowsHistory (opening_of x)) [] synced disk
+  pub kept_since : (synced : ℕ) (disk : Disk tells tells_images) → synced ≤ disk.clock → ((image : Image) → disk.since synced image → ShowsHistory (opening_of x) [] image) → Keeps (ShowsHistory (opening_of x)) [] synced disk
   kept_since synced disk le shown = record {
     rising = omega arith;
     pending = tt;
@@ -130,7 +130,7 @@ module _ {tells tells_images : Type 0} (x : Contents) (bytes : List ℕ) (rose :
     now = λ whole image now. shown image (disk.counts_now synced image le now);
   }
 
-  passes_synced : (old new : Disk tells tells_images) → GoesOnSynced old new (ShowsHistory (opening_of x) []) → Passes (opening_of x) [] old new
+  pub passes_synced : (old new : Disk tells tells_images) → GoesOnSynced old new (ShowsHistory (opening_of x) []) → Passes (opening_of x) [] old new
   passes_synced old new goes = moments_weaken old new (λ image. old.now image ⊎ ShowsHistory (opening_of x) [] image) (λ image. old.now image ⊎ ShowsPrefix (ShowsHistory (opening_of x)) [] 0 image) goes.moments
       (λ image p. ⊎_elim (λ now. inl now) (λ shown. inr (record { first = []; rest = []; split = refl; enough = omega arith; shown = shown })) p)
 

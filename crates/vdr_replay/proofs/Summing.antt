@@ -12,7 +12,7 @@ use Rattle.vdr_core.specs.Replay.{rest_after, taken_of}
 use Rattle.vdr_core.specs.Summary.{CloseAddsUp}
 use Rattle.vdr_core.proofs.RunSums.{close_adds_up, feed_sums}
 use Rattle.vdr_core.proofs.Feeding.{counts_path, is_replay}
-use Rattle.vdr_replay.specs.declared.sums.GroupSums.{GroupSums}
+use Rattle.vdr_capture.specs.declared.sums.GroupSums.{GroupSums}
 use Rattle.vdr_replay.specs.Given.{tally_after}
 use Rattle.vdr_replay.specs.Summary.{sums_of}
 use Rattle.vdr_replay.proofs.Given.{no_rate, of_groups}

@@ -3,7 +3,7 @@ use Rattle.std.specs.Prelude.{◌≡◌, ◌<◌, ℕ, List, length, slice_index
 use Rattle.vdr_terms.specs.declared.rate.Rate.{Rate}
 use Rattle.vdr_terms.specs.Records.{Record, Item}
 use Rattle.vdr_history.specs.Sums.{missed_in, recorded_in}
-use Rattle.vdr_replay.specs.declared.sums.GroupSums.{GroupSums}
+use Rattle.vdr_capture.specs.declared.sums.GroupSums.{GroupSums}
 
 -- What a group's port gave, what of it is recorded, and what the Gaps say was missed.
 abbrev pub sums_of : (g : ℕ) → List Item → List Record → GroupSums

@@ -1,6 +1,6 @@
 // How recording a feed ends.
-use crate::GroupSums;
 use std::alloc::AllocError;
+use vdr_capture::GroupSums;
 use vdr_feed::FeedFault;
 use vdr_opening::OpenRefused;
 use vdr_outside::Fault;

@@ -10,4 +10,4 @@ mod sums;
 
 pub use ended::{FeedEnd, ReplayStop, Replayed};
 pub use replaying::replay;
-pub use sums::GroupSums;
+pub use vdr_capture::GroupSums;

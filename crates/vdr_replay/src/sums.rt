@@ -9,19 +9,9 @@ ghost use Rattle.vdr_replay.specs.Given.{CountsFeed, tally_after};
 ghost use Rattle.vdr_replay.specs.Summary.{AreSums, sums_of};
 
 use crate::lanes::Lanes;
+use vdr_capture::GroupSums;
 use vdr_gap::{Counts, Tally};
 use vdr_recorder::Recording;
-
-/// What a group's port gave in a run, and what became of it.
-#[derive(Clone, Copy, Debug, PartialEq, Eq, Drop)]
-pub struct GroupSums {
-    /// All items that the port gave.
-    pub taken: u64,
-    /// Those that are recorded.
-    pub recorded: u64,
-    /// The others, by what they were missed for.
-    pub counts: Counts,
-}
 
 // The sums of a group, of which a port gave what the tally counts.
 fn sums_of(recording: &Recording, tally: &Tally, group: u8) -> GroupSums

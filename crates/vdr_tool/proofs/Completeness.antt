@@ -14,7 +14,7 @@ use Rattle.vdr_tool.specs.Outside.{OutputSeen}
 use Rattle.vdr_tool.specs.Reviews.{IsReviewStatus, ReviewsAll}
 use Rattle.vdr_tool.specs.StatusLine.{IfFeed}
 use Rattle.vdr_tool.specs.declared.status.Status.{Status}
-use Rattle.vdr_tool.specs.declared.status.Status.TheVariants.{Done, Words, Config, Small, Unformatted, Formatted, Damaged, MediaFault, InputFault, OutputFault, NoMemory, Feed, NoChannel, NoIncident, SaveRefused, Place, Tick}
+use Rattle.vdr_tool.specs.declared.status.Status.TheVariants.{Done, Words, Config, Small, Unformatted, Formatted, Damaged, MediaFault, PortFault, LinkFault, InputFault, OutputFault, NoMemory, Feed, NoChannel, NoIncident, SaveRefused, Place, Tick}
 use Rattle.vdr_tool.proofs.FormatLemmas.{same_refusal}
 
 pub completes : (left : Option (List ℕ)) (status : Status) → IsReviewStatus status → NoFeedIsRefused → OneRefusal
@@ -35,6 +35,8 @@ completes (Some bytes) (Damaged m offset) own none one input output done feed = 
 completes (Some bytes) NoChannel own none one input output done feed = absurd own
 completes (Some bytes) (NoIncident id) own none one input output done feed = absurd own
 completes (Some bytes) Place own none one input output done feed = absurd own
+completes (Some bytes) (PortFault group) own none one input output done feed = absurd own
+completes (Some bytes) (LinkFault link) own none one input output done feed = absurd own
 completes (Some bytes) (SaveRefused cause) own none one input output done feed = absurd own
 completes (Some bytes) Tick own none one input output done feed = absurd own
 completes (Some bytes) MediaFault own none one input output done feed = absurd own
@@ -65,6 +67,8 @@ checks_all (Some bytes) was next (Damaged m offset) own input output done config
 checks_all (Some bytes) was next NoChannel own input output done config = absurd own
 checks_all (Some bytes) was next (NoIncident id) own input output done config = absurd own
 checks_all (Some bytes) was next Place own input output done config = absurd own
+checks_all (Some bytes) was next (PortFault group) own input output done config = absurd own
+checks_all (Some bytes) was next (LinkFault link) own input output done config = absurd own
 checks_all (Some bytes) was next (SaveRefused cause) own input output done config = absurd own
 checks_all (Some bytes) was next Tick own input output done config = absurd own
 checks_all (Some bytes) was next MediaFault own input output done config = absurd own

@@ -20,7 +20,7 @@ use Rattle.vdr_tool.specs.Formats.{FormatEnds, FormatsAll, IfBad, IfConfiguratio
 use Rattle.vdr_tool.specs.Outside.{MediaFailed, MediaSeen, OutputSeen}
 use Rattle.vdr_tool.specs.StatusLine.{IfConfig}
 use Rattle.vdr_tool.specs.declared.status.Status.{Status}
-use Rattle.vdr_tool.specs.declared.status.Status.TheVariants.{Done, Words, Config, Small, Unformatted, Formatted, Damaged, MediaFault, InputFault, OutputFault, NoMemory, Feed, NoChannel, NoIncident, SaveRefused, Place, Tick}
+use Rattle.vdr_tool.specs.declared.status.Status.TheVariants.{Done, Words, Config, Small, Unformatted, Formatted, Damaged, MediaFault, PortFault, LinkFault, InputFault, OutputFault, NoMemory, Feed, NoChannel, NoIncident, SaveRefused, Place, Tick}
 
 -- The configuration that a text is.
 pub read_as : (r : Result Configuration ConfigBad) → IsOk r → (c : Configuration) × (r ≡ Ok c)
@@ -254,6 +254,8 @@ module _ {tells tells_images : Type 0} (again : Bool) (bytes : List ℕ) (old ne
   formats_all was next NoChannel input media answers config = absurd answers.own
   formats_all was next (NoIncident id) input media answers config = absurd answers.own
   formats_all was next Place input media answers config = absurd answers.own
+  formats_all was next (PortFault group) input media answers config = absurd answers.own
+  formats_all was next (LinkFault link) input media answers config = absurd answers.own
   formats_all was next (SaveRefused cause) input media answers config = absurd answers.own
   formats_all was next Tick input media answers config = absurd answers.own
   formats_all was next Formatted input media answers config =

@@ -30,7 +30,7 @@ use Rattle.vdr_tool.specs.Replays.{ReplayEnds}
 use Rattle.vdr_tool.specs.Runs.{page}
 use Rattle.vdr_tool.specs.Saves.{SavesAs}
 use Rattle.vdr_tool.specs.declared.status.Status.{Status}
-use Rattle.vdr_tool.specs.declared.status.Status.TheVariants.{Done, Words, Config, Small, Unformatted, Formatted, Damaged, MediaFault, InputFault, OutputFault, NoMemory, Feed, NoChannel, NoIncident, SaveRefused, Place, Tick}
+use Rattle.vdr_tool.specs.declared.status.Status.TheVariants.{Done, Words, Config, Small, Unformatted, Formatted, Damaged, MediaFault, PortFault, LinkFault, InputFault, OutputFault, NoMemory, Feed, NoChannel, NoIncident, SaveRefused, Place, Tick}
 
 -- Events that record nothing
 
@@ -66,6 +66,8 @@ module _ (Does : Act → Type 0) (quiet : (act : Act) → Does act → records_o
   acts_quiet clock (NoIncident id) events looks = looks_quiet events looks
   acts_quiet clock (SaveRefused cause) events looks = looks_quiet events looks
   acts_quiet clock Place events looks = looks_quiet events looks
+  acts_quiet clock (PortFault group) events looks = looks_quiet events looks
+  acts_quiet clock (LinkFault link) events looks = looks_quiet events looks
   acts_quiet clock Tick events looks = looks_quiet events looks
 
 save_quiet : (label : List ℕ) (act : Act) → SavesAs label act → records_of_act act ≡ []
@@ -85,14 +87,14 @@ played_so x events image p = (both, reading_of p.contents, record { reads = reco
 
 module _ {tells tells_images : Type 0} (c : Configuration) (text : List ℕ) (all : List Event) (image : Image) where
   -- One run over what such media hold.
-  run_life : (old new : Disk tells tells_images) (l : LifeHolds c text image) (events : List Event) → RestAs image old → Life c text all image → IsRun l.contents events
+  pub run_life : (old new : Disk tells tells_images) (l : LifeHolds c text image) (events : List Event) → RestAs image old → Life c text all image → IsRun l.contents events
       → ((i : Image) → new.since old.clock i → old.now i ⊎ ShowsPrefix (PlaysBack (opening_of l.contents)) events 0 i) → LivesOn c text all old new
   run_life old new l events rest life run left = lives_on c text all image old new rest life l.contents events l.holds run (λ i since. ⊎_elim (λ now. inl now)
       (λ (p : ShowsPrefix (PlaysBack (opening_of l.contents)) events 0 i). inr (record { first = p.first; rest = p.rest; split = p.split; enough = p.enough; shown = played_so l.contents p.first i p.shown }))
       (left i since))
 
   -- Of media that were opened.
-  media_life : {Can : Contents → Type 0} {Met : Type 0} {MayBe : List Event → Type 0} (old new : MediaSeen tells tells_images) (status : Status) → MediaEnds Can Met MayBe old new status → IsQuiet MayBe
+  pub media_life : {Can : Contents → Type 0} {Met : Type 0} {MayBe : List Event → Type 0} (old new : MediaSeen tells tells_images) (status : Status) → MediaEnds Can Met MayBe old new status → IsQuiet MayBe
       → tells → RestAs image old.disk → Life c text all image → LivesOn c text all old.disk new.disk
   media_life {MayBe = MayBe} old new status h quiet told rest life = by (h.kept l.contents told (subst (λ (i : Image). HoldsContents i l.contents) (sym rest.reads) l.holds) l.meet l.sound)
     where

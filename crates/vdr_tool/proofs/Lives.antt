@@ -21,7 +21,7 @@ use Rattle.vdr_tool.specs.Runs.{page}
 use Rattle.vdr_tool.specs.declared.status.Status.{Status}
 use Rattle.vdr_tool.specs.declared.status.Status.TheVariants.{Done, MediaFault}
 
-played_ours : (x : Contents) (events : List Event) (image : Image) → PlaysBack (opening_of x) events image → IsOurs image
+pub played_ours : (x : Contents) (events : List Event) (image : Image) → PlaysBack (opening_of x) events image → IsOurs image
 played_ours x events image p = inr (p.contents, p.legible, p.shown.media.ends, p.sound)
 
 module _ {tells tells_images : Type 0} where

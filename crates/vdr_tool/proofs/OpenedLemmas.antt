@@ -25,7 +25,7 @@ use Rattle.vdr_tool.specs.Endings.{IsWorkDone}
 use Rattle.vdr_tool.specs.Opened.{AreLooks, IsLegibleWith, IsUnopened, KeepsContents, MayLeave, MediaEnds, WasRecorded, newest_of, status_of_opening}
 use Rattle.vdr_tool.specs.Outside.{MediaSeen}
 use Rattle.vdr_tool.specs.declared.status.Status.{Status}
-use Rattle.vdr_tool.specs.declared.status.Status.TheVariants.{Done, Words, Config, Small, Unformatted, Formatted, Damaged, MediaFault, InputFault, OutputFault, NoMemory, Feed, NoChannel, NoIncident, SaveRefused, Place, Tick}
+use Rattle.vdr_tool.specs.declared.status.Status.TheVariants.{Done, Words, Config, Small, Unformatted, Formatted, Damaged, MediaFault, PortFault, LinkFault, InputFault, OutputFault, NoMemory, Feed, NoChannel, NoIncident, SaveRefused, Place, Tick}
 use Rattle.vdr_replay.proofs.Playing.{config_read}
 use Rattle.vdr_tool.proofs.PlayedBack.{keeps_played, prefix_played}
 
@@ -63,6 +63,8 @@ done_either NoChannel is = absurd is
 done_either (NoIncident id) is = absurd is
 done_either (SaveRefused cause) is = absurd is
 done_either Place is = absurd is
+done_either (PortFault group) is = absurd is
+done_either (LinkFault link) is = absurd is
 done_either Tick is = absurd is
 
 module _ {tells tells_images : Type 0} where

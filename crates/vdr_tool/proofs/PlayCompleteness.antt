@@ -10,7 +10,7 @@ use Rattle.vdr_tool.specs.Outside.{MediaSeen}
 use Rattle.vdr_tool.specs.Opened.{OneAnswer}
 use Rattle.vdr_tool.specs.Plays.{IsPlayStatus, LacksChannel, LacksIncident, PlayEnds, PlaysAll}
 use Rattle.vdr_tool.specs.declared.status.Status.{Status}
-use Rattle.vdr_tool.specs.declared.status.Status.TheVariants.{Done, Words, Config, Small, Unformatted, Formatted, Damaged, MediaFault, InputFault, OutputFault, NoMemory, Feed, NoChannel, NoIncident, SaveRefused, Place, Tick}
+use Rattle.vdr_tool.specs.declared.status.Status.TheVariants.{Done, Words, Config, Small, Unformatted, Formatted, Damaged, MediaFault, PortFault, LinkFault, InputFault, OutputFault, NoMemory, Feed, NoChannel, NoIncident, SaveRefused, Place, Tick}
 use Rattle.vdr_tool.proofs.OpenedCompleteness.{damaged_refused, legible_refused, memory_refused, unformatted_refused}
 
 not_live : (table : List (Option histories.Incident)) (medium : Medium) (id : ℕ) → medium ≡ Incident id → live table id ≡ None → LacksIncident table medium
@@ -92,5 +92,7 @@ module _ {tells tells_images : Type 0} (medium : Medium) (name : List ℕ) (old 
   plays_all InputFault output media own ends = absurd own
   plays_all (Feed n at) output media own ends = absurd own
   plays_all Place output media own ends = absurd own
+  plays_all (PortFault group) output media own ends = absurd own
+  plays_all (LinkFault link) output media own ends = absurd own
   plays_all (SaveRefused cause) output media own ends = absurd own
   plays_all Tick output media own ends = absurd own

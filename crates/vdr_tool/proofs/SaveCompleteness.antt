@@ -15,7 +15,7 @@ use Rattle.vdr_tool.specs.Releases.{CanRelease, IsReleaseStatus, ReleasesAll}
 use Rattle.vdr_tool.specs.Saves.{CanSave, IfSaveRefused, IsJudged, IsSaveStatus, SavesAll, save_cause}
 use Rattle.vdr_tool.specs.declared.status.SaveCause.{SaveCause}
 use Rattle.vdr_tool.specs.declared.status.Status.{Status}
-use Rattle.vdr_tool.specs.declared.status.Status.TheVariants.{Done, Words, Config, Small, Unformatted, Formatted, Damaged, MediaFault, InputFault, OutputFault, NoMemory, Feed, NoChannel, NoIncident, SaveRefused, Place, Tick}
+use Rattle.vdr_tool.specs.declared.status.Status.TheVariants.{Done, Words, Config, Small, Unformatted, Formatted, Damaged, MediaFault, PortFault, LinkFault, InputFault, OutputFault, NoMemory, Feed, NoChannel, NoIncident, SaveRefused, Place, Tick}
 use Rattle.vdr_tool.proofs.OpenedCompleteness.{damaged_refused, legible_refused, memory_refused, unformatted_refused}
 
 -- The last record of what the image holds is one.
@@ -56,6 +56,8 @@ module _ {tells tells_images : Type 0} (old new : MediaSeen tells tells_images) 
   lists_all (Feed n at) output media own ends = absurd own
   lists_all NoChannel output media own ends = absurd own
   lists_all Place output media own ends = absurd own
+  lists_all (PortFault group) output media own ends = absurd own
+  lists_all (LinkFault link) output media own ends = absurd own
   lists_all Tick output media own ends = absurd own
   lists_all (NoIncident id) output media own ends = absurd own
   lists_all (SaveRefused cause) output media own ends = absurd own
@@ -121,6 +123,8 @@ module _ {tells tells_images : Type 0} (old new : MediaSeen tells tells_images) 
   saves_all label (Feed n at) output media own ends refused = absurd own
   saves_all label NoChannel output media own ends refused = absurd own
   saves_all label Place output media own ends refused = absurd own
+  saves_all label (PortFault group) output media own ends refused = absurd own
+  saves_all label (LinkFault link) output media own ends refused = absurd own
   saves_all label Tick output media own ends refused = absurd own
   saves_all label (NoIncident id) output media own ends refused = absurd own
 
@@ -169,5 +173,7 @@ module _ {tells tells_images : Type 0} (old new : MediaSeen tells tells_images) 
   releases_all id (Feed n at) media own ends missing = absurd own
   releases_all id NoChannel media own ends missing = absurd own
   releases_all id Place media own ends missing = absurd own
+  releases_all id (PortFault group) media own ends missing = absurd own
+  releases_all id (LinkFault link) media own ends missing = absurd own
   releases_all id Tick media own ends missing = absurd own
   releases_all id (SaveRefused cause) media own ends missing = absurd own

@@ -1,6 +1,7 @@
 -- How a status is told (this project's profile).
 use Rattle.std.specs.Prelude.{◌⊎◌, ◌==◌, ◌≤◌, if◌then◌else◌, ℕ, List, [], ◌++◌, codes, decimal, Option, ⊤}
 use Rattle.std.specs.Io.KnownBytes.{Appends}
+use Rattle.vdr_terms.specs.Groups.{group_name}
 use Rattle.vdr_entry.specs.Escape.{escaped}
 use Rattle.vdr_outside.specs.Causes.{Rose}
 use Rattle.vdr_outside.specs.Writes.{AppendsFront}
@@ -8,7 +9,7 @@ use Rattle.vdr_tool.specs.declared.status.SaveCause.{SaveCause}
 use Rattle.vdr_tool.specs.declared.status.SaveCause.TheVariants.{Label, Nothing, TableFull}
 use Rattle.vdr_tool.specs.declared.status.Status.{Status}
 use Rattle.vdr_config.specs.declared.media.TooSmall.{TooSmall}
-use Rattle.vdr_tool.specs.declared.status.Status.TheVariants.{Done, Words, Config, Small, Unformatted, Formatted, Damaged, MediaFault, InputFault, OutputFault, NoMemory, Feed, NoChannel, NoIncident, SaveRefused, Place, Tick}
+use Rattle.vdr_tool.specs.declared.status.Status.TheVariants.{Done, Words, Config, Small, Unformatted, Formatted, Damaged, MediaFault, PortFault, LinkFault, InputFault, OutputFault, NoMemory, Feed, NoChannel, NoIncident, SaveRefused, Place, Tick}
 
 -- The program's exit status.
 abbrev pub code_of : Status → ℕ
@@ -20,6 +21,8 @@ code_of Unformatted = 4
 code_of Formatted = 4
 code_of (Damaged medium offset) = 4
 code_of MediaFault = 5
+code_of (PortFault group) = 6
+code_of (LinkFault link) = 6
 code_of InputFault = 7
 code_of OutputFault = 8
 code_of NoMemory = 9
@@ -39,6 +42,13 @@ small_line t = codes "status 3 small " ++ medium_name t.medium ++ codes " need "
 
 abbrev pub damaged_line : (medium offset : ℕ) → List ℕ
 damaged_line medium offset = codes "status 4 damaged " ++ decimal medium ++ codes " " ++ decimal offset ++ codes "\n"
+
+-- The line of a transmission group whose port failed, by its name.
+abbrev pub port_line : (group : ℕ) → List ℕ
+port_line group = codes "status 6 port " ++ group_name group ++ codes "\n"
+
+abbrev pub link_line : (link : ℕ) → List ℕ
+link_line link = codes "status 6 link " ++ decimal link ++ codes "\n"
 
 abbrev pub feed_line : (number offset : ℕ) → List ℕ
 feed_line number offset = codes "status 10 feed " ++ decimal number ++ codes " at " ++ decimal offset ++ codes "\n"
@@ -72,6 +82,8 @@ status_line Unformatted = codes "status 4 unformatted\n"
 status_line Formatted = codes "status 4 formatted\n"
 status_line (Damaged medium offset) = damaged_line medium offset
 status_line MediaFault = codes "status 5 media\n"
+status_line (PortFault group) = port_line group
+status_line (LinkFault link) = link_line link
 status_line InputFault = codes "status 7 input\n"
 status_line NoMemory = codes "status 9 memory\n"
 status_line (Feed number offset) = feed_line number offset

@@ -1,7 +1,7 @@
 -- What `replay` prints of a run that was closed (this project's profile).
 use Rattle.std.specs.Prelude.{ℕ, zero, suc, List, [], ◌++◌, codes, decimal, slice_index_or, Option, Some, None}
 use Rattle.vdr_terms.specs.Groups.{group_name}
-use Rattle.vdr_replay.specs.declared.sums.GroupSums.{GroupSums}
+use Rattle.vdr_capture.specs.declared.sums.GroupSums.{GroupSums}
 use Rattle.vdr_tool.specs.declared.summary.Summary.{Summary}
 
 -- A word and a number.
@@ -38,4 +38,4 @@ unfoldable pub summary_text : List (Option GroupSums) → (records : ℕ) → Li
 summary_text groups records = lines_below 16 groups ++ records_line records
 
 abbrev pub text_of : Summary → List ℕ
-text_of summary = summary_text summary.run.groups summary.run.records
+text_of summary = summary_text summary.groups summary.records

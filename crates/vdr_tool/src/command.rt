@@ -88,7 +88,7 @@ fn answer<I: Source + Drop, O: Sink + Drop, M: Media + Drop>(
     }
 }
 
-/// Does what the words ask for, and tells how it ended.
+/// Does what the words ask for, of all that waits for nobody, and tells how it ended.
 ///
 /// - `review` reads a feed from the input to its end and prints the Datagram and Gap records of the last 172,800 seconds
 ///   of its recording, which has no channels.
@@ -112,7 +112,7 @@ fn answer<I: Source + Drop, O: Sink + Drop, M: Media + Drop>(
 ///
 /// For each status but `Done` and `OutputFault` the output ends with a status line. It has nothing else, but where a run was closed by
 /// `replay` as the feed was refused or could not be read further: then the summary stands before it.
-pub fn run<I: Source + Drop, O: Sink + Drop, M: Media + Drop>(
+pub fn run_alone<I: Source + Drop, O: Sink + Drop, M: Media + Drop>(
     alloc: Global,
     words: &[String],
     world: &mut World<I, O, M>,

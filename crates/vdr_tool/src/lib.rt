@@ -18,6 +18,9 @@ mod summary;
 mod using;
 mod words;
 
-pub use command::{Outer, World, run};
+pub use command::{Outer, World, run_alone};
+pub use opening::law_of_openings;
+pub use reports::report;
 pub use status::{SaveCause, Status};
+pub use summary::Summary;
 pub use using::uses_media;

@@ -5,7 +5,7 @@ ghost use Rattle.vdr_tool.specs.Opened.{OneAnswer};
 use vdr_opening::{law_of_contents, law_of_refusals};
 
 /// What media hold, and how they are refused, has one answer.
-pub(crate) fn law_of_openings()
+pub fn law_of_openings()
     ensures { (image : Image) → OneAnswer image }
 {
     law_of_contents();

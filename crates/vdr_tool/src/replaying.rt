@@ -19,8 +19,13 @@ fn print_run<O: Sink>(run: Replayed, output: &mut O) -> Result<(), Status>
         (record { taken = O.taken output.new; faults = O.faults output.new }) }
     ensures later { O.faults output.old ≤ O.faults output.new }
 {
-    let printed = print_buffered(&Summary { run }, output);
-    match run.end {
+    let Replayed {
+        groups,
+        records,
+        end,
+    } = run;
+    let printed = print_buffered(&Summary { groups, records }, output);
+    match end {
         FeedEnd::Whole => match printed {
             Ok(()) => Ok(()),
             Err(_) => Err(Status::OutputFault),

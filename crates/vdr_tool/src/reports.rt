@@ -1,13 +1,15 @@
 ghost use Rattle.std.specs.Prelude.{◌≡◌, ◌≤◌, ◌+◌, ◌++◌, length};
 ghost use Rattle.arrayvec.specs.ArrayVec.{array_vec_len};
+ghost use Rattle.vdr_terms.specs.Groups.{group_name};
 ghost use Rattle.vdr_tool.specs.Endings.{WritesLine};
-ghost use Rattle.vdr_tool.specs.StatusLine.{damaged_line, feed_line, incident_line, medium_name, save_line, small_line, status_line};
+ghost use Rattle.vdr_tool.specs.StatusLine.{damaged_line, feed_line, incident_line, link_line, medium_name, port_line, save_line, small_line, status_line};
 
 use crate::{SaveCause, Status};
 use arrayvec::ArrayVec;
 use itoa::Buffer;
 use vdr_config::TooSmall;
 use vdr_outside::{Sink, write_all};
+use vdr_terms::group_name;
 
 /// Room for the longest text that is written in one piece.
 pub(crate) const ROOM: usize = 200;
@@ -51,6 +53,37 @@ fn push_damaged(line: &mut ArrayVec<u8, ROOM>, medium: u8, offset: u64)
     push_text(line, Buffer::new().format(medium).as_bytes());
     push_text(line, b" ");
     push_text(line, Buffer::new().format(offset).as_bytes());
+    push_text(line, b"\n");
+}
+
+/// The name of a group; a number that is none of a group has none.
+pub(crate) fn name_of(group: u8) -> &'static [u8]
+    ensures name { result.now ≡ group_name group }
+    ensures short { length result.now ≤ 4 }
+{
+    if group > 15 {
+        return b"";
+    }
+    group_name(group).as_bytes()
+}
+
+// Whose port failed.
+fn push_port(line: &mut ArrayVec<u8, ROOM>, group: u8)
+    requires { array_vec_len line.old ≡ 0 }
+    ensures { line.new.items ≡ line.old.items ++ port_line group }
+{
+    push_text(line, b"status 6 port ");
+    push_text(line, name_of(group));
+    push_text(line, b"\n");
+}
+
+// Which link failed.
+fn push_link(line: &mut ArrayVec<u8, ROOM>, link: u32)
+    requires { array_vec_len line.old ≡ 0 }
+    ensures { line.new.items ≡ line.old.items ++ link_line link }
+{
+    push_text(line, b"status 6 link ");
+    push_text(line, Buffer::new().format(link).as_bytes());
     push_text(line, b"\n");
 }
 
@@ -103,6 +136,8 @@ fn line_of(status: Status) -> ArrayVec<u8, ROOM>
         Status::Formatted => push_text(&mut line, b"status 4 formatted\n"),
         Status::Damaged { medium, offset } => push_damaged(&mut line, medium, offset),
         Status::MediaFault => push_text(&mut line, b"status 5 media\n"),
+        Status::PortFault(group) => push_port(&mut line, group),
+        Status::LinkFault(link) => push_link(&mut line, link),
         Status::InputFault => push_text(&mut line, b"status 7 input\n"),
         Status::NoMemory => push_text(&mut line, b"status 9 memory\n"),
         Status::Feed { number, offset } => push_feed(&mut line, number, offset),
@@ -115,7 +150,7 @@ fn line_of(status: Status) -> ArrayVec<u8, ROOM>
 }
 
 /// Writes the line of a status, if it has one.
-pub(crate) fn report<O: Sink>(status: Status, output: &mut O)
+pub fn report<O: Sink>(status: Status, output: &mut O)
     ensures line { WritesLine status (record { taken = O.taken output.old; faults = O.faults output.old }) (record { taken = O.taken output.new; faults = O.faults output.new }) }
     ensures later { O.faults output.old ≤ O.faults output.new }
 {

@@ -38,6 +38,10 @@ pub enum Status {
     Damaged { medium: u8, offset: u64 },
     /// The media failed.
     MediaFault,
+    /// The port of this transmission group failed, the least where several did.
+    PortFault(u8),
+    /// This link failed, counted from 0, the least where several did.
+    LinkFault(u32),
     /// The input failed.
     InputFault,
     /// The output failed.
@@ -71,6 +75,7 @@ impl Status {
             Status::Config { .. } | Status::Small(_) => 3,
             Status::Unformatted | Status::Formatted | Status::Damaged { .. } => 4,
             Status::MediaFault => 5,
+            Status::PortFault(_) | Status::LinkFault(_) => 6,
             Status::InputFault => 7,
             Status::OutputFault => 8,
             Status::NoMemory => 9,

@@ -2,30 +2,23 @@
 ghost use Rattle.std.specs.Prelude.{◌≡◌, ◌≤◌, ◌+◌, ◌++◌, codes, length, OnOk};
 ghost use Rattle.std.specs.Io.KnownBytes.{Appends};
 ghost use Rattle.arrayvec.specs.ArrayVec.{array_vec_len};
-ghost use Rattle.vdr_terms.specs.Groups.{group_name};
 ghost use Rattle.vdr_outside.specs.Causes.{HasCause};
 ghost use Rattle.vdr_outside.specs.Writes.{AppendsFront};
 ghost use Rattle.vdr_tool.specs.Summaries.{count_text, group_line, line_if, records_line};
 
-use crate::reports::{ROOM, push_text};
+use crate::reports::{ROOM, name_of, push_text};
 use arrayvec::ArrayVec;
 use itoa::Buffer;
 use vdr_outside::{Failed, Printable, Sink, write_all};
-use vdr_replay::{GroupSums, Replayed};
-use vdr_terms::group_name;
+use vdr_replay::GroupSums;
 
 /// What is printed of a run that was closed: a line for each configured group in their order, and the records of the run.
 #[derive(Clone, Copy, Drop)]
-pub(crate) struct Summary {
-    pub(crate) run: Replayed,
-}
-
-fn name_of(group: u8) -> &'static [u8]
-    requires { group ≤ 15 }
-    ensures name { result.now ≡ group_name group }
-    ensures short { length result.now ≤ 4 }
-{
-    group_name(group).as_bytes()
+pub struct Summary {
+    /// The sums of each configured group by its number, None for the others.
+    pub groups: [Option<GroupSums>; 16],
+    /// The records of the run, with its Start and its Stop.
+    pub records: u64,
 }
 
 // A word and a number.
@@ -39,7 +32,6 @@ fn push_count(line: &mut ArrayVec<u8, ROOM>, word: &[u8], count: u64)
 }
 
 fn line_of_group(group: u8, sums: &GroupSums) -> ArrayVec<u8, ROOM>
-    requires { group ≤ 15 }
     ensures { result.items ≡ group_line group sums.now }
 {
     let mut line = ArrayVec::new();
@@ -65,7 +57,6 @@ fn line_of_records(records: u64) -> ArrayVec<u8, ROOM>
 
 // The line of a group, if it is configured.
 fn print_group<O: Sink>(group: u8, sums: &Option<GroupSums>, out: &mut O) -> Result<(), Failed>
-    requires { group ≤ 15 }
     ensures all { OnOk result (Appends (O.taken out.old) (O.taken out.new) (line_if group sums.now)) }
     ensures front { AppendsFront (O.taken out.old) (O.taken out.new) (line_if group sums.now) }
     ensures cause { HasCause (O.faults out.old) (O.faults out.new) result }
@@ -83,8 +74,8 @@ impl Printable for Summary {
 
     fn print<O: Sink>(&self, out: &mut O) -> Result<(), Failed> {
         for group in 0..16 {
-            print_group(group, &self.run.groups[group as usize], out)?;
+            print_group(group, &self.groups[group as usize], out)?;
         }
-        write_all(out, line_of_records(self.run.records).as_slice())
+        write_all(out, line_of_records(self.records).as_slice())
     }
 }

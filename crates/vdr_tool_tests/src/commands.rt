@@ -16,7 +16,7 @@ use std::test::Fail;
 use vdr_feed::{Item, trial_item};
 use vdr_memory::{MemoryMedia, MemorySink, MemorySource, RamMedia, Torn};
 use vdr_outside::Media;
-use vdr_tool::{Status, World, run};
+use vdr_tool::{Status, World, run_alone};
 
 const NAVD: u8 = 3;
 
@@ -130,7 +130,7 @@ fn blank(alloc: Global, capsule: usize, long_term: usize) -> Result<Vec<Vec<u8>>
     Ok(media)
 }
 
-// What `run` answers and prints, and the media afterwards. No other function of these tests calls it.
+// What `run_alone` answers and prints, and the media afterwards. No other function of these tests calls it.
 fn run_words<M: Media + Drop>(
     alloc: Global,
     words: &[&str],
@@ -147,7 +147,7 @@ fn run_words<M: Media + Drop>(
         output,
         media,
     };
-    let status = run(alloc, texts.as_slice(), &mut world);
+    let status = run_alone(alloc, texts.as_slice(), &mut world);
     let World {
         input: _,
         output,

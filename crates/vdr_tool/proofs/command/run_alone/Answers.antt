@@ -4,7 +4,7 @@ use Rattle.vdr_life.specs.Ours.{StayOurs}
 use Rattle.vdr_tool.specs.Commands.{plain}
 use Rattle.vdr_tool.proofs.LifeGoesOn.{life_of, life_still}
 use Rattle.vdr_tool.proofs.Lives.{lives_of, ours_still}
-use Rattle.vdr_tool.proofs.command.run.Goals as goal
+use Rattle.vdr_tool.proofs.command.run_alone.Goals as goal
 
 pub returns-in_default-answer-clause-lives : goal.returns-in_default-answer-clause-lives
 returns-in_default-answer-clause-lives g c told synced ours = elim c.answer.ensures.untouched [

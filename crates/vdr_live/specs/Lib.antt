@@ -1,0 +1,5 @@
+-- What the program answers where it has ports to record from.
+pub mod Ports
+pub mod Headline
+pub mod Recordings
+pub mod Runs

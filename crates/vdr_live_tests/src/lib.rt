@@ -1,0 +1,9 @@
+//! Tests of live recording: the program over ports, media and outputs in memory.
+#![tactic(auto)]
+
+#[cfg(test)]
+mod meeting;
+#[cfg(test)]
+mod recordings;
+#[cfg(test)]
+mod world;

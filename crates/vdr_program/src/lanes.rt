@@ -1,0 +1,25 @@
+// The lanes of a recording.
+ghost use Rattle.std.specs.Prelude.{◌≡◌, ◌<◌, ℕ, length, get_or, IfOk};
+
+use std::alloc::{AllocError, Global};
+use std::net::Net;
+use std::time::{Clock, Duration};
+use vdr_adapters::UdpPort;
+use vdr_capture::Lane;
+
+/// A lane for each transmission group, over its UDP port, which is bound when it is first asked. Where the clock can't be read, capture
+/// counts from the clock's own beginning.
+pub fn udp_lanes<R: Net + Clock + Eprint>(
+    rt: &R,
+    alloc: Global,
+) -> Result<Vec<Lane<UdpPort<&R>>>, AllocError>
+    ensures sixteen { IfOk result (λ lanes. length lanes.items ≡ 16) }
+    ensures groups { IfOk result (λ lanes. (g : ℕ) (d : _) → g < 16 → (get_or lanes.items g d).group ≡ g) }
+{
+    let began = rt.monotonic().unwrap_or(Duration::ZERO);
+    let mut lanes = Vec::with_capacity(alloc, 16)?;
+    for group in 0..16u8 {
+        lanes.push(Lane::new(UdpPort::new(rt, group, began), group))?;
+    }
+    Ok(lanes)
+}
