@@ -1,13 +1,13 @@
 -- How the bytes at hand tell what stands at the front of the bytes left.
-use Rattle.std.proofs.Common.{◌≡◌, ◌≢◌, ◌≤◌, ◌<◌, ◌+◌, ◌-◌, ◌^◌, ◌||◌, ◌⊎◌, inl, inr, ℕ, zero, suc, Bool, true, false, List, [], ◌∷◌, ◌++◌, length, take, drop, Option, None, Some, refl, ap, ◌∙◌, sym, subst, cond, arith, slice_index, get_or, lit<, pos, to_z, w16, w64}
+use Rattle.std.proofs.Common.{◌≡◌, ◌≤◌, ◌<◌, ◌+◌, ◌^◌, ◌||◌, ℕ, zero, suc, Bool, true, false, List, [], ◌∷◌, ◌++◌, length, take, drop, Option, None, Some, refl, ap, ◌∙◌, sym, subst, cond, arith, lit<, pos, w16, w64}
 use Rattle.std.specs.Prelude.{nat_le, nat_lt}
 use Rattle.std.specs.Int.{to_le_bytes, from_le_bytes}
 use Rattle.std.specs.Io.KnownBytes.{Consumes, IsAtEnd}
 use Rattle.std.proofs.lemmas.Bool.{le-leb, lt-leb, leb-false, ltb-false}
-use Rattle.std.proofs.lemmas.List.{drop-append-le, take-append-le, take-append-drop, length-drop, length-take-le, length-append, append-nil, append_assoc, drop-drop, take_all}
+use Rattle.std.proofs.lemmas.List.{drop-append-le, take-append-le, take-append-drop, length-drop, length-take-le, length-append, append_assoc, drop-drop, take_all}
 use Rattle.std.proofs.lemmas.Nat.{le_bytes_8, le_bytes_2}
 use Rattle.vdr_terms.specs.Records.{FeedItem}
-use Rattle.vdr_terms.specs.Stamps.{IsStamp, last_stamp}
+use Rattle.vdr_terms.specs.Stamps.{last_stamp}
 use Rattle.vdr_terms.specs.Legality.{IsBytes}
 use Rattle.vdr_feed.specs.Feed.{IsItem, group_in, received_in, utc_in, length_in, number_fault, head_fault, body_fault, first_of, fault_of, spelling, head}
 use Rattle.vdr_feed.specs.Reader.{IfKnown}
@@ -167,6 +167,14 @@ refuses_head a b limit count floor number h front long room fault =
     (λ rest _. long_fault limit count floor (h ++ rest) room (grind (arith, length-append h rest, long))
     ∙ ap (λ (o : Option ℕ). first_of o (body_fault (h ++ rest))) (head_fault-front floor h rest long ∙ fault))
 
+-- a part of a body, behind a head without a fault
+pub inside_body : (limit count floor : ℕ) (h rest : List ℕ) → length h ≡ 19 → count < limit → head_fault floor h ≡ None → length rest < length_in h → fault_of limit count floor (h ++ rest) ≡ Some 2
+inside_body limit count floor h rest long room none less =
+    let few : length (h ++ rest) < 19 + length_in (h ++ rest) = rw (length-front h rest long) (grind (arith, length-append h rest, long, less)) in
+    long_fault limit count floor (h ++ rest) room (grind (arith, length-append h rest, long))
+    ∙ ap (λ (o : Option ℕ). first_of o (body_fault (h ++ rest))) (head_fault-front floor h rest long ∙ none)
+    ∙ ap (λ (t : Bool). cond t (Some 2) None) (le-leb (suc (length (h ++ rest))) (19 + length_in (h ++ rest)) few)
+
 pub refuses_body : (a b c : Option (List ℕ)) (limit count floor : ℕ) (h : List ℕ) → Consumes a b h → length h ≡ 19 → count < limit → head_fault floor h ≡ None
     → (body : List ℕ) × (length body < length_in h) × Consumes b c body × IsAtEnd c → IfKnown a (λ bytes. fault_of limit count floor bytes ≡ Some 2)
 refuses_body a b c limit count floor h front long room none p =
@@ -175,10 +183,7 @@ refuses_body a b c limit count floor h front long room none p =
     let all : IfKnown (Some rest) (λ r. length r ≡ length p.0) = subst (λ (o : Option (List ℕ)). IfKnown o (λ r. length r ≡ length p.0)) is
     (known b c p.0 (λ r. length r ≡ length p.0) p.2 (λ more more_is. let none_left : more ≡ [] = subst (λ (o : Option (List ℕ)). IsAtEnd o) more_is p.3 in length-append p.0 more ∙ ap (λ (r : List ℕ). length p.0 + length r) none_left ∙ omega arith)) in
     let less : length p.0 < length_in h = p.1 in
-    let few : length (h ++ rest) < 19 + length_in (h ++ rest) = rw (length-front h rest long) (grind (arith, length-append h rest, long, all, less)) in
-    long_fault limit count floor (h ++ rest) room (grind (arith, length-append h rest, long))
-    ∙ ap (λ (o : Option ℕ). first_of o (body_fault (h ++ rest))) (head_fault-front floor h rest long ∙ none)
-    ∙ ap (λ (t : Bool). cond t (Some 2) None) (le-leb (suc (length (h ++ rest))) (19 + length_in (h ++ rest)) few))
+    inside_body limit count floor h rest long room none (omega (arith, all, less)))
 
 pub length-spelling : (i : FeedItem) → length (spelling i) ≡ 19 + length i.item.bytes
 length-spelling i = length-append (head i) i.item.bytes

@@ -1,15 +1,13 @@
 -- An item is read back from its spelling, whatever follows it.
-use Rattle.std.proofs.Common.{◌≡◌, ◌≢◌, ◌≤◌, ◌<◌, ◌+◌, ◌^◌, ◌||◌, ◌⊎◌, inl, inr, ℕ, zero, suc, ℤ, pos, Bool, true, false, List, [], ◌∷◌, ◌++◌, length, take, drop, Option, None, Some, refl, ap, ◌∙◌, sym, subst, cond, arith, append_assoc, append-nil, w16, w64}
-use Rattle.std.specs.Prelude.{nat_le, nat_lt, unsigned_abs}
-use Rattle.std.specs.Int.{to_le_bytes, from_le_bytes}
-use Rattle.std.specs.List.{flat_map}
+use Rattle.std.proofs.Common.{◌≡◌, ◌≤◌, ◌<◌, ◌+◌, ◌^◌, ◌||◌, ℕ, pos, Bool, List, [], ◌∷◌, ◌++◌, length, drop, Option, None, Some, refl, ap, ◌∙◌, sym, cond, arith, append_assoc}
+use Rattle.std.specs.Prelude.{nat_lt, unsigned_abs}
 use Rattle.std.proofs.lemmas.Bool.{lt-leb, le-ltb}
-use Rattle.std.proofs.lemmas.List.{length-append, drop-append-le, take-append-le, take_all, drop_all, length-drop}
+use Rattle.std.proofs.lemmas.List.{length-append}
 use Rattle.std.proofs.lemmas.Nat.{from_le_bytes-to_le_bytes_8, from_le_bytes-to_le_bytes_2}
-use Rattle.vdr_terms.specs.Records.{Item, FeedItem}
-use Rattle.vdr_terms.specs.Stamps.{IsStamp, last_stamp}
-use Rattle.vdr_feed.specs.Feed.{IsItem, AreItems, head, spelling, group_in, received_in, utc_in, length_in, number_fault, head_fault, body_fault, first_of, fault_of}
-use Rattle.vdr_feed.proofs.Grammar.{group-front, received-front, utc-front, length-front, head_fault-front, long_fault}
+use Rattle.vdr_terms.specs.Records.{FeedItem}
+use Rattle.vdr_terms.specs.Stamps.{last_stamp}
+use Rattle.vdr_feed.specs.Feed.{IsItem, head, spelling, group_in, received_in, utc_in, length_in, number_fault, head_fault, body_fault, first_of, fault_of}
+use Rattle.vdr_feed.proofs.Grammar.{length-front, head_fault-front, long_fault}
 
 head_is_long : (i : FeedItem) → length (head i) ≡ 19
 head_is_long i = refl

@@ -1,8 +1,8 @@
 -- A feed is read in one way.
-use Rattle.std.proofs.Common.{◌≡◌, ◌≢◌, ◌≤◌, ◌<◌, ◌+◌, ◌⊎◌, inl, inr, ⊎_elim, ℕ, suc, List, [], ◌∷◌, ◌++◌, length, take, drop, Option, None, Some, refl, ap, ◌∙◌, sym, subst, arith, append_assoc, append-nil}
+use Rattle.std.proofs.Common.{◌≡◌, ◌≢◌, ◌≤◌, ◌<◌, ◌+◌, ◌⊎◌, inl, inr, ⊎_elim, ℕ, suc, List, [], ◌∷◌, ◌++◌, length, take, drop, None, Some, refl, ap, ◌∙◌, sym, subst, arith, append_assoc}
 use Rattle.std.specs.List.{flat_map}
 use Rattle.vdr_terms.specs.Records.{FeedItem}
-use Rattle.vdr_feed.specs.Feed.{feed, feed_header, spelling, AreItems, received_after, fault_of, Reaches, IsFeed, IsRefused, IsRefusedAfter}
+use Rattle.vdr_feed.specs.Feed.{feed, feed_header, spelling, AreItems, received_after, fault_of, Reaches, IsRefusedAfter}
 use Rattle.vdr_feed.specs.Law.{OneFeed, NoFeedIsRefused, OneRefusal}
 use Rattle.vdr_feed.proofs.Spelled.{same_item, no_fault}
 

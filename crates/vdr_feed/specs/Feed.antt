@@ -1,11 +1,10 @@
 -- The feed file (this project's profile): a header, and items, each of which is spelled in one way. Numbers are
 -- little-endian; a stamp is spelled as a signed number of eight bytes.
-use Rattle.std.specs.Prelude.{◌≡◌, ◌≢◌, ◌⊎◌, ◌≤◌, ◌<◌, ◌^◌, ℕ, ◌+◌, ◌&&◌, ◌||◌, nat_le, nat_lt, List, [], ◌∷◌, ◌++◌, length, take, drop, slice_index, Option, None, Some, if◌then◌else◌, codes, unsigned_abs}
+use Rattle.std.specs.Prelude.{◌≡◌, ◌≢◌, ◌⊎◌, ◌≤◌, ◌<◌, ◌^◌, ℕ, ◌+◌, ◌||◌, nat_le, nat_lt, List, [], ◌∷◌, ◌++◌, length, take, drop, slice_index, Option, None, Some, if◌then◌else◌, codes, unsigned_abs}
 use Rattle.std.specs.List.{flat_map}
 use Rattle.std.specs.Int.{w16, w64, to_le_bytes, from_le_bytes}
 use Rattle.vdr_terms.specs.Records.{FeedItem}
 use Rattle.vdr_terms.specs.Stamps.{IsStamp, last_stamp}
-use Rattle.vdr_terms.specs.Legality.{IsBytes}
 
 abbrev pub feed_header : List ℕ
 feed_header = codes "VDRFEED1"

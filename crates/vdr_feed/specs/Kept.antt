@@ -1,5 +1,5 @@
 -- The item of a feed that a reader's item stands for.
-use Rattle.std.specs.Prelude.{◌≡◌, List, take}
+use Rattle.std.specs.Prelude.{◌≡◌, take}
 use Rattle.vdr_terms.specs.Records.{FeedItem}
 use Rattle.vdr_feed.specs.declared.item.Item.{Item}
 

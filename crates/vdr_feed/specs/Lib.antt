@@ -5,3 +5,4 @@ pub mod Kept
 pub mod Law
 pub mod Reader
 pub mod Trial
+pub mod Failing

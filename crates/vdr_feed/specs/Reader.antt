@@ -1,5 +1,5 @@
 -- What a contract sees of a reader, and what its calls say of the bytes.
-use Rattle.std.specs.Prelude.{◌≡◌, ◌≢◌, ◌≤◌, ◌<◌, ℕ, ◌+◌, Bool, true, false, ◌^◌, List, [], ◌++◌, length, take, Option, None, Some, Result, Ok, Err, ⊤}
+use Rattle.std.specs.Prelude.{◌≡◌, ◌<◌, ℕ, ◌+◌, Bool, true, false, List, length, Option, None, Some, Result, Ok, Err, ⊤}
 use Rattle.std.specs.Io.KnownBytes.{Consumes, IsAtEnd}
 use Rattle.vdr_terms.specs.Records.{FeedItem}
 use Rattle.vdr_feed.specs.declared.fault.FeedFault.{FeedFault}
@@ -7,7 +7,7 @@ use Rattle.vdr_feed.specs.declared.fault.FeedFault.TheVariants.{Fault, Refused}
 use Rattle.vdr_feed.specs.declared.fault.Stop.{Stop}
 use Rattle.vdr_feed.specs.declared.fault.Stop.TheVariants.{Failed as StopFailed, Refused as StopRefused}
 use Rattle.vdr_feed.specs.declared.item.Item.{Item}
-use Rattle.vdr_feed.specs.Feed.{spelling, feed_header, fault_of, IsItem}
+use Rattle.vdr_feed.specs.Feed.{spelling, IsItem}
 use Rattle.vdr_feed.specs.Kept.{Holds}
 
 -- where a reader stands

@@ -1,8 +1,9 @@
 // Reading a body: its first bytes are kept, and the others are passed over.
-ghost use Rattle.std.specs.Prelude.{◌≡◌, ◌≤◌, ◌<◌, ℕ, List, [], length, take, IfOk};
+ghost use Rattle.std.specs.Prelude.{◌≡◌, ◌≤◌, ◌<◌, ℕ, List, [], length, take, IfOk, OnErr};
 ghost use Rattle.std.specs.Io.KnownBytes.{Consumes, IsAtEnd};
 ghost use Rattle.vdr_outside.specs.Causes.{HasCause};
 ghost use Rattle.vdr_feed.specs.Body.{ReadsBody};
+ghost use Rattle.vdr_feed.specs.Failing.{ReadsFewer};
 
 use crate::filling::fill;
 use arrayvec::ArrayVec;
@@ -13,6 +14,7 @@ fn skip<I: Source>(input: &mut I, count: usize) -> Result<usize, Failed>
     ensures bytes { IfOk result (λ n. (bytes : List ℕ) × (length bytes ≡ n) × Consumes (I.left input.old) (I.left input.new) bytes) }
     ensures bound { IfOk result (λ n. n ≤ count) }
     ensures end { IfOk result (λ n. n < count → IsAtEnd (I.left input.new)) }
+    ensures part { OnErr result (ReadsFewer count (I.left input.old) (I.left input.new)) }
     ensures cause { HasCause (I.faults input.old) (I.faults input.new) result }
 {
     let mut scratch = [0; 512];
@@ -44,6 +46,7 @@ pub(crate) fn read_body<I: Source>(
     into: &mut ArrayVec<u8, 1473>,
 ) -> Result<bool, Failed>
     ensures body { IfOk result (λ whole. ReadsBody (I.left input.old) (I.left input.new) len whole into.new.items) }
+    ensures part { OnErr result (ReadsFewer len (I.left input.old) (I.left input.new)) }
     ensures cause { HasCause (I.faults input.old) (I.faults input.new) result }
 {
     let kept = len.min(1473);

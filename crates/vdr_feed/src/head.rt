@@ -1,7 +1,8 @@
 // The 19 bytes before an item's body.
-ghost use Rattle.std.specs.Prelude.{◌≡◌, ◌≤◌, ◌<◌, ◌^◌, ◌≢◌, true, false, ℕ, List, take, length, IfOk};
+ghost use Rattle.std.specs.Prelude.{◌≡◌, ◌≤◌, ◌<◌, ◌^◌, ◌≢◌, true, false, ℕ, List, take, length, IfOk, OnErr};
 ghost use Rattle.std.specs.Io.KnownBytes.{Consumes};
 ghost use Rattle.vdr_outside.specs.Causes.{HasCause};
+ghost use Rattle.vdr_feed.specs.Failing.{ReadsFewer};
 ghost use Rattle.vdr_feed.specs.Reader.{IfKnown};
 ghost use Rattle.std.specs.Int.{w16, w64, from_le_bytes};
 ghost use Rattle.vdr_terms.specs.Legality.{IsBytes};
@@ -73,6 +74,7 @@ pub(crate) fn read_header<I: Source>(input: &mut I) -> Result<bool, Failed>
     ensures yes { IfOk result (λ yes. yes ≡ true → Consumes (I.left input.old) (I.left input.new) feed_header) }
     ensures front { IfOk result (λ _. (front : List ℕ) × (length front ≤ 8) × Consumes (I.left input.old) (I.left input.new) front) }
     ensures no { IfOk result (λ yes. yes ≡ false → IfKnown (I.left input.old) (λ bytes. take 8 bytes ≢ feed_header)) }
+    ensures part { OnErr result (ReadsFewer 8 (I.left input.old) (I.left input.new)) }
     ensures cause { HasCause (I.faults input.old) (I.faults input.new) result }
 {
     let mut front = [0; 8];

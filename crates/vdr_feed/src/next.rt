@@ -1,6 +1,7 @@
 // Reading one item.
 ghost use Rattle.std.specs.Prelude.{◌≡◌, ◌≤◌, ◌<◌, None, Some, IfOk, IsErrOf};
 ghost use Rattle.vdr_outside.specs.Causes.{Rose};
+ghost use Rattle.vdr_feed.specs.Failing.{ReadsPart};
 ghost use Rattle.vdr_feed.specs.Feed.{fault_of};
 ghost use Rattle.vdr_feed.specs.Reader.{ReadsItem, IfKnown, IfStopped};
 ghost use Rattle.vdr_feed.specs.declared.fault.Stop.TheVariants.{Failed as StopFailed};
@@ -24,6 +25,7 @@ fn read_past_limit<I: Source>(
     ensures kept { IfOk result (λ len. len ≡ None → into.new ≡ into.old) }
     ensures read { IfOk result (λ len. ReadsItem (I.left input.old) (I.left input.new) limit count floor into.new len) }
     ensures refused { IfStopped result (λ number. IfKnown (I.left input.old) (λ bytes. fault_of limit count floor bytes ≡ Some number)) }
+    ensures part { IsErrOf result StopFailed → ReadsPart limit count floor (I.left input.old) (I.left input.new) }
     ensures later { I.faults input.old ≤ I.faults input.new }
     ensures failed { IsErrOf result StopFailed → Rose (I.faults input.old) (I.faults input.new) }
 {
@@ -47,6 +49,7 @@ pub(crate) fn read_item<I: Source>(
     ensures kept { IfOk result (λ len. len ≡ None → into.new ≡ into.old) }
     ensures read { IfOk result (λ len. ReadsItem (I.left input.old) (I.left input.new) limit count floor into.new len) }
     ensures refused { IfStopped result (λ number. IfKnown (I.left input.old) (λ bytes. fault_of limit count floor bytes ≡ Some number)) }
+    ensures part { IsErrOf result StopFailed → ReadsPart limit count floor (I.left input.old) (I.left input.new) }
     ensures later { I.faults input.old ≤ I.faults input.new }
     ensures failed { IsErrOf result StopFailed → Rose (I.faults input.old) (I.faults input.new) }
 {

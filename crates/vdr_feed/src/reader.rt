@@ -1,6 +1,7 @@
 ghost use Rattle.std.specs.Prelude.{◌≡◌, ◌≢◌, ◌≤◌, ◌<◌, ◌^◌, true, false, None, Some, Err, ℕ, List, length, take, IfOk, IfErr, OnOk, IsErrOf};
 ghost use Rattle.std.specs.Io.KnownBytes.{Consumes};
 ghost use Rattle.vdr_outside.specs.Causes.{Rose};
+ghost use Rattle.vdr_feed.specs.Failing.{ReadsFewer, ReadsPart};
 ghost use Rattle.vdr_feed.specs.Feed.{feed_header, fault_of};
 ghost use Rattle.vdr_feed.specs.declared.fault.FeedFault.{FeedFault as Stopped};
 ghost use Rattle.vdr_feed.specs.declared.fault.FeedFault.TheVariants.{Fault};
@@ -60,7 +61,7 @@ impl FeedReader {
     }
 
     /// Reads the header of the feed, eight bytes at most. Refused with the number 1 at offset 0 where the first eight bytes
-    /// are not `VDRFEED1`. Nothing was called on the reader before.
+    /// are not `VDRFEED1`. After a fault fewer than eight were read. Nothing was called on the reader before.
     pub fn header<I: Source>(&mut self, input: &mut I) -> Result<(), FeedFault>
         requires { self.old ≡ new_reading self.old.limit }
         ensures bytes { OnOk result (Consumes (I.left input.old) (I.left input.new) feed_header) }
@@ -69,6 +70,7 @@ impl FeedReader {
             × IfKnown (I.left input.old) (λ bytes. take 8 bytes ≢ feed_header)) }
         ensures front { IfRefused result (λ _ _. (front : List ℕ) × (length front ≤ 8) × Consumes (I.left input.old) (I.left input.new) front) }
         ensures stays { IfErr result (λ e. self.new ≡ stopped_by self.old e) }
+        ensures short { IsErrOf result Fault → ReadsFewer 8 (I.left input.old) (I.left input.new) }
         ensures failed { IsErrOf result Fault → Rose (I.faults input.old) (I.faults input.new) }
         ensures later { I.faults input.old ≤ I.faults input.new }
     {
@@ -98,7 +100,8 @@ impl FeedReader {
     /// more items than the limit, 2 where the input ends inside the item, 3 where `received` is not below 2^48 or the stamp
     /// is outside 0 to 253,402,300,799,999, 4 where the group is above 15, 5 where `received` is below that of the item
     /// before; in the order 6, 2 (of the 19 bytes before the body), 3, 4, 5, 2 (of the body).
-    /// The header was asked for. After a fault or a refusal it answers the same again and reads nothing.
+    /// The header was asked for. As the source fails, what was read of the item is a part of it. After a fault or a refusal it answers
+    /// the same again and reads nothing.
     pub fn item<I: Source>(&mut self, input: &mut I, into: &mut Item) -> Result<bool, FeedFault>
         requires { self.old.begun ≡ true }
         ensures gave { IfOk result (λ more. (self.old.stopped ≡ None)
@@ -108,6 +111,7 @@ impl FeedReader {
             × IfKnown (I.left input.old) (λ bytes. fault_of self.old.limit self.old.count self.old.floor bytes ≡ Some number)) }
         ensures stays { IfErr result (λ e. self.new ≡ stopped_by self.old e) }
         ensures again { (e : Stopped) → self.old.stopped ≡ Some e → (result ≡ Err e) × (input.new ≡ input.old) × (into.new ≡ into.old) }
+        ensures part { self.old.stopped ≡ None → IsErrOf result Fault → ReadsPart self.old.limit self.old.count self.old.floor (I.left input.old) (I.left input.new) }
         ensures failed { self.old.stopped ≡ None → IsErrOf result Fault → Rose (I.faults input.old) (I.faults input.new) }
         ensures later { I.faults input.old ≤ I.faults input.new }
     {

@@ -37,6 +37,7 @@ use Rattle.vdr_replay.proofs.Cuts.{closed_accounts, cut_accounts, cut_records}
 use Rattle.vdr_replay.proofs.Ordering.{all_in_order, front_in_order}
 use Rattle.vdr_replay.proofs.Passing.{passes_join}
 use Rattle.vdr_replay.proofs.Playing.{plays}
+use Rattle.vdr_replay.proofs.Resting.{stand_reads}
 
 -- What shows the first of some events, in other words
 
@@ -98,8 +99,8 @@ module _ (x : Contents) (reads : configuration x.text ≡ Ok x.config) (events :
   pub headline : {tells tells_images : Type 0} (rose : Type 0) (t0 : ℕ) (before after : Disk tells tells_images) (feed : List FeedItem) (end : RunEnd)
       → IsHistory (opening_of x) events → Keeps (ShowsHistory (opening_of x)) events t0 after → Passes (opening_of x) events before after → before.clock ≤ t0 → t0 ≤ after.clock
       → IsWhole events ⊎ ((end ≡ Broken) × rose) → RecordsAre end (start_of_opening (opening_of x)) feed (recorded events)
-      → ((g : ℕ) → AccountBy end (start_of_opening (opening_of x)) feed (recorded events) g) → Headline x rose before after feed end
-  headline rose t0 before after feed end history kept passes entry exit pending records accounts = record {
+      → ((g : ℕ) → AccountBy end (start_of_opening (opening_of x)) feed (recorded events) g) → (tells → end ≡ Closed → ShowsHistory (opening_of x) events after.reads) → Headline x rose before after feed end
+  headline rose t0 before after feed end history kept passes entry exit pending records accounts rests = record {
     events = events;
     history = history;
     order = order;
@@ -111,6 +112,7 @@ module _ (x : Contents) (reads : configuration x.text ≡ Ok x.config) (events :
     after_entry = entry;
     before_exit = exit;
     kept = keeps_told (ShowsHistory (opening_of x)) (PlaysBack (opening_of x)) events back t0 after kept;
+    reads = λ told is. back events [] (sym (append-nil events)) after.reads (rests told is);
   }
 
 -- Before the run
@@ -136,16 +138,16 @@ module _ {tells tells_images : Type 0} (x : Contents) (bytes : List ℕ) (rose :
 
   opened_headline : (old new : Disk tells tells_images) → GoesOnSynced old new (ShowsHistory (opening_of x) []) → Headline x rose old new [] NotStarted
   opened_headline old new goes = headline x reads [] (order_first x sound) rose goes.synced old new [] NotStarted (no_event_history (opening_of x))
-      (kept_since goes.synced new goes.before_exit goes.since) (passes_synced old new goes) goes.after_entry goes.before_exit (inl no_event_whole) refl (λ g. tt)
+      (kept_since goes.synced new goes.before_exit goes.since) (passes_synced old new goes) goes.after_entry goes.before_exit (inl no_event_whole) refl (λ g. tt) (λ told is. let none : ⊥ = cc in absurd none)
 
   pub opened_leaves : {T : Type 0} (old new : Disk tells tells_images) (result : Result T OpenRefused) → OpensAtEachMoment old new result (ShowsHistory (opening_of x) []) → LeavesHistory x rose old new
   opened_leaves old new result (inl ends) = inl ends.moments
   opened_leaves old new result (inr goes) = inr ([], NotStarted, opened_headline old new goes)
 
   -- What opening leaves, whatever it answers.
-  pub opened_nothing : {T : Type 0} (old new : Disk tells tells_images) (result : Result T OpenRefused) → OpensAtEachMoment old new result (ShowsHistory (opening_of x) []) → NothingIsRecorded x bytes rose old new
-  opened_nothing old new result (inl ends) = inl (λ image left. ends.moments.each image left)
-  opened_nothing old new result (inr goes) = inr (opened_headline old new goes)
+  pub opened_nothing : {T : Type 0} (now : Option (List ℕ)) (old new : Disk tells tells_images) (result : Result T OpenRefused) → OpensAtEachMoment old new result (ShowsHistory (opening_of x) []) → NothingIsRecorded x bytes now rose old new
+  opened_nothing now old new result (inl ends) = inl (λ image left. ends.moments.each image left)
+  opened_nothing now old new result (inr goes) = inr (opened_headline old new goes)
 
   -- Where opening succeeded.
   pub passes_opened : {T : Type 0} (old new : Disk tells tells_images) (r : T) → OpensAtEachMoment {T = T} old new (Ok r) (ShowsHistory (opening_of x) []) → Passes (opening_of x) [] old new
@@ -157,30 +159,32 @@ module _ {tells tells_images : Type 0} (x : Contents) (bytes : List ℕ) (rose :
 
 -- What a run makes of it
 
-module _ {tells tells_images : Type 0} (x : Contents) (bytes : List ℕ) (rose : Type 0) (reads : configuration x.text ≡ Ok x.config) (sound : AreSound x) (t0 : ℕ) (r after : RecordingState)
+module _ {tells tells_images : Type 0} (x : Contents) (bytes : List ℕ) (now : Option (List ℕ)) (rose : Type 0) (reads : configuration x.text ≡ Ok x.config) (sound : AreSound x) (t0 : ℕ) (r after : RecordingState)
     (old mid new : Disk tells tells_images) (opened : HasRecorded (opening_of x) [] t0 r mid) (passes : Passes (opening_of x) [] old mid) (entry : old.clock ≤ t0) (exit : t0 ≤ mid.clock) where
   not_begun : HasRecorded (opening_of x) [] t0 after new → Passes (opening_of x) [] mid new → Headline x rose old new [] NotStarted
   not_begun has then = headline x reads [] (order_first x sound) rose t0 old new [] NotStarted has.history has.kept (passes_join (opening_of x) [] [] old mid new passes then)
-      entry (omega (arith, exit, then.later)) (inl no_event_whole) refl (λ g. tt)
+      entry (omega (arith, exit, then.later)) (inl no_event_whole) refl (λ g. tt) (λ told is. let none : ⊥ = cc in absurd none)
 
-  pub begun_nothing : HasRecorded (opening_of x) [] t0 after new → Passes (opening_of x) [] mid new → NothingIsRecorded x bytes rose old new
+  pub begun_nothing : HasRecorded (opening_of x) [] t0 after new → Passes (opening_of x) [] mid new → NothingIsRecorded x bytes now rose old new
   begun_nothing has then = inr (not_begun has then)
 
   module _ (left : Option (List ℕ)) (reader : Reading) (admits : Admits (limits_in x.config.groups)) where
-    closed : (r : Replayed) (h : HasRun (opening_of x) t0 left reader x.config.groups after mid new r) → Headline x rose old new h.feed Closed
+    closed : (r : Replayed) (h : HasRun (opening_of x) t0 left reader now x.config.groups after mid new r) → Headline x rose old new h.feed Closed
     closed r h = headline x reads h.closes.more (order_after x sound t0 _ mid opened h.closes.more h.closes.has.made) rose t0 old new h.feed Closed h.closes.has.history h.closes.has.kept
         (passes_join (opening_of x) [] h.closes.more old mid new passes h.closes.passes) entry (omega (arith, exit, h.closes.passes.later))
         (inl ((whole_has_not_failed h.closes.more).1 (sym h.closes.has.failed ∙ h.works))) h.closes.made
         (closed_accounts (start_of_opening (opening_of x)) h.feed (recorded h.closes.more) admits h.low h.closes.made)
+        (λ told is. let w = h.closes.has.works h.works in stand_reads (opening_of x) h.closes.more after.members w.placed new w.stands told)
 
-    broken : rose → (h : HasBroken (opening_of x) t0 left reader x.config.groups after mid new) → Headline x rose old new h.feed Broken
+    broken : rose → (h : HasBroken (opening_of x) t0 left reader now x.config.groups after mid new) → Headline x rose old new h.feed Broken
     broken risen h = headline x reads h.breaks.more (order_after x sound t0 _ mid opened h.breaks.more h.breaks.has.made) rose t0 old new h.feed Broken h.breaks.has.history h.breaks.has.kept
         (passes_join (opening_of x) [] h.breaks.more old mid new passes h.breaks.passes) entry (omega (arith, exit, h.breaks.passes.later))
         (inr (refl, risen)) (cut_records (start_of_opening (opening_of x)) h.feed (recorded h.breaks.more) h.breaks.cut)
         (cut_accounts (start_of_opening (opening_of x)) h.feed (recorded h.breaks.more) admits h.low h.breaks.cut)
+        (λ told is. let none : ⊥ = cc in absurd none)
 
     -- Whatever is known of the input.
-    pub leaves : (result : Result Replayed ReplayStop) → (result ≡ Err Media → rose) → Runs (opening_of x) t0 left reader x.config.groups after mid new result → LeavesHistory x rose old new
+    pub leaves : (result : Result Replayed ReplayStop) → (result ≡ Err Media → rose) → Runs (opening_of x) t0 left reader now x.config.groups after mid new result → LeavesHistory x rose old new
     leaves (Ok r) risen h = inr (h.feed, Closed, closed r h)
     leaves (Err Media) risen h = inr (h.feed, Broken, broken (risen refl) h)
     leaves (Err Place) risen h = inr ([], NotStarted, not_begun h.1.has h.1.passes)
@@ -192,7 +196,7 @@ module _ {tells tells_images : Type 0} (x : Contents) (bytes : List ℕ) (rose :
     leaves (Err (Damaged medium offset)) risen h = absurd h
 
     -- Where it is known.
-    pub answers : HasRead (Some bytes) left reader [] → (result : Result Replayed ReplayStop) → (result ≡ Err Media → rose) → Runs (opening_of x) t0 left reader x.config.groups after mid new result → Answers x bytes rose old new result
+    pub answers : HasRead (Some bytes) left reader [] → (result : Result Replayed ReplayStop) → (result ≡ Err Media → rose) → Runs (opening_of x) t0 left reader now x.config.groups after mid new result → Answers x bytes now rose old new result
     answers read (Ok r) risen h = record {
       feed = h.feed;
       read = h.read (Some bytes) read;

@@ -9,6 +9,7 @@ pub mod Ordering
 pub mod Starts
 pub mod Restoring
 pub mod Playing
+pub mod Resting
 pub mod Cuts
 pub mod Summing
 pub mod Headlines

@@ -28,13 +28,13 @@ use Rattle.vdr_replay.specs.declared.ended.ReplayStop.TheVariants.{NoMemory, Inp
 use Rattle.vdr_replay.proofs.Headlines.{opened_nothing}
 
 -- Opening was refused, or failed.
-pub open_stops : {tells tells_images T : Type 0} (x : Contents) (bytes : List ℕ) (rose : Type 0) → configuration x.text ≡ Ok x.config → AreSound x → (old new : Disk tells tells_images) (result : Result T OpenRefused) (e : OpenRefused) → result ≡ Err e
+pub open_stops : {tells tells_images T : Type 0} (x : Contents) (bytes : List ℕ) (now : Option (List ℕ)) (rose : Type 0) → configuration x.text ≡ Ok x.config → AreSound x → (old new : Disk tells tells_images) (result : Result T OpenRefused) (e : OpenRefused) → result ≡ Err e
     → ((result ≡ Err refusals.NotFormatted) ⊎ ((m : ℕ) × (offset : ℕ) × (result ≡ Err (refusals.Damaged m offset))) → LeavesAll old new)
-    → (EndsMeet both (reading_of x) → OpensAtEachMoment old new result (ShowsHistory (opening_of x) [])) → Answers x bytes rose old new (Err (stop_by_opening e))
-open_stops x bytes rose reads sound old new result refusals.NoMemory is untouched moments = λ meet. opened_nothing x bytes rose reads sound old new result (moments meet)
-open_stops x bytes rose reads sound old new result refusals.NotFormatted is untouched moments = inl (λ image left. (untouched (inl is)).each image left)
-open_stops x bytes rose reads sound old new result (refusals.Damaged m offset) is untouched moments = inl (λ image left. (untouched (inr (m, offset, is))).each image left)
-open_stops x bytes rose reads sound old new result refusals.Fault is untouched moments = λ meet. inl (opened_nothing x bytes rose reads sound old new result (moments meet))
+    → (EndsMeet both (reading_of x) → OpensAtEachMoment old new result (ShowsHistory (opening_of x) [])) → Answers x bytes now rose old new (Err (stop_by_opening e))
+open_stops x bytes now rose reads sound old new result refusals.NoMemory is untouched moments = λ meet. opened_nothing x bytes rose reads sound now old new result (moments meet)
+open_stops x bytes now rose reads sound old new result refusals.NotFormatted is untouched moments = inl (λ image left. (untouched (inl is)).each image left)
+open_stops x bytes now rose reads sound old new result (refusals.Damaged m offset) is untouched moments = inl (λ image left. (untouched (inr (m, offset, is))).each image left)
+open_stops x bytes now rose reads sound old new result refusals.Fault is untouched moments = λ meet. inl (opened_nothing x bytes rose reads sound now old new result (moments meet))
 
 -- Damage is what opening names.
 pub damaged_by : (e : OpenRefused) (m offset : ℕ) → ◌≡◌ {A = Result Replayed ReplayStop} (Err (stop_by_opening e)) (Err (Damaged m offset)) → e ≡ refusals.Damaged m offset

@@ -66,10 +66,10 @@ module _ {tells tells_images : Type 0} (opening : Opening) (t0 : ℕ) (r : Recor
       }
 
   -- A refusal, or a fault of the Start
-  module _ (left : Option (List ℕ)) (reader : Reading) (rates : List (Option Rate)) (after : RecordingState) (new : Disk tells tells_images) (works : r.members.failed ≡ false) where
-    pub start_stops : (e : StartRefused) → start ≡ Err e → ((start ≡ Err refusals.Place) ⊎ (start ≡ Err refusals.Tick) → HasNotBegun opening t0 left reader rates after old new)
+  module _ (left : Option (List ℕ)) (reader : Reading) (now : Option (List ℕ)) (rates : List (Option Rate)) (after : RecordingState) (new : Disk tells tells_images) (works : r.members.failed ≡ false) where
+    pub start_stops : (e : StartRefused) → start ≡ Err e → ((start ≡ Err refusals.Place) ⊎ (start ≡ Err refusals.Tick) → HasNotBegun opening t0 left reader now rates after old new)
         → ((start ≡ Err refusals.Place → ⊥) → (start ≡ Err refusals.Tick → ⊥) → HasDone opening [] t0 (Commit (begun (next_start (state_left opening []))).made []) after old new)
-        → Runs opening t0 left reader rates after old new (Err (stop_by_start e))
+        → Runs opening t0 left reader now rates after old new (Err (stop_by_start e))
     start_stops refusals.Place is not_begun done = (subst (λ (n : ℕ). 2 ^ 62 ≤ n) place_is (place.0 is), not_begun (inl is))
     start_stops refusals.Tick is not_begun done =
         let late = tick.0 is in (
@@ -87,9 +87,9 @@ module _ {tells tells_images : Type 0} (opening : Opening) (t0 : ℕ) (r : Recor
     }
 
 -- Where nothing was called the run was not begun.
-pub not_begun : {tells tells_images : Type 0} (opening : Opening) (t0 : ℕ) (left : Option (List ℕ)) (reader : Reading) (rates : List (Option Rate)) (r after : RecordingState) (old new : Disk tells tells_images)
-    → HasRecorded opening [] t0 r old → after ≡ r → new ≡ old → HasNotBegun opening t0 left reader rates after old new
-not_begun {tells} {tells_images} opening t0 left reader rates r after old new h same still = record {
+pub not_begun : {tells tells_images : Type 0} (opening : Opening) (t0 : ℕ) (left : Option (List ℕ)) (reader : Reading) (now : Option (List ℕ)) (rates : List (Option Rate)) (r after : RecordingState) (old new : Disk tells tells_images)
+    → HasRecorded opening [] t0 r old → after ≡ r → new ≡ old → HasNotBegun opening t0 left reader now rates after old new
+not_begun {tells} {tells_images} opening t0 left reader now rates r after old new h same still = record {
   has = subst (λ (d : Disk tells tells_images). HasRecorded opening [] t0 after d) (sym still) (subst (λ (s : RecordingState). HasRecorded opening [] t0 s old) (sym same) h);
   passes = subst (λ (d : Disk tells tells_images). Passes opening [] old d) (sym still) (passes_first opening [] old);
 }

@@ -7,6 +7,7 @@ use Rattle.vdr_history.specs.Runs.{base_after}
 use Rattle.vdr_durability.specs.Readings.{EndsMeet}
 use Rattle.vdr_outside.specs.Causes.{NoneFalls, Rose}
 use Rattle.vdr_outside.specs.Disk.{Disk, Image}
+use Rattle.vdr_feed.specs.Failing.{ReadsFewer}
 use Rattle.vdr_feed.specs.Feed.{Reaches, feed_header}
 use Rattle.vdr_feed.specs.Reader.{IfKnown}
 use Rattle.vdr_media.specs.Formatted.{IsFormatted}
@@ -25,7 +26,7 @@ pub record MayBegin (opening : Opening) : Type 0 where
   pub place : opening.next_place < 2 ^ 62
   pub base : base_after opening.last < 2 ^ 62
 
-module _ {tells tells_images : Type 0} (x : Contents) (bytes : List ℕ) (rose : Type 0) (before after : Disk tells tells_images) where
+module _ {tells tells_images : Type 0} (x : Contents) (bytes : List ℕ) (now : Option (List ℕ)) (rose : Type 0) (before after : Disk tells tells_images) where
   -- Nothing was recorded.
   abbrev pub NothingIsRecorded : Type 0
   NothingIsRecorded = NotOpened before after ⊎ Headline x rose before after [] NotStarted
@@ -33,7 +34,7 @@ module _ {tells tells_images : Type 0} (x : Contents) (bytes : List ℕ) (rose :
   -- The feed up to its end, or to what was refused or failed, is recorded as one run that was closed.
   pub record IsRecorded (r : Replayed) : Type 0 where
     pub feed : List FeedItem
-    pub read : ReadsFeed x.config.groups bytes r.end feed
+    pub read : ReadsFeed x.config.groups bytes now r.end feed
     pub configured : AreConfigured x.config.groups feed
     pub may : MayBegin (opening_of x)
     pub left : Headline x rose before after feed Closed
@@ -61,17 +62,17 @@ module _ {tells tells_images : Type 0} (x : Contents) (bytes : List ℕ) (rose :
   Answers (Err NotFormatted) = NothingIsRecorded
   Answers (Err (Damaged medium offset)) = NothingIsRecorded
 
--- A feed without its header is refused, unless the source fails; one with it is read on.
-abbrev pub TellsHeader : Option (List ℕ) → Result Replayed ReplayStop → Type 0
-TellsHeader left (Ok r) = IfKnown left (λ bytes. take 8 bytes ≡ feed_header)
-TellsHeader left (Err Input) = ⊤
-TellsHeader left (Err (Refused number offset)) = (number ≡ 1) × (offset ≡ 0) × IfKnown left (λ bytes. take 8 bytes ≢ feed_header)
-TellsHeader left (Err NoMemory) = IfKnown left (λ bytes. take 8 bytes ≡ feed_header)
-TellsHeader left (Err NotFormatted) = IfKnown left (λ bytes. take 8 bytes ≡ feed_header)
-TellsHeader left (Err (Damaged medium offset)) = IfKnown left (λ bytes. take 8 bytes ≡ feed_header)
-TellsHeader left (Err Place) = IfKnown left (λ bytes. take 8 bytes ≡ feed_header)
-TellsHeader left (Err Tick) = IfKnown left (λ bytes. take 8 bytes ≡ feed_header)
-TellsHeader left (Err Media) = IfKnown left (λ bytes. take 8 bytes ≡ feed_header)
+-- A feed without its header is refused, unless the source fails within its first eight bytes; one with it is read on.
+abbrev pub TellsHeader : (left now : Option (List ℕ)) → Result Replayed ReplayStop → Type 0
+TellsHeader left now (Ok r) = IfKnown left (λ bytes. take 8 bytes ≡ feed_header)
+TellsHeader left now (Err Input) = ReadsFewer 8 left now
+TellsHeader left now (Err (Refused number offset)) = (number ≡ 1) × (offset ≡ 0) × IfKnown left (λ bytes. take 8 bytes ≢ feed_header)
+TellsHeader left now (Err NoMemory) = IfKnown left (λ bytes. take 8 bytes ≡ feed_header)
+TellsHeader left now (Err NotFormatted) = IfKnown left (λ bytes. take 8 bytes ≡ feed_header)
+TellsHeader left now (Err (Damaged medium offset)) = IfKnown left (λ bytes. take 8 bytes ≡ feed_header)
+TellsHeader left now (Err Place) = IfKnown left (λ bytes. take 8 bytes ≡ feed_header)
+TellsHeader left now (Err Tick) = IfKnown left (λ bytes. take 8 bytes ≡ feed_header)
+TellsHeader left now (Err Media) = IfKnown left (λ bytes. take 8 bytes ≡ feed_header)
 
 -- The image is formatted, and its media hold contents whose ends meet.
 abbrev pub IsLegible : Image → Type 0

@@ -2,6 +2,7 @@
 use Rattle.std.specs.Prelude.{◌≡◌, ◌⊎◌, ◌∷◌, ◌++◌, ℕ, true, List, [], length, All, Option, None, is_some, slice_index_or}
 use Rattle.vdr_terms.specs.declared.rate.Rate.{Rate}
 use Rattle.vdr_terms.specs.Records.{FeedItem}
+use Rattle.vdr_feed.specs.Failing.{FailsAfter}
 use Rattle.vdr_feed.specs.Feed.{Reaches, IsFeed, IsRefusedAfter, feed}
 use Rattle.vdr_replay.specs.declared.ended.FeedEnd.{FeedEnd}
 use Rattle.vdr_replay.specs.declared.ended.FeedEnd.TheVariants.{Whole, Input, Refused}
@@ -26,9 +27,13 @@ pub record RefusesGroup (rates : List (Option Rate)) (bytes : List ℕ) (number 
   pub number_is : number ≡ 4
   pub offset_is : offset ≡ length (feed items)
 
--- Of an input with these bytes, these items were read, and it ended so.
-abbrev pub ReadsFeed : List (Option Rate) → List ℕ → FeedEnd → List FeedItem → Type 0
-ReadsFeed rates bytes Whole items = IsFeed most_items bytes items
-ReadsFeed rates bytes Input items = (rest : List ℕ) × Reaches most_items bytes items rest
-ReadsFeed rates bytes (Refused number offset) items =
+-- What stands behind these items is refused so.
+abbrev pub RefusesNext : List (Option Rate) → List ℕ → (number offset : ℕ) → List FeedItem → Type 0
+RefusesNext rates bytes number offset items =
     ((rest : List ℕ) × IsRefusedAfter most_items bytes number offset items rest) ⊎ RefusesGroup rates bytes number offset items
+
+-- Of an input with these bytes, of which those of `now` are left, these items were read, and it ended so.
+abbrev pub ReadsFeed : List (Option Rate) → List ℕ → (now : Option (List ℕ)) → FeedEnd → List FeedItem → Type 0
+ReadsFeed rates bytes now Whole items = IsFeed most_items bytes items
+ReadsFeed rates bytes now Input items = FailsAfter most_items bytes now items
+ReadsFeed rates bytes now (Refused number offset) items = RefusesNext rates bytes number offset items

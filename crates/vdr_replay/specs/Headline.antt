@@ -67,6 +67,8 @@ pub record Headline {tells tells_images : Type 0} (x : Contents) (rose : Type 0)
   pub after_entry : before.clock ≤ synced
   pub before_exit : synced ≤ after.clock
   pub kept : Keeps (PlaysBack (opening_of x)) events synced after
+  -- what the media read as at the return plays back all of a run that was closed
+  pub reads : tells → end ≡ Closed → PlaysBack (opening_of x) events after.reads
 
 -- The call ended before opening's syncs had succeeded: a stop leaves what it might have left at entry.
 abbrev pub NotOpened : {tells tells_images : Type 0} → Disk tells tells_images → Disk tells tells_images → Type 0

@@ -18,12 +18,12 @@ use Rattle.vdr_replay.specs.declared.ended.Replayed.{Replayed}
 use Rattle.vdr_replay.specs.declared.ended.ReplayStop.{ReplayStop}
 use Rattle.vdr_replay.specs.declared.ended.ReplayStop.TheVariants.{NoMemory, Input, Refused, NotFormatted, Damaged, Place, Tick, Media}
 
-module _ {tells tells_images : Type 0} (opening : Opening) (t0 : ℕ) (left : Option (List ℕ)) (reader : Reading) (rates : List (Option Rate))
+module _ {tells tells_images : Type 0} (opening : Opening) (t0 : ℕ) (left : Option (List ℕ)) (reader : Reading) (now : Option (List ℕ)) (rates : List (Option Rate))
     (after : RecordingState) (old new : Disk tells tells_images) where
   -- The run was closed.
   pub record HasRun (r : Replayed) : Type 0 where
     pub feed : List FeedItem
-    pub read : (first : Option (List ℕ)) → HasRead first left reader [] → IfKnown first (λ bytes. ReadsFeed rates bytes r.end feed)
+    pub read : (first : Option (List ℕ)) → HasRead first left reader [] → IfKnown first (λ bytes. ReadsFeed rates bytes now r.end feed)
     pub known : AreConfigured rates feed
     pub low : All (λ i. i.group < 16) feed
     pub may : MayBegin opening

@@ -59,19 +59,19 @@ module _ {tells tells_images : Type 0} where
     pub passes : Passes opening (before ++ more) old new
 
   -- The feed was read up to its end, or to what was refused or failed, and taken.
-  pub record TakesFeed (left : Option (List ℕ)) (reader : Reading) (end : FeedEnd) (lanes : Lanes) (before after : RecordingState)
+  pub record TakesFeed (left : Option (List ℕ)) (reader : Reading) (now : Option (List ℕ)) (end : FeedEnd) (lanes : Lanes) (before after : RecordingState)
       (old new : Disk tells tells_images) : Type 0 where
     pub feed : List FeedItem
-    pub read : (first : Option (List ℕ)) → HasRead first left reader [] → IfKnown first (λ bytes. ReadsFeed before.members.config.groups bytes end feed)
+    pub read : (first : Option (List ℕ)) → HasRead first left reader [] → IfKnown first (λ bytes. ReadsFeed before.members.config.groups bytes now end feed)
     pub held : HoldsFeed after.members.config feed lanes after.maker
     pub told : (opening : Opening) (events : List Event) (t0 : ℕ) → tells → HasTaken opening [] [] events t0 before old
         → TakesOn opening feed lanes.batch.items events t0 after old new
 
   -- The same, and the run was closed.
-  pub record RecordsFeed (left : Option (List ℕ)) (reader : Reading) (end : FeedEnd) (lanes : Lanes) (before after : RecordingState)
+  pub record RecordsFeed (left : Option (List ℕ)) (reader : Reading) (now : Option (List ℕ)) (end : FeedEnd) (lanes : Lanes) (before after : RecordingState)
       (old new : Disk tells tells_images) : Type 0 where
     pub feed : List FeedItem
-    pub read : (first : Option (List ℕ)) → HasRead first left reader [] → IfKnown first (λ bytes. ReadsFeed before.members.config.groups bytes end feed)
+    pub read : (first : Option (List ℕ)) → HasRead first left reader [] → IfKnown first (λ bytes. ReadsFeed before.members.config.groups bytes now end feed)
     pub counts : CountsFeed feed lanes
     pub known : AreConfigured before.members.config.groups feed
     pub low : All (λ i. i.group < 16) feed

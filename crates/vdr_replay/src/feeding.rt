@@ -38,7 +38,7 @@ fn read_next<I: Source>(
         × IsNext (I.left input.old) (I.left input.new) reader.old.limit reader.old.count reader.old.floor into.new x
         × (reader.new ≡ past_item reader.old x) × HasRate config.now.groups x.group) }
     ensures ended { IfSome result (λ end. (first : Option (List ℕ)) (feed : List FeedItem) → HasRead first (I.left input.old) reader.old feed
-        → IfKnown first (λ bytes. ReadsFeed config.now.groups bytes end feed)) }
+        → IfKnown first (λ bytes. ReadsFeed config.now.groups bytes (I.left input.new) end feed)) }
     ensures whole { result ≡ Some Whole → IsAtEnd (I.left input.new) }
     ensures failed { result ≡ Some Input → Rose (I.faults input.old) (I.faults input.new) }
     ensures later { I.faults input.old ≤ I.faults input.new }
@@ -115,7 +115,7 @@ pub(crate) fn take_all<I: Source, M: Media>(
     requires held { HoldsFeed recording.old.members.config [] lanes.old recording.old.maker }
     requires empty { lanes.old.batch.items ≡ [] }
     requires space { 0 < lanes.old.room }
-    ensures taken { IfOk result (λ end. TakesFeed (I.left input.old) reader.old end lanes.new recording.old recording.new (M.disk media.old) (M.disk media.new)) }
+    ensures taken { IfOk result (λ end. TakesFeed (I.left input.old) reader.old (I.left input.new) end lanes.new recording.old recording.new (M.disk media.old) (M.disk media.new)) }
     ensures broken { OnErr result (BreaksFeed (I.left input.old) reader.old recording.old recording.new (M.disk media.old) (M.disk media.new)) }
     ensures whole { IfOk result (λ end. end ≡ Whole → IsAtEnd (I.left input.new)) }
     ensures failed { IfOk result (λ end. end ≡ Input → Rose (I.faults input.old) (I.faults input.new)) }

@@ -45,11 +45,11 @@ pub fn replay<I: Source, M: Media>(
     requires two { 2 ≤ length (M.disk media.old).sizes }
     requires three { length (M.disk media.old).sizes ≤ 3 }
     ensures replayed { (x : Contents) (bytes : List ℕ) → M.tells → HoldsContents (M.disk media.old).reads x → AreSound x → I.left input.old ≡ Some bytes
-        → Answers x bytes (Rose (sum (M.faults media.old)) (sum (M.faults media.new))) (M.disk media.old) (M.disk media.new) result }
+        → Answers x bytes (I.left input.new) (Rose (sum (M.faults media.old)) (sum (M.faults media.new))) (M.disk media.old) (M.disk media.new) result }
     ensures left { (x : Contents) → M.tells → HoldsContents (M.disk media.old).reads x → EndsMeet both (reading_of x) → AreSound x
         → LeavesHistory x (Rose (sum (M.faults media.old)) (sum (M.faults media.new))) (M.disk media.old) (M.disk media.new) }
     ensures blank { M.tells → IsUnformatted (M.disk media.old).reads → LeavesAll (M.disk media.old) (M.disk media.new) }
-    ensures header { TellsHeader (I.left input.old) result }
+    ensures header { TellsHeader (I.left input.old) (I.left input.new) result }
     ensures unopened { EndsAtHeader result → media.new ≡ media.old }
     ensures untouched { RefusesMedia result → LeavesAll (M.disk media.old) (M.disk media.new) × (M.tells → (M.disk media.new).reads ≡ (M.disk media.old).reads) }
     ensures legible { M.tells → IfOpened result (IsLegible (M.disk media.old).reads) }

@@ -38,7 +38,7 @@ fn record_items<I: Source, M: Media>(
     requires held { HoldsFeed recording.old.members.config [] lanes.old recording.old.maker }
     requires empty { lanes.old.batch.items ≡ [] }
     requires space { 0 < lanes.old.room }
-    ensures recorded { IfOk result (λ end. RecordsFeed (I.left input.old) reader.old end lanes.new recording.old recording.new (M.disk media.old) (M.disk media.new)) }
+    ensures recorded { IfOk result (λ end. RecordsFeed (I.left input.old) reader.old (I.left input.new) end lanes.new recording.old recording.new (M.disk media.old) (M.disk media.new)) }
     ensures broken { OnErr result (BreaksFeed (I.left input.old) reader.old recording.old recording.new (M.disk media.old) (M.disk media.new)) }
     ensures whole { IfOk result (λ end. end ≡ Whole → IsAtEnd (I.left input.new)) }
     ensures failed { IfOk result (λ end. end ≡ Input → Rose (I.faults input.old) (I.faults input.new)) }
@@ -72,7 +72,7 @@ pub(crate) fn record_run<I: Source, M: Media>(
     requires empty { lanes.old.batch.items ≡ [] }
     requires space { 0 < lanes.old.room }
     ensures ran { (opening : Opening) (t0 : ℕ) → M.tells → HasRecorded opening [] t0 recording.old (M.disk media.old)
-        → Runs opening t0 (I.left input.old) reader.old recording.old.members.config.groups recording.new (M.disk media.old) (M.disk media.new) result }
+        → Runs opening t0 (I.left input.old) reader.old (I.left input.new) recording.old.members.config.groups recording.new (M.disk media.old) (M.disk media.new) result }
     ensures stops { StopsIn result }
     ensures whole { IfOk result (λ r. r.end ≡ Whole → IsAtEnd (I.left input.new)) }
     ensures failed { IfOk result (λ r. r.end ≡ Input → Rose (I.faults input.old) (I.faults input.new)) }

@@ -7,8 +7,7 @@ use Rattle.vdr_terms.specs.Records.{FeedItem}
 use Rattle.vdr_terms.specs.declared.rate.Rate.{Rate}
 use Rattle.vdr_feed.specs.Feed.{feed, feed_header, spelling, AreItems, IsItem, received_after, fault_of, Reaches, IsFeed, IsRefusedAfter}
 use Rattle.vdr_feed.proofs.Spelled.{same_item, no_fault}
-use Rattle.vdr_replay.specs.Feeding.{AreConfigured, HasRate, ReadsFeed, RefusesGroup, most_items}
-use Rattle.vdr_replay.specs.declared.ended.FeedEnd.TheVariants.{Refused}
+use Rattle.vdr_replay.specs.Feeding.{AreConfigured, HasRate, RefusesGroup, RefusesNext, most_items}
 
 -- Here stands an item of a group that is not configured.
 record IsStrange (rates : List (Option Rate)) (floor : ℕ) (rest : List ℕ) : Type 0 where
@@ -113,7 +112,7 @@ stands_at_end rates bytes items r = record { rest = []; front = r; ends = inl re
 
 -- A feed whose groups are all configured is not refused where it is recorded.
 pub not_refused : (rates : List (Option Rate)) (bytes : List ℕ) (number offset : ℕ) (items others : List FeedItem) → AreConfigured rates items → AreConfigured rates others
-    → IsFeed most_items bytes items → ReadsFeed rates bytes (Refused number offset) others → ⊥
+    → IsFeed most_items bytes items → RefusesNext rates bytes number offset others → ⊥
 unfolding stands_at_fault stands_at_end stands_at_group
 not_refused rates bytes number offset items others known also whole (inl fault) =
     let r = fault.1 in
@@ -139,7 +138,7 @@ no_both rates bytes number offset other at items others rest known also r group 
 
 -- Where it is refused, it is so by one number, at one offset.
 pub one_refusal : (rates : List (Option Rate)) (bytes : List ℕ) (number offset other at : ℕ) (items others : List FeedItem) → AreConfigured rates items → AreConfigured rates others
-    → ReadsFeed rates bytes (Refused number offset) items → ReadsFeed rates bytes (Refused other at) others → (number ≡ other) × (offset ≡ at)
+    → RefusesNext rates bytes number offset items → RefusesNext rates bytes other at others → (number ≡ other) × (offset ≡ at)
 unfolding stands_at_fault
 one_refusal rates bytes number offset other at items others known also (inl first) (inl second) =
     let r = first.1 in let t = second.1 in

@@ -101,15 +101,15 @@ module _ {tells tells_images : Type 0} (c : Configuration) (text : List ℕ) (al
       l : LifeHolds c text image
       l = life_holds c text all image life
 
-      by : (IsUnopened status × LeavesAll old.disk new.disk) ⊎ KeepsContents l.contents MayBe old.disk new.disk → LivesOn c text all old.disk new.disk
+      by : (IsUnopened status × LeavesAll old.disk new.disk) ⊎ KeepsContents l.contents MayBe status old.disk new.disk → LivesOn c text all old.disk new.disk
       by (inl unopened) = lives_still c text all image old.disk new.disk rest life unopened.1
       by (inr kept) = run_life old.disk new.disk l kept.events rest life
           (record { follow = kept.history.follow; order = quiet_order l.contents l.sound kept.events (quiet kept.events kept.may_be) }) kept.since_entry
 
   -- Of a run of `replay`.
-  replay_life : (input : Option (List ℕ)) (old new : MediaSeen tells tells_images) (answer : Result Replayed ReplayStop) → ReplayEnds input old new answer
+  replay_life : (input now : Option (List ℕ)) (old new : MediaSeen tells tells_images) (answer : Result Replayed ReplayStop) → ReplayEnds input now old new answer
       → tells → RestAs image old.disk → Life c text all image → LivesOn c text all old.disk new.disk
-  replay_life input old new answer h told rest life = by _ (h.left l.contents told (subst (λ (i : Image). HoldsContents i l.contents) (sym rest.reads) l.holds) l.meet l.sound)
+  replay_life input now old new answer h told rest life = by _ (h.left l.contents told (subst (λ (i : Image). HoldsContents i l.contents) (sym rest.reads) l.holds) l.meet l.sound)
     where
       l : LifeHolds c text image
       l = life_holds c text all image life
@@ -124,7 +124,7 @@ module _ {tells tells_images : Type 0} (c : Configuration) (text : List ℕ) (al
   life_of (Review rate) old new status owed uses none told rest life = absurd uses
   life_of Check old new status owed uses none told rest life = absurd uses
   life_of (Format again) old new status owed uses none told rest life = absurd none
-  life_of Replay old new status owed uses none told rest life = replay_life old.input.left old.media new.media owed.answer owed.media told rest life
+  life_of Replay old new status owed uses none told rest life = replay_life old.input.left new.input.left old.media new.media owed.answer owed.media told rest life
   life_of (Play asked) old new status owed uses none told rest life = media_life old.media new.media status owed.media.media looks_quiet told rest life
   life_of Incidents old new status owed uses none told rest life = media_life old.media new.media status owed.media looks_quiet told rest life
   life_of (Save label) old new status owed uses none told rest life = media_life old.media new.media status owed.media (acts_quiet (SavesAs label) (save_quiet label) _ status) told rest life

@@ -29,7 +29,7 @@ module _ {tells tells_images : Type 0} where
   Left old new = LeavesAll old new ⊎ ((old.clock ≤ new.clock) × ((image : Image) → new.since old.clock image → old.now image ⊎ IsOurs image))
 
   -- What recorded contents are left as.
-  kept_ours : (x : Contents) (MayBe : List Event → Type 0) (status : Status) (old new : Disk tells tells_images) → (IsUnopened status × LeavesAll old new) ⊎ KeepsContents x MayBe old new → Left old new
+  kept_ours : (x : Contents) (MayBe : List Event → Type 0) (status : Status) (old new : Disk tells tells_images) → (IsUnopened status × LeavesAll old new) ⊎ KeepsContents x MayBe status old new → Left old new
   kept_ours x MayBe status old new (inl unopened) = inl unopened.1
   kept_ours x MayBe status old new (inr kept) = inr (
     (let first = kept.after_entry in let then = kept.before_exit in omega (arith, first, then)),
@@ -48,8 +48,8 @@ module _ {tells tells_images : Type 0} where
   media_lives {MayBe = MayBe} old new status h told ours = ours_opened old.disk new.disk told ours h.blank
       (λ x t holds meet sound. kept_ours x MayBe status old.disk new.disk (h.kept x t holds meet sound))
 
-  pub replay_lives : (left : Option (List ℕ)) (old new : MediaSeen tells tells_images) (answer : Result Replayed ReplayStop) → ReplayEnds left old new answer → tells_images → AreOurs old.disk → StayOurs old.disk new.disk
-  replay_lives left old new answer h told ours = ours_opened old.disk new.disk told ours h.blank (λ x t holds meet sound. left_ours x _ old.disk new.disk (h.left x t holds meet sound))
+  pub replay_lives : (left now : Option (List ℕ)) (old new : MediaSeen tells tells_images) (answer : Result Replayed ReplayStop) → ReplayEnds left now old new answer → tells_images → AreOurs old.disk → StayOurs old.disk new.disk
+  replay_lives left now old new answer h told ours = ours_opened old.disk new.disk told ours h.blank (λ x t holds meet sound. left_ours x _ old.disk new.disk (h.left x t holds meet sound))
 
   pub format_lives : (again : Bool) (left : Option (List ℕ)) (old new : MediaSeen tells tells_images) (status : Status) → FormatEnds again left old new status → Durable 0 old.disk → AreOurs old.disk → StayOurs old.disk new.disk
   format_lives again left old new status h synced ours = by h.untouched
@@ -68,7 +68,7 @@ module _ {tells tells_images : Type 0} where
   lives_of (Review rate) old new status owed uses told synced ours = absurd uses
   lives_of Check old new status owed uses told synced ours = absurd uses
   lives_of (Format again) old new status owed uses told synced ours = format_lives again old.input.left old.media new.media status owed.media synced ours
-  lives_of Replay old new status owed uses told synced ours = replay_lives old.input.left old.media new.media owed.answer owed.media told ours
+  lives_of Replay old new status owed uses told synced ours = replay_lives old.input.left new.input.left old.media new.media owed.answer owed.media told ours
   lives_of (Play asked) old new status owed uses told synced ours = media_lives old.media new.media status owed.media.media told ours
   lives_of Incidents old new status owed uses told synced ours = media_lives old.media new.media status owed.media told ours
   lives_of (Save label) old new status owed uses told synced ours = media_lives old.media new.media status owed.media told ours

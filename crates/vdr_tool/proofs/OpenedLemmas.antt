@@ -1,6 +1,6 @@
 -- What commands on recorded media answer, from what opening them and one call of the recorder ensure.
 use Rattle.std.specs.Prelude.{IsErrOf}
-use Rattle.std.proofs.Common.{◌≡◌, ◌≤◌, ◌⊎◌, ◌∷◌, ◌++◌, ap, inl, inr, ⊎_elim, ℕ, List, [], Result, Ok, Err, refl, sym, subst, arith, ◌∙◌}
+use Rattle.std.proofs.Common.{◌≡◌, ◌≤◌, ◌⊎◌, ◌∷◌, ◌++◌, ap, inl, inr, ⊎_elim, ℕ, false, List, [], Result, Ok, Err, refl, sym, subst, arith, ◌∙◌}
 use Rattle.std.proofs.lemmas.List.Elements.{All-cons, All-nil}
 use Rattle.vdr_terms.specs.Records.{Record}
 use Rattle.vdr_history.specs.Histories.{Act, Event, recorded, records_of_act}
@@ -19,7 +19,8 @@ use Rattle.vdr_recorder.specs.Recordings.{HasDone, RecordingState}
 use Rattle.vdr_vault.specs.Calls.{SameElsewhere}
 use Rattle.vdr_vault.specs.Openings.{GoesOnSynced, LeavesAll, OpensAtEachMoment}
 use Rattle.vdr_vault.proofs.OpenMoments.{never_both}
-use Rattle.vdr_vault.specs.Vaults.{MembersState, ShowsHistory}
+use Rattle.vdr_ring.specs.Sequence.{Placed}
+use Rattle.vdr_vault.specs.Vaults.{MembersState, ShowsHistory, Stands}
 use Rattle.vdr_tool.specs.Incidents.{CanList}
 use Rattle.vdr_tool.specs.Endings.{IsWorkDone}
 use Rattle.vdr_tool.specs.Opened.{AreLooks, IsLegibleWith, IsUnopened, KeepsContents, MayLeave, MediaEnds, WasRecorded, newest_of, status_of_opening}
@@ -27,7 +28,8 @@ use Rattle.vdr_tool.specs.Outside.{MediaSeen}
 use Rattle.vdr_tool.specs.declared.status.Status.{Status}
 use Rattle.vdr_tool.specs.declared.status.Status.TheVariants.{Done, Words, Config, Small, Unformatted, Formatted, Damaged, MediaFault, PortFault, LinkFault, InputFault, OutputFault, NoMemory, Feed, NoChannel, NoIncident, SaveRefused, Place, Tick}
 use Rattle.vdr_replay.proofs.Playing.{config_read}
-use Rattle.vdr_tool.proofs.PlayedBack.{keeps_played, prefix_played}
+use Rattle.vdr_replay.proofs.Resting.{stand_reads}
+use Rattle.vdr_tool.proofs.PlayedBack.{keeps_played, played_as, prefix_played}
 
 -- What was opened stays, where nothing is recorded.
 first_of_all : (x : Contents) (events : List Event) (image : Image) → ShowsHistory (opening_of x) [] image → ShowsPrefix (ShowsHistory (opening_of x)) events 0 image
@@ -68,8 +70,9 @@ done_either (LinkFault link) is = absurd is
 done_either Tick is = absurd is
 
 module _ {tells tells_images : Type 0} where
-  keeps_opened : (x : Contents) → configuration x.text ≡ Ok x.config → WasRecorded x → (MayBe : List Event → Type 0) → MayBe [] → (old new : Disk tells tells_images) → GoesOnSynced old new (ShowsHistory (opening_of x) []) → KeepsContents x MayBe old new
-  keeps_opened x reads sound MayBe may old new goes = record {
+  keeps_opened : (x : Contents) → configuration x.text ≡ Ok x.config → WasRecorded x → (MayBe : List Event → Type 0) (status : Status) → MayBe [] → (old new : Disk tells tells_images)
+      → (IsWorkDone status → tells → ShowsHistory (opening_of x) [] new.reads) → GoesOnSynced old new (ShowsHistory (opening_of x) []) → KeepsContents x MayBe status old new
+  keeps_opened x reads sound MayBe status may old new rests goes = record {
     events = [];
     may_be = may;
     history = record { follow = tt; pending = tt };
@@ -83,19 +86,20 @@ module _ {tells tells_images : Type 0} where
       prefixes = λ t image from upto s. first_of_all x [] image (goes.since image (new.earlier goes.synced t image from s));
       now = λ whole image n. goes.since image (new.counts_now goes.synced image goes.before_exit n);
     });
+    reads = λ done t. played_as x reads sound [] refl new.reads (rests done t);
   }
 
   kept_by_opening : {T : Type 0} (x : Contents) → configuration x.text ≡ Ok x.config → WasRecorded x → (MayBe : List Event → Type 0) (status : Status) (old new : Disk tells tells_images) (result : Result T OpenRefused) → MayBe []
-      → (IsErrOf result openings.Fault → IsUnopened status) → OpensAtEachMoment old new result (ShowsHistory (opening_of x) [])
-      → (IsUnopened status × LeavesAll old new) ⊎ KeepsContents x MayBe old new
-  kept_by_opening x reads sound MayBe status old new result may unopened (inl ends) = inl (unopened ends.failed, ends.moments)
-  kept_by_opening x reads sound MayBe status old new result may unopened (inr goes) = inr (keeps_opened x reads sound MayBe may old new goes)
+      → (IsWorkDone status → tells → ShowsHistory (opening_of x) [] new.reads) → (IsErrOf result openings.Fault → IsUnopened status) → OpensAtEachMoment old new result (ShowsHistory (opening_of x) [])
+      → (IsUnopened status × LeavesAll old new) ⊎ KeepsContents x MayBe status old new
+  kept_by_opening x reads sound MayBe status old new result may rests unopened (inl ends) = inl (unopened ends.failed, ends.moments)
+  kept_by_opening x reads sound MayBe status old new result may rests unopened (inr goes) = inr (keeps_opened x reads sound MayBe status may old new rests goes)
 
   -- The media were opened, and nothing else was done.
-  pub kept_opened : {T : Type 0} (x : Contents) → configuration x.text ≡ Ok x.config → WasRecorded x → (MayBe : List Event → Type 0) (old new : Disk tells tells_images) (result : Result T OpenRefused) (r : T) → result ≡ Ok r → MayBe []
-      → OpensAtEachMoment old new result (ShowsHistory (opening_of x) []) → KeepsContents x MayBe old new
-  kept_opened x reads sound MayBe old new result r is may (inl ends) = let clash : Ok r ≡ Err openings.Fault = sym is ∙ ends.failed in let none : ⊥ = cc in absurd none
-  kept_opened x reads sound MayBe old new result r is may (inr goes) = keeps_opened x reads sound MayBe may old new goes
+  pub kept_opened : {T : Type 0} (x : Contents) → configuration x.text ≡ Ok x.config → WasRecorded x → (MayBe : List Event → Type 0) (status : Status) (old new : Disk tells tells_images) (result : Result T OpenRefused) (r : T) → result ≡ Ok r → MayBe []
+      → (IsWorkDone status → tells → ShowsHistory (opening_of x) [] new.reads) → OpensAtEachMoment old new result (ShowsHistory (opening_of x) []) → KeepsContents x MayBe status old new
+  kept_opened x reads sound MayBe status old new result r is may rests (inl ends) = let clash : Ok r ≡ Err openings.Fault = sym is ∙ ends.failed in let none : ⊥ = cc in absurd none
+  kept_opened x reads sound MayBe status old new result r is may rests (inr goes) = keeps_opened x reads sound MayBe status may old new rests goes
 
   -- The media were not opened.
   pub refused_ends : {T : Type 0} (Can : Contents → Type 0) (Met : Type 0) (MayBe : List Event → Type 0) (old new : MediaSeen tells tells_images)
@@ -115,7 +119,7 @@ module _ {tells tells_images : Type 0} where
     legible = λ done. absurd done;
     others = others;
     blank = blank;
-    kept = λ x t holds meet regular. kept_by_opening x (config_read old.disk.reads x holds) regular MayBe NoMemory old.disk new.disk result may
+    kept = λ x t holds meet regular. kept_by_opening x (config_read old.disk.reads x holds) regular MayBe NoMemory old.disk new.disk result may (λ worked. absurd worked)
         (λ failed. let clash : Err openings.NoMemory ≡ Err openings.Fault = sym is ∙ failed in let none : ⊥ = cc in absurd none)
         (moments x t holds meet regular);
   }
@@ -148,13 +152,13 @@ module _ {tells tells_images : Type 0} where
     legible = λ done. absurd done;
     others = others;
     blank = blank;
-    kept = λ x t holds meet regular. kept_by_opening x (config_read old.disk.reads x holds) regular MayBe MediaFault old.disk new.disk result may (λ failed. tt) (moments x t holds meet regular);
+    kept = λ x t holds meet regular. kept_by_opening x (config_read old.disk.reads x holds) regular MayBe MediaFault old.disk new.disk result may (λ worked. absurd worked) (λ failed. tt) (moments x t holds meet regular);
   }
 
   -- The work was done.
   pub worked_ends : (Can : Contents → Type 0) (Met : Type 0) (MayBe : List Event → Type 0) (old new : MediaSeen tells tells_images) (status : Status) → IsWorkDone status
       → (tells → IsLegibleWith old.disk.reads Can) → (tells → SameElsewhere old.disk.reads new.disk.reads)
-      → ((x : Contents) → tells → HoldsContents old.disk.reads x → EndsMeet both (reading_of x) → WasRecorded x → KeepsContents x MayBe old.disk new.disk)
+      → ((x : Contents) → tells → HoldsContents old.disk.reads x → EndsMeet both (reading_of x) → WasRecorded x → KeepsContents x MayBe status old.disk new.disk)
       → MediaEnds Can Met MayBe old new status
   worked_ends Can Met MayBe old new status done legible others kept = ⊎_elim
       (λ (is : status ≡ Done). subst (λ (s : Status). MediaEnds Can Met MayBe old new s) (sym is) (record {
@@ -164,7 +168,7 @@ module _ {tells tells_images : Type 0} where
         legible = λ d. legible;
         others = others;
         blank = λ t un. absurd (never_both old.disk.reads (legible t).0 un);
-        kept = λ x t holds meet regular. inr (kept x t holds meet regular);
+        kept = λ x t holds meet regular. inr (subst (λ (s : Status). KeepsContents x MayBe s old.disk new.disk) is (kept x t holds meet regular));
       }))
       (λ (is : status ≡ OutputFault). subst (λ (s : Status). MediaEnds Can Met MayBe old new s) (sym is) (record {
         unformatted = λ e. let none : ⊥ = cc in absurd none;
@@ -173,7 +177,7 @@ module _ {tells tells_images : Type 0} where
         legible = λ d. legible;
         others = others;
         blank = λ t un. absurd (never_both old.disk.reads (legible t).0 un);
-        kept = λ x t holds meet regular. inr (kept x t holds meet regular);
+        kept = λ x t holds meet regular. inr (subst (λ (s : Status). KeepsContents x MayBe s old.disk new.disk) is (kept x t holds meet regular));
       }))
       (done_either status done)
 
@@ -194,11 +198,16 @@ module _ {tells tells_images : Type 0} where
   since_opening x events old mid result (inl ends) image s = inl (ends.moments.each image s)
   since_opening x events old mid result (inr goes) image s = ⊎_elim (λ was. inl was) (λ shows. inr (first_of_all x events image shows)) (goes.moments.each image s)
 
+  -- What the media read as after a call that was one event, where the vault goes on.
+  pub reads_done : (x : Contents) (act : Act) (after : RecordingState) (t0 : ℕ) (mid new : Disk tells tells_images) (done : HasDone (opening_of x) [] t0 act after mid new) → after.members.failed ≡ false → tells
+      → ShowsHistory (opening_of x) (done.event ∷ []) new.reads
+  reads_done x act after t0 mid new done works t = let w = done.has.works works in stand_reads (opening_of x) (done.event ∷ []) after.members w.placed new w.stands t
+
   -- A call of the recorder was one event on the media that were opened.
-  pub kept_by_call : {T : Type 0} (x : Contents) → configuration x.text ≡ Ok x.config → WasRecorded x → (MayBe : List Event → Type 0) (old mid new : Disk tells tells_images) (result : Result T OpenRefused) (act : Act) → records_of_act act ≡ [] → (r after : RecordingState) (t0 : ℕ)
+  pub kept_by_call : {T : Type 0} (x : Contents) → configuration x.text ≡ Ok x.config → WasRecorded x → (MayBe : List Event → Type 0) (status : Status) (old mid new : Disk tells tells_images) (result : Result T OpenRefused) (act : Act) → records_of_act act ≡ [] → (r after : RecordingState) (t0 : ℕ)
       → OpensAtEachMoment old mid result (ShowsHistory (opening_of x) []) → old.clock ≤ t0 → t0 ≤ mid.clock → (done : HasDone (opening_of x) [] t0 act after mid new)
-      → MayBe (done.event ∷ []) → KeepsContents x MayBe old new
-  kept_by_call x reads sound MayBe old mid new result act none r after t0 moments from upto done may =
+      → (IsWorkDone status → tells → ShowsHistory (opening_of x) (done.event ∷ []) new.reads) → MayBe (done.event ∷ []) → KeepsContents x MayBe status old new
+  kept_by_call x reads sound MayBe status old mid new result act none r after t0 moments from upto done rests may =
       let silent : recorded (done.event ∷ []) ≡ [] = ap (λ (a : Act). records_of_act a ++ []) done.act_is ∙ ap (λ (rs : List Record). rs ++ []) none in
       let entry : old.clock ≤ mid.clock = omega (arith, from, upto) in
       record {
@@ -219,14 +228,17 @@ module _ {tells tells_images : Type 0} where
         after_entry = from;
         before_exit = omega (arith, upto, done.passes.later);
         kept = keeps_played x reads sound (done.event ∷ []) silent t0 new done.has.kept;
+        reads = λ worked t. played_as x reads sound (done.event ∷ []) silent new.reads (rests worked t);
       }
 
   -- What was opened is listed.
   pub listed_ends : {T : Type 0} (old new : MediaSeen tells tells_images) (result : Result T OpenRefused) (r : T) → result ≡ Ok r
       → (members : MembersState) → OpenedOn old.disk members
+      → ((x : Contents) → tells → HoldsContents old.disk.reads x → WasRecorded x → (placed : ℕ → List Placed) × Stands (opening_of x) [] members placed new.disk)
       → (tells → SameElsewhere old.disk.reads new.disk.reads)
       → ((x : Contents) → tells → HoldsContents old.disk.reads x → EndsMeet both (reading_of x) → WasRecorded x → OpensAtEachMoment old.disk new.disk result (ShowsHistory (opening_of x) []))
       → (status : Status) → IsWorkDone status → MediaEnds CanList ⊥ AreLooks old new status
-  listed_ends old new result r is members contents others moments status done =
+  listed_ends old new result r is members contents stands others moments status done =
       worked_ends CanList ⊥ AreLooks old new status done (legible_so CanList old.disk members contents (λ x t holds c k l. tt)) others
-      (λ x t holds meet regular. kept_opened x (config_read old.disk.reads x holds) regular AreLooks old.disk new.disk result r is no_looks (moments x t holds meet regular))
+      (λ x t holds meet regular. kept_opened x (config_read old.disk.reads x holds) regular AreLooks status old.disk new.disk result r is no_looks
+      (λ worked told. let s = stands x t holds regular in stand_reads (opening_of x) [] members s.0 new.disk s.1 told) (moments x t holds meet regular))

@@ -5,7 +5,8 @@ use Rattle.std.proofs.lemmas.Bool.{false_from_ne_true, leb-true}
 use Rattle.std.proofs.lemmas.List.Quantifiers.{position-Some}
 use Rattle.std.specs.Io.KnownBytes.{Appends}
 use Rattle.vdr_terms.specs.Queries.{Query}
-use Rattle.vdr_history.specs.Histories.{Event, Opening, live}
+use Rattle.vdr_history.specs.Histories.{Act, Event, Opening, incidents, live, records_of_act, table_after}
+use Rattle.vdr_history.specs.Histories.{all_records as given}
 use Rattle.vdr_history.specs.Histories as histories
 use Rattle.vdr_history.specs.Histories.Act.{Look}
 use Rattle.vdr_durability.specs.Readings.{EndsMeet}
@@ -31,12 +32,15 @@ use Rattle.vdr_recorder.specs.declared.play.PlayRefused.TheVariants as plays
 use Rattle.vdr_vault.specs.Calls.{SameElsewhere}
 use Rattle.vdr_vault.specs.Openings.{OpensAtEachMoment}
 use Rattle.vdr_vault.proofs.OpenMoments.{never_both}
+use Rattle.vdr_vault.proofs.ShownHistory.{stands_silent, stands_still}
 use Rattle.vdr_vault.specs.Vaults.{MembersState, ShowsHistory, Stands}
 use Rattle.vdr_tool.specs.Opened.{AreLooks, IsLegibleWith, KeepsContents, MediaEnds, MetUnsound, PrintsText, WasRecorded, status_of_opening}
 use Rattle.vdr_tool.specs.Outside.{MediaSeen, OutputSeen}
 use Rattle.vdr_tool.specs.Plays.{CanPlay, LacksChannel, LacksIncident, PlayEnds, channel_asked, channel_in, all_records, id_of, play_text, query_of, status_by}
+use Rattle.vdr_tool.specs.declared.status.Status.{Status}
 use Rattle.vdr_tool.specs.declared.status.Status.TheVariants.{Done, NoChannel, OutputFault}
 use Rattle.vdr_replay.proofs.Playing.{config_read}
+use Rattle.vdr_replay.proofs.Resting.{stand_reads}
 use Rattle.vdr_tool.proofs.OpenedLemmas.{OpenedOn, kept_by_call, kept_opened, legible_so, no_looks, one_look, worked_ends}
 
 none_of : {A : Type 0} (o : Option A) → is_none o ≡ true → o ≡ None
@@ -100,7 +104,7 @@ module _ {tells tells_images : Type 0} where
       legible = λ played. absurd played;
       others = others;
       blank = λ t un. absurd (never_both old.disk.reads (contents t).0 un);
-      kept = λ x t holds meet regular. inr (kept_opened x (config_read old.disk.reads x holds) regular AreLooks old.disk new.disk result r is no_looks (moments x t holds meet regular));
+      kept = λ x t holds meet regular. inr (kept_opened x (config_read old.disk.reads x holds) regular AreLooks NoChannel old.disk new.disk result r is no_looks (λ worked. absurd worked) (moments x t holds meet regular));
     };
     no_channel = λ e. legible_so (λ x. LacksChannel x.config name) old.disk members contents (λ x t holds c k l. subst (λ (d : Configuration). LacksChannel d name) c lacks);
     no_incident = tt;
@@ -150,11 +154,20 @@ module _ {tells tells_images : Type 0} (medium : Played) (name : List ℕ) (from
       (others : tells → SameElsewhere old.disk.reads mid.disk.reads) where
     module _ {T : Type 0} (result : Result T OpenRefused)
         (moments : (x : Contents) → tells → HoldsContents old.disk.reads x → EndsMeet both (reading_of x) → WasRecorded x → OpensAtEachMoment old.disk mid.disk result (ShowsHistory (opening_of x) [])) where
-      kept_with_look : (x : Contents) → tells → HoldsContents old.disk.reads x → EndsMeet both (reading_of x) → WasRecorded x → KeepsContents x AreLooks old.disk new.disk
-      kept_with_look x t holds meet regular =
+      -- What was looked at stays as it was.
+      looked_at : (x : Contents) → tells → HoldsContents old.disk.reads x → WasRecorded x → (event : Event) → event.act ≡ Look → ShowsHistory (opening_of x) (event ∷ []) new.disk.reads
+      looked_at x t holds regular event is =
+          let stands = standing x t holds regular in
+          stand_reads (opening_of x) (event ∷ []) r.members stands.0 new.disk
+          (stands_silent (opening_of x) [] event (ap (λ (a : Act). records_of_act a) is) (ap (λ (a : Act). table_after (given (opening_of x) 1 []) (incidents (opening_of x) []) a) is)
+          r.members stands.0 new.disk (stands_still (opening_of x) [] r.members stands.0 mid.disk new.disk unchanged stands.1)) t
+
+      kept_with_look : (status : Status) (x : Contents) → tells → HoldsContents old.disk.reads x → EndsMeet both (reading_of x) → WasRecorded x → KeepsContents x AreLooks status old.disk new.disk
+      kept_with_look status x t holds meet regular =
           let has = opened x t holds regular in
           let done = looked (opening_of x) [] has.0 has.3 in
-          kept_by_call x (config_read old.disk.reads x holds) regular AreLooks old.disk mid.disk new.disk result Look refl r after has.0 (moments x t holds meet regular) has.1 has.2 done (one_look done.event done.act_is)
+          kept_by_call x (config_read old.disk.reads x holds) regular AreLooks status old.disk mid.disk new.disk result Look refl r after has.0 (moments x t holds meet regular) has.1 has.2 done
+          (λ worked told. looked_at x t holds regular done.event done.act_is) (one_look done.event done.act_is)
 
       others_too : tells → SameElsewhere old.disk.reads new.disk.reads
       others_too t = subst (λ (image : Image). SameElsewhere old.disk.reads image) (sym (unchanged.reads t)) (others t)
@@ -175,7 +188,7 @@ module _ {tells tells_images : Type 0} (medium : Played) (name : List ℕ) (from
 
       ends_so : (p : Result ⊤ PlayRefused) → played ≡ p → PlayEnds medium name old new (status_by p medium)
       ends_so (Ok x) is = record {
-        media = worked_ends _ _ AreLooks old new Done tt (playable (λ e. let clash : Ok x ≡ Err plays.NoIncident = sym is ∙ e in let none : ⊥ = cc in absurd none)) others_too kept_with_look;
+        media = worked_ends _ _ AreLooks old new Done tt (playable (λ e. let clash : Ok x ≡ Err plays.NoIncident = sym is ∙ e in let none : ⊥ = cc in absurd none)) others_too (kept_with_look Done);
         no_channel = λ e. let none : ⊥ = cc in absurd none;
         no_incident = tt;
       }
@@ -187,7 +200,7 @@ module _ {tells tells_images : Type 0} (medium : Played) (name : List ℕ) (from
           legible = λ done. absurd done;
           others = others_too;
           blank = λ t un. absurd (never_both old.disk.reads (contents t).0 un);
-          kept = λ x t holds meet regular. inr (kept_with_look x t holds meet regular);
+          kept = λ x t holds meet regular. inr (kept_with_look _ x t holds meet regular);
         };
         no_channel = λ e. let none : ⊥ = cc in absurd none;
         no_incident = tt;
@@ -201,7 +214,7 @@ module _ {tells tells_images : Type 0} (medium : Played) (name : List ℕ) (from
           legible = λ done. absurd done;
           others = others_too;
           blank = λ t un. absurd (never_both old.disk.reads (contents t).0 un);
-          kept = λ x t holds meet regular. inr (kept_with_look x t holds meet regular);
+          kept = λ x t holds meet regular. inr (kept_with_look _ x t holds meet regular);
         };
         no_channel = λ e. let none : ⊥ = cc in absurd none;
         no_incident = (
@@ -220,7 +233,7 @@ module _ {tells tells_images : Type 0} (medium : Played) (name : List ℕ) (from
           legible = λ done. absurd done;
           others = others_too;
           blank = λ t un. absurd (never_both old.disk.reads (contents t).0 un);
-          kept = λ x t holds meet regular. inr (kept_with_look x t holds meet regular);
+          kept = λ x t holds meet regular. inr (kept_with_look _ x t holds meet regular);
         };
         no_channel = λ e. let none : ⊥ = cc in absurd none;
         no_incident = tt;
@@ -233,13 +246,13 @@ module _ {tells tells_images : Type 0} (medium : Played) (name : List ℕ) (from
           legible = λ done. absurd done;
           others = others_too;
           blank = λ t un. absurd (never_both old.disk.reads (contents t).0 un);
-          kept = λ x t holds meet regular. inr (kept_with_look x t holds meet regular);
+          kept = λ x t holds meet regular. inr (kept_with_look _ x t holds meet regular);
         };
         no_channel = λ e. let none : ⊥ = cc in absurd none;
         no_incident = tt;
       }
       ends_so (Err plays.Output) is = record {
-        media = worked_ends _ _ AreLooks old new OutputFault tt (playable (λ e. let clash : Err plays.Output ≡ Err plays.NoIncident = sym is ∙ e in let none : ⊥ = cc in absurd none)) others_too kept_with_look;
+        media = worked_ends _ _ AreLooks old new OutputFault tt (playable (λ e. let clash : Err plays.Output ≡ Err plays.NoIncident = sym is ∙ e in let none : ⊥ = cc in absurd none)) others_too (kept_with_look OutputFault);
         no_channel = λ e. let none : ⊥ = cc in absurd none;
         no_incident = tt;
       }

@@ -24,6 +24,9 @@ module _ (x : Contents) (reads : configuration x.text ≡ Ok x.config) (sound : 
   pub prefix_played : (least : ℕ) (image : Image) → ShowsPrefix (ShowsHistory (opening_of x)) events least image → ShowsPrefix (PlaysBack (opening_of x)) events least image
   prefix_played least image p = record { first = p.first; rest = p.rest; split = p.split; enough = p.enough; shown = back p.first p.rest p.split image p.shown }
 
+  pub played_as : (image : Image) → ShowsHistory (opening_of x) events image → PlaysBack (opening_of x) events image
+  played_as image shown = back events [] (sym (append-nil events)) image shown
+
   pub keeps_played : {tells tells_images : Type 0} (t0 : ℕ) (disk : Disk tells tells_images) → Keeps (ShowsHistory (opening_of x)) events t0 disk → Keeps (PlaysBack (opening_of x)) events t0 disk
   keeps_played t0 disk h = record {
     rising = h.rising;

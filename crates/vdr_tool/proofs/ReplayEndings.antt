@@ -84,7 +84,7 @@ left_alone see old new same = subst (λ a. AreLeftAlone (see old) (see a)) (sym 
 
 pub replays_so : {tells tells_images : Type 0} (old new : Outside tells tells_images) (status : Status) (answer : Result Replayed ReplayStop) → OneAnswer old.media.disk.reads
     → (status ≡ Done → IsAtEnd new.input.left) → TellsRun answer status old.output new.output → (status ≡ InputFault → InputFailed old.input new.input)
-    → (status ≡ OutputFault → OutputFailed old.output new.output) → ReplayEnds old.input.left old.media new.media answer → Replays old new status
+    → (status ≡ OutputFault → OutputFailed old.output new.output) → ReplayEnds old.input.left new.input.left old.media new.media answer → Replays old new status
 replays_so old new status answer law done told input output media = record {
   done = done;
   answer = answer;
@@ -92,6 +92,6 @@ replays_so old new status answer law done told input output media = record {
   input = input;
   output = output;
   media = media;
-  complete = λ none. replays_known old.input.left old.media new.media old.output new.output law status answer (λ is. none.input (input is)) (λ is. none.output (output is))
-      (λ is. none.media (replay_fault old.input.left old.media new.media old.output new.output status answer told media is)) told media;
+  complete = λ none. replays_known old.input.left new.input.left old.media new.media old.output new.output law status answer (λ is. none.input (input is)) (λ is. none.output (output is))
+      (λ is. none.media (replay_fault old.input.left new.input.left old.media new.media old.output new.output status answer told media is)) told media;
 }

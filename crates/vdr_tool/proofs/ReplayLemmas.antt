@@ -14,7 +14,7 @@ use Rattle.vdr_media.specs.Formatted.{IsFormatted, IsUnformatted}
 use Rattle.vdr_opening.specs.Media.{both, Contents, HoldsContents, opening_of, reading_of}
 use Rattle.vdr_opening.specs.Refusals.{IsRefused}
 use Rattle.vdr_replay.specs.Answers.{Answers, IfOpened, TellsHeader}
-use Rattle.vdr_replay.specs.Feeding.{ReadsFeed, most_items}
+use Rattle.vdr_replay.specs.Feeding.{ReadsFeed, RefusesNext, most_items}
 use Rattle.vdr_replay.specs.declared.ended.FeedEnd.{FeedEnd}
 use Rattle.vdr_replay.specs.declared.ended.FeedEnd.TheVariants as ends
 use Rattle.vdr_replay.specs.declared.ended.Replayed.{Replayed}
@@ -33,7 +33,7 @@ use Rattle.vdr_tool.proofs.FormatLemmas.{not_both}
 use Rattle.vdr_tool.proofs.OpenedCompleteness.{damaged_alike}
 
 -- A feed that is refused behind its header has one.
-reads_header : (rates : List (Option Rate)) (bytes : List ℕ) (number offset : ℕ) (items : List FeedItem) → ReadsFeed rates bytes (ends.Refused number offset) items → take 8 bytes ≡ feed_header
+reads_header : (rates : List (Option Rate)) (bytes : List ℕ) (number offset : ℕ) (items : List FeedItem) → RefusesNext rates bytes number offset items → take 8 bytes ≡ feed_header
 reads_header rates bytes number offset items (inl fault) = has_header most_items bytes items fault.0 fault.1.front
 reads_header rates bytes number offset items (inr group) = has_header most_items bytes (items ++ group.next ∷ []) group.rest group.legal
 
@@ -49,10 +49,10 @@ is_refused_as : (status : Status) (number offset other at : ℕ) → status ≡ 
 is_refused_as status number offset other at is same = subst (IsRefusal number offset) (sym is) (sym same.0, sym same.1)
 
 -- All that may be said of a status by its answer, in one place: what `replay` ends with where no object outside fails.
-module _ {tells tells_images : Type 0} (bytes : List ℕ) (old new : MediaSeen tells tells_images) (was next : OutputSeen)
+module _ {tells tells_images : Type 0} (bytes : List ℕ) (now : Option (List ℕ)) (old new : MediaSeen tells tells_images) (was next : OutputSeen)
     (told : tells) (law : OneAnswer old.disk.reads) where
   abbrev Told : Result Replayed ReplayStop → Type 0
-  Told answer = (x : Contents) (more : List ℕ) → tells → HoldsContents old.disk.reads x → WasRecorded x → Some bytes ≡ Some more → Answers x more (MediaFailed old new) old.disk new.disk answer
+  Told answer = (x : Contents) (more : List ℕ) → tells → HoldsContents old.disk.reads x → WasRecorded x → Some bytes ≡ Some more → Answers x more now (MediaFailed old new) old.disk new.disk answer
 
   abbrev Legible : Type 0
   Legible = IsFormatted old.disk.reads × (x : Contents) × HoldsContents old.disk.reads x × EndsMeet both (reading_of x)
@@ -72,7 +72,7 @@ module _ {tells tells_images : Type 0} (bytes : List ℕ) (old new : MediaSeen t
         tick = λ x h holds meet regular low high. let may = (recorded x bytes told holds regular refl).may in absurd (no_place (base_after (opening_of x).last) high may.base);
         refused = λ x feed number offset holds meet regular may reads known.
             let r = recorded x bytes told holds regular refl in
-            absurd (not_refused x.config.groups bytes number offset r.feed feed r.configured known (subst (λ (e : FeedEnd). ReadsFeed x.config.groups bytes e r.feed) is r.read) reads);
+            absurd (not_refused x.config.groups bytes number offset r.feed feed r.configured known (subst (λ (e : FeedEnd). ReadsFeed x.config.groups bytes now e r.feed) is r.read) reads);
         done = λ x feed holds meet regular may whole known. is_done_as status done;
       }
   closed status run input output header legible recorded ends.Input is summary prints = absurd (input prints.0)
@@ -85,13 +85,13 @@ module _ {tells tells_images : Type 0} (bytes : List ℕ) (old new : MediaSeen t
     refused = λ x feed number offset holds meet regular may reads known.
         let r = recorded x bytes told holds regular refl in
         is_refused_as status number offset other at prints.0
-        (one_refusal x.config.groups bytes number offset other at feed r.feed known r.configured reads (subst (λ (e : FeedEnd). ReadsFeed x.config.groups bytes e r.feed) is r.read));
+        (one_refusal x.config.groups bytes number offset other at feed r.feed known r.configured reads (subst (λ (e : FeedEnd). ReadsFeed x.config.groups bytes now e r.feed) is r.read));
     done = λ x feed holds meet regular may whole known.
         let r = recorded x bytes told holds regular refl in
-        absurd (not_refused x.config.groups bytes other at feed r.feed known r.configured whole (subst (λ (e : FeedEnd). ReadsFeed x.config.groups bytes e r.feed) is r.read));
+        absurd (not_refused x.config.groups bytes other at feed r.feed known r.configured whole (subst (λ (e : FeedEnd). ReadsFeed x.config.groups bytes now e r.feed) is r.read));
   }
 
-  stopped : (stop : ReplayStop) → (status_of_stop stop ≡ InputFault → ⊥) → (status_of_stop stop ≡ MediaFault → ⊥) → TellsHeader (Some bytes) (Err stop) → IfOpened (Err stop) Legible → Told (Err stop)
+  stopped : (stop : ReplayStop) → (status_of_stop stop ≡ InputFault → ⊥) → (status_of_stop stop ≡ MediaFault → ⊥) → TellsHeader (Some bytes) now (Err stop) → IfOpened (Err stop) Legible → Told (Err stop)
       → (◌≡◌ {A = Result Replayed ReplayStop} (Err stop) (Err stops.NotFormatted) → tells → IsUnformatted old.disk.reads)
       → ((m offset : ℕ) → ◌≡◌ {A = Result Replayed ReplayStop} (Err stop) (Err (stops.Damaged m offset)) → tells → IsFormatted old.disk.reads × IsRefused old.disk.reads m offset)
       → ReplaysAll bytes old.disk.reads (status_of_stop stop)
@@ -157,7 +157,7 @@ module _ {tells tells_images : Type 0} (bytes : List ℕ) (old new : MediaSeen t
   }
 
   by_answer : (status : Status) (answer : Result Replayed ReplayStop) → (status ≡ InputFault → ⊥) → (status ≡ OutputFault → ⊥) → (status ≡ MediaFault → ⊥)
-      → TellsRun answer status was next → TellsHeader (Some bytes) answer → IfOpened answer Legible → Told answer
+      → TellsRun answer status was next → TellsHeader (Some bytes) now answer → IfOpened answer Legible → Told answer
       → (answer ≡ Err stops.NotFormatted → tells → IsUnformatted old.disk.reads)
       → ((m offset : ℕ) → answer ≡ Err (stops.Damaged m offset) → tells → IsFormatted old.disk.reads × IsRefused old.disk.reads m offset)
       → ReplaysAll bytes old.disk.reads status
@@ -167,7 +167,7 @@ module _ {tells tells_images : Type 0} (bytes : List ℕ) (old new : MediaSeen t
       (stopped stop (λ is. input (prints.0 ∙ is)) (λ is. media (prints.0 ∙ is)) header legible recorded unformatted damaged)
 
   pub replays_all : (status : Status) (answer : Result Replayed ReplayStop) → (status ≡ InputFault → ⊥) → (status ≡ OutputFault → ⊥) → (status ≡ MediaFault → ⊥)
-      → TellsRun answer status was next → ReplayEnds (Some bytes) old new answer → ReplaysAll bytes old.disk.reads status
+      → TellsRun answer status was next → ReplayEnds (Some bytes) now old new answer → ReplaysAll bytes old.disk.reads status
   replays_all status answer input output media tells_it ends =
       by_answer status answer input output media tells_it ends.header (ends.legible told) ends.recorded ends.unformatted ends.damaged
 
@@ -192,9 +192,9 @@ fault_of_answer : (was next : OutputSeen) (answer : Result Replayed ReplayStop) 
 fault_of_answer was next (Ok run) status prints is = absurd (no_media_fault was next run.end (summary_text run.groups run.records) status prints is)
 fault_of_answer was next (Err stop) status prints is = stop_at_fault stop (sym prints.0 ∙ is)
 
-pub replay_fault : {tells tells_images : Type 0} (left : Option (List ℕ)) (old new : MediaSeen tells tells_images) (was next : OutputSeen) (status : Status) (answer : Result Replayed ReplayStop)
-    → TellsRun answer status was next → ReplayEnds left old new answer → status ≡ MediaFault → MediaFailed old new
-replay_fault left old new was next status answer told ends is = ends.cause.in_all (fault_of_answer was next answer status told is)
+pub replay_fault : {tells tells_images : Type 0} (left now : Option (List ℕ)) (old new : MediaSeen tells tells_images) (was next : OutputSeen) (status : Status) (answer : Result Replayed ReplayStop)
+    → TellsRun answer status was next → ReplayEnds left now old new answer → status ≡ MediaFault → MediaFailed old new
+replay_fault left now old new was next status answer told ends is = ends.cause.in_all (fault_of_answer was next answer status told is)
 
 -- What a print has written.
 pub wrote_of : {T E : Type 0} (r : Result T E) (text : List ℕ) (old new : Option (List ℕ)) (before now : ℕ) → OnOk r (Appends old new text) → AppendsFront old new text → HasCause before now r
@@ -202,8 +202,8 @@ pub wrote_of : {T E : Type 0} (r : Result T E) (text : List ℕ) (old new : Opti
 wrote_of (Ok x) text old new before now all front cause = record { front = front; all = inl all; later = cause.later }
 wrote_of (Err e) text old new before now all front cause = record { front = front; all = inr cause.failed; later = cause.later }
 
-pub replays_known : {tells tells_images : Type 0} (left : Option (List ℕ)) (old new : MediaSeen tells tells_images) (was next : OutputSeen) → OneAnswer old.disk.reads → (status : Status) (answer : Result Replayed ReplayStop)
-    → (status ≡ InputFault → ⊥) → (status ≡ OutputFault → ⊥) → (status ≡ MediaFault → ⊥) → TellsRun answer status was next → ReplayEnds left old new answer
+pub replays_known : {tells tells_images : Type 0} (left now : Option (List ℕ)) (old new : MediaSeen tells tells_images) (was next : OutputSeen) → OneAnswer old.disk.reads → (status : Status) (answer : Result Replayed ReplayStop)
+    → (status ≡ InputFault → ⊥) → (status ≡ OutputFault → ⊥) → (status ≡ MediaFault → ⊥) → TellsRun answer status was next → ReplayEnds left now old new answer
     → IfKnown left (λ bytes. tells → ReplaysAll bytes old.disk.reads status)
-replays_known None old new was next law status answer input output media told_it ends = tt
-replays_known (Some bytes) old new was next law status answer input output media told_it ends = λ told. replays_all bytes old new was next told law status answer input output media told_it ends
+replays_known None now old new was next law status answer input output media told_it ends = tt
+replays_known (Some bytes) now old new was next law status answer input output media told_it ends = λ told. replays_all bytes now old new was next told law status answer input output media told_it ends

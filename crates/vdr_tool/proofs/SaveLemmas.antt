@@ -33,7 +33,7 @@ use Rattle.vdr_tool.specs.declared.status.SaveCause.TheVariants.{Label, Nothing,
 use Rattle.vdr_tool.specs.declared.status.Status.{Status}
 use Rattle.vdr_tool.specs.declared.status.Status.TheVariants.{Done, MediaFault, OutputFault, SaveRefused}
 use Rattle.vdr_replay.proofs.Playing.{config_read}
-use Rattle.vdr_tool.proofs.OpenedLemmas.{OpenedOn, done_either, kept_by_call, legible_so, one_look, worked_ends}
+use Rattle.vdr_tool.proofs.OpenedLemmas.{OpenedOn, done_either, kept_by_call, legible_so, one_look, reads_done, worked_ends}
 
 -- Of a refused opening nothing is printed.
 pub prints_nothing : (text : List ℕ) (refused : OpenRefused) (old new : OutputSeen) → PrintsText text (status_of_opening refused) old new
@@ -129,22 +129,24 @@ module _ {tells tells_images : Type 0} (old mid new : MediaSeen tells tells_imag
 
       module _ {T : Type 0} (result : Result T OpenRefused)
           (moments : (x : Contents) → tells → HoldsContents old.disk.reads x → EndsMeet both (reading_of x) → WasRecorded x → OpensAtEachMoment old.disk mid.disk result (ShowsHistory (opening_of x) [])) where
-        kept_with_save : (moment : Option ℕ) (MayBe : List Event → Type 0) → save_refusal label r.members ≡ None → ((m offset : ℕ) → saved ≡ Err (saves.Damaged m offset) → ⊥) → moment_of after.members.failed new.disk.clock ≡ moment
+        kept_with_save : (moment : Option ℕ) (MayBe : List Event → Type 0) (status : Status) → (IsWorkDone status → after.members.failed ≡ false) → save_refusal label r.members ≡ None → ((m offset : ℕ) → saved ≡ Err (saves.Damaged m offset) → ⊥) → moment_of after.members.failed new.disk.clock ≡ moment
             → ((events : List Event) → IsOneEvent (SavesAs label) moment events → MayBe events)
-            → (x : Contents) → tells → HoldsContents old.disk.reads x → EndsMeet both (reading_of x) → WasRecorded x → KeepsContents x MayBe old.disk new.disk
-        kept_with_save moment MayBe none whole is may x t holds meet regular =
+            → (x : Contents) → tells → HoldsContents old.disk.reads x → EndsMeet both (reading_of x) → WasRecorded x → KeepsContents x MayBe status old.disk new.disk
+        kept_with_save moment MayBe status works_still none whole is may x t holds meet regular =
             let has = opened x t holds regular in
             let save = saves_so (opening_of x) [] has.0 t works none whole has.3 in
             let done = save.4 in
-            kept_by_call x (config_read old.disk.reads x holds) regular MayBe old.disk mid.disk new.disk result (Save save.0 label save.1 save.2) refl r after has.0 (moments x t holds meet regular) has.1 has.2 done
+            kept_by_call x (config_read old.disk.reads x holds) regular MayBe status old.disk mid.disk new.disk result (Save save.0 label save.1 save.2) refl r after has.0 (moments x t holds meet regular) has.1 has.2 done
+            (λ worked told. reads_done x (Save save.0 label save.1 save.2) after has.0 mid.disk new.disk done (works_still worked) told)
             (may (done.event ∷ []) (record { event = done.event; is = refl; does = (save.0, save.1, save.2, done.act_is); moment_is = done.moment_is ∙ is }))
 
-        kept_refused : (refused : Refused) → save_refusal label r.members ≡ Some refused
-            → (x : Contents) → tells → HoldsContents old.disk.reads x → EndsMeet both (reading_of x) → WasRecorded x → KeepsContents x AreLooks old.disk new.disk
-        kept_refused refused is x t holds meet regular =
+        kept_refused : (refused : Refused) (status : Status) → (IsWorkDone status → ⊥) → save_refusal label r.members ≡ Some refused
+            → (x : Contents) → tells → HoldsContents old.disk.reads x → EndsMeet both (reading_of x) → WasRecorded x → KeepsContents x AreLooks status old.disk new.disk
+        kept_refused refused status undone is x t holds meet regular =
             let has = opened x t holds regular in
             let done = looked (opening_of x) [] has.0 refused (inr is) has.3 in
-            kept_by_call x (config_read old.disk.reads x holds) regular AreLooks old.disk mid.disk new.disk result Look refl r after has.0 (moments x t holds meet regular) has.1 has.2 done (one_look done.event done.act_is)
+            kept_by_call x (config_read old.disk.reads x holds) regular AreLooks status old.disk mid.disk new.disk result Look refl r after has.0 (moments x t holds meet regular) has.1 has.2 done
+            (λ worked. absurd (undone worked)) (one_look done.event done.act_is)
 
         pub saved_ends : (status : Status) (id : ℕ) → IsWorkDone status → saved ≡ Ok id → ((saved ≡ Err saves.Fault → ⊥) → after.members.failed ≡ false)
             → MediaEnds (CanSave label) (MetUnsound old.disk (CanSave label)) (MayLeave (SavesAs label) new.disk.clock status) old new status
@@ -153,7 +155,7 @@ module _ {tells tells_images : Type 0} (old mid new : MediaSeen tells tells_imag
             let none = unrefused (save_refusal label r.members) refl (λ refused e. let clash : Ok id ≡ Err refused = sym is ∙ refused_so refused works e in let no_one : ⊥ = cc in no_one) in
             worked_ends (CanSave label) (MetUnsound old.disk (CanSave label)) (MayLeave (SavesAs label) new.disk.clock status) old new status done
             (judged None none) others_too
-            (kept_with_save (Some new.disk.clock) (MayLeave (SavesAs label) new.disk.clock status) none (λ m offset e. let clash : Ok id ≡ Err (saves.Damaged m offset) = sym is ∙ e in let no_one : ⊥ = cc in no_one) (ap (λ (b : Bool). moment_of b new.disk.clock) works_still) (λ events one. may_leave (SavesAs label) new.disk.clock status events done one))
+            (kept_with_save (Some new.disk.clock) (MayLeave (SavesAs label) new.disk.clock status) status (λ worked. works_still) none (λ m offset e. let clash : Ok id ≡ Err (saves.Damaged m offset) = sym is ∙ e in let no_one : ⊥ = cc in no_one) (ap (λ (b : Bool). moment_of b new.disk.clock) works_still) (λ events one. may_leave (SavesAs label) new.disk.clock status events done one))
 
         module _ (reason : (refused : Refused) → saved ≡ Err refused → (refused ≡ saves.Label) ⊎ ((refused ≡ saves.Nothing) ⊎ (refused ≡ saves.TableFull))
             → (r.members.failed ≡ false) × (save_refusal label r.members ≡ Some refused))
@@ -175,7 +177,7 @@ module _ {tells tells_images : Type 0} (old mid new : MediaSeen tells tells_imag
             legible = λ done. absurd done;
             others = others_too;
             blank = λ t un. absurd (never_both old.disk.reads (contents t).0 un);
-            kept = λ x t holds meet regular. inr (kept_refused refused is x t holds meet regular);
+            kept = λ x t holds meet regular. inr (kept_refused refused (SaveRefused why) (λ worked. worked) is x t holds meet regular);
           }
 
           pub unsaved_ends : (refused : Refused) → saved ≡ Err refused
@@ -195,7 +197,8 @@ module _ {tells tells_images : Type 0} (old mid new : MediaSeen tells tells_imag
                 kept = λ x t holds meet regular.
                     let has = opened x t holds regular in
                     let done = met_damage (opening_of x) [] has.0 m offset t is has.3 in
-                    inr (kept_by_call x (config_read old.disk.reads x holds) regular AreLooks old.disk mid.disk new.disk result Look refl r after has.0 (moments x t holds meet regular) has.1 has.2 done (one_look done.event done.act_is));
+                    inr (kept_by_call x (config_read old.disk.reads x holds) regular AreLooks _ old.disk mid.disk new.disk result Look refl r after has.0 (moments x t holds meet regular) has.1 has.2 done
+                    (λ worked. absurd worked) (one_look done.event done.act_is));
               }
           unsaved_ends saves.Fault is =
               let none = unjudged saves.Fault is (never_fault (is_label label) r.members.last (position is_none r.members.table)) in
@@ -206,7 +209,7 @@ module _ {tells tells_images : Type 0} (old mid new : MediaSeen tells tells_imag
                 legible = λ done. absurd done;
                 others = others_too;
                 blank = λ t un. absurd (never_both old.disk.reads (contents t).0 un);
-                kept = λ x t holds meet regular. inr (kept_with_save None (MayLeave (SavesAs label) new.disk.clock MediaFault) none (λ m offset e. let clash : Err saves.Fault ≡ Err (saves.Damaged m offset) = sym is ∙ e in let no_one : ⊥ = cc in no_one) (ap (λ (b : Bool). moment_of b new.disk.clock) (fails is)) (λ events one. inr one) x t holds meet regular);
+                kept = λ x t holds meet regular. inr (kept_with_save None (MayLeave (SavesAs label) new.disk.clock MediaFault) MediaFault (λ worked. absurd worked) none (λ m offset e. let clash : Err saves.Fault ≡ Err (saves.Damaged m offset) = sym is ∙ e in let no_one : ⊥ = cc in no_one) (ap (λ (b : Bool). moment_of b new.disk.clock) (fails is)) (λ events one. inr one) x t holds meet regular);
               }
 
           pub unsaved_refused : (refused : Refused) → saved ≡ Err refused → IfSaveRefused (status_of_save refused) (λ why. tells → IsLegibleWith old.disk.reads (IsJudged label (Some why)))
@@ -239,13 +242,14 @@ module _ {tells tells_images : Type 0} (old mid new : MediaSeen tells tells_imag
 
     module _ {T : Type 0} (result : Result T OpenRefused)
         (moments : (x : Contents) → tells → HoldsContents old.disk.reads x → EndsMeet both (reading_of x) → WasRecorded x → OpensAtEachMoment old.disk mid.disk result (ShowsHistory (opening_of x) [])) where
-      kept_with_release : (moment : Option ℕ) (MayBe : List Event → Type 0) (saved : Incident) → live r.members.table id ≡ Some saved → moment_of after.members.failed new.disk.clock ≡ moment
+      kept_with_release : (moment : Option ℕ) (MayBe : List Event → Type 0) (status : Status) → (IsWorkDone status → after.members.failed ≡ false) → (saved : Incident) → live r.members.table id ≡ Some saved → moment_of after.members.failed new.disk.clock ≡ moment
           → ((events : List Event) → IsOneEvent (ReleasesId id) moment events → MayBe events)
-          → (x : Contents) → tells → HoldsContents old.disk.reads x → EndsMeet both (reading_of x) → WasRecorded x → KeepsContents x MayBe old.disk new.disk
-      kept_with_release moment MayBe saved live_is is may x t holds meet regular =
+          → (x : Contents) → tells → HoldsContents old.disk.reads x → EndsMeet both (reading_of x) → WasRecorded x → KeepsContents x MayBe status old.disk new.disk
+      kept_with_release moment MayBe status works_still saved live_is is may x t holds meet regular =
           let has = opened x t holds regular in
           let done = releases_so (opening_of x) [] has.0 saved t works live_is has.3 in
-          kept_by_call x (config_read old.disk.reads x holds) regular MayBe old.disk mid.disk new.disk result (Release id) refl r after has.0 (moments x t holds meet regular) has.1 has.2 done
+          kept_by_call x (config_read old.disk.reads x holds) regular MayBe status old.disk mid.disk new.disk result (Release id) refl r after has.0 (moments x t holds meet regular) has.1 has.2 done
+          (λ worked told. reads_done x (Release id) after has.0 mid.disk new.disk done (works_still worked) told)
           (may (done.event ∷ []) (record { event = done.event; is = refl; does = done.act_is; moment_is = done.moment_is ∙ is }))
 
       pub released_ends : (p : Result ⊤ ReleaseRefused) → released ≡ p
@@ -254,7 +258,7 @@ module _ {tells tells_images : Type 0} (old mid new : MediaSeen tells tells_imag
           let live_one = there (live r.members.table id) refl (λ e. let clash : Ok u ≡ Err releases.NoSuch = sym is ∙ e in let none : ⊥ = cc in none) in
           let works_still = works_on (λ e. let clash : Ok u ≡ Err releases.Fault = sym is ∙ e in let none : ⊥ = cc in none) in
           worked_ends (λ x. CanRelease id x) ⊥ (MayLeave (ReleasesId id) new.disk.clock Done) old new Done tt (can live_one.0 live_one.1) others_too
-          (kept_with_release (Some new.disk.clock) (MayLeave (ReleasesId id) new.disk.clock Done) live_one.0 live_one.1 (ap (λ (b : Bool). moment_of b new.disk.clock) works_still) (λ events one. one))
+          (kept_with_release (Some new.disk.clock) (MayLeave (ReleasesId id) new.disk.clock Done) Done (λ worked. works_still) live_one.0 live_one.1 (ap (λ (b : Bool). moment_of b new.disk.clock) works_still) (λ events one. one))
       released_ends (Err releases.NoSuch) is = record {
         unformatted = λ e. let none : ⊥ = cc in absurd none;
         damaged = tt;
@@ -265,7 +269,8 @@ module _ {tells tells_images : Type 0} (old mid new : MediaSeen tells tells_imag
         kept = λ x t holds meet regular.
             let has = opened x t holds regular in
             let done = looked (opening_of x) [] has.0 (inr (reason is).1) has.3 in
-            inr (kept_by_call x (config_read old.disk.reads x holds) regular AreLooks old.disk mid.disk new.disk result Look refl r after has.0 (moments x t holds meet regular) has.1 has.2 done (one_look done.event done.act_is));
+            inr (kept_by_call x (config_read old.disk.reads x holds) regular AreLooks _ old.disk mid.disk new.disk result Look refl r after has.0 (moments x t holds meet regular) has.1 has.2 done
+            (λ worked. absurd worked) (one_look done.event done.act_is));
       }
       released_ends (Err releases.Fault) is =
           let live_one = there (live r.members.table id) refl (λ e. let clash : Err releases.Fault ≡ Err releases.NoSuch = sym is ∙ e in let none : ⊥ = cc in none) in
@@ -276,7 +281,7 @@ module _ {tells tells_images : Type 0} (old mid new : MediaSeen tells tells_imag
             legible = λ done. absurd done;
             others = others_too;
             blank = λ t un. absurd (never_both old.disk.reads (contents t).0 un);
-            kept = λ x t holds meet regular. inr (kept_with_release None (MayLeave (ReleasesId id) new.disk.clock MediaFault) live_one.0 live_one.1 (ap (λ (b : Bool). moment_of b new.disk.clock) (fails is)) (λ events one. inr one) x t holds meet regular);
+            kept = λ x t holds meet regular. inr (kept_with_release None (MayLeave (ReleasesId id) new.disk.clock MediaFault) MediaFault (λ worked. absurd worked) live_one.0 live_one.1 (ap (λ (b : Bool). moment_of b new.disk.clock) (fails is)) (λ events one. inr one) x t holds meet regular);
           }
 
     pub released_missing : (p : Result ⊤ ReleaseRefused) → released ≡ p → IfNoIncident (status_of_release p id) (λ told. (told ≡ id) × (tells → IsLegibleWith old.disk.reads (λ x. live x.table id ≡ None)))

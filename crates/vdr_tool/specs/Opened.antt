@@ -98,8 +98,8 @@ module _ {tells tells_images : Type 0} where
 
   -- Media that held these contents keep them by some events: since entry a stop left what it might have left at entry, or media that
   -- play back what was held or what the events make of it; and from the moment at which opening's syncs had succeeded the media keep
-  -- the events.
-  pub record KeepsContents (x : Contents) (MayBe : List Event → Type 0) (before after : Disk tells tells_images) : Type 0 where
+  -- the events. Where the work was done, what the media then read as plays back all of it.
+  pub record KeepsContents (x : Contents) (MayBe : List Event → Type 0) (status : Status) (before after : Disk tells tells_images) : Type 0 where
     pub events : List Event
     pub may_be : MayBe events
     pub history : IsHistory (opening_of x) events
@@ -108,6 +108,7 @@ module _ {tells tells_images : Type 0} where
     pub after_entry : before.clock ≤ synced
     pub before_exit : synced ≤ after.clock
     pub kept : Keeps (PlaysBack (opening_of x)) events synced after
+    pub reads : IsWorkDone status → tells → PlaysBack (opening_of x) events after.reads
 
   -- What is said where media are opened for work that can be done on contents of which Can holds, by what they read as at entry.
   -- Met is what else may be answered as damage.
@@ -121,7 +122,7 @@ module _ {tells tells_images : Type 0} where
     pub others : tells → SameElsewhere old.disk.reads new.disk.reads
     pub blank : tells → IsUnformatted old.disk.reads → LeavesAll old.disk new.disk
     pub kept : (x : Contents) → tells → HoldsContents old.disk.reads x → EndsMeet both (reading_of x) → WasRecorded x
-        → (IsUnopened status × LeavesAll old.disk new.disk) ⊎ KeepsContents x MayBe old.disk new.disk
+        → (IsUnopened status × LeavesAll old.disk new.disk) ⊎ KeepsContents x MayBe status old.disk new.disk
 
 -- Media that can't be opened are refused by their own refusal, or there was no memory.
 pub record RefusesAll (image : Image) (status : Status) : Type 0 where

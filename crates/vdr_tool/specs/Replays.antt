@@ -14,7 +14,7 @@ use Rattle.vdr_vault.specs.Calls.{SameElsewhere}
 use Rattle.vdr_vault.specs.Openings.{LeavesAll}
 use Rattle.vdr_replay.specs.Answers.{Answers, EndsAtHeader, HasReplayCause, IfOpened, MayBegin, RefusesMedia, TellsHeader}
 use Rattle.vdr_replay.specs.Headline.{LeavesHistory}
-use Rattle.vdr_replay.specs.Feeding.{AreConfigured, ReadsFeed, most_items}
+use Rattle.vdr_replay.specs.Feeding.{AreConfigured, RefusesNext, most_items}
 use Rattle.vdr_replay.specs.declared.ended.FeedEnd.{FeedEnd}
 use Rattle.vdr_replay.specs.declared.ended.FeedEnd.TheVariants as feed_ends
 use Rattle.vdr_replay.specs.declared.ended.Replayed.{Replayed}
@@ -52,11 +52,11 @@ abbrev pub TellsRun : Result Replayed ReplayStop → Status → (old new : Outpu
 TellsRun (Ok run) status old new = PrintsRun run.end (summary_text run.groups run.records) status old new
 TellsRun (Err stop) status old new = (status ≡ status_of_stop stop) × (new ≡ old)
 
--- What the answer says of the input and of the media at entry, and what the media are afterwards.
-pub record ReplayEnds {tells tells_images : Type 0} (input : Option (List ℕ)) (old new : MediaSeen tells tells_images) (answer : Result Replayed ReplayStop) : Type 0 where
+-- What the answer says of the input and of the media at entry, and what the input and the media are afterwards.
+pub record ReplayEnds {tells tells_images : Type 0} (input now : Option (List ℕ)) (old new : MediaSeen tells tells_images) (answer : Result Replayed ReplayStop) : Type 0 where
   -- one history of the feed, whole and at every moment
   pub recorded : (x : Contents) (bytes : List ℕ) → tells → HoldsContents old.disk.reads x → WasRecorded x → input ≡ Some bytes
-      → Answers x bytes (MediaFailed old new) old.disk new.disk answer
+      → Answers x bytes now (MediaFailed old new) old.disk new.disk answer
   -- and whatever is known of the input, one history of some feed
   pub left : (x : Contents) → tells → HoldsContents old.disk.reads x → EndsMeet both (reading_of x) → WasRecorded x → LeavesHistory x (MediaFailed old new) old.disk new.disk
   pub blank : tells → IsUnformatted old.disk.reads → LeavesAll old.disk new.disk
@@ -64,7 +64,7 @@ pub record ReplayEnds {tells tells_images : Type 0} (input : Option (List ℕ)) 
   pub unopened : EndsAtHeader answer → AreLeftAlone old new
   pub untouched : RefusesMedia answer → IsUntouched old.disk new.disk
   -- each refusal comes only in its case
-  pub header : TellsHeader input answer
+  pub header : TellsHeader input now answer
   pub legible : tells → IfOpened answer (IsFormatted old.disk.reads × (x : Contents) × HoldsContents old.disk.reads x × EndsMeet both (reading_of x))
   pub unformatted : answer ≡ Err stops.NotFormatted → tells → IsUnformatted old.disk.reads
   pub damaged : (m offset : ℕ) → answer ≡ Err (stops.Damaged m offset) → tells → IsFormatted old.disk.reads × IsRefused old.disk.reads m offset
@@ -81,7 +81,7 @@ pub record ReplaysAll (bytes : List ℕ) (image : Image) (status : Status) : Typ
   pub tick : (x : Contents) → take 8 bytes ≡ feed_header → HoldsContents image x → EndsMeet both (reading_of x) → WasRecorded x
       → (opening_of x).next_place < 2 ^ 62 → 2 ^ 62 ≤ base_after (opening_of x).last → (status ≡ Tick) ⊎ (status ≡ NoMemory)
   pub refused : (x : Contents) (feed : List FeedItem) (number offset : ℕ) → HoldsContents image x → EndsMeet both (reading_of x) → WasRecorded x → MayBegin (opening_of x)
-      → ReadsFeed x.config.groups bytes (feed_ends.Refused number offset) feed → AreConfigured x.config.groups feed → IsRefusal number offset status
+      → RefusesNext x.config.groups bytes number offset feed → AreConfigured x.config.groups feed → IsRefusal number offset status
   pub done : (x : Contents) (feed : List FeedItem) → HoldsContents image x → EndsMeet both (reading_of x) → WasRecorded x → MayBegin (opening_of x)
       → IsFeed most_items bytes feed → AreConfigured x.config.groups feed → IsDone status
 
@@ -96,7 +96,7 @@ pub record Replays {tells tells_images : Type 0} (old new : Outside tells tells_
   pub input : status ≡ InputFault → InputFailed old.input new.input
   pub output : status ≡ OutputFault → OutputFailed old.output new.output
   -- the media, and what is said of them
-  pub media : ReplayEnds old.input.left old.media new.media answer
+  pub media : ReplayEnds old.input.left new.input.left old.media new.media answer
   -- nothing else comes in the place of the recording, or of a refusal, but want of memory
   pub complete : NothingFailed old new → IfKnown old.input.left (λ bytes. tells → ReplaysAll bytes old.media.disk.reads status)
 

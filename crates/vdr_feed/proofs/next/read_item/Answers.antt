@@ -1,4 +1,4 @@
-use Rattle.std.proofs.Common.{rules, arith, ◌≡◌, ◌≤◌, ◌<◌, ◌^◌, ◌∙◌, ℕ, List, Bool, true, false, not, Option, Some, None, length, take, subst, sym, ap, refl, pos, to_z, w64}
+use Rattle.std.proofs.Common.{arith, ◌≡◌, ◌≤◌, ◌<◌, ◌^◌, ◌∙◌, ◌++◌, ℕ, List, Bool, true, false, inr, Option, None, length, take, subst, sym, ap, refl, pos, w64}
 use Rattle.std.specs.Io.KnownBytes.{Consumes, IsAtEnd}
 use Rattle.std.proofs.KnownBytes.{Consumes-trans}
 use Rattle.std.proofs.lemmas.List.{take_all}
@@ -6,11 +6,10 @@ use Rattle.std.proofs.lemmas.Int.{to_z_pos}
 use Rattle.vdr_terms.specs.Records.{FeedItem}
 use Rattle.vdr_terms.specs.Legality.{IsBytes}
 use Rattle.vdr_feed.specs.Body.{ReadsBody}
-use Rattle.vdr_feed.specs.Feed.{length_in, head_fault, group_in, received_in, utc_in, spelling}
-use Rattle.vdr_feed.specs.Kept.{Holds}
+use Rattle.vdr_feed.specs.Feed.{length_in, head_fault, group_in, received_in, utc_in}
 use Rattle.vdr_feed.specs.Reader.{IsNext}
 use Rattle.vdr_feed.specs.declared.item.Item.{Item as Held}
-use Rattle.vdr_feed.proofs.Grammar.{refuses_short, refuses_head, refuses_body, item_of, item_spelled, item_legal, number_legal}
+use Rattle.vdr_feed.proofs.Grammar.{inside_body, refuses_short, refuses_head, refuses_body, item_of, item_spelled, item_legal, number_legal}
 use Rattle.vdr_feed.proofs.next.read_item.Goals as goal
 
 whole_head : (a b : Option (List ℕ)) (got : ℕ) (h : List ℕ) → Consumes a b (take got h) → length h ≡ 19 → 19 ≤ got → Consumes a b h
@@ -74,3 +73,13 @@ returns-clause-read g c =
     (body.0, body.1 ∙ c.length_of-len.ensures, body.2, body.3) (subst (λ (n : ℕ). n < 2 ^ 16) c.length_of-len.ensures short)
     refl c.received_of-into.ensures (to_z_pos w64 c.utc_of.result utc_small ∙ ap (λ (n : ℕ). pos n) utc_is) in
     (read.0, read.1, read.2 ∙ sym c.length_of-len.ensures)
+
+pub returns-in_err-read_body-clause-part : goal.returns-in_err-read_body-clause-part
+returns-in_err-read_body-clause-part g c = λ _.
+    let long : length c.fill.new.into ≡ 19 = c.fill.auto.into in
+    let p = c.in_err-read_body.ensures.part in (
+      c.fill.new.into ++ p.0,
+      inr (inside_body c.args.limit c.args.count c.args.floor c.fill.new.into p.0 long c.if-count-limit.false (sym c.fault_of_head.ensures.fault ∙ c.in_default.is)
+          (subst (λ (n : ℕ). length p.0 < n) c.length_of-len.ensures p.1)),
+      Consumes-trans _ _ _ c.fill.new.into p.0 (whole_head _ _ c.in_ok-got.got c.fill.new.into c.in_ok-got.ensures.bytes long c.if-got-lt19.false) p.2,
+    )

@@ -1,9 +1,10 @@
-use Rattle.std.proofs.Common.{◌≡◌, ◌<◌, ℕ, List, length, Bool, true, false, Option, refl, ap, arith}
+use Rattle.std.proofs.Common.{◌≡◌, ◌<◌, ℕ, List, length, Bool, true, false, Option, Result, Err, refl, ap, arith}
 use Rattle.vdr_config.specs.Configuration.{Configuration}
 use Rattle.vdr_feed.specs.Reader.{GivesItem, Reading}
+use Rattle.vdr_feed.specs.declared.fault.FeedFault.{FeedFault}
 use Rattle.vdr_feed.specs.declared.item.Item.{Item as Held}
 use Rattle.vdr_replay.proofs.Held.{none_there}
-use Rattle.vdr_replay.proofs.Reading.{ends_strange}
+use Rattle.vdr_replay.proofs.Reading.{ends_failed, ends_strange}
 use Rattle.vdr_replay.proofs.feeding.read_next.Goals as goal
 
 gave_true : (before now : Option (List ℕ)) (r r' : Reading) (held : Held) (b : Bool) → b ≡ true → GivesItem before now r r' held b → GivesItem before now r r' held true
@@ -20,3 +21,10 @@ returns-then-is_none-clause-ended g c = λ first feed h.
     ends_strange c.args.config.now.groups first _ _ _ _ feed gave.0 _ _ h gave.1
     (λ rated. none_there c.args.config.now.groups c.config.inside.groups gave.0.group c.item.new.into.group _ (ap (λ (s : Configuration). s.groups) c.config.view_is) own within c.if-is_none.ensures rated)
     refl c.offset-offset.ensures
+
+err_is : (e f : FeedFault) → e ≡ f → ◌≡◌ {A = Result Bool FeedFault} (Err e) (Err f)
+err_is e f same i = Err (same i)
+
+pub returns-in-Err-Fault-clause-ended : goal.returns-in-Err-Fault-clause-ended
+returns-in-Err-Fault-clause-ended g c = λ first feed h.
+    ends_failed c.args.config.now.groups first _ _ _ feed h (c.in-Err-Fault.ensures.part h.going (err_is _ _ c.in-Err-Fault.field-0-is))

@@ -27,8 +27,8 @@ pub returns-in_err-recording-clause-replayed : goal.returns-in_err-recording-cla
 returns-in_err-recording-clause-replayed g c = λ x bytes told holds sound known.
     let p = err_from_is_err_and c.from_residual-in_err-recording.result c.from_residual-in_err-recording.ensures.1 in
     let rose = Rose (sum (g.M.Media.faults c.args.media.now)) (sum (g.M.Media.faults c.open.new.media)) in
-    subst (Answers x bytes rose (g.M.Media.disk c.args.media.now) (g.M.Media.disk c.open.new.media)) (sym (p.1 ∙ ap (λ (stop : ReplayStop). Err stop) p.2))
-    (open_stops x bytes rose (config_read (g.M.Media.disk c.args.media.now).reads x holds) sound (g.M.Media.disk c.args.media.now) (g.M.Media.disk c.open.new.media) c.open.result
+    subst (Answers x bytes (g.I.Source.left c.header.new.input) rose (g.M.Media.disk c.args.media.now) (g.M.Media.disk c.open.new.media)) (sym (p.1 ∙ ap (λ (stop : ReplayStop). Err stop) p.2))
+    (open_stops x bytes (g.I.Source.left c.header.new.input) rose (config_read (g.M.Media.disk c.args.media.now).reads x holds) sound (g.M.Media.disk c.args.media.now) (g.M.Media.disk c.open.new.media) c.open.result
     c.in_err-recording.field-0.0 c.in_err-recording.was (λ either. (c.open.ensures.untouched either).0) (λ meet. c.open.ensures.moments x told holds meet sound))
 
 pub returns-in_err-recording-clause-damaged : goal.returns-in_err-recording-clause-damaged
@@ -43,8 +43,8 @@ returns-in_err-lanes-clause-replayed g c = λ x bytes told holds sound known.
     let rose = Rose (sum (g.M.Media.faults c.args.media.now)) (sum (g.M.Media.faults c.open.new.media)) in
     let reads = config_read (g.M.Media.disk c.args.media.now).reads x holds in
     let opened = c.in_ok-recording.ensures.opened x told holds sound in
-    subst (Answers x bytes rose (g.M.Media.disk c.args.media.now) (g.M.Media.disk c.open.new.media)) (sym (p.1 ∙ ap (λ (stop : ReplayStop). Err stop) p.2))
-    (λ meet. begun_nothing x bytes rose reads sound opened.0 c.in_ok-recording.recording c.in_ok-recording.recording (g.M.Media.disk c.args.media.now) (g.M.Media.disk c.open.new.media) (g.M.Media.disk c.open.new.media) opened.3
+    subst (Answers x bytes (g.I.Source.left c.header.new.input) rose (g.M.Media.disk c.args.media.now) (g.M.Media.disk c.open.new.media)) (sym (p.1 ∙ ap (λ (stop : ReplayStop). Err stop) p.2))
+    (λ meet. begun_nothing x bytes (g.I.Source.left c.header.new.input) rose reads sound opened.0 c.in_ok-recording.recording c.in_ok-recording.recording (g.M.Media.disk c.args.media.now) (g.M.Media.disk c.open.new.media) (g.M.Media.disk c.open.new.media) opened.3
     (passes_opened x bytes rose reads sound (g.M.Media.disk c.args.media.now) (g.M.Media.disk c.open.new.media) c.in_ok-recording.recording (c.in_ok-recording.ensures.moments x told holds meet sound))
     opened.1 opened.2 opened.3 (passes_first (opening_of x) [] (g.M.Media.disk c.open.new.media)))
 
@@ -58,11 +58,11 @@ returns-clause-replayed g c = λ x bytes told holds sound known.
     let same = was.4 ∙ (c.law_of_contents.ensures.config (g.M.Media.disk c.args.media.now).reads was.1 x was.2 holds).0 in
     let begins = subst (λ (first : Option (List ℕ)). HasRead first (g.I.Source.left c.header.new.input) c.header.new.self []) known
     (read_first _ _ _ c.in_ok-header.ensures.bytes (c.in_ok-header.ensures.ready ∙ ap (λ (r : Reading). begun_reading r.limit) c.new-reader.ensures)) in
-    answers x bytes rose reads sound opened.0 c.in_ok-recording.recording c.record_run.new.recording (g.M.Media.disk c.args.media.now) (g.M.Media.disk c.open.new.media) (g.M.Media.disk c.record_run.new.media) opened.3
+    answers x bytes (g.I.Source.left c.record_run.new.input) rose reads sound opened.0 c.in_ok-recording.recording c.record_run.new.recording (g.M.Media.disk c.args.media.now) (g.M.Media.disk c.open.new.media) (g.M.Media.disk c.record_run.new.media) opened.3
     (passes_opened x bytes rose reads sound (g.M.Media.disk c.args.media.now) (g.M.Media.disk c.open.new.media) c.in_ok-recording.recording (c.in_ok-recording.ensures.moments x told holds meet sound))
     opened.1 opened.2 (g.I.Source.left c.header.new.input) c.header.new.self (admits_all x.config (subst IsConfiguration (c.config.ensures ∙ same) c.new.ensures.legal)) begins c.record_run.result
     (λ is. sum_of_rose _ _ (none_falls_join _ _ _ c.open.ensures.cause.later c.record_run.ensures.cause.later) (rose_joined _ _ _ c.open.ensures.cause.later (c.record_run.ensures.cause.by_medium is)))
-    (subst (λ (config : Configuration). Runs (opening_of x) opened.0 (g.I.Source.left c.header.new.input) c.header.new.self config.groups c.record_run.new.recording (g.M.Media.disk c.open.new.media) (g.M.Media.disk c.record_run.new.media) c.record_run.result) same
+    (subst (λ (config : Configuration). Runs (opening_of x) opened.0 (g.I.Source.left c.header.new.input) c.header.new.self (g.I.Source.left c.record_run.new.input) config.groups c.record_run.new.recording (g.M.Media.disk c.open.new.media) (g.M.Media.disk c.record_run.new.media) c.record_run.result) same
     (c.record_run.ensures.ran (opening_of x) opened.0 told opened.3))
 
 pub returns-in_err-header-clause-left : goal.returns-in_err-header-clause-left
@@ -85,11 +85,11 @@ returns-clause-left g c = λ x told holds meet sound.
     let opened = c.in_ok-recording.ensures.opened x told holds sound in
     let was = c.in_ok-recording.ensures.contents told in
     let same = was.4 ∙ (c.law_of_contents.ensures.config (g.M.Media.disk c.args.media.now).reads was.1 x was.2 holds).0 in
-    leaves x [] rose reads sound opened.0 c.in_ok-recording.recording c.record_run.new.recording (g.M.Media.disk c.args.media.now) (g.M.Media.disk c.open.new.media) (g.M.Media.disk c.record_run.new.media) opened.3
+    leaves x [] (g.I.Source.left c.record_run.new.input) rose reads sound opened.0 c.in_ok-recording.recording c.record_run.new.recording (g.M.Media.disk c.args.media.now) (g.M.Media.disk c.open.new.media) (g.M.Media.disk c.record_run.new.media) opened.3
     (passes_opened x [] rose reads sound (g.M.Media.disk c.args.media.now) (g.M.Media.disk c.open.new.media) c.in_ok-recording.recording (c.in_ok-recording.ensures.moments x told holds meet sound))
     opened.1 opened.2 (g.I.Source.left c.header.new.input) c.header.new.self (admits_all x.config (subst IsConfiguration (c.config.ensures ∙ same) c.new.ensures.legal)) c.record_run.result
     (λ is. sum_of_rose _ _ (none_falls_join _ _ _ c.open.ensures.cause.later c.record_run.ensures.cause.later) (rose_joined _ _ _ c.open.ensures.cause.later (c.record_run.ensures.cause.by_medium is)))
-    (subst (λ (config : Configuration). Runs (opening_of x) opened.0 (g.I.Source.left c.header.new.input) c.header.new.self config.groups c.record_run.new.recording (g.M.Media.disk c.open.new.media) (g.M.Media.disk c.record_run.new.media) c.record_run.result) same
+    (subst (λ (config : Configuration). Runs (opening_of x) opened.0 (g.I.Source.left c.header.new.input) c.header.new.self (g.I.Source.left c.record_run.new.input) config.groups c.record_run.new.recording (g.M.Media.disk c.open.new.media) (g.M.Media.disk c.record_run.new.media) c.record_run.result) same
     (c.record_run.ensures.ran (opening_of x) opened.0 told opened.3))
 
 pub returns-in_err-header-clause-blank : goal.returns-in_err-header-clause-blank

@@ -20,7 +20,7 @@ returns-in_err-record-clause-broken g c =
     let t = c.in_ok-end.ensures.taken in
     on_err c.from_residual-in_err-record.result (record {
       feed = t.feed;
-      read = λ first h. known_reach c.args.recording.now.members.config.groups first c.in_ok-end.end t.feed (t.read first h);
+      read = λ first h. known_reach c.args.recording.now.members.config.groups first _ c.in_ok-end.end t.feed (t.read first h);
       known = subst (λ (config : Configuration). AreConfigured config.groups t.feed) c.take_all.ensures.config t.held.known;
       low = t.held.low;
       told = λ opening events t0 told h.
@@ -53,7 +53,7 @@ returns-in_err-stop-clause-broken g c =
     let same = rests t.feed c.record.new.self c.rest.result held.counts held.low c.rest.ensures.sixteen c.rest.ensures.each in
     on_err c.from_residual-in_err-stop.result (record {
       feed = t.feed;
-      read = λ first h. known_reach c.args.recording.now.members.config.groups first c.in_ok-end.end t.feed (t.read first h);
+      read = λ first h. known_reach c.args.recording.now.members.config.groups first _ c.in_ok-end.end t.feed (t.read first h);
       known = subst (λ (config : Configuration). AreConfigured config.groups t.feed) c.take_all.ensures.config t.held.known;
       low = t.held.low;
       told = λ opening events t0 told h.

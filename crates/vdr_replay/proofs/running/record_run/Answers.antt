@@ -18,12 +18,12 @@ pub returns-in_err-start-clause-ran : goal.returns-in_err-start-clause-ran
 returns-in_err-start-clause-ran g c = λ opening t0 told h.
     let p = err_from_is_err_and c.from_residual.result c.from_residual.ensures.1 in
     let rates = c.args.recording.now.members.config.groups in
-    subst (Runs opening t0 (g.I.Source.left c.args.input.now) c.args.reader.now rates c.start.new.self (g.M.Media.disk c.args.media.now) (g.M.Media.disk c.start.new.media))
+    subst (Runs opening t0 (g.I.Source.left c.args.input.now) c.args.reader.now (g.I.Source.left c.args.input.now) rates c.start.new.self (g.M.Media.disk c.args.media.now) (g.M.Media.disk c.start.new.media))
     (sym (p.1 ∙ ap (λ (stop : ReplayStop). Err stop) p.2))
     (start_stops opening t0 c.args.recording.now (g.M.Media.disk c.args.media.now) h c.start.result (c.start.ensures.place c.requires.works) (c.start.ensures.tick c.requires.works)
-    (g.I.Source.left c.args.input.now) c.args.reader.now rates c.start.new.self (g.M.Media.disk c.start.new.media) c.requires.works c.in_err-start.field-0.0 c.in_err-start.was
+    (g.I.Source.left c.args.input.now) c.args.reader.now (g.I.Source.left c.args.input.now) rates c.start.new.self (g.M.Media.disk c.start.new.media) c.requires.works c.in_err-start.field-0.0 c.in_err-start.was
     (λ either. let q = c.start.ensures.refused either in
-    not_begun opening t0 _ _ _ c.args.recording.now c.start.new.self (g.M.Media.disk c.args.media.now) (g.M.Media.disk c.start.new.media) h q.0 (λ i. g.M.Media.disk (q.1 i)))
+    not_begun opening t0 _ _ _ _ c.args.recording.now c.start.new.self (g.M.Media.disk c.args.media.now) (g.M.Media.disk c.start.new.media) h q.0 (λ i. g.M.Media.disk (q.1 i)))
     (λ not_place not_tick. c.start.ensures.started opening [] t0 told c.requires.works h not_place not_tick))
 
 pub returns-in_err-end-clause-ran : goal.returns-in_err-end-clause-ran
@@ -35,7 +35,7 @@ returns-in_err-end-clause-ran g c = λ opening t0 told h.
     let done = c.start.ensures.started opening [] t0 told c.requires.works h not_place not_tick in
     let takes = run_begins opening t0 c.args.recording.now c.start.new.self (g.M.Media.disk c.args.media.now) (g.M.Media.disk c.start.new.media) h c.requires.works done c.in_ok-start.ensures.works in
     let b = c.in_err-end.ensures.broken in
-    subst (Runs opening t0 (g.I.Source.left c.args.input.now) c.args.reader.now rates c.record_items.new.recording (g.M.Media.disk c.args.media.now) (g.M.Media.disk c.record_items.new.media))
+    subst (Runs opening t0 (g.I.Source.left c.args.input.now) c.args.reader.now (g.I.Source.left c.record_items.new.input) rates c.record_items.new.recording (g.M.Media.disk c.args.media.now) (g.M.Media.disk c.record_items.new.media))
     (sym (p.1 ∙ ap (λ (stop : ReplayStop). Err stop) p.2))
     (record {
       feed = b.feed;
@@ -59,7 +59,7 @@ returns-clause-ran g c = λ opening t0 told h.
     let closes = takes_close opening [] t0 _ _ _ (g.M.Media.disk c.start.new.media) _ [] [] takes b.feed (b.told opening ([] ++ takes.more) t0 told takes.taken) in
     record {
       feed = b.feed;
-      read = λ first k. subst (λ (config : Configuration). IfKnown first (λ bytes. ReadsFeed config.groups bytes c.in_ok-end.end b.feed)) c.start.ensures.config (b.read first k);
+      read = λ first k. subst (λ (config : Configuration). IfKnown first (λ bytes. ReadsFeed config.groups bytes (g.I.Source.left c.record_items.new.input) c.in_ok-end.end b.feed)) c.start.ensures.config (b.read first k);
       known = subst (λ (config : Configuration). AreConfigured config.groups b.feed) c.start.ensures.config b.known;
       low = b.low;
       may = may_begin opening t0 c.args.recording.now (g.M.Media.disk c.args.media.now) h c.start.result (c.start.ensures.place c.requires.works) (c.start.ensures.tick c.requires.works) not_place not_tick;

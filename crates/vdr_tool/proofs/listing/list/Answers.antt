@@ -15,9 +15,11 @@ returns-in_err-recording-clause-media g c =
 pub returns-in-Ok-clause-media : goal.returns-in-Ok-clause-media
 returns-in-Ok-clause-media g c =
     let told = c.open.ensures in
-    listed_ends _ _ c.open.result c.in_ok-recording.recording c.in_ok-recording.was c.in_ok-recording.recording.members c.in_ok-recording.ensures.contents told.others told.moments Done tt
+    listed_ends _ _ c.open.result c.in_ok-recording.recording c.in_ok-recording.was c.in_ok-recording.recording.members c.in_ok-recording.ensures.contents
+    (λ x t holds sound. let w = (c.in_ok-recording.ensures.opened x t holds sound).3.works c.in_ok-recording.ensures.works in (w.placed, w.stands)) told.others told.moments Done tt
 
 pub returns-clause-media : goal.returns-clause-media
 returns-clause-media g c =
     let told = c.open.ensures in
-    listed_ends _ _ c.open.result c.in_ok-recording.recording c.in_ok-recording.was c.in_ok-recording.recording.members c.in_ok-recording.ensures.contents told.others told.moments OutputFault tt
+    listed_ends _ _ c.open.result c.in_ok-recording.recording c.in_ok-recording.was c.in_ok-recording.recording.members c.in_ok-recording.ensures.contents
+    (λ x t holds sound. let w = (c.in_ok-recording.ensures.opened x t holds sound).3.works c.in_ok-recording.ensures.works in (w.placed, w.stands)) told.others told.moments OutputFault tt
