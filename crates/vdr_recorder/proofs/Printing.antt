@@ -18,7 +18,7 @@ use Rattle.vdr_ring.specs.declared.refused.ReadRefused.{ReadRefused}
 use Rattle.vdr_ring.specs.declared.refused.ReadRefused.TheVariants.{Damaged}
 use Rattle.vdr_play.specs.Streams.{Seen, nothing_seen, seen_after}
 use Rattle.vdr_play.specs.Texts.{record_text, records_text, seen_by}
-use Rattle.vdr_vault.specs.Vaults.{AreRings, MembersState, Stands, ring_of}
+use Rattle.vdr_vault.specs.Vaults.{AreRings, IsReadable, MembersState, Stands, ring_of}
 use Rattle.vdr_vault.specs.Walks.{CursorState, GivesNext, MayStep}
 use Rattle.vdr_vault.specs.Plays.{AreToCome, ReadsNoOther, ReadsOn, ring_for}
 use Rattle.vdr_vault.proofs.Coming.{holds_on}
@@ -168,37 +168,38 @@ module _ {tells tells_images : Type 0} where
     pub item : found ≡ true → cursor.visit.item ≢ None
     pub low : least ≤ 2 ^ 63
     pub stands : (opening : Opening) (events : List Event) (placed : ℕ → List Placed) → Stands opening events first placed before → Stands opening events now placed after
-    pub plays : (opening : Opening) (events : List Event) (placed : ℕ → List Placed) → tells → Stands opening events first placed before
+    pub readable : (opening : Opening) (events : List Event) (placed : ℕ → List Placed) → IsReadable opening events first placed before → IsReadable opening events now placed after
+    pub plays : (opening : Opening) (events : List Event) (placed : ℕ → List Placed) → tells → IsReadable opening events first placed before
         → IsBetween (selected opening events query) start text tracks least found cursor.visit.item (AreToCome query now placed after cursor)
 
   -- What is selected of what a vault holds is in order.
-  pub selected_in_order : (opening : Opening) (events : List Event) (members : MembersState) (placed : ℕ → List Placed) (disk : Disk tells tells_images) → Stands opening events members placed disk
+  pub selected_in_order : (opening : Opening) (events : List Event) (members : MembersState) (placed : ℕ → List Placed) (disk : Disk tells tells_images) → IsReadable opening events members placed disk
       → (query : Asked) → AreInOrder (selected opening events (asked query))
   selected_in_order opening events members placed disk stands query = is_in_order opening events (asked query) (holds_on opening events members placed disk stands query.medium).order
 
   module _ {query : Query} {first now : MembersState} {before after : Disk tells tells_images} {read_before read_now faults_before faults_now start text : List ℕ} {cursor : CursorState} {found : Bool}
       {least : ℕ} {tracks : Seen} (p : IsPlaying query first now before after read_before read_now faults_before faults_now start text cursor found least tracks) where
     -- All that is selected is printed.
-    pub played_all : found ≡ false → (opening : Opening) (events : List Event) (placed : ℕ → List Placed) → tells → Stands opening events first placed before
+    pub played_all : found ≡ false → (opening : Opening) (events : List Event) (placed : ℕ → List Placed) → tells → IsReadable opening events first placed before
         → text ≡ start ++ records_text nothing_seen (selected opening events query)
     played_all none opening events placed told stands =
         all_printed (selected opening events query) start text tracks least found cursor.visit.item (AreToCome query now placed after cursor) (p.plays opening events placed told stands) none
 
     module _ (some : found ≡ true) (r : Record) (is : cursor.visit.item ≡ Some r) where
       -- No record is below what was printed.
-      pub never_under : (opening : Opening) (events : List Event) (placed : ℕ → List Placed) → tells → Stands opening events first placed before → r.place < least → ⊥
+      pub never_under : (opening : Opening) (events : List Event) (placed : ℕ → List Placed) → tells → IsReadable opening events first placed before → r.place < least → ⊥
       never_under opening events placed told stands =
           never_low (selected opening events query) start text tracks least found cursor.visit.item (AreToCome query now placed after cursor) (p.plays opening events placed told stands) some r is
 
       -- The cursor's next step.
       module _ (new : MembersState) (next : Disk tells tells_images) (later : CursorState) (result : Result Bool ReadRefused)
-          (steps : (opening : Opening) (events : List Event) (placed : ℕ → List Placed) (records : List Record) → tells → Stands opening events now placed after
+          (steps : (opening : Opening) (events : List Event) (placed : ℕ → List Placed) (records : List Record) → tells → IsReadable opening events now placed after
           → AreToCome query now placed after cursor records → GivesNext records result later.visit.item (AreToCome query new placed next later)) where
-        steps_on : (opening : Opening) (events : List Event) (placed : ℕ → List Placed) → tells → Stands opening events first placed before → (records : List Record)
+        steps_on : (opening : Opening) (events : List Event) (placed : ℕ → List Placed) → tells → IsReadable opening events first placed before → (records : List Record)
             → AreToCome query now placed after cursor records → GivesNext records result later.visit.item (AreToCome query new placed next later)
-        steps_on opening events placed told stands records = steps opening events placed records told (p.stands opening events placed stands)
+        steps_on opening events placed told stands records = steps opening events placed records told (p.readable opening events placed stands)
 
-        pub never_spoiled : (opening : Opening) (events : List Event) (placed : ℕ → List Placed) (m offset : ℕ) → tells → Stands opening events first placed before
+        pub never_spoiled : (opening : Opening) (events : List Event) (placed : ℕ → List Placed) (m offset : ℕ) → tells → IsReadable opening events first placed before
             → result ≡ Err (Damaged m offset) → ⊥
         never_spoiled opening events placed m offset told stands damaged =
             let b = p.plays opening events placed told stands in
@@ -206,7 +207,7 @@ module _ {tells tells_images : Type 0} where
             never_damaged h.1 result later.visit.item (AreToCome query new placed next later) m offset (steps_on opening events placed told stands h.1 h.4) damaged
 
         pub plays_on : (again : Bool) → result ≡ Ok again → (longer : List ℕ) (seen : Seen) (more : ℕ) → longer ≡ text ++ record_text tracks r → seen ≡ seen_after tracks r.content → more ≡ r.place + 1
-            → (opening : Opening) (events : List Event) (placed : ℕ → List Placed) → tells → Stands opening events first placed before → AreInOrder (selected opening events query)
+            → (opening : Opening) (events : List Event) (placed : ℕ → List Placed) → tells → IsReadable opening events first placed before → AreInOrder (selected opening events query)
             → IsBetween (selected opening events query) start longer seen more again later.visit.item (AreToCome query new placed next later)
         plays_on again so longer seen more longer_is seen_is more_is opening events placed told stands order =
             printed_next (selected opening events query) start text tracks least found cursor.visit.item (AreToCome query now placed after cursor) (p.plays opening events placed told stands) some r is order

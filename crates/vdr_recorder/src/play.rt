@@ -12,7 +12,7 @@ ghost use Rattle.vdr_entry.specs.Queries.{asked, asked_medium};
 ghost use Rattle.vdr_ring.specs.Sequence.{Placed};
 ghost use Rattle.vdr_play.specs.Streams.{nothing_seen, seen_after};
 ghost use Rattle.vdr_play.specs.Texts.{record_text, records_text};
-ghost use Rattle.vdr_vault.specs.Vaults.{AreRings, Stands};
+ghost use Rattle.vdr_vault.specs.Vaults.{AreRings, IsReadable, Stands};
 ghost use Rattle.vdr_vault.specs.Plays.{ReadsNoOther, ReadsOn};
 ghost use Rattle.vdr_recorder.specs.Recordings.{HasDone, HasRecorded};
 ghost use Rattle.vdr_recorder.specs.Playing.{HasOutputCause, HasPlayCause, IsReadOrMemory, after_fault, lacks_channel, lacks_incident, unanswered};
@@ -126,9 +126,9 @@ fn print_selected<M: Media>(
     text: &mut Text,
 ) -> Result<(), PlayRefused>
     requires rings { AreRings members.old (M.disk media.old).sizes }
-    ensures printed { (opening : Opening) (events : List Event) (placed : ℕ → List Placed) → M.tells → Stands opening events members.old placed (M.disk media.old)
+    ensures printed { (opening : Opening) (events : List Event) (placed : ℕ → List Placed) → M.tells → IsReadable opening events members.old placed (M.disk media.old)
         → OnOk result (text.new.bytes.items ≡ text.old.bytes.items ++ records_text nothing_seen (selected opening events (asked query.now))) }
-    ensures undamaged { (opening : Opening) (events : List Event) (placed : ℕ → List Placed) (m offset : ℕ) → M.tells → Stands opening events members.old placed (M.disk media.old)
+    ensures undamaged { (opening : Opening) (events : List Event) (placed : ℕ → List Placed) (m offset : ℕ) → M.tells → IsReadable opening events members.old placed (M.disk media.old)
         → result ≡ Err (Damaged m offset) → ⊥ }
     ensures stands { (opening : Opening) (events : List Event) (placed : ℕ → List Placed) → Stands opening events members.old placed (M.disk media.old)
         → Stands opening events members.new placed (M.disk media.new) }
@@ -172,8 +172,8 @@ impl Recording {
     /// made in memory and then written, so that nothing is printed where the query is refused; where the output fails, a front of
     /// the text is. Reads the query's medium alone.
     ///
-    /// `NoChannel` comes before `NoIncident`, and both before `Fault` of a write that had failed. On media on which the vault stands
-    /// `Damaged` never comes.
+    /// `NoChannel` comes before `NoIncident`, and both before `Fault` of a write that had failed. On media that hold what was
+    /// recorded, regular or not, `Damaged` never comes.
     pub fn play<M: Media, O: Sink>(
         &mut self,
         alloc: Global,
@@ -185,13 +185,13 @@ impl Recording {
         ensures channel { (result ≡ Err NoChannel) ↔ (lacks_channel (length self.old.members.config.channels) query.now.channel ≡ true) }
         ensures incident { (result ≡ Err NoIncident)
             ↔ ((lacks_channel (length self.old.members.config.channels) query.now.channel ≡ false) × (lacks_incident self.old.members.table (asked query.now).medium ≡ true)) }
-        ensures printed { (opening : Opening) (events : List Event) (placed : ℕ → List Placed) → M.tells → Stands opening events self.old.members placed (M.disk media.old)
+        ensures printed { (opening : Opening) (events : List Event) (placed : ℕ → List Placed) → M.tells → IsReadable opening events self.old.members placed (M.disk media.old)
             → OnOk result (Appends (O.taken out.old) (O.taken out.new) (records_text nothing_seen (selected opening events (asked query.now)))) }
-        ensures front { (opening : Opening) (events : List Event) (placed : ℕ → List Placed) → M.tells → Stands opening events self.old.members placed (M.disk media.old)
+        ensures front { (opening : Opening) (events : List Event) (placed : ℕ → List Placed) → M.tells → IsReadable opening events self.old.members placed (M.disk media.old)
             → AppendsFront (O.taken out.old) (O.taken out.new) (records_text nothing_seen (selected opening events (asked query.now))) }
         ensures unread { (result ≡ Err NoChannel) ⊎ (result ≡ Err NoIncident) → (self.new ≡ self.old) × (media.new ≡ media.old) }
         ensures silent { OnErr result ((result ≡ Err Output) ⊎ (out.new ≡ out.old)) }
-        ensures undamaged { (opening : Opening) (events : List Event) (placed : ℕ → List Placed) (m offset : ℕ) → M.tells → Stands opening events self.old.members placed (M.disk media.old)
+        ensures undamaged { (opening : Opening) (events : List Event) (placed : ℕ → List Placed) (m offset : ℕ) → M.tells → IsReadable opening events self.old.members placed (M.disk media.old)
             → result ≡ Err (Damaged m offset) → ⊥ }
         ensures looked { (opening : Opening) (events : List Event) (t0 : ℕ) → HasRecorded opening events t0 self.old (M.disk media.old)
             → HasDone opening events t0 Look self.new (M.disk media.old) (M.disk media.new) }

@@ -7,7 +7,7 @@ ghost use Rattle.vdr_history.specs.RunStates.{state_left};
 ghost use Rattle.vdr_history.specs.Runs.{RunStart};
 ghost use Rattle.vdr_history.specs.Sums.{counted_by, recorded_in};
 ghost use Rattle.vdr_history.specs.Taken.{Captured as CapturedTold};
-ghost use Rattle.vdr_durability.specs.Readings.{EndsMeet};
+ghost use Rattle.vdr_durability.specs.Readings.{AreLevel, EndsMeet};
 ghost use Rattle.vdr_media.specs.Formatted.{IsFormatted, IsUnformatted};
 ghost use Rattle.vdr_opening.specs.Answers.{HasOpenCause};
 ghost use Rattle.vdr_opening.specs.Media.{Contents, HoldsContents, both, opening_of, reading_of};
@@ -16,7 +16,7 @@ ghost use Rattle.vdr_opening.specs.declared.refused.OpenRefused.TheVariants.{Dam
 ghost use Rattle.vdr_vault.specs.Calls.{SameElsewhere};
 ghost use Rattle.vdr_vault.specs.Openings.{LeavesAll, OpensAtEachMoment};
 ghost use Rattle.vdr_vault.specs.Regularity.{AreSound};
-ghost use Rattle.vdr_vault.specs.Vaults.{AreRings, ShowsHistory, of_stamp};
+ghost use Rattle.vdr_vault.specs.Vaults.{AreRings, IsReadable, ShowsHistory, of_stamp};
 ghost use Rattle.vdr_recorder.specs.Making.{CountsItems};
 ghost use Rattle.vdr_recorder.specs.Recordings.{HasRecorded, TellsLeft};
 ghost use Rattle.vdr_recorder.specs.Starts.{stamp_of};
@@ -73,6 +73,11 @@ impl Recording {
         ensures contents { IfOk result (λ r. M.tells → IsFormatted (M.disk media.old).reads × (x : Contents) × HoldsContents (M.disk media.old).reads x
             × EndsMeet both (reading_of x) × (r.members.config ≡ x.config) × (r.members.table ≡ x.table)
             × (r.members.last ≡ option_map of_stamp (opening_of x).last)) }
+        ensures place { IfOk result (λ r. (x : Contents) → M.tells → HoldsContents (M.disk media.old).reads x → r.members.next_place ≡ (opening_of x).next_place) }
+        ensures readable { IfOk result (λ r. (x : Contents) → M.tells → HoldsContents (M.disk media.old).reads x → AreLevel both (reading_of x)
+            → IsReadable (opening_of x) [] r.members x.placed (M.disk media.new)) }
+        ensures level { (x : Contents) → M.tells → HoldsContents (M.disk media.old).reads x → AreLevel both (reading_of x)
+            → LeavesAll (M.disk media.old) (M.disk media.new) × ((M.disk media.new).reads ≡ (M.disk media.old).reads) }
         ensures works { IfOk result (λ r. r.members.failed ≡ false) }
         ensures closed { IfOk result (λ r. r.is_open ≡ false) }
         ensures rings { IfOk result (λ r. AreRings r.members (M.disk media.new).sizes) }

@@ -1,6 +1,6 @@
 -- What opening's refusals leave, and what a configuration admits.
-use Rattle.std.proofs.Common.{◌≡◌, ◌⊎◌, inl, inr, ◌≤◌, ℕ, zero, suc, List, [], ◌∷◌, All, Option, Some, None, slice_index_or, Result, Ok, Err, subst}
-use Rattle.std.specs.Prelude.{IfSome}
+use Rattle.std.proofs.Common.{◌≡◌, ◌⊎◌, inl, inr, ◌≤◌, ℕ, zero, suc, List, [], ◌∷◌, All, Option, Some, None, slice_index_or, Result, Ok, Err, sym, subst}
+use Rattle.std.specs.Prelude.{IfSome, take}
 use Rattle.std.proofs.lemmas.List.Elements.{All-head, All-tail}
 use Rattle.vdr_terms.specs.declared.rate.Rate.{Rate}
 use Rattle.vdr_terms.specs.Rates.{limit_of}
@@ -17,9 +17,11 @@ use Rattle.vdr_opening.specs.declared.refused.OpenRefused.TheVariants as refusal
 use Rattle.vdr_vault.specs.Openings.{LeavesAll, OpensAtEachMoment}
 use Rattle.vdr_vault.specs.Regularity.{AreSound}
 use Rattle.vdr_vault.specs.Vaults.{ShowsHistory}
+use Rattle.vdr_feed.specs.Feed.{feed_header}
+use Rattle.vdr_feed.specs.Reader.{IfKnown}
 use Rattle.vdr_feed.specs.declared.fault.FeedFault.{FeedFault}
 use Rattle.vdr_feed.specs.declared.fault.FeedFault.TheVariants as faults
-use Rattle.vdr_replay.specs.Answers.{Answers, EndsAtHeader, IfOpened, RefusesMedia}
+use Rattle.vdr_replay.specs.Answers.{Answers, EndsAtHeader, IfOpened, RefusesMedia, RefusesRun, TellsHeader}
 use Rattle.vdr_replay.specs.Ran.{StopsIn}
 use Rattle.vdr_replay.specs.Stops.{stop_by_feed, stop_by_opening}
 use Rattle.vdr_replay.specs.declared.ended.Replayed.{Replayed}
@@ -87,6 +89,15 @@ pub header_of_feed : {P : Type 0} (fault : FeedFault) → RefusesMedia (Err (sto
 header_of_feed faults.Fault refuses = absurd refuses
 header_of_feed (faults.Refused number offset) refuses = absurd refuses
 
+pub no_run_of_feed : {P : Type 0} (fault : FeedFault) → RefusesRun (Err (stop_by_feed fault)) → P
+no_run_of_feed faults.Fault refuses = absurd refuses
+no_run_of_feed (faults.Refused number offset) refuses = absurd refuses
+
+-- What opening leaves as it was stays so over a call that touches nothing.
+pub level_still : {tells tells_images A : Type 0} (disk : A → Disk tells tells_images) (old : Disk tells tells_images) (mid new : A) → new ≡ mid
+    → LeavesAll old (disk mid) × ((disk mid).reads ≡ old.reads) → LeavesAll old (disk new) × ((disk new).reads ≡ old.reads)
+level_still disk old mid new same still = subst (λ a. LeavesAll old (disk a) × ((disk a).reads ≡ old.reads)) (sym same) still
+
 pub not_at_header : {P : Type 0} (e : OpenRefused) → EndsAtHeader (Err (stop_by_opening e)) → P
 not_at_header refusals.NoMemory ends = absurd ends
 not_at_header refusals.NotFormatted ends = absurd ends
@@ -111,6 +122,18 @@ begun_header (Err (Damaged m offset)) stops ends = absurd ends
 begun_header (Err Place) stops ends = absurd ends
 begun_header (Err Tick) stops ends = absurd ends
 begun_header (Err Media) stops ends = absurd ends
+
+-- It had a header.
+pub begun_tells : (left now : Option (List ℕ)) (answer : Result Replayed ReplayStop) → StopsIn answer → IfKnown left (λ bytes. take 8 bytes ≡ feed_header) → TellsHeader left now answer
+begun_tells left now (Ok r) stops h = h
+begun_tells left now (Err NoMemory) stops h = h
+begun_tells left now (Err Input) stops h = absurd stops
+begun_tells left now (Err (Refused number offset)) stops h = absurd stops
+begun_tells left now (Err NotFormatted) stops h = h
+begun_tells left now (Err (Damaged m offset)) stops h = h
+begun_tells left now (Err Place) stops h = h
+begun_tells left now (Err Tick) stops h = h
+begun_tells left now (Err Media) stops h = h
 
 pub begun_media : {P : Type 0} (answer : Result Replayed ReplayStop) → StopsIn answer → RefusesMedia answer → P
 begun_media (Ok r) stops refuses = absurd refuses

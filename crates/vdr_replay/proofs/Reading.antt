@@ -13,7 +13,7 @@ use Rattle.vdr_feed.specs.Reader.{Reading, IsNext, past_item, begun_reading, IfK
 use Rattle.vdr_feed.specs.declared.item.Item.{Item as Held}
 use Rattle.vdr_replay.specs.declared.ended.FeedEnd.{FeedEnd}
 use Rattle.vdr_replay.specs.declared.ended.FeedEnd.TheVariants.{Whole, Input, Refused}
-use Rattle.vdr_replay.specs.Feeding.{HasRate, ReadsFeed, most_items}
+use Rattle.vdr_replay.specs.Feeding.{AreConfigured, HasRate, ReadsFeed, most_items}
 use Rattle.vdr_replay.specs.Reading.{HasRead}
 
 after_header : (header front text : List ℕ) → header ++ (front ++ text) ≡ (header ++ front) ++ text
@@ -143,6 +143,12 @@ reads_reach rates bytes now (Refused number offset) items (inr h) = (
     few = let a = h.legal.few in let b = length-append items (h.next ∷ []) in omega (arith, a, b);
   },
 )
+
+-- The items that were read, whoever names them.
+pub known_feed : (rates : List (Option Rate)) (first now : Option (List ℕ)) (end : FeedEnd) (feed : List FeedItem) → AreConfigured rates feed → IfKnown first (λ bytes. ReadsFeed rates bytes now end feed)
+    → IfKnown first (λ bytes. (items : List FeedItem) × ReadsFeed rates bytes now end items × AreConfigured rates items)
+known_feed rates None now end feed known h = tt
+known_feed rates (Some bytes) now end feed known h = (feed, h, known)
 
 pub known_reach : (rates : List (Option Rate)) (first now : Option (List ℕ)) (end : FeedEnd) (items : List FeedItem) → IfKnown first (λ bytes. ReadsFeed rates bytes now end items)
     → IfKnown first (λ bytes. (rest : List ℕ) × Reaches most_items bytes items rest)

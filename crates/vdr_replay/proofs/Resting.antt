@@ -1,7 +1,7 @@
 -- What the media of a vault at rest read as: all its events.
-use Rattle.std.proofs.Common.{◌≡◌, ℕ, List, Option, refl}
+use Rattle.std.proofs.Common.{ℕ, List, refl}
 use Rattle.std.proofs.lemmas.List.Elements.{All-weaker}
-use Rattle.vdr_history.specs.Histories.{Event, Incident, Opening, incidents}
+use Rattle.vdr_history.specs.Histories.{Event, Opening, incidents}
 use Rattle.vdr_retention.specs.Retention.{Retains}
 use Rattle.vdr_durability.specs.Shown.{given_with, pins_on}
 use Rattle.vdr_outside.specs.Disk.{Disk, content}

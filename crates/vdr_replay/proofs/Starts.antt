@@ -19,9 +19,16 @@ use Rattle.vdr_recorder.specs.Starts.{stamp_of}
 use Rattle.vdr_recorder.specs.declared.run.StartRefused.{StartRefused}
 use Rattle.vdr_recorder.specs.declared.run.StartRefused.TheVariants as refusals
 use Rattle.vdr_recorder.proofs.Continuing.{left_place}
-use Rattle.vdr_replay.specs.Answers.{MayBegin}
-use Rattle.vdr_replay.specs.Feeding.{HasRate}
-use Rattle.vdr_replay.specs.Ran.{HasNotBegun, Runs}
+use Rattle.vdr_config.specs.Configuration.{Configuration}
+use Rattle.vdr_feed.specs.Reader.{IfKnown}
+use Rattle.vdr_opening.specs.Media.{Contents, opening_of}
+use Rattle.vdr_replay.specs.Answers.{Decides, MayBegin, RefusesRun}
+use Rattle.vdr_replay.specs.Feeding.{AreConfigured, HasRate, ReadsFeed}
+use Rattle.vdr_replay.specs.Ran.{DecidesRun, HasNotBegun, Runs}
+use Rattle.vdr_replay.specs.Reading.{HasRead}
+use Rattle.vdr_replay.specs.declared.ended.Replayed.{Replayed}
+use Rattle.vdr_replay.specs.declared.ended.ReplayStop.{ReplayStop}
+use Rattle.vdr_replay.specs.declared.ended.ReplayStop.TheVariants as stops
 use Rattle.vdr_replay.specs.Stops.{stop_by_start}
 use Rattle.vdr_replay.specs.Taking.{Closes}
 use Rattle.vdr_replay.proofs.Calls.{start_breaks}
@@ -85,6 +92,52 @@ module _ {tells tells_images : Type 0} (opening : Opening) (t0 : ℕ) (r : Recor
       may = may_begin (fault_is_no_place start is) (fault_is_no_tick start is);
       breaks = start_breaks opening t0 r after old new h works (done (fault_is_no_place start is) (fault_is_no_tick start is));
     }
+
+-- What the start decides by the recorder alone
+module _ (place : ℕ) (newest : Option (ℕ × ℤ)) (start : Started) (at : (start ≡ Err refusals.Place) ↔ (2 ^ 62 ≤ place))
+    (tick : (start ≡ Err refusals.Tick) ↔ ((place < 2 ^ 62) × (2 ^ 62 ≤ base_after (option_map stamp_of newest)))) where
+  pub start_decides : (left : Option (List ℕ)) (reader : Reading) (now : Option (List ℕ)) (rates : List (Option Rate)) (e : StartRefused) → start ≡ Err e
+      → DecidesRun place newest left reader now rates (Err (stop_by_start e))
+  start_decides left reader now rates refusals.Place is = at.0 is
+  start_decides left reader now rates refusals.Tick is = tick.0 is
+  start_decides left reader now rates refusals.Fault is = tt
+
+  pub started_low : (start ≡ Err refusals.Place → ⊥) → (start ≡ Err refusals.Tick → ⊥) → (place < 2 ^ 62) × (base_after (option_map stamp_of newest) < 2 ^ 62)
+  started_low not_place not_tick =
+      let low : place < 2 ^ 62 = ⊎_elim (λ (l : place < 2 ^ 62). l) (λ (k : 2 ^ 62 ≤ place). absurd (not_place (at.1 k))) (cases_lt place (2 ^ 62)) in (
+        low,
+        ⊎_elim (λ (l : base_after (option_map stamp_of newest) < 2 ^ 62). l)
+            (λ (k : 2 ^ 62 ≤ base_after (option_map stamp_of newest)). absurd (not_tick (tick.1 (low, k)))) (cases_lt (base_after (option_map stamp_of newest)) (2 ^ 62)),
+      )
+
+-- A run that is refused touches nothing.
+pub start_unbegun : {P : Type 0} (start : Started) (e : StartRefused) → start ≡ Err e → ((start ≡ Err refusals.Place) ⊎ (start ≡ Err refusals.Tick) → P) → RefusesRun (Err (stop_by_start e)) → P
+start_unbegun start refusals.Place is untouched refuses = untouched (inl is)
+start_unbegun start refusals.Tick is untouched refuses = untouched (inr is)
+start_unbegun start refusals.Fault is untouched refuses = absurd refuses
+
+-- The same of the contents that the media hold.
+pub decides_as : (x : Contents) (place : ℕ) (newest : Option (ℕ × ℤ)) (config : Configuration) (first left now : Option (List ℕ)) (reader : Reading) → place ≡ (opening_of x).next_place
+    → newest ≡ option_map of_stamp (opening_of x).last → config ≡ x.config → HasRead first left reader [] → (result : Result Replayed ReplayStop) → DecidesRun place newest left reader now config.groups result
+    → Decides x first now result
+decides_as x place newest config first left now reader place_is newest_is config_is read result h = go result h
+  where
+    base_at : base_after (option_map stamp_of newest) ≡ base_after (opening_of x).last
+    base_at = ap (λ (o : Option (ℕ × ℤ)). base_after (option_map stamp_of o)) newest_is ∙ ap base_after (same_stamp (opening_of x).last)
+
+    go : (result : Result Replayed ReplayStop) → DecidesRun place newest left reader now config.groups result → Decides x first now result
+    go (Ok r) h = (
+      record { place = subst (λ (n : ℕ). n < 2 ^ 62) place_is h.0; base = subst (λ (n : ℕ). n < 2 ^ 62) base_at h.1 },
+      subst (λ (c : Configuration). IfKnown first (λ bytes. (items : List FeedItem) × ReadsFeed c.groups bytes now r.end items × AreConfigured c.groups items)) config_is (h.2 first read),
+    )
+    go (Err stops.Place) h = subst (λ (n : ℕ). 2 ^ 62 ≤ n) place_is h
+    go (Err stops.Tick) h = (subst (λ (n : ℕ). n < 2 ^ 62) place_is h.0, subst (λ (n : ℕ). 2 ^ 62 ≤ n) base_at h.1)
+    go (Err stops.NoMemory) h = tt
+    go (Err stops.Input) h = tt
+    go (Err (stops.Refused number offset)) h = tt
+    go (Err stops.NotFormatted) h = tt
+    go (Err (stops.Damaged m offset)) h = tt
+    go (Err stops.Media) h = tt
 
 -- Where nothing was called the run was not begun.
 pub not_begun : {tells tells_images : Type 0} (opening : Opening) (t0 : ℕ) (left : Option (List ℕ)) (reader : Reading) (now : Option (List ℕ)) (rates : List (Option Rate)) (r after : RecordingState) (old new : Disk tells tells_images)

@@ -74,9 +74,21 @@ TellsHeader left now (Err Place) = IfKnown left (λ bytes. take 8 bytes ≡ feed
 TellsHeader left now (Err Tick) = IfKnown left (λ bytes. take 8 bytes ≡ feed_header)
 TellsHeader left now (Err Media) = IfKnown left (λ bytes. take 8 bytes ≡ feed_header)
 
--- The image is formatted, and its media hold contents whose ends meet.
-abbrev pub IsLegible : Image → Type 0
-IsLegible image = IsFormatted image × (x : Contents) × HoldsContents image x × EndsMeet both (reading_of x)
+-- Whether a run begins is decided by what the media hold, sound or not, and how its feed ends by their configuration.
+abbrev pub Decides : Contents → (left now : Option (List ℕ)) → Result Replayed ReplayStop → Type 0
+Decides x left now (Ok r) = MayBegin (opening_of x) × IfKnown left (λ bytes. (feed : List FeedItem) × ReadsFeed x.config.groups bytes now r.end feed × AreConfigured x.config.groups feed)
+Decides x left now (Err Place) = 2 ^ 62 ≤ (opening_of x).next_place
+Decides x left now (Err Tick) = ((opening_of x).next_place < 2 ^ 62) × (2 ^ 62 ≤ base_after (opening_of x).last)
+Decides x left now (Err NoMemory) = ⊤
+Decides x left now (Err Input) = ⊤
+Decides x left now (Err (Refused number offset)) = ⊤
+Decides x left now (Err NotFormatted) = ⊤
+Decides x left now (Err (Damaged medium offset)) = ⊤
+Decides x left now (Err Media) = ⊤
+
+-- The image is formatted, and its media hold contents whose ends meet, of which P holds.
+abbrev pub IsLegible : Image → (P : Contents → Type 0) → Type 0
+IsLegible image P = IsFormatted image × (x : Contents) × HoldsContents image x × EndsMeet both (reading_of x) × P x
 
 -- What is said where the media were opened, and not refused before.
 abbrev pub IfOpened : Result Replayed ReplayStop → Type 0 → Type 0
@@ -113,6 +125,18 @@ RefusesMedia (Err (Refused number offset)) = ⊥
 RefusesMedia (Err Place) = ⊥
 RefusesMedia (Err Tick) = ⊥
 RefusesMedia (Err Media) = ⊥
+
+-- The run was not begun on media that were read, and not for a fault of theirs.
+abbrev pub RefusesRun : Result Replayed ReplayStop → Type 0
+RefusesRun (Err Place) = ⊤
+RefusesRun (Err Tick) = ⊤
+RefusesRun (Err NoMemory) = ⊤
+RefusesRun (Ok r) = ⊥
+RefusesRun (Err Input) = ⊥
+RefusesRun (Err (Refused number offset)) = ⊥
+RefusesRun (Err NotFormatted) = ⊥
+RefusesRun (Err (Damaged medium offset)) = ⊥
+RefusesRun (Err Media) = ⊥
 
 -- No count of faults falls, and the media failed only where the count of one of them rose, and so their sum.
 pub record HasReplayCause (before now : List ℕ) (result : Result Replayed ReplayStop) : Type 0 where

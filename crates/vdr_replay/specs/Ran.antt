@@ -1,5 +1,5 @@
 -- What a run over a feed makes of media that were opened.
-use Rattle.std.specs.Prelude.{◌≡◌, ◌≤◌, ◌<◌, ◌^◌, ℕ, false, List, [], length, All, Option, Result, Ok, Err, ⊤}
+use Rattle.std.specs.Prelude.{◌≡◌, ◌≤◌, ◌<◌, ◌^◌, ℕ, ℤ, false, List, [], length, All, option_map, Option, Result, Ok, Err, ⊤}
 use Rattle.vdr_terms.specs.declared.rate.Rate.{Rate}
 use Rattle.vdr_terms.specs.Records.{FeedItem}
 use Rattle.vdr_history.specs.Feed.{items_of, feed_records}
@@ -9,6 +9,7 @@ use Rattle.vdr_outside.specs.Disk.{Disk}
 use Rattle.vdr_feed.specs.Feed.{Reaches}
 use Rattle.vdr_feed.specs.Reader.{IfKnown, Reading}
 use Rattle.vdr_recorder.specs.Recordings.{HasRecorded, Passes, RecordingState, start_of_opening}
+use Rattle.vdr_recorder.specs.Starts.{stamp_of}
 use Rattle.vdr_replay.specs.Answers.{MayBegin}
 use Rattle.vdr_replay.specs.Feeding.{AreConfigured, ReadsFeed, most_items}
 use Rattle.vdr_replay.specs.Reading.{HasRead}
@@ -56,6 +57,20 @@ module _ {tells tells_images : Type 0} (opening : Opening) (t0 : ℕ) (left : Op
   Runs (Err (Refused number offset)) = ⊥
   Runs (Err NotFormatted) = ⊥
   Runs (Err (Damaged medium offset)) = ⊥
+
+-- A run begins by its place and the last stamp, whatever the media tell, and of its feed these items were read by these rates.
+module _ (place : ℕ) (newest : Option (ℕ × ℤ)) (left : Option (List ℕ)) (reader : Reading) (now : Option (List ℕ)) (rates : List (Option Rate)) where
+  abbrev pub DecidesRun : Result Replayed ReplayStop → Type 0
+  DecidesRun (Ok r) = (place < 2 ^ 62) × (base_after (option_map stamp_of newest) < 2 ^ 62)
+      × ((first : Option (List ℕ)) → HasRead first left reader [] → IfKnown first (λ bytes. (feed : List FeedItem) × ReadsFeed rates bytes now r.end feed × AreConfigured rates feed))
+  DecidesRun (Err Place) = 2 ^ 62 ≤ place
+  DecidesRun (Err Tick) = (place < 2 ^ 62) × (2 ^ 62 ≤ base_after (option_map stamp_of newest))
+  DecidesRun (Err NoMemory) = ⊤
+  DecidesRun (Err Input) = ⊤
+  DecidesRun (Err (Refused number offset)) = ⊤
+  DecidesRun (Err NotFormatted) = ⊤
+  DecidesRun (Err (Damaged medium offset)) = ⊤
+  DecidesRun (Err Media) = ⊤
 
 -- A run is refused by its place or its base, or the media fail.
 abbrev pub StopsIn : Result Replayed ReplayStop → Type 0

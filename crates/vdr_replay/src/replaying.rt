@@ -1,7 +1,7 @@
 // A feed is recorded on the media.
 ghost use Rattle.std.specs.Prelude.{◌≡◌, ◌≤◌, ℕ, List, length, sum, Some, Err, IfOk, IsErrOf};
 ghost use Rattle.std.specs.Io.KnownBytes.{IsAtEnd};
-ghost use Rattle.vdr_durability.specs.Readings.{EndsMeet};
+ghost use Rattle.vdr_durability.specs.Readings.{AreLevel, EndsMeet};
 ghost use Rattle.vdr_outside.specs.Causes.{Rose};
 ghost use Rattle.vdr_media.specs.Formatted.{IsFormatted, IsUnformatted};
 ghost use Rattle.vdr_opening.specs.Media.{Contents, HoldsContents, both, reading_of};
@@ -9,7 +9,7 @@ ghost use Rattle.vdr_opening.specs.Refusals.{IsRefused};
 ghost use Rattle.vdr_vault.specs.Calls.{SameElsewhere};
 ghost use Rattle.vdr_vault.specs.Openings.{LeavesAll};
 ghost use Rattle.vdr_vault.specs.Regularity.{AreSound};
-ghost use Rattle.vdr_replay.specs.Answers.{Answers, EndsAtHeader, HasReplayCause, IfOpened, IsLegible, RefusesMedia, TellsHeader};
+ghost use Rattle.vdr_replay.specs.Answers.{Answers, Decides, EndsAtHeader, HasReplayCause, IfOpened, IsLegible, RefusesMedia, RefusesRun, TellsHeader};
 ghost use Rattle.vdr_replay.specs.Headline.{LeavesHistory};
 ghost use Rattle.vdr_replay.specs.declared.ended.FeedEnd.TheVariants.{Whole, Input as InputEnds};
 ghost use Rattle.vdr_replay.specs.declared.ended.ReplayStop.TheVariants.{Damaged, Input, NotFormatted};
@@ -32,7 +32,8 @@ const MOST_ITEMS: u64 = 4_294_967_295;
 ///
 /// The feed ends with the input, or where an item is refused: as `vdr_feed::FeedReader::item` says, or by 4 where its group is not
 /// configured. What was read before is recorded. An item that is refused counts for nothing. Where the header is refused, or can't be
-/// read, the media are not touched, and where the media are refused nothing is written. Faults and refusals of the input and of
+/// read, the media are not touched, and where the media are refused nothing is written, nor where the run is, of media that both have
+/// the last batch. Faults and refusals of the input and of
 /// the media are told by `FeedEnd` and `ReplayStop`.
 ///
 /// At every moment a stop leaves the media as before opening, or as media that play back the first of the run's events on what was
@@ -52,7 +53,9 @@ pub fn replay<I: Source, M: Media>(
     ensures header { TellsHeader (I.left input.old) (I.left input.new) result }
     ensures unopened { EndsAtHeader result → media.new ≡ media.old }
     ensures untouched { RefusesMedia result → LeavesAll (M.disk media.old) (M.disk media.new) × (M.tells → (M.disk media.new).reads ≡ (M.disk media.old).reads) }
-    ensures legible { M.tells → IfOpened result (IsLegible (M.disk media.old).reads) }
+    ensures legible { M.tells → IfOpened result (IsLegible (M.disk media.old).reads (λ x. Decides x (I.left input.old) (I.left input.new) result)) }
+    ensures level { RefusesRun result → (x : Contents) → M.tells → HoldsContents (M.disk media.old).reads x → AreLevel both (reading_of x)
+        → LeavesAll (M.disk media.old) (M.disk media.new) × ((M.disk media.new).reads ≡ (M.disk media.old).reads) }
     ensures whole { IfOk result (λ r. r.end ≡ Whole → IsAtEnd (I.left input.new)) }
     ensures input_ends { IfOk result (λ r. r.end ≡ InputEnds → Rose (I.faults input.old) (I.faults input.new)) }
     ensures input_failed { IsErrOf result Input → Rose (I.faults input.old) (I.faults input.new) }

@@ -7,9 +7,9 @@ ghost use Rattle.vdr_vault.specs.Calls.{SameElsewhere};
 ghost use Rattle.vdr_vault.specs.Openings.{HasCauseOnBoth};
 ghost use Rattle.vdr_vault.specs.Vaults.{AreRings};
 ghost use Rattle.vdr_recorder.specs.Recordings.{HasRecorded};
-ghost use Rattle.vdr_replay.specs.Answers.{HasReplayCause};
+ghost use Rattle.vdr_replay.specs.Answers.{HasReplayCause, RefusesRun};
 ghost use Rattle.vdr_replay.specs.Given.{CountsFeed, HasBatch, HoldsFeed};
-ghost use Rattle.vdr_replay.specs.Ran.{Runs, StopsIn};
+ghost use Rattle.vdr_replay.specs.Ran.{DecidesRun, Runs, StopsIn};
 ghost use Rattle.vdr_replay.specs.Reading.{HasRead};
 ghost use Rattle.vdr_replay.specs.Taking.{BreaksFeed, RecordsFeed};
 ghost use Rattle.vdr_replay.specs.declared.ended.FeedEnd.TheVariants.{Whole, Input};
@@ -73,6 +73,8 @@ pub(crate) fn record_run<I: Source, M: Media>(
     requires space { 0 < lanes.old.room }
     ensures ran { (opening : Opening) (t0 : ℕ) → M.tells → HasRecorded opening [] t0 recording.old (M.disk media.old)
         → Runs opening t0 (I.left input.old) reader.old (I.left input.new) recording.old.members.config.groups recording.new (M.disk media.old) (M.disk media.new) result }
+    ensures decided { DecidesRun recording.old.members.next_place recording.old.members.last (I.left input.old) reader.old (I.left input.new) recording.old.members.config.groups result }
+    ensures unbegun { RefusesRun result → media.new ≡ media.old }
     ensures stops { StopsIn result }
     ensures whole { IfOk result (λ r. r.end ≡ Whole → IsAtEnd (I.left input.new)) }
     ensures failed { IfOk result (λ r. r.end ≡ Input → Rose (I.faults input.old) (I.faults input.new)) }

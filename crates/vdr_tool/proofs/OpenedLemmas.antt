@@ -6,8 +6,9 @@ use Rattle.vdr_terms.specs.Records.{Record}
 use Rattle.vdr_history.specs.Histories.{Act, Event, recorded, records_of_act}
 use Rattle.vdr_history.specs.Histories.Act.{Look}
 use Rattle.vdr_durability.specs.Keeping.{ShowsPrefix}
-use Rattle.vdr_durability.specs.Readings.{EndsMeet}
-use Rattle.vdr_outside.specs.Disk.{Disk, Image}
+use Rattle.vdr_durability.specs.Readings.{AreLevel, EndsMeet}
+use Rattle.vdr_outside.specs.Disk.{Disk, Image, Unchanged}
+use Rattle.vdr_outside.proofs.Moments.{moments_and_reads}
 use Rattle.vdr_config.specs.Grammar.{configuration}
 use Rattle.vdr_media.specs.Formatted.{IsFormatted, IsUnformatted}
 use Rattle.vdr_opening.specs.Answers.{HasOpenCause}
@@ -23,7 +24,7 @@ use Rattle.vdr_ring.specs.Sequence.{Placed}
 use Rattle.vdr_vault.specs.Vaults.{MembersState, ShowsHistory, Stands}
 use Rattle.vdr_tool.specs.Incidents.{CanList}
 use Rattle.vdr_tool.specs.Endings.{IsWorkDone}
-use Rattle.vdr_tool.specs.Opened.{AreLooks, IsLegibleWith, IsUnopened, KeepsContents, MayLeave, MediaEnds, WasRecorded, newest_of, status_of_opening}
+use Rattle.vdr_tool.specs.Opened.{AreLooks, IsLegibleWith, IsUnbegun, IsUnopened, KeepsContents, MayLeave, MediaEnds, WasRecorded, WritesNothing, newest_of, status_of_opening}
 use Rattle.vdr_tool.specs.Outside.{MediaSeen}
 use Rattle.vdr_tool.specs.declared.status.Status.{Status}
 use Rattle.vdr_tool.specs.declared.status.Status.TheVariants.{Done, Words, Config, Small, Unformatted, Formatted, Damaged, MediaFault, PortFault, LinkFault, InputFault, OutputFault, NoMemory, Feed, NoChannel, NoIncident, SaveRefused, Place, Tick}
@@ -69,6 +70,10 @@ done_either (PortFault group) is = absurd is
 done_either (LinkFault link) is = absurd is
 done_either Tick is = absurd is
 
+-- Work that was done was begun.
+pub done_is_begun : {P : Type 0} (status : Status) → IsWorkDone status → IsUnbegun status → P
+done_is_begun status done unbegun = ⊎_elim (λ (is : status ≡ Done). absurd (subst IsUnbegun is unbegun)) (λ (is : status ≡ OutputFault). absurd (subst IsUnbegun is unbegun)) (done_either status done)
+
 module _ {tells tells_images : Type 0} where
   keeps_opened : (x : Contents) → configuration x.text ≡ Ok x.config → WasRecorded x → (MayBe : List Event → Type 0) (status : Status) → MayBe [] → (old new : Disk tells tells_images)
       → (IsWorkDone status → tells → ShowsHistory (opening_of x) [] new.reads) → GoesOnSynced old new (ShowsHistory (opening_of x) []) → KeepsContents x MayBe status old new
@@ -100,6 +105,21 @@ module _ {tells tells_images : Type 0} where
       → (IsWorkDone status → tells → ShowsHistory (opening_of x) [] new.reads) → OpensAtEachMoment old new result (ShowsHistory (opening_of x) []) → KeepsContents x MayBe status old new
   kept_opened x reads sound MayBe status old new result r is may rests (inl ends) = let clash : Ok r ≡ Err openings.Fault = sym is ∙ ends.failed in let none : ⊥ = cc in absurd none
   kept_opened x reads sound MayBe status old new result r is may rests (inr goes) = keeps_opened x reads sound MayBe status may old new rests goes
+
+  -- What opening leaves where nothing is missing, and calls that read, or that touch nothing, after it.
+  abbrev pub OpensLevel : (old new : Disk tells tells_images) → Type 0
+  OpensLevel old new = (x : Contents) → tells → HoldsContents old.reads x → AreLevel both (reading_of x) → LeavesAll old new × (new.reads ≡ old.reads)
+
+  pub level_opened : (old new : Disk tells tells_images) → OpensLevel old new → WritesNothing old new
+  level_opened old new h x t holds level = let k = h x t holds level in record { leaves = k.0; reads = λ _. k.1 }
+
+  pub level_looked : (old mid new : Disk tells tells_images) → OpensLevel old mid → Unchanged mid new → WritesNothing old new
+  level_looked old mid new h same x t holds level =
+      let k = h x t holds level in
+      record { leaves = moments_and_reads old mid new (λ i. old.now i) k.0 same; reads = λ told. same.reads told ∙ k.1 }
+
+  pub level_still : {A : Type 0} (disk : A → Disk tells tells_images) (old : Disk tells tells_images) (mid new : A) → OpensLevel old (disk mid) → new ≡ mid → WritesNothing old (disk new)
+  level_still disk old mid new h same = level_opened old (disk new) (subst (λ a. OpensLevel old (disk a)) (sym same) h)
 
   -- The media were not opened.
   pub refused_ends : {T : Type 0} (Can : Contents → Type 0) (Met : Type 0) (MayBe : List Event → Type 0) (old new : MediaSeen tells tells_images)

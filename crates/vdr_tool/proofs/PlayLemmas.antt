@@ -1,6 +1,6 @@
 -- What `play` answers, from what the calls on the media ensure.
 use Rattle.std.specs.Prelude.{sum, OnOk, Bool, true, false, ⊤, position, bytes_eq, length, nat_le, is_none, if◌then◌else◌}
-use Rattle.std.proofs.Common.{◌≡◌, ◌≤◌, ◌<◌, ◌↔◌, ◌∷◌, inr, ⊎_elim, ℕ, ℤ, List, [], Option, Some, None, Result, Ok, Err, refl, sym, ap, subst, arith, ◌∙◌}
+use Rattle.std.proofs.Common.{◌≡◌, ◌≤◌, ◌<◌, ◌↔◌, ◌∷◌, inl, inr, ⊎_elim, ℕ, ℤ, List, [], Option, Some, None, Result, Ok, Err, refl, sym, ap, subst, arith, ◌∙◌}
 use Rattle.std.proofs.lemmas.Bool.{false_from_ne_true, leb-true}
 use Rattle.std.proofs.lemmas.List.Quantifiers.{position-Some}
 use Rattle.std.specs.Io.KnownBytes.{Appends}
@@ -9,7 +9,7 @@ use Rattle.vdr_history.specs.Histories.{Act, Event, Opening, incidents, live, re
 use Rattle.vdr_history.specs.Histories.{all_records as given}
 use Rattle.vdr_history.specs.Histories as histories
 use Rattle.vdr_history.specs.Histories.Act.{Look}
-use Rattle.vdr_durability.specs.Readings.{EndsMeet}
+use Rattle.vdr_durability.specs.Readings.{AreLevel, EndsMeet}
 use Rattle.vdr_playback.specs.Playback.{selected}
 use Rattle.vdr_outside.specs.Causes.{NoneFalls, Rose}
 use Rattle.vdr_outside.specs.Disk.{Image, Unchanged}
@@ -32,11 +32,12 @@ use Rattle.vdr_recorder.specs.declared.play.PlayRefused.TheVariants as plays
 use Rattle.vdr_vault.specs.Calls.{SameElsewhere}
 use Rattle.vdr_vault.specs.Openings.{OpensAtEachMoment}
 use Rattle.vdr_vault.proofs.OpenMoments.{never_both}
+use Rattle.vdr_vault.proofs.Playing.{stands_to_read}
 use Rattle.vdr_vault.proofs.ShownHistory.{stands_silent, stands_still}
-use Rattle.vdr_vault.specs.Vaults.{MembersState, ShowsHistory, Stands}
-use Rattle.vdr_tool.specs.Opened.{AreLooks, IsLegibleWith, KeepsContents, MediaEnds, MetUnsound, PrintsText, WasRecorded, status_of_opening}
+use Rattle.vdr_vault.specs.Vaults.{IsReadable, MembersState, ShowsHistory, Stands}
+use Rattle.vdr_tool.specs.Opened.{AreLooks, IsLegibleWith, KeepsContents, MediaEnds, PrintsText, WasRecorded, status_of_opening}
 use Rattle.vdr_tool.specs.Outside.{MediaSeen, OutputSeen}
-use Rattle.vdr_tool.specs.Plays.{CanPlay, LacksChannel, LacksIncident, PlayEnds, channel_asked, channel_in, all_records, id_of, play_text, query_of, status_by}
+use Rattle.vdr_tool.specs.Plays.{CanBeRead, CanPlay, LacksChannel, LacksIncident, MetUnreadable, PlayEnds, channel_asked, channel_in, all_records, id_of, play_text, query_of, status_by}
 use Rattle.vdr_tool.specs.declared.status.Status.{Status}
 use Rattle.vdr_tool.specs.declared.status.Status.TheVariants.{Done, NoChannel, OutputFault}
 use Rattle.vdr_replay.proofs.Playing.{config_read}
@@ -83,7 +84,7 @@ asked_within c name = has_number (length c.channels) (channel_asked c name)
 module _ {tells tells_images : Type 0} where
   -- A play ends so where it is not of its own refusals.
   pub with_media : (medium : Played) (name : List ℕ) (old new : MediaSeen tells tells_images) (refused : OpenRefused)
-      → MediaEnds (λ x. CanPlay x medium name) (MetUnsound old.disk (λ x. CanPlay x medium name)) AreLooks old new (status_of_opening refused)
+      → MediaEnds (λ x. CanPlay x medium name) (MetUnreadable old.disk (λ x. CanPlay x medium name)) AreLooks old new (status_of_opening refused)
       → PlayEnds medium name old new (status_of_opening refused)
   with_media medium name old new openings.NoMemory media = record { media = media; no_channel = λ e. let none : ⊥ = cc in absurd none; no_incident = tt }
   with_media medium name old new openings.NotFormatted media = record { media = media; no_channel = λ e. let none : ⊥ = cc in absurd none; no_incident = tt }
@@ -125,7 +126,8 @@ module _ {tells tells_images : Type 0} (medium : Played) (name : List ℕ) (from
     (works : r.members.failed ≡ false)
     (contents : OpenedOn old.disk r.members)
     (opened : (x : Contents) → tells → HoldsContents old.disk.reads x → WasRecorded x
-    → (t0 : ℕ) × (old.disk.clock ≤ t0) × (t0 ≤ mid.disk.clock) × HasRecorded (opening_of x) [] t0 r mid.disk) where
+    → (t0 : ℕ) × (old.disk.clock ≤ t0) × (t0 ≤ mid.disk.clock) × HasRecorded (opening_of x) [] t0 r mid.disk)
+    (readable : (x : Contents) → tells → HoldsContents old.disk.reads x → AreLevel both (reading_of x) → IsReadable (opening_of x) [] r.members x.placed mid.disk) where
   -- The query's channel is there, so that only its incident may be missing.
   channel_is_there : lacks_channel (length r.members.config.channels) query.channel ≡ false
   channel_is_there = subst (λ (q : Query). lacks_channel (length r.members.config.channels) q.channel ≡ false) (sym wants.is) (asked_within r.members.config name)
@@ -146,9 +148,14 @@ module _ {tells tells_images : Type 0} (medium : Played) (name : List ℕ) (from
       let work = has.3.works works in
       (work.placed, work.stands)
 
+  -- What can be read can be read by the vault.
+  to_read : (x : Contents) → tells → HoldsContents old.disk.reads x → CanBeRead x → (placed : ℕ → List Placed) × IsReadable (opening_of x) [] r.members placed mid.disk
+  to_read x t holds (inl sound) = let stands = standing x t holds sound in (stands.0, stands_to_read (opening_of x) [] r.members stands.0 mid.disk stands.1)
+  to_read x t holds (inr level) = (x.placed, readable x t holds level)
+
   module _ (channel : (played ≡ Err plays.NoChannel) ↔ (lacks_channel (length r.members.config.channels) query.channel ≡ true))
       (incident : (played ≡ Err plays.NoIncident) ↔ ((lacks_channel (length r.members.config.channels) query.channel ≡ false) × Misses))
-      (undamaged : (opening : Opening) (events : List Event) (placed : ℕ → List Placed) (m offset : ℕ) → tells → Stands opening events r.members placed mid.disk → played ≡ Err (plays.Damaged m offset) → ⊥)
+      (undamaged : (opening : Opening) (events : List Event) (placed : ℕ → List Placed) (m offset : ℕ) → tells → IsReadable opening events r.members placed mid.disk → played ≡ Err (plays.Damaged m offset) → ⊥)
       (looked : (opening : Opening) (events : List Event) (t0 : ℕ) → HasRecorded opening events t0 r mid.disk → HasDone opening events t0 Look after mid.disk new.disk)
       (unchanged : Unchanged mid.disk new.disk) (m : ℕ) (cause : HasPlayCause m r.members.failed mid.faults new.faults played) (later : NoneFalls old.faults mid.faults)
       (others : tells → SameElsewhere old.disk.reads mid.disk.reads) where
@@ -178,8 +185,8 @@ module _ {tells tells_images : Type 0} (medium : Played) (name : List ℕ) (from
         incident = λ lacks. found (incident.1 (channel_is_there, misses_from (lacks_from r.members.table medium (subst (λ (table : List (Option histories.Incident)). LacksIncident table medium) (sym k) lacks))));
       })
 
-      irregular : (k offset : ℕ) → played ≡ Err (plays.Damaged k offset) → tells → (x : Contents) → HoldsContents old.disk.reads x → WasRecorded x → ⊥
-      irregular k offset is t x holds regular = let stands = standing x t holds regular in undamaged (opening_of x) [] stands.0 k offset t stands.1 is
+      irregular : (k offset : ℕ) → played ≡ Err (plays.Damaged k offset) → tells → (x : Contents) → HoldsContents old.disk.reads x → CanBeRead x → ⊥
+      irregular k offset is t x holds fit = let read = to_read x t holds fit in undamaged (opening_of x) [] read.0 k offset t read.1 is
 
       rose : played ≡ Err plays.Fault → Rose (sum old.faults) (sum new.faults)
       rose is = ⊎_elim (λ (failed : r.members.failed ≡ true). let clash : true ≡ false = sym failed ∙ works in let none : ⊥ = cc in absurd none)
@@ -261,9 +268,9 @@ module _ {tells tells_images : Type 0} (medium : Played) (name : List ℕ) (from
       played_ends = ends_so played refl
 
   module _ (same : (x y : Contents) → HoldsContents old.disk.reads x → HoldsContents old.disk.reads y → x.config ≡ y.config) (was next : OutputSeen)
-      (printed : (opening : Opening) (events : List Event) (placed : ℕ → List Placed) → tells → Stands opening events r.members placed mid.disk
+      (printed : (opening : Opening) (events : List Event) (placed : ℕ → List Placed) → tells → IsReadable opening events r.members placed mid.disk
       → OnOk played (Appends was.taken next.taken (records_text nothing_seen (selected opening events query))))
-      (front : (opening : Opening) (events : List Event) (placed : ℕ → List Placed) → tells → Stands opening events r.members placed mid.disk
+      (front : (opening : Opening) (events : List Event) (placed : ℕ → List Placed) → tells → IsReadable opening events r.members placed mid.disk
       → AppendsFront was.taken next.taken (records_text nothing_seen (selected opening events query))) where
     text_is : (x : Contents) → tells → HoldsContents old.disk.reads x → records_text nothing_seen (selected (opening_of x) [] query) ≡ play_text x medium name from to
     unfolding play_text
@@ -272,9 +279,9 @@ module _ {tells tells_images : Type 0} (medium : Played) (name : List ℕ) (from
         let config : r.members.config ≡ x.config = c.4 ∙ same c.1 x c.2 holds in
         ap (λ (q : Query). records_text nothing_seen (selected (opening_of x) [] q)) (wants.is ∙ ap (λ (d : Configuration). query_of d medium name from to) config)
 
-    prints_so : (p : Result ⊤ PlayRefused) → played ≡ p → (x : Contents) → tells → HoldsContents old.disk.reads x → WasRecorded x → PrintsText (play_text x medium name from to) (status_by p medium) was next
+    prints_so : (p : Result ⊤ PlayRefused) → played ≡ p → (x : Contents) → tells → HoldsContents old.disk.reads x → CanBeRead x → PrintsText (play_text x medium name from to) (status_by p medium) was next
     prints_so (Ok u) is x t holds regular =
-        let stands = standing x t holds regular in
+        let stands = to_read x t holds regular in
         subst (λ (text : List ℕ). Appends was.taken next.taken text) (text_is x t holds)
         (subst (λ (p : Result ⊤ PlayRefused). OnOk p (Appends was.taken next.taken (records_text nothing_seen (selected (opening_of x) [] query)))) is (printed (opening_of x) [] stands.0 t stands.1))
     prints_so (Err plays.NoMemory) is x t holds regular = tt
@@ -283,8 +290,8 @@ module _ {tells tells_images : Type 0} (medium : Played) (name : List ℕ) (from
     prints_so (Err plays.Fault) is x t holds regular = tt
     prints_so (Err (plays.Damaged k offset)) is x t holds regular = tt
     prints_so (Err plays.Output) is x t holds regular =
-        let stands = standing x t holds regular in
+        let stands = to_read x t holds regular in
         subst (λ (text : List ℕ). AppendsFront was.taken next.taken text) (text_is x t holds) (front (opening_of x) [] stands.0 t stands.1)
 
-    pub played_prints : (x : Contents) → tells → HoldsContents old.disk.reads x → WasRecorded x → PrintsText (play_text x medium name from to) (status_by played medium) was next
+    pub played_prints : (x : Contents) → tells → HoldsContents old.disk.reads x → CanBeRead x → PrintsText (play_text x medium name from to) (status_by played medium) was next
     played_prints = prints_so played refl

@@ -1,27 +1,31 @@
 -- By exclusion: a feed that may be recorded is, and what may not is refused by its own refusal.
 use Rattle.std.specs.Prelude.{OnOk}
 use Rattle.std.specs.Io.KnownBytes.{Appends}
-use Rattle.std.proofs.Common.{◌≡◌, ◌≤◌, ◌<◌, ◌^◌, ◌∷◌, ◌++◌, inl, inr, ℕ, List, [], take, Option, None, Some, Result, Ok, Err, refl, sym, subst, ◌∙◌, arith}
-use Rattle.vdr_terms.specs.Records.{FeedItem}
+use Rattle.std.proofs.Common.{◌≡◌, ◌≤◌, ◌<◌, ◌^◌, ◌∷◌, ◌++◌, inl, inr, ℕ, List, [], take, Option, None, Some, Result, Ok, Err, refl, sym, ap, subst, ◌∙◌, arith}
+use Rattle.vdr_terms.specs.Records.{FeedItem, last}
 use Rattle.vdr_terms.specs.declared.rate.Rate.{Rate}
+use Rattle.vdr_history.specs.Histories.{stamp_of}
 use Rattle.vdr_history.specs.Runs.{base_after}
-use Rattle.vdr_durability.specs.Readings.{EndsMeet}
+use Rattle.vdr_durability.specs.Readings.{Reading, next_after, records_on, restored}
 use Rattle.vdr_outside.specs.Causes.{HasCause}
+use Rattle.vdr_outside.specs.Disk.{Image}
 use Rattle.vdr_outside.specs.Writes.{AppendsFront}
 use Rattle.vdr_feed.specs.Feed.{feed_header}
 use Rattle.vdr_feed.specs.Reader.{IfKnown}
 use Rattle.vdr_media.specs.Formatted.{IsFormatted, IsUnformatted}
-use Rattle.vdr_opening.specs.Media.{both, Contents, HoldsContents, opening_of, reading_of}
+use Rattle.vdr_opening.specs.Media.{both, Contents, HoldsContents, opening_of}
 use Rattle.vdr_opening.specs.Refusals.{IsRefused}
-use Rattle.vdr_replay.specs.Answers.{Answers, IfOpened, TellsHeader}
-use Rattle.vdr_replay.specs.Feeding.{ReadsFeed, RefusesNext, most_items}
+use Rattle.vdr_config.specs.Configuration.{Configuration}
+use Rattle.vdr_ring.specs.Sequence.{Placed, batches_in}
+use Rattle.vdr_replay.specs.Answers.{Decides, IfOpened, MayBegin, TellsHeader}
+use Rattle.vdr_replay.specs.Feeding.{AreConfigured, ReadsFeed, RefusesNext, most_items}
 use Rattle.vdr_replay.specs.declared.ended.FeedEnd.{FeedEnd}
 use Rattle.vdr_replay.specs.declared.ended.FeedEnd.TheVariants as ends
 use Rattle.vdr_replay.specs.declared.ended.Replayed.{Replayed}
 use Rattle.vdr_replay.specs.declared.ended.ReplayStop.{ReplayStop}
 use Rattle.vdr_replay.specs.declared.ended.ReplayStop.TheVariants as stops
 use Rattle.vdr_tool.specs.Endings.{IsDone, IsRefusal}
-use Rattle.vdr_tool.specs.Opened.{OneAnswer, WasRecorded}
+use Rattle.vdr_tool.specs.Opened.{IsLegibleWith, OneAnswer}
 use Rattle.vdr_tool.specs.Outside.{MediaFailed, MediaSeen, OutputSeen}
 use Rattle.vdr_tool.specs.StatusLine.{Wrote}
 use Rattle.vdr_tool.specs.Summaries.{summary_text}
@@ -48,128 +52,159 @@ is_done_as status is = subst IsDone (sym is) tt
 is_refused_as : (status : Status) (number offset other at : ℕ) → status ≡ Feed other at → (number ≡ other) × (offset ≡ at) → IsRefusal number offset status
 is_refused_as status number offset other at is same = subst (IsRefusal number offset) (sym is) (sym same.0, sym same.1)
 
+-- The next place and the last stamp are those of one medium.
+abbrev reading_at : List Placed → Reading
+reading_at placed = record { batches = λ m. batches_in placed; table = []; text = [] }
+
+next_is : (image : Image) → OneAnswer image → (x y : Contents) → HoldsContents image x → HoldsContents image y → (opening_of x).next_place ≡ (opening_of y).next_place
+next_is image law x y hx hy = ap (λ (ps : List Placed). next_after (last (records_on (restored both (reading_at ps)) 0))) (law.placed x y hx hy)
+
+base_is : (image : Image) → OneAnswer image → (x y : Contents) → HoldsContents image x → HoldsContents image y → base_after (opening_of x).last ≡ base_after (opening_of y).last
+base_is image law x y hx hy = ap (λ (ps : List Placed). base_after (stamp_of (last (records_on (restored both (reading_at ps)) 0)) None)) (law.placed x y hx hy)
+
+may_too : (image : Image) → OneAnswer image → (x y : Contents) → HoldsContents image x → HoldsContents image y → MayBegin (opening_of x) → MayBegin (opening_of y)
+may_too image law x y hx hy may = record {
+  place = subst (λ (n : ℕ). n < 2 ^ 62) (next_is image law x y hx hy) may.place;
+  base = subst (λ (n : ℕ). n < 2 ^ 62) (base_is image law x y hx hy) may.base;
+}
+
 -- All that may be said of a status by its answer, in one place: what `replay` ends with where no object outside fails.
 module _ {tells tells_images : Type 0} (bytes : List ℕ) (now : Option (List ℕ)) (old new : MediaSeen tells tells_images) (was next : OutputSeen)
     (told : tells) (law : OneAnswer old.disk.reads) where
-  abbrev Told : Result Replayed ReplayStop → Type 0
-  Told answer = (x : Contents) (more : List ℕ) → tells → HoldsContents old.disk.reads x → WasRecorded x → Some bytes ≡ Some more → Answers x more now (MediaFailed old new) old.disk new.disk answer
-
-  abbrev Legible : Type 0
-  Legible = IsFormatted old.disk.reads × (x : Contents) × HoldsContents old.disk.reads x × EndsMeet both (reading_of x)
+  abbrev Legible : Result Replayed ReplayStop → Type 0
+  Legible answer = IsLegibleWith old.disk.reads (λ x. Decides x (Some bytes) now answer)
 
   no_place : (n : ℕ) → 2 ^ 62 ≤ n → n < 2 ^ 62 → ⊥
   no_place n high low = omega (arith, high, low)
 
-  closed : (status : Status) (run : Replayed) → (status ≡ InputFault → ⊥) → (status ≡ OutputFault → ⊥) → take 8 bytes ≡ feed_header → Legible → Told (Ok run)
+  closed : (status : Status) (run : Replayed) → (status ≡ InputFault → ⊥) → (status ≡ OutputFault → ⊥) → take 8 bytes ≡ feed_header → Legible (Ok run)
       → (end : FeedEnd) → run.end ≡ end → (summary : List ℕ) → PrintsRun end summary status was next → ReplaysAll bytes old.disk.reads status
-  closed status run input output header legible recorded ends.Whole is summary prints =
+  closed status run input output header (formatted, y, hy, my, decides) ends.Whole is summary prints =
+      let may = decides.0 in
+      let feed = decides.1.0 in
+      let read = decides.1.1 in
+      let configured = decides.1.2 in
       let done = whole_is_done was next summary status output prints in
       record {
         header = λ other. absurd (other header);
-        unformatted = λ h un. absurd (not_both old.disk.reads legible.0 un);
-        damaged = λ h f m offset r. absurd (law.either legible.1 m offset legible.2 legible.3 r);
-        place = λ x h holds meet regular high. let may = (recorded x bytes told holds regular refl).may in absurd (no_place (opening_of x).next_place high may.place);
-        tick = λ x h holds meet regular low high. let may = (recorded x bytes told holds regular refl).may in absurd (no_place (base_after (opening_of x).last) high may.base);
-        refused = λ x feed number offset holds meet regular may reads known.
-            let r = recorded x bytes told holds regular refl in
-            absurd (not_refused x.config.groups bytes number offset r.feed feed r.configured known (subst (λ (e : FeedEnd). ReadsFeed x.config.groups bytes now e r.feed) is r.read) reads);
-        done = λ x feed holds meet regular may whole known. is_done_as status done;
+        unformatted = λ h un. absurd (not_both old.disk.reads formatted un);
+        damaged = λ h f m offset r. absurd (law.either y m offset hy my r);
+        place = λ x h holds meet high. absurd (no_place (opening_of x).next_place high (may_too old.disk.reads law y x hy holds may).place);
+        tick = λ x h holds meet low high. absurd (no_place (base_after (opening_of x).last) high (may_too old.disk.reads law y x hy holds may).base);
+        refused = λ x items number offset holds meet begins reads known.
+            let same = law.config y x hy holds in
+            absurd (not_refused x.config.groups bytes number offset feed items (subst (λ (c : Configuration). AreConfigured c.groups feed) same configured) known
+            (subst (λ (e : FeedEnd). ReadsFeed x.config.groups bytes now e feed) is (subst (λ (c : Configuration). ReadsFeed c.groups bytes now run.end feed) same read)) reads);
+        done = λ x items holds meet begins whole known. is_done_as status done;
       }
-  closed status run input output header legible recorded ends.Input is summary prints = absurd (input prints.0)
-  closed status run input output header legible recorded (ends.Refused other at) is summary prints = record {
-    header = λ no. absurd (no header);
-    unformatted = λ h un. absurd (not_both old.disk.reads legible.0 un);
-    damaged = λ h f m offset r. absurd (law.either legible.1 m offset legible.2 legible.3 r);
-    place = λ x h holds meet regular high. let may = (recorded x bytes told holds regular refl).may in absurd (no_place (opening_of x).next_place high may.place);
-    tick = λ x h holds meet regular low high. let may = (recorded x bytes told holds regular refl).may in absurd (no_place (base_after (opening_of x).last) high may.base);
-    refused = λ x feed number offset holds meet regular may reads known.
-        let r = recorded x bytes told holds regular refl in
-        is_refused_as status number offset other at prints.0
-        (one_refusal x.config.groups bytes number offset other at feed r.feed known r.configured reads (subst (λ (e : FeedEnd). ReadsFeed x.config.groups bytes now e r.feed) is r.read));
-    done = λ x feed holds meet regular may whole known.
-        let r = recorded x bytes told holds regular refl in
-        absurd (not_refused x.config.groups bytes other at feed r.feed known r.configured whole (subst (λ (e : FeedEnd). ReadsFeed x.config.groups bytes now e r.feed) is r.read));
-  }
+  closed status run input output header legible ends.Input is summary prints = absurd (input prints.0)
+  closed status run input output header (formatted, y, hy, my, decides) (ends.Refused other at) is summary prints =
+      let may = decides.0 in
+      let feed = decides.1.0 in
+      let read = decides.1.1 in
+      let configured = decides.1.2 in
+      record {
+        header = λ no. absurd (no header);
+        unformatted = λ h un. absurd (not_both old.disk.reads formatted un);
+        damaged = λ h f m offset r. absurd (law.either y m offset hy my r);
+        place = λ x h holds meet high. absurd (no_place (opening_of x).next_place high (may_too old.disk.reads law y x hy holds may).place);
+        tick = λ x h holds meet low high. absurd (no_place (base_after (opening_of x).last) high (may_too old.disk.reads law y x hy holds may).base);
+        refused = λ x items number offset holds meet begins reads known.
+            let same = law.config y x hy holds in
+            is_refused_as status number offset other at prints.0
+            (one_refusal x.config.groups bytes number offset other at items feed known (subst (λ (c : Configuration). AreConfigured c.groups feed) same configured) reads
+            (subst (λ (e : FeedEnd). ReadsFeed x.config.groups bytes now e feed) is (subst (λ (c : Configuration). ReadsFeed c.groups bytes now run.end feed) same read)));
+        done = λ x items holds meet begins whole known.
+            let same = law.config y x hy holds in
+            absurd (not_refused x.config.groups bytes other at items feed known (subst (λ (c : Configuration). AreConfigured c.groups feed) same configured) whole
+            (subst (λ (e : FeedEnd). ReadsFeed x.config.groups bytes now e feed) is (subst (λ (c : Configuration). ReadsFeed c.groups bytes now run.end feed) same read)));
+      }
 
-  stopped : (stop : ReplayStop) → (status_of_stop stop ≡ InputFault → ⊥) → (status_of_stop stop ≡ MediaFault → ⊥) → TellsHeader (Some bytes) now (Err stop) → IfOpened (Err stop) Legible → Told (Err stop)
+  stopped : (stop : ReplayStop) → (status_of_stop stop ≡ InputFault → ⊥) → (status_of_stop stop ≡ MediaFault → ⊥) → TellsHeader (Some bytes) now (Err stop) → IfOpened (Err stop) (Legible (Err stop))
       → (◌≡◌ {A = Result Replayed ReplayStop} (Err stop) (Err stops.NotFormatted) → tells → IsUnformatted old.disk.reads)
       → ((m offset : ℕ) → ◌≡◌ {A = Result Replayed ReplayStop} (Err stop) (Err (stops.Damaged m offset)) → tells → IsFormatted old.disk.reads × IsRefused old.disk.reads m offset)
       → ReplaysAll bytes old.disk.reads (status_of_stop stop)
-  stopped stops.NoMemory input media header legible recorded unformatted damaged = record {
+  stopped stops.NoMemory input media header legible unformatted damaged = record {
     header = λ no. absurd (no header);
     unformatted = λ h un. inr refl;
     damaged = λ h f m offset r. inr refl;
-    place = λ x h holds meet regular high. inr refl;
-    tick = λ x h holds meet regular low high. inr refl;
-    refused = λ x feed number offset holds meet regular may reads known. tt;
-    done = λ x feed holds meet regular may whole known. tt;
+    place = λ x h holds meet high. inr refl;
+    tick = λ x h holds meet low high. inr refl;
+    refused = λ x feed number offset holds meet may reads known. tt;
+    done = λ x feed holds meet may whole known. tt;
   }
-  stopped stops.Input input media header legible recorded unformatted damaged = absurd (input refl)
-  stopped stops.Media input media header legible recorded unformatted damaged = absurd (media refl)
-  stopped (stops.Refused number offset) input media header legible recorded unformatted damaged = record {
+  stopped stops.Input input media header legible unformatted damaged = absurd (input refl)
+  stopped stops.Media input media header legible unformatted damaged = absurd (media refl)
+  stopped (stops.Refused number offset) input media header legible unformatted damaged = record {
     header = λ no. (header.0, header.1);
     unformatted = λ h un. absurd (header.2 h);
     damaged = λ h f m offset r. absurd (header.2 h);
-    place = λ x h holds meet regular high. absurd (header.2 h);
-    tick = λ x h holds meet regular low high. absurd (header.2 h);
-    refused = λ x feed n at holds meet regular may reads known. absurd (header.2 (reads_header x.config.groups bytes n at feed reads));
-    done = λ x feed holds meet regular may whole known. absurd (header.2 (has_header most_items bytes feed [] whole));
+    place = λ x h holds meet high. absurd (header.2 h);
+    tick = λ x h holds meet low high. absurd (header.2 h);
+    refused = λ x feed n at holds meet may reads known. absurd (header.2 (reads_header x.config.groups bytes n at feed reads));
+    done = λ x feed holds meet may whole known. absurd (header.2 (has_header most_items bytes feed [] whole));
   }
-  stopped stops.NotFormatted input media header legible recorded unformatted damaged =
+  stopped stops.NotFormatted input media header legible unformatted damaged =
       let un = unformatted refl told in
       record {
         header = λ no. absurd (no header);
         unformatted = λ h un. inl refl;
         damaged = λ h f m offset r. absurd (not_both old.disk.reads f un);
-        place = λ x h holds meet regular high. absurd (law.formatted x holds un);
-        tick = λ x h holds meet regular low high. absurd (law.formatted x holds un);
-        refused = λ x feed n at holds meet regular may reads known. absurd (law.formatted x holds un);
-        done = λ x feed holds meet regular may whole known. absurd (law.formatted x holds un);
+        place = λ x h holds meet high. absurd (law.formatted x holds un);
+        tick = λ x h holds meet low high. absurd (law.formatted x holds un);
+        refused = λ x feed n at holds meet may reads known. absurd (law.formatted x holds un);
+        done = λ x feed holds meet may whole known. absurd (law.formatted x holds un);
       }
-  stopped (stops.Damaged k at) input media header legible recorded unformatted damaged =
+  stopped (stops.Damaged k at) input media header legible unformatted damaged =
       let r = damaged k at refl told in
       record {
         header = λ no. absurd (no header);
         unformatted = λ h un. absurd (not_both old.disk.reads r.0 un);
         damaged = λ h f m offset also. inl (damaged_alike k at m offset (law.one k at m offset r.1 also));
-        place = λ x h holds meet regular high. absurd (law.either x k at holds meet r.1);
-        tick = λ x h holds meet regular low high. absurd (law.either x k at holds meet r.1);
-        refused = λ x feed n other holds meet regular may reads known. absurd (law.either x k at holds meet r.1);
-        done = λ x feed holds meet regular may whole known. absurd (law.either x k at holds meet r.1);
+        place = λ x h holds meet high. absurd (law.either x k at holds meet r.1);
+        tick = λ x h holds meet low high. absurd (law.either x k at holds meet r.1);
+        refused = λ x feed n other holds meet may reads known. absurd (law.either x k at holds meet r.1);
+        done = λ x feed holds meet may whole known. absurd (law.either x k at holds meet r.1);
       }
-  stopped stops.Place input media header legible recorded unformatted damaged = record {
+  stopped stops.Place input media header (formatted, y, hy, my, high) unformatted damaged = record {
     header = λ no. absurd (no header);
-    unformatted = λ h un. absurd (not_both old.disk.reads legible.0 un);
-    damaged = λ h f m offset r. absurd (law.either legible.1 m offset legible.2 legible.3 r);
-    place = λ x h holds meet regular high. inl refl;
-    tick = λ x h holds meet regular low high. absurd (no_place (opening_of x).next_place (recorded x bytes told holds regular refl).0 low);
-    refused = λ x feed n at holds meet regular may reads known. absurd (no_place (opening_of x).next_place (recorded x bytes told holds regular refl).0 may.place);
-    done = λ x feed holds meet regular may whole known. absurd (no_place (opening_of x).next_place (recorded x bytes told holds regular refl).0 may.place);
+    unformatted = λ h un. absurd (not_both old.disk.reads formatted un);
+    damaged = λ h f m offset r. absurd (law.either y m offset hy my r);
+    place = λ x h holds meet also. inl refl;
+    tick = λ x h holds meet low also. absurd (no_place (opening_of x).next_place (too_high x holds) low);
+    refused = λ x feed n at holds meet may reads known. absurd (no_place (opening_of x).next_place (too_high x holds) may.place);
+    done = λ x feed holds meet may whole known. absurd (no_place (opening_of x).next_place (too_high x holds) may.place);
   }
-  stopped stops.Tick input media header legible recorded unformatted damaged = record {
+    where
+      too_high : (x : Contents) → HoldsContents old.disk.reads x → 2 ^ 62 ≤ (opening_of x).next_place
+      too_high x holds = subst (λ (n : ℕ). 2 ^ 62 ≤ n) (next_is old.disk.reads law y x hy holds) high
+  stopped stops.Tick input media header (formatted, y, hy, my, decides) unformatted damaged = record {
     header = λ no. absurd (no header);
-    unformatted = λ h un. absurd (not_both old.disk.reads legible.0 un);
-    damaged = λ h f m offset r. absurd (law.either legible.1 m offset legible.2 legible.3 r);
-    place = λ x h holds meet regular high. absurd (no_place (opening_of x).next_place high (recorded x bytes told holds regular refl).0);
-    tick = λ x h holds meet regular low high. inl refl;
-    refused = λ x feed n at holds meet regular may reads known. absurd (no_place (base_after (opening_of x).last) (recorded x bytes told holds regular refl).1 may.base);
-    done = λ x feed holds meet regular may whole known. absurd (no_place (base_after (opening_of x).last) (recorded x bytes told holds regular refl).1 may.base);
+    unformatted = λ h un. absurd (not_both old.disk.reads formatted un);
+    damaged = λ h f m offset r. absurd (law.either y m offset hy my r);
+    place = λ x h holds meet also. absurd (no_place (opening_of x).next_place also (subst (λ (n : ℕ). n < 2 ^ 62) (next_is old.disk.reads law y x hy holds) decides.0));
+    tick = λ x h holds meet below also. inl refl;
+    refused = λ x feed n at holds meet may reads known. absurd (no_place (base_after (opening_of x).last) (too_late x holds) may.base);
+    done = λ x feed holds meet may whole known. absurd (no_place (base_after (opening_of x).last) (too_late x holds) may.base);
   }
+    where
+      too_late : (x : Contents) → HoldsContents old.disk.reads x → 2 ^ 62 ≤ base_after (opening_of x).last
+      too_late x holds = subst (λ (n : ℕ). 2 ^ 62 ≤ n) (base_is old.disk.reads law y x hy holds) decides.1
 
   by_answer : (status : Status) (answer : Result Replayed ReplayStop) → (status ≡ InputFault → ⊥) → (status ≡ OutputFault → ⊥) → (status ≡ MediaFault → ⊥)
-      → TellsRun answer status was next → TellsHeader (Some bytes) now answer → IfOpened answer Legible → Told answer
+      → TellsRun answer status was next → TellsHeader (Some bytes) now answer → IfOpened answer (Legible answer)
       → (answer ≡ Err stops.NotFormatted → tells → IsUnformatted old.disk.reads)
       → ((m offset : ℕ) → answer ≡ Err (stops.Damaged m offset) → tells → IsFormatted old.disk.reads × IsRefused old.disk.reads m offset)
       → ReplaysAll bytes old.disk.reads status
-  by_answer status (Ok run) input output media prints header legible recorded unformatted damaged = closed status run input output header legible recorded run.end refl _ prints
-  by_answer status (Err stop) input output media prints header legible recorded unformatted damaged =
+  by_answer status (Ok run) input output media prints header legible unformatted damaged = closed status run input output header legible run.end refl _ prints
+  by_answer status (Err stop) input output media prints header legible unformatted damaged =
       subst (λ (s : Status). ReplaysAll bytes old.disk.reads s) (sym prints.0)
-      (stopped stop (λ is. input (prints.0 ∙ is)) (λ is. media (prints.0 ∙ is)) header legible recorded unformatted damaged)
+      (stopped stop (λ is. input (prints.0 ∙ is)) (λ is. media (prints.0 ∙ is)) header legible unformatted damaged)
 
   pub replays_all : (status : Status) (answer : Result Replayed ReplayStop) → (status ≡ InputFault → ⊥) → (status ≡ OutputFault → ⊥) → (status ≡ MediaFault → ⊥)
       → TellsRun answer status was next → ReplayEnds (Some bytes) now old new answer → ReplaysAll bytes old.disk.reads status
   replays_all status answer input output media tells_it ends =
-      by_answer status answer input output media tells_it ends.header (ends.legible told) ends.recorded ends.unformatted ends.damaged
+      by_answer status answer input output media tells_it ends.header (ends.legible told) ends.unformatted ends.damaged
 
 -- The media's fault has its cause.
 stop_at_fault : (stop : ReplayStop) → status_of_stop stop ≡ MediaFault → ◌≡◌ {A = Result Replayed ReplayStop} (Err stop) (Err stops.Media)

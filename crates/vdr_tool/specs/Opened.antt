@@ -3,7 +3,7 @@ use Rattle.std.specs.Prelude.{◌≡◌, ◌≤◌, ◌⊎◌, ◌∷◌, ℕ, �
 use Rattle.vdr_history.specs.Histories.{Act, Event, IsHistory}
 use Rattle.vdr_history.specs.Histories.Act.{Look}
 use Rattle.vdr_durability.specs.Keeping.{Keeps, ShowsPrefix}
-use Rattle.vdr_durability.specs.Readings.{EndsMeet}
+use Rattle.vdr_durability.specs.Readings.{AreLevel, EndsMeet}
 use Rattle.vdr_outside.specs.Disk.{Disk, Image}
 use Rattle.vdr_media.specs.Formatted.{IsFormatted, IsUnformatted}
 use Rattle.vdr_opening.specs.Media.{both, Contents, HoldsContents, opening_of, reading_of}
@@ -42,6 +42,13 @@ IsUnopened Unformatted = ⊤
 IsUnopened (Damaged m offset) = ⊤
 IsUnopened MediaFault = ⊤
 IsUnopened status = ⊥
+
+-- The work was not begun: it was refused, or there was no memory.
+abbrev pub IsUnbegun : Status → Type 0
+IsUnbegun Done = ⊥
+IsUnbegun OutputFault = ⊥
+IsUnbegun MediaFault = ⊥
+IsUnbegun status = ⊤
 
 -- The output grew by the text, or by a front of it where the output failed.
 abbrev pub PrintsText : List ℕ → Status → (old new : OutputSeen) → Type 0
@@ -95,6 +102,10 @@ module _ {tells tells_images : Type 0} where
   -- sound.
   abbrev pub MetUnsound : Disk tells tells_images → (Can : Contents → Type 0) → Type 0
   MetUnsound old Can = tells → IsLegibleWith old.reads Can × ((x : Contents) → HoldsContents old.reads x → WasRecorded x → ⊥)
+
+  -- Where both media end with the last batch nothing is written, whether they are sound or not.
+  abbrev pub WritesNothing : (old new : Disk tells tells_images) → Type 0
+  WritesNothing old new = (x : Contents) → tells → HoldsContents old.reads x → AreLevel both (reading_of x) → IsUntouched old new
 
   -- Media that held these contents keep them by some events: since entry a stop left what it might have left at entry, or media that
   -- play back what was held or what the events make of it; and from the moment at which opening's syncs had succeeded the media keep

@@ -3,9 +3,9 @@ use Rattle.std.specs.Prelude.{◌≡◌, ◌≢◌, ◌⊎◌, ◌∷◌, if◌t
 use Rattle.vdr_terms.specs.Queries.{Query}
 use Rattle.vdr_history.specs.Histories.{live}
 use Rattle.vdr_history.specs.Histories as histories
-use Rattle.vdr_durability.specs.Readings.{EndsMeet}
+use Rattle.vdr_durability.specs.Readings.{AreLevel, EndsMeet}
 use Rattle.vdr_playback.specs.Playback.{selected}
-use Rattle.vdr_outside.specs.Disk.{Image}
+use Rattle.vdr_outside.specs.Disk.{Disk, Image}
 use Rattle.vdr_config.specs.Configuration.{Configuration}
 use Rattle.vdr_entry.specs.Queries.{asked_medium}
 use Rattle.vdr_entry.specs.declared.query.Medium.{Medium}
@@ -18,7 +18,7 @@ use Rattle.vdr_recorder.specs.declared.play.PlayRefused.TheVariants as plays
 use Rattle.vdr_control.specs.Orders.PlainOrder.{Play as PlayOrder}
 use Rattle.vdr_control.specs.Plays.{SpellsPlay}
 use Rattle.vdr_tool.specs.Endings.{IsDone, IsWorkDone}
-use Rattle.vdr_tool.specs.Opened.{AreLooks, IfNoIncident, IsLegibleWith, MediaEnds, MetUnsound, PrintsText, RefusesAll, WasRecorded}
+use Rattle.vdr_tool.specs.Opened.{AreLooks, IfNoIncident, IsLegibleWith, MediaEnds, PrintsText, RefusesAll, WasRecorded, WritesNothing}
 use Rattle.vdr_tool.specs.Outside.{MediaSeen, NothingFailed, OutputFailed, Outside, Writes}
 use Rattle.vdr_tool.specs.Promises.{Promise}
 use Rattle.vdr_tool.specs.StatusLine.{IsNoChannel, channel_line}
@@ -53,6 +53,10 @@ abbrev pub LacksIncident : List (Option histories.Incident) → Medium → Type 
 LacksIncident table Capsule = ⊥
 LacksIncident table LongTerm = ⊥
 LacksIncident table (Incident id) = live table id ≡ None
+
+-- What a recorder left can be read, and what is legible where both media end with the last batch.
+abbrev pub CanBeRead : Contents → Type 0
+CanBeRead x = WasRecorded x ⊎ AreLevel both (reading_of x)
 
 -- Channel and incident are there.
 pub record CanPlay (x : Contents) (medium : Medium) (name : List ℕ) : Type 0 where
@@ -104,9 +108,13 @@ pub record ArePlayWords (texts : List (List ℕ)) (asked : AskedPlay) : Type 0 w
   pub spelled : SpellsPlay medium channel from to (PlayOrder asked.medium asked.channel asked.from asked.to)
 
 module _ {tells tells_images : Type 0} where
+  -- The media are legible, and of none that can be read.
+  abbrev pub MetUnreadable : Disk tells tells_images → (Can : Contents → Type 0) → Type 0
+  MetUnreadable old Can = tells → IsLegibleWith old.reads Can × ((x : Contents) → HoldsContents old.reads x → CanBeRead x → ⊥)
+
   -- What is said where the media were opened, by what they read as at entry.
   pub record PlayEnds (medium : Medium) (name : List ℕ) (old new : MediaSeen tells tells_images) (status : Status) : Type 0 where
-    pub media : MediaEnds (λ x. CanPlay x medium name) (MetUnsound old.disk (λ x. CanPlay x medium name)) AreLooks old new status
+    pub media : MediaEnds (λ x. CanPlay x medium name) (MetUnreadable old.disk (λ x. CanPlay x medium name)) AreLooks old new status
     -- each refusal of the words comes only in its case
     pub no_channel : status ≡ NoChannel → tells → IsLegibleWith old.disk.reads (λ x. LacksChannel x.config name)
     pub no_incident : IfNoIncident status (λ id. (medium ≡ Incident id) × (tells → IsLegibleWith old.disk.reads (λ x. (LacksChannel x.config name → ⊥) × LacksIncident x.table medium)))
@@ -117,13 +125,13 @@ pub record PlaysAll (medium : Medium) (name : List ℕ) (image : Image) (status 
   pub channel : (x : Contents) → HoldsContents image x → EndsMeet both (reading_of x) → LacksChannel x.config name → (status ≡ NoChannel) ⊎ (status ≡ NoMemory)
   pub incident : (x : Contents) (id : ℕ) → HoldsContents image x → EndsMeet both (reading_of x) → (LacksChannel x.config name → ⊥) → medium ≡ Incident id
       → live x.table id ≡ None → (status ≡ NoIncident id) ⊎ (status ≡ NoMemory)
-  pub done : (x : Contents) → HoldsContents image x → EndsMeet both (reading_of x) → WasRecorded x → CanPlay x medium name → IsDone status
+  pub done : (x : Contents) → HoldsContents image x → EndsMeet both (reading_of x) → CanBeRead x → CanPlay x medium name → IsDone status
 
 -- What `play` owes.
 pub record Plays {tells tells_images : Type 0} (asked : AskedPlay) (old new : Outside tells tells_images) (status : Status) : Type 0 where
   pub own : IsPlayStatus status
   -- what is selected of what the media hold is printed
-  pub printed : (x : Contents) → tells → HoldsContents old.media.disk.reads x → WasRecorded x
+  pub printed : (x : Contents) → tells → HoldsContents old.media.disk.reads x → CanBeRead x
       → PrintsText (play_text x asked.medium asked.channel asked.from asked.to) status old.output new.output
   -- each refusal and failure comes only with its cause
   pub output : status ≡ OutputFault → OutputFailed old.output new.output
@@ -131,6 +139,7 @@ pub record Plays {tells tells_images : Type 0} (asked : AskedPlay) (old new : Ou
   pub silent : IsWorkDone status ⊎ (IsNoChannel status ⊎ (new.output ≡ old.output))
   -- the media, and what is said of them
   pub media : PlayEnds asked.medium asked.channel old.media new.media status
+  pub level : WritesNothing old.media.disk new.media.disk
   -- nothing else comes in the place of a play, or of a refusal, but want of memory
   pub complete : NothingFailed old new → tells → PlaysAll asked.medium asked.channel old.media.disk.reads status
 

@@ -12,7 +12,7 @@ use Rattle.vdr_opening.specs.Media.{both, Contents, HoldsContents, opening_of, r
 use Rattle.vdr_opening.specs.Refusals.{IsRefused}
 use Rattle.vdr_vault.specs.Calls.{SameElsewhere}
 use Rattle.vdr_vault.specs.Openings.{LeavesAll}
-use Rattle.vdr_replay.specs.Answers.{Answers, EndsAtHeader, HasReplayCause, IfOpened, MayBegin, RefusesMedia, TellsHeader}
+use Rattle.vdr_replay.specs.Answers.{Answers, Decides, EndsAtHeader, HasReplayCause, IfOpened, MayBegin, RefusesMedia, RefusesRun, TellsHeader}
 use Rattle.vdr_replay.specs.Headline.{LeavesHistory}
 use Rattle.vdr_replay.specs.Feeding.{AreConfigured, RefusesNext, most_items}
 use Rattle.vdr_replay.specs.declared.ended.FeedEnd.{FeedEnd}
@@ -21,7 +21,7 @@ use Rattle.vdr_replay.specs.declared.ended.Replayed.{Replayed}
 use Rattle.vdr_replay.specs.declared.ended.ReplayStop.{ReplayStop}
 use Rattle.vdr_replay.specs.declared.ended.ReplayStop.TheVariants as stops
 use Rattle.vdr_tool.specs.Endings.{IsDone, IsRefusal}
-use Rattle.vdr_tool.specs.Opened.{IsUntouched, WasRecorded}
+use Rattle.vdr_tool.specs.Opened.{IsLegibleWith, IsUntouched, WasRecorded, WritesNothing}
 use Rattle.vdr_tool.specs.Outside.{AreLeftAlone, InputFailed, MediaFailed, MediaSeen, NothingFailed, OutputFailed, OutputSeen, Outside, Prints, PrintsFront, Writes}
 use Rattle.vdr_tool.specs.Promises.{Promise}
 use Rattle.vdr_tool.specs.Summaries.{summary_text}
@@ -63,9 +63,10 @@ pub record ReplayEnds {tells tells_images : Type 0} (input now : Option (List �
   -- a header that is refused, or can't be read, leaves the media alone, and media that are refused are not written
   pub unopened : EndsAtHeader answer → AreLeftAlone old new
   pub untouched : RefusesMedia answer → IsUntouched old.disk new.disk
+  pub level : RefusesRun answer → WritesNothing old.disk new.disk
   -- each refusal comes only in its case
   pub header : TellsHeader input now answer
-  pub legible : tells → IfOpened answer (IsFormatted old.disk.reads × (x : Contents) × HoldsContents old.disk.reads x × EndsMeet both (reading_of x))
+  pub legible : tells → IfOpened answer (IsLegibleWith old.disk.reads (λ x. Decides x input now answer))
   pub unformatted : answer ≡ Err stops.NotFormatted → tells → IsUnformatted old.disk.reads
   pub damaged : (m offset : ℕ) → answer ≡ Err (stops.Damaged m offset) → tells → IsFormatted old.disk.reads × IsRefused old.disk.reads m offset
   pub others : tells → SameElsewhere old.disk.reads new.disk.reads
@@ -76,13 +77,13 @@ pub record ReplaysAll (bytes : List ℕ) (image : Image) (status : Status) : Typ
   pub header : take 8 bytes ≢ feed_header → IsRefusal 1 0 status
   pub unformatted : take 8 bytes ≡ feed_header → IsUnformatted image → (status ≡ Unformatted) ⊎ (status ≡ NoMemory)
   pub damaged : take 8 bytes ≡ feed_header → IsFormatted image → (m offset : ℕ) → IsRefused image m offset → (status ≡ Damaged m offset) ⊎ (status ≡ NoMemory)
-  pub place : (x : Contents) → take 8 bytes ≡ feed_header → HoldsContents image x → EndsMeet both (reading_of x) → WasRecorded x
+  pub place : (x : Contents) → take 8 bytes ≡ feed_header → HoldsContents image x → EndsMeet both (reading_of x)
       → 2 ^ 62 ≤ (opening_of x).next_place → (status ≡ Place) ⊎ (status ≡ NoMemory)
-  pub tick : (x : Contents) → take 8 bytes ≡ feed_header → HoldsContents image x → EndsMeet both (reading_of x) → WasRecorded x
+  pub tick : (x : Contents) → take 8 bytes ≡ feed_header → HoldsContents image x → EndsMeet both (reading_of x)
       → (opening_of x).next_place < 2 ^ 62 → 2 ^ 62 ≤ base_after (opening_of x).last → (status ≡ Tick) ⊎ (status ≡ NoMemory)
-  pub refused : (x : Contents) (feed : List FeedItem) (number offset : ℕ) → HoldsContents image x → EndsMeet both (reading_of x) → WasRecorded x → MayBegin (opening_of x)
+  pub refused : (x : Contents) (feed : List FeedItem) (number offset : ℕ) → HoldsContents image x → EndsMeet both (reading_of x) → MayBegin (opening_of x)
       → RefusesNext x.config.groups bytes number offset feed → AreConfigured x.config.groups feed → IsRefusal number offset status
-  pub done : (x : Contents) (feed : List FeedItem) → HoldsContents image x → EndsMeet both (reading_of x) → WasRecorded x → MayBegin (opening_of x)
+  pub done : (x : Contents) (feed : List FeedItem) → HoldsContents image x → EndsMeet both (reading_of x) → MayBegin (opening_of x)
       → IsFeed most_items bytes feed → AreConfigured x.config.groups feed → IsDone status
 
 -- What `replay` owes.

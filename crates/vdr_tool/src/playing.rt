@@ -5,8 +5,8 @@ ghost use Rattle.vdr_entry.specs.Queries.{asked};
 ghost use Rattle.vdr_opening.specs.Media.{Contents, HoldsContents};
 ghost use Rattle.vdr_tool.specs.Commands.{plain_play};
 ghost use Rattle.vdr_tool.specs.Endings.{IsWorkDone, ending};
-ghost use Rattle.vdr_tool.specs.Opened.{PrintsText, WasRecorded};
-ghost use Rattle.vdr_tool.specs.Plays.{IsPlayStatus, LacksChannel, PlayEnds, Plays, id_of, play_text, query_of, status_by};
+ghost use Rattle.vdr_tool.specs.Opened.{PrintsText, WritesNothing};
+ghost use Rattle.vdr_tool.specs.Plays.{CanBeRead, IsPlayStatus, LacksChannel, PlayEnds, Plays, id_of, play_text, query_of, status_by};
 ghost use Rattle.vdr_tool.specs.StatusLine.{IsNoChannel, Wrote, channel_line};
 ghost use Rattle.vdr_tool.specs.declared.status.Status.TheVariants.{NoChannel, OutputFault, Words};
 
@@ -81,8 +81,9 @@ fn play<I: Source + Drop, O: Sink + Drop, M: Media + Drop>(
     requires three { length (M.disk world.old.media).sizes ≤ 3 }
     ensures statuses { IsPlayStatus (ending result) }
     ensures media { let at = ⟦<World<I, O, M> as Outer>⟧.outside in PlayEnds wanted.entry.medium wanted.entry.channel.now (at world.old).media (at world.new).media (ending result) }
-    ensures printed { let at = ⟦<World<I, O, M> as Outer>⟧.outside in (x : Contents) → M.tells → HoldsContents (M.disk world.old.media).reads x → WasRecorded x
+    ensures printed { let at = ⟦<World<I, O, M> as Outer>⟧.outside in (x : Contents) → M.tells → HoldsContents (M.disk world.old.media).reads x → CanBeRead x
         → PrintsText (play_text x wanted.entry.medium wanted.entry.channel.now wanted.entry.from wanted.entry.to) (ending result) (at world.old).output (at world.new).output }
+    ensures level { WritesNothing (M.disk world.old.media) (M.disk world.new.media) }
     ensures line { ending result ≡ NoChannel
         → Wrote (channel_line wanted.entry.channel.now) (O.taken world.old.output) (O.taken world.new.output) (O.faults world.old.output) (O.faults world.new.output) }
     ensures silent { IsWorkDone (ending result) ⊎ (IsNoChannel (ending result) ⊎ (world.new.output ≡ world.old.output)) }

@@ -19,7 +19,7 @@ use Rattle.vdr_ring.specs.Sequence.{Placed, all_records}
 use Rattle.vdr_ring.specs.Rings.{RingState}
 use Rattle.vdr_ring.specs.declared.refused.ReadRefused.{ReadRefused}
 use Rattle.vdr_ring.proofs.Medium.{in_order_records}
-use Rattle.vdr_vault.specs.Vaults.{MembersState, HoldsHistory, Stands, ring_of}
+use Rattle.vdr_vault.specs.Vaults.{IsReadable, IsReadableAt, MembersState, ring_of}
 use Rattle.vdr_vault.specs.Walks.{CursorState, Slots, AreAhead, AreLeft, GivesNext, HasRead, IsBefore, slots_read}
 use Rattle.vdr_vault.specs.declared.cursor.Standing.{Standing}
 use Rattle.vdr_vault.specs.Plays.{AreToCome, ring_for, span_in}
@@ -75,19 +75,19 @@ module _ {tells tells_images : Type 0} where
     },
   )
 
-  module _ (opening : Opening) (events : List Event) (members : MembersState) (placed : ℕ → List Placed) (disk : Disk tells tells_images) (stands : Stands opening events members placed disk) where
+  module _ (opening : Opening) (events : List Event) (members : MembersState) (placed : ℕ → List Placed) (disk : Disk tells tells_images) (stands : IsReadable opening events members placed disk) where
     -- what the law of playback says of each query
     abbrev pub IsRetained : Type 0
     IsRetained = (query : Query) (held : List Record) → AreInOrder (histories.all_records opening (medium_of query.medium) events) → AreInOrder held
         → Retains (opening.settings.seconds (medium_of query.medium)) (pins_on opening events (medium_of query.medium)) (histories.all_records opening (medium_of query.medium) events) held
         → found query (span_of opening events query.medium) held ≡ selected opening events query
 
-    pub holds_on : (medium : Played) → HoldsHistory opening events members.config (medium_of (asked_medium medium)) (ring_of members (medium_of (asked_medium medium))) (placed (medium_of (asked_medium medium))) disk
+    pub holds_on : (medium : Played) → IsReadableAt opening events (medium_of (asked_medium medium)) (ring_of members (medium_of (asked_medium medium))) (placed (medium_of (asked_medium medium))) disk
     holds_on Capsule = stands.media 0 0 (omega arith)
     holds_on LongTerm = stands.media 1 0 (omega arith)
     holds_on (PlayedIncident id) = stands.media 1 0 (omega arith)
 
-    window_same : (m : ℕ) (ring : RingState) → HoldsHistory opening events members.config m ring (placed m) disk → span_of opening events (WindowOf m) ≡ span_in members placed (WindowOf m)
+    window_same : (m : ℕ) (ring : RingState) → IsReadableAt opening events m ring (placed m) disk → span_of opening events (WindowOf m) ≡ span_in members placed (WindowOf m)
     window_same m ring holds =
         ap (λ (s : Settings). option_map (λ (r : Record). Window (second r.tick) (s.seconds m)) (last (histories.all_records opening m events))) stands.settings
         ∙ ap (λ (o : Option Record). option_map (λ (r : Record). Window (second r.tick) (window_of members.config m)) o) (sym holds.retains.window.newest)

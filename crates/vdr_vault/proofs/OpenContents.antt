@@ -1,18 +1,16 @@
 -- The contents that were opened, whoever names them, and what a durable image of them shows.
-use Rattle.std.proofs.Common.{◌≡◌, inl, inr, ℕ, List, [], ◌∷◌, true, All, Contains, Option, Some, None, option_map, refl, sym, ap, ◌∙◌, subst, arith}
-use Rattle.std.proofs.lemmas.List.Elements.{All-nil, All-cons, All-weaker}
+use Rattle.std.proofs.Common.{◌≡◌, inl, inr, List, [], ◌∷◌, true, false, All, Some, None, option_map, refl, sym, ap, ◌∙◌, subst, arith}
 use Rattle.vdr_terms.specs.Order.{AreInOrder as RecordsAreInOrder}
 use Rattle.vdr_terms.specs.Records.{Record, last}
 use Rattle.vdr_retention.specs.Layout.{Batches, segment_records}
 use Rattle.vdr_retention.proofs.Lists.{contains_here}
 use Rattle.vdr_retention.specs.Retention.{Retains}
-use Rattle.vdr_history.specs.Histories.{Incident, stamp_of}
-use Rattle.vdr_durability.specs.Readings.{AreLevel, EndsMeet, Reading, ends_before, records_on, restored}
+use Rattle.vdr_history.specs.Histories.{stamp_of}
+use Rattle.vdr_durability.specs.Readings.{AreLevel, EndsMeet, Reading, ends_before, next_after, records_on, restored}
 use Rattle.vdr_durability.specs.Shown.{pins_on}
-use Rattle.vdr_durability.proofs.Restored.{level_restored}
+use Rattle.vdr_durability.proofs.Restored.{ends_not_before, last_in_order, level_restored}
 use Rattle.vdr_durability.proofs.Shows.{opened_shows, retains_itself}
 use Rattle.vdr_outside.specs.Disk.{Disk, Durable, Image, content}
-use Rattle.vdr_config.specs.Configuration.{Configuration}
 use Rattle.vdr_config.specs.Sizes.{window_of}
 use Rattle.vdr_media.proofs.Two.{all_two}
 use Rattle.vdr_ring.specs.Sequence.{Placed, all_records, batches_in}
@@ -91,12 +89,31 @@ restored_shown x image holds meet sound = (
       (retains_itself (window_of x.config 1) (pins_on 1 x.table) (records_on (restored both (reading_of x)) 1))),
 )
 
--- The last record that they begin with is the capsule's.
-pub newest_opened : (x : Contents) → AreInOrder (x.placed 0) → option_map tick_utc (last (all_records (x.placed 0))) ≡ option_map of_stamp (opening_of x).last
-newest_opened x order =
+-- What they begin with is what the capsule has.
+capsule_opened : (x : Contents) → AreInOrder (x.placed 0) → records_on (restored both (reading_of x)) 0 ≡ all_records (x.placed 0)
+capsule_opened x order =
     let in_order : RecordsAreInOrder (segment_records (batches_in (x.placed 0))) = subst RecordsAreInOrder (sym (records_are (x.placed 0))) (in_order_records (x.placed 0) order) in
-    let same : records_on (restored both (reading_of x)) 0 ≡ all_records (x.placed 0) =
     level_restored (0 ∷ []) (reading_of x) (one (λ m. last (batches_in (x.placed m)) ≡ last (batches_in (x.placed 0))) 0 refl)
     (one (λ m. RecordsAreInOrder (segment_records (batches_in (x.placed m)))) 0 in_order) 0 (contains_here 0 [])
-    ∙ records_are (x.placed 0) in
-    stamp_told (last (all_records (x.placed 0))) ∙ ap (λ (rs : List Record). option_map of_stamp (stamp_of (last rs) None)) (sym same)
+    ∙ records_are (x.placed 0)
+
+-- The last record that they begin with is the capsule's, and the place behind it the next one.
+pub newest_opened : (x : Contents) → AreInOrder (x.placed 0) → option_map tick_utc (last (all_records (x.placed 0))) ≡ option_map of_stamp (opening_of x).last
+newest_opened x order =
+    stamp_told (last (all_records (x.placed 0))) ∙ ap (λ (rs : List Record). option_map of_stamp (stamp_of (last rs) None)) (sym (capsule_opened x order))
+
+pub place_opened : (x : Contents) → AreInOrder (x.placed 0) → next_after (last (all_records (x.placed 0))) ≡ (opening_of x).next_place
+place_opened x order = ap (λ (rs : List Record). next_after (last rs)) (sym (capsule_opened x order))
+
+-- Media whose ends are level lack no batch.
+pub none_missing : (missing : List Record) (reading : Reading) → IsMissing missing reading → AreLevel both reading → RecordsAreInOrder (records_on reading 1) → missing ≡ []
+none_missing missing reading (inl none) level order = none.0
+none_missing missing reading (inr passed) level order =
+    let ends : last (reading.batches 1) ≡ Some missing = level 1 1 (omega arith) ∙ passed.given_end 0 0 (omega arith) in
+    let clash : true ≡ false = sym (passed.waiting_end 0 1 (omega arith)) ∙ ends_not_before (reading.batches 1) missing (last_in_order (reading.batches 1) missing order ends) ends in
+    let never : ⊥ = cc in
+    absurd never
+
+pub level_lacks_none : (missing : List Record) (x : Contents) → IsMissing missing (reading_of x) → AreLevel both (reading_of x) → AreInOrder (x.placed 1) → missing ≡ []
+level_lacks_none missing x is level order =
+    none_missing missing (reading_of x) is level (subst RecordsAreInOrder (sym (records_are (x.placed 1))) (in_order_records (x.placed 1) order))

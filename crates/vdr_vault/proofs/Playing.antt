@@ -13,9 +13,10 @@ use Rattle.vdr_ring.specs.Sequence.{Placed}
 use Rattle.vdr_ring.specs.Rings.{RingState, HoldsPlaced, Reads}
 use Rattle.vdr_ring.specs.Opening.{slot_bytes}
 use Rattle.vdr_incident.specs.Tables.{HoldsTable}
-use Rattle.vdr_opening.specs.Media.{HasFront}
+use Rattle.std.proofs.lemmas.List.Elements.{All-weaker}
+use Rattle.vdr_opening.specs.Media.{HasFront, both}
 use Rattle.vdr_opening.specs.Answers.{IsRingOf}
-use Rattle.vdr_vault.specs.Vaults.{MembersState, AreRings, HoldsHistory, Stands, ring_of}
+use Rattle.vdr_vault.specs.Vaults.{MembersState, AreRings, HoldsHistory, IsReadable, IsReadableAt, Stands, ring_of}
 use Rattle.vdr_vault.specs.Walks.{HasRead}
 use Rattle.vdr_vault.specs.Plays.{ReadsOn}
 use Rattle.vdr_vault.proofs.Passing.{room_kept}
@@ -93,6 +94,36 @@ module _ {tells tells_images : Type 0} where
         stamp = stands.stamp;
       }
 
+  -- the same of what can be read
+  readable_at_still : (opening : Opening) (events : List Event) (m : ℕ) (old new : RingState) (placed : List Placed) (before now : Disk tells tells_images) → HasRead old new before now
+      → IsReadableAt opening events m old placed before → IsReadableAt opening events m new placed now
+  readable_at_still opening events m old new placed before now read h = record { reads = read.reads placed h.reads; order = h.order; retains = h.retains }
+
+  readable_with : (opening : Opening) (events : List Event) (placed : ℕ → List Placed) (members : MembersState) (capsule long_term : RingState) (before now : Disk tells tells_images)
+      → HasRead members.capsule capsule before now → HasRead members.long_term long_term before now → IsReadable opening events members placed before
+      → IsReadable opening events (record members { capsule = capsule; long_term = long_term }) placed now
+  readable_with opening events placed members capsule long_term before now first second h =
+      let new : MembersState = record members { capsule = capsule; long_term = long_term } in
+      record {
+        settings = h.settings;
+        working = h.working;
+        media = all_two (λ m. IsReadableAt opening events m (ring_of new m) (placed m) now)
+            (readable_at_still opening events 0 members.capsule capsule (placed 0) before now first (h.media 0 0 (omega arith)))
+            (readable_at_still opening events 1 members.long_term long_term (placed 1) before now second (h.media 1 0 (omega arith)));
+        incidents_are = h.incidents_are;
+      }
+
+  -- What stands can be read.
+  pub stands_to_read : (opening : Opening) (events : List Event) (members : MembersState) (placed : ℕ → List Placed) (disk : Disk tells tells_images) → Stands opening events members placed disk
+      → IsReadable opening events members placed disk
+  stands_to_read opening events members placed disk stands = record {
+    settings = stands.settings;
+    working = stands.working;
+    media = All-weaker (λ m. HoldsHistory opening events members.config m (ring_of members m) (placed m) disk) (λ m. IsReadableAt opening events m (ring_of members m) (placed m) disk)
+        (λ m h. record { reads = h.reads; order = h.order; retains = h.retains }) both stands.media;
+    incidents_are = stands.incidents_are;
+  }
+
   rings_with : (members : MembersState) (capsule long_term : RingState) (before now : Disk tells tells_images) → HasRead members.capsule capsule before now
       → HasRead members.long_term long_term before now → AreRings members before.sizes → AreRings (record members { capsule = capsule; long_term = long_term }) now.sizes
   rings_with members capsule long_term before now first second rings =
@@ -124,6 +155,12 @@ module _ {tells tells_images : Type 0} where
   stands_still opening events placed old new before now read stands =
       subst (λ (s : MembersState). Stands opening events s placed now) (sym read.same)
       (stands_with opening events placed old new.capsule new.long_term before now read.capsule read.long_term stands)
+
+  pub readable_still : (opening : Opening) (events : List Event) (placed : ℕ → List Placed) (old new : MembersState) (before now : Disk tells tells_images) → BothRead old new before now
+      → IsReadable opening events old placed before → IsReadable opening events new placed now
+  readable_still opening events placed old new before now read h =
+      subst (λ (s : MembersState). IsReadable opening events s placed now) (sym read.same)
+      (readable_with opening events placed old new.capsule new.long_term before now read.capsule read.long_term h)
 
   pub rings_still : (old new : MembersState) (before now : Disk tells tells_images) → BothRead old new before now → AreRings old before.sizes → AreRings new now.sizes
   rings_still old new before now read rings =

@@ -82,6 +82,20 @@ module _ {tells tells_images : Type 0} where
     pub pins : ArePinsOf (sizes_of c) m (all_records placed) (pins_on m (incidents opening events))
     pub unbroken : IsUnbroken (opening.settings.seconds m) (given_with opening events m)
 
+  -- What reading medium m needs of it: these segments are there, in order, and retain of all that it was given its window and the
+  -- live incidents.
+  pub record IsReadableAt (opening : Opening) (events : List Event) (m : ℕ) (ring : RingState) (placed : List Placed) (disk : Disk tells tells_images) : Type 0 where
+    pub reads : rings.Reads ring placed disk
+    pub order : AreInOrder (given_with opening events m)
+    pub retains : Retains (opening.settings.seconds m) (pins_on m (incidents opening events)) (given_with opening events m) (all_records placed)
+
+  -- A vault whose media can be read as what these events left, regular or not.
+  pub record IsReadable (opening : Opening) (events : List Event) (members : MembersState) (placed : ℕ → List Placed) (disk : Disk tells tells_images) : Type 0 where
+    pub settings : opening.settings ≡ settings_of members.config opening.settings.text
+    pub working : members.failed ≡ false
+    pub media : All (λ m. IsReadableAt opening events m (ring_of members m) (placed m) disk) both
+    pub incidents_are : members.table ≡ incidents opening events
+
   -- A vault at rest after these events: nothing is unsynced, both media end with the last batch, and all that was recorded and
   -- saved stands on them as far as it is to be retained.
   pub record Stands (opening : Opening) (events : List Event) (members : MembersState) (placed : ℕ → List Placed) (disk : Disk tells tells_images) : Type 0 where

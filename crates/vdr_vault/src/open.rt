@@ -1,6 +1,6 @@
 ghost use Rattle.std.specs.Prelude.{◌≡◌, ◌≢◌, ◌⊎◌, ◌+◌, ◌≤◌, ℕ, List, [], length, All, IfOk, OnOk, Err, false, option_map};
 ghost use Rattle.vdr_terms.specs.Sizes.{batch_size};
-ghost use Rattle.vdr_durability.specs.Readings.{EndsMeet};
+ghost use Rattle.vdr_durability.specs.Readings.{AreLevel, EndsMeet};
 ghost use Rattle.vdr_outside.specs.Causes.{HasCauseOn};
 ghost use Rattle.vdr_outside.specs.Disk.{Durable, Unchanged};
 ghost use Rattle.vdr_outside.specs.Moments.{AtEachMoment};
@@ -10,7 +10,7 @@ ghost use Rattle.vdr_opening.specs.Media.{Contents, HoldsContents, both, opening
 ghost use Rattle.vdr_opening.specs.Refusals.{IsRefused};
 ghost use Rattle.vdr_opening.specs.Answers.{HasOpenCause, IsOpened};
 ghost use Rattle.vdr_opening.specs.declared.refused.OpenRefused.TheVariants.{Damaged, NotFormatted};
-ghost use Rattle.vdr_vault.specs.Vaults.{AreRings, ShowsHistory, Stands, of_stamp};
+ghost use Rattle.vdr_vault.specs.Vaults.{AreRings, IsReadable, ShowsHistory, Stands, of_stamp};
 ghost use Rattle.vdr_vault.specs.Regularity.{AreSound};
 ghost use Rattle.vdr_vault.specs.Calls.{SameElsewhere};
 ghost use Rattle.vdr_vault.specs.Openings.{GoesOnBehind, HasCauseOnBoth, LeavesAll, OpensAtEachMoment, Reconciles, opened_with};
@@ -46,6 +46,8 @@ impl Members {
         ensures config { self.new.config ≡ self.old.config }
         ensures table { self.new.table ≡ self.old.table }
         ensures last { self.new.last ≡ self.old.last }
+        ensures place { self.new.next_place ≡ self.old.next_place }
+        ensures level { missing.now ≡ [] → (self.new ≡ self.old) × (media.new ≡ media.old) }
         ensures works { self.new.failed ≡ false }
         ensures rings { AreRings self.new (M.disk media.new).sizes }
         ensures others { M.tells → SameElsewhere (M.disk media.old).reads (M.disk media.new).reads }
@@ -69,6 +71,12 @@ impl Members {
             → IsFormatted (M.disk media.old).reads × (x : Contents) × HoldsContents (M.disk media.old).reads x
             × EndsMeet both (reading_of x) × (members.config ≡ x.config) × (members.table ≡ x.table)
             × (members.last ≡ option_map of_stamp (opening_of x).last)) }
+        ensures place { IfOk result (λ members. (x : Contents) → M.tells → All (λ m. Durable m (M.disk media.old)) both → HoldsContents (M.disk media.old).reads x
+            → members.next_place ≡ (opening_of x).next_place) }
+        ensures readable { IfOk result (λ members. (x : Contents) → M.tells → All (λ m. Durable m (M.disk media.old)) both → HoldsContents (M.disk media.old).reads x → AreLevel both (reading_of x)
+            → IsReadable (opening_of x) [] members x.placed (M.disk media.new)) }
+        ensures level { (x : Contents) → M.tells → All (λ m. Durable m (M.disk media.old)) both → HoldsContents (M.disk media.old).reads x → AreLevel both (reading_of x)
+            → Unchanged (M.disk media.old) (M.disk media.new) }
         ensures works { IfOk result (λ members. members.failed ≡ false) }
         ensures rings { IfOk result (λ members. AreRings members (M.disk media.new).sizes) }
         ensures moments { (x : Contents) → M.tells → All (λ m. Durable m (M.disk media.old)) both → HoldsContents (M.disk media.old).reads x → EndsMeet both (reading_of x) → AreSound x
@@ -112,7 +120,7 @@ impl Members {
     /// `NotFormatted` and `Damaged` come exactly as `vdr_opening::read_media` says, and nothing was written. `Fault`: a call failed, and
     /// the count of faults of that medium rose.
     ///
-    /// Where the media are sound, a stop at each moment leaves what a stop before the call might have left, until the syncs have
+    /// Where both end with the last batch nothing is written. Where the media are sound, a stop at each moment leaves what a stop before the call might have left, until the syncs have
     /// succeeded; from then on media that show what was opened, with the batch that the long-term medium lacks. Of media that are not formatted it leaves what a stop before the call
     /// might have left, whatever is answered.
     pub fn open<M: Media>(alloc: Global, media: &mut M) -> Result<Members, OpenRefused>
@@ -123,6 +131,11 @@ impl Members {
         ensures contents { IfOk result (λ members. M.tells → IsFormatted (M.disk media.old).reads × (x : Contents) × HoldsContents (M.disk media.old).reads x
             × EndsMeet both (reading_of x) × (members.config ≡ x.config) × (members.table ≡ x.table)
             × (members.last ≡ option_map of_stamp (opening_of x).last)) }
+        ensures place { IfOk result (λ members. (x : Contents) → M.tells → HoldsContents (M.disk media.old).reads x → members.next_place ≡ (opening_of x).next_place) }
+        ensures readable { IfOk result (λ members. (x : Contents) → M.tells → HoldsContents (M.disk media.old).reads x → AreLevel both (reading_of x)
+            → IsReadable (opening_of x) [] members x.placed (M.disk media.new)) }
+        ensures level { (x : Contents) → M.tells → HoldsContents (M.disk media.old).reads x → AreLevel both (reading_of x)
+            → LeavesAll (M.disk media.old) (M.disk media.new) × ((M.disk media.new).reads ≡ (M.disk media.old).reads) }
         ensures works { IfOk result (λ members. members.failed ≡ false) }
         ensures rings { IfOk result (λ members. AreRings members (M.disk media.new).sizes) }
         ensures moments { (x : Contents) → M.tells → HoldsContents (M.disk media.old).reads x → EndsMeet both (reading_of x) → AreSound x

@@ -11,7 +11,7 @@ ghost use Rattle.vdr_ring.specs.Rings.{HasMedium, Reads, Tells};
 ghost use Rattle.vdr_ring.specs.Cursors.{IsLoaded};
 ghost use Rattle.vdr_ring.specs.declared.refused.ReadRefused.TheVariants.{Fault as AFault, Damaged};
 ghost use Rattle.vdr_opening.specs.Media.{both};
-ghost use Rattle.vdr_vault.specs.Vaults.{AreRings, Stands, ring_of};
+ghost use Rattle.vdr_vault.specs.Vaults.{AreRings, IsReadable, Stands, ring_of};
 ghost use Rattle.vdr_vault.specs.Spans.{span_as};
 ghost use Rattle.vdr_vault.specs.Walks.{AreLeft, CountsOn, GivesNext, HasRead, MayStep, slots_read};
 ghost use Rattle.vdr_vault.specs.Plays.{AreToCome, HasReadCause, ReadsNoOther, ReadsOn, ring_for, span_in};
@@ -145,7 +145,7 @@ impl Members {
     /// Takes no memory.
     ///
     /// `Fault`: a write had failed before, and nothing was called; or a read failed, and the count of faults of that medium rose.
-    /// `Damaged` names that medium. It never comes of media on which the vault stands.
+    /// `Damaged` names that medium. It never comes of media that hold what was recorded, regular or not.
     pub fn first<M: Media>(
         &mut self,
         media: &mut M,
@@ -153,10 +153,12 @@ impl Members {
         cursor: &mut Cursor,
     ) -> Result<bool, ReadRefused>
         requires rings { AreRings self.old (M.disk media.old).sizes }
-        ensures plays { (opening : Opening) (events : List Event) (placed : ℕ → List Placed) → M.tells → Stands opening events self.old placed (M.disk media.old)
+        ensures plays { (opening : Opening) (events : List Event) (placed : ℕ → List Placed) → M.tells → IsReadable opening events self.old placed (M.disk media.old)
             → GivesNext (selected opening events (asked query.now)) result cursor.new.visit.item (AreToCome (asked query.now) self.new placed (M.disk media.new) cursor.new) }
         ensures stands { (opening : Opening) (events : List Event) (placed : ℕ → List Placed) → Stands opening events self.old placed (M.disk media.old)
             → Stands opening events self.new placed (M.disk media.new) }
+        ensures readable { (opening : Opening) (events : List Event) (placed : ℕ → List Placed) → IsReadable opening events self.old placed (M.disk media.old)
+            → IsReadable opening events self.new placed (M.disk media.new) }
         ensures item { cursor.new.visit.item ≢ None ↔ (result ≡ Ok true) }
         ensures may { MayStep (ring_for self.new (asked query.now)) cursor.new }
         ensures failed { self.old.failed ≡ true → (result ≡ Err AFault) × (self.new ≡ self.old) × (media.new ≡ media.old) }
@@ -179,7 +181,7 @@ impl Members {
     /// The cursor is new, or its last step was for this query, and no other cursor's came since (`may`).
     ///
     /// `Fault`: a write had failed before, and nothing was called; or a read failed, and the count of faults of that medium rose.
-    /// `Damaged` names that medium. It never comes of media on which the vault stands.
+    /// `Damaged` names that medium. It never comes of media that hold what was recorded, regular or not.
     pub fn next<M: Media>(
         &mut self,
         media: &mut M,
@@ -188,11 +190,13 @@ impl Members {
     ) -> Result<bool, ReadRefused>
         requires rings { AreRings self.old (M.disk media.old).sizes }
         requires may { MayStep (ring_for self.old (asked query.now)) cursor.old }
-        ensures plays { (opening : Opening) (events : List Event) (placed : ℕ → List Placed) (records : List Entry) → M.tells → Stands opening events self.old placed (M.disk media.old)
+        ensures plays { (opening : Opening) (events : List Event) (placed : ℕ → List Placed) (records : List Entry) → M.tells → IsReadable opening events self.old placed (M.disk media.old)
             → AreToCome (asked query.now) self.old placed (M.disk media.old) cursor.old records
             → GivesNext records result cursor.new.visit.item (AreToCome (asked query.now) self.new placed (M.disk media.new) cursor.new) }
         ensures stands { (opening : Opening) (events : List Event) (placed : ℕ → List Placed) → Stands opening events self.old placed (M.disk media.old)
             → Stands opening events self.new placed (M.disk media.new) }
+        ensures readable { (opening : Opening) (events : List Event) (placed : ℕ → List Placed) → IsReadable opening events self.old placed (M.disk media.old)
+            → IsReadable opening events self.new placed (M.disk media.new) }
         ensures item { cursor.new.visit.item ≢ None ↔ (result ≡ Ok true) }
         ensures may { MayStep (ring_for self.new (asked query.now)) cursor.new }
         ensures failed { self.old.failed ≡ true → (result ≡ Err AFault) × (self.new ≡ self.old) × (media.new ≡ media.old) }

@@ -33,6 +33,7 @@ loop-found-init g c = record {
   item = λ some. c.first.ensures.item.1 (c.in_ok-found.was ∙ ap (λ (b : Bool). Ok b) some);
   low = omega arith;
   stands = c.first.ensures.stands;
+  readable = c.first.ensures.readable;
   plays = λ opening events placed told stands.
       subst (λ (seen : Seen). IsBetween (selected opening events (asked c.args.query.now)) c.args.text.now.bytes.items c.args.text.now.bytes.items seen 0 c.in_ok-found.found c.first.new.cursor.visit.item
       (AreToCome (asked c.args.query.now) c.first.new.self placed (g.M.Media.disk c.first.new.media) c.first.new.cursor))
@@ -81,6 +82,7 @@ loop-found-preserved g c =
       item = λ some. c.next.ensures.item.1 (c.in_ok-found-2.was ∙ ap (λ (b : Bool). Ok b) some);
       low = c.in_ok-least.ensures.rises.1;
       stands = λ opening events placed stands. c.next.ensures.stands opening events placed (i.stands opening events placed stands);
+      readable = λ opening events placed h. c.next.ensures.readable opening events placed (i.readable opening events placed h);
       plays = λ opening events placed told stands.
           plays_on i c.loop-found-test.true c.in-Some.item.now (sym c.in-Some.ensures) c.next.new.self (g.M.Media.disk c.next.new.media) c.next.new.cursor c.next.result c.next.ensures.plays
           c.in_ok-found-2.found c.in_ok-found-2.was c.print_next.new.text.bytes.items c.print_next.new.tracks c.in_ok-least.least

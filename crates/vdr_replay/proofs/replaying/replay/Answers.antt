@@ -10,17 +10,18 @@ use Rattle.vdr_opening.specs.Media.{opening_of}
 use Rattle.vdr_opening.specs.declared.refused.OpenRefused.{OpenRefused}
 use Rattle.vdr_vault.proofs.OpenMoments.{never_both}
 use Rattle.vdr_recorder.proofs.Opened.{meet_as}
-use Rattle.vdr_replay.specs.Answers.{Answers, EndsAtHeader, IfOpened, IsLegible, RefusesMedia}
+use Rattle.vdr_replay.specs.Answers.{Answers, Decides, EndsAtHeader, IfOpened, IsLegible, RefusesMedia, RefusesRun}
 use Rattle.vdr_replay.specs.Ran.{Runs}
 use Rattle.vdr_replay.specs.Reading.{HasRead}
 use Rattle.vdr_replay.specs.declared.ended.Replayed.{Replayed}
 use Rattle.vdr_replay.specs.declared.ended.ReplayStop.{ReplayStop}
 use Rattle.vdr_replay.proofs.Causes.{replay_after, rose_joined, sum_of_rose}
 use Rattle.vdr_replay.proofs.Headlines.{answers, begun_nothing, leaves, opened_leaves, passes_opened}
-use Rattle.vdr_replay.proofs.Opened.{admits_all, begun_header, begun_media, damaged_by, header_of_feed, header_says, not_at_header, open_stops, opened_says, opening_says, refused_media}
+use Rattle.vdr_replay.proofs.Opened.{admits_all, begun_header, begun_media, begun_tells, damaged_by, header_of_feed, header_says, level_still, no_run_of_feed, not_at_header, open_stops, opened_says, opening_says, refused_media}
 use Rattle.vdr_replay.proofs.Passing.{passes_first}
 use Rattle.vdr_replay.proofs.Playing.{config_read}
-use Rattle.vdr_replay.proofs.Reading.{read_first}
+use Rattle.vdr_replay.proofs.Reading.{begins_so, read_first}
+use Rattle.vdr_replay.proofs.Starts.{decides_as}
 use Rattle.vdr_replay.proofs.replaying.replay.Goals as goal
 
 pub returns-in_err-recording-clause-replayed : goal.returns-in_err-recording-clause-replayed
@@ -104,26 +105,33 @@ returns-clause-cause g c = replay_after _ _ _ c.record_run.result c.open.ensures
 pub returns-in_err-header-clause-legible : goal.returns-in_err-header-clause-legible
 returns-in_err-header-clause-legible g c = λ told.
     let p = err_from_is_err_and c.from_residual.result c.from_residual.ensures.1 in
-    let legible = IsLegible (g.M.Media.disk c.args.media.now).reads in
-    subst (λ (result : Result Replayed ReplayStop). IfOpened result legible) (sym (p.1 ∙ ap (λ (stop : ReplayStop). Err stop) p.2)) (header_says c.in_err-header.field-0.0 legible)
+    subst (λ (result : Result Replayed ReplayStop). IfOpened result (IsLegible (g.M.Media.disk c.args.media.now).reads (λ x. Decides x (g.I.Source.left c.args.input.now) (g.I.Source.left c.header.new.input) result)))
+    (sym (p.1 ∙ ap (λ (stop : ReplayStop). Err stop) p.2)) (header_says c.in_err-header.field-0.0 _)
 
 pub returns-in_err-recording-clause-legible : goal.returns-in_err-recording-clause-legible
 returns-in_err-recording-clause-legible g c = λ told.
     let p = err_from_is_err_and c.from_residual-in_err-recording.result c.from_residual-in_err-recording.ensures.1 in
-    let legible = IsLegible (g.M.Media.disk c.args.media.now).reads in
-    subst (λ (result : Result Replayed ReplayStop). IfOpened result legible) (sym (p.1 ∙ ap (λ (stop : ReplayStop). Err stop) p.2)) (opening_says c.in_err-recording.field-0.0 legible)
+    subst (λ (result : Result Replayed ReplayStop). IfOpened result (IsLegible (g.M.Media.disk c.args.media.now).reads (λ x. Decides x (g.I.Source.left c.args.input.now) (g.I.Source.left c.header.new.input) result)))
+    (sym (p.1 ∙ ap (λ (stop : ReplayStop). Err stop) p.2)) (opening_says c.in_err-recording.field-0.0 _)
 
 pub returns-in_err-lanes-clause-legible : goal.returns-in_err-lanes-clause-legible
 returns-in_err-lanes-clause-legible g c = λ told.
-    let was = c.in_ok-recording.ensures.contents told in
-    let legible : IsLegible (g.M.Media.disk c.args.media.now).reads = (was.0, was.1, was.2, was.3) in
-    opened_says c.from_residual-in_err-lanes.result (IsLegible (g.M.Media.disk c.args.media.now).reads) legible
+    let p = err_from_is_err_and c.from_residual-in_err-lanes.result c.from_residual-in_err-lanes.ensures.1 in
+    subst (λ (result : Result Replayed ReplayStop). IfOpened result (IsLegible (g.M.Media.disk c.args.media.now).reads (λ x. Decides x (g.I.Source.left c.args.input.now) (g.I.Source.left c.header.new.input) result)))
+    (sym (p.1 ∙ ap (λ (stop : ReplayStop). Err stop) p.2)) tt
 
 pub returns-clause-legible : goal.returns-clause-legible
 returns-clause-legible g c = λ told.
     let was = c.in_ok-recording.ensures.contents told in
-    let legible : IsLegible (g.M.Media.disk c.args.media.now).reads = (was.0, was.1, was.2, was.3) in
-    opened_says c.record_run.result (IsLegible (g.M.Media.disk c.args.media.now).reads) legible
+    let read = read_first _ _ _ c.in_ok-header.ensures.bytes (c.in_ok-header.ensures.ready ∙ ap (λ (r : Reading). begun_reading r.limit) c.new-reader.ensures) in
+    opened_says c.record_run.result _ (
+      was.0,
+      was.1,
+      was.2,
+      was.3,
+      decides_as was.1 _ _ _ (g.I.Source.left c.args.input.now) (g.I.Source.left c.header.new.input) (g.I.Source.left c.record_run.new.input) c.header.new.self (c.in_ok-recording.ensures.place was.1 told was.2) was.6 was.4 read
+          c.record_run.result c.record_run.ensures.decided,
+    )
 
 pub returns-in_err-header-clause-untouched : goal.returns-in_err-header-clause-untouched
 returns-in_err-header-clause-untouched g c = λ refuses.
@@ -155,3 +163,15 @@ returns-clause-unopened g c = λ ends. begun_header c.record_run.result c.record
 
 pub returns-clause-untouched : goal.returns-clause-untouched
 returns-clause-untouched g c = λ refuses. begun_media c.record_run.result c.record_run.ensures.stops refuses
+
+pub returns-in_err-header-clause-level : goal.returns-in_err-header-clause-level
+returns-in_err-header-clause-level g c = λ refuses.
+    let p = err_from_is_err_and c.from_residual.result c.from_residual.ensures.1 in
+    no_run_of_feed c.in_err-header.field-0.0 (subst RefusesRun (p.1 ∙ ap (λ (stop : ReplayStop). Err stop) p.2) refuses)
+
+pub returns-clause-level : goal.returns-clause-level
+returns-clause-level g c = λ refuses x told holds level.
+    level_still (λ m. g.M.Media.disk m) (g.M.Media.disk c.args.media.now) c.open.new.media c.record_run.new.media (c.record_run.ensures.unbegun refuses) (c.open.ensures.level x told holds level)
+
+pub returns-clause-header : goal.returns-clause-header
+returns-clause-header g c = begun_tells _ _ c.record_run.result c.record_run.ensures.stops (begins_so _ _ c.in_ok-header.ensures.bytes)

@@ -5,13 +5,15 @@ use Rattle.vdr_history.specs.Feed.{feed_records, items_of}
 use Rattle.vdr_feed.specs.Reader.{IfKnown}
 use Rattle.vdr_recorder.specs.Recordings.{start_of_opening}
 use Rattle.vdr_replay.specs.Feeding.{AreConfigured, ReadsFeed}
-use Rattle.vdr_replay.specs.Ran.{Runs}
+use Rattle.vdr_replay.specs.Answers.{RefusesRun}
+use Rattle.vdr_replay.specs.Ran.{DecidesRun, Runs}
 use Rattle.vdr_replay.specs.Summary.{AreSums}
 use Rattle.vdr_replay.specs.declared.ended.ReplayStop.{ReplayStop}
 use Rattle.vdr_replay.proofs.Calls.{run_begins}
 use Rattle.vdr_replay.proofs.Causes.{replay_joined}
 use Rattle.vdr_replay.proofs.Passing.{takes_break, takes_close}
-use Rattle.vdr_replay.proofs.Starts.{may_begin, not_begun, ok_is_no_place, ok_is_no_tick, run_total, start_stops}
+use Rattle.vdr_replay.proofs.Reading.{known_feed}
+use Rattle.vdr_replay.proofs.Starts.{may_begin, not_begun, ok_is_no_place, ok_is_no_tick, run_total, start_decides, start_stops, start_unbegun, started_low}
 use Rattle.vdr_replay.proofs.running.record_run.Goals as goal
 
 pub returns-in_err-start-clause-ran : goal.returns-in_err-start-clause-ran
@@ -70,3 +72,43 @@ returns-clause-ran g c = λ opening t0 told h.
       total = run_total opening b.feed t0 c.args.recording.now c.record_items.new.recording (g.M.Media.disk c.args.media.now) (g.M.Media.disk c.args.media.now) (g.M.Media.disk c.record_items.new.media) h c.in_ok-end.ensures.works closes
           _ _ _ c.status-first.ensures.records c.status.ensures.records c.saturating_sub.ensures;
     }
+
+pub returns-in_err-start-clause-decided : goal.returns-in_err-start-clause-decided
+returns-in_err-start-clause-decided g c =
+    let p = err_from_is_err_and c.from_residual.result c.from_residual.ensures.1 in
+    let m = c.args.recording.now.members in
+    subst (DecidesRun m.next_place m.last (g.I.Source.left c.args.input.now) c.args.reader.now (g.I.Source.left c.args.input.now) m.config.groups) (sym (p.1 ∙ ap (λ (stop : ReplayStop). Err stop) p.2))
+    (start_decides m.next_place m.last c.start.result (c.start.ensures.place c.requires.works) (c.start.ensures.tick c.requires.works)
+    (g.I.Source.left c.args.input.now) c.args.reader.now (g.I.Source.left c.args.input.now) m.config.groups c.in_err-start.field-0.0 c.in_err-start.was)
+
+pub returns-in_err-end-clause-decided : goal.returns-in_err-end-clause-decided
+returns-in_err-end-clause-decided g c =
+    let p = err_from_is_err_and c.from_residual-in_err-end.result c.from_residual-in_err-end.ensures.1 in
+    let m = c.args.recording.now.members in
+    subst (DecidesRun m.next_place m.last (g.I.Source.left c.args.input.now) c.args.reader.now (g.I.Source.left c.record_items.new.input) m.config.groups) (sym (p.1 ∙ ap (λ (stop : ReplayStop). Err stop) p.2)) tt
+
+pub returns-clause-decided : goal.returns-clause-decided
+returns-clause-decided g c =
+    let m = c.args.recording.now.members in
+    let b = c.in_ok-end.ensures.recorded in
+    let low = started_low m.next_place m.last c.start.result (c.start.ensures.place c.requires.works) (c.start.ensures.tick c.requires.works)
+    (ok_is_no_place c.start.result _ c.in_ok-start.was) (ok_is_no_tick c.start.result _ c.in_ok-start.was) in
+    let known = subst (λ (config : Configuration). AreConfigured config.groups b.feed) c.start.ensures.config b.known in (
+      low.0,
+      low.1,
+      λ first k. known_feed m.config.groups first (g.I.Source.left c.record_items.new.input) c.in_ok-end.end b.feed known
+          (subst (λ (config : Configuration). IfKnown first (λ bytes. ReadsFeed config.groups bytes (g.I.Source.left c.record_items.new.input) c.in_ok-end.end b.feed)) c.start.ensures.config (b.read first k)),
+    )
+
+pub returns-in_err-start-clause-unbegun : goal.returns-in_err-start-clause-unbegun
+returns-in_err-start-clause-unbegun g c = λ refuses.
+    let p = err_from_is_err_and c.from_residual.result c.from_residual.ensures.1 in
+    start_unbegun c.start.result c.in_err-start.field-0.0 c.in_err-start.was (λ either. (c.start.ensures.refused either).1) (subst RefusesRun (p.1 ∙ ap (λ (stop : ReplayStop). Err stop) p.2) refuses)
+
+pub returns-in_err-end-clause-unbegun : goal.returns-in_err-end-clause-unbegun
+returns-in_err-end-clause-unbegun g c = λ refuses.
+    let p = err_from_is_err_and c.from_residual-in_err-end.result c.from_residual-in_err-end.ensures.1 in
+    absurd (subst RefusesRun (p.1 ∙ ap (λ (stop : ReplayStop). Err stop) p.2) refuses)
+
+pub returns-clause-unbegun : goal.returns-clause-unbegun
+returns-clause-unbegun g c = λ refuses. absurd refuses

@@ -2,7 +2,7 @@ use Rattle.std.proofs.lemmas.Result.{err_from_is_err_and}
 use Rattle.vdr_tool.specs.Incidents.{CanList}
 use Rattle.vdr_tool.specs.Opened.{AreLooks}
 use Rattle.vdr_tool.specs.declared.status.Status.TheVariants.{Done, OutputFault}
-use Rattle.vdr_tool.proofs.OpenedLemmas.{listed_ends, no_looks, refused_ends}
+use Rattle.vdr_tool.proofs.OpenedLemmas.{level_opened, listed_ends, no_looks, refused_ends}
 use Rattle.vdr_tool.proofs.listing.list.Goals as goal
 
 pub returns-in_err-recording-clause-media : goal.returns-in_err-recording-clause-media
@@ -23,3 +23,12 @@ returns-clause-media g c =
     let told = c.open.ensures in
     listed_ends _ _ c.open.result c.in_ok-recording.recording c.in_ok-recording.was c.in_ok-recording.recording.members c.in_ok-recording.ensures.contents
     (λ x t holds sound. let w = (c.in_ok-recording.ensures.opened x t holds sound).3.works c.in_ok-recording.ensures.works in (w.placed, w.stands)) told.others told.moments OutputFault tt
+
+pub returns-in_err-recording-clause-level : goal.returns-in_err-recording-clause-level
+returns-in_err-recording-clause-level g c = level_opened (g.M.Media.disk c.args.world.now.media) (g.M.Media.disk c.open.new.media) c.open.ensures.level
+
+pub returns-in-Ok-clause-level : goal.returns-in-Ok-clause-level
+returns-in-Ok-clause-level g c = level_opened (g.M.Media.disk c.args.world.now.media) (g.M.Media.disk c.open.new.media) c.open.ensures.level
+
+pub returns-clause-level : goal.returns-clause-level
+returns-clause-level g c = level_opened (g.M.Media.disk c.args.world.now.media) (g.M.Media.disk c.open.new.media) c.open.ensures.level

@@ -1,7 +1,7 @@
 use Rattle.std.proofs.lemmas.Result.{err_from_is_err_and}
 use Rattle.vdr_tool.specs.Opened.{AreLooks}
 use Rattle.vdr_tool.specs.Outside.{MediaSeen}
-use Rattle.vdr_tool.proofs.OpenedLemmas.{no_looks, refused_ends}
+use Rattle.vdr_tool.proofs.OpenedLemmas.{level_looked, level_opened, no_looks, refused_ends}
 use Rattle.vdr_tool.proofs.PlayLemmas.{channel_ends, played_ends, played_prints, wanted_so, with_media}
 use Rattle.vdr_tool.proofs.playing.play.Goals as goal
 
@@ -27,11 +27,11 @@ returns-clause-media g c =
     let new : MediaSeen g.M.Media.tells g.M.Media.tells_images = record { disk = g.M.Media.disk c.play-played.new.media; faults = g.M.Media.faults c.play-played.new.media; bytes_read = g.M.Media.bytes_read c.play-played.new.media } in
     rw c.ended_by.ensures
     (played_ends _ _ c.args.wanted.from c.args.wanted.to old mid new c.in_ok-recording.recording c.play-played.new.self _ c.play-played.result
-    (wanted_so _ _ _ _ _ _ c.in-Some.ensures.found.0 c.in-Some.ensures.found.1) told.works told.contents told.opened
+    (wanted_so _ _ _ _ _ _ c.in-Some.ensures.found.0 c.in-Some.ensures.found.1) told.works told.contents told.opened told.readable
     play.channel play.incident play.undamaged play.looked play.unchanged _ play.cause c.open.ensures.cause.later c.open.ensures.others c.open.result c.open.ensures.moments)
 
 pub returns-clause-printed : goal.returns-clause-printed
-returns-clause-printed g c = λ x t holds regular.
+returns-clause-printed g c = λ x t holds fit.
     let told = c.in_ok-recording.ensures in
     let play = c.play-played.ensures in
     let old : MediaSeen g.M.Media.tells g.M.Media.tells_images = record { disk = g.M.Media.disk c.args.world.now.media; faults = g.M.Media.faults c.args.world.now.media; bytes_read = g.M.Media.bytes_read c.args.world.now.media } in
@@ -39,5 +39,15 @@ returns-clause-printed g c = λ x t holds regular.
     let new : MediaSeen g.M.Media.tells g.M.Media.tells_images = record { disk = g.M.Media.disk c.play-played.new.media; faults = g.M.Media.faults c.play-played.new.media; bytes_read = g.M.Media.bytes_read c.play-played.new.media } in
     rw c.ended_by.ensures
     (played_prints _ _ _ _ old mid new c.in_ok-recording.recording c.play-played.new.self _ c.play-played.result
-    (wanted_so _ _ _ _ _ _ c.in-Some.ensures.found.0 c.in-Some.ensures.found.1) told.works told.contents told.opened
-    (λ a b h k. (c.law_of_contents.ensures.config (g.M.Media.disk c.args.world.now.media).reads a b h k).0) _ _ play.printed play.front x t holds regular)
+    (wanted_so _ _ _ _ _ _ c.in-Some.ensures.found.0 c.in-Some.ensures.found.1) told.works told.contents told.opened told.readable
+    (λ a b h k. (c.law_of_contents.ensures.config (g.M.Media.disk c.args.world.now.media).reads a b h k).0) _ _ play.printed play.front x t holds fit)
+
+pub returns-in_err-recording-clause-level : goal.returns-in_err-recording-clause-level
+returns-in_err-recording-clause-level g c = level_opened (g.M.Media.disk c.args.world.now.media) (g.M.Media.disk c.open.new.media) c.open.ensures.level
+
+pub returns-in_default-clause-level : goal.returns-in_default-clause-level
+returns-in_default-clause-level g c = level_opened (g.M.Media.disk c.args.world.now.media) (g.M.Media.disk c.open.new.media) c.open.ensures.level
+
+pub returns-clause-level : goal.returns-clause-level
+returns-clause-level g c =
+    level_looked (g.M.Media.disk c.args.world.now.media) (g.M.Media.disk c.open.new.media) (g.M.Media.disk c.play-played.new.media) c.open.ensures.level c.play-played.ensures.unchanged

@@ -2,8 +2,8 @@ use Rattle.std.proofs.Common.{refl}
 use Rattle.std.proofs.lemmas.Result.{err_from_is_err_and}
 use Rattle.vdr_tool.specs.Outside.{MediaSeen}
 use Rattle.vdr_tool.specs.Releases.{CanRelease, ReleasesId}
-use Rattle.vdr_tool.proofs.OpenedLemmas.{no_act, refused_ends}
-use Rattle.vdr_tool.proofs.SaveLemmas.{released_ends, released_missing}
+use Rattle.vdr_tool.proofs.OpenedLemmas.{level_opened, no_act, refused_ends}
+use Rattle.vdr_tool.proofs.SaveLemmas.{released_ends, released_missing, unreleased_level}
 use Rattle.vdr_tool.proofs.releasing.release.Goals as goal
 
 pub returns-in_err-recording-clause-media : goal.returns-in_err-recording-clause-media
@@ -38,3 +38,13 @@ returns-clause-no_incident g c =
     (released_missing old mid new c.in_ok-recording.recording c.release-released.new.self
     told.works told.contents told.opened c.open.ensures.cause.later c.open.ensures.others release.others c.args.id c.release-released.result release.released release.looked (λ works none. (release.refused works none).0)
     release.reason release.fails release.works release.cause c.release-released.result refl)
+
+pub returns-in_err-recording-clause-level : goal.returns-in_err-recording-clause-level
+returns-in_err-recording-clause-level g c = λ _. level_opened (g.M.Media.disk c.args.world.now.media) (g.M.Media.disk c.open.new.media) c.open.ensures.level
+
+pub returns-clause-level : goal.returns-clause-level
+returns-clause-level g c =
+    let release = c.release-released.ensures in
+    rw c.ended_by.ensures
+    (unreleased_level (λ m. g.M.Media.disk m) (g.M.Media.disk c.args.world.now.media) c.open.new.media c.release-released.new.media c.in_ok-recording.recording.members c.args.id c.release-released.result refl
+    c.open.ensures.level release.reason (λ works none. (release.refused works none).2))

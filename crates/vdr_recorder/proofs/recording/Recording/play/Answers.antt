@@ -1,13 +1,17 @@
-use Rattle.std.proofs.Common.{List, ℕ, refl, sym, subst}
+use Rattle.std.proofs.Common.{Err, List, ◌∙◌, ℕ, ap, refl, sym, subst}
+use Rattle.std.proofs.lemmas.Result.{err_from_is_err_and}
 use Rattle.std.specs.Io.KnownBytes.{Appends}
 use Rattle.vdr_playback.specs.Playback.{medium_of, selected}
 use Rattle.vdr_outside.specs.Writes.{AppendsFront}
 use Rattle.vdr_entry.specs.Queries.{asked, asked_medium}
 use Rattle.vdr_play.specs.Streams.{nothing_seen}
 use Rattle.vdr_play.specs.Texts.{records_text}
+use Rattle.vdr_recorder.specs.declared.play.PlayRefused.{PlayRefused}
+use Rattle.vdr_recorder.specs.declared.play.PlayRefused.TheVariants.{Damaged}
 use Rattle.vdr_recorder.proofs.Answering.{same_disk, text_is}
 use Rattle.vdr_recorder.proofs.Looking.{look_done}
 use Rattle.vdr_recorder.proofs.Printing.{reads_keep}
+use Rattle.vdr_recorder.proofs.Refusing.{same_refusal}
 use Rattle.vdr_recorder.proofs.recording.Recording.play.Goals as goal
 
 pub returns-in_err-accept-clause-looked : goal.returns-in_err-accept-clause-looked
@@ -53,3 +57,9 @@ returns-clause-looked g c = rw (sym c.self.view_is) (λ opening events t0 h.
     let kept = reads_keep (medium_of (asked_medium c.args.query.now.medium)) c.self.inside.members c.print_selected.new.members c.print_selected.ensures.members in
     look_done opening events t0 _ (g.M.Media.disk c.args.media.now) (g.M.Media.disk c.print_selected.new.media) h c.print_selected.new.members c.print_selected.ensures.unchanged
     kept.4 kept.0 kept.2 kept.3 kept.1 (λ placed stands. c.print_selected.ensures.stands opening events placed stands))
+
+pub returns-in_err-print_selected-clause-undamaged : goal.returns-in_err-print_selected-clause-undamaged
+returns-in_err-print_selected-clause-undamaged g c = rw (sym c.self.view_is) (λ opening events placed m offset told readable damage.
+    let p = err_from_is_err_and c.from_residual-in_err-print_selected.result c.from_residual-in_err-print_selected.ensures.1 in
+    c.print_selected.ensures.undamaged opening events placed m offset told readable
+    (c.in_err-print_selected.was ∙ ap (λ (e : PlayRefused). Err e) (sym p.2 ∙ same_refusal p.0 (Damaged m offset) c.from_residual-in_err-print_selected.result p.1 damage)))

@@ -9,7 +9,7 @@ use Rattle.vdr_vault.specs.Spans.{span_as}
 use Rattle.vdr_vault.specs.Walks.{AreLeft, slots_read}
 use Rattle.vdr_vault.specs.Plays.{ring_for}
 use Rattle.vdr_vault.proofs.Coming.{asked_two, gives_to_come, holds_on, none_to_come}
-use Rattle.vdr_vault.proofs.Playing.{both_read, stands_still}
+use Rattle.vdr_vault.proofs.Playing.{both_read, readable_still, stands_still}
 use Rattle.vdr_vault.proofs.members.Members.next.Goals as goal
 
 pub returns-clause-plays : goal.returns-clause-plays
@@ -41,6 +41,14 @@ returns-clause-stands g c opening events placed stands =
     let m = medium_of (asked_medium c.args.query.now.medium) in
     let both = both_read m c.args.self.now c.seek.new.self before now (asked_two c.args.query.now.medium) c.seek.ensures.members c.seek.ensures.read in
     stands_still opening events placed c.args.self.now c.seek.new.self before now both stands
+
+pub returns-clause-readable : goal.returns-clause-readable
+returns-clause-readable g c opening events placed stands =
+    let before = g.M.Media.disk c.args.media.now in
+    let now = g.M.Media.disk c.seek.new.media in
+    let m = medium_of (asked_medium c.args.query.now.medium) in
+    let both = both_read m c.args.self.now c.seek.new.self before now (asked_two c.args.query.now.medium) c.seek.ensures.members c.seek.ensures.read in
+    readable_still opening events placed c.args.self.now c.seek.new.self before now both stands
 
 pub returns-clause-cause : goal.returns-clause-cause
 returns-clause-cause g c =

@@ -1,12 +1,13 @@
-use Rattle.std.proofs.Common.{◌≡◌, ℕ, List, [], All, inr, sym, subst}
+use Rattle.std.proofs.Common.{◌≡◌, ℕ, List, [], All, inr, sym, subst, ◌∙◌}
 use Rattle.std.proofs.lemmas.Result.{IfOk-weaker}
+use Rattle.vdr_durability.specs.Readings.{AreLevel}
 use Rattle.vdr_outside.specs.Disk.{Durable, Image}
 use Rattle.vdr_outside.proofs.Moments.{moments_and_reads}
 use Rattle.vdr_media.specs.Formatted.{IsFormatted, IsUnformatted}
 use Rattle.vdr_ring.specs.Sequence.{Placed}
-use Rattle.vdr_opening.specs.Media.{both, Contents, HoldsContents, opening_of}
+use Rattle.vdr_opening.specs.Media.{both, Contents, HoldsContents, opening_of, reading_of}
 use Rattle.vdr_opening.specs.Refusals.{IsRefused}
-use Rattle.vdr_vault.specs.Vaults.{ShowsHistory, Stands}
+use Rattle.vdr_vault.specs.Vaults.{IsReadable, ShowsHistory, Stands}
 use Rattle.vdr_vault.specs.Regularity.{AreSound}
 use Rattle.vdr_vault.proofs.OpenCauses.{cause_after}
 use Rattle.vdr_vault.proofs.OpenMoments.{goes_on_synced}
@@ -35,3 +36,27 @@ returns-clause-damaged g c m offset is told =
 
 pub returns-clause-cause : goal.returns-clause-cause
 returns-clause-cause g c = cause_after _ _ _ _ c.sync_both.ensures.cause.later c.open_synced.ensures.cause
+
+pub returns-clause-place : goal.returns-clause-place
+returns-clause-place g c = IfOk-weaker c.open_synced.result
+    (λ members. (x : Contents) → g.M.Media.tells → All (λ m. Durable m (g.M.Media.disk c.sync_both.new.media)) both → HoldsContents (g.M.Media.disk c.sync_both.new.media).reads x
+    → members.next_place ≡ (opening_of x).next_place)
+    (λ members. (x : Contents) → g.M.Media.tells → HoldsContents (g.M.Media.disk c.args.media.now).reads x → members.next_place ≡ (opening_of x).next_place)
+    (λ members h x told holds. h x told c.in-Ok.ensures.durable (subst (λ (i : Image). HoldsContents i x) (sym (c.sync_both.ensures.reads told)) holds))
+    c.open_synced.ensures.place
+
+pub returns-clause-level : goal.returns-clause-level
+returns-clause-level g c x told holds level =
+    let same = c.open_synced.ensures.level x told c.in-Ok.ensures.durable (subst (λ (i : Image). HoldsContents i x) (sym (c.sync_both.ensures.reads told)) holds) level in (
+      moments_and_reads (g.M.Media.disk c.args.media.now) (g.M.Media.disk c.sync_both.new.media) (g.M.Media.disk c.open_synced.new.media) (λ i. (g.M.Media.disk c.args.media.now).now i) c.sync_both.ensures.moments same,
+      same.reads told ∙ c.sync_both.ensures.reads told,
+    )
+
+pub returns-clause-readable : goal.returns-clause-readable
+returns-clause-readable g c = IfOk-weaker c.open_synced.result
+    (λ members. (x : Contents) → g.M.Media.tells → All (λ m. Durable m (g.M.Media.disk c.sync_both.new.media)) both → HoldsContents (g.M.Media.disk c.sync_both.new.media).reads x
+    → AreLevel both (reading_of x) → IsReadable (opening_of x) [] members x.placed (g.M.Media.disk c.open_synced.new.media))
+    (λ members. (x : Contents) → g.M.Media.tells → HoldsContents (g.M.Media.disk c.args.media.now).reads x → AreLevel both (reading_of x)
+    → IsReadable (opening_of x) [] members x.placed (g.M.Media.disk c.open_synced.new.media))
+    (λ members h x told holds level. h x told c.in-Ok.ensures.durable (subst (λ (i : Image). HoldsContents i x) (sym (c.sync_both.ensures.reads told)) holds) level)
+    c.open_synced.ensures.readable

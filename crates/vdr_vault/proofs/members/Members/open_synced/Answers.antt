@@ -1,9 +1,9 @@
-use Rattle.std.proofs.Common.{sym, ◌∙◌}
+use Rattle.std.proofs.Common.{refl, sym, ◌∙◌}
 use Rattle.std.proofs.lemmas.Result.{err_from_is_err_and}
 use Rattle.vdr_outside.proofs.Moments.{moments_after_reads}
 use Rattle.vdr_vault.proofs.OpenCauses.{fault_unless_ok, no_fault}
-use Rattle.vdr_vault.proofs.OpenContents.{newest_opened}
-use Rattle.vdr_vault.proofs.OpenMoments.{goes_on, never_both, read_on, reading_shown, same_elsewhere}
+use Rattle.vdr_vault.proofs.OpenContents.{newest_opened, place_opened}
+use Rattle.vdr_vault.proofs.OpenMoments.{goes_on, level_missing, never_both, read_on, reading_shown, opened_to_read, readable_as, same_elsewhere, unchanged_still}
 use Rattle.vdr_ring.proofs.Faults.{same_err}
 use Rattle.vdr_media.proofs.Two.{second_of}
 use Rattle.vdr_outside.proofs.Counts.{none_falls_join}
@@ -59,3 +59,30 @@ returns-clause-blank g c told un = absurd (never_both _ (c.in_ok-config.ensures.
 
 pub returns-clause-cause : goal.returns-clause-cause
 returns-clause-cause g c = no_fault _ _ _ (none_falls_join _ _ _ c.read_media.ensures.cause.later c.reconcile.ensures.cause.later)
+
+pub returns-clause-place : goal.returns-clause-place
+returns-clause-place g c = λ x told durable holds.
+    let was = rw (sym c.config.view_is) at c.in_ok-config.ensures.opened told durable in
+    let o = read_on _ c.deref.result.now x was.0 (g.M.Media.disk c.args.media.now) (g.M.Media.disk c.read_media.new.media) told c.read_media.ensures.unchanged c.deref.ensures.value holds was.1 in
+    c.reconcile.ensures.place ∙ c.ending-next_place.ensures.next_place (x.placed 0) _ o.capsule.table (o.capsule.settled.reads told) ∙ place_opened x o.capsule.order
+
+pub returns-in_default-clause-level : goal.returns-in_default-clause-level
+returns-in_default-clause-level g c x told durable holds level =
+    let was = rw (sym c.config.view_is) at c.in_ok-config.ensures.opened told durable in
+    let none = level_missing _ c.deref.result.now x was.0 (g.M.Media.disk c.args.media.now) (g.M.Media.disk c.read_media.new.media) told c.read_media.ensures.unchanged c.deref.ensures.value holds was.1 level in
+    unchanged_still (λ m. g.M.Media.disk m) _ c.read_media.new.media c.reconcile.new.media c.read_media.ensures.unchanged (c.reconcile.ensures.level none).1
+
+pub returns-clause-level : goal.returns-clause-level
+returns-clause-level g c x told durable holds level =
+    let was = rw (sym c.config.view_is) at c.in_ok-config.ensures.opened told durable in
+    let none = level_missing _ c.deref.result.now x was.0 (g.M.Media.disk c.args.media.now) (g.M.Media.disk c.read_media.new.media) told c.read_media.ensures.unchanged c.deref.ensures.value holds was.1 level in
+    unchanged_still (λ m. g.M.Media.disk m) _ c.read_media.new.media c.reconcile.new.media c.read_media.ensures.unchanged (c.reconcile.ensures.level none).1
+
+pub returns-clause-readable : goal.returns-clause-readable
+returns-clause-readable g c = λ x told durable holds level.
+    let was = rw (sym c.config.view_is) at c.in_ok-config.ensures.opened told durable in
+    let o = read_on _ c.deref.result.now x was.0 (g.M.Media.disk c.args.media.now) (g.M.Media.disk c.read_media.new.media) told c.read_media.ensures.unchanged c.deref.ensures.value holds was.1 in
+    let none = level_missing _ c.deref.result.now x was.0 (g.M.Media.disk c.args.media.now) (g.M.Media.disk c.read_media.new.media) told c.read_media.ensures.unchanged c.deref.ensures.value holds was.1 level in
+    let still = c.reconcile.ensures.level none in
+    readable_as (λ m. g.M.Media.disk m) x _ c.reconcile.new.self c.read_media.new.media c.reconcile.new.media still.0 still.1
+    (opened_to_read x _ _ (g.M.Media.disk c.read_media.new.media) o level refl)
