@@ -49,6 +49,13 @@ Commands:
             or `incident-ID` with the ID, 1 to 32, of a saved incident. CHANNEL is the
             name of a configured channel, or `all`. FROM and TO are stamps such as
             2024-01-01T00:00:00.000Z, both included, or `-` for no bound.
+  sources MEDIUM
+            Prints the table of sources of a window or an incident, MEDIUM as for `play`: for each
+            group and source a line `GROUP SOURCE FIRST LAST LINES BAD BREAKS`, in this order.
+            FIRST and LAST are the stamps of the first and the last record with a line of the
+            source, LINES is the number of its lines, BAD how many of them are refused, as
+            sentences or by a TAG block, and BREAKS how often its line count doesn't go on from
+            the one before: then lines were lost. Lines that name no source stand under `-`.
   save LABEL
             Saves an incident: keeps the records of the long-term medium, from the first one
             of the last `incident_seconds` of recording time to the last one, until the
@@ -79,7 +86,9 @@ A voyage on bench media, of which the capsule keeps a minute:
       44 NAVD 44 2024-05-14T06:30:41.000Z data 43 UdPbC<00>..
         good HE0001 45 HEHDT heading 275.5
 The feed has a heading in each second of ninety, and three more in second 40: the rate has
-room for one of them, and the gap counts the two others. With the Start, the gap and the
+room for one of them, and the gap counts the two others. `sources longterm` tells
+  NAVD HE0001 2024-05-14T06:30:00.000Z 2024-05-14T06:31:29.000Z 91 0 1
+with the break that they left. With the Start, the gap and the
 Stop these are 94 records, which `play longterm all - -` prints; `play capsule all - -`
 prints the last minute, from place 31 on. A second `replay` is a run of its own, which goes
 on at place 94 and in the next second of recording time, whatever the stamps say.
@@ -110,7 +119,7 @@ Exit status, with the line that ends the output:
       long-term medium, is not legal; it begins at OFFSET, in bytes
   5   `status 5 media`: a medium is in use by another process, may not be opened or
       written, or could not be read, written or synced; what was recorded before stays.
-      `play` and `incidents` need no leave to write
+      `play`, `sources` and `incidents` need no leave to write
   6   `status 6 port GROUP`: the UDP port of this group could not be bound or read, the least
       group where several could not; the run is closed, and its summary stands above
   7   `status 7 input`: the input could not be read

@@ -16,7 +16,7 @@ use vdr_program::{command_line, udp_lanes};
 mod tests;
 
 /// The words of each command, and the file that is its input.
-const COMMANDS: [(&str, &str); 13] = [
+const COMMANDS: [(&str, &str); 14] = [
     ("--version", "/dev/null"),
     ("media check", "bench.json"),
     ("media format", "bench.json"),
@@ -26,6 +26,7 @@ const COMMANDS: [(&str, &str); 13] = [
         "media play longterm heading 2024-05-14T06:30:40.000Z 2024-05-14T06:30:41.000Z",
         "/dev/null",
     ),
+    ("media sources longterm", "/dev/null"),
     ("media save grounding", "/dev/null"),
     ("media incidents", "/dev/null"),
     (

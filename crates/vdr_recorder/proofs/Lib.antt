@@ -16,3 +16,4 @@ pub mod Opened
 pub mod Printing
 pub mod Answering
 pub mod Refusing
+pub mod Counting

@@ -1,5 +1,6 @@
--- The records that a query selects are printed one by one.
-use Rattle.std.proofs.Common.{◌≡◌, ◌≢◌, ◌<◌, ◌≤◌, ◌+◌, ◌^◌, ◌==◌, if◌then◌else◌, ℕ, List, [], ◌∷◌, ◌++◌, All, Bool, true, false, Option, Some, None, Result, Ok, Err, refl, sym, ap, ◌∙◌, subst, arith, append_assoc, append-nil}
+-- The records that a query selects are taken one by one, printed or counted.
+use Rattle.std.proofs.Common.{◌≡◌, ◌≢◌, ◌<◌, ◌≤◌, ◌+◌, ◌^◌, ◌==◌, if◌then◌else◌, ℕ, List, [], ◌∷◌, ◌++◌, All, Bool, true, false, Option, Some, None, Result, Ok, Err, refl, sym, ap, ◌∙◌, subst, arith, append_assoc, append-nil, fold}
+use Rattle.std.proofs.lemmas.List.Sums.{fold-append}
 use Rattle.std.proofs.lemmas.Option.{same_Some}
 use Rattle.std.proofs.lemmas.List.Elements.{All-nil, All-cons, All-head, All-weaker}
 use Rattle.vdr_terms.specs.Order.{AreInOrder}
@@ -16,48 +17,47 @@ use Rattle.vdr_ring.specs.Rings.{RingState}
 use Rattle.vdr_ring.specs.Sequence.{Placed}
 use Rattle.vdr_ring.specs.declared.refused.ReadRefused.{ReadRefused}
 use Rattle.vdr_ring.specs.declared.refused.ReadRefused.TheVariants.{Damaged}
-use Rattle.vdr_play.specs.Streams.{Seen, nothing_seen, seen_after}
-use Rattle.vdr_play.specs.Texts.{record_text, records_text, seen_by}
+use Rattle.vdr_play.specs.Streams.{Seen, seen_after}
+use Rattle.vdr_play.specs.Texts.{record_text, records_text}
 use Rattle.vdr_vault.specs.Vaults.{AreRings, IsReadable, MembersState, Stands, ring_of}
 use Rattle.vdr_vault.specs.Walks.{CursorState, GivesNext, MayStep}
 use Rattle.vdr_vault.specs.Plays.{AreToCome, ReadsNoOther, ReadsOn, ring_for}
 use Rattle.vdr_vault.proofs.Coming.{holds_on}
 
--- The text of one more record.
-text_with : (seen : Seen) (rs : List Record) (r : Record) → records_text seen (rs ++ r ∷ []) ≡ records_text seen rs ++ record_text (seen_by seen rs) r
-text_with seen [] r = append-nil (record_text seen r)
-text_with seen (x ∷ xs) r =
-    ap (λ (text : List ℕ). record_text seen x ++ text) (text_with (seen_after seen x.content) xs r)
-    ∙ sym (append_assoc (record_text seen x) (records_text (seen_after seen x.content) xs) (record_text (seen_by (seen_after seen x.content) xs) r))
+-- What is printed, and what was seen of it: the text and the tracks with one more record.
+abbrev pub Printed : Type 0
+Printed = List ℕ × Seen
 
-seen_with : (seen : Seen) (rs : List Record) (r : Record) → seen_by seen (rs ++ r ∷ []) ≡ seen_after (seen_by seen rs) r.content
-seen_with seen [] r = refl
-seen_with seen (x ∷ xs) r = seen_with (seen_after seen x.content) xs r
+abbrev pub print_step : Printed → Record → Printed
+print_step told r = (told.0 ++ record_text told.1 r, seen_after told.1 r.content)
+
+pub printed_text : (text : List ℕ) (seen : Seen) (rs : List Record) → (fold print_step (text, seen) rs).0 ≡ text ++ records_text seen rs
+printed_text text seen [] = sym (append-nil text)
+printed_text text seen (r ∷ rs) =
+    printed_text (text ++ record_text seen r) (seen_after seen r.content) rs ∙ append_assoc text (record_text seen r) (records_text (seen_after seen r.content) rs)
 
 -- What follows a record in order has greater places.
 behind_in_order : (before : List Record) (r : Record) (behind : List Record) → AreInOrder (before ++ r ∷ behind) → All (λ later. r.place + 1 ≤ later.place) behind
 behind_in_order [] r behind h = All-weaker (λ later. (r.place < later.place) × (r.tick ≤ later.tick)) (λ later. r.place + 1 ≤ later.place) (λ later k. let a = k.0 in omega (arith, a)) behind h.0
 behind_in_order (x ∷ xs) r behind h = behind_in_order xs r behind h.1
 
--- The first of the selected records are printed, and the cursor stands at the next one, if there is one.
-pub record IsBetween (records : List Record) (start text : List ℕ) (tracks : Seen) (least : ℕ) (found : Bool) (item : Option Record) (ToCome : List Record → Type 0) : Type 0 where
-  pub printed : List Record
+-- The first of the selected records are taken, each by a step, and the cursor stands at the next one, if there is one.
+pub record IsBetween {S : Type 0} (records : List Record) (step : S → Record → S) (start state : S) (least : ℕ) (found : Bool) (item : Option Record) (ToCome : List Record → Type 0) : Type 0 where
+  pub taken : List Record
   pub rest : List Record
-  pub split : records ≡ printed ++ rest
-  pub text_is : text ≡ start ++ records_text nothing_seen printed
-  pub seen : tracks ≡ seen_by nothing_seen printed
+  pub split : records ≡ taken ++ rest
+  pub state_is : state ≡ fold step start taken
   pub low : All (λ r. least ≤ r.place) rest
   pub next : GivesNext rest (Ok found) item ToCome
 
--- Nothing is printed yet.
-pub at_first : (records : List Record) (text : List ℕ) (found : Bool) (item : Option Record) (ToCome : List Record → Type 0) → GivesNext records (Ok found) item ToCome
-    → IsBetween records text text nothing_seen 0 found item ToCome
-at_first records text found item ToCome next = record {
-  printed = [];
+-- Nothing is taken yet.
+pub at_first : {S : Type 0} (records : List Record) (step : S → Record → S) (start : S) (found : Bool) (item : Option Record) (ToCome : List Record → Type 0) → GivesNext records (Ok found) item ToCome
+    → IsBetween records step start start 0 found item ToCome
+at_first records step start found item ToCome next = record {
+  taken = [];
   rest = records;
   split = refl;
-  text_is = sym (append-nil text);
-  seen = refl;
+  state_is = refl;
   low = from_zero records;
   next = next;
 }
@@ -70,12 +70,13 @@ at_first records text found item ToCome next = record {
 cons_is : (r x : Record) (more rest : List Record) → Some x ≡ Some r → rest ≡ x ∷ more → rest ≡ r ∷ more
 cons_is r x more rest same is = is ∙ ap (λ (o : Record). o ∷ more) (same_Some x r same)
 
-module _ (records : List Record) (start text : List ℕ) (tracks : Seen) (least : ℕ) (found : Bool) (item : Option Record) (ToCome : List Record → Type 0) (b : IsBetween records start text tracks least found item ToCome) where
-  -- All of them are printed.
-  pub all_printed : found ≡ false → text ≡ start ++ records_text nothing_seen records
-  all_printed none =
+module _ {S : Type 0} (records : List Record) (step : S → Record → S) (start state : S) (least : ℕ) (found : Bool) (item : Option Record) (ToCome : List Record → Type 0)
+    (b : IsBetween records step start state least found item ToCome) where
+  -- All of them are taken.
+  pub all_taken : found ≡ false → state ≡ fold step start records
+  all_taken none =
       let next : GivesNext b.rest (Ok false) item ToCome = subst (λ (f : Bool). GivesNext b.rest (Ok f) item ToCome) none b.next in
-      b.text_is ∙ ap (λ (rs : List Record). start ++ records_text nothing_seen rs) (sym (b.split ∙ ap (λ (rs : List Record). b.printed ++ rs) next.0 ∙ append-nil b.printed))
+      b.state_is ∙ ap (fold step start) (sym (b.split ∙ ap (λ (rs : List Record). b.taken ++ rs) next.0 ∙ append-nil b.taken))
 
   module _ (some : found ≡ true) (r : Record) (is : item ≡ Some r) where
     here : GivesNext b.rest (Ok true) item ToCome
@@ -93,25 +94,21 @@ module _ (records : List Record) (start text : List ℕ) (tracks : Seen) (least 
         let enough : least ≤ r.place = All-head (λ (r : Record). least ≤ r.place) r here.1 (subst (All (λ r. least ≤ r.place)) rest_is b.low) in
         omega (arith, low, enough)
 
-    -- It is printed, and the cursor steps on.
-    pub printed_next : AreInOrder records → (longer : List ℕ) (after : Seen) (next : ℕ) → longer ≡ text ++ record_text tracks r → after ≡ seen_after tracks r.content → next ≡ r.place + 1
+    -- It is taken, and the cursor steps on.
+    pub taken_next : AreInOrder records → (after : S) (next : ℕ) → after ≡ step state r → next ≡ r.place + 1
         → (again : Bool) (later : Option Record) (LaterToCome : List Record → Type 0) → ((rs : List Record) → ToCome rs → GivesNext rs (Ok again) later LaterToCome)
-        → IsBetween records start longer after next again later LaterToCome
-    printed_next order longer after next longer_is after_is next_is again later LaterToCome steps = record {
-      printed = b.printed ++ r ∷ [];
+        → IsBetween records step start after next again later LaterToCome
+    taken_next order after next after_is next_is again later LaterToCome steps = record {
+      taken = b.taken ++ r ∷ [];
       rest = here.1;
-      split = whole ∙ sym (append_assoc b.printed (r ∷ []) here.1);
-      text_is = longer_is
-          ∙ (λ i. b.text_is i ++ record_text (b.seen i) r)
-          ∙ append_assoc start (records_text nothing_seen b.printed) (record_text (seen_by nothing_seen b.printed) r)
-          ∙ ap (λ (rs : List ℕ). start ++ rs) (sym (text_with nothing_seen b.printed r));
-      seen = after_is ∙ ap (λ (s : Seen). seen_after s r.content) b.seen ∙ sym (seen_with nothing_seen b.printed r);
-      low = subst (λ (n : ℕ). All (λ q. n ≤ q.place) here.1) (sym next_is) (behind_in_order b.printed r here.1 (subst AreInOrder whole order));
+      split = whole ∙ sym (append_assoc b.taken (r ∷ []) here.1);
+      state_is = after_is ∙ ap (λ (s : S). step s r) b.state_is ∙ sym (fold-append step start b.taken (r ∷ []));
+      low = subst (λ (n : ℕ). All (λ q. n ≤ q.place) here.1) (sym next_is) (behind_in_order b.taken r here.1 (subst AreInOrder whole order));
       next = steps here.1 here.4;
     }
       where
-        whole : records ≡ b.printed ++ r ∷ here.1
-        whole = b.split ∙ ap (λ (rs : List Record). b.printed ++ rs) rest_is
+        whole : records ≡ b.taken ++ r ∷ here.1
+        whole = b.split ∙ ap (λ (rs : List Record). b.taken ++ rs) rest_is
 
 -- A step on media on which the vault stands finds no damage.
 pub never_damaged : (records : List Record) (result : Result Bool ReadRefused) (item : Option Record) (ToCome : List Record → Type 0) (m offset : ℕ) → GivesNext records result item ToCome
@@ -156,9 +153,9 @@ unfolding with_read read_ring
 reads_join m x y z h k = twice_read (m == 0) x y z h k
 
 module _ {tells tells_images : Type 0} where
-  -- Between two records of a play.
-  pub record IsPlaying (query : Query) (first now : MembersState) (before after : Disk tells tells_images) (read_before read_now faults_before faults_now start text : List ℕ)
-      (cursor : CursorState) (found : Bool) (least : ℕ) (tracks : Seen) : Type 0 where
+  -- Between two records of what is selected.
+  pub record IsPlaying {S : Type 0} (query : Query) (first now : MembersState) (before after : Disk tells tells_images) (read_before read_now faults_before faults_now : List ℕ)
+      (step : S → Record → S) (start state : S) (cursor : CursorState) (found : Bool) (least : ℕ) : Type 0 where
     pub rings : AreRings now after.sizes
     pub reads : ReadsOn (medium_of query.medium) first now
     pub unchanged : Unchanged before after
@@ -170,26 +167,26 @@ module _ {tells tells_images : Type 0} where
     pub stands : (opening : Opening) (events : List Event) (placed : ℕ → List Placed) → Stands opening events first placed before → Stands opening events now placed after
     pub readable : (opening : Opening) (events : List Event) (placed : ℕ → List Placed) → IsReadable opening events first placed before → IsReadable opening events now placed after
     pub plays : (opening : Opening) (events : List Event) (placed : ℕ → List Placed) → tells → IsReadable opening events first placed before
-        → IsBetween (selected opening events query) start text tracks least found cursor.visit.item (AreToCome query now placed after cursor)
+        → IsBetween (selected opening events query) step start state least found cursor.visit.item (AreToCome query now placed after cursor)
 
   -- What is selected of what a vault holds is in order.
   pub selected_in_order : (opening : Opening) (events : List Event) (members : MembersState) (placed : ℕ → List Placed) (disk : Disk tells tells_images) → IsReadable opening events members placed disk
       → (query : Asked) → AreInOrder (selected opening events (asked query))
   selected_in_order opening events members placed disk stands query = is_in_order opening events (asked query) (holds_on opening events members placed disk stands query.medium).order
 
-  module _ {query : Query} {first now : MembersState} {before after : Disk tells tells_images} {read_before read_now faults_before faults_now start text : List ℕ} {cursor : CursorState} {found : Bool}
-      {least : ℕ} {tracks : Seen} (p : IsPlaying query first now before after read_before read_now faults_before faults_now start text cursor found least tracks) where
-    -- All that is selected is printed.
+  module _ {query : Query} {first now : MembersState} {before after : Disk tells tells_images} {read_before read_now faults_before faults_now : List ℕ} {S : Type 0} {step : S → Record → S} {start state : S} {cursor : CursorState} {found : Bool}
+      {least : ℕ} (p : IsPlaying query first now before after read_before read_now faults_before faults_now step start state cursor found least) where
+    -- All that is selected is taken.
     pub played_all : found ≡ false → (opening : Opening) (events : List Event) (placed : ℕ → List Placed) → tells → IsReadable opening events first placed before
-        → text ≡ start ++ records_text nothing_seen (selected opening events query)
+        → state ≡ fold step start (selected opening events query)
     played_all none opening events placed told stands =
-        all_printed (selected opening events query) start text tracks least found cursor.visit.item (AreToCome query now placed after cursor) (p.plays opening events placed told stands) none
+        all_taken (selected opening events query) step start state least found cursor.visit.item (AreToCome query now placed after cursor) (p.plays opening events placed told stands) none
 
     module _ (some : found ≡ true) (r : Record) (is : cursor.visit.item ≡ Some r) where
-      -- No record is below what was printed.
+      -- No record is below what was taken.
       pub never_under : (opening : Opening) (events : List Event) (placed : ℕ → List Placed) → tells → IsReadable opening events first placed before → r.place < least → ⊥
       never_under opening events placed told stands =
-          never_low (selected opening events query) start text tracks least found cursor.visit.item (AreToCome query now placed after cursor) (p.plays opening events placed told stands) some r is
+          never_low (selected opening events query) step start state least found cursor.visit.item (AreToCome query now placed after cursor) (p.plays opening events placed told stands) some r is
 
       -- The cursor's next step.
       module _ (new : MembersState) (next : Disk tells tells_images) (later : CursorState) (result : Result Bool ReadRefused)
@@ -203,13 +200,13 @@ module _ {tells tells_images : Type 0} where
             → result ≡ Err (Damaged m offset) → ⊥
         never_spoiled opening events placed m offset told stands damaged =
             let b = p.plays opening events placed told stands in
-            let h = here (selected opening events query) start text tracks least found cursor.visit.item (AreToCome query now placed after cursor) b some r is in
+            let h = here (selected opening events query) step start state least found cursor.visit.item (AreToCome query now placed after cursor) b some r is in
             never_damaged h.1 result later.visit.item (AreToCome query new placed next later) m offset (steps_on opening events placed told stands h.1 h.4) damaged
 
-        pub plays_on : (again : Bool) → result ≡ Ok again → (longer : List ℕ) (seen : Seen) (more : ℕ) → longer ≡ text ++ record_text tracks r → seen ≡ seen_after tracks r.content → more ≡ r.place + 1
+        pub plays_on : (again : Bool) → result ≡ Ok again → (longer : S) (more : ℕ) → longer ≡ step state r → more ≡ r.place + 1
             → (opening : Opening) (events : List Event) (placed : ℕ → List Placed) → tells → IsReadable opening events first placed before → AreInOrder (selected opening events query)
-            → IsBetween (selected opening events query) start longer seen more again later.visit.item (AreToCome query new placed next later)
-        plays_on again so longer seen more longer_is seen_is more_is opening events placed told stands order =
-            printed_next (selected opening events query) start text tracks least found cursor.visit.item (AreToCome query now placed after cursor) (p.plays opening events placed told stands) some r is order
-            longer seen more longer_is seen_is more_is again later.visit.item (AreToCome query new placed next later)
+            → IsBetween (selected opening events query) step start longer more again later.visit.item (AreToCome query new placed next later)
+        plays_on again so longer more longer_is more_is opening events placed told stands order =
+            taken_next (selected opening events query) step start state least found cursor.visit.item (AreToCome query now placed after cursor) (p.plays opening events placed told stands) some r is order
+            longer more longer_is more_is again later.visit.item (AreToCome query new placed next later)
             (λ rs come. subst (λ (o : Result Bool ReadRefused). GivesNext rs o later.visit.item (AreToCome query new placed next later)) so (steps_on opening events placed told stands rs come))

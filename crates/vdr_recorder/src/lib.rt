@@ -9,6 +9,7 @@ mod play;
 mod recording;
 mod run;
 mod saving;
+mod sources;
 mod start;
 mod text;
 

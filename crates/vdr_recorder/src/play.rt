@@ -31,7 +31,7 @@ use vdr_vault::{Cursor, Members};
 /// Why nothing is played.
 #[derive(Clone, Copy, Debug, PartialEq, Eq, Drop)]
 pub enum PlayRefused {
-    /// There was no memory for the text. Nothing is printed.
+    /// There was no memory for the text, or for the table of sources. Nothing is printed.
     NoMemory,
     /// No such channel is configured. Nothing is called.
     NoChannel,
@@ -90,6 +90,22 @@ fn lacks_incident(members: &Members, medium: Medium) -> bool
     }
 }
 
+/// The least place that is expected behind this record, which is to have no place below the least that was expected.
+pub(crate) fn next_after(item: &Record, medium: Medium, least: u64) -> Result<u64, PlayRefused>
+    ensures next { IfOk result (λ next. (next ≡ item.now.place + 1) × (least < next) × (next ≤ 2 ^ 63)) }
+    ensures refused { IfErr result IsReadOrMemory }
+    ensures fault { result ≡ Err AFault → ⊥ }
+    ensures damaged { (m offset : ℕ) → result ≡ Err (Damaged m offset) → (m ≡ medium_of (asked_medium medium)) × (item.now.place < least) }
+{
+    if item.place < least {
+        return Err(PlayRefused::Damaged {
+            medium: number_of(medium),
+            offset: 0,
+        });
+    }
+    Ok(item.place + 1)
+}
+
 // Prints a record of a place that is not below the least that is expected. Answers the least place that is expected next.
 fn print_next(
     item: &Record,
@@ -105,14 +121,9 @@ fn print_next(
     ensures fault { result ≡ Err AFault → ⊥ }
     ensures damaged { (m offset : ℕ) → result ≡ Err (Damaged m offset) → (m ≡ medium_of (asked_medium medium)) × (item.now.place < least) }
 {
-    if item.place < least {
-        return Err(PlayRefused::Damaged {
-            medium: number_of(medium),
-            offset: 0,
-        });
-    }
+    let next = next_after(item, medium, least)?;
     match print_record(item, tracks, text) {
-        Ok(()) => Ok(item.place + 1),
+        Ok(()) => Ok(next),
         Err(_) => Err(PlayRefused::NoMemory),
     }
 }
@@ -156,7 +167,7 @@ fn print_selected<M: Media>(
 
 impl Recording {
     // Whether a query asks for a channel that is configured and an incident that is live, if it asks for one.
-    fn accept(&self, query: &Query) -> Result<(), PlayRefused>
+    pub(crate) fn accept(&self, query: &Query) -> Result<(), PlayRefused>
         ensures { result ≡ unanswered (lacks_channel (length self.now.members.config.channels) query.now.channel) (lacks_incident self.now.members.table (asked query.now).medium) }
     {
         if lacks_channel(self.members.config(), query.channel) {

@@ -11,6 +11,7 @@ pub mod ReplayLemmas
 pub mod Rows
 pub mod SaveCompleteness
 pub mod SaveLemmas
+pub mod SourceLemmas
 pub mod Summing
 pub mod Texts
 pub mod WordLemmas

@@ -21,7 +21,7 @@ use Rattle.vdr_replay.specs.Headline.{LeavesHistory, PlaysBack}
 use Rattle.vdr_replay.specs.declared.ended.Replayed.{Replayed}
 use Rattle.vdr_replay.specs.declared.ended.ReplayStop.{ReplayStop}
 use Rattle.vdr_tool.specs.Commands.{Asked}
-use Rattle.vdr_tool.specs.Commands.Asked.{Review, Check, Format, Replay, Play, Incidents, Save, Release}
+use Rattle.vdr_tool.specs.Commands.Asked.{Review, Check, Format, Replay, Play, Incidents, Save, Release, Sources}
 use Rattle.vdr_tool.specs.Lives.{FormatsNothing}
 use Rattle.vdr_tool.specs.Opened.{AreLooks, IsOneEvent, IsUnopened, KeepsContents, MayLeave, MediaEnds}
 use Rattle.vdr_tool.specs.Outside.{MediaSeen, Outside}
@@ -128,6 +128,7 @@ module _ {tells tells_images : Type 0} (c : Configuration) (text : List ℕ) (al
   life_of (Play asked) old new status owed uses none told rest life = media_life old.media new.media status owed.media.media looks_quiet told rest life
   life_of Incidents old new status owed uses none told rest life = media_life old.media new.media status owed.media looks_quiet told rest life
   life_of (Save label) old new status owed uses none told rest life = media_life old.media new.media status owed.media (acts_quiet (SavesAs label) (save_quiet label) _ status) told rest life
+  life_of (Sources medium) old new status owed uses none told rest life = media_life old.media new.media status owed.media.media looks_quiet told rest life
   life_of (Release id) old new status owed uses none told rest life = media_life old.media new.media status owed.media (acts_quiet (ReleasesId id) (release_quiet id) _ status) told rest life
 
   -- Of media that no call was made on.

@@ -11,7 +11,7 @@ use Rattle.vdr_replay.specs.declared.ended.ReplayStop.{ReplayStop}
 use Rattle.vdr_life.specs.Ours.{AreOurs, IsOurs, StayOurs}
 use Rattle.vdr_life.proofs.Ours.{ours_formatted, ours_opened, ours_unchanged}
 use Rattle.vdr_tool.specs.Commands.{Asked}
-use Rattle.vdr_tool.specs.Commands.Asked.{Review, Check, Format, Replay, Play, Incidents, Save, Release}
+use Rattle.vdr_tool.specs.Commands.Asked.{Review, Check, Format, Replay, Play, Incidents, Save, Release, Sources}
 use Rattle.vdr_tool.specs.Formats.{FormatEnds, outcome_of}
 use Rattle.vdr_tool.specs.Opened.{IsUnopened, KeepsContents, MediaEnds}
 use Rattle.vdr_tool.specs.Lives.{StartsSynced}
@@ -73,6 +73,7 @@ module _ {tells tells_images : Type 0} where
   lives_of Incidents old new status owed uses told synced ours = media_lives old.media new.media status owed.media told ours
   lives_of (Save label) old new status owed uses told synced ours = media_lives old.media new.media status owed.media told ours
   lives_of (Release id) old new status owed uses told synced ours = media_lives old.media new.media status owed.media told ours
+  lives_of (Sources medium) old new status owed uses told synced ours = media_lives old.media new.media status owed.media.media told ours
 
   -- Media that no call was made on.
   pub ours_still : (disk : Disk tells tells_images) → AreOurs disk → StayOurs disk disk

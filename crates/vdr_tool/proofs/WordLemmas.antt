@@ -1,12 +1,13 @@
 -- Words that ask for a play.
-use Rattle.std.proofs.Common.{◌≡◌, ◌∷◌, ℕ, ℤ, List, [], Option, Some, None, true, false, codes, refl, sym, ap, subst, ◌∙◌}
-use Rattle.std.specs.Prelude.{option_map}
+use Rattle.std.proofs.Common.{◌≡◌, ◌∷◌, ℕ, ℤ, List, [], Option, Some, None, true, false, codes, inl, refl, sym, ap, subst, ◌∙◌}
+use Rattle.std.specs.Prelude.{option_map, pos}
+use Rattle.vdr_terms.specs.Stamps.{last_stamp}
 use Rattle.vdr_entry.specs.declared.query.Medium.{Medium}
 use Rattle.vdr_control.specs.Orders.{PlainOrder}
 use Rattle.vdr_control.specs.Orders.PlainOrder.{Play as PlayOrder, Status as StatusOrder, Save as SaveOrder, Release as ReleaseOrder}
-use Rattle.vdr_control.specs.Plays.{SpellsPlay}
+use Rattle.vdr_control.specs.Plays.{IsMedium, SpellsPlay, medium_word}
 use Rattle.vdr_tool.specs.Commands.{Asked, plain}
-use Rattle.vdr_tool.specs.Commands.Asked.{Review, Check, Format, Replay, Play, Incidents, Save, Release}
+use Rattle.vdr_tool.specs.Commands.Asked.{Review, Check, Format, Replay, Play, Incidents, Save, Release, Sources}
 use Rattle.vdr_tool.specs.Plays.{AskedPlay}
 use Rattle.vdr_tool.specs.Runs.{Spells}
 use Rattle.vdr_tool.specs.declared.words.Command.{Command}
@@ -33,6 +34,7 @@ five_words word medium channel from to Replay s = let e = s.words in let none : 
 five_words word medium channel from to Incidents s = let e = s.words in let none : ⊥ = cc in absurd none
 five_words word medium channel from to (Save label) s = let e = s.words in let none : ⊥ = cc in absurd none
 five_words word medium channel from to (Release id) s = let e = s.words in let none : ⊥ = cc in absurd none
+five_words word medium channel from to (Sources m) s = let e = s.words in let none : ⊥ = cc in absurd none
 five_words word medium channel from to (Play asked) s =
     let p = s.words in
     let e : word ∷ medium ∷ channel ∷ from ∷ to ∷ [] ≡ codes "play" ∷ p.medium ∷ p.channel ∷ p.from ∷ p.to ∷ [] = p.words in
@@ -55,6 +57,19 @@ as_command StatusOrder = Check
 as_command (SaveOrder label) = Check
 as_command (ReleaseOrder id) = Check
 as_command (PlayOrder medium channel from to) = play_of medium channel from to
+
+-- The play of all records of a medium.
+abbrev pub whole_order : Medium → PlainOrder
+whole_order medium = PlayOrder medium (codes "all") (pos 0) (pos last_stamp)
+
+pub whole_spelled : (bytes word : List ℕ) (medium : Medium) → bytes ≡ word → IsMedium medium → word ≡ medium_word medium → SpellsPlay bytes (codes "all") (codes "-") (codes "-") (whole_order medium)
+whole_spelled bytes word medium same legal is = ((legal, same ∙ is), refl, inl (refl, refl), inl (refl, refl))
+
+abbrev pub medium_in : PlainOrder → Option Medium
+medium_in (PlayOrder medium channel from to) = Some medium
+medium_in StatusOrder = None
+medium_in (SaveOrder label) = None
+medium_in (ReleaseOrder id) = None
 
 -- One order is one command.
 pub one_command : (medium : Medium) (channel : List ℕ) (from to : ℤ) (asked : AskedPlay) → PlayOrder medium channel from to ≡ PlayOrder asked.medium asked.channel asked.from asked.to

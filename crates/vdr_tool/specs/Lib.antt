@@ -14,6 +14,7 @@ pub mod Replays
 pub mod Reviews
 pub mod Runs
 pub mod Saves
+pub mod Sources
 pub mod StatusLine
 pub mod Summaries
 pub mod Lives

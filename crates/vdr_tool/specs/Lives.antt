@@ -2,7 +2,7 @@
 use Rattle.std.specs.Prelude.{⊤}
 use Rattle.vdr_outside.specs.Disk.{Disk, Durable}
 use Rattle.vdr_tool.specs.Commands.{Asked}
-use Rattle.vdr_tool.specs.Commands.Asked.{Review, Check, Format, Replay, Play, Incidents, Save, Release}
+use Rattle.vdr_tool.specs.Commands.Asked.{Review, Check, Format, Replay, Play, Incidents, Save, Release, Sources}
 
 -- Nothing of the capsule is unsynced where the media are to be formatted: its gate is read before it is written. So it is after each
 -- start of the recorder, and after each command but one that a fault ended.
@@ -15,6 +15,7 @@ StartsSynced (Play asked) disk = ⊤
 StartsSynced Incidents disk = ⊤
 StartsSynced (Save label) disk = ⊤
 StartsSynced (Release id) disk = ⊤
+StartsSynced (Sources medium) disk = ⊤
 
 -- The command does not format the media.
 abbrev pub FormatsNothing : Asked → Type 0
@@ -26,3 +27,4 @@ FormatsNothing (Play asked) = ⊤
 FormatsNothing Incidents = ⊤
 FormatsNothing (Save label) = ⊤
 FormatsNothing (Release id) = ⊤
+FormatsNothing (Sources medium) = ⊤

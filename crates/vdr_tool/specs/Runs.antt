@@ -3,7 +3,7 @@ use Rattle.std.specs.Prelude.{◌≡◌, ◌≤◌, ℕ, List, String, map, stri
 use Rattle.std.specs.declared.alloc.Global.{Global}
 use Rattle.vdr_tool.specs.Checks.{checking}
 use Rattle.vdr_tool.specs.Commands.{Asked}
-use Rattle.vdr_tool.specs.Commands.Asked.{Review, Check, Format, Replay, Play, Incidents, Save, Release}
+use Rattle.vdr_tool.specs.Commands.Asked.{Review, Check, Format, Replay, Play, Incidents, Save, Release, Sources}
 use Rattle.vdr_tool.specs.Endings.{WritesLine}
 use Rattle.vdr_tool.specs.Formats.{formatting}
 use Rattle.vdr_tool.specs.Incidents.{listing}
@@ -14,6 +14,7 @@ use Rattle.vdr_tool.specs.Releases.{releasing}
 use Rattle.vdr_tool.specs.Replays.{replaying}
 use Rattle.vdr_tool.specs.Reviews.{reviewing}
 use Rattle.vdr_tool.specs.Saves.{saving}
+use Rattle.vdr_tool.specs.Sources.{sourcing}
 use Rattle.vdr_tool.specs.declared.status.Status.{Status}
 use Rattle.vdr_tool.specs.declared.status.Status.TheVariants.{Words}
 
@@ -26,6 +27,7 @@ page (Play asked) = playing asked
 page Incidents = listing
 page (Save label) = saving label
 page (Release id) = releasing id
+page (Sources medium) = sourcing medium
 
 -- The texts are those of a command.
 pub record Spells (texts : List (List ℕ)) (command : Asked) : Type 0 where

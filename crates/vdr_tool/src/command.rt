@@ -21,6 +21,7 @@ use crate::replaying::answer_replay;
 use crate::reports::report;
 use crate::reviewing::answer_review;
 use crate::saving::answer_save;
+use crate::sourcing::answer_sources;
 use crate::words::{Command, command_of};
 use std::alloc::Global;
 use vdr_outside::{Media, Sink, Source};
@@ -85,6 +86,7 @@ fn answer<I: Source + Drop, O: Sink + Drop, M: Media + Drop>(
         Command::Incidents => answer_incidents(alloc, world),
         Command::Save { label } => answer_save(alloc, label, world),
         Command::Release { id } => answer_release(alloc, id, world),
+        Command::Sources { medium } => answer_sources(alloc, medium, world),
     }
 }
 
@@ -107,6 +109,9 @@ fn answer<I: Source + Drop, O: Sink + Drop, M: Media + Drop>(
 /// - `save LABEL` reads no input. It saves an incident, as `vdr_recorder::Recording::save` does, and prints its id and LF. The label
 ///   is 1 to 64 bytes of 0x20 to 0x7E. Where the output fails the save stays.
 /// - `release ID` reads no input and prints nothing. It releases the incident of this id, 1 to 32.
+/// - `sources MEDIUM` reads no input. It prints the table of sources of the window of `capsule` or `longterm`, or of the incident
+///   `incident-ID`: for each group and source a line `GROUP SOURCE FIRST LAST LINES BAD BREAKS`, by group and then by source in byte
+///   order.
 ///
 /// Any other words end with `Words`, and nothing is touched. A number is decimal digits without a sign and without a leading zero.
 ///

@@ -13,6 +13,7 @@ mod replaying;
 mod reports;
 mod reviewing;
 mod saving;
+mod sourcing;
 mod status;
 mod summary;
 mod using;

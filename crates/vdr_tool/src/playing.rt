@@ -34,8 +34,8 @@ fn id_of(medium: Medium) -> u32
     }
 }
 
-// How a play of this medium ends the command. Only an incident's id is asked for in vain.
-fn ended_by(played: Result<(), PlayRefused>, medium: Medium) -> Result<(), Status>
+/// How a play of this medium ends the command. Only an incident's id is asked for in vain.
+pub(crate) fn ended_by(played: Result<(), PlayRefused>, medium: Medium) -> Result<(), Status>
     ensures { ending result ≡ status_by played medium }
 {
     match played {

@@ -17,7 +17,8 @@ pub fn uses_media(words: &[String]) -> bool
             | Command::Play(_)
             | Command::Incidents
             | Command::Save { .. }
-            | Command::Release { .. },
+            | Command::Release { .. }
+            | Command::Sources { .. },
         ) => true,
     }
 }

@@ -2,6 +2,8 @@
 ghost use Rattle.std.specs.Prelude.{◌≡◌, ◌≤◌, ◌∷◌, [], ℕ, Some, IfSome, decimal, option_map};
 ghost use Rattle.vdr_terms.specs.declared.rate.Rate.{Rate as RateTold};
 ghost use Rattle.vdr_config.specs.Configuration.{IsRate};
+ghost use Rattle.vdr_control.specs.Plays.{IsMedium, medium_word};
+ghost use Rattle.vdr_entry.specs.declared.query.Medium.{Medium as AMedium};
 ghost use Rattle.vdr_tool.specs.Commands.{Asked, plain};
 ghost use Rattle.vdr_tool.specs.Runs.{Asks, Spells};
 
@@ -40,6 +42,8 @@ pub(crate) enum Command<'a> {
     Save { label: &'a [u8] },
     /// The save of this id, 1 to 32, is released.
     Release { id: u32 },
+    /// The table of sources is told.
+    Sources { medium: Medium },
 }
 
 // A number within these limits, in decimal digits without a sign and without a leading zero.
@@ -95,6 +99,18 @@ fn one_word(word: &str) -> Option<Command<'static>>
     }
 }
 
+// The medium, or the incident, of this name.
+fn medium_of(word: &str) -> Option<Medium>
+    ensures found { (medium : AMedium) → IsMedium medium → word.now ≡ medium_word medium → result ≡ Some medium }
+    ensures only { IfSome result (λ medium. IsMedium medium × (word.now ≡ medium_word medium)) }
+{
+    law_of_plays();
+    match read_play(word.as_bytes(), b"all", b"-", b"-")? {
+        Order::Play { medium, .. } => Some(medium),
+        _ => None,
+    }
+}
+
 fn two_words<'a>(word: &str, text: &'a str) -> Option<Command<'a>>
     ensures found { (command : Asked) → Spells (word.now ∷ text.now ∷ []) command → option_map plain result ≡ Some command }
     ensures only { IfSome result (λ command. Spells (word.now ∷ text.now ∷ []) (plain command)) }
@@ -103,6 +119,10 @@ fn two_words<'a>(word: &str, text: &'a str) -> Option<Command<'a>>
         return Some(Command::Save {
             label: text.as_bytes(),
         });
+    }
+    if word == "sources" {
+        let medium = medium_of(text)?;
+        return Some(Command::Sources { medium });
     }
     if word != "release" {
         return None;

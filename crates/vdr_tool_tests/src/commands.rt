@@ -7,6 +7,7 @@ mod incidents;
 mod plays;
 mod refusals;
 mod reviews;
+mod sources;
 mod stops;
 mod wraps;
 

@@ -4,13 +4,13 @@ use Rattle.vdr_playback.specs.Playback.{medium_of, selected}
 use Rattle.vdr_outside.proofs.Counts.{none_falls_join}
 use Rattle.vdr_outside.proofs.Moments.{unchanged_join}
 use Rattle.vdr_entry.specs.Queries.{asked, asked_medium}
-use Rattle.vdr_play.specs.Streams.{Seen}
+use Rattle.vdr_play.specs.Streams.{Seen, nothing_seen}
 use Rattle.vdr_ring.specs.declared.refused.ReadRefused.{ReadRefused}
 use Rattle.vdr_vault.specs.Plays.{AreToCome, HasReadCause}
 use Rattle.vdr_vault.specs.Walks.{GivesNext}
 use Rattle.vdr_recorder.specs.declared.play.PlayRefused.{PlayRefused}
 use Rattle.vdr_recorder.specs.declared.play.PlayRefused.TheVariants.{Damaged}
-use Rattle.vdr_recorder.proofs.Printing.{IsBetween, at_first, never_damaged, never_spoiled, never_under, played_all, plays_on, reads_join, reads_keep, selected_in_order}
+use Rattle.vdr_recorder.proofs.Printing.{IsBetween, Printed, at_first, never_damaged, never_spoiled, never_under, played_all, plays_on, print_step, printed_text, reads_join, reads_keep, selected_in_order}
 use Rattle.vdr_recorder.proofs.Refusing.{damaged, read_cause, same_refusal}
 use Rattle.vdr_recorder.proofs.play.print_selected.Goals as goal
 
@@ -35,10 +35,10 @@ loop-found-init g c = record {
   stands = c.first.ensures.stands;
   readable = c.first.ensures.readable;
   plays = λ opening events placed told stands.
-      subst (λ (seen : Seen). IsBetween (selected opening events (asked c.args.query.now)) c.args.text.now.bytes.items c.args.text.now.bytes.items seen 0 c.in_ok-found.found c.first.new.cursor.visit.item
+      subst (λ (seen : Seen). IsBetween (selected opening events (asked c.args.query.now)) print_step (c.args.text.now.bytes.items, nothing_seen) (c.args.text.now.bytes.items, seen) 0 c.in_ok-found.found c.first.new.cursor.visit.item
       (AreToCome (asked c.args.query.now) c.first.new.self placed (g.M.Media.disk c.first.new.media) c.first.new.cursor))
       (sym c.new-tracks.ensures)
-      (at_first (selected opening events (asked c.args.query.now)) c.args.text.now.bytes.items c.in_ok-found.found c.first.new.cursor.visit.item
+      (at_first (selected opening events (asked c.args.query.now)) print_step (c.args.text.now.bytes.items, nothing_seen) c.in_ok-found.found c.first.new.cursor.visit.item
       (AreToCome (asked c.args.query.now) c.first.new.self placed (g.M.Media.disk c.first.new.media) c.first.new.cursor)
       (subst (λ (r : Result Bool ReadRefused). GivesNext (selected opening events (asked c.args.query.now)) r c.first.new.cursor.visit.item
       (AreToCome (asked c.args.query.now) c.first.new.self placed (g.M.Media.disk c.first.new.media) c.first.new.cursor))
@@ -85,10 +85,12 @@ loop-found-preserved g c =
       readable = λ opening events placed h. c.next.ensures.readable opening events placed (i.readable opening events placed h);
       plays = λ opening events placed told stands.
           plays_on i c.loop-found-test.true c.in-Some.item.now (sym c.in-Some.ensures) c.next.new.self (g.M.Media.disk c.next.new.media) c.next.new.cursor c.next.result c.next.ensures.plays
-          c.in_ok-found-2.found c.in_ok-found-2.was c.print_next.new.text.bytes.items c.print_next.new.tracks c.in_ok-least.least
-          c.in_ok-least.ensures.printed.0 c.in_ok-least.ensures.printed.1 c.in_ok-least.ensures.next opening events placed told stands
+          c.in_ok-found-2.found c.in_ok-found-2.was (c.print_next.new.text.bytes.items, c.print_next.new.tracks) c.in_ok-least.least
+          (λ i. (c.in_ok-least.ensures.printed.0 i, c.in_ok-least.ensures.printed.1 i)) c.in_ok-least.ensures.next opening events placed told stands
           (selected_in_order opening events c.args.members.now placed (g.M.Media.disk c.args.media.now) stands c.args.query.now);
     }
 
 pub returns-clause-printed : goal.returns-clause-printed
-returns-clause-printed g c opening events placed told stands = played_all c.loop-found.invariant c.loop-found-test.false opening events placed told stands
+returns-clause-printed g c opening events placed told stands =
+    ap (λ (p : Printed). p.0) (played_all c.loop-found.invariant c.loop-found-test.false opening events placed told stands)
+    ∙ printed_text c.args.text.now.bytes.items nothing_seen (selected opening events (asked c.args.query.now))

@@ -1,12 +1,13 @@
 use Rattle.std.proofs.Common.{◌-◌, ◌^◌}
 use Rattle.vdr_entry.specs.Queries.{asked}
-use Rattle.vdr_recorder.proofs.Printing.{IsPlaying}
+use Rattle.vdr_play.specs.Streams.{nothing_seen}
+use Rattle.vdr_recorder.proofs.Printing.{IsPlaying, print_step}
 use Rattle.vdr_recorder.proofs.play.print_selected.Given as goal
 
 abbrev pub invariant-loop-found : goal.invariant-loop-found
 invariant-loop-found g l =
     IsPlaying (asked l.query) l.fn.members l.members (g.M.Media.disk l.fn.media) (g.M.Media.disk l.media) (g.M.Media.bytes_read l.fn.media) (g.M.Media.bytes_read l.media)
-    (g.M.Media.faults l.fn.media) (g.M.Media.faults l.media) l.fn.text.bytes.items l.text.bytes.items l.cursor l.found l.least l.tracks
+    (g.M.Media.faults l.fn.media) (g.M.Media.faults l.media) print_step (l.fn.text.bytes.items, nothing_seen) (l.text.bytes.items, l.tracks) l.cursor l.found l.least
 
 abbrev pub decreases-loop-found : goal.decreases-loop-found
 decreases-loop-found g l = 2 ^ 63 - l.least

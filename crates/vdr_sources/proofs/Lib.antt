@@ -1,0 +1,3 @@
+mod Names
+pub mod Placing
+pub mod Lines

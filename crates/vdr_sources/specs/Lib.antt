@@ -1,0 +1,3 @@
+-- The table of sources.
+pub mod Tables
+pub mod Rows
