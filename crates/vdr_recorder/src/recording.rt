@@ -8,12 +8,12 @@ ghost use Rattle.vdr_history.specs.Runs.{RunStart};
 ghost use Rattle.vdr_history.specs.Sums.{counted_by, recorded_in};
 ghost use Rattle.vdr_history.specs.Taken.{Captured as CapturedTold};
 ghost use Rattle.vdr_durability.specs.Readings.{AreLevel, EndsMeet};
+ghost use Rattle.vdr_outside.specs.Disk.{SameBut};
 ghost use Rattle.vdr_media.specs.Formatted.{IsFormatted, IsUnformatted};
 ghost use Rattle.vdr_opening.specs.Answers.{HasOpenCause};
 ghost use Rattle.vdr_opening.specs.Media.{Contents, HoldsContents, both, opening_of, reading_of};
 ghost use Rattle.vdr_opening.specs.Refusals.{IsRefused};
 ghost use Rattle.vdr_opening.specs.declared.refused.OpenRefused.TheVariants.{Damaged, NotFormatted};
-ghost use Rattle.vdr_vault.specs.Calls.{SameElsewhere};
 ghost use Rattle.vdr_vault.specs.Openings.{LeavesAll, OpensAtEachMoment};
 ghost use Rattle.vdr_vault.specs.Regularity.{AreSound};
 ghost use Rattle.vdr_vault.specs.Vaults.{AreRings, IsReadable, ShowsHistory, of_stamp};
@@ -88,7 +88,7 @@ impl Recording {
         ensures untouched { (result ≡ Err NotFormatted) ⊎ ((m : ℕ) × (offset : ℕ) × (result ≡ Err (Damaged m offset)))
             → LeavesAll (M.disk media.old) (M.disk media.new) × (M.tells → (M.disk media.new).reads ≡ (M.disk media.old).reads) }
         ensures blank { M.tells → IsUnformatted (M.disk media.old).reads → LeavesAll (M.disk media.old) (M.disk media.new) }
-        ensures others { M.tells → SameElsewhere (M.disk media.old).reads (M.disk media.new).reads }
+        ensures others { M.tells → SameBut 1 (M.disk media.old).reads (M.disk media.new).reads }
         ensures sizes { (M.disk media.new).sizes ≡ (M.disk media.old).sizes }
         ensures cause { HasOpenCause (M.faults media.old) (M.faults media.new) result }
     {

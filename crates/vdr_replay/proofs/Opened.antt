@@ -7,7 +7,7 @@ use Rattle.vdr_terms.specs.Rates.{limit_of}
 use Rattle.vdr_terms.specs.Rates.Limit.{AtMost}
 use Rattle.vdr_core.specs.Law.{Admits}
 use Rattle.vdr_durability.specs.Readings.{EndsMeet}
-use Rattle.vdr_outside.specs.Disk.{Disk}
+use Rattle.vdr_outside.specs.Disk.{Disk, Image, SameBut}
 use Rattle.vdr_config.specs.Configuration.{Configuration, IsConfiguration, IsRate}
 use Rattle.vdr_config.specs.Grammar.{configuration}
 use Rattle.vdr_config.specs.Sizes.{limits_in}
@@ -97,6 +97,9 @@ no_run_of_feed (faults.Refused number offset) refuses = absurd refuses
 pub level_still : {tells tells_images A : Type 0} (disk : A → Disk tells tells_images) (old : Disk tells tells_images) (mid new : A) → new ≡ mid
     → LeavesAll old (disk mid) × ((disk mid).reads ≡ old.reads) → LeavesAll old (disk new) × ((disk new).reads ≡ old.reads)
 level_still disk old mid new same still = subst (λ a. LeavesAll old (disk a) × ((disk a).reads ≡ old.reads)) (sym same) still
+
+pub beside_still : {tells tells_images A : Type 0} (disk : A → Disk tells tells_images) (old : Image) (mid new : A) → new ≡ mid → SameBut 1 old (disk mid).reads → SameBut 1 old (disk new).reads
+beside_still disk old mid new same still = subst (λ a. SameBut 1 old (disk a).reads) (sym same) still
 
 pub not_at_header : {P : Type 0} (e : OpenRefused) → EndsAtHeader (Err (stop_by_opening e)) → P
 not_at_header refusals.NoMemory ends = absurd ends

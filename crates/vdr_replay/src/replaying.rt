@@ -3,6 +3,7 @@ ghost use Rattle.std.specs.Prelude.{◌≡◌, ◌≤◌, ℕ, List, length, sum
 ghost use Rattle.std.specs.Io.KnownBytes.{IsAtEnd};
 ghost use Rattle.vdr_durability.specs.Readings.{AreLevel, EndsMeet};
 ghost use Rattle.vdr_outside.specs.Causes.{Rose};
+ghost use Rattle.vdr_outside.specs.Disk.{SameBut};
 ghost use Rattle.vdr_media.specs.Formatted.{IsFormatted, IsUnformatted};
 ghost use Rattle.vdr_opening.specs.Media.{Contents, HoldsContents, both, reading_of};
 ghost use Rattle.vdr_opening.specs.Refusals.{IsRefused};
@@ -32,8 +33,8 @@ const MOST_ITEMS: u64 = 4_294_967_295;
 ///
 /// The feed ends with the input, or where an item is refused: as `vdr_feed::FeedReader::item` says, or by 4 where its group is not
 /// configured. What was read before is recorded. An item that is refused counts for nothing. Where the header is refused, or can't be
-/// read, the media are not touched, and where the media are refused nothing is written, nor where the run is, of media that both have
-/// the last batch. Faults and refusals of the input and of
+/// read, the media are not touched, and where the media are refused nothing is written, nor where the run is, but the batch that the
+/// long-term medium lacks. Faults and refusals of the input and of
 /// the media are told by `FeedEnd` and `ReplayStop`.
 ///
 /// At every moment a stop leaves the media as before opening, or as media that play back the first of the run's events on what was
@@ -56,6 +57,7 @@ pub fn replay<I: Source, M: Media>(
     ensures legible { M.tells → IfOpened result (IsLegible (M.disk media.old).reads (λ x. Decides x (I.left input.old) (I.left input.new) result)) }
     ensures level { RefusesRun result → (x : Contents) → M.tells → HoldsContents (M.disk media.old).reads x → AreLevel both (reading_of x)
         → LeavesAll (M.disk media.old) (M.disk media.new) × ((M.disk media.new).reads ≡ (M.disk media.old).reads) }
+    ensures beside { RefusesRun result → M.tells → SameBut 1 (M.disk media.old).reads (M.disk media.new).reads }
     ensures whole { IfOk result (λ r. r.end ≡ Whole → IsAtEnd (I.left input.new)) }
     ensures input_ends { IfOk result (λ r. r.end ≡ InputEnds → Rose (I.faults input.old) (I.faults input.new)) }
     ensures input_failed { IsErrOf result Input → Rose (I.faults input.old) (I.faults input.new) }

@@ -7,7 +7,7 @@ use Rattle.vdr_history.specs.Histories.{Act, Event, recorded, records_of_act}
 use Rattle.vdr_history.specs.Histories.Act.{Look}
 use Rattle.vdr_durability.specs.Keeping.{ShowsPrefix}
 use Rattle.vdr_durability.specs.Readings.{AreLevel, EndsMeet}
-use Rattle.vdr_outside.specs.Disk.{Disk, Image, Unchanged}
+use Rattle.vdr_outside.specs.Disk.{Disk, Image, SameBut, Unchanged}
 use Rattle.vdr_outside.proofs.Moments.{moments_and_reads}
 use Rattle.vdr_config.specs.Grammar.{configuration}
 use Rattle.vdr_media.specs.Formatted.{IsFormatted, IsUnformatted}
@@ -17,7 +17,6 @@ use Rattle.vdr_opening.specs.Refusals.{IsRefused}
 use Rattle.vdr_opening.specs.declared.refused.OpenRefused.{OpenRefused}
 use Rattle.vdr_opening.specs.declared.refused.OpenRefused.TheVariants as openings
 use Rattle.vdr_recorder.specs.Recordings.{HasDone, RecordingState}
-use Rattle.vdr_vault.specs.Calls.{SameElsewhere}
 use Rattle.vdr_vault.specs.Openings.{GoesOnSynced, LeavesAll, OpensAtEachMoment}
 use Rattle.vdr_vault.proofs.OpenMoments.{never_both}
 use Rattle.vdr_ring.specs.Sequence.{Placed}
@@ -128,7 +127,7 @@ module _ {tells tells_images : Type 0} where
       → ((m offset : ℕ) → result ≡ Err (openings.Damaged m offset) → tells → IsFormatted old.disk.reads × IsRefused old.disk.reads m offset)
       → ((result ≡ Err openings.NotFormatted) ⊎ ((m : ℕ) × (offset : ℕ) × (result ≡ Err (openings.Damaged m offset))) → LeavesAll old.disk new.disk × (tells → new.disk.reads ≡ old.disk.reads))
       → (tells → IsUnformatted old.disk.reads → LeavesAll old.disk new.disk)
-      → (tells → SameElsewhere old.disk.reads new.disk.reads)
+      → (tells → SameBut 1 old.disk.reads new.disk.reads)
       → HasOpenCause old.faults new.faults result
       → ((x : Contents) → tells → HoldsContents old.disk.reads x → EndsMeet both (reading_of x) → WasRecorded x → OpensAtEachMoment old.disk new.disk result (ShowsHistory (opening_of x) []))
       → MediaEnds Can Met MayBe old new (status_of_opening refused)
@@ -177,7 +176,7 @@ module _ {tells tells_images : Type 0} where
 
   -- The work was done.
   pub worked_ends : (Can : Contents → Type 0) (Met : Type 0) (MayBe : List Event → Type 0) (old new : MediaSeen tells tells_images) (status : Status) → IsWorkDone status
-      → (tells → IsLegibleWith old.disk.reads Can) → (tells → SameElsewhere old.disk.reads new.disk.reads)
+      → (tells → IsLegibleWith old.disk.reads Can) → (tells → SameBut 1 old.disk.reads new.disk.reads)
       → ((x : Contents) → tells → HoldsContents old.disk.reads x → EndsMeet both (reading_of x) → WasRecorded x → KeepsContents x MayBe status old.disk new.disk)
       → MediaEnds Can Met MayBe old new status
   worked_ends Can Met MayBe old new status done legible others kept = ⊎_elim
@@ -255,7 +254,7 @@ module _ {tells tells_images : Type 0} where
   pub listed_ends : {T : Type 0} (old new : MediaSeen tells tells_images) (result : Result T OpenRefused) (r : T) → result ≡ Ok r
       → (members : MembersState) → OpenedOn old.disk members
       → ((x : Contents) → tells → HoldsContents old.disk.reads x → WasRecorded x → (placed : ℕ → List Placed) × Stands (opening_of x) [] members placed new.disk)
-      → (tells → SameElsewhere old.disk.reads new.disk.reads)
+      → (tells → SameBut 1 old.disk.reads new.disk.reads)
       → ((x : Contents) → tells → HoldsContents old.disk.reads x → EndsMeet both (reading_of x) → WasRecorded x → OpensAtEachMoment old.disk new.disk result (ShowsHistory (opening_of x) []))
       → (status : Status) → IsWorkDone status → MediaEnds CanList ⊥ AreLooks old new status
   listed_ends old new result r is members contents stands others moments status done =

@@ -12,7 +12,7 @@ use Rattle.vdr_history.specs.Histories.Act.{Look}
 use Rattle.vdr_durability.specs.Readings.{AreLevel, EndsMeet}
 use Rattle.vdr_playback.specs.Playback.{selected}
 use Rattle.vdr_outside.specs.Causes.{NoneFalls, Rose}
-use Rattle.vdr_outside.specs.Disk.{Image, Unchanged}
+use Rattle.vdr_outside.specs.Disk.{Image, SameBut, Unchanged}
 use Rattle.vdr_outside.specs.Writes.{AppendsFront}
 use Rattle.vdr_outside.proofs.Counts.{rose_after, sum_not_less}
 use Rattle.vdr_config.specs.Configuration.{Configuration, Selector}
@@ -29,7 +29,6 @@ use Rattle.vdr_recorder.specs.Playing.{HasPlayCause, lacks_channel, lacks_incide
 use Rattle.vdr_recorder.specs.Recordings.{HasDone, HasRecorded, RecordingState}
 use Rattle.vdr_recorder.specs.declared.play.PlayRefused.{PlayRefused}
 use Rattle.vdr_recorder.specs.declared.play.PlayRefused.TheVariants as plays
-use Rattle.vdr_vault.specs.Calls.{SameElsewhere}
 use Rattle.vdr_vault.specs.Openings.{OpensAtEachMoment}
 use Rattle.vdr_vault.proofs.OpenMoments.{never_both}
 use Rattle.vdr_vault.proofs.Playing.{stands_to_read}
@@ -94,7 +93,7 @@ module _ {tells tells_images : Type 0} where
   -- No such channel is configured.
   pub channel_ends : {T : Type 0} (medium : Played) (name : List ℕ) (old new : MediaSeen tells tells_images) (result : Result T OpenRefused) (r : T) → result ≡ Ok r
       → (members : MembersState) → LacksChannel members.config name → OpenedOn old.disk members
-      → (tells → SameElsewhere old.disk.reads new.disk.reads)
+      → (tells → SameBut 1 old.disk.reads new.disk.reads)
       → ((x : Contents) → tells → HoldsContents old.disk.reads x → EndsMeet both (reading_of x) → WasRecorded x → OpensAtEachMoment old.disk new.disk result (ShowsHistory (opening_of x) []))
       → PlayEnds medium name old new NoChannel
   channel_ends medium name old new result r is members lacks contents others moments = record {
@@ -158,7 +157,7 @@ module _ {tells tells_images : Type 0} (medium : Played) (name : List ℕ) (from
       (undamaged : (opening : Opening) (events : List Event) (placed : ℕ → List Placed) (m offset : ℕ) → tells → IsReadable opening events r.members placed mid.disk → played ≡ Err (plays.Damaged m offset) → ⊥)
       (looked : (opening : Opening) (events : List Event) (t0 : ℕ) → HasRecorded opening events t0 r mid.disk → HasDone opening events t0 Look after mid.disk new.disk)
       (unchanged : Unchanged mid.disk new.disk) (m : ℕ) (cause : HasPlayCause m r.members.failed mid.faults new.faults played) (later : NoneFalls old.faults mid.faults)
-      (others : tells → SameElsewhere old.disk.reads mid.disk.reads) where
+      (others : tells → SameBut 1 old.disk.reads mid.disk.reads) where
     module _ {T : Type 0} (result : Result T OpenRefused)
         (moments : (x : Contents) → tells → HoldsContents old.disk.reads x → EndsMeet both (reading_of x) → WasRecorded x → OpensAtEachMoment old.disk mid.disk result (ShowsHistory (opening_of x) [])) where
       -- What was looked at stays as it was.
@@ -176,8 +175,8 @@ module _ {tells tells_images : Type 0} (medium : Played) (name : List ℕ) (from
           kept_by_call x (config_read old.disk.reads x holds) regular AreLooks status old.disk mid.disk new.disk result Look refl r after has.0 (moments x t holds meet regular) has.1 has.2 done
           (λ worked told. looked_at x t holds regular done.event done.act_is) (one_look done.event done.act_is)
 
-      others_too : tells → SameElsewhere old.disk.reads new.disk.reads
-      others_too t = subst (λ (image : Image). SameElsewhere old.disk.reads image) (sym (unchanged.reads t)) (others t)
+      others_too : tells → SameBut 1 old.disk.reads new.disk.reads
+      others_too t = subst (λ (image : Image). SameBut 1 old.disk.reads image) (sym (unchanged.reads t)) (others t)
 
       playable : (played ≡ Err plays.NoIncident → ⊥) → tells → IsLegibleWith old.disk.reads (λ x. CanPlay x medium name)
       playable found = legible_so (λ x. CanPlay x medium name) old.disk r.members contents (λ x t holds c k l. record {

@@ -16,7 +16,6 @@ use Rattle.vdr_opening.specs.Media.{both, Contents, HoldsContents, opening_of, r
 use Rattle.vdr_opening.specs.declared.refused.OpenRefused.{OpenRefused}
 use Rattle.vdr_opening.specs.declared.refused.OpenRefused.TheVariants as openings
 use Rattle.vdr_recorder.specs.Recordings.{HasDone, HasRecorded, RecordingState}
-use Rattle.vdr_vault.specs.Calls.{SameElsewhere}
 use Rattle.vdr_vault.specs.Openings.{OpensAtEachMoment}
 use Rattle.vdr_vault.specs.Saves.{HasFaultOn, refusal_from, save_refusal}
 use Rattle.vdr_vault.proofs.OpenMoments.{never_both}
@@ -90,9 +89,9 @@ module _ {tells tells_images : Type 0} (old mid new : MediaSeen tells tells_imag
     (contents : OpenedOn old.disk r.members)
     (opened : (x : Contents) → tells → HoldsContents old.disk.reads x → WasRecorded x
     → (t0 : ℕ) × (old.disk.clock ≤ t0) × (t0 ≤ mid.disk.clock) × HasRecorded (opening_of x) [] t0 r mid.disk)
-    (later : NoneFalls old.faults mid.faults) (others : tells → SameElsewhere old.disk.reads mid.disk.reads) (beside : tells → SameBut 1 mid.disk.reads new.disk.reads) where
-  others_too : tells → SameElsewhere old.disk.reads new.disk.reads
-  others_too t = λ k not_first not_second. beside t k not_second ∙ others t k not_first not_second
+    (later : NoneFalls old.faults mid.faults) (others : tells → SameBut 1 old.disk.reads mid.disk.reads) (beside : tells → SameBut 1 mid.disk.reads new.disk.reads) where
+  others_too : tells → SameBut 1 old.disk.reads new.disk.reads
+  others_too t = λ k not_second. beside t k not_second ∙ others t k not_second
 
   rose : (faulted : Type 0) → HasFaultOn 1 r.members.failed mid.faults new.faults faulted → faulted → Rose (sum old.faults) (sum new.faults)
   rose faulted cause is = ⊎_elim (λ (failed : r.members.failed ≡ true). let clash : true ≡ false = sym failed ∙ works in let none : ⊥ = cc in absurd none)

@@ -4,13 +4,12 @@ use Rattle.vdr_history.specs.Histories.{Act, Event, IsHistory}
 use Rattle.vdr_history.specs.Histories.Act.{Look}
 use Rattle.vdr_durability.specs.Keeping.{Keeps, ShowsPrefix}
 use Rattle.vdr_durability.specs.Readings.{AreLevel, EndsMeet}
-use Rattle.vdr_outside.specs.Disk.{Disk, Image}
+use Rattle.vdr_outside.specs.Disk.{Disk, Image, SameBut}
 use Rattle.vdr_media.specs.Formatted.{IsFormatted, IsUnformatted}
 use Rattle.vdr_opening.specs.Media.{both, Contents, HoldsContents, opening_of, reading_of}
 use Rattle.vdr_opening.specs.Refusals.{IsRefused}
 use Rattle.vdr_opening.specs.declared.refused.OpenRefused.{OpenRefused}
 use Rattle.vdr_opening.specs.declared.refused.OpenRefused.TheVariants as openings
-use Rattle.vdr_vault.specs.Calls.{SameElsewhere}
 use Rattle.vdr_vault.specs.Openings.{LeavesAll}
 use Rattle.vdr_vault.specs.Regularity.{AreSound}
 use Rattle.vdr_vault.specs.Vaults.{of_stamp}
@@ -129,8 +128,9 @@ module _ {tells tells_images : Type 0} where
     pub damaged : IfDamaged status (λ m offset. IsRefusedAt old.disk new.disk m offset ⊎ Met)
     pub fault : status ≡ MediaFault → MediaFailed old new
     pub legible : IsWorkDone status → tells → IsLegibleWith old.disk.reads Can
+    -- nothing but the long-term medium is written
+    pub others : tells → SameBut 1 old.disk.reads new.disk.reads
     -- what was recorded stays, on each medium and at every moment
-    pub others : tells → SameElsewhere old.disk.reads new.disk.reads
     pub blank : tells → IsUnformatted old.disk.reads → LeavesAll old.disk new.disk
     pub kept : (x : Contents) → tells → HoldsContents old.disk.reads x → EndsMeet both (reading_of x) → WasRecorded x
         → (IsUnopened status × LeavesAll old.disk new.disk) ⊎ KeepsContents x MayBe status old.disk new.disk

@@ -4,7 +4,7 @@ use Rattle.std.specs.Io.KnownBytes.{IsAtEnd}
 use Rattle.vdr_terms.specs.Records.{FeedItem}
 use Rattle.vdr_history.specs.Runs.{base_after}
 use Rattle.vdr_durability.specs.Readings.{EndsMeet}
-use Rattle.vdr_outside.specs.Disk.{Image}
+use Rattle.vdr_outside.specs.Disk.{Image, SameBut}
 use Rattle.vdr_feed.specs.Feed.{IsFeed, feed_header}
 use Rattle.vdr_feed.specs.Reader.{IfKnown}
 use Rattle.vdr_media.specs.Formatted.{IsFormatted, IsUnformatted}
@@ -63,6 +63,8 @@ pub record ReplayEnds {tells tells_images : Type 0} (input now : Option (List �
   -- a header that is refused, or can't be read, leaves the media alone, and media that are refused are not written
   pub unopened : EndsAtHeader answer → AreLeftAlone old new
   pub untouched : RefusesMedia answer → IsUntouched old.disk new.disk
+  -- nor does a run that is refused write more than the batch that the long-term medium lacks
+  pub beside : RefusesRun answer → tells → SameBut 1 old.disk.reads new.disk.reads
   pub level : RefusesRun answer → WritesNothing old.disk new.disk
   -- each refusal comes only in its case
   pub header : TellsHeader input now answer

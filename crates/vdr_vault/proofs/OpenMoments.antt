@@ -11,7 +11,7 @@ use Rattle.vdr_durability.proofs.Restored.{level_restored}
 use Rattle.vdr_durability.proofs.Shows.{retains_itself}
 use Rattle.vdr_config.specs.Configuration.{Configuration}
 use Rattle.vdr_media.proofs.Two.{all_two}
-use Rattle.vdr_outside.specs.Disk.{Disk, Durable, Image, Unchanged}
+use Rattle.vdr_outside.specs.Disk.{Disk, Durable, Image, SameBut, Unchanged}
 use Rattle.vdr_outside.specs.Moments.{AtEachMoment}
 use Rattle.vdr_outside.proofs.Moments.{moments_and_reads, moments_join, moments_none, moments_weaken}
 use Rattle.vdr_media.specs.Formatted.{IsFormatted, IsUnformatted}
@@ -22,7 +22,6 @@ use Rattle.vdr_ring.specs.Rings as rings
 use Rattle.vdr_opening.specs.Settings.{settings_of}
 use Rattle.vdr_opening.specs.Media.{both, Contents, HoldsContents, opening_of, reading_of}
 use Rattle.vdr_opening.specs.Answers.{IsOpened, OpenedState}
-use Rattle.vdr_vault.specs.Calls.{SameElsewhere}
 use Rattle.vdr_vault.specs.Regularity.{AreSound}
 use Rattle.vdr_vault.specs.Vaults.{IsReadable, IsReadableAt, MembersState, ShowsHistory, ring_of, tick_utc}
 use Rattle.vdr_vault.proofs.ShownImages.{has_capsule, has_long_term, records_are}
@@ -38,8 +37,8 @@ pub never_both : (image : Image) → IsFormatted image → IsUnformatted image �
 never_both image formatted (inl small) = let room = formatted.room in omega (arith, room, small)
 never_both image formatted (inr closed) = closed formatted.gate
 
-pub same_elsewhere : (a b c : Image) → b ≡ a → SameElsewhere b c → SameElsewhere a c
-same_elsewhere a b c same h = subst (λ (i : Image). SameElsewhere i c) same h
+pub same_beside : (a b c : Image) → b ≡ a → SameBut 1 b c → SameBut 1 a c
+same_beside a b c same h = subst (λ (i : Image). SameBut 1 i c) same h
 
 module _ {tells tells_images : Type 0} where
   -- What was read of durable media, on the contents that they hold.

@@ -2,7 +2,7 @@ ghost use Rattle.std.specs.Prelude.{◌≡◌, ◌≢◌, ◌⊎◌, ◌+◌, �
 ghost use Rattle.vdr_terms.specs.Sizes.{batch_size};
 ghost use Rattle.vdr_durability.specs.Readings.{AreLevel, EndsMeet};
 ghost use Rattle.vdr_outside.specs.Causes.{HasCauseOn};
-ghost use Rattle.vdr_outside.specs.Disk.{Durable, Unchanged};
+ghost use Rattle.vdr_outside.specs.Disk.{Durable, SameBut, Unchanged};
 ghost use Rattle.vdr_outside.specs.Moments.{AtEachMoment};
 ghost use Rattle.vdr_media.specs.Formatted.{IsFormatted, IsUnformatted};
 ghost use Rattle.vdr_ring.specs.Sequence.{Placed};
@@ -12,7 +12,6 @@ ghost use Rattle.vdr_opening.specs.Answers.{HasOpenCause, IsOpened};
 ghost use Rattle.vdr_opening.specs.declared.refused.OpenRefused.TheVariants.{Damaged, NotFormatted};
 ghost use Rattle.vdr_vault.specs.Vaults.{AreRings, IsReadable, ShowsHistory, Stands, of_stamp};
 ghost use Rattle.vdr_vault.specs.Regularity.{AreSound};
-ghost use Rattle.vdr_vault.specs.Calls.{SameElsewhere};
 ghost use Rattle.vdr_vault.specs.Openings.{GoesOnBehind, HasCauseOnBoth, LeavesAll, OpensAtEachMoment, Reconciles, opened_with};
 
 use crate::Members;
@@ -50,7 +49,7 @@ impl Members {
         ensures level { missing.now ≡ [] → (self.new ≡ self.old) × (media.new ≡ media.old) }
         ensures works { self.new.failed ≡ false }
         ensures rings { AreRings self.new (M.disk media.new).sizes }
-        ensures others { M.tells → SameElsewhere (M.disk media.old).reads (M.disk media.new).reads }
+        ensures others { M.tells → SameBut 1 (M.disk media.old).reads (M.disk media.new).reads }
         ensures sizes { (M.disk media.new).sizes ≡ (M.disk media.old).sizes }
         ensures cause { HasCauseOn 1 (M.faults media.old) (M.faults media.new) result }
     {
@@ -87,7 +86,7 @@ impl Members {
         ensures untouched { (result ≡ Err NotFormatted) ⊎ ((m : ℕ) × (offset : ℕ) × (result ≡ Err (Damaged m offset)))
             → Unchanged (M.disk media.old) (M.disk media.new) }
         ensures blank { M.tells → IsUnformatted (M.disk media.old).reads → Unchanged (M.disk media.old) (M.disk media.new) }
-        ensures others { M.tells → SameElsewhere (M.disk media.old).reads (M.disk media.new).reads }
+        ensures others { M.tells → SameBut 1 (M.disk media.old).reads (M.disk media.new).reads }
         ensures sizes { (M.disk media.new).sizes ≡ (M.disk media.old).sizes }
         ensures cause { HasOpenCause (M.faults media.old) (M.faults media.new) result }
     {
@@ -120,7 +119,7 @@ impl Members {
     /// `NotFormatted` and `Damaged` come exactly as `vdr_opening::read_media` says, and nothing was written. `Fault`: a call failed, and
     /// the count of faults of that medium rose.
     ///
-    /// Where both end with the last batch nothing is written. Where the media are sound, a stop at each moment leaves what a stop before the call might have left, until the syncs have
+    /// Nothing but the long-term medium is written, and where both end with the last batch nothing is. Where the media are sound, a stop at each moment leaves what a stop before the call might have left, until the syncs have
     /// succeeded; from then on media that show what was opened, with the batch that the long-term medium lacks. Of media that are not formatted it leaves what a stop before the call
     /// might have left, whatever is answered.
     pub fn open<M: Media>(alloc: Global, media: &mut M) -> Result<Members, OpenRefused>
@@ -145,7 +144,7 @@ impl Members {
         ensures untouched { (result ≡ Err NotFormatted) ⊎ ((m : ℕ) × (offset : ℕ) × (result ≡ Err (Damaged m offset)))
             → LeavesAll (M.disk media.old) (M.disk media.new) × (M.tells → (M.disk media.new).reads ≡ (M.disk media.old).reads) }
         ensures blank { M.tells → IsUnformatted (M.disk media.old).reads → LeavesAll (M.disk media.old) (M.disk media.new) }
-        ensures others { M.tells → SameElsewhere (M.disk media.old).reads (M.disk media.new).reads }
+        ensures others { M.tells → SameBut 1 (M.disk media.old).reads (M.disk media.new).reads }
         ensures sizes { (M.disk media.new).sizes ≡ (M.disk media.old).sizes }
         ensures cause { HasOpenCause (M.faults media.old) (M.faults media.new) result }
     {

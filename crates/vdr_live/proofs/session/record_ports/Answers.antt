@@ -26,5 +26,5 @@ returns-clause-ends g c =
     recorded_ends g.P.Port c.args.turns c.args.lanes.now c.record.new.lanes old mid new c.in_ok-recording.recording c.record.result c.requires.lanes (c.record.auto.lanes ∙ c.requires.lanes)
     (λ t. let w = begun.contents t in (w.0, w.1, w.2, w.3, w.4))
     (λ x y h k. ((c.law_of_contents.ensures.config _ x y h k).0, meet_as x y (c.law_of_contents.ensures.placed _ x y h k)))
-    begun.opened begun.moments c.open.ensures.others c.open.ensures.cause.later
+    begun.opened begun.moments (λ t k first second. c.open.ensures.others t k second) c.open.ensures.cause.later
     c.record.ensures.session c.record.ensures.ports c.record.ensures.groups (λ is. (c.record.ensures.memory is).1) c.record.ensures.others c.record.ensures.cause

@@ -17,7 +17,7 @@ use Rattle.vdr_replay.specs.declared.ended.Replayed.{Replayed}
 use Rattle.vdr_replay.specs.declared.ended.ReplayStop.{ReplayStop}
 use Rattle.vdr_replay.proofs.Causes.{replay_after, rose_joined, sum_of_rose}
 use Rattle.vdr_replay.proofs.Headlines.{answers, begun_nothing, leaves, opened_leaves, passes_opened}
-use Rattle.vdr_replay.proofs.Opened.{admits_all, begun_header, begun_media, begun_tells, damaged_by, header_of_feed, header_says, level_still, no_run_of_feed, not_at_header, open_stops, opened_says, opening_says, refused_media}
+use Rattle.vdr_replay.proofs.Opened.{admits_all, begun_header, begun_media, begun_tells, beside_still, damaged_by, header_of_feed, header_says, level_still, no_run_of_feed, not_at_header, open_stops, opened_says, opening_says, refused_media}
 use Rattle.vdr_replay.proofs.Passing.{passes_first}
 use Rattle.vdr_replay.proofs.Playing.{config_read}
 use Rattle.vdr_replay.proofs.Reading.{begins_so, read_first}
@@ -175,3 +175,20 @@ returns-clause-level g c = λ refuses x told holds level.
 
 pub returns-clause-header : goal.returns-clause-header
 returns-clause-header g c = begun_tells _ _ c.record_run.result c.record_run.ensures.stops (begins_so _ _ c.in_ok-header.ensures.bytes)
+
+pub returns-in_err-header-clause-beside : goal.returns-in_err-header-clause-beside
+returns-in_err-header-clause-beside g c = λ refuses.
+    let p = err_from_is_err_and c.from_residual.result c.from_residual.ensures.1 in
+    no_run_of_feed c.in_err-header.field-0.0 (subst RefusesRun (p.1 ∙ ap (λ (stop : ReplayStop). Err stop) p.2) refuses)
+
+pub returns-clause-beside : goal.returns-clause-beside
+returns-clause-beside g c = λ refuses told. beside_still (λ m. g.M.Media.disk m) (g.M.Media.disk c.args.media.now).reads c.open.new.media c.record_run.new.media (c.record_run.ensures.unbegun refuses) (c.open.ensures.others told)
+
+pub returns-in_err-recording-clause-others : goal.returns-in_err-recording-clause-others
+returns-in_err-recording-clause-others g c = λ told k first second. c.open.ensures.others told k second
+
+pub returns-in_err-lanes-clause-others : goal.returns-in_err-lanes-clause-others
+returns-in_err-lanes-clause-others g c = λ told k first second. c.open.ensures.others told k second
+
+pub returns-clause-others : goal.returns-clause-others
+returns-clause-others g c = λ told k first second. c.record_run.ensures.others told k first second ∙ c.open.ensures.others told k second

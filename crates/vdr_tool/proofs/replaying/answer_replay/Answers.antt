@@ -25,6 +25,7 @@ returns-in_err-run-clause-owed g c =
       unformatted = told.unformatted;
       damaged = told.damaged;
       others = told.others;
+      beside = told.beside;
       cause = told.cause;
     }))
 
@@ -48,5 +49,6 @@ returns-clause-owed g c =
       unformatted = told.unformatted;
       damaged = told.damaged;
       others = told.others;
+      beside = told.beside;
       cause = told.cause;
     })

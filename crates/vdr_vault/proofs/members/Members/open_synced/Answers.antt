@@ -3,7 +3,7 @@ use Rattle.std.proofs.lemmas.Result.{err_from_is_err_and}
 use Rattle.vdr_outside.proofs.Moments.{moments_after_reads}
 use Rattle.vdr_vault.proofs.OpenCauses.{fault_unless_ok, no_fault}
 use Rattle.vdr_vault.proofs.OpenContents.{newest_opened, place_opened}
-use Rattle.vdr_vault.proofs.OpenMoments.{goes_on, level_missing, never_both, read_on, reading_shown, opened_to_read, readable_as, same_elsewhere, unchanged_still}
+use Rattle.vdr_vault.proofs.OpenMoments.{goes_on, level_missing, never_both, read_on, reading_shown, opened_to_read, readable_as, same_beside, unchanged_still}
 use Rattle.vdr_ring.proofs.Faults.{same_err}
 use Rattle.vdr_media.proofs.Two.{second_of}
 use Rattle.vdr_outside.proofs.Counts.{none_falls_join}
@@ -27,7 +27,7 @@ pub returns-in_default-clause-blank : goal.returns-in_default-clause-blank
 returns-in_default-clause-blank g c told un = absurd (never_both _ (c.in_ok-config.ensures.formatted told) un)
 
 pub returns-in_default-clause-others : goal.returns-in_default-clause-others
-returns-in_default-clause-others g c told = same_elsewhere _ _ _ (c.read_media.ensures.unchanged.reads told) (c.reconcile.ensures.others told)
+returns-in_default-clause-others g c told = same_beside _ _ _ (c.read_media.ensures.unchanged.reads told) (c.reconcile.ensures.others told)
 
 pub returns-in_default-clause-cause : goal.returns-in_default-clause-cause
 returns-in_default-clause-cause g c = fault_unless_ok 1 _ _ _ c.reconcile.result _ second_of c.in_default.not-Ok c.read_media.ensures.cause.later c.reconcile.ensures.cause
