@@ -9,9 +9,9 @@ use Rattle.vdr_control.specs.Plays.{IsMedium, medium_word}
 use Rattle.vdr_opening.specs.Media.{Contents, HoldsContents, opening_of}
 use Rattle.vdr_sources.specs.Tables.{sources_of, sources_text}
 use Rattle.vdr_tool.specs.Endings.{IsWorkDone}
-use Rattle.vdr_tool.specs.Opened.{PrintsText, WasRecorded}
+use Rattle.vdr_tool.specs.Opened.{PrintsText, WritesNothing}
 use Rattle.vdr_tool.specs.Outside.{NothingFailed, OutputFailed, Outside}
-use Rattle.vdr_tool.specs.Plays.{IsPlayStatus, PlayEnds, PlaysAll, all_records}
+use Rattle.vdr_tool.specs.Plays.{CanBeRead, IsPlayStatus, PlayEnds, PlaysAll, all_records}
 use Rattle.vdr_tool.specs.Promises.{Promise}
 use Rattle.vdr_tool.specs.declared.status.Status.{Status}
 use Rattle.vdr_tool.specs.declared.status.Status.TheVariants.{NoChannel, OutputFault}
@@ -29,12 +29,13 @@ pub record TellsSources {tells tells_images : Type 0} (medium : Medium) (old new
   pub own : IsPlayStatus status
   pub no_channel : status ≡ NoChannel → ⊥
   -- the table of what the media hold is printed
-  pub printed : (x : Contents) → tells → HoldsContents old.media.disk.reads x → WasRecorded x → PrintsText (table_text x medium) status old.output new.output
+  pub printed : (x : Contents) → tells → HoldsContents old.media.disk.reads x → CanBeRead x → PrintsText (table_text x medium) status old.output new.output
   -- each failure comes only with its cause
   pub output : status ≡ OutputFault → OutputFailed old.output new.output
   pub silent : IsWorkDone status ⊎ (new.output ≡ old.output)
   -- the media, and what is said of them, are as for a play of all records
   pub media : PlayEnds medium all_records old.media new.media status
+  pub level : WritesNothing old.media.disk new.media.disk
   -- nothing else comes in the place of the table, or of a refusal, but want of memory
   pub complete : NothingFailed old new → tells → PlaysAll medium all_records old.media.disk.reads status
 

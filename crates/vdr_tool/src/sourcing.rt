@@ -3,8 +3,8 @@ ghost use Rattle.std.specs.Prelude.{◌≡◌, ◌≤◌, ◌⊎◌, length};
 ghost use Rattle.vdr_outside.specs.Causes.{Rose};
 ghost use Rattle.vdr_opening.specs.Media.{Contents, HoldsContents};
 ghost use Rattle.vdr_tool.specs.Endings.{IsWorkDone, ending};
-ghost use Rattle.vdr_tool.specs.Opened.{PrintsText, WasRecorded};
-ghost use Rattle.vdr_tool.specs.Plays.{IsPlayStatus, PlayEnds, all_records};
+ghost use Rattle.vdr_tool.specs.Opened.{PrintsText, WritesNothing};
+ghost use Rattle.vdr_tool.specs.Plays.{CanBeRead, IsPlayStatus, PlayEnds, all_records};
 ghost use Rattle.vdr_tool.specs.Sources.{TellsSources, table_text};
 ghost use Rattle.vdr_tool.specs.declared.status.Status.TheVariants.{NoChannel, OutputFault, Words};
 
@@ -32,8 +32,9 @@ fn tell<I: Source + Drop, O: Sink + Drop, M: Media + Drop>(
     ensures statuses { IsPlayStatus (ending result) }
     ensures no_channel { ending result ≡ NoChannel → ⊥ }
     ensures media { let at = ⟦<World<I, O, M> as Outer>⟧.outside in PlayEnds medium all_records (at world.old).media (at world.new).media (ending result) }
-    ensures printed { let at = ⟦<World<I, O, M> as Outer>⟧.outside in (x : Contents) → M.tells → HoldsContents (M.disk world.old.media).reads x → WasRecorded x
+    ensures printed { let at = ⟦<World<I, O, M> as Outer>⟧.outside in (x : Contents) → M.tells → HoldsContents (M.disk world.old.media).reads x → CanBeRead x
         → PrintsText (table_text x medium) (ending result) (at world.old).output (at world.new).output }
+    ensures level { WritesNothing (M.disk world.old.media) (M.disk world.new.media) }
     ensures silent { IsWorkDone (ending result) ⊎ (world.new.output ≡ world.old.output) }
     ensures output { ending result ≡ OutputFault → Rose (O.faults world.old.output) (O.faults world.new.output) }
     ensures later { O.faults world.old.output ≤ O.faults world.new.output }
