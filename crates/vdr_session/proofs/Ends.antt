@@ -1,5 +1,5 @@
 -- A session's end: a run that was not begun, and one that was stopped.
-use Rattle.std.proofs.Common.{◌≡◌, ◌≢◌, ◌⊎◌, inl, inr, ◌<◌, ◌≤◌, ◌+◌, ◌*◌, ◌^◌, ◌++◌, ℕ, Bool, true, false, true≢false, List, [], ◌∷◌, All, Option, Some, None, length, get_or, ⊎_elim, refl, sym, ap, ◌∙◌, subst, arith}
+use Rattle.std.proofs.Common.{◌≡◌, ◌≢◌, ◌⊎◌, inl, inr, ◌<◌, ◌≤◌, ◌+◌, ◌*◌, ◌^◌, ◌++◌, ℕ, Bool, true, false, true≢false, List, [], ◌∷◌, All, Option, Some, None, length, get_or, ⊎_elim, refl, sym, ap, ◌∙◌, subst, arith, append-nil}
 use Rattle.std.specs.Prelude.{sum}
 use Rattle.std.proofs.lemmas.Bool.{cases_Bool, cases_lt}
 use Rattle.std.proofs.lemmas.List.{length-append}
@@ -108,7 +108,7 @@ quiet_rest configured g (Some queue) (Some taker) lane rest met is none = absurd
 module _ {P : Type 0} (port_tells : PortTells P) {tells tells_images : Type 0} (turns : ℕ) (queues : List (Option QueueId)) (first last : List (Option Taking)) (old new : List (Lane P)) (before : Before) (opened : Opening → ℕ → Type 0)
     (rates : List (Option Rate)) (room : ℕ) (sizes faults : List ℕ) (marks : List Mark) (began : Began) (r : RecordingState) (disk : Disk tells tells_images) (now : List ℕ)
     (k : IsKept before opened rates room sizes faults marks r disk now) (h : HasClosed port_tells turns (λ g. is_configured (limits_in rates g)) queues first last old new began marks)
-    (means : tells → (opening : Opening) (t0 : ℕ) → opened opening t0 → StartMeans opening began) where
+    (means : tells → (opening : Opening) (t0 : ℕ) → opened opening t0 → StartMeans opening began) (beside : Began → List Mark → Type 0) (besides : beside began marks) where
   failed_by : has_fault marks ≡ true → r.members.failed ≡ true
   failed_by fault = by (cases_Bool r.members.failed)
     where
@@ -120,7 +120,7 @@ module _ {P : Type 0} (port_tells : PortTells P) {tells tells_images : Type 0} (
       → EndsRun before opening marks t0 rest outcome after end
   session_ends outcome opening t0 rest after end same still s never pending =
       subst (λ (x : RecordingState × Disk tells tells_images). EndsRun before opening marks t0 rest outcome x.0 x.1) (λ i. (sym same i, sym still i))
-      (record { events = events_of opening marks; has = s.has; passes = s.passes; pending = whole_or pending; records = inl s.made; closed = λ e. absurd (never e) })
+      (record { events = events_of opening marks; behind = []; front = sym (append-nil (events_of opening marks)); has = s.has; passes = s.passes; pending = whole_or pending; records = inl s.made; closed = λ e. absurd (never e) })
     where
       whole_or : (has_fault marks ≡ false) ⊎ (outcome ≡ MediaFault) → IsWhole (events_of opening marks) ⊎ (outcome ≡ MediaFault)
       whole_or (inl none) = inl (whole_along opening [] [] marks (All-nil (λ (e : Event). e.moment ≢ None)) (all_there marks none))
@@ -128,10 +128,12 @@ module _ {P : Type 0} (port_tells : PortTells P) {tells tells_images : Type 0} (
 
   -- The run was not begun.
   pub not_begun_ends : (outcome : Outcome) → (began ≡ Begun → ⊥) → IsToldAs began outcome
-      → HasEnded port_tells turns (λ g. is_configured (limits_in rates g)) queues first last old new before opened sizes faults outcome r disk now
+      → HasEnded port_tells turns (λ g. is_configured (limits_in rates g)) queues first last old new before opened sizes faults beside outcome r disk now
   not_begun_ends outcome ne told_as = record {
     marks = marks;
     began = began;
+    besides = besides;
+    missed_rose = k.missed;
     lanes = h;
     told_as = told_as;
     rest = λ _. none_missed;
@@ -200,6 +202,8 @@ module _ {P : Type 0} (port_tells : PortTells P) {tells tells_images : Type 0} (
           let makes = (s.has.works works).makes stage.0 in
           record {
             events = events_of opening marks ++ run.event ∷ [];
+            behind = run.event ∷ [];
+            front = refl;
             has = run.has;
             passes = run.passes;
             pending = ⊎_elim (λ (on : after.members.failed ≡ false). inl ((whole_has_not_failed (events_of opening marks ++ run.event ∷ [])).1 (sym run.has.failed ∙ on))) (λ (e : outcome ≡ MediaFault). inr e) goes;
@@ -209,10 +213,12 @@ module _ {P : Type 0} (port_tells : PortTells P) {tells tells_images : Type 0} (
 
       ends_as : (outcome : Outcome) → (outcome ≡ Done) ⊎ (outcome ≡ MediaFault) → (outcome ≡ Done → (r.members.failed ≡ false) × (after.members.failed ≡ false)) → (outcome ≡ MediaFault → (r.members.failed ≡ true) ⊎ Rose (sum now) (sum later))
           → (tells → (opening : Opening) (t0 : ℕ) → HasSession before opening marks t0 r disk → EndsRun before opening marks t0 rest outcome after end)
-          → HasEnded port_tells turns (λ g. is_configured (limits_in rates g)) queues first last old new before opened sizes faults outcome after end later
+          → HasEnded port_tells turns (λ g. is_configured (limits_in rates g)) queues first last old new before opened sizes faults beside outcome after end later
       ends_as outcome told_as works cause run = record {
         marks = marks;
         began = began;
+        besides = besides;
+        missed_rose = λ is. let more = sum_not_less now later falls.same_media falls.none_falls in let rose = k.missed is in omega (arith, more, rose);
         lanes = h;
         told_as = subst (λ (b : Began). IsToldAs b outcome) (sym is) told_as;
         rest = rest;
@@ -231,12 +237,12 @@ module _ {P : Type 0} (port_tells : PortTells P) {tells tells_images : Type 0} (
 
       -- The run was closed.
       pub done_ends : r.members.failed ≡ false → after.members.failed ≡ false
-          → HasEnded port_tells turns (λ g. is_configured (limits_in rates g)) queues first last old new before opened sizes faults Done after end later
+          → HasEnded port_tells turns (λ g. is_configured (limits_in rates g)) queues first last old new before opened sizes faults beside Done after end later
       done_ends works goes = ends_as Done (inl refl) (λ _. (works, goes)) (λ e. absurd (done_is_no_fault e)) (λ told opening t0 s. closes Done (inl goes) works opening t0 told s)
 
       -- The media failed, before or in the close.
       pub fault_ends : (r.members.failed ≡ true → (after ≡ r) × (end ≡ disk)) → (r.members.failed ≡ true) ⊎ Rose (sum now) (sum later)
-          → HasEnded port_tells turns (λ g. is_configured (limits_in rates g)) queues first last old new before opened sizes faults MediaFault after end later
+          → HasEnded port_tells turns (λ g. is_configured (limits_in rates g)) queues first last old new before opened sizes faults beside MediaFault after end later
       fault_ends same cause = ends_as MediaFault (inr refl) (λ e. absurd (fault_is_not_done e)) (λ _. cause)
           (λ told opening t0 s. ⊎_elim
           (λ (fails : r.members.failed ≡ true). session_ends MediaFault opening t0 rest after end (same fails).0 (same fails).1 s fault_is_not_done (inr refl))

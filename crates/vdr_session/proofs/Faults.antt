@@ -5,7 +5,7 @@ use Rattle.std.proofs.lemmas.Bool.{cases_Bool, cond-false, cond-true}
 use Rattle.std.proofs.lemmas.List.Elements.{All-append, All-cons, All-head, All-nil, All-tail}
 use Rattle.std.proofs.lemmas.List.Folds.{list_any-append}
 use Rattle.vdr_session.specs.declared.mark.Did.{Did}
-use Rattle.vdr_session.specs.declared.mark.Did.TheVariants.{Begin, Take, Save, Release, Look}
+use Rattle.vdr_session.specs.declared.mark.Did.TheVariants.{Begin, Take, Save, Release, Look, Miss}
 use Rattle.vdr_session.specs.declared.mark.Mark.{Mark}
 use Rattle.vdr_history.specs.Histories.{Event, Opening}
 use Rattle.vdr_history.specs.Taken.{Captured}
@@ -48,6 +48,7 @@ follower (Take items) e = refl
 follower (Save label) e = refl
 follower (Release id) e = refl
 follower Look e = refl
+follower Miss e = refl
 
 not_empty : {X : Type 0} (x : X) (xs : List X) → x ∷ xs ≡ [] → ⊥
 not_empty x xs e = cc

@@ -1,4 +1,6 @@
 pub mod Popped
+pub mod Seen
+pub mod Served
 pub mod Marked
 pub mod Told
 pub mod Gathered
@@ -6,8 +8,10 @@ pub mod LanesRan
 pub mod LanesFed
 pub mod Numbered
 pub mod Steps
+pub mod Orders
 pub mod Starts
 pub mod Faults
 pub mod Closes
 pub mod Ends
 pub mod Sessions
+pub mod Replied

@@ -42,13 +42,13 @@ use Rattle.vdr_session.specs.declared.records.Began.{Began}
 use Rattle.vdr_session.specs.declared.records.Began.TheVariants as starts
 use Rattle.vdr_session.specs.declared.session.SessionEnd.{SessionEnd}
 use Rattle.vdr_session.specs.Closed.{NotBegun, RanLanes}
-use Rattle.vdr_session.specs.Ended.{EndsRun, HasEnded, IsToldAs, IsWithPorts}
+use Rattle.vdr_session.specs.Ended.{EndsRun, HasEnded, IsToldAs, IsWithFailures}
 use Rattle.vdr_session.specs.Events.{is_started, run_records, start_of}
 use Rattle.vdr_session.specs.Feeding.{LaneFed, LaneGave}
 use Rattle.vdr_session.specs.Lanes.{AllPopped, IsDrained, popped_by}
 use Rattle.vdr_session.specs.Marks.{has_fault, is_begun, taken_in}
 use Rattle.vdr_session.specs.Ran.{IsSetUp, LaneIsReady, PortRan, PortRests}
-use Rattle.vdr_session.specs.Sessions.{AccountBy, AreSums, CountsFull, HasGroups, KeepsSession, LaneTold, OutcomeMeans, RecordsAre, RecordsSession, Session, has_groups, is_closed, sums_of}
+use Rattle.vdr_session.specs.Sessions.{SessionWith, AccountBy, AreSums, CountsFull, HasGroups, KeepsSession, LaneTold, OutcomeMeans, RecordsAre, RecordsSession, Session, has_groups, is_closed, sums_of}
 use Rattle.vdr_session.specs.Standing.{MayBegin, StartMeans}
 use Rattle.vdr_session.specs.Summing.{KnowsFull, paired, summed}
 use Rattle.vdr_session.proofs.Closes.{closed_accounts, cut_accounts}
@@ -175,7 +175,7 @@ module _ (start : RunStart) (admits : Admits start.limits) (items lost : List Ca
 
 -- The history, by what was told
 
-pub closed_is_done : (outcome end : Outcome) → (began : Began) → IsToldAs began outcome → IsWithPorts outcome end → is_closed end ≡ true → (outcome ≡ Done) × (began ≡ starts.Begun)
+pub closed_is_done : (outcome end : Outcome) → (began : Began) → IsToldAs began outcome → IsWithFailures outcome end → is_closed end ≡ true → (outcome ≡ Done) × (began ≡ starts.Begun)
 closed_is_done outcome end began told (inr ports) closed = (ports.0, begun began (subst (IsToldAs began) ports.0 told))
   where
     begun : (began : Began) → IsToldAs began Done → began ≡ starts.Begun
@@ -193,11 +193,15 @@ closed_is_done outcome end began told (inl same) closed = by began told (ap is_c
     by starts.Fault told is = absurd (true≢false (sym is ∙ ap is_closed told))
 
 -- what is told is no want of memory
-pub has_memory : (outcome end : Outcome) (began : Began) → IsToldAs began outcome → IsWithPorts outcome end → end ≡ NoMemory → ⊥
-has_memory outcome end began told (inr (done, g, is)) e = never g (sym is ∙ e)
+pub has_memory : (outcome end : Outcome) (began : Began) → IsToldAs began outcome → IsWithFailures outcome end → end ≡ NoMemory → ⊥
+has_memory outcome end began told (inr (done, inl (g, is))) e = never g (sym is ∙ e)
   where
     never : (g : ℕ) → PortFault g ≡ NoMemory → ⊥
     never g e = cc
+has_memory outcome end began told (inr (done, inr (i, is))) e = never i (sym is ∙ e)
+  where
+    never : (i : ℕ) → LinkFault i ≡ NoMemory → ⊥
+    never i e = cc
 has_memory outcome end began told (inl same) e = by began (subst (IsToldAs began) (sym same ∙ e) told)
   where
     by : (began : Began) → IsToldAs began NoMemory → ⊥
@@ -207,11 +211,12 @@ has_memory outcome end began told (inl same) e = by began (subst (IsToldAs began
     by starts.Tick e = cc
     by starts.Fault e = cc
 
-outcome_means : (opening : Opening) (began : Began) (outcome end : Outcome) → IsToldAs began outcome → IsWithPorts outcome end → StartMeans opening began → OutcomeMeans opening end
+outcome_means : (opening : Opening) (began : Began) (outcome end : Outcome) → IsToldAs began outcome → IsWithFailures outcome end → StartMeans opening began → OutcomeMeans opening end
 outcome_means opening starts.Begun outcome end told ports means = by told ports
   where
-    by : (outcome ≡ Done) ⊎ (outcome ≡ MediaFault) → IsWithPorts outcome end → OutcomeMeans opening end
-    by told (inr (done, g, is)) = subst (OutcomeMeans opening) (sym is) means
+    by : (outcome ≡ Done) ⊎ (outcome ≡ MediaFault) → IsWithFailures outcome end → OutcomeMeans opening end
+    by told (inr (done, inl (g, is))) = subst (OutcomeMeans opening) (sym is) means
+    by told (inr (done, inr (i, is))) = subst (OutcomeMeans opening) (sym is) means
     by (inl done) (inl same) = subst (OutcomeMeans opening) (sym (same ∙ done)) means
     by (inr fault) (inl same) = subst (OutcomeMeans opening) (sym (same ∙ fault)) tt
 outcome_means opening starts.Place outcome end told ports means = by ports
@@ -219,24 +224,24 @@ outcome_means opening starts.Place outcome end told ports means = by ports
     never : Place ≡ Done → ⊥
     never e = cc
 
-    by : IsWithPorts outcome end → OutcomeMeans opening end
-    by (inr (done, g, is)) = absurd (never (sym told ∙ done))
+    by : IsWithFailures outcome end → OutcomeMeans opening end
+    by (inr (done, fails)) = absurd (never (sym told ∙ done))
     by (inl same) = subst (OutcomeMeans opening) (sym (same ∙ told)) means
 outcome_means opening starts.Tick outcome end told ports means = by ports
   where
     never : Tick ≡ Done → ⊥
     never e = cc
 
-    by : IsWithPorts outcome end → OutcomeMeans opening end
-    by (inr (done, g, is)) = absurd (never (sym told ∙ done))
+    by : IsWithFailures outcome end → OutcomeMeans opening end
+    by (inr (done, fails)) = absurd (never (sym told ∙ done))
     by (inl same) = subst (OutcomeMeans opening) (sym (same ∙ told)) means
 outcome_means opening starts.Fault outcome end told ports means = by ports
   where
     never : MediaFault ≡ Done → ⊥
     never e = cc
 
-    by : IsWithPorts outcome end → OutcomeMeans opening end
-    by (inr (done, g, is)) = absurd (never (sym told ∙ done))
+    by : IsWithFailures outcome end → OutcomeMeans opening end
+    by (inr (done, fails)) = absurd (never (sym told ∙ done))
     by (inl same) = subst (OutcomeMeans opening) (sym (same ∙ told)) tt
 
 -- the records of a run that was not begun, and of one that was
@@ -256,7 +261,7 @@ module _ (opening : Opening) (marks : List Mark) (rest : ℕ → Counts) (record
       by (inl on) = inr (inl (is ∙ (λ i. if on i then (recorder_after (start_of opening) (taken_in marks)).made else [])))
       by (inr idle) = inl (is ∙ (λ i. if idle i then (recorder_after (start_of opening) (taken_in marks)).made else []))
 
-  module _ (began : Began) (outcome end : Outcome) (told : IsToldAs began outcome) (ports : IsWithPorts outcome end) (whole : has_fault marks ≡ false → is_begun marks ≡ true → lost ≡ []) (run : RunOrClosed)
+  module _ (began : Began) (outcome end : Outcome) (told : IsToldAs began outcome) (ports : IsWithFailures outcome end) (whole : has_fault marks ≡ false → is_begun marks ≡ true → lost ≡ []) (run : RunOrClosed)
       (closed : outcome ≡ Done → records ≡ closed_run (start_of opening) (taken_in marks) rest) (works : outcome ≡ Done → has_fault marks ≡ false) (begun : began ≡ starts.Begun → is_begun marks ≡ true)
       (refused : (began ≡ starts.Begun → ⊥) → is_begun marks ≡ false) (idle : (began ≡ starts.Place) ⊎ (began ≡ starts.Tick) → is_started marks ≡ false) where
     abbrev Are : Outcome → Type 0
@@ -265,9 +270,10 @@ module _ (opening : Opening) (marks : List Mark) (rest : ℕ → Counts) (record
     are_closed : began ≡ starts.Begun → outcome ≡ Done → (lost ≡ []) × (records ≡ closed_run (start_of opening) (taken_in marks) rest)
     are_closed is done = (whole (works done) (begun is), closed done)
 
-    by_ports : Are outcome → (outcome ≡ Done → (g : ℕ) → Are (PortFault g)) → IsWithPorts outcome end → Are end
+    by_ports : Are outcome → (outcome ≡ Done → (g : ℕ) → Are (PortFault g)) → IsWithFailures outcome end → Are end
     by_ports are closes (inl same) = subst Are (sym same) are
-    by_ports are closes (inr (done, g, is)) = subst Are (sym is) (closes done g)
+    by_ports are closes (inr (done, inl (g, is))) = subst Are (sym is) (closes done g)
+    by_ports are closes (inr (done, inr (i, is))) = subst Are (sym is) (closes done i)
 
     are : (b : Began) → began ≡ b → IsToldAs b outcome → Are outcome
     are starts.Begun is (inl done) = subst Are (sym done) (are_closed is done)
@@ -294,10 +300,10 @@ refused_is_not_begun : (began : Began) → began ≡ starts.Begun → (began ≡
 refused_is_not_begun began is (inl e) = cc
 refused_is_not_begun began is (inr e) = cc
 
-pending_told : {W : Type 0} (outcome end : Outcome) → IsWithPorts outcome end → W ⊎ (outcome ≡ MediaFault) → W ⊎ (end ≡ MediaFault)
+pending_told : {W : Type 0} (outcome end : Outcome) → IsWithFailures outcome end → W ⊎ (outcome ≡ MediaFault) → W ⊎ (end ≡ MediaFault)
 pending_told outcome end ports (inl whole) = inl whole
 pending_told outcome end (inl same) (inr fault) = inr (same ∙ fault)
-pending_told outcome end (inr (done, g, is)) (inr fault) = absurd (never (sym done ∙ fault))
+pending_told outcome end (inr (done, fails)) (inr fault) = absurd (never (sym done ∙ fault))
   where
     never : Done ≡ MediaFault → ⊥
     never e = cc
@@ -313,18 +319,19 @@ some_rate None = refl
 some_rate (Some rate) = refl
 
 module _ {P : Type 0} (port_tells : PortTells P) {tells tells_images : Type 0} (turns capacity : ℕ) (rates : List (Option Rate)) (configured : List Bool) (queues : List (Option QueueId)) (first last : List (Option Taking))
-    (orig old new : List (Lane P)) (recording : RecordingState) (at_first : Disk tells tells_images) (sizes faults : List ℕ) (outcome : Outcome) (r : RecordingState) (disk : Disk tells tells_images) (now : List ℕ) (end : SessionEnd)
+    (orig old new : List (Lane P)) (recording : RecordingState) (at_first : Disk tells tells_images) (sizes faults : List ℕ) (beside : Began → List Mark → Type 0) (outcome : Outcome) (r : RecordingState) (disk : Disk tells tells_images) (now : List ℕ) (end : SessionEnd)
     (conf : (g : ℕ) → g < 16 → get_or configured g false ≡ is_configured (limits_in rates g)) (lengths : (length orig ≡ 16) × (length old ≡ 16) × (length new ≡ 16))
     (set : (g : ℕ) (d : Lane P) → g < 16 → IsSetUp (get_or configured g false) g capacity (get_or queues g None) (get_or first g None) (get_or orig g d) (get_or old g d))
-    (e : HasEnded port_tells turns (λ g. is_configured (limits_in rates g)) queues first last old new (record { clock = at_first.clock; now = at_first.now; since = at_first.since; reads = at_first.reads })
-    (λ opening t0. HasRecorded opening [] t0 recording at_first) sizes faults outcome r disk now)
-    (ports : IsWithPorts outcome end.outcome)
+    (e : HasEnded port_tells turns (λ g. is_configured (limits_in rates g)) queues first last old new (record { clock = at_first.clock; now = at_first.now; since = at_first.since; reads = at_first.reads; channels = recording.members.config.channels })
+    (λ opening t0. HasRecorded opening [] t0 recording at_first) sizes faults beside outcome r disk now)
+    (ports : IsWithFailures outcome end.outcome)
     (sums : (start : RunStart) (popped : List Captured) → CountsItems start popped r.maker → (g : ℕ) (d : Lane P) → g < 16 → is_some (get_or queues g None) ≡ true
     → get_or end.groups g None ≡ Some (summed start popped (get_or new g d).tally g))
     (total : end.records ≡ r.members.next_place - recording.members.next_place)
     (intakes : (g : ℕ) → g < 16 → get_or end.intakes g None ≡ paired (get_or queues g None) (get_or last g None))
     (knows : (g : ℕ) (i : QueueId × Taking) → g < 16 → get_or end.intakes g None ≡ Some i → KnowsFull i.1)
-    (admits : Admits (limits_in rates)) (rates_are : recording.members.config.groups ≡ rates) (works : recording.members.failed ≡ false) where
+    (admits : Admits (limits_in rates)) (rates_are : recording.members.config.groups ≡ rates) (works : recording.members.failed ≡ false)
+    (replied : Opening → List Event → Type 0) (replies : (told : tells) (opening : Opening) (t0 : ℕ) (h : HasRecorded opening [] t0 recording at_first) → replied opening (e.told told opening t0 h).0.events) where
   abbrev items : List Captured
   items = taken_in e.marks
 
@@ -338,7 +345,7 @@ module _ {P : Type 0} (port_tells : PortTells P) {tells tells_images : Type 0} (
       (closes : e.began ≡ starts.Begun → has_fault e.marks ≡ false → (g : ℕ) (d : Lane P) → g < 16
       → LaneGave port_tells turns g (get_or queues g None) (get_or last g None) (get_or old g d) (get_or new g d) (given g) (e.rest g) × (of_group g items ≡ popped_by (get_or last g None)) × IsDrained (get_or last g None)) where
     module _ (opening : Opening) (t0 : ℕ) (told : tells) (h : HasRecorded opening [] t0 recording at_first) where
-      run : EndsRun (record { clock = at_first.clock; now = at_first.now; since = at_first.since; reads = at_first.reads }) opening e.marks t0 e.rest outcome r disk
+      run : EndsRun (record { clock = at_first.clock; now = at_first.now; since = at_first.since; reads = at_first.reads; channels = recording.members.config.channels }) opening e.marks t0 e.rest outcome r disk
       run = (e.told told opening t0 h).0
 
       abbrev records : List Record
@@ -399,7 +406,8 @@ module _ {P : Type 0} (port_tells : PortTells P) {tells tells_images : Type 0} (
             let c = left_place opening run.events ((whole_has_not_failed run.events).1 (sym run.has.failed ∙ (e.works done.0).1)) in
             omega (arith, total, a, b, c)
 
-      pub is_told : (events : List Event) × KeepsSession opening t0 end.outcome at_first disk events × RecordsSession (start_of_opening opening) rates capacity given e.rest items lost end (recorded events)
+      pub is_told : (events : List Event) × KeepsSession opening t0 end.outcome at_first disk events × RecordsSession (start_of_opening opening) rates capacity given e.rest items lost end (recorded events) × replied opening events
+      unfolding run
       is_told = (
         run.events,
         record {
@@ -417,9 +425,10 @@ module _ {P : Type 0} (port_tells : PortTells P) {tells tells_images : Type 0} (
           total = is_total;
           full = counts_full;
         },
+        replies told opening t0 h,
       )
 
-    pub session : end.outcome ≢ NoMemory → Session port_tells turns capacity rates orig new recording at_first disk end
+    pub session : end.outcome ≢ NoMemory → SessionWith port_tells turns capacity rates orig new recording at_first disk end replied
     session memory = record {
       began = has_begun e.began;
       given = given;
@@ -449,7 +458,7 @@ module _ {P : Type 0} (port_tells : PortTells P) {tells tells_images : Type 0} (
         subst (λ (x : Lane P × Lane P). LaneGave port_tells turns g (get_or queues g None) (get_or last g None) x.0 x.1 (fed g).given (e.rest g))
         (λ i. (no_default old g lane d (let l = lengths.1 in omega (arith, l, small)) i, no_default new g lane d (let l = lengths.2 in omega (arith, l, small)) i)) ((fed g).lane small)
 
-    pub session_ran : end.outcome ≢ NoMemory → Session port_tells turns capacity rates orig new recording at_first disk end
+    pub session_ran : end.outcome ≢ NoMemory → SessionWith port_tells turns capacity rates orig new recording at_first disk end replied
     session_ran memory =
         let lost = ran.lost ++ gather (λ g. (fed g).queued) 16 in
         let whole : has_fault e.marks ≡ false → lost ≡ [] = λ none. none_lost port_tells turns queues last old new lane e.rest ran.sixteen
@@ -482,7 +491,7 @@ module _ {P : Type 0} (port_tells : PortTells P) {tells tells_images : Type 0} (
     not_begun starts.Tick ne = refl
     not_begun starts.Fault ne = refl
 
-    pub session_rested : end.outcome ≢ NoMemory → Session port_tells turns capacity rates orig new recording at_first disk end
+    pub session_rested : end.outcome ≢ NoMemory → SessionWith port_tells turns capacity rates orig new recording at_first disk end replied
     session_rested memory = session (λ _. []) []
         (subst (λ (rest : ℕ → Counts). AllFeed (items ++ []) rest (λ _. [])) (λ i g. sym (e.quiet ne g) i) (nothing_feeds items rested.none))
         (λ _ _. refl)
@@ -493,13 +502,13 @@ module _ {P : Type 0} (port_tells : PortTells P) {tells tells_images : Type 0} (
         (λ is. absurd (ne is))
         memory
 
-  pub session_of : Session port_tells turns capacity rates orig new recording at_first disk end
+  pub session_of : SessionWith port_tells turns capacity rates orig new recording at_first disk end replied
   session_of = by e.began refl
     where
       memory : end.outcome ≢ NoMemory
       memory = has_memory outcome end.outcome e.began e.told_as ports
 
-      by : (b : Began) → e.began ≡ b → Session port_tells turns capacity rates orig new recording at_first disk end
+      by : (b : Began) → e.began ≡ b → SessionWith port_tells turns capacity rates orig new recording at_first disk end replied
       by starts.Begun is = session_ran is memory
       by starts.Place is = session_rested (λ b. place_is_not (sym is ∙ b)) memory
         where
@@ -539,9 +548,9 @@ with_memory (PortFault g) ne = refl
 with_memory (LinkFault i) ne = refl
 
 pub groups_of : {P : Type 0} (tells : PortTells P) {media_tells images : Type 0} (turns capacity : ℕ) (rates : List (Option Rate)) (queues : List (Option QueueId)) (old new : List (Lane P)) (recording : RecordingState) (before after : Disk media_tells images)
-    (end : SessionEnd) → Session tells turns capacity rates old new recording before after end → end.outcome ≢ NoMemory → length new ≡ 16
+    (end : SessionEnd) (replied : Opening → List Event → Type 0) → SessionWith tells turns capacity rates old new recording before after end replied → end.outcome ≢ NoMemory → length new ≡ 16
     → ((g : ℕ) → g < 16 → is_some (get_or end.groups g None) ≡ is_some (get_or queues g None)) → ((g : ℕ) → g < 16 → is_some (get_or queues g None) ≡ is_some (get_or rates g None)) → HasGroups rates end
-groups_of tells turns capacity rates queues old new recording before after end s memory sixteen sums same =
+groups_of tells turns capacity rates queues old new recording before after end replied s memory sixteen sums same =
     let d = first_of new (omega (arith, sixteen)) in
     let there = with_memory end.outcome memory in
     record {
@@ -550,13 +559,13 @@ groups_of tells turns capacity rates queues old new recording before after end s
           ∙ ap (λ (b : Bool). b && is_some (get_or rates g None)) (sym there);
     }
 
-pub ports_memory : (outcome end : Outcome) (began : Began) → IsToldAs began outcome → IsWithPorts outcome end → end ≢ NoMemory
+pub ports_memory : (outcome end : Outcome) (began : Began) → IsToldAs began outcome → IsWithFailures outcome end → end ≢ NoMemory
 ports_memory outcome end began told ports = has_memory outcome end began told ports
 
 -- Where there was no memory, nothing was done.
 pub no_memory_session : {P : Type 0} (tells : PortTells P) {media_tells images : Type 0} (turns capacity : ℕ) (rates : List (Option Rate)) (old new : List (Lane P)) (recording : RecordingState) (disk : Disk media_tells images) (end : SessionEnd)
-    → end.outcome ≡ NoMemory → Session tells turns capacity rates old new recording disk disk end
-no_memory_session {P} tells {media_tells} {images} turns capacity rates old new recording disk end is =
+    (replied : Opening → List Event → Type 0) → end.outcome ≡ NoMemory → ((opening : Opening) → replied opening []) → SessionWith tells turns capacity rates old new recording disk disk end replied
+no_memory_session {P} tells {media_tells} {images} turns capacity rates old new recording disk end replied is replies =
     let open_ : is_closed end.outcome ≡ false = ap is_closed is in
     record {
       began = false;
@@ -584,6 +593,7 @@ no_memory_session {P} tells {media_tells} {images} turns capacity rates old new 
           total = λ closed. absurd (true≢false (sym closed ∙ open_));
           full = λ closed. absurd (true≢false (sym closed ∙ open_));
         },
+        replies opening,
       );
     }
 
@@ -602,3 +612,18 @@ admits_all c legal g rate is = go (get_or c.groups g None) (rate_at c.groups g l
       where
         same : (r : Rate) → AtMost r ≡ AtMost rate → r ≡ rate
         same r e = cc
+
+-- A session of which nothing is said of replies.
+pub session_alone : {P : Type 0} (tells : PortTells P) {media_tells images : Type 0} (turns capacity : ℕ) (rates : List (Option Rate)) (old new : List (Lane P)) (recording : RecordingState) (before after : Disk media_tells images) (end : SessionEnd)
+    (replied : Opening → List Event → Type 0) → SessionWith tells turns capacity rates old new recording before after end replied → Session tells turns capacity rates old new recording before after end
+session_alone tells turns capacity rates old new recording before after end replied s = record {
+  began = s.began;
+  given = s.given;
+  rest = s.rest;
+  items = s.items;
+  lost = s.lost;
+  feed = s.feed;
+  lanes = s.lanes;
+  runs = s.runs;
+  told = λ told opening t0 h. let x = s.told told opening t0 h in (x.0, x.1, x.2, tt);
+}

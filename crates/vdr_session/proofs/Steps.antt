@@ -37,7 +37,7 @@ use Rattle.vdr_session.specs.declared.mark.Did.{Did}
 use Rattle.vdr_session.specs.declared.mark.Did.TheVariants.{Begin, Take, Save, Release, Look}
 use Rattle.vdr_session.specs.declared.mark.Mark.{Mark}
 use Rattle.vdr_session.specs.Events.{act_of, added_records, event_of, events_of, is_started, run_records, start_of}
-use Rattle.vdr_session.specs.Marks.{IsMarkOf, begins, is_begun, is_leading, taken_by, taken_in}
+use Rattle.vdr_session.specs.Marks.{IsMarkOf, begins, has_missed, is_begun, is_leading, misses, taken_by, taken_in}
 use Rattle.vdr_session.specs.Standing.{AreFew, Before, HasSession, IsAt, IsFresh, IsKept, IsTaking, PassesSince, batch_mark, start_mark}
 use Rattle.vdr_session.proofs.Faults.{none_leads}
 use Rattle.vdr_session.proofs.Marked.{taken_more}
@@ -64,6 +64,9 @@ started_more marks m = list_any-append (λ (m : Mark). begins m.did) marks (m �
 pub begun_grows : (marks : List Mark) (m : Mark) → is_begun (marks ++ m ∷ []) ≡ (is_begun marks || (begins m.did && is_some m.moment))
 begun_grows marks m = list_any-append (λ (m : Mark). begins m.did && is_some m.moment) marks (m ∷ []) ∙ ap (λ (b : Bool). is_begun marks || b) (or_none (begins m.did && is_some m.moment))
 
+missed_more : (marks : List Mark) (m : Mark) → has_missed (marks ++ m ∷ []) ≡ (has_missed marks || misses m.did)
+missed_more marks m = list_any-append (λ (m : Mark). misses m.did) marks (m ∷ []) ∙ ap (λ (b : Bool). has_missed marks || b) (or_none (misses m.did))
+
 pub all_more : (marks : List Mark) (m : Mark) → All (λ m. m.moment ≢ None) marks → m.moment ≢ None → All (λ m. m.moment ≢ None) (marks ++ m ∷ [])
 all_more [] m all some = All-cons (λ (m : Mark). m.moment ≢ None) m [] some (All-nil (λ (m : Mark). m.moment ≢ None))
 all_more (x ∷ xs) m all some =
@@ -76,13 +79,13 @@ begun_whole (m ∷ marks) all = λ i. and_true (begins m.did) (is_some m.moment)
     || begun_whole marks (All-tail (λ (m : Mark). m.moment ≢ None) m marks all) i
 
 -- a mark that begins nothing, and one that takes nothing
-started_same : (marks : List Mark) (m : Mark) → begins m.did ≡ false → is_started (marks ++ m ∷ []) ≡ is_started marks
+pub started_same : (marks : List Mark) (m : Mark) → begins m.did ≡ false → is_started (marks ++ m ∷ []) ≡ is_started marks
 started_same marks m none = started_more marks m ∙ ap (λ (b : Bool). is_started marks || b) none ∙ or_none (is_started marks)
 
-begun_none : (marks : List Mark) (m : Mark) → (begins m.did && is_some m.moment) ≡ false → is_begun (marks ++ m ∷ []) ≡ is_begun marks
+pub begun_none : (marks : List Mark) (m : Mark) → (begins m.did && is_some m.moment) ≡ false → is_begun (marks ++ m ∷ []) ≡ is_begun marks
 begun_none marks m none = begun_grows marks m ∙ ap (λ (b : Bool). is_begun marks || b) none ∙ or_none (is_begun marks)
 
-taken_same_by : (marks : List Mark) (m : Mark) → taken_by m.did ≡ [] → taken_in (marks ++ m ∷ []) ≡ taken_in marks
+pub taken_same_by : (marks : List Mark) (m : Mark) → taken_by m.did ≡ [] → taken_in (marks ++ m ∷ []) ≡ taken_in marks
 taken_same_by marks m none = taken_more marks m ∙ ap (λ (xs : List Captured). taken_in marks ++ xs) none ∙ append-nil (taken_in marks)
 
 no_moment : (failed : Bool) (clock : ℕ) → failed ≡ true → is_some (moment_of failed clock) ≡ false
@@ -282,9 +285,9 @@ pub record StaysHome {tells tells_images : Type 0} (r : RecordingState) (old : D
 module _ {tells tells_images : Type 0} (before : Before) (began : Opening → ℕ → Type 0) (rates : List (Option Rate)) (room : ℕ) (sizes faults : List ℕ) (marks : List Mark) (r : RecordingState)
     (old : Disk tells tells_images) (was : List ℕ) (k : IsKept before began rates room sizes faults marks r old was) where
   -- with what holds at home, the rest is the stage and the history
-  kept_by : (m : Mark) (after : RecordingState) (new : Disk tells tells_images) (now : List ℕ) → StaysHome r old was after new now → IsAt (marks ++ m ∷ []) after
+  pub kept_by : (m : Mark) (after : RecordingState) (new : Disk tells tells_images) (now : List ℕ) → StaysHome r old was after new now → (misses m.did ≡ true → Rose (sum was) (sum now)) → IsAt (marks ++ m ∷ []) after
       → (tells → (opening : Opening) (t0 : ℕ) → began opening t0 → HasSession before opening (marks ++ m ∷ []) t0 after new) → IsKept before began rates room sizes faults (marks ++ m ∷ []) after new now
-  kept_by m after new now home stage told = record {
+  kept_by m after new now home fell stage told = record {
     rates_are = ap (λ (c : Configuration). c.groups) home.config ∙ k.rates_are;
     sixteen = k.sixteen;
     room_is = ap (λ (c : Configuration). c.batch / item_size) home.config ∙ k.room_is;
@@ -297,8 +300,17 @@ module _ {tells tells_images : Type 0} (before : Before) (began : Opening → �
         (λ (rose : Rose (sum was) (sum now)). rose_after (sum faults) (sum was) (sum now) (sum_not_less faults was k.later.same_media k.later.none_falls) rose)
         (home.rose fails);
     stage = stage;
+    channels_are = ap (λ (c : Configuration). c.channels) home.config ∙ k.channels_are;
+    missed = λ is. missed_by (cases_Bool (has_missed marks)) is;
     told = told;
   }
+    where
+      on_since : Rose (sum was) (sum now) → Rose (sum faults) (sum now)
+      on_since rose = rose_after (sum faults) (sum was) (sum now) (sum_not_less faults was k.later.same_media k.later.none_falls) rose
+
+      missed_by : (has_missed marks ≡ true) ⊎ (has_missed marks ≡ false) → has_missed (marks ++ m ∷ []) ≡ true → Rose (sum faults) (sum now)
+      missed_by (inl had) is = let more = sum_not_less was now home.later.same_media home.later.none_falls in let rose = k.missed had in omega (arith, more, rose)
+      missed_by (inr none) is = on_since (fell (sym (missed_more marks m ∙ ap (λ (b : Bool). b || misses m.did) none) ∙ is))
 
   home_same : StaysHome r old was r old was
   home_same = record { config = refl; rings = k.rings; sizes = refl; later = none_fell was; rose = λ fails. inl fails; elsewhere = λ told n ne ne1. refl }
@@ -308,7 +320,7 @@ module _ {tells tells_images : Type 0} (before : Before) (began : Opening → �
 
   -- a call that touched nothing
   pub look_kept : IsKept before began rates room sizes faults (marks ++ look_mark ∷ []) r old was
-  look_kept = kept_by look_mark r old was home_same
+  look_kept = kept_by look_mark r old was home_same (λ e. absurd (true≢false (sym e)))
       (record {
         open_is = λ is. let o = k.stage.open_is (sym (begun_none marks look_mark refl) ∙ is) in (
           o.0,
@@ -372,7 +384,7 @@ module _ {tells tells_images : Type 0} (before : Before) (began : Opening → �
         let none = none_started closed works in
         let idle = k.stage.idle none.1 in
         let started : is_started (marks ++ begin_mark ∷ []) ≡ true = started_more marks begin_mark ∙ ap (λ (b : Bool). b || true) none.1 in
-        kept_by begin_mark after new now home
+        kept_by begin_mark after new now home (λ e. absurd (true≢false (sym e)))
         (record {
           open_is = λ is. opened (none.0) is (cases_Bool after.members.failed);
           idle = λ is. absurd (true≢false (sym started ∙ is));
@@ -413,7 +425,7 @@ module _ {tells tells_images : Type 0} (before : Before) (began : Opening → �
           let is_begun_now : is_begun marks ≡ true = begun_whole marks (k.stage.whole works) ∙ started in
           let few = (k.stage.open_is is_begun_now).1 in
           let taken : taken_in (marks ++ take_mark ∷ []) ≡ taken_in marks ++ items = taken_more marks take_mark in
-          kept_by take_mark after new now home
+          kept_by take_mark after new now home (λ e. absurd (true≢false (sym e)))
           (record {
             open_is = λ is. (
               open_is,
@@ -461,10 +473,10 @@ module _ {tells tells_images : Type 0} (before : Before) (began : Opening → �
 
   -- before any turn
   pub first_kept : (r : RecordingState) (disk : Disk tells tells_images) (now : List ℕ) → (r.members.config.groups ≡ rates) × (r.members.config.batch / item_size ≡ room) × (length rates ≡ 16)
-      → AreRings r.members disk.sizes → (r.is_open ≡ false) × (r.members.failed ≡ false) → disk.sizes ≡ sizes → now ≡ faults
+      → r.members.config.channels ≡ before.channels → AreRings r.members disk.sizes → (r.is_open ≡ false) × (r.members.failed ≡ false) → disk.sizes ≡ sizes → now ≡ faults
       → (before.clock ≡ disk.clock) × ((i : Image) → disk.now i → before.now i) × ((t : ℕ) (i : Image) → disk.since t i → before.since t i) × (disk.reads ≡ before.reads)
       → ((opening : Opening) (t0 : ℕ) → began opening t0 → HasRecorded opening [] t0 r disk) → IsKept before began rates room sizes faults [] r disk now
-  first_kept r disk now config rings new sizes_are faults_are was has = record {
+  first_kept r disk now config channels rings new sizes_are faults_are was has = record {
     rates_are = config.0;
     sixteen = config.2;
     room_is = config.1;
@@ -473,6 +485,8 @@ module _ {tells tells_images : Type 0} (before : Before) (began : Opening → �
     elsewhere = λ told n ne ne1. ap (λ (image : Image). content image n) was.3;
     later = subst (λ (fs : List ℕ). NoneFalls fs now) faults_are (none_fell now);
     rose = λ fails. absurd (true≢false (sym fails ∙ new.1));
+    channels_are = channels;
+    missed = λ is. absurd (true≢false (sym is));
     stage = record { open_is = λ is. absurd (true≢false (sym is)); idle = λ is. (new.0, refl); whole = λ goes. All-nil (λ (m : Mark). m.moment ≢ None) };
     told = λ told opening t0 b. record {
       has = has opening t0 b;

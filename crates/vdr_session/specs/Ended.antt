@@ -1,5 +1,5 @@
 -- What a session leaves under its media, by the marks of its turns and what came after them.
-use Rattle.std.specs.Prelude.{◌≡◌, ◌⊎◌, ℕ, Bool, true, false, List, sum, Option}
+use Rattle.std.specs.Prelude.{◌≡◌, ◌⊎◌, ◌++◌, ℕ, Bool, true, false, List, sum, Option}
 use Rattle.vdr_terms.specs.declared.counts.Counts.{Counts}
 use Rattle.vdr_terms.specs.Records.{none_missed}
 use Rattle.vdr_history.specs.Histories.{Event, Opening, recorded}
@@ -20,8 +20,8 @@ use Rattle.vdr_session.specs.declared.records.Began.{Began}
 use Rattle.vdr_session.specs.declared.records.Began.TheVariants.{Begun, Place, Tick, Fault}
 use Rattle.vdr_session.specs.Closed.{HasClosed}
 use Rattle.vdr_session.specs.Feeding.{AreMissed}
-use Rattle.vdr_session.specs.Events.{run_records, start_of}
-use Rattle.vdr_session.specs.Marks.{has_fault, is_begun, taken_in}
+use Rattle.vdr_session.specs.Events.{events_of, run_records, start_of}
+use Rattle.vdr_session.specs.Marks.{has_fault, has_missed, is_begun, taken_in}
 use Rattle.vdr_session.specs.Standing.{Before, PassesSince, StartMeans}
 
 -- What a start and its end are told as. A run that was begun was closed, or the media failed.
@@ -31,14 +31,16 @@ IsToldAs Place outcome = outcome ≡ outcomes.Place
 IsToldAs Tick outcome = outcome ≡ outcomes.Tick
 IsToldAs Fault outcome = outcome ≡ outcomes.MediaFault
 
--- A failure of a port is told in place of a close.
-abbrev pub IsWithPorts : Outcome → Outcome → Type 0
-IsWithPorts outcome end = (end ≡ outcome) ⊎ ((outcome ≡ outcomes.Done) × (g : ℕ) × (end ≡ outcomes.PortFault g))
+-- A failure of a port or of a link is told in place of a close.
+abbrev pub IsWithFailures : Outcome → Outcome → Type 0
+IsWithFailures outcome end = (end ≡ outcome) ⊎ ((outcome ≡ outcomes.Done) × (((g : ℕ) × (end ≡ outcomes.PortFault g)) ⊎ ((i : ℕ) × (end ≡ outcomes.LinkFault i))))
 
 module _ {tells tells_images : Type 0} where
   -- The history that the marks tell, or that history and the close of its run.
   pub record EndsRun (before : Before) (opening : Opening) (marks : List Mark) (t0 : ℕ) (rest : ℕ → Counts) (outcome : Outcome) (r : RecordingState) (disk : Disk tells tells_images) : Type 0 where
     pub events : List Event
+    pub behind : List Event
+    pub front : events ≡ events_of opening marks ++ behind
     pub has : HasRecorded opening events t0 r disk
     pub passes : PassesSince before opening events disk
     pub pending : IsWhole events ⊎ (outcome ≡ outcomes.MediaFault)
@@ -48,9 +50,11 @@ module _ {tells tells_images : Type 0} where
 
   -- The session ended so.
   pub record HasEnded {P : Type 0} (port_tells : PortTells P) (turns : ℕ) (configured : ℕ → Bool) (queues : List (Option QueueId)) (takers_before takers_after : List (Option Taking)) (old new : List (Lane P))
-      (before : Before) (opened : Opening → ℕ → Type 0) (sizes faults : List ℕ) (outcome : Outcome) (r : RecordingState) (disk : Disk tells tells_images) (now : List ℕ) : Type 0 where
+      (before : Before) (opened : Opening → ℕ → Type 0) (sizes faults : List ℕ) (beside : Began → List Mark → Type 0) (outcome : Outcome) (r : RecordingState) (disk : Disk tells tells_images) (now : List ℕ) : Type 0 where
     pub marks : List Mark
     pub began : Began
+    pub besides : beside began marks
+    pub missed_rose : has_missed marks ≡ true → Rose (sum faults) (sum now)
     pub lanes : HasClosed port_tells turns configured queues takers_before takers_after old new began marks
     pub told_as : IsToldAs began outcome
     pub rest : ℕ → Counts

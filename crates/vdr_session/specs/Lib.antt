@@ -7,6 +7,8 @@ pub mod Ran
 pub mod Closed
 pub mod Standing
 pub mod Closing
+pub mod Answering
 pub mod Summing
 pub mod Ended
 pub mod Sessions
+pub mod Desks

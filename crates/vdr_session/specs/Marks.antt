@@ -4,7 +4,7 @@ use Rattle.std.specs.List.{list_any}
 use Rattle.vdr_history.specs.Taken.{Captured, of_group}
 use Rattle.vdr_intake.specs.Items.{IsRun}
 use Rattle.vdr_session.specs.declared.mark.Did.{Did}
-use Rattle.vdr_session.specs.declared.mark.Did.TheVariants.{Begin, Take, Save, Release, Look}
+use Rattle.vdr_session.specs.declared.mark.Did.TheVariants.{Begin, Take, Save, Release, Look, Miss}
 use Rattle.vdr_session.specs.declared.mark.Mark.{Mark}
 use Rattle.vdr_session.specs.declared.records.Began.{Began}
 use Rattle.vdr_session.specs.declared.records.Began.TheVariants.{Begun, Place, Tick, Fault}
@@ -16,6 +16,7 @@ taken_by (Take items) = items
 taken_by (Save label) = []
 taken_by (Release id) = []
 taken_by Look = []
+taken_by Miss = []
 
 abbrev pub taken_in : List Mark → List Captured
 taken_in marks = flat_map (λ m. taken_by m.did) marks
@@ -27,6 +28,7 @@ leads (Take items) = true
 leads (Save label) = false
 leads (Release id) = false
 leads Look = false
+leads Miss = false
 
 abbrev pub is_leading : Mark → Bool
 is_leading m = leads m.did
@@ -37,6 +39,7 @@ begins (Take items) = false
 begins (Save label) = false
 begins (Release id) = false
 begins Look = false
+begins Miss = false
 
 -- The run was begun, and its Start stands on the media.
 abbrev pub is_begun : List Mark → Bool
@@ -45,6 +48,18 @@ is_begun marks = list_any (λ m. begins m.did && is_some m.moment) marks
 -- A call met a fault, or came after one: from then on no turn has a moment.
 abbrev pub has_fault : List Mark → Bool
 has_fault marks = list_any (λ m. not (is_some m.moment)) marks
+
+abbrev pub misses : Did → Bool
+misses Begin = false
+misses (Take items) = false
+misses (Save label) = false
+misses (Release id) = false
+misses Look = false
+misses Miss = true
+
+-- A call on the media failed in a turn that changed nothing.
+abbrev pub has_missed : List Mark → Bool
+has_missed marks = list_any (λ m. misses m.did) marks
 
 -- Further items may be taken in a run in which these were: no more than a batch has room for, of configured groups, each behind those of
 -- its group.

@@ -135,9 +135,9 @@ pub record RecordsSession (start : RunStart) (rates : List (Option Rate)) (capac
   pub total : is_closed end.outcome ≡ true → end.records ≡ length records
   pub full : is_closed end.outcome ≡ true → CountsFull capacity given rest records end.intakes
 
--- A session over these lanes, with a recorder over these media.
-pub record Session {P : Type 0} (port_tells : PortTells P) {tells tells_images : Type 0} (turns capacity : ℕ) (rates : List (Option Rate)) (old new : List (Lane P))
-    (recording : RecordingState) (before after : Disk tells tells_images) (end : SessionEnd) : Type 0 where
+-- A session over these lanes, with a recorder over these media, in whose history this holds of what was replied.
+pub record SessionWith {P : Type 0} (port_tells : PortTells P) {tells tells_images : Type 0} (turns capacity : ℕ) (rates : List (Option Rate)) (old new : List (Lane P))
+    (recording : RecordingState) (before after : Disk tells tells_images) (end : SessionEnd) (replied : Opening → List Event → Type 0) : Type 0 where
   pub began : Bool
   pub given : ℕ → List Item
   pub rest : ℕ → Counts
@@ -148,7 +148,12 @@ pub record Session {P : Type 0} (port_tells : PortTells P) {tells tells_images :
       → LaneTold port_tells turns capacity began g (get_or rates g None) (get_or end.intakes g None) (get_or old g d).port (get_or new g d) (given g) (rest g)
   pub runs : is_closed end.outcome ≡ true → began ≡ true
   pub told : tells → (opening : Opening) (t0 : ℕ) → HasRecorded opening [] t0 recording before
-      → (events : List Event) × KeepsSession opening t0 end.outcome before after events × RecordsSession (start_of_opening opening) rates capacity given rest items lost end (recorded events)
+      → (events : List Event) × KeepsSession opening t0 end.outcome before after events × RecordsSession (start_of_opening opening) rates capacity given rest items lost end (recorded events) × replied opening events
+
+-- A session without desks.
+abbrev pub Session : {P : Type 0} (port_tells : PortTells P) {tells tells_images : Type 0} (turns capacity : ℕ) (rates : List (Option Rate)) (old new : List (Lane P))
+    (recording : RecordingState) (before after : Disk tells tells_images) (end : SessionEnd) → Type 0
+Session port_tells turns capacity rates old new recording before after end = SessionWith port_tells turns capacity rates old new recording before after end (λ opening events. ⊤)
 
 -- There are sums and queues of the configured groups, unless there was no memory for them.
 abbrev pub has_groups : Outcome → Bool

@@ -5,6 +5,7 @@ use Rattle.vdr_history.specs.Histories.{Event, Opening, recorded}
 use Rattle.vdr_history.specs.RunStates.{next_start, state_left}
 use Rattle.vdr_history.specs.Runs.{base_after}
 use Rattle.vdr_terms.specs.declared.rate.Rate.{Rate}
+use Rattle.vdr_config.specs.Configuration.{Selector}
 use Rattle.vdr_pace.specs.Commits.{item_size}
 use Rattle.vdr_durability.specs.Keeping.{ShowsPrefix, moment_of}
 use Rattle.vdr_history.specs.Taken.{Captured}
@@ -20,7 +21,7 @@ use Rattle.vdr_session.specs.declared.mark.Did.TheVariants.{Begin, Take, Look}
 use Rattle.vdr_session.specs.declared.records.Began.{Began}
 use Rattle.vdr_session.specs.declared.records.Began.TheVariants.{Begun, Place, Tick, Fault}
 use Rattle.vdr_session.specs.Events.{events_of, is_started, run_records, start_of}
-use Rattle.vdr_session.specs.Marks.{is_begun, taken_in}
+use Rattle.vdr_session.specs.Marks.{has_missed, is_begun, taken_in}
 
 -- The places and numbers of the run stay small: an item takes two places at most, and its numbers.
 pub record AreFew (marks : List Mark) (r : RecordingState) : Type 0 where
@@ -39,6 +40,7 @@ pub record Before : Type 1 where
   pub now : Image → Type 0
   pub since : ℕ → Image → Type 0
   pub reads : Image  -- what the media read as, where that is told
+  pub channels : List Selector  -- of the configuration
 
 -- A run may begin: its first place and its base are below 2^62.
 pub record MayBegin (opening : Opening) : Type 0 where
@@ -79,6 +81,8 @@ module _ {tells tells_images : Type 0} where
     pub later : NoneFalls faults now
     pub rose : r.members.failed ≡ true → Rose (sum faults) (sum now)
     pub stage : IsAt marks r
+    pub channels_are : r.members.config.channels ≡ before.channels
+    pub missed : has_missed marks ≡ true → Rose (sum faults) (sum now)
     pub told : tells → (opening : Opening) (t0 : ℕ) → began opening t0 → HasSession before opening marks t0 r disk
 
   -- A run is open in which these items were taken, and its numbers are small.

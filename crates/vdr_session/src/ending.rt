@@ -1,5 +1,5 @@
 // A session on media that were lent to it, with the close of its run.
-ghost use Rattle.std.specs.Prelude.{◌≡◌, ◌≤◌, ◌<◌, ◌/◌, ℕ, [], true, false, length, vec_capacity, get_or, slice_index_or, None, IfSome};
+ghost use Rattle.std.specs.Prelude.{◌≡◌, ◌≤◌, ◌<◌, ◌/◌, ◌^◌, ℕ, [], true, false, length, vec_capacity, get_or, slice_index_or, None, IfSome};
 ghost use Rattle.vdr_terms.specs.Rates.{is_configured};
 ghost use Rattle.vdr_config.specs.Sizes.{limits_in};
 ghost use Rattle.vdr_history.specs.Histories.{Opening};
@@ -9,19 +9,23 @@ ghost use Rattle.vdr_recorder.specs.Recordings.{HasRecorded};
 ghost use Rattle.vdr_outside.specs.Disk.{Image};
 ghost use Rattle.vdr_intake.specs.Items.{most_items};
 ghost use Rattle.vdr_session.specs.declared.records.Began.TheVariants as starts;
+ghost use Rattle.vdr_session.specs.Answering.{AnswersMark};
+ghost use Rattle.vdr_session.specs.Closed.{DesksRan};
 ghost use Rattle.vdr_session.specs.Ended.{HasEnded, IsToldAs};
 ghost use Rattle.vdr_session.specs.Ran.{LaneIsReady};
 
 use crate::kept::Lent;
 use crate::lent::{Recorded, record_lent};
 use crate::making::Memory;
+use crate::mark::Mark;
 use crate::records::Began;
 use crate::summing::rest_of;
 use std::alloc::Global;
 use std::sync::Wait;
 use std::thread::Threads;
 use vdr_capture::{Lane, Outcome};
-use vdr_outside::{Media, Port};
+use vdr_desk::Desk;
+use vdr_outside::{Link, Media, Port};
 use vdr_recorder::Recording;
 
 /// The recorder after a session, and how the session ended, but for its ports.
@@ -49,6 +53,7 @@ pub(crate) fn run_lent<
     'a,
     M: Media + Send,
     P: Port + Send,
+    L: Link + Send,
     O: Lent + Send + Sync,
     R: Threads + Wait + Sync,
 >(
@@ -57,6 +62,7 @@ pub(crate) fn run_lent<
     recording: Recording,
     media: &'a mut M,
     lanes: &mut [Lane<P>],
+    desks: &mut [Desk<L, Mark>],
     turns: u64,
     memory: &mut Memory,
     room: usize,
@@ -65,27 +71,30 @@ pub(crate) fn run_lent<
     requires began { (opening : Opening) (t0 : ℕ) → O.began opening t0 → HasRecorded opening [] t0 recording (M.disk media.old) }
     requires before { (O.clock ≡ (M.disk media.old).clock) × ((i : Image) → (M.disk media.old).now i → O.now i) × ((t : ℕ) (i : Image) → (M.disk media.old).since t i → O.since t i) × ((M.disk media.old).reads ≡ O.reads) }
     requires config { (recording.members.config.groups ≡ O.rates) × (recording.members.config.batch / item_size ≡ O.room) × (length O.rates ≡ 16) }
+    requires channels { recording.members.config.channels ≡ O.channels }
     requires rings { AreRings recording.members (M.disk media.old).sizes }
     requires new { (recording.is_open ≡ false) × (recording.members.failed ≡ false) }
     requires sizes { (M.disk media.old).sizes ≡ O.sizes }
     requires faults { M.faults media.old ≡ O.faults }
     requires turns { turns ≤ most_items }
+    requires desks { length desks.old < 2 ^ 32 }
     requires sixteen { length lanes.old ≡ 16 }
     requires ready { (g : ℕ) (d : _) → g < 16 → LaneIsReady (λ g. is_configured (limits_in O.rates g)) g (get_or memory.old.queues g None) (get_or memory.old.takers g None) (slice_index_or lanes.old g d) }
     requires room { (0 < room) × (room ≤ O.room) × (room ≤ vec_capacity memory.old.batch.items) }
     requires empty { memory.old.batch.items.items ≡ [] }
     ensures same { result.0.ghost_name ≡ media.entry.ghost_name }
     ensures ended { IfSome result.1 (λ e. HasEnded P.Port turns (λ g. is_configured (limits_in O.rates g)) memory.old.queues memory.old.takers memory.new.takers lanes.old lanes.new
-        (record { clock = O.clock; now = O.now; since = O.since; reads = O.reads }) O.began O.sizes O.faults e.outcome e.recording (M.disk result.0.now) (M.faults result.0.now)) }
+        (record { clock = O.clock; now = O.now; since = O.since; reads = O.reads; channels = O.channels }) O.began O.sizes O.faults (λ began marks. DesksRan L.Link (AnswersMark M.tells O.began O.channels) turns desks.old desks.new began marks) e.outcome e.recording (M.disk result.0.now) (M.faults result.0.now)) }
     ensures queues { memory.new.queues ≡ memory.old.queues }
-    ensures refused { result.1 ≡ None → (result.0.now ≡ media.entry.now) × (lanes.new ≡ lanes.old) }
+    ensures refused { result.1 ≡ None → (result.0.now ≡ media.entry.now) × (lanes.new ≡ lanes.old) × (desks.new ≡ desks.old) }
 {
-    let (media, recorded) = record_lent::<M, P, O, R>(
+    let (media, recorded) = record_lent::<M, P, L, O, R>(
         rt,
         alloc,
         recording,
         media,
         lanes,
+        desks,
         turns,
         &memory.queues,
         &mut memory.takers,

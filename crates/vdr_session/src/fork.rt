@@ -1,5 +1,6 @@
 // The captures and the recorder's loop beside each other.
 ghost use Rattle.std.specs.Prelude.{◌≡◌, ◌≤◌, ◌<◌, ◌++◌, ℕ, List, [], All, true, false, vec_capacity, slice_index_or, length};
+ghost use mathlib.Core.List.{IsPrefix};
 ghost use Rattle.vdr_history.specs.Taken.{Captured as CapturedTold};
 ghost use Rattle.vdr_intake.specs.Items.{most_items};
 ghost use Rattle.vdr_capture.specs.Lanes.{CapturesHeld, IsReadyAmong};
@@ -59,6 +60,7 @@ pub(crate) fn capture_and_record<T: Records + Send, P: Port + Send, R: Threads +
     requires empty { batch.old.items.items ≡ [] }
     ensures captured { (i : ℕ) (d : _) → i < length lanes.old → CapturesHeld P.Port turns (slice_index_or lanes.old i d) (slice_index_or lanes.new i d) }
     ensures pass { (pass.new.latch ≡ pass.old.latch) × (pass.new.parts ≡ pass.old.parts) × (pass.new.leads ≡ true) × (is_begun pass.new.own ≡ true) }
+    ensures seen { IsPrefix pass.old.seen pass.new.seen }
     ensures met { AreMet T.configured queues.now takers.new }
     ensures popped { (lost : List CapturedTold) × ArePopped (taken_in pass.new.own ++ lost) takers.new × (result ≡ true → lost ≡ []) }
     ensures fails { result ≡ false → has_fault pass.new.seen ≡ true }
@@ -85,6 +87,7 @@ pub(crate) fn capture_and_record<T: Records + Send, P: Port + Send, R: Threads +
             requires room { (0 < room) × (room ≤ T.room) × (room ≤ vec_capacity batch.now.items) }
             requires empty { batch.now.items.items ≡ [] }
             ensures pass { (pass.exit.now.latch ≡ pass.entry.now.latch) × (pass.exit.now.parts ≡ pass.entry.now.parts) × (pass.exit.now.leads ≡ true) × (is_begun pass.exit.now.own ≡ true) }
+            ensures seen { IsPrefix pass.entry.now.seen pass.exit.now.seen }
             ensures met { AreMet T.configured queues.entry.now takers.exit.now }
             ensures popped { (lost : List CapturedTold) × ArePopped (taken_in pass.exit.now.own ++ lost) takers.exit.now × (result ≡ true → lost ≡ []) }
             ensures fails { result ≡ false → has_fault pass.exit.now.seen ≡ true }

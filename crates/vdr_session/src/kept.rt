@@ -14,6 +14,7 @@ pub(crate) trait Lent {
     ghost use Rattle.std.specs.Prelude.{Option};
     ghost use Rattle.vdr_history.specs.Histories.{Opening};
     ghost use Rattle.vdr_outside.specs.Disk.{Image};
+    ghost use Rattle.vdr_config.specs.Configuration.{Selector};
 
     /// The reference to the media.
     ghost name: { ℕ };
@@ -30,6 +31,9 @@ pub(crate) trait Lent {
 
     /// What the media read as then, where that is told.
     ghost reads: { Image };
+
+    /// The configured channels.
+    ghost channels: { List Selector };
 
     /// The rates of the configured groups, and how many items a batch may have.
     ghost rates: { List (Option Rate) };
@@ -57,6 +61,8 @@ impl Lent for Brand {
 
     ghost reads = { [] };
 
+    ghost channels = { [] };
+
     ghost rates = { [] };
 
     ghost room = { 0 };
@@ -81,7 +87,7 @@ impl<'a, M: Media, O: Lent> Stepped for Kept<'a, M, O> {
 
     type Event = Mark;
 
-    ghost leaves = { λ marks k. IsKept (record { clock = O.clock; now = O.now; since = O.since; reads = O.reads }) O.began O.rates O.room O.sizes O.faults marks k.recording (M.disk k.media.now) (M.faults k.media.now) × (k.media.ghost_name ≡ O.name) };
+    ghost leaves = { λ marks k. IsKept (record { clock = O.clock; now = O.now; since = O.since; reads = O.reads; channels = O.channels }) O.began O.rates O.room O.sizes O.faults marks k.recording (M.disk k.media.now) (M.faults k.media.now) × (k.media.ghost_name ≡ O.name) };
 
     ghost leading = { is_leading };
 }

@@ -1,5 +1,5 @@
 // A session on media that were lent to it, from the making of the latch to its close.
-ghost use Rattle.std.specs.Prelude.{◌≡◌, ◌≤◌, ◌<◌, ◌/◌, ℕ, List, [], true, false, length, vec_capacity, get_or, slice_index_or, None, IfSome};
+ghost use Rattle.std.specs.Prelude.{◌≡◌, ◌≤◌, ◌<◌, ◌/◌, ◌^◌, ℕ, List, [], true, false, length, vec_capacity, get_or, slice_index_or, None, IfSome};
 ghost use Rattle.vdr_terms.specs.Rates.{is_configured};
 ghost use Rattle.vdr_config.specs.Sizes.{limits_in};
 ghost use Rattle.vdr_history.specs.Histories.{Opening};
@@ -9,12 +9,14 @@ ghost use Rattle.vdr_recorder.specs.Recordings.{HasRecorded};
 ghost use Rattle.vdr_outside.specs.Disk.{Image};
 ghost use Rattle.vdr_intake.specs.Items.{most_items};
 ghost use Rattle.vdr_session.specs.declared.mark.Mark.{Mark as Marked};
-ghost use Rattle.vdr_session.specs.Closed.{HasClosed};
+ghost use Rattle.vdr_session.specs.Answering.{AnswersMark};
+ghost use Rattle.vdr_session.specs.Closed.{DesksRan, HasClosed};
 ghost use Rattle.vdr_session.specs.Ran.{LaneIsReady};
 ghost use Rattle.vdr_session.specs.Standing.{IsKept, StartMeans};
 
 use crate::batch::Batch;
 use crate::kept::{Kept, Lent};
+use crate::mark::Mark;
 use crate::records::Began;
 use crate::under_latch::{Closed, under_latch};
 use std::alloc::Global;
@@ -22,8 +24,9 @@ use std::marker::PhantomData;
 use std::sync::Wait;
 use std::thread::Threads;
 use vdr_capture::Lane;
+use vdr_desk::Desk;
 use vdr_intake::{Intake, Taker};
-use vdr_outside::{Media, Port};
+use vdr_outside::{Link, Media, Port};
 use vdr_recorder::Recording;
 
 /// The recorder after a session, and how its run began.
@@ -38,6 +41,7 @@ pub(crate) fn record_lent<
     'a,
     M: Media + Send,
     P: Port + Send,
+    L: Link + Send,
     O: Lent + Send + Sync,
     R: Threads + Wait + Sync,
 >(
@@ -46,6 +50,7 @@ pub(crate) fn record_lent<
     recording: Recording,
     media: &'a mut M,
     lanes: &mut [Lane<P>],
+    desks: &mut [Desk<L, Mark>],
     turns: u64,
     queues: &[Option<Intake>; 16],
     takers: &mut [Option<Taker>; 16],
@@ -56,28 +61,33 @@ pub(crate) fn record_lent<
     requires began { (opening : Opening) (t0 : ℕ) → O.began opening t0 → HasRecorded opening [] t0 recording (M.disk media.old) }
     requires before { (O.clock ≡ (M.disk media.old).clock) × ((i : Image) → (M.disk media.old).now i → O.now i) × ((t : ℕ) (i : Image) → (M.disk media.old).since t i → O.since t i) × ((M.disk media.old).reads ≡ O.reads) }
     requires config { (recording.members.config.groups ≡ O.rates) × (recording.members.config.batch / item_size ≡ O.room) × (length O.rates ≡ 16) }
+    requires channels { recording.members.config.channels ≡ O.channels }
     requires rings { AreRings recording.members (M.disk media.old).sizes }
     requires new { (recording.is_open ≡ false) × (recording.members.failed ≡ false) }
     requires sizes { (M.disk media.old).sizes ≡ O.sizes }
     requires faults { M.faults media.old ≡ O.faults }
     requires turns { turns ≤ most_items }
+    requires desks { length desks.old < 2 ^ 32 }
     requires sixteen { length lanes.old ≡ 16 }
     requires ready { (g : ℕ) (d : _) → g < 16 → LaneIsReady (λ g. is_configured (limits_in O.rates g)) g (get_or queues.now g None) (get_or takers.old g None) (slice_index_or lanes.old g d) }
     requires room { (0 < room) × (room ≤ O.room) × (room ≤ vec_capacity batch.old.items) }
     requires empty { batch.old.items.items ≡ [] }
     ensures same { result.0.ghost_name ≡ media.entry.ghost_name }
     ensures closed { IfSome result.1 (λ r. (marks : List Marked)
-        × IsKept (record { clock = O.clock; now = O.now; since = O.since; reads = O.reads }) O.began O.rates O.room O.sizes O.faults marks r.recording (M.disk result.0.now) (M.faults result.0.now)
+        × IsKept (record { clock = O.clock; now = O.now; since = O.since; reads = O.reads; channels = O.channels }) O.began O.rates O.room O.sizes O.faults marks r.recording (M.disk result.0.now) (M.faults result.0.now)
         × HasClosed P.Port turns (λ g. is_configured (limits_in O.rates g)) queues.now takers.old takers.new lanes.old lanes.new r.began marks
+        × DesksRan L.Link (AnswersMark M.tells O.began O.channels) turns desks.old desks.new r.began marks
         × (M.tells → (opening : Opening) (t0 : ℕ) → O.began opening t0 → StartMeans opening r.began)) }
-    ensures refused { result.1 ≡ None → (result.0.now ≡ media.entry.now) × (lanes.new ≡ lanes.old) × (takers.new ≡ takers.old) }
+    ensures refused { result.1 ≡ None → (result.0.now ≡ media.entry.now) × (lanes.new ≡ lanes.old) × (desks.new ≡ desks.old) × (takers.new ≡ takers.old) }
 {
     let kept = Kept::<M, O> {
         recording,
         media,
         of: PhantomData,
     };
-    match under_latch(rt, alloc, kept, lanes, turns, queues, takers, batch, room) {
+    match under_latch(
+        rt, alloc, kept, lanes, desks, turns, queues, takers, batch, room,
+    ) {
         Ok(Closed { value, began }) => {
             let Kept {
                 recording,

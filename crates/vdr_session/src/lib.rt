@@ -1,6 +1,8 @@
-//! A recording session: captures beside each other, the recorder's loop, and one latch round the recorder.
+//! A recording session: captures beside each other, the recorder's loop, desks at which orders are answered, and one latch round the recorder.
 #![tactic(auto)]
 
+mod answering;
+mod attending;
 mod batch;
 mod done;
 mod ending;
@@ -12,6 +14,7 @@ mod making;
 mod mark;
 mod plan;
 mod popping;
+mod ports_alone;
 mod recording;
 mod recording_loop;
 mod records;
@@ -21,7 +24,9 @@ mod summing;
 mod under_latch;
 
 pub use mark::{Did, Mark};
-pub use recording::record;
+pub use ports_alone::record;
+pub use recording::record_at_desks;
 pub use records::Began;
 pub use session::SessionEnd;
 pub use vdr_capture::{GroupSums, Outcome};
+pub use vdr_desk::Desk;

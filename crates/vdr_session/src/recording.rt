@@ -1,16 +1,19 @@
-// A recording session over ports.
-ghost use Rattle.std.specs.Prelude.{◌≡◌, ◌≤◌, ◌<◌, ℕ, None, false, length, replicate, slice_index_or};
+// A recording session over ports, with desks.
+ghost use Rattle.std.specs.Prelude.{◌≡◌, ◌≤◌, ◌<◌, ◌^◌, ℕ, None, false, length, replicate, slice_index_or, sum};
 ghost use Rattle.vdr_intake.specs.Items.{most_items};
+ghost use Rattle.vdr_outside.specs.Causes.{Rose};
 ghost use Rattle.vdr_vault.specs.Calls.{SameElsewhere};
 ghost use Rattle.vdr_vault.specs.Vaults.{AreRings};
 ghost use Rattle.vdr_capture.specs.declared.sums.Outcome.TheVariants.{NoMemory};
 ghost use Rattle.vdr_session.specs.declared.records.Began.{Began as HowBegun};
-ghost use Rattle.vdr_session.specs.Ended.{IsToldAs, IsWithPorts};
-ghost use Rattle.vdr_session.specs.Sessions.{HasGroups, HasSessionCause, PortsTold, Session};
+ghost use Rattle.vdr_session.specs.Desks.{DesksReplied, DesksTold, FailureTold};
+ghost use Rattle.vdr_session.specs.Ended.{IsToldAs, IsWithFailures};
+ghost use Rattle.vdr_session.specs.Sessions.{HasGroups, HasSessionCause, SessionWith};
 
 use crate::SessionEnd;
 use crate::ending::{Ended, run_lent};
 use crate::making::{Memory, none};
+use crate::mark::Mark;
 use crate::plan::Plan;
 use crate::summing::{failed_port, intakes_of, sums};
 use std::alloc::Global;
@@ -18,7 +21,8 @@ use std::marker::Brand;
 use std::sync::Wait;
 use std::thread::Threads;
 use vdr_capture::{Lane, Outcome};
-use vdr_outside::{Media, Port};
+use vdr_desk::{Desk, failed_link};
+use vdr_outside::{Link, Media, Port};
 use vdr_recorder::Recording;
 
 // There was no memory, and nothing was recorded.
@@ -34,45 +38,68 @@ fn without_memory() -> SessionEnd
     }
 }
 
-// How the session ended, with its ports: a fault of the media comes before one of a port.
-fn with_ports<P>(outcome: Outcome, lanes: &[Lane<P>]) -> Outcome
+// How the session ended, with its ports and links: a fault of the media comes before one of a port, and that before one of a link.
+fn with_failures<P, L>(outcome: Outcome, lanes: &[Lane<P>], desks: &[Desk<L, Mark>]) -> Outcome
     requires sixteen { length lanes.now ≡ 16 }
-    ensures told { IsWithPorts outcome result }
-    ensures ports { (began : HowBegun) → IsToldAs began outcome → PortsTold result lanes.now }
+    requires few { length desks.now < 2 ^ 32 }
+    ensures told { IsWithFailures outcome result }
+    ensures failures { (began : HowBegun) → IsToldAs began outcome → FailureTold result lanes.now desks.now }
 {
-    match outcome {
-        Outcome::Done => match failed_port(lanes) {
-            Some(group) => Outcome::PortFault(group),
-            None => Outcome::Done,
-        },
-        _ => outcome,
+    if outcome != Outcome::Done {
+        return outcome;
+    }
+    if let Some(group) = failed_port(lanes) {
+        return Outcome::PortFault(group);
+    }
+    match failed_link(desks) {
+        Some(link) => Outcome::LinkFault(link),
+        None => Outcome::Done,
     }
 }
 
-/// Records what the ports of the lanes give, as one run, with at most `turns` takes of each port.
+// Sets all desks anew.
+fn reset<L>(desks: &mut [Desk<L, Mark>])
+    ensures each { (i : ℕ) (d : _) → i < length desks.old → slice_index_or desks.new i d ≡ record (slice_index_or desks.old i d) { pass = None; cause = None } }
+    ensures as_many { length desks.new ≡ length desks.old }
+{
+    for i in 0..desks.len() {
+        desks[i].pass = None;
+        desks[i].cause = None;
+    }
+}
+
+/// Records what the ports of the lanes give, as one run, with at most `turns` takes of each port, and has the orders of the desks answered, with
+/// at most `turns` calls of each link for a line.
 ///
-/// It takes all its memory, sets the lanes anew, and begins the run. Each lane of a configured group is captured in a thread of its own, beside the
-/// loop that takes what is queued into the run, in batches that are committed one by one. Once all captures have ended and all queues are empty
-/// the run is closed by its closing Gaps and Stop.
+/// It takes all its memory, sets lanes and desks anew, and begins the run. Each lane of a configured group is captured in a thread of its own,
+/// and each desk is served in one, beside the loop that takes what is queued into the run, in batches that are committed one by one. An
+/// order of a desk takes a turn between two batches: it is one event of the history, and its reply is a function of the history before
+/// that. A play takes memory for its page, and is answered `FAULT 9` where there is none. Once all captures and desks have ended and all
+/// queues are empty the run is closed by its closing Gaps and Stop.
 ///
 /// `NoMemory`: nothing was called. `Place`, `Tick`: the next place, or the tick of the Start, is at least 2^62, and nothing is recorded. `MediaFault`: the
-/// count of faults of a medium rose; the recording ends there, the captures go on to their ends, and what was recorded before stays.
-/// `PortFault`: the run was closed, and the port of this group failed, the least where several did.
-pub fn record<M: Media + Send, P: Port + Send, R: Threads + Wait + Sync>(
+/// count of faults of a medium rose; the recording ends there, the captures and the desks go on to their ends, and what was recorded before
+/// stays. `PortFault`: the run was closed, and the port of this group failed, the least where several did. `LinkFault`: the run was closed, no
+/// port failed, and the link of this desk did, the least where several did.
+pub fn record_at_desks<M: Media + Send, P: Port + Send, L: Link + Send, R: Threads + Wait + Sync>(
     rt: &R,
     alloc: Global,
     recording: Recording,
     media: &mut M,
     lanes: &mut [Lane<P>],
+    desks: &mut [Desk<L, Mark>],
     turns: u64,
 ) -> SessionEnd
     requires rings { AreRings recording.members (M.disk media.old).sizes }
     requires new { (recording.is_open ≡ false) × (recording.members.failed ≡ false) }
     requires lanes { length lanes.old ≡ 16 }
     requires groups { (g : ℕ) (d : _) → g < 16 → (slice_index_or lanes.old g d).group ≡ g }
+    requires desks { length desks.old < 2 ^ 32 }
     requires turns { turns ≤ most_items }
-    ensures session { Session P.Port turns recording.members.config.queue recording.members.config.groups lanes.old lanes.new recording (M.disk media.old) (M.disk media.new) result }
-    ensures ports { PortsTold result.outcome lanes.new }
+    ensures session { SessionWith P.Port turns recording.members.config.queue recording.members.config.groups lanes.old lanes.new recording (M.disk media.old) (M.disk media.new) result
+        (DesksReplied L.Link turns recording.members.config.channels (Rose (sum (M.faults media.old)) (sum (M.faults media.new))) result.outcome desks.old desks.new) }
+    ensures desks { DesksTold L.Link turns result.outcome desks.old desks.new }
+    ensures failures { FailureTold result.outcome lanes.new desks.new }
     ensures groups { HasGroups recording.members.config.groups result }
     ensures memory { result.outcome ≡ NoMemory → (media.new ≡ media.old) × ((g : ℕ) (d : _) → g < 16 → (slice_index_or lanes.new g d).port ≡ (slice_index_or lanes.old g d).port) }
     ensures others { M.tells → SameElsewhere (M.disk media.old).reads (M.disk media.new).reads }
@@ -81,15 +108,17 @@ pub fn record<M: Media + Send, P: Port + Send, R: Threads + Wait + Sync>(
 {
     let plan = Plan::new(recording.config());
     let first = recording.status().records;
+    reset(desks);
     let Ok(mut memory) = Memory::new(alloc, &plan, lanes) else {
         return without_memory();
     };
-    let (media, ended) = run_lent::<M, P, Brand, R>(
+    let (media, ended) = run_lent::<M, P, L, Brand, R>(
         rt,
         alloc,
         recording,
         media,
         lanes,
+        desks,
         turns,
         &mut memory,
         plan.room,
@@ -99,7 +128,7 @@ pub fn record<M: Media + Send, P: Port + Send, R: Threads + Wait + Sync>(
         return without_memory();
     };
     SessionEnd {
-        outcome: with_ports(outcome, lanes),
+        outcome: with_failures(outcome, lanes, desks),
         groups: sums(&recording, lanes, &memory.queues),
         records: recording.status().records.saturating_sub(first),
         intakes: intakes_of(memory.queues, memory.takers),

@@ -1,5 +1,6 @@
 // The recorder's loop.
 ghost use Rattle.std.specs.Prelude.{◌≡◌, ◌≤◌, ◌<◌, ◌++◌, ℕ, List, [], true, false, length, vec_capacity};
+ghost use mathlib.Core.List.{IsPrefix};
 ghost use Rattle.vdr_history.specs.Taken.{Captured as CapturedTold};
 ghost use Rattle.vdr_session.specs.declared.mark.Mark.{Mark as Marked};
 ghost use Rattle.vdr_session.specs.Lanes.{AreDrained, AreMet, ArePopped, StayJoined};
@@ -38,6 +39,7 @@ pub(crate) fn record_queued<T: Records, R: Wait>(
     requires room { (0 < room) × (room ≤ T.room) × (room ≤ vec_capacity batch.old.items) }
     requires empty { batch.old.items.items ≡ [] }
     ensures pass { (pass.new.latch ≡ pass.old.latch) × (pass.new.parts ≡ pass.old.parts) × (pass.new.leads ≡ true) × (is_begun pass.new.own ≡ true) }
+    ensures seen { IsPrefix pass.old.seen pass.new.seen }
     ensures met { AreMet T.configured queues.now takers.new }
     ensures popped { (lost : List CapturedTold) × ArePopped (taken_in pass.new.own ++ lost) takers.new × (result ≡ true → lost ≡ []) }
     ensures joined { StayJoined takers.old takers.new }

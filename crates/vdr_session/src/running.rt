@@ -1,5 +1,7 @@
 // What goes between the making of the latch and its close.
 ghost use Rattle.std.specs.Prelude.{◌≡◌, ◌≤◌, ◌<◌, ◌++◌, ℕ, List, [], All, true, false, vec_capacity, get_or, slice_index_or, length, None};
+ghost use mathlib.Core.List.{IsPrefix};
+ghost use Rattle.vdr_desk.specs.Desks.{HasServed};
 ghost use Rattle.vdr_history.specs.Taken.{Captured as CapturedTold};
 ghost use Rattle.vdr_intake.specs.Items.{most_items};
 ghost use Rattle.vdr_capture.specs.Lanes.{CapturesHeld, IsReadyAmong};
@@ -8,26 +10,35 @@ ghost use Rattle.vdr_session.specs.Lanes.{AreMet, AreDrained, ArePopped};
 ghost use Rattle.vdr_session.specs.Marks.{has_fault, is_begun, is_leading, taken_in};
 ghost use Rattle.vdr_session.specs.Ran.{LaneIsReady, LaneRan};
 
+use crate::attending::record_and_serve;
 use crate::batch::Batch;
 use crate::done::Done;
-use crate::fork::capture_and_record;
 use crate::joining::join_feeders;
 use crate::mark::Mark;
 use crate::recording_loop::record_queued;
 use crate::records::Records;
+use std::alloc::Global;
 use std::sync::Wait;
 use std::thread::Threads;
 use vdr_capture::Lane;
+use vdr_desk::{Answers, Desk};
 use vdr_intake::{Intake, Taker};
 use vdr_latch::{Latch, LatchPass};
-use vdr_outside::Port;
+use vdr_outside::{Link, Port};
 
-/// In a run that was begun: captures the lanes beside the recorder's loop, joins the feeders, and takes what is still queued.
-pub(crate) fn run_lanes<T: Records + Send, P: Port + Send, R: Threads + Wait + Sync>(
+/// In a run that was begun: captures the lanes beside the recorder's loop and serves the desks, joins the feeders, and takes what is still queued.
+pub(crate) fn run_lanes<
+    T: Records + Answers + Send,
+    P: Port + Send,
+    L: Link + Send,
+    R: Threads + Wait + Sync,
+>(
     rt: &R,
+    alloc: Global,
     latch: &Latch<T>,
     pass: &mut LatchPass<Mark>,
     lanes: &mut [Lane<P>],
+    desks: &mut [Desk<L, Mark>],
     turns: u64,
     queues: &[Option<Intake>; 16],
     takers: &mut [Option<Taker>; 16],
@@ -38,6 +49,7 @@ pub(crate) fn run_lanes<T: Records + Send, P: Port + Send, R: Threads + Wait + S
     requires sixteen { length lanes.old ≡ 16 }
     requires ready { (g : ℕ) (d : _) → g < 16 → LaneIsReady T.configured g (get_or queues.now g None) (get_or takers.old g None) (slice_index_or lanes.old g d) }
     requires latch { pass.old.latch ≡ latch.now }
+    requires parts { length desks.old < pass.old.parts }
     requires leads { (pass.old.leads ≡ true) × (is_begun pass.old.own ≡ true) × (taken_in pass.old.own ≡ []) }
     requires marks { (m : Marked) → T.leading m ≡ is_leading m }
     requires takes { (history : List Marked) (x : T) → T.leaves history x → is_begun history ≡ true → T.takes (taken_in history) x }
@@ -45,12 +57,17 @@ pub(crate) fn run_lanes<T: Records + Send, P: Port + Send, R: Threads + Wait + S
     requires empty { batch.old.items.items ≡ [] }
     ensures lanes { (g : ℕ) (d : _) → g < 16 → LaneRan P.Port turns g (get_or queues.now g None) (get_or takers.new g None) (slice_index_or lanes.old g d) (slice_index_or lanes.new g d) }
     ensures pass { (pass.new.latch ≡ pass.old.latch) × (pass.new.parts ≡ pass.old.parts) × (pass.new.leads ≡ true) × (is_begun pass.new.own ≡ true) }
+    ensures seen { IsPrefix pass.old.seen pass.new.seen }
+    ensures desks { (i : ℕ) (d : _) → i < length desks.old → HasServed L.Link T.answers turns 0 pass.new.seen (slice_index_or desks.old i d) (slice_index_or desks.new i d) × ((slice_index_or desks.new i d).pass ≡ None) }
+    ensures as_many { length desks.new ≡ length desks.old }
     ensures popped { (lost : List CapturedTold) × ArePopped (taken_in pass.new.own ++ lost) takers.new × (has_fault pass.new.seen ≡ false → lost ≡ []) }
     ensures drained { has_fault pass.new.seen ≡ false → AreDrained takers.new }
     ensures sixteen { length takers.new ≡ 16 }
     ensures met { AreMet T.configured queues.now takers.new }
 {
-    let works = capture_and_record(rt, latch, pass, lanes, turns, queues, takers, batch, room);
+    let works = record_and_serve(
+        rt, alloc, latch, pass, lanes, desks, turns, queues, takers, batch, room,
+    );
     join_feeders(lanes, queues, takers);
     if !works {
         return;

@@ -1,22 +1,24 @@
 // A session over a value, from the making of the latch to its close.
-ghost use Rattle.std.specs.Prelude.{◌≡◌, ◌≤◌, ◌<◌, ◌++◌, ◌∷◌, ℕ, List, [], true, false, vec_capacity, get_or, slice_index_or, length, None, IfOk, IfErr};
+ghost use Rattle.std.specs.Prelude.{◌≡◌, ◌≤◌, ◌<◌, ◌++◌, ◌∷◌, ◌^◌, ℕ, List, [], true, false, vec_capacity, get_or, slice_index_or, length, None, IfOk, IfErr};
 ghost use Rattle.std.specs.List.{filter};
 ghost use Rattle.vdr_intake.specs.Items.{most_items};
 ghost use Rattle.vdr_session.specs.declared.mark.Mark.{Mark as Marked};
 ghost use Rattle.vdr_session.specs.Marks.{is_begun, is_leading, taken_in};
 ghost use Rattle.vdr_session.specs.Ran.{LaneIsReady};
-ghost use Rattle.vdr_session.specs.Closed.{HasClosed};
+ghost use Rattle.vdr_session.specs.Closed.{DesksRan, HasClosed};
 
 use crate::batch::{Batch, Start};
+use crate::mark::Mark;
 use crate::records::{Began, Records};
 use crate::running::run_lanes;
 use std::alloc::Global;
 use std::sync::Wait;
 use std::thread::Threads;
 use vdr_capture::Lane;
+use vdr_desk::{Answers, Desk};
 use vdr_intake::{Intake, Taker};
 use vdr_latch::{Latch, NoMemory};
-use vdr_outside::Port;
+use vdr_outside::{Link, Port};
 
 /// A value after a session, and how its run began.
 #[derive(Drop)]
@@ -25,13 +27,19 @@ pub(crate) struct Closed<T> {
     pub began: Began,
 }
 
-/// Puts the value under a latch, begins the run, runs the lanes, and gives the value back. Where there is no memory for the latch the value
+/// Puts the value under a latch, begins the run, runs the lanes and the desks, and gives the value back. Where there is no memory for the latch the value
 /// comes back at once.
-pub(crate) fn under_latch<T: Records + Send, P: Port + Send, R: Threads + Wait + Sync>(
+pub(crate) fn under_latch<
+    T: Records + Answers + Send,
+    P: Port + Send,
+    L: Link + Send,
+    R: Threads + Wait + Sync,
+>(
     rt: &R,
     alloc: Global,
     value: T,
     lanes: &mut [Lane<P>],
+    desks: &mut [Desk<L, Mark>],
     turns: u64,
     queues: &[Option<Intake>; 16],
     takers: &mut [Option<Taker>; 16],
@@ -40,6 +48,7 @@ pub(crate) fn under_latch<T: Records + Send, P: Port + Send, R: Threads + Wait +
 ) -> Result<Closed<T>, NoMemory<T>>
     requires leaves { T.leaves [] value }
     requires turns { turns ≤ most_items }
+    requires desks { length desks.old < 2 ^ 32 }
     requires sixteen { length lanes.old ≡ 16 }
     requires ready { (g : ℕ) (d : _) → g < 16 → LaneIsReady T.configured g (get_or queues.now g None) (get_or takers.old g None) (slice_index_or lanes.old g d) }
     requires marks { (m : Marked) → T.leading m ≡ is_leading m }
@@ -47,8 +56,8 @@ pub(crate) fn under_latch<T: Records + Send, P: Port + Send, R: Threads + Wait +
     requires takes { (history : List Marked) (x : T) → T.leaves history x → is_begun history ≡ true → T.takes (taken_in history) x }
     requires room { (0 < room) × (room ≤ T.room) × (room ≤ vec_capacity batch.old.items) }
     requires empty { batch.old.items.items ≡ [] }
-    ensures closed { IfOk result (λ r. (marks : List Marked) × T.leaves marks r.value × HasClosed P.Port turns T.configured queues.now takers.old takers.new lanes.old lanes.new r.began marks × T.means r.began) }
-    ensures refused { IfErr result (λ r. (r.value ≡ value) × (lanes.new ≡ lanes.old) × (takers.new ≡ takers.old)) }
+    ensures closed { IfOk result (λ r. (marks : List Marked) × T.leaves marks r.value × HasClosed P.Port turns T.configured queues.now takers.old takers.new lanes.old lanes.new r.began marks × DesksRan L.Link T.answers turns desks.old desks.new r.began marks × T.means r.began) }
+    ensures refused { IfErr result (λ r. (r.value ≡ value) × (lanes.new ≡ lanes.old) × (takers.new ≡ takers.old) × (desks.new ≡ desks.old)) }
 {
     let (latch, mut pass) = Latch::new(alloc, value)?;
     let mut start = Start {
@@ -57,7 +66,7 @@ pub(crate) fn under_latch<T: Records + Send, P: Port + Send, R: Threads + Wait +
     latch.turn::<Start, R>(rt, &mut pass, &mut start);
     match start.began {
         Began::Begun => run_lanes(
-            rt, &latch, &mut pass, lanes, turns, queues, takers, batch, room,
+            rt, alloc, &latch, &mut pass, lanes, desks, turns, queues, takers, batch, room,
         ),
         _ => {}
     }

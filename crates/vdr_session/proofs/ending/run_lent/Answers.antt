@@ -5,6 +5,13 @@ use Rattle.vdr_config.specs.Sizes.{limits_in}
 use Rattle.vdr_capture.specs.declared.sums.Outcome.{Outcome}
 use Rattle.vdr_recorder.specs.Making.{rest_of}
 use Rattle.vdr_session.specs.declared.records.Began.TheVariants as starts
+use Rattle.vdr_outside.specs.declared.link.Link.{Ghosts as LinkTells}
+use Rattle.vdr_control.specs.Orders.{PlainOrder}
+use Rattle.vdr_desk.specs.declared.desk.Desk.{Desk}
+use Rattle.vdr_session.specs.declared.mark.Mark.{Mark}
+use Rattle.vdr_session.specs.declared.records.Began.{Began}
+use Rattle.vdr_session.specs.Answering.{AnswersMark}
+use Rattle.vdr_session.specs.Closed.{DesksRan}
 use Rattle.vdr_session.specs.Ended.{HasEnded, IsToldAs}
 use Rattle.vdr_session.proofs.Ends.{done_ends, fault_ends, not_begun_ends, stop_numbers, stop_place, stop_quiet}
 use Rattle.vdr_session.proofs.ending.run_lent.Goals as goal
@@ -13,14 +20,17 @@ use Rattle.vdr_session.proofs.ending.run_lent.Goals.{in-Ok, in-Err}
 if_some : {T : Type 0} (P : T → Type 0) (o : Option T) (x : T) → o ≡ Some x → IfSome o P → P x
 if_some {T} P o x is h = subst (λ (o : Option T). IfSome o P) is h
 
+abbrev beside_of : {L : Type 0} (tells : LinkTells L) (answers : List Mark → Mark → PlainOrder → List ℕ → Type 0) (turns : ℕ) (old new : List (Desk L Mark)) → Began → List Mark → Type 0
+beside_of tells answers turns old new began marks = DesksRan tells answers turns old new began marks
+
 pub returns-in_default-began : goal.returns-in_default-began
 returns-in_default-began g c =
     let p = if_some _ c.record_lent-media.result.1 c.in-Some.field-0 c.in-Some.is c.record_lent-media.ensures.closed in
     record {
       same = c.record_lent-media.ensures.same;
       ended = not_begun_ends g.P.Port c.args.turns c.args.memory.now.queues c.args.memory.now.takers c.record_lent-media.new.takers c.args.lanes.now c.record_lent-media.new.lanes
-          (record { clock = g.O.Lent.clock; now = g.O.Lent.now; since = g.O.Lent.since; reads = g.O.Lent.reads }) g.O.Lent.began g.O.Lent.rates g.O.Lent.room g.O.Lent.sizes g.O.Lent.faults p.0 c.in-Some.field-0.began c.in-Some.field-0.recording
-          (g.M.Media.disk c.record_lent-media.result.0.now) (g.M.Media.faults c.record_lent-media.result.0.now) p.1 p.2 p.3
+          (record { clock = g.O.Lent.clock; now = g.O.Lent.now; since = g.O.Lent.since; reads = g.O.Lent.reads; channels = g.O.Lent.channels }) g.O.Lent.began g.O.Lent.rates g.O.Lent.room g.O.Lent.sizes g.O.Lent.faults p.0 c.in-Some.field-0.began c.in-Some.field-0.recording
+          (g.M.Media.disk c.record_lent-media.result.0.now) (g.M.Media.faults c.record_lent-media.result.0.now) p.1 p.2 p.4 (beside_of g.L.Link (AnswersMark g.M.Media.tells g.O.Lent.began g.O.Lent.channels) c.args.turns c.args.desks.now c.record_lent-media.new.desks) p.3
           c.refused-outcome.result c.in_default-began.not-Begun c.refused-outcome.ensures;
       queues = refl;
       refused = λ e. absurd (never e);
@@ -35,8 +45,8 @@ stop-requires-clause-quiet g c =
     let is : c.in-Some.field-0.began ≡ starts.Begun = c.in-Begun.is in
     let sixteen : length c.record_lent-media.new.lanes ≡ 16 = search rules in
     stop_quiet g.P.Port c.args.turns c.args.memory.now.queues c.args.memory.now.takers c.record_lent-media.new.takers c.args.lanes.now c.record_lent-media.new.lanes
-    (record { clock = g.O.Lent.clock; now = g.O.Lent.now; since = g.O.Lent.since; reads = g.O.Lent.reads }) g.O.Lent.began g.O.Lent.rates g.O.Lent.room g.O.Lent.sizes g.O.Lent.faults p.0 c.in-Some.field-0.began c.in-Some.field-0.recording
-    (g.M.Media.disk c.record_lent-media.result.0.now) (g.M.Media.faults c.record_lent-media.result.0.now) p.1 p.2 p.3 is (rest_of c.rest_of.result) c.rest_of.ensures sixteen c.requires.turns
+    (record { clock = g.O.Lent.clock; now = g.O.Lent.now; since = g.O.Lent.since; reads = g.O.Lent.reads; channels = g.O.Lent.channels }) g.O.Lent.began g.O.Lent.rates g.O.Lent.room g.O.Lent.sizes g.O.Lent.faults p.0 c.in-Some.field-0.began c.in-Some.field-0.recording
+    (g.M.Media.disk c.record_lent-media.result.0.now) (g.M.Media.faults c.record_lent-media.result.0.now) p.1 p.2 p.4 (beside_of g.L.Link (AnswersMark g.M.Media.tells g.O.Lent.began g.O.Lent.channels) c.args.turns c.args.desks.now c.record_lent-media.new.desks) p.3 is (rest_of c.rest_of.result) c.rest_of.ensures sixteen c.requires.turns
 
 pub stop-requires-clause-place : goal.stop-requires-clause-place
 stop-requires-clause-place g c =
@@ -44,8 +54,8 @@ stop-requires-clause-place g c =
     let is : c.in-Some.field-0.began ≡ starts.Begun = c.in-Begun.is in
     let sixteen : length c.record_lent-media.new.lanes ≡ 16 = search rules in
     stop_place g.P.Port c.args.turns c.args.memory.now.queues c.args.memory.now.takers c.record_lent-media.new.takers c.args.lanes.now c.record_lent-media.new.lanes
-    (record { clock = g.O.Lent.clock; now = g.O.Lent.now; since = g.O.Lent.since; reads = g.O.Lent.reads }) g.O.Lent.began g.O.Lent.rates g.O.Lent.room g.O.Lent.sizes g.O.Lent.faults p.0 c.in-Some.field-0.began c.in-Some.field-0.recording
-    (g.M.Media.disk c.record_lent-media.result.0.now) (g.M.Media.faults c.record_lent-media.result.0.now) p.1 p.2 p.3 is (rest_of c.rest_of.result) c.rest_of.ensures sixteen c.requires.turns
+    (record { clock = g.O.Lent.clock; now = g.O.Lent.now; since = g.O.Lent.since; reads = g.O.Lent.reads; channels = g.O.Lent.channels }) g.O.Lent.began g.O.Lent.rates g.O.Lent.room g.O.Lent.sizes g.O.Lent.faults p.0 c.in-Some.field-0.began c.in-Some.field-0.recording
+    (g.M.Media.disk c.record_lent-media.result.0.now) (g.M.Media.faults c.record_lent-media.result.0.now) p.1 p.2 p.4 (beside_of g.L.Link (AnswersMark g.M.Media.tells g.O.Lent.began g.O.Lent.channels) c.args.turns c.args.desks.now c.record_lent-media.new.desks) p.3 is (rest_of c.rest_of.result) c.rest_of.ensures sixteen c.requires.turns
 
 pub stop-requires-clause-numbers : goal.stop-requires-clause-numbers
 stop-requires-clause-numbers g c =
@@ -53,8 +63,8 @@ stop-requires-clause-numbers g c =
     let is : c.in-Some.field-0.began ≡ starts.Begun = c.in-Begun.is in
     let sixteen : length c.record_lent-media.new.lanes ≡ 16 = search rules in
     stop_numbers g.P.Port c.args.turns c.args.memory.now.queues c.args.memory.now.takers c.record_lent-media.new.takers c.args.lanes.now c.record_lent-media.new.lanes
-    (record { clock = g.O.Lent.clock; now = g.O.Lent.now; since = g.O.Lent.since; reads = g.O.Lent.reads }) g.O.Lent.began g.O.Lent.rates g.O.Lent.room g.O.Lent.sizes g.O.Lent.faults p.0 c.in-Some.field-0.began c.in-Some.field-0.recording
-    (g.M.Media.disk c.record_lent-media.result.0.now) (g.M.Media.faults c.record_lent-media.result.0.now) p.1 p.2 p.3 is (rest_of c.rest_of.result) c.rest_of.ensures sixteen c.requires.turns
+    (record { clock = g.O.Lent.clock; now = g.O.Lent.now; since = g.O.Lent.since; reads = g.O.Lent.reads; channels = g.O.Lent.channels }) g.O.Lent.began g.O.Lent.rates g.O.Lent.room g.O.Lent.sizes g.O.Lent.faults p.0 c.in-Some.field-0.began c.in-Some.field-0.recording
+    (g.M.Media.disk c.record_lent-media.result.0.now) (g.M.Media.faults c.record_lent-media.result.0.now) p.1 p.2 p.4 (beside_of g.L.Link (AnswersMark g.M.Media.tells g.O.Lent.began g.O.Lent.channels) c.args.turns c.args.desks.now c.record_lent-media.new.desks) p.3 is (rest_of c.rest_of.result) c.rest_of.ensures sixteen c.requires.turns
 
 pub returns-clause-ended : goal.returns-clause-ended
 returns-clause-ended g c =
@@ -62,20 +72,20 @@ returns-clause-ended g c =
     let is : c.in-Some.field-0.began ≡ starts.Begun = c.in-Begun.is in
     let sixteen : length c.record_lent-media.new.lanes ≡ 16 = search rules in
     let ends : Outcome → Type 0 = λ outcome. HasEnded g.P.Port c.args.turns (λ n. is_configured (limits_in g.O.Lent.rates n)) c.args.memory.now.queues c.args.memory.now.takers c.record_lent-media.new.takers c.args.lanes.now c.record_lent-media.new.lanes
-    (record { clock = g.O.Lent.clock; now = g.O.Lent.now; since = g.O.Lent.since; reads = g.O.Lent.reads }) g.O.Lent.began g.O.Lent.sizes g.O.Lent.faults outcome c.stop.new.self (g.M.Media.disk c.stop.new.media) (g.M.Media.faults c.stop.new.media) in
+    (record { clock = g.O.Lent.clock; now = g.O.Lent.now; since = g.O.Lent.since; reads = g.O.Lent.reads; channels = g.O.Lent.channels }) g.O.Lent.began g.O.Lent.sizes g.O.Lent.faults (beside_of g.L.Link (AnswersMark g.M.Media.tells g.O.Lent.began g.O.Lent.channels) c.args.turns c.args.desks.now c.record_lent-media.new.desks) outcome c.stop.new.self (g.M.Media.disk c.stop.new.media) (g.M.Media.faults c.stop.new.media) in
     elim c.match-stop.branch [
       | in-Ok w ↦
           (let e = w.in-Ok.ensures in
           subst ends (sym w.outcome-is)
           (done_ends g.P.Port c.args.turns c.args.memory.now.queues c.args.memory.now.takers c.record_lent-media.new.takers c.args.lanes.now c.record_lent-media.new.lanes
-          (record { clock = g.O.Lent.clock; now = g.O.Lent.now; since = g.O.Lent.since; reads = g.O.Lent.reads }) g.O.Lent.began g.O.Lent.rates g.O.Lent.room g.O.Lent.sizes g.O.Lent.faults p.0 c.in-Some.field-0.began c.in-Some.field-0.recording
-          (g.M.Media.disk c.record_lent-media.result.0.now) (g.M.Media.faults c.record_lent-media.result.0.now) p.1 p.2 p.3 is (rest_of c.rest_of.result) c.rest_of.ensures sixteen c.requires.turns c.stop.new.self (g.M.Media.disk c.stop.new.media) (g.M.Media.faults c.stop.new.media) e.sizes e.others e.cause.later e.stopped e.counted
+          (record { clock = g.O.Lent.clock; now = g.O.Lent.now; since = g.O.Lent.since; reads = g.O.Lent.reads; channels = g.O.Lent.channels }) g.O.Lent.began g.O.Lent.rates g.O.Lent.room g.O.Lent.sizes g.O.Lent.faults p.0 c.in-Some.field-0.began c.in-Some.field-0.recording
+          (g.M.Media.disk c.record_lent-media.result.0.now) (g.M.Media.faults c.record_lent-media.result.0.now) p.1 p.2 p.4 (beside_of g.L.Link (AnswersMark g.M.Media.tells g.O.Lent.began g.O.Lent.channels) c.args.turns c.args.desks.now c.record_lent-media.new.desks) p.3 is (rest_of c.rest_of.result) c.rest_of.ensures sixteen c.requires.turns c.stop.new.self (g.M.Media.disk c.stop.new.media) (g.M.Media.faults c.stop.new.media) e.sizes e.others e.cause.later e.stopped e.counted
           (⊎_elim (λ (fails : c.in-Some.field-0.recording.members.failed ≡ true). absurd (true≢false (sym (e.failed fails).0))) (λ (works : c.in-Some.field-0.recording.members.failed ≡ false). works) (cases_Bool c.in-Some.field-0.recording.members.failed)) e.works))
       | in-Err w ↦
           (let e = w.in-Err.ensures in
           subst ends (sym w.outcome-is)
           (fault_ends g.P.Port c.args.turns c.args.memory.now.queues c.args.memory.now.takers c.record_lent-media.new.takers c.args.lanes.now c.record_lent-media.new.lanes
-          (record { clock = g.O.Lent.clock; now = g.O.Lent.now; since = g.O.Lent.since; reads = g.O.Lent.reads }) g.O.Lent.began g.O.Lent.rates g.O.Lent.room g.O.Lent.sizes g.O.Lent.faults p.0 c.in-Some.field-0.began c.in-Some.field-0.recording
-          (g.M.Media.disk c.record_lent-media.result.0.now) (g.M.Media.faults c.record_lent-media.result.0.now) p.1 p.2 p.3 is (rest_of c.rest_of.result) c.rest_of.ensures sixteen c.requires.turns c.stop.new.self (g.M.Media.disk c.stop.new.media) (g.M.Media.faults c.stop.new.media) e.sizes e.others e.cause.later e.stopped e.counted
+          (record { clock = g.O.Lent.clock; now = g.O.Lent.now; since = g.O.Lent.since; reads = g.O.Lent.reads; channels = g.O.Lent.channels }) g.O.Lent.began g.O.Lent.rates g.O.Lent.room g.O.Lent.sizes g.O.Lent.faults p.0 c.in-Some.field-0.began c.in-Some.field-0.recording
+          (g.M.Media.disk c.record_lent-media.result.0.now) (g.M.Media.faults c.record_lent-media.result.0.now) p.1 p.2 p.4 (beside_of g.L.Link (AnswersMark g.M.Media.tells g.O.Lent.began g.O.Lent.channels) c.args.turns c.args.desks.now c.record_lent-media.new.desks) p.3 is (rest_of c.rest_of.result) c.rest_of.ensures sixteen c.requires.turns c.stop.new.self (g.M.Media.disk c.stop.new.media) (g.M.Media.faults c.stop.new.media) e.sizes e.others e.cause.later e.stopped e.counted
           (λ fails. let q = e.failed fails in (q.1, ap g.M.Media.disk q.2)) e.cause.in_all))
     ]

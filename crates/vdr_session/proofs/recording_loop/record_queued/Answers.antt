@@ -4,6 +4,7 @@ use Rattle.vdr_session.specs.declared.mark.Mark.{Mark as Marked}
 use Rattle.vdr_session.specs.Lanes.{AreMet, ArePopped, StayJoined}
 use Rattle.vdr_session.specs.Marks.{MayTake, is_begun, taken_by, taken_in}
 use Rattle.vdr_session.proofs.Faults.{fault_last, none_is}
+use Rattle.vdr_session.proofs.Seen.{prefix_turn}
 use Rattle.vdr_session.proofs.Marked.{batch_taken, batch_whole, begun_after, begun_same, known_popped, no_items, popped_start, runs_popped, taken_same}
 use Rattle.vdr_session.proofs.recording_loop.record_queued.Goals as goal
 
@@ -25,6 +26,7 @@ loop-preserved-then-is_empty g c =
       none,
       p.sixteen,
       around c.loop.first,
+      i.8,
     )
 
 pub turn-requires-clause-asks : goal.turn-requires-clause-asks
@@ -73,6 +75,7 @@ loop-preserved g c =
       c.clear.ensures.items,
       p.sixteen,
       around c.loop.first,
+      prefix_turn c.args.pass.now.seen c.loop.pass.seen t.history _ _ i.8 t.possible.begins t.seen,
     )
 
 pub returns-then-not-batch-clause-fails : goal.returns-then-not-batch-clause-fails
@@ -80,3 +83,8 @@ returns-then-not-batch-clause-fails g c = λ _.
     let t = c.turn.ensures.event in
     let fails : c.turn.new.job.works ≡ false = search rules in
     fault_last t.history _ t.seen (none_is _ (sym fails ∙ t.related.0.told))
+
+pub returns-then-not-batch-clause-seen : goal.returns-then-not-batch-clause-seen
+returns-then-not-batch-clause-seen g c =
+    let t = c.turn.ensures.event in
+    prefix_turn c.args.pass.now.seen c.loop.pass.seen t.history _ _ c.loop.invariant.8 t.possible.begins t.seen

@@ -1,4 +1,5 @@
 use Rattle.std.proofs.Common.{◌≡◌, ◌≤◌, ◌<◌, List, [], true, vec_capacity, length}
+use mathlib.Core.List.{IsPrefix}
 use Rattle.vdr_session.specs.Lanes.{AreMet, ArePopped, StayJoined}
 use Rattle.vdr_session.specs.Marks.{is_begun, taken_in}
 use Rattle.vdr_session.proofs.recording_loop.record_queued.Given as goal
@@ -13,3 +14,4 @@ invariant-loop g l =
     × (l.batch.items.items ≡ [])
     × (length l.takers ≡ 16)
     × (l.first < 16)
+    × IsPrefix l.initial.pass.seen l.pass.seen

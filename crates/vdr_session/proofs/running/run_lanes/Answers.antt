@@ -5,34 +5,35 @@ use Rattle.vdr_session.specs.Lanes.{ArePopped, IsMet, joined_to, popped_by}
 use Rattle.vdr_session.specs.Joins.{MayJoin}
 use Rattle.vdr_session.specs.Marks.{has_fault, taken_in}
 use Rattle.vdr_session.proofs.LanesRan.{first_of, joins_joined, joins_met, joins_popped, may_join, none_popped, popped_stays, ran, ready_met, ready_popped}
+use Rattle.vdr_session.proofs.Served.{served_on}
 use Rattle.vdr_session.proofs.running.run_lanes.Goals as goal
 
-pub capture_and_record-works-requires-clause-met : goal.capture_and_record-works-requires-clause-met
-capture_and_record-works-requires-clause-met g c κs within k small =
+pub record_and_serve-works-requires-clause-met : goal.record_and_serve-works-requires-clause-met
+record_and_serve-works-requires-clause-met g c κs within k small =
     let d : Lane g.row.P.Denot = first_of c.args.lanes.now (omega (arith, c.requires.sixteen)) in
     ready_met g.T.Records.configured k (get_or c.args.queues.now k None) (get_or c.args.takers.now k None) (get_or c.args.lanes.now k d) (c.requires.ready k d small)
 
-pub capture_and_record-works-requires-clause-popped : goal.capture_and_record-works-requires-clause-popped
-capture_and_record-works-requires-clause-popped g c κs within =
+pub record_and_serve-works-requires-clause-popped : goal.record_and_serve-works-requires-clause-popped
+record_and_serve-works-requires-clause-popped g c κs within =
     let d : Lane g.row.P.Denot = first_of c.args.lanes.now (omega (arith, c.requires.sixteen)) in
     none_popped (taken_in c.args.pass.now.own) c.args.takers.now c.requires.leads.2
     (λ k small. ready_popped g.T.Records.configured k (get_or c.args.queues.now k None) (get_or c.args.takers.now k None) (get_or c.args.lanes.now k d) (c.requires.ready k d small))
 
 pub join_feeders-requires-clause-may : goal.join_feeders-requires-clause-may
 join_feeders-requires-clause-may g c k d small =
-    may_join g.T.Records.configured k g.P.Port c.args.turns (get_or c.args.queues.now k None) (get_or c.args.takers.now k None) (get_or c.capture_and_record-works.new.takers k None)
-    (get_or c.args.lanes.now k d) (get_or c.capture_and_record-works.new.lanes k d) (c.requires.ready k d small)
-    (c.capture_and_record-works.ensures.captured k d (omega (arith, c.requires.sixteen, small))) (c.capture_and_record-works.ensures.met k small)
+    may_join g.T.Records.configured k g.P.Port c.args.turns (get_or c.args.queues.now k None) (get_or c.args.takers.now k None) (get_or c.record_and_serve-works.new.takers k None)
+    (get_or c.args.lanes.now k d) (get_or c.record_and_serve-works.new.lanes k d) (c.requires.ready k d small)
+    (c.record_and_serve-works.ensures.captured k d (omega (arith, c.requires.sixteen, small))) (c.record_and_serve-works.ensures.met k small)
 
 pub returns-then-not-works-clause-lanes : goal.returns-then-not-works-clause-lanes
 returns-then-not-works-clause-lanes g c k d small =
     let configured = g.T.Records.configured in
     let queue = get_or c.args.queues.now k None in
-    let before = get_or c.capture_and_record-works.new.takers k None in
+    let before = get_or c.record_and_serve-works.new.takers k None in
     let taker = get_or c.join_feeders.new.takers k None in
-    let captured = get_or c.capture_and_record-works.new.lanes k d in
-    let held = c.capture_and_record-works.ensures.captured k d (omega (arith, c.requires.sixteen, small)) in
-    let met = c.capture_and_record-works.ensures.met k small in
+    let captured = get_or c.record_and_serve-works.new.lanes k d in
+    let held = c.record_and_serve-works.ensures.captured k d (omega (arith, c.requires.sixteen, small)) in
+    let met = c.record_and_serve-works.ensures.met k small in
     let may = may_join configured k g.P.Port c.args.turns queue (get_or c.args.takers.now k None) before (get_or c.args.lanes.now k d) captured (c.requires.ready k d small) held met in
     let joins = c.join_feeders.ensures.joined k d small in
     ran configured k g.P.Port c.args.turns queue (get_or c.args.takers.now k None) taker (get_or c.args.lanes.now k d) captured (get_or c.join_feeders.new.lanes k d) (c.requires.ready k d small) held
@@ -41,45 +42,45 @@ returns-then-not-works-clause-lanes g c k d small =
 pub returns-then-not-works-clause-popped : goal.returns-then-not-works-clause-popped
 returns-then-not-works-clause-popped g c =
     let d : Lane g.row.P.Denot = first_of c.args.lanes.now (omega (arith, c.requires.sixteen)) in
-    let popped = c.capture_and_record-works.ensures.popped in (
+    let popped = c.record_and_serve-works.ensures.popped in (
       popped.0,
-      popped_stays (taken_in c.capture_and_record-works.new.pass.own ++ popped.0) c.capture_and_record-works.new.takers c.join_feeders.new.takers
+      popped_stays (taken_in c.record_and_serve-works.new.pass.own ++ popped.0) c.record_and_serve-works.new.takers c.join_feeders.new.takers
           (λ k small.
           let queue = get_or c.args.queues.now k None in
-          let before = get_or c.capture_and_record-works.new.takers k None in
-          let captured = get_or c.capture_and_record-works.new.lanes k d in
-          let held = c.capture_and_record-works.ensures.captured k d (omega (arith, c.requires.sixteen, small)) in
-          let met = c.capture_and_record-works.ensures.met k small in
+          let before = get_or c.record_and_serve-works.new.takers k None in
+          let captured = get_or c.record_and_serve-works.new.lanes k d in
+          let held = c.record_and_serve-works.ensures.captured k d (omega (arith, c.requires.sixteen, small)) in
+          let met = c.record_and_serve-works.ensures.met k small in
           let may = may_join g.T.Records.configured k g.P.Port c.args.turns queue (get_or c.args.takers.now k None) before (get_or c.args.lanes.now k d) captured (c.requires.ready k d small) held met in
           joins_popped g.T.Records.configured k queue before (get_or c.join_feeders.new.takers k None) captured.feeder may (c.join_feeders.ensures.joined k d small)) popped.1,
-      (λ e. absurd (true≢false (sym (c.capture_and_record-works.ensures.fails (search rules)) ∙ e))),
+      (λ e. absurd (true≢false (sym (c.record_and_serve-works.ensures.fails (search rules)) ∙ e))),
     )
 
 pub record_queued-requires-clause-met : goal.record_queued-requires-clause-met
 record_queued-requires-clause-met g c k small =
     let d : Lane g.row.P.Denot = first_of c.args.lanes.now (omega (arith, c.requires.sixteen)) in
     let queue = get_or c.args.queues.now k None in
-    let before = get_or c.capture_and_record-works.new.takers k None in
-    let captured = get_or c.capture_and_record-works.new.lanes k d in
-    let held = c.capture_and_record-works.ensures.captured k d (omega (arith, c.requires.sixteen, small)) in
-    let met = c.capture_and_record-works.ensures.met k small in
+    let before = get_or c.record_and_serve-works.new.takers k None in
+    let captured = get_or c.record_and_serve-works.new.lanes k d in
+    let held = c.record_and_serve-works.ensures.captured k d (omega (arith, c.requires.sixteen, small)) in
+    let met = c.record_and_serve-works.ensures.met k small in
     let may = may_join g.T.Records.configured k g.P.Port c.args.turns queue (get_or c.args.takers.now k None) before (get_or c.args.lanes.now k d) captured (c.requires.ready k d small) held met in
     joins_met g.T.Records.configured k queue before (get_or c.join_feeders.new.takers k None) captured.feeder met may (c.join_feeders.ensures.joined k d small)
 
 pub record_queued-requires-clause-popped : goal.record_queued-requires-clause-popped
 record_queued-requires-clause-popped g c =
     let d : Lane g.row.P.Denot = first_of c.args.lanes.now (omega (arith, c.requires.sixteen)) in
-    let popped = c.capture_and_record-works.ensures.popped in
-    let works : c.capture_and_record-works.result ≡ true = search rules in
-    let all : ArePopped (taken_in c.capture_and_record-works.new.pass.own) c.capture_and_record-works.new.takers =
-    subst (λ (xs : List CapturedTold). ArePopped xs c.capture_and_record-works.new.takers) (ap (λ (xs : List CapturedTold). taken_in c.capture_and_record-works.new.pass.own ++ xs) (popped.2 works) ∙ append-nil (taken_in c.capture_and_record-works.new.pass.own)) popped.1 in
-    popped_stays (taken_in c.capture_and_record-works.new.pass.own) c.capture_and_record-works.new.takers c.join_feeders.new.takers
+    let popped = c.record_and_serve-works.ensures.popped in
+    let works : c.record_and_serve-works.result ≡ true = search rules in
+    let all : ArePopped (taken_in c.record_and_serve-works.new.pass.own) c.record_and_serve-works.new.takers =
+    subst (λ (xs : List CapturedTold). ArePopped xs c.record_and_serve-works.new.takers) (ap (λ (xs : List CapturedTold). taken_in c.record_and_serve-works.new.pass.own ++ xs) (popped.2 works) ∙ append-nil (taken_in c.record_and_serve-works.new.pass.own)) popped.1 in
+    popped_stays (taken_in c.record_and_serve-works.new.pass.own) c.record_and_serve-works.new.takers c.join_feeders.new.takers
     (λ k small.
     let queue = get_or c.args.queues.now k None in
-    let before = get_or c.capture_and_record-works.new.takers k None in
-    let captured = get_or c.capture_and_record-works.new.lanes k d in
-    let held = c.capture_and_record-works.ensures.captured k d (omega (arith, c.requires.sixteen, small)) in
-    let met = c.capture_and_record-works.ensures.met k small in
+    let before = get_or c.record_and_serve-works.new.takers k None in
+    let captured = get_or c.record_and_serve-works.new.lanes k d in
+    let held = c.record_and_serve-works.ensures.captured k d (omega (arith, c.requires.sixteen, small)) in
+    let met = c.record_and_serve-works.ensures.met k small in
     let may = may_join g.T.Records.configured k g.P.Port c.args.turns queue (get_or c.args.takers.now k None) before (get_or c.args.lanes.now k d) captured (c.requires.ready k d small) held met in
     joins_popped g.T.Records.configured k queue before (get_or c.join_feeders.new.takers k None) captured.feeder may (c.join_feeders.ensures.joined k d small)) all
 
@@ -87,11 +88,11 @@ pub returns-clause-lanes : goal.returns-clause-lanes
 returns-clause-lanes g c k d small =
     let configured = g.T.Records.configured in
     let queue = get_or c.args.queues.now k None in
-    let before = get_or c.capture_and_record-works.new.takers k None in
+    let before = get_or c.record_and_serve-works.new.takers k None in
     let joined = get_or c.join_feeders.new.takers k None in
-    let captured = get_or c.capture_and_record-works.new.lanes k d in
-    let held = c.capture_and_record-works.ensures.captured k d (omega (arith, c.requires.sixteen, small)) in
-    let met = c.capture_and_record-works.ensures.met k small in
+    let captured = get_or c.record_and_serve-works.new.lanes k d in
+    let held = c.record_and_serve-works.ensures.captured k d (omega (arith, c.requires.sixteen, small)) in
+    let met = c.record_and_serve-works.ensures.met k small in
     let may = may_join configured k g.P.Port c.args.turns queue (get_or c.args.takers.now k None) before (get_or c.args.lanes.now k d) captured (c.requires.ready k d small) held met in
     let joins = c.join_feeders.ensures.joined k d small in
     ran configured k g.P.Port c.args.turns queue (get_or c.args.takers.now k None) (get_or c.record_queued.new.takers k None) (get_or c.args.lanes.now k d) captured (get_or c.join_feeders.new.lanes k d) (c.requires.ready k d small) held
@@ -116,9 +117,16 @@ pub returns-then-not-works-clause-met : goal.returns-then-not-works-clause-met
 returns-then-not-works-clause-met g c k small =
     let d : Lane g.row.P.Denot = first_of c.args.lanes.now (omega (arith, c.requires.sixteen)) in
     let queue = get_or c.args.queues.now k None in
-    let before = get_or c.capture_and_record-works.new.takers k None in
-    let captured = get_or c.capture_and_record-works.new.lanes k d in
-    let held = c.capture_and_record-works.ensures.captured k d (omega (arith, c.requires.sixteen, small)) in
-    let met = c.capture_and_record-works.ensures.met k small in
+    let before = get_or c.record_and_serve-works.new.takers k None in
+    let captured = get_or c.record_and_serve-works.new.lanes k d in
+    let held = c.record_and_serve-works.ensures.captured k d (omega (arith, c.requires.sixteen, small)) in
+    let met = c.record_and_serve-works.ensures.met k small in
     let may = may_join g.T.Records.configured k g.P.Port c.args.turns queue (get_or c.args.takers.now k None) before (get_or c.args.lanes.now k d) captured (c.requires.ready k d small) held met in
     joins_met g.T.Records.configured k queue before (get_or c.join_feeders.new.takers k None) captured.feeder met may (c.join_feeders.ensures.joined k d small)
+
+pub returns-clause-desks : goal.returns-clause-desks
+returns-clause-desks g c i d low =
+    let s = c.record_and_serve-works.ensures.desks i d low in (
+      served_on g.T.Answers.answers g.L.Link c.args.turns c.record_and_serve-works.new.pass.seen c.record_queued.new.pass.seen (get_or c.args.desks.now i d) (get_or c.record_and_serve-works.new.desks i d) c.record_queued.ensures.seen s.0,
+      s.1,
+    )

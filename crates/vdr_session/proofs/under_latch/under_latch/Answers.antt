@@ -9,6 +9,8 @@ use Rattle.vdr_session.specs.declared.records.Began.TheVariants.{Begun}
 use Rattle.vdr_session.specs.Lanes.{AreDrained, AreMet, ArePopped}
 use Rattle.vdr_session.specs.Marks.{has_fault, is_begun, is_leading, taken_in}
 use Rattle.vdr_latch.specs.Passes.{Passing}
+use Rattle.vdr_desk.specs.declared.desk.Desk.{Desk}
+use Rattle.vdr_desk.specs.Desks.{HasServed}
 use Rattle.vdr_session.specs.Ran.{LaneRan}
 use Rattle.vdr_session.specs.Closed.{HasClosed, NotBegun, RanLanes}
 use Rattle.vdr_session.specs.Events.{is_started}
@@ -51,6 +53,13 @@ returns-clause-closed g c =
               };
               refused = λ ne. absurd (ne w.in-Begun.is);
             }),
+            (record {
+              as_many = ap length w.desks-is ∙ r.as_many;
+              served = λ e i d low.
+                  subst (λ (x : List (Desk g.row.L.Denot Marked) × Passing Marked). HasServed g.L.Link g.T.Answers.answers c.args.turns 0 x.1.seen (get_or c.args.desks.now i d) (get_or x.0 i d) × ((get_or x.0 i d).pass ≡ None))
+                  (λ k. (sym w.desks-is k, sym w.pass-is k)) (r.desks i d low);
+              rested = λ ne. absurd (ne w.in-Begun.is);
+            }),
             means.0,
           ))
       | in_default w ↦ (
@@ -69,6 +78,11 @@ returns-clause-closed g c =
             lanes = w.lanes-is;
             takers = w.takers-is;
           };
+        }),
+        (record {
+          as_many = ap length w.desks-is;
+          served = λ e. absurd (search (rules, e));
+          rested = λ ne. w.desks-is;
         }),
         means.0,
       )

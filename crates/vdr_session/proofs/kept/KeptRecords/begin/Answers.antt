@@ -33,14 +33,14 @@ not_tick e = cc
 pub returns-in-Ok-clause-leaves : goal.returns-in-Ok-clause-leaves
 returns-in-Ok-clause-leaves g c = λ history h. (by_failed history h.0 (cases_Bool c.args.self.now.recording.members.failed), h.1)
   where
-    by_failed : (history : List Mark) → IsKept (record { clock = g.O.Lent.clock; now = g.O.Lent.now; since = g.O.Lent.since; reads = g.O.Lent.reads }) g.O.Lent.began g.O.Lent.rates g.O.Lent.room g.O.Lent.sizes g.O.Lent.faults history
+    by_failed : (history : List Mark) → IsKept (record { clock = g.O.Lent.clock; now = g.O.Lent.now; since = g.O.Lent.since; reads = g.O.Lent.reads; channels = g.O.Lent.channels }) g.O.Lent.began g.O.Lent.rates g.O.Lent.room g.O.Lent.sizes g.O.Lent.faults history
         c.args.self.now.recording (g.M.Media.disk c.args.self.now.media.now) (g.M.Media.faults c.args.self.now.media.now)
         → (c.args.self.now.recording.members.failed ≡ true) ⊎ (c.args.self.now.recording.members.failed ≡ false)
-        → IsKept (record { clock = g.O.Lent.clock; now = g.O.Lent.now; since = g.O.Lent.since; reads = g.O.Lent.reads }) g.O.Lent.began g.O.Lent.rates g.O.Lent.room g.O.Lent.sizes g.O.Lent.faults (history ++ start_mark c.args.self.now.recording c.start.new.self (g.M.Media.disk c.start.new.media).clock ∷ [])
+        → IsKept (record { clock = g.O.Lent.clock; now = g.O.Lent.now; since = g.O.Lent.since; reads = g.O.Lent.reads; channels = g.O.Lent.channels }) g.O.Lent.began g.O.Lent.rates g.O.Lent.room g.O.Lent.sizes g.O.Lent.faults (history ++ start_mark c.args.self.now.recording c.start.new.self (g.M.Media.disk c.start.new.media).clock ∷ [])
         c.start.new.self (g.M.Media.disk c.start.new.media) (g.M.Media.faults c.start.new.media)
     by_failed history k (inl fails) = absurd (ok_no_fault c.in-Ok.field-0 Fault (c.in-Ok.ensures.failed fails).0)
     by_failed history k (inr works) =
-        start_kept (record { clock = g.O.Lent.clock; now = g.O.Lent.now; since = g.O.Lent.since; reads = g.O.Lent.reads }) g.O.Lent.began g.O.Lent.rates g.O.Lent.room g.O.Lent.sizes g.O.Lent.faults history
+        start_kept (record { clock = g.O.Lent.clock; now = g.O.Lent.now; since = g.O.Lent.since; reads = g.O.Lent.reads; channels = g.O.Lent.channels }) g.O.Lent.began g.O.Lent.rates g.O.Lent.room g.O.Lent.sizes g.O.Lent.faults history
         c.args.self.now.recording (g.M.Media.disk c.args.self.now.media.now) (g.M.Media.faults c.args.self.now.media.now) k
         c.start.new.self (g.M.Media.disk c.start.new.media) (g.M.Media.faults c.start.new.media)
         (record {
@@ -57,7 +57,7 @@ returns-in-Ok-clause-leaves g c = λ history h. (by_failed history h.0 (cases_Bo
 pub returns-in-Err-Place-clause-leaves : goal.returns-in-Err-Place-clause-leaves
 returns-in-Err-Place-clause-leaves g c = λ history h.
     let same = c.in-Err-Place.ensures.refused (inl (ap Err c.in-Err-Place.field-0-is)) in (
-      start_look_kept (record { clock = g.O.Lent.clock; now = g.O.Lent.now; since = g.O.Lent.since; reads = g.O.Lent.reads }) g.O.Lent.began g.O.Lent.rates g.O.Lent.room g.O.Lent.sizes g.O.Lent.faults history
+      start_look_kept (record { clock = g.O.Lent.clock; now = g.O.Lent.now; since = g.O.Lent.since; reads = g.O.Lent.reads; channels = g.O.Lent.channels }) g.O.Lent.began g.O.Lent.rates g.O.Lent.room g.O.Lent.sizes g.O.Lent.faults history
           c.args.self.now.recording (g.M.Media.disk c.args.self.now.media.now) (g.M.Media.faults c.args.self.now.media.now) h.0
           c.requires.closed c.start.new.self (g.M.Media.disk c.start.new.media) (g.M.Media.faults c.start.new.media)
           same.0 (ap g.M.Media.disk same.1) (ap g.M.Media.faults same.1),
@@ -67,7 +67,7 @@ returns-in-Err-Place-clause-leaves g c = λ history h.
 pub returns-in-Err-Tick-clause-leaves : goal.returns-in-Err-Tick-clause-leaves
 returns-in-Err-Tick-clause-leaves g c = λ history h.
     let same = c.in-Err-Tick.ensures.refused (inr (ap Err c.in-Err-Tick.field-0-is)) in (
-      start_look_kept (record { clock = g.O.Lent.clock; now = g.O.Lent.now; since = g.O.Lent.since; reads = g.O.Lent.reads }) g.O.Lent.began g.O.Lent.rates g.O.Lent.room g.O.Lent.sizes g.O.Lent.faults history
+      start_look_kept (record { clock = g.O.Lent.clock; now = g.O.Lent.now; since = g.O.Lent.since; reads = g.O.Lent.reads; channels = g.O.Lent.channels }) g.O.Lent.began g.O.Lent.rates g.O.Lent.room g.O.Lent.sizes g.O.Lent.faults history
           c.args.self.now.recording (g.M.Media.disk c.args.self.now.media.now) (g.M.Media.faults c.args.self.now.media.now) h.0
           c.requires.closed c.start.new.self (g.M.Media.disk c.start.new.media) (g.M.Media.faults c.start.new.media)
           same.0 (ap g.M.Media.disk same.1) (ap g.M.Media.faults same.1),
@@ -77,21 +77,21 @@ returns-in-Err-Tick-clause-leaves g c = λ history h.
 pub returns-in-Err-Fault-clause-leaves : goal.returns-in-Err-Fault-clause-leaves
 returns-in-Err-Fault-clause-leaves g c = λ history h. (by_failed history h.0 (cases_Bool c.args.self.now.recording.members.failed), h.1)
   where
-    by_failed : (history : List Mark) → IsKept (record { clock = g.O.Lent.clock; now = g.O.Lent.now; since = g.O.Lent.since; reads = g.O.Lent.reads }) g.O.Lent.began g.O.Lent.rates g.O.Lent.room g.O.Lent.sizes g.O.Lent.faults history
+    by_failed : (history : List Mark) → IsKept (record { clock = g.O.Lent.clock; now = g.O.Lent.now; since = g.O.Lent.since; reads = g.O.Lent.reads; channels = g.O.Lent.channels }) g.O.Lent.began g.O.Lent.rates g.O.Lent.room g.O.Lent.sizes g.O.Lent.faults history
         c.args.self.now.recording (g.M.Media.disk c.args.self.now.media.now) (g.M.Media.faults c.args.self.now.media.now)
         → (c.args.self.now.recording.members.failed ≡ true) ⊎ (c.args.self.now.recording.members.failed ≡ false)
-        → IsKept (record { clock = g.O.Lent.clock; now = g.O.Lent.now; since = g.O.Lent.since; reads = g.O.Lent.reads }) g.O.Lent.began g.O.Lent.rates g.O.Lent.room g.O.Lent.sizes g.O.Lent.faults (history ++ start_mark c.args.self.now.recording c.start.new.self (g.M.Media.disk c.start.new.media).clock ∷ [])
+        → IsKept (record { clock = g.O.Lent.clock; now = g.O.Lent.now; since = g.O.Lent.since; reads = g.O.Lent.reads; channels = g.O.Lent.channels }) g.O.Lent.began g.O.Lent.rates g.O.Lent.room g.O.Lent.sizes g.O.Lent.faults (history ++ start_mark c.args.self.now.recording c.start.new.self (g.M.Media.disk c.start.new.media).clock ∷ [])
         c.start.new.self (g.M.Media.disk c.start.new.media) (g.M.Media.faults c.start.new.media)
     by_failed history k (inl fails) =
         let same = c.in-Err-Fault.ensures.failed fails in
-        start_look_kept (record { clock = g.O.Lent.clock; now = g.O.Lent.now; since = g.O.Lent.since; reads = g.O.Lent.reads }) g.O.Lent.began g.O.Lent.rates g.O.Lent.room g.O.Lent.sizes g.O.Lent.faults history
+        start_look_kept (record { clock = g.O.Lent.clock; now = g.O.Lent.now; since = g.O.Lent.since; reads = g.O.Lent.reads; channels = g.O.Lent.channels }) g.O.Lent.began g.O.Lent.rates g.O.Lent.room g.O.Lent.sizes g.O.Lent.faults history
         c.args.self.now.recording (g.M.Media.disk c.args.self.now.media.now) (g.M.Media.faults c.args.self.now.media.now) k
         c.requires.closed c.start.new.self (g.M.Media.disk c.start.new.media) (g.M.Media.faults c.start.new.media)
         same.1 (ap g.M.Media.disk same.2) (ap g.M.Media.faults same.2)
     by_failed history k (inr works) =
         let is : Err c.in-Err-Fault.field-0 ≡ Err Fault = ap Err c.in-Err-Fault.field-0-is in
         let fails = c.in-Err-Fault.ensures.fails is in
-        start_kept (record { clock = g.O.Lent.clock; now = g.O.Lent.now; since = g.O.Lent.since; reads = g.O.Lent.reads }) g.O.Lent.began g.O.Lent.rates g.O.Lent.room g.O.Lent.sizes g.O.Lent.faults history
+        start_kept (record { clock = g.O.Lent.clock; now = g.O.Lent.now; since = g.O.Lent.since; reads = g.O.Lent.reads; channels = g.O.Lent.channels }) g.O.Lent.began g.O.Lent.rates g.O.Lent.room g.O.Lent.sizes g.O.Lent.faults history
         c.args.self.now.recording (g.M.Media.disk c.args.self.now.media.now) (g.M.Media.faults c.args.self.now.media.now) k
         c.start.new.self (g.M.Media.disk c.start.new.media) (g.M.Media.faults c.start.new.media)
         (record {

@@ -41,21 +41,21 @@ take_batch-requires-clause-numbers g c = λ n small.
 pub returns-clause-leaves : goal.returns-clause-leaves
 returns-clause-leaves g c = λ history h. (by_failed history h.0 (cases_Bool c.args.self.now.recording.members.failed), h.1)
   where
-    by_failed : (history : List Mark) → (k : IsKept (record { clock = g.O.Lent.clock; now = g.O.Lent.now; since = g.O.Lent.since; reads = g.O.Lent.reads }) g.O.Lent.began g.O.Lent.rates g.O.Lent.room g.O.Lent.sizes g.O.Lent.faults history c.args.self.now.recording
+    by_failed : (history : List Mark) → (k : IsKept (record { clock = g.O.Lent.clock; now = g.O.Lent.now; since = g.O.Lent.since; reads = g.O.Lent.reads; channels = g.O.Lent.channels }) g.O.Lent.began g.O.Lent.rates g.O.Lent.room g.O.Lent.sizes g.O.Lent.faults history c.args.self.now.recording
         (g.M.Media.disk c.args.self.now.media.now) (g.M.Media.faults c.args.self.now.media.now))
         → (c.args.self.now.recording.members.failed ≡ true) ⊎ (c.args.self.now.recording.members.failed ≡ false)
-        → IsKept (record { clock = g.O.Lent.clock; now = g.O.Lent.now; since = g.O.Lent.since; reads = g.O.Lent.reads }) g.O.Lent.began g.O.Lent.rates g.O.Lent.room g.O.Lent.sizes g.O.Lent.faults
+        → IsKept (record { clock = g.O.Lent.clock; now = g.O.Lent.now; since = g.O.Lent.since; reads = g.O.Lent.reads; channels = g.O.Lent.channels }) g.O.Lent.began g.O.Lent.rates g.O.Lent.room g.O.Lent.sizes g.O.Lent.faults
         (history ++ batch_mark c.args.self.now.recording.members.failed c.args.items.now c.take_batch.new.self.members.failed (g.M.Media.disk c.take_batch.new.media).clock ∷ []) c.take_batch.new.self
         (g.M.Media.disk c.take_batch.new.media) (g.M.Media.faults c.take_batch.new.media)
     by_failed history k (inl fails) =
         let same = c.take_batch.ensures.failed fails in
-        batch_look_kept (record { clock = g.O.Lent.clock; now = g.O.Lent.now; since = g.O.Lent.since; reads = g.O.Lent.reads }) g.O.Lent.began g.O.Lent.rates g.O.Lent.room g.O.Lent.sizes g.O.Lent.faults history c.args.self.now.recording
+        batch_look_kept (record { clock = g.O.Lent.clock; now = g.O.Lent.now; since = g.O.Lent.since; reads = g.O.Lent.reads; channels = g.O.Lent.channels }) g.O.Lent.began g.O.Lent.rates g.O.Lent.room g.O.Lent.sizes g.O.Lent.faults history c.args.self.now.recording
         (g.M.Media.disk c.args.self.now.media.now) (g.M.Media.faults c.args.self.now.media.now) k c.args.items.now fails c.take_batch.new.self
         (g.M.Media.disk c.take_batch.new.media) (g.M.Media.faults c.take_batch.new.media)
         same.1 (ap g.M.Media.disk same.2) (ap g.M.Media.faults same.2)
     by_failed history k (inr works) =
         let e = c.take_batch.ensures in
-        batch_kept (record { clock = g.O.Lent.clock; now = g.O.Lent.now; since = g.O.Lent.since; reads = g.O.Lent.reads }) g.O.Lent.began g.O.Lent.rates g.O.Lent.room g.O.Lent.sizes g.O.Lent.faults history c.args.self.now.recording
+        batch_kept (record { clock = g.O.Lent.clock; now = g.O.Lent.now; since = g.O.Lent.since; reads = g.O.Lent.reads; channels = g.O.Lent.channels }) g.O.Lent.began g.O.Lent.rates g.O.Lent.room g.O.Lent.sizes g.O.Lent.faults history c.args.self.now.recording
         (g.M.Media.disk c.args.self.now.media.now) (g.M.Media.faults c.args.self.now.media.now) k c.take_batch.new.self
         (g.M.Media.disk c.take_batch.new.media) (g.M.Media.faults c.take_batch.new.media)
         (record {

@@ -1,7 +1,7 @@
 use Rattle.std.proofs.Common.{[], ◌/◌}
 use Rattle.vdr_pace.specs.Commits.{item_size}
 use Rattle.vdr_recorder.specs.Recordings.{HasRecorded}
-use Rattle.vdr_session.proofs.recording.record.Given as goal
+use Rattle.vdr_session.proofs.recording.record_at_desks.Given as goal
 
 abbrev pub ghosts-run_lent : goal.ghosts-run_lent
 ghosts-run_lent g a = record {
@@ -11,6 +11,7 @@ ghosts-run_lent g a = record {
   now = (g.M.Media.disk a.media.now).now;
   since = (g.M.Media.disk a.media.now).since;
   reads = (g.M.Media.disk a.media.now).reads;
+  channels = a.recording.members.config.channels;
   rates = a.recording.members.config.groups;
   room = a.recording.members.config.batch / item_size;
   sizes = (g.M.Media.disk a.media.now).sizes;

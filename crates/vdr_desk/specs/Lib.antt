@@ -1,0 +1,4 @@
+-- What is said over links, and what it is in the history of a latch.
+pub mod Exchanges
+pub mod Links
+pub mod Desks

@@ -1,0 +1,29 @@
+ghost use Rattle.std.specs.Prelude.{◌≡◌, None};
+
+use vdr_capture::Cause;
+use vdr_latch::LatchPass;
+
+/// A link over which an operator's orders come, and its worker. `E` is an event at the latch.
+#[derive(Drop)]
+pub struct Desk<L, E> {
+    pub link: L,
+    /// The right to take turns at the latch, while a worker may.
+    pub pass: Option<LatchPass<E>>,
+    /// How the worker ended: the link answered that no line is left, a call of it failed, or as many calls for a line were made as
+    /// are allowed.
+    pub cause: Option<Cause>,
+}
+
+impl<L, E> Desk<L, E> {
+    /// A desk at which nothing was asked.
+    pub fn new(link: L) -> Desk<L, E>
+        ensures link { result.link ≡ link }
+        ensures idle { (result.pass ≡ None) × (result.cause ≡ None) }
+    {
+        Desk {
+            link,
+            pass: None,
+            cause: None,
+        }
+    }
+}

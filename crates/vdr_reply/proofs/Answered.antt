@@ -1,0 +1,212 @@
+-- What the recorder's answers come to as replies of its history.
+use Rattle.std.proofs.Common.{◌≡◌, ◌⊎◌, inl, inr, ◌++◌, ◌∷◌, ◌&&◌, not, ℕ, Bool, true, false, true≢false, List, [], Option, Some, None, Result, Ok, Err, cond, refl, sym, ap, ◌∙◌, subst}
+use Rattle.std.specs.Prelude.{IfOk, codes, count_by, is_none, is_some, option_map, position, suc, ⊤}
+use Rattle.std.proofs.lemmas.Bool.{cond-false, cond-true}
+use Rattle.vdr_history.specs.Histories.{Act, Event, Incident, MayCome, Opening, incidents, last_stamp, live, next_place}
+use Rattle.vdr_history.specs.Histories.Act.{Look, Release, Save}
+use Rattle.vdr_history.specs.Runs.{Stamp}
+use Rattle.vdr_core.specs.Ended.{last_tick}
+use Rattle.vdr_durability.specs.Keeping.{moment_of}
+use Rattle.vdr_playback.specs.Replies.{Reply, act_of, answer_before, free_id, release_reply, reply, save_of, save_reply, tick_or_0}
+use Rattle.vdr_playback.specs.Replies as replies
+use Rattle.vdr_playback.specs.Replies.Reply.{State, Saved, Released, NoLabel, NothingToSave, TableFull, NoIncident, Failed}
+use Rattle.vdr_incident.specs.Saves.{is_label}
+use Rattle.vdr_incident.specs.declared.refused.ReleaseRefused.{ReleaseRefused}
+use Rattle.vdr_incident.specs.declared.refused.ReleaseRefused.TheVariants as releases
+use Rattle.vdr_outside.specs.Disk.{Disk}
+use Rattle.vdr_config.specs.Configuration.{Selector}
+use Rattle.vdr_opening.specs.Media.{both}
+use Rattle.vdr_vault.specs.Saves.{refusal_from, save_refusal}
+use Rattle.vdr_vault.specs.Vaults.{Stands, of_stamp}
+use Rattle.vdr_vault.specs.declared.refused.SaveRefused.{SaveRefused}
+use Rattle.vdr_vault.specs.declared.refused.SaveRefused.TheVariants as saves
+use Rattle.vdr_control.specs.Orders.{PlainOrder}
+use Rattle.vdr_control.specs.Orders.PlainOrder.{Status as StatusOrder, Save as SaveOrder, Release as ReleaseOrder, Play as PlayOrder}
+use Rattle.vdr_recorder.specs.Recordings.{HasDone, HasRecorded, RecordingState}
+use Rattle.vdr_recorder.specs.Starts.{stamp_of}
+use Rattle.vdr_recorder.proofs.Answering.{same_disk}
+use Rattle.vdr_recorder.proofs.Looking.{look_done}
+use Rattle.vdr_reply.specs.Answers.{HasAnswered, IsAnswer, Spells}
+use Rattle.vdr_reply.specs.Orders.{changes, granted_act, id_or_0, is_granted, order_of}
+use Rattle.vdr_reply.specs.Texts.{done_line, fault_line, id_line, release_line, save_line, state_line, text_of}
+use Rattle.vdr_reply.proofs.Coming.{come_last, same_some, save_is}
+
+-- a reply, as the media work or have failed by then
+pub said_working : (failed : Bool) (clock : ℕ) (answer : Reply) → failed ≡ false → answer_before (moment_of failed clock) answer ≡ answer
+said_working failed clock answer works = ap (λ (b : Bool). answer_before (moment_of b clock) answer) works
+
+pub said_failed : (failed : Bool) (clock : ℕ) (answer : Reply) → failed ≡ true → answer_before (moment_of failed clock) answer ≡ Failed
+said_failed failed clock answer fails = ap (λ (b : Bool). answer_before (moment_of b clock) answer) fails
+
+no_moment : (failed : Bool) (clock : ℕ) → failed ≡ true → moment_of failed clock ≡ None
+no_moment failed clock fails = ap (λ (b : Bool). moment_of b clock) fails
+
+tick_is : (o : Option Stamp) → last_tick (option_map stamp_of (option_map of_stamp o)) ≡ tick_or_0 o
+tick_is None = refl
+tick_is (Some s) = refl
+
+-- a save that is refused, and one that is not
+refused_so : (labelled : Bool) (stamp : Option Stamp) (free : Option ℕ) (refused : SaveRefused) → refusal_from labelled (option_map of_stamp stamp) free ≡ Some refused
+    → (text_of (save_reply labelled stamp (option_map suc free)) ≡ save_line (Err refused))
+    × ((opening : Opening) (events : List Event) (label : List ℕ) → act_of opening events (replies.Order.Save label) (save_reply labelled stamp (option_map suc free)) ≡ Look)
+refused_so false stamp free refused e = (subst (λ (x : SaveRefused). text_of NoLabel ≡ save_line (Err x)) (same_some saves.Label refused e) refl, λ opening events label. refl)
+refused_so true None free refused e = (subst (λ (x : SaveRefused). text_of NothingToSave ≡ save_line (Err x)) (same_some saves.Nothing refused e) refl, λ opening events label. refl)
+refused_so true (Some s) None refused e = (subst (λ (x : SaveRefused). text_of TableFull ≡ save_line (Err x)) (same_some saves.TableFull refused e) refl, λ opening events label. refl)
+refused_so true (Some s) (Some slot) refused e = let none : ⊥ = cc in absurd none
+
+granted_so : (labelled : Bool) (stamp : Option Stamp) (free : Option ℕ) (id : ℕ) → refusal_from labelled (option_map of_stamp stamp) free ≡ None → option_map suc free ≡ Some id
+    → save_reply labelled stamp (option_map suc free) ≡ Saved id
+granted_so false stamp free id e is = let none : ⊥ = cc in absurd none
+granted_so true None free id e is = let none : ⊥ = cc in absurd none
+granted_so true (Some s) None id e is = let none : ⊥ = cc in absurd none
+granted_so true (Some s) (Some slot) id e is = ap Saved (same_some (suc slot) id is)
+
+module _ {tells tells_images : Type 0} (opening : Opening) (events : List Event) (t0 : ℕ) (r : RecordingState) (old : Disk tells tells_images) (h : HasRecorded opening events t0 r old)
+    (channels : List Selector) (met_fault : Type 0) (text : List ℕ) where
+  -- an order that is a look
+  pub looked_answer : (order : PlainOrder) (after : RecordingState) (new : Disk tells tells_images) → changes order r.members ≡ false → HasDone opening events t0 Look after old new
+      → (act_of opening events (order_of channels order) (reply both opening events (order_of channels order)) ≡ Look) ⊎ (after.members.failed ≡ true)
+      → Spells met_fault order (answer_before (moment_of after.members.failed new.clock) (reply both opening events (order_of channels order))) text
+      → HasAnswered channels met_fault opening events t0 order text r after old new
+  looked_answer order after new none d act is = record { done = subst (λ (act : Act). HasDone opening events t0 act after old new) (sym looks) d; answer = record { act_is = acts act; text_is = is } }
+    where
+      looks : cond (changes order r.members) (granted_act opening events order) Look ≡ Look
+      looks = cond-false (changes order r.members) (granted_act opening events order) Look none
+
+      acts : (act_of opening events (order_of channels order) (reply both opening events (order_of channels order)) ≡ Look) ⊎ (after.members.failed ≡ true)
+          → (cond (changes order r.members) (granted_act opening events order) Look ≡ act_of opening events (order_of channels order) (reply both opening events (order_of channels order)))
+          ⊎ ((cond (changes order r.members) (granted_act opening events order) Look ≡ Look) × (moment_of after.members.failed new.clock ≡ None))
+      acts (inl a) = inl (looks ∙ sym a)
+      acts (inr fails) = inr (looks, no_moment after.members.failed new.clock fails)
+
+  untouched : HasDone opening events t0 Look r old old
+  untouched = look_done opening events t0 r old old h r.members (same_disk old) refl refl refl refl refl (λ placed stands. stands)
+
+  -- an order that was answered with nothing called
+  pub still_answer : (order : PlainOrder) → changes order r.members ≡ false
+      → (act_of opening events (order_of channels order) (reply both opening events (order_of channels order)) ≡ Look) ⊎ (r.members.failed ≡ true)
+      → Spells met_fault order (answer_before (moment_of r.members.failed old.clock) (reply both opening events (order_of channels order))) text
+      → HasAnswered channels met_fault opening events t0 order text r r old old
+  still_answer order none act is = looked_answer order r old none untouched act is
+
+  -- each order after a fault
+  pub failed_answer : (order : PlainOrder) → r.members.failed ≡ true → text ≡ fault_line → HasAnswered channels met_fault opening events t0 order text r r old old
+  failed_answer order fails is = still_answer order (ap (λ (b : Bool). not b && is_granted order r.members) fails) (inr fails) (spelled order (said_failed r.members.failed old.clock (reply both opening events (order_of channels order)) fails))
+    where
+      spelled : (order : PlainOrder) → answer_before (moment_of r.members.failed old.clock) (reply both opening events (order_of channels order)) ≡ Failed
+          → Spells met_fault order (answer_before (moment_of r.members.failed old.clock) (reply both opening events (order_of channels order))) text
+      spelled StatusOrder e = is ∙ ap text_of (sym e)
+      spelled (SaveOrder label) e = is ∙ ap text_of (sym e)
+      spelled (ReleaseOrder id) e = is ∙ ap text_of (sym e)
+      spelled (PlayOrder medium name from to) e = inl (is ∙ ap text_of (sym e))
+
+  module _ (works : r.members.failed ≡ false) where
+    stands : Stands opening events r.members (h.works works).placed old
+    stands = (h.works works).stands
+
+    unchanged : (order : PlainOrder) → is_granted order r.members ≡ false → changes order r.members ≡ false
+    unchanged order none = ap (λ (b : Bool). not b && is_granted order r.members) works ∙ none
+
+    changed : (order : PlainOrder) → is_granted order r.members ≡ true → changes order r.members ≡ true
+    changed order some = ap (λ (b : Bool). not b && is_granted order r.members) works ∙ some
+
+    pub status_answer : text ≡ state_line r.members.next_place (last_tick (option_map stamp_of r.members.last)) (count_by is_some r.members.table)
+        → HasAnswered channels met_fault opening events t0 StatusOrder text r r old old
+    status_answer is = still_answer StatusOrder (unchanged StatusOrder refl) (inl refl) (is ∙ told ∙ ap text_of (sym (said_working r.members.failed old.clock (reply both opening events replies.Order.Status) works)))
+      where
+        tick : last_tick (option_map stamp_of r.members.last) ≡ tick_or_0 (last_stamp opening events)
+        tick = ap (λ (o : Option (ℕ × _)). last_tick (option_map stamp_of o)) stands.newest ∙ tick_is (last_stamp opening events)
+
+        told : state_line r.members.next_place (last_tick (option_map stamp_of r.members.last)) (count_by is_some r.members.table) ≡ text_of (reply both opening events replies.Order.Status)
+        told = λ i. state_line (stands.goes_on i) (tick i) (count_by is_some (stands.incidents_are i))
+
+    module _ (after : RecordingState) (new : Disk tells tells_images) where
+      pub save_answer : (label : List ℕ) (saved : Result ℕ SaveRefused) → text ≡ save_line saved
+          → (save_refusal label r.members ≡ None → ((m offset : ℕ) → saved ≡ Err (saves.Damaged m offset) → ⊥)
+          → (id : ℕ) × (a : ℕ) × (b : ℕ) × IfOk saved (λ told. told ≡ id) × HasDone opening events t0 (Save id label a b) after old new)
+          → ((refused : SaveRefused) → save_refusal label r.members ≡ Some refused → HasDone opening events t0 Look after old new)
+          → ((refused : SaveRefused) → save_refusal label r.members ≡ Some refused → (saved ≡ Err refused) × (after ≡ r))
+          → ((refused : SaveRefused) → saved ≡ Err refused → (refused ≡ saves.Label) ⊎ ((refused ≡ saves.Nothing) ⊎ (refused ≡ saves.TableFull)) → save_refusal label r.members ≡ Some refused)
+          → ((m offset : ℕ) → saved ≡ Err (saves.Damaged m offset) → ⊥)
+          → (saved ≡ Err saves.Fault → after.members.failed ≡ true) → ((saved ≡ Err saves.Fault → ⊥) → after.members.failed ≡ false)
+          → HasAnswered channels met_fault opening events t0 (SaveOrder label) text r after old new
+      save_answer label saved is keeps looked refused reason undamaged fails goes = by_refusal (save_refusal label r.members) refl
+        where
+          order : PlainOrder
+          order = SaveOrder label
+
+          judged : save_refusal label r.members ≡ refusal_from (is_label label) (option_map of_stamp (last_stamp opening events)) (position is_none (incidents opening events))
+          judged = λ i. refusal_from (is_label label) (stands.newest i) (position is_none (stands.incidents_are i))
+
+          text_by : (res : Result ℕ SaveRefused) → saved ≡ res → save_refusal label r.members ≡ None → (id : ℕ) → reply both opening events (replies.Order.Save label) ≡ Saved id → IfOk res (λ told. told ≡ id)
+              → text ≡ text_of (answer_before (moment_of after.members.failed new.clock) (reply both opening events (replies.Order.Save label)))
+          text_by (Ok told) e none id answer same =
+              is ∙ ap save_line e ∙ ap id_line same ∙ ap text_of (sym answer)
+              ∙ ap text_of (sym (said_working after.members.failed new.clock (reply both opening events (replies.Order.Save label)) (goes (λ f. let no : ⊥ = cc in no))))
+          text_by (Err saves.Label) e none id answer same = let some = reason saves.Label e (inl refl) in let no : ⊥ = cc in absurd no
+          text_by (Err saves.Nothing) e none id answer same = let some = reason saves.Nothing e (inr (inl refl)) in let no : ⊥ = cc in absurd no
+          text_by (Err saves.TableFull) e none id answer same = let some = reason saves.TableFull e (inr (inr refl)) in let no : ⊥ = cc in absurd no
+          text_by (Err (saves.Damaged m offset)) e none id answer same = absurd (undamaged m offset e)
+          text_by (Err saves.Fault) e none id answer same =
+              is ∙ ap save_line e ∙ ap text_of (sym (said_failed after.members.failed new.clock (reply both opening events (replies.Order.Save label)) (fails e)))
+
+          by_refusal : (o : Option SaveRefused) → save_refusal label r.members ≡ o → HasAnswered channels met_fault opening events t0 order text r after old new
+          by_refusal (Some x) e =
+              let so = refused_so (is_label label) (last_stamp opening events) (position is_none (incidents opening events)) x (sym judged ∙ e) in
+              let same = refused x e in
+              let good : after.members.failed ≡ false = ap (λ (s : RecordingState). s.members.failed) same.1 ∙ works in
+              looked_answer order after new (unchanged order (ap is_none e)) (looked x e) (inl (so.1 opening events label))
+              (is ∙ ap save_line same.0 ∙ sym so.0 ∙ ap text_of (sym (said_working after.members.failed new.clock (reply both opening events (replies.Order.Save label)) good)))
+          by_refusal None e =
+              let s = keeps e undamaged in
+              let d = s.4 in
+              let may : MayCome opening events (Save s.0 label s.1 s.2) = subst (λ (act : Act). MayCome opening events act) d.act_is (come_last opening events d.event d.has.history.follow) in
+              let answer = granted_so (is_label label) (last_stamp opening events) (position is_none (incidents opening events)) s.0 (sym judged ∙ e) may.0 in
+              let act : cond (changes order r.members) (granted_act opening events order) Look ≡ granted_act opening events order = cond-true (changes order r.members) (granted_act opening events order) Look (changed order (ap is_none e)) in
+              record {
+                done = subst (λ (act : Act). HasDone opening events t0 act after old new) (save_is opening events label s.0 s.1 s.2 may ∙ sym act) d;
+                answer = record {
+                  act_is = inl (act ∙ ap (save_of opening events label) (ap id_or_0 may.0) ∙ ap (act_of opening events (replies.Order.Save label)) (sym answer));
+                  text_is = text_by saved refl e s.0 answer s.3;
+                };
+              }
+
+      pub release_answer : (id : ℕ) (released : Result ⊤ ReleaseRefused) → text ≡ release_line released
+          → ((saved : Incident) → live r.members.table id ≡ Some saved → HasDone opening events t0 (Release id) after old new)
+          → (live r.members.table id ≡ None → HasDone opening events t0 Look after old new)
+          → (live r.members.table id ≡ None → (released ≡ Err releases.NoSuch) × (after ≡ r))
+          → (released ≡ Err releases.NoSuch → live r.members.table id ≡ None)
+          → (released ≡ Err releases.Fault → after.members.failed ≡ true) → ((released ≡ Err releases.Fault → ⊥) → after.members.failed ≡ false)
+          → HasAnswered channels met_fault opening events t0 (ReleaseOrder id) text r after old new
+      release_answer id released is keeps looked refused reason fails goes = by_live (live r.members.table id) refl
+        where
+          order : PlainOrder
+          order = ReleaseOrder id
+
+          answer_by : (o : Option Incident) → live r.members.table id ≡ o → reply both opening events (replies.Order.Release id) ≡ release_reply o
+          answer_by o e = ap release_reply (ap (λ (t : List (Option Incident)). live t id) (sym stands.incidents_are) ∙ e)
+
+          text_by : (res : Result ⊤ ReleaseRefused) → released ≡ res → (saved : Incident) → live r.members.table id ≡ Some saved
+              → text ≡ text_of (answer_before (moment_of after.members.failed new.clock) (reply both opening events (replies.Order.Release id)))
+          text_by (Ok x) e saved some =
+              is ∙ ap release_line e ∙ ap text_of (sym (answer_by (Some saved) some))
+              ∙ ap text_of (sym (said_working after.members.failed new.clock (reply both opening events (replies.Order.Release id)) (goes (λ f. let no : ⊥ = cc in no))))
+          text_by (Err releases.NoSuch) e saved some = let none = reason e in let no : ⊥ = cc in absurd no
+          text_by (Err releases.Fault) e saved some =
+              is ∙ ap release_line e ∙ ap text_of (sym (said_failed after.members.failed new.clock (reply both opening events (replies.Order.Release id)) (fails e)))
+
+          by_live : (o : Option Incident) → live r.members.table id ≡ o → HasAnswered channels met_fault opening events t0 order text r after old new
+          by_live None e =
+              let same = refused e in
+              let good : after.members.failed ≡ false = ap (λ (s : RecordingState). s.members.failed) same.1 ∙ works in
+              looked_answer order after new (unchanged order (ap is_some e)) (looked e) (inl (ap (act_of opening events (replies.Order.Release id)) (answer_by None e)))
+              (is ∙ ap release_line same.0 ∙ ap text_of (sym (answer_by None e)) ∙ ap text_of (sym (said_working after.members.failed new.clock (reply both opening events (replies.Order.Release id)) good)))
+          by_live (Some saved) e =
+              let act : cond (changes order r.members) (granted_act opening events order) Look ≡ granted_act opening events order = cond-true (changes order r.members) (granted_act opening events order) Look (changed order (ap is_some e)) in
+              record {
+                done = subst (λ (act : Act). HasDone opening events t0 act after old new) (sym act) (keeps saved e);
+                answer = record {
+                  act_is = inl (act ∙ ap (act_of opening events (replies.Order.Release id)) (sym (answer_by (Some saved) e)));
+                  text_is = text_by released refl saved e;
+                };
+              }

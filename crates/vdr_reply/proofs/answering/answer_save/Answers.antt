@@ -1,0 +1,16 @@
+use Rattle.std.proofs.Common.{◌≡◌, inr}
+use Rattle.vdr_reply.proofs.Answered.{save_answer}
+use Rattle.vdr_reply.proofs.answering.answer_save.Goals as goal
+
+pub returns-clause-answered : goal.returns-clause-answered
+returns-clause-answered g c = λ opening events t0 told h.
+    let e = c.save.ensures in
+    let works = c.requires.works in
+    save_answer opening events t0 c.args.recording.now (g.M.Media.disk c.args.media.now) h c.args.recording.now.members.config.channels _ c.of_save.result works c.save.new.self (g.M.Media.disk c.save.new.media)
+    c.args.label.now c.save.result c.of_save.ensures
+    (λ none undamaged. e.saved opening events t0 told works none undamaged h)
+    (λ refused some. e.looked opening events t0 refused (inr some) h)
+    (λ refused some. let same = e.refused refused works some in (same.0, same.1))
+    (λ refused is which. (e.reason refused is which).1)
+    (λ m offset. e.undamaged opening events (h.works works).placed m offset told (h.works works).stands)
+    e.fails e.works

@@ -1,0 +1,67 @@
+use Rattle.std.proofs.Common.{◌≡◌, ◌⊎◌, inl, inr, ◌++◌, ◌↔◌, ℕ, Bool, true, false, true≢false, List, Option, Some, Result, Ok, Err, length, refl, sym, ap, ◌∙◌, subst}
+use Rattle.std.specs.Prelude.{OnOk, sum, ⊤, if◌then◌else◌, ◌==◌}
+use Rattle.std.proofs.lemmas.Bool.{cases_Bool, cond-false, cond-true}
+use Rattle.std.specs.Io.KnownBytes.{Appends}
+use Rattle.vdr_terms.specs.Queries.{Query}
+use Rattle.vdr_outside.specs.Causes.{Rose}
+use Rattle.vdr_playback.specs.Playback.{selected}
+use Rattle.vdr_play.specs.Streams.{nothing_seen}
+use Rattle.vdr_play.specs.Texts.{records_text}
+use Rattle.vdr_recorder.specs.Playing.{lacks_channel, lacks_incident}
+use Rattle.vdr_recorder.specs.declared.play.PlayRefused.{PlayRefused}
+use Rattle.vdr_recorder.specs.declared.play.PlayRefused.TheVariants as plays
+use Rattle.vdr_ring.specs.Rings.{RingState}
+use Rattle.vdr_vault.specs.Plays.{ReadsOn, with_ring}
+use Rattle.vdr_vault.specs.Vaults.{MembersState}
+use Rattle.vdr_vault.proofs.Playing.{stands_to_read}
+use Rattle.vdr_reply.specs.Orders.{query_of}
+use Rattle.vdr_reply.specs.Texts.{done_line}
+use Rattle.vdr_reply.proofs.Played.{no_memory_answer, played_answer, unnamed_answer}
+use Rattle.vdr_reply.proofs.playing.answer_play.Goals as goal
+
+-- a read leaves it as it is whether a write has failed
+failed_by : (b : Bool) (capsule long_term : MembersState) (failed : Bool) → capsule.failed ≡ failed → long_term.failed ≡ failed → (if b then capsule else long_term).failed ≡ failed
+failed_by true capsule long_term failed p q = p
+failed_by false capsule long_term failed p q = q
+
+reads_failed : (m : ℕ) (old new : MembersState) → ReadsOn m old new → new.failed ≡ old.failed
+reads_failed m old new is = ap (λ (x : MembersState). x.failed) is ∙ failed_by (m == 0) _ _ old.failed refl refl
+
+-- the page after what was read
+page_after : (res : Result ⊤ PlayRefused) (begun page text : List ℕ) → OnOk res (Appends (Some begun) (Some page) text) → begun ≡ done_line → OnOk res (page ≡ done_line ++ text)
+page_after (Ok x) begun page text more is = more ∙ ap (λ (l : List ℕ). l ++ text) is
+page_after (Err x) begun page text more is = tt
+
+in_this_call : (failed : Bool) (rose : Type 0) → failed ≡ false → (failed ≡ true) ⊎ rose → rose
+in_this_call failed rose works (inl fails) = absurd (true≢false (sym fails ∙ works))
+in_this_call failed rose works (inr is) = is
+
+pub returns-in_default-clause-answered : goal.returns-in_default-clause-answered
+returns-in_default-clause-answered g c = λ opening events t0 told h.
+    unnamed_answer opening events t0 c.args.recording.now (g.M.Media.disk c.args.media.now) h _ c.of_line.result c.requires.works c.args.wanted.medium c.args.wanted.name.now c.args.wanted.from c.args.wanted.to
+    c.in_default.ensures.none c.of_line.ensures
+
+pub returns-in_default-begin-clause-answered : goal.returns-in_default-begin-clause-answered
+returns-in_default-begin-clause-answered g c = λ opening events t0 told h.
+    no_memory_answer opening events t0 c.args.recording.now (g.M.Media.disk c.args.media.now) h _ c.of_line-in_default-begin.result c.requires.works c.args.wanted.medium c.args.wanted.name.now c.args.wanted.from c.args.wanted.to
+    c.of_line-in_default-begin.ensures
+
+pub returns-clause-answered : goal.returns-clause-answered
+returns-clause-answered g c = λ opening events t0 told h.
+    let e = c.play-played.ensures in
+    let works = c.requires.works in
+    let channels = c.args.recording.now.members.config.channels in
+    let found = c.in-Some.ensures.found in
+    let is = found.0 in
+    let readable = stands_to_read opening events c.args.recording.now.members (h.works works).placed (g.M.Media.disk c.args.media.now) (h.works works).stands in
+    played_answer opening events t0 c.args.recording.now (g.M.Media.disk c.args.media.now) h (Rose (sum (g.M.Media.faults c.args.media.now)) (sum (g.M.Media.faults c.play-played.new.media))) c.of_played.result works c.args.wanted.medium c.args.wanted.name.now c.args.wanted.from c.args.wanted.to
+    c.play-played.new.self (g.M.Media.disk c.play-played.new.media) c.play-played.result c.play-played.new.out.bytes.items c.of_played.ensures
+    (e.looked opening events t0 h)
+    (reads_failed _ c.args.recording.now.members c.play-played.new.self.members e.members ∙ works)
+    found.1
+    (λ refused. ap (λ (q : Query). lacks_channel (length channels) q.channel) (sym is) ∙ e.channel.0 refused)
+    (subst (λ (q : Query). (c.play-played.result ≡ Err plays.NoIncident) ↔ ((lacks_channel (length channels) q.channel ≡ false) × (lacks_incident c.args.recording.now.members.table q.medium ≡ true))) is e.incident)
+    (subst (λ (q : Query). OnOk c.play-played.result (c.play-played.new.out.bytes.items ≡ done_line ++ records_text nothing_seen (selected opening events q))) is
+    (page_after c.play-played.result c.in-Ok.page.bytes.items c.play-played.new.out.bytes.items _ (e.printed opening events (h.works works).placed told readable) c.in-Ok.ensures.text))
+    (λ m offset. e.undamaged opening events (h.works works).placed m offset told readable)
+    (λ fault. in_this_call c.args.recording.now.members.failed _ works (e.cause.in_all fault))

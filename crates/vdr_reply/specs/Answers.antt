@@ -1,0 +1,45 @@
+-- What an order is answered, and the event that it is (this project's profile).
+use Rattle.std.specs.Prelude.{◌≡◌, ◌⊎◌, ℕ, Bool, true, List, cond, sum, Option, None}
+use Rattle.vdr_history.specs.Histories.{Act, Event, Opening}
+use Rattle.vdr_durability.specs.Keeping.{moment_of}
+use Rattle.vdr_playback.specs.Replies.{Reply, act_of, reply, reply_with}
+use Rattle.vdr_outside.specs.Causes.{NoneFalls, Rose}
+use Rattle.vdr_outside.specs.Disk.{Disk}
+use Rattle.vdr_config.specs.Configuration.{Selector}
+use Rattle.vdr_opening.specs.Media.{both}
+use Rattle.vdr_control.specs.Orders.{PlainOrder}
+use Rattle.vdr_control.specs.Orders.PlainOrder.{Status, Save, Release, Play}
+use Rattle.vdr_recorder.specs.Recordings.{HasDone, RecordingState}
+use Rattle.vdr_reply.specs.Orders.{changes, granted_act, order_of}
+use Rattle.vdr_reply.specs.Texts.{fault_line, memory_line, text_of}
+
+-- The order is answered by this reply. A play may be answered otherwise where a read has failed, and for want of memory.
+abbrev pub Spells : (met_fault : Type 0) → PlainOrder → Reply → List ℕ → Type 0
+Spells met_fault Status reply text = text ≡ text_of reply
+Spells met_fault (Save label) reply text = text ≡ text_of reply
+Spells met_fault (Release id) reply text = text ≡ text_of reply
+Spells met_fault (Play medium name from to) reply text = (text ≡ text_of reply) ⊎ (((text ≡ fault_line) × met_fault) ⊎ (text ≡ memory_line))
+
+-- This event is the order's, and the text is its reply: both are functions of the events before it. After a fault it is a look.
+pub record IsAnswer (channels : List Selector) (met_fault : Type 0) (opening : Opening) (before : List Event) (own : Event) (order : PlainOrder) (text : List ℕ) : Type 0 where
+  pub act_is : (own.act ≡ act_of opening before (order_of channels order) (reply both opening before (order_of channels order))) ⊎ ((own.act ≡ Act.Look) × (own.moment ≡ None))
+  pub text_is : Spells met_fault order (reply_with both opening before own (order_of channels order)) text
+
+module _ {tells tells_images : Type 0} where
+  -- The order was one event after these, and was answered so.
+  pub record HasAnswered (channels : List Selector) (met_fault : Type 0) (opening : Opening) (events : List Event) (t0 : ℕ) (order : PlainOrder) (text : List ℕ)
+      (before after : RecordingState) (old new : Disk tells tells_images) : Type 0 where
+    pub done : HasDone opening events t0 (cond (changes order before.members) (granted_act opening events order) Act.Look) after old new
+    pub answer : IsAnswer channels met_fault opening events (record { act = cond (changes order before.members) (granted_act opening events order) Act.Look; moment = moment_of after.members.failed new.clock }) order text
+
+-- What an order leaves as it was.
+pub record LeavesRest (before after : RecordingState) : Type 0 where
+  pub config : after.members.config ≡ before.members.config
+  pub maker : after.maker ≡ before.maker
+  pub is_open : after.is_open ≡ before.is_open
+
+-- No count of faults falls. The media have failed only where they had failed before, or the count of one of them rose, and so their sum.
+pub record HasOrderCause (failed failed_after : Bool) (before now : List ℕ) : Type 0 where
+  pub later : NoneFalls before now
+  pub rose : failed_after ≡ true → (failed ≡ true) ⊎ Rose (sum before) (sum now)
+  pub stays : failed ≡ true → failed_after ≡ true

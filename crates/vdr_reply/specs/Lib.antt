@@ -1,0 +1,4 @@
+-- What the operator's orders are answered over a link (this project's profile).
+pub mod Texts
+pub mod Orders
+pub mod Answers

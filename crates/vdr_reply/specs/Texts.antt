@@ -1,0 +1,80 @@
+-- How replies are spelled (this project's profile). Each line ends with LF.
+use Rattle.std.specs.Prelude.{◌≡◌, ◌⊎◌, ℕ, List, ◌++◌, codes, decimal, Result, Ok, Err, ⊤}
+use Rattle.vdr_terms.specs.Records.{Record}
+use Rattle.vdr_playback.specs.Replies.{Reply}
+use Rattle.vdr_playback.specs.Replies.Reply.{State, Saved, Released, Played, NoLabel, NothingToSave, TableFull, NoChannel, NoMedium, NoIncident, Failed}
+use Rattle.vdr_play.specs.Streams.{nothing_seen}
+use Rattle.vdr_play.specs.Texts.{records_text}
+use Rattle.vdr_incident.specs.declared.refused.ReleaseRefused.{ReleaseRefused}
+use Rattle.vdr_incident.specs.declared.refused.ReleaseRefused.TheVariants as releases
+use Rattle.vdr_recorder.specs.declared.play.PlayRefused.{PlayRefused}
+use Rattle.vdr_recorder.specs.declared.play.PlayRefused.TheVariants as plays
+use Rattle.vdr_vault.specs.declared.refused.SaveRefused.{SaveRefused}
+use Rattle.vdr_vault.specs.declared.refused.SaveRefused.TheVariants as saves
+
+-- The media have failed, a record of them is not legal, or there is no memory for the text.
+abbrev pub fault_line : List ℕ
+fault_line = codes "FAULT 5\n"
+
+abbrev pub damage_line : List ℕ
+damage_line = codes "FAULT 4\n"
+
+abbrev pub memory_line : List ℕ
+memory_line = codes "FAULT 9\n"
+
+-- What is asked for is not there.
+abbrev pub not_there_line : List ℕ
+not_there_line = codes "REFUSED 11\n"
+
+-- The next place, the last tick in milliseconds, and how many incidents are live.
+unfoldable pub state_line : (next_place tick incidents : ℕ) → List ℕ
+state_line next_place tick incidents =
+    codes "OK records " ++ decimal next_place ++ codes " tick " ++ decimal tick ++ codes " incidents " ++ decimal incidents ++ codes "\n"
+
+unfoldable pub id_line : ℕ → List ℕ
+id_line id = codes "OK " ++ decimal id ++ codes "\n"
+
+abbrev pub done_line : List ℕ
+done_line = codes "OK\n"
+
+-- Records as they are played, and a point on a line of its own.
+unfoldable pub page_text : List Record → List ℕ
+page_text records = done_line ++ records_text nothing_seen records ++ codes ".\n"
+
+abbrev pub text_of : Reply → List ℕ
+text_of (State next_place tick incidents) = state_line next_place tick incidents
+text_of (Saved id) = id_line id
+text_of Released = done_line
+text_of (Played records) = page_text records
+text_of NoLabel = codes "REFUSED 12 label\n"
+text_of NothingToSave = codes "REFUSED 12 nothing\n"
+text_of TableFull = codes "REFUSED 12 full\n"
+text_of NoChannel = not_there_line
+text_of NoMedium = not_there_line
+text_of NoIncident = not_there_line
+text_of Failed = fault_line
+
+-- The line of a save, by what the recorder answered.
+abbrev pub save_line : Result ℕ SaveRefused → List ℕ
+save_line (Ok id) = text_of (Saved id)
+save_line (Err saves.Label) = text_of NoLabel
+save_line (Err saves.Nothing) = text_of NothingToSave
+save_line (Err saves.TableFull) = text_of TableFull
+save_line (Err (saves.Damaged m offset)) = damage_line
+save_line (Err saves.Fault) = text_of Failed
+
+-- The line of a release.
+abbrev pub release_line : Result ⊤ ReleaseRefused → List ℕ
+release_line (Ok done) = text_of Released
+release_line (Err releases.NoSuch) = text_of NoIncident
+release_line (Err releases.Fault) = text_of Failed
+
+-- What is sent for a play that was answered so, of a page with this text so far: the page with its end, unless there is no memory for it.
+abbrev pub IsPlayed : Result ⊤ PlayRefused → (page text : List ℕ) → Type 0
+IsPlayed (Ok done) page text = (text ≡ page ++ codes ".\n") ⊎ (text ≡ memory_line)
+IsPlayed (Err plays.NoChannel) page text = text ≡ not_there_line
+IsPlayed (Err plays.NoIncident) page text = text ≡ not_there_line
+IsPlayed (Err plays.Fault) page text = text ≡ fault_line
+IsPlayed (Err (plays.Damaged m offset)) page text = text ≡ damage_line
+IsPlayed (Err plays.NoMemory) page text = text ≡ memory_line
+IsPlayed (Err plays.Output) page text = text ≡ memory_line

@@ -1,0 +1,101 @@
+// The answer to an order.
+ghost use Rattle.std.specs.Prelude.{◌≡◌, ℕ, List, false, sum};
+ghost use Rattle.vdr_history.specs.Histories.{Event, Opening};
+ghost use Rattle.vdr_outside.specs.Causes.{Rose};
+ghost use Rattle.vdr_vault.specs.Calls.{SameElsewhere};
+ghost use Rattle.vdr_vault.specs.Vaults.{AreRings};
+ghost use Rattle.vdr_control.specs.Lines.{AsksFor};
+ghost use Rattle.vdr_control.specs.Orders.{plain};
+ghost use Rattle.vdr_control.specs.Orders.PlainOrder.{Release as ReleaseOrder, Save as SaveOrder, Status as StatusOrder};
+ghost use Rattle.vdr_recorder.specs.Recordings.{HasRecorded};
+ghost use Rattle.vdr_reply.specs.Answers.{HasAnswered, HasOrderCause, LeavesRest};
+
+use crate::lines::{FAULT, of_release, of_save, of_state};
+use crate::playing::{Wanted, answer_play};
+use std::alloc::Global;
+use vdr_control::Order;
+use vdr_desk::Reply;
+use vdr_outside::Media;
+use vdr_recorder::Recording;
+
+// How far the recording is. The media are there for the proof alone.
+fn answer_status<M: Media>(recording: &Recording, _media: &M) -> Reply
+    requires works { recording.now.members.failed ≡ false }
+    ensures answered { (opening : Opening) (events : List Event) (t0 : ℕ) → HasRecorded opening events t0 recording.now (M.disk _media.now)
+        → HasAnswered recording.now.members.config.channels (Rose (sum (M.faults _media.now)) (sum (M.faults _media.now))) opening events t0 StatusOrder result recording.now recording.now (M.disk _media.now) (M.disk _media.now) }
+{
+    of_state(&recording.status())
+}
+
+fn answer_save<M: Media>(recording: &mut Recording, media: &mut M, label: &[u8]) -> Reply
+    requires rings { AreRings recording.old.members (M.disk media.old).sizes }
+    requires works { recording.old.members.failed ≡ false }
+    ensures answered { (opening : Opening) (events : List Event) (t0 : ℕ) → M.tells → HasRecorded opening events t0 recording.old (M.disk media.old)
+        → HasAnswered recording.old.members.config.channels (Rose (sum (M.faults media.old)) (sum (M.faults media.new))) opening events t0 (SaveOrder label.now) result recording.old recording.new (M.disk media.old) (M.disk media.new) }
+    ensures rest { LeavesRest recording.old recording.new }
+    ensures rings { AreRings recording.new.members (M.disk media.new).sizes }
+    ensures others { M.tells → SameElsewhere (M.disk media.old).reads (M.disk media.new).reads }
+    ensures sizes { (M.disk media.new).sizes ≡ (M.disk media.old).sizes }
+    ensures cause { HasOrderCause recording.old.members.failed recording.new.members.failed (M.faults media.old) (M.faults media.new) }
+{
+    of_save(recording.save(media, label))
+}
+
+fn answer_release<M: Media>(recording: &mut Recording, media: &mut M, id: u32) -> Reply
+    requires rings { AreRings recording.old.members (M.disk media.old).sizes }
+    requires works { recording.old.members.failed ≡ false }
+    ensures answered { (opening : Opening) (events : List Event) (t0 : ℕ) → M.tells → HasRecorded opening events t0 recording.old (M.disk media.old)
+        → HasAnswered recording.old.members.config.channels (Rose (sum (M.faults media.old)) (sum (M.faults media.new))) opening events t0 (ReleaseOrder id) result recording.old recording.new (M.disk media.old) (M.disk media.new) }
+    ensures rest { LeavesRest recording.old recording.new }
+    ensures rings { AreRings recording.new.members (M.disk media.new).sizes }
+    ensures others { M.tells → SameElsewhere (M.disk media.old).reads (M.disk media.new).reads }
+    ensures sizes { (M.disk media.new).sizes ≡ (M.disk media.old).sizes }
+    ensures cause { HasOrderCause recording.old.members.failed recording.new.members.failed (M.faults media.old) (M.faults media.new) }
+{
+    of_release(recording.release(media, id))
+}
+
+/// Answers an order. It is one event of the recorder's history: a save or a release that is granted, and else a look. The reply is a function
+/// of the history before that event.
+///
+/// Once the media have failed each order is answered `FAULT 5`, as is the one that met the fault. A play reads its page into memory: it is
+/// answered `FAULT 5` too where a read fails, and `FAULT 9` where there is no memory for the page.
+pub fn answer<M: Media>(
+    alloc: Global,
+    recording: &mut Recording,
+    media: &mut M,
+    order: Order<'_>,
+) -> Reply
+    requires rings { AreRings recording.old.members (M.disk media.old).sizes }
+    requires asked { (line : List ℕ) × AsksFor line (plain order) }
+    ensures answered { (opening : Opening) (events : List Event) (t0 : ℕ) → M.tells → HasRecorded opening events t0 recording.old (M.disk media.old)
+        → HasAnswered recording.old.members.config.channels (Rose (sum (M.faults media.old)) (sum (M.faults media.new))) opening events t0 (plain order.entry) result recording.old recording.new (M.disk media.old) (M.disk media.new) }
+    ensures rest { LeavesRest recording.old recording.new }
+    ensures rings { AreRings recording.new.members (M.disk media.new).sizes }
+    ensures others { M.tells → SameElsewhere (M.disk media.old).reads (M.disk media.new).reads }
+    ensures sizes { (M.disk media.new).sizes ≡ (M.disk media.old).sizes }
+    ensures cause { HasOrderCause recording.old.members.failed recording.new.members.failed (M.faults media.old) (M.faults media.new) }
+{
+    if recording.failed() {
+        return Reply::of_line(FAULT);
+    }
+    match order {
+        Order::Status => answer_status(recording, media),
+        Order::Save(label) => answer_save(recording, media, label),
+        Order::Release(id) => answer_release(recording, media, id),
+        Order::Play {
+            medium,
+            channel,
+            from,
+            to,
+        } => {
+            let wanted = Wanted {
+                medium,
+                name: channel,
+                from,
+                to,
+            };
+            answer_play(alloc, recording, media, wanted)
+        }
+    }
+}

@@ -1,0 +1,11 @@
+//! What a recorder in use answers to the operator's orders, as the text that goes back over a link.
+//!
+//! The lines and their replies, with an example: docs/formats/words.md.
+#![tactic(auto)]
+
+mod answering;
+mod lines;
+mod page;
+mod playing;
+
+pub use answering::answer;

@@ -1,0 +1,101 @@
+// Playing what was recorded, over a link.
+ghost use Rattle.std.specs.Prelude.{◌≡◌, ℕ, IfSome, IfNone, false, true, sum};
+ghost use Rattle.vdr_history.specs.Histories.{Event, Opening};
+ghost use Rattle.std.specs.Prelude.{List};
+ghost use Rattle.vdr_outside.specs.Causes.{Rose};
+ghost use Rattle.vdr_entry.specs.Queries.{asked};
+ghost use Rattle.vdr_vault.specs.Calls.{SameElsewhere};
+ghost use Rattle.vdr_vault.specs.Vaults.{AreRings};
+ghost use Rattle.vdr_control.specs.Orders.PlainOrder.{Play as PlayOrder};
+ghost use Rattle.vdr_recorder.specs.Recordings.{HasRecorded};
+ghost use Rattle.vdr_reply.specs.Answers.{HasAnswered, HasOrderCause, LeavesRest};
+ghost use Rattle.vdr_reply.specs.Orders.{is_named, query_of};
+ghost use Rattle.vdr_reply.specs.Texts.{IsPlayed};
+
+use crate::lines::{DAMAGED, FAULT, NO_MEMORY, NOT_THERE};
+use crate::page::Page;
+use std::alloc::Global;
+use vdr_desk::Reply;
+use vdr_entry::{Medium, Query};
+use vdr_outside::Media;
+use vdr_recorder::{PlayRefused, Recording};
+
+/// The channel's name that stands for every record.
+const EVERY: &[u8] = b"all";
+
+/// What is to be played: the records of a channel, or of all where it is `all`, whose UTC stamps are from `from` to `to`, both included, in
+/// milliseconds since 1970.
+#[derive(Clone, Copy, Drop)]
+pub(crate) struct Wanted<'a> {
+    /// An incident's id is 1 to 32.
+    pub medium: Medium,
+    pub name: &'a [u8],
+    pub from: i64,
+    pub to: i64,
+}
+
+// The query of what is wanted, None where no channel of this name is configured.
+fn query_of(recording: &Recording, wanted: Wanted<'_>) -> Option<Query>
+    ensures found { IfSome result (λ query. (asked query ≡ query_of recording.now.members.config.channels wanted.entry.medium wanted.entry.name.now wanted.entry.from wanted.entry.to)
+        × (is_named recording.now.members.config.channels wanted.entry.name.now ≡ true)) }
+    ensures none { IfNone result (is_named recording.now.members.config.channels wanted.entry.name.now ≡ false) }
+{
+    let mut query = Query {
+        medium: wanted.medium,
+        channel: None,
+        from: wanted.from,
+        to: wanted.to,
+    };
+    if wanted.name == EVERY {
+        return Some(query);
+    }
+    let Some(number) = recording.config().channel_of(wanted.name) else {
+        return None;
+    };
+    query.channel = Some(number);
+    Some(query)
+}
+
+// What a play comes to: the page with its end, or the line of a refusal.
+fn of_played(played: Result<(), PlayRefused>, page: Page) -> Reply
+    ensures { IsPlayed played page.bytes.items result }
+{
+    match played {
+        Ok(()) => match page.end() {
+            Ok(bytes) => Reply::of_page(bytes),
+            Err(_) => Reply::of_line(NO_MEMORY),
+        },
+        Err(PlayRefused::NoChannel | PlayRefused::NoIncident) => Reply::of_line(NOT_THERE),
+        Err(PlayRefused::Fault) => Reply::of_line(FAULT),
+        Err(PlayRefused::Damaged { .. }) => Reply::of_line(DAMAGED),
+        Err(PlayRefused::NoMemory | PlayRefused::Output) => Reply::of_line(NO_MEMORY),
+    }
+}
+
+/// Answers a play, on media that have not failed. The page is made in memory, so that the recorder is free again before it is sent.
+pub(crate) fn answer_play<M: Media>(
+    alloc: Global,
+    recording: &mut Recording,
+    media: &mut M,
+    wanted: Wanted<'_>,
+) -> Reply
+    requires rings { AreRings recording.old.members (M.disk media.old).sizes }
+    requires works { recording.old.members.failed ≡ false }
+    ensures answered { (opening : Opening) (events : List Event) (t0 : ℕ) → M.tells → HasRecorded opening events t0 recording.old (M.disk media.old)
+        → HasAnswered recording.old.members.config.channels (Rose (sum (M.faults media.old)) (sum (M.faults media.new))) opening events t0
+        (PlayOrder wanted.entry.medium wanted.entry.name.now wanted.entry.from wanted.entry.to) result recording.old recording.new (M.disk media.old) (M.disk media.new) }
+    ensures rest { LeavesRest recording.old recording.new }
+    ensures rings { AreRings recording.new.members (M.disk media.new).sizes }
+    ensures others { M.tells → SameElsewhere (M.disk media.old).reads (M.disk media.new).reads }
+    ensures sizes { (M.disk media.new).sizes ≡ (M.disk media.old).sizes }
+    ensures cause { HasOrderCause recording.old.members.failed recording.new.members.failed (M.faults media.old) (M.faults media.new) }
+{
+    let Some(query) = query_of(recording, wanted) else {
+        return Reply::of_line(NOT_THERE);
+    };
+    let Ok(mut page) = Page::begin(alloc) else {
+        return Reply::of_line(NO_MEMORY);
+    };
+    let played = recording.play(alloc, media, &query, &mut page);
+    of_played(played, page)
+}

@@ -1,0 +1,36 @@
+-- The orders of a session's desks: what their marks are, and what their answers mean over an opening.
+use Rattle.std.specs.Prelude.{◌≡◌, ◌+◌, ◌-◌, ◌^◌, ℕ, Bool, true, List, cond, min, nat_le}
+use Rattle.vdr_history.specs.Histories.{Opening}
+use Rattle.vdr_durability.specs.Keeping.{moment_of}
+use Rattle.vdr_config.specs.Configuration.{Selector}
+use Rattle.vdr_control.specs.Orders.{PlainOrder}
+use Rattle.vdr_control.specs.Orders.PlainOrder.{Status, Save, Release, Play}
+use Rattle.vdr_vault.specs.Vaults.{MembersState}
+use Rattle.vdr_reply.specs.Answers.{IsAnswer}
+use Rattle.vdr_reply.specs.Orders.{changes}
+use Rattle.vdr_session.specs.declared.mark.Did.{Did}
+use Rattle.vdr_session.specs.declared.mark.Did.TheVariants as dids
+use Rattle.vdr_session.specs.declared.mark.Mark.{Mark}
+use Rattle.vdr_session.specs.Events.{event_of, events_of}
+use Rattle.vdr_session.specs.Marks.{misses, taken_in}
+
+-- What an order does where it is granted.
+abbrev pub did_for : PlainOrder → Did
+did_for Status = dids.Look
+did_for (Save label) = dids.Save label
+did_for (Release id) = dids.Release id
+did_for (Play medium name from to) = dids.Look
+
+-- A count of faults rose.
+abbrev pub rose_in : (before now : ℕ) → Bool
+rose_in before now = nat_le (min (before + 1) (2 ^ 64 - 1)) now
+
+-- The mark of an order, by the vault before it, and the media's counts of faults before and after.
+abbrev pub order_mark : PlainOrder → MembersState → (failed_after : Bool) → (clock faults_before faults_after : ℕ) → Mark
+order_mark order members failed_after clock faults_before faults_after =
+    record { did = cond (changes order members) (did_for order) (cond (rose_in faults_before faults_after) dids.Miss dids.Look); moment = moment_of failed_after clock }
+
+-- The answer is a function of the history before its mark.
+abbrev pub AnswersMark : (tells : Type 0) (began : Opening → ℕ → Type 0) (channels : List Selector) → List Mark → Mark → PlainOrder → List ℕ → Type 0
+AnswersMark tells began channels history own order text = tells → (opening : Opening) (t0 : ℕ) → began opening t0
+    → IsAnswer channels (misses own.did ≡ true) opening (events_of opening history) (event_of opening (taken_in history) (events_of opening history) own) order text

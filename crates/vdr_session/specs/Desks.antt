@@ -1,0 +1,64 @@
+-- What a session comes to at its desks (this project's profile): each line that a link gave is answered once and in order; one that asks for an
+-- order is one event of the session's history, and its reply is a function of the history before that.
+use Rattle.std.specs.Prelude.{◌≡◌, ◌≢◌, ◌<◌, ◌⊎◌, ℕ, true, false, List, [], length, get_or, Option, Some, None, ⊤}
+use Rattle.vdr_history.specs.Histories.{Event, Opening}
+use Rattle.vdr_outside.specs.declared.link.Link.{Ghosts as LinkTells}
+use Rattle.vdr_config.specs.Configuration.{Selector}
+use Rattle.vdr_capture.specs.declared.lane.Cause.{Cause}
+use Rattle.vdr_capture.specs.declared.lane.Cause.TheVariants.{Failed}
+use Rattle.vdr_capture.specs.declared.lane.Lane.{Lane}
+use Rattle.vdr_capture.specs.declared.sums.Outcome.{Outcome}
+use Rattle.vdr_capture.specs.declared.sums.Outcome.TheVariants.{Done, NoMemory, Place, Tick, MediaFault, PortFault, LinkFault}
+use Rattle.vdr_desk.specs.declared.desk.Desk.{Desk}
+use Rattle.vdr_desk.specs.Desks.{IsLeastFailed as IsLeastFailedDesk}
+use Rattle.vdr_desk.specs.Exchanges.{AreExchanged, Exchange}
+use Rattle.vdr_desk.specs.Links.{Converses}
+use Rattle.vdr_reply.specs.Answers.{IsAnswer}
+use Rattle.vdr_session.specs.declared.mark.Mark.{Mark}
+use Rattle.vdr_session.specs.Sessions.{IsLeastFailed, is_closed}
+
+module _ {L : Type 0} where
+  -- The link was asked for lines, which were answered so.
+  pub record HasConversed (tells : LinkTells L) (turns : ℕ) (old new : Desk L Mark) (exchanges : List Exchange) : Type 0 where
+    pub cause : Cause
+    pub told : new.cause ≡ Some cause
+    pub conversed : Converses tells turns old.link new.link exchanges cause
+
+  -- The link was asked for nothing.
+  pub record HasRested (old new : Desk L Mark) (exchanges : List Exchange) : Type 0 where
+    pub none : exchanges ≡ []
+    pub same : new.link ≡ old.link
+    pub idle : new.cause ≡ None
+
+  -- In a run that was closed each link was asked for lines.
+  abbrev pub HasSpoken : LinkTells L → ℕ → Outcome → (old new : Desk L Mark) → List Exchange → Type 0
+  HasSpoken tells turns outcome old new exchanges = HasConversed tells turns old new exchanges ⊎ ((is_closed outcome ≡ false) × HasRested old new exchanges)
+
+  -- What was answered at a desk stands in the history: each order is one event there, at rising places, and its reply is judged by the
+  -- events before that. A play may be cut short where a call on the media failed.
+  pub record DeskReplied (tells : LinkTells L) (turns : ℕ) (channels : List Selector) (met_fault : Type 0) (outcome : Outcome) (opening : Opening) (events : List Event) (old new : Desk L Mark) : Type 0 where
+    pub exchanges : List Exchange
+    pub spoken : HasSpoken tells turns outcome old new exchanges
+    pub answered : AreExchanged (IsAnswer channels met_fault opening) events 0 exchanges (length events)
+
+  abbrev pub DesksReplied : LinkTells L → ℕ → List Selector → Type 0 → Outcome → (old new : List (Desk L Mark)) → Opening → List Event → Type 0
+  DesksReplied tells turns channels met_fault outcome old new opening events =
+      (i : ℕ) (d : Desk L Mark) → i < length old → DeskReplied tells turns channels met_fault outcome opening events (get_or old i d) (get_or new i d)
+
+  -- What is told of the desks of any media.
+  pub record DesksTold (tells : LinkTells L) (turns : ℕ) (outcome : Outcome) (old new : List (Desk L Mark)) : Type 0 where
+    pub as_many : length new ≡ length old
+    pub each : (i : ℕ) (d : Desk L Mark) → i < length old → (exchanges : List Exchange) × HasSpoken tells turns outcome (get_or old i d) (get_or new i d) exchanges
+
+abbrev pub NoneFailed : {P : Type 0} → List (Lane P) → Type 0
+NoneFailed {P} lanes = (g : ℕ) (d : Lane P) → g < 16 → (get_or lanes g d).cause ≢ Some Failed
+
+-- Which failure is told: that of the least port, and else that of the least link. A fault of the media comes before both.
+abbrev pub FailureTold : {P L : Type 0} → Outcome → List (Lane P) → List (Desk L Mark) → Type 0
+FailureTold {P} {L} Done lanes desks = NoneFailed lanes × ((i : ℕ) (d : Desk L Mark) → i < length desks → (get_or desks i d).cause ≢ Some Failed)
+FailureTold {P} {L} NoMemory lanes desks = ⊤
+FailureTold {P} {L} Place lanes desks = ⊤
+FailureTold {P} {L} Tick lanes desks = ⊤
+FailureTold {P} {L} MediaFault lanes desks = ⊤
+FailureTold {P} {L} (PortFault g) lanes desks = IsLeastFailed g lanes
+FailureTold {P} {L} (LinkFault i) lanes desks = NoneFailed lanes × IsLeastFailedDesk i desks
