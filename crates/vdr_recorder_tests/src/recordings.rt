@@ -1,3 +1,4 @@
+mod full;
 mod making;
 mod recording;
 mod saving;

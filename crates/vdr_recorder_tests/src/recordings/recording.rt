@@ -96,7 +96,7 @@ pub(super) fn take_item(
     requires missed { total item.missed ≡ 0 }
     requires rings { AreRings recording.old.members (contents_alone media.old).sizes }
     requires open { recording.old.is_open ≡ true }
-    requires number { number < 4 }
+    requires number { number < 16 }
     requires place { recording.old.maker.place ≤ 2 ^ 62 + 2 * number }
     requires numbers { (g : ℕ) → g < 16 → next_number (counted_of recording.old.maker g).pending ≤ number }
     ensures rings { AreRings recording.new.members (contents_alone media.new).sizes }
