@@ -1,5 +1,5 @@
 // Ports that wait for each other.
-use crate::world::{NAVD, VDRD, assert_step, formatted};
+use crate::world::{NAVD, TWO_GROUPS, VDRD, assert_step, formatted};
 use std::alloc::{AllocError, Global};
 use std::test::Fail;
 use std::time::Clock;
@@ -38,10 +38,10 @@ fn lanes<C: Clock + Copy>(clock: C, alloc: Global) -> Result<Vec<Lane<GatedPort<
 #[test]
 fn ports_that_meet_are_recorded_beside_each_other(rt: HostRuntime) -> Result<(), Fail> {
     let alloc = rt.alloc();
-    let media = formatted(&rt, alloc)?;
+    let media = formatted(&rt, alloc, TWO_GROUPS)?;
     let lanes = lanes(&rt, alloc)?;
     let text =
         "NAVD taken 2 recorded 2 full 0 rate 0 bad 0 large 0\nVDRD taken 2 recorded 2 full 0 rate 0 bad 0 large 0\nrecords 6\n";
-    assert_step(&rt, alloc, media, lanes, &["record", "10000"], text, 0)?;
+    assert_step(&rt, alloc, media, lanes, &["record", "10000"], b"", text, 0)?;
     Ok(())
 }

@@ -1,5 +1,5 @@
 // Recordings over ports in memory, by what the ports give and how they end.
-use crate::world::{NAVD, VDRD, assert_step, formatted, formatted_contents};
+use crate::world::{NAVD, ONE_GROUP, TWO_GROUPS, VDRD, assert_step, formatted, formatted_contents};
 use std::alloc::{AllocError, Global};
 use std::process::Abort;
 use std::test::Fail;
@@ -168,68 +168,120 @@ const CASES: [Case; 8] = [
 fn a_recording_ends_and_adds_up_as_its_ports_give(rt: HostRuntime) -> Result<(), Fail> {
     let alloc = rt.alloc();
     for (turns, navd, vdrd, text, code) in CASES {
-        let media = formatted(&rt, alloc)?;
+        let media = formatted(&rt, alloc, TWO_GROUPS)?;
         let lanes = lanes(&rt, alloc, navd, vdrd)?;
-        assert_step(&rt, alloc, media, lanes, &["record", turns], text, code)?;
+        assert_step(
+            &rt,
+            alloc,
+            media,
+            lanes,
+            &["record", turns],
+            b"",
+            text,
+            code,
+        )?;
     }
     Ok(())
 }
 
-// What a command finds and leaves: its words, what NAVD's port gives meanwhile, and what is printed.
-type Step = (&'static [&'static str], Giving, &'static str);
+#[test]
+fn a_quiet_port_is_asked_so_often_and_no_more(rt: HostRuntime) -> Result<(), Fail> {
+    let alloc = rt.alloc();
+    let media = formatted(&rt, alloc, ONE_GROUP)?;
+    let lanes = lanes(&rt, alloc, QUIET, FIVE)?;
+    let text = "NAVD taken 0 recorded 0 full 0 rate 0 bad 0 large 0\nrecords 2\n";
+    assert_step(&rt, alloc, media, lanes, &["record", "3"], b"", text, 0)?;
+    Ok(())
+}
 
-// A recording is played, a further one goes on behind it in the next second, and both are saved.
-const STEPS: [Step; 5] = [
+// A feed of four datagrams of NAVD, received at 0, 999, 1,000 and 60,000 milliseconds.
+const FEED: &[u8] =
+    b"VDRFEED1\x03\0\0\0\0\0\0\0\0\0\0\0\0\0\0\0\0\x06\0AbCdE\0\x03\xe7\x03\0\0\0\0\0\0\xe7\x03\0\0\0\0\0\0\x06\0AbCdE\0\x03\xe8\x03\0\0\0\0\0\0\xe8\x03\0\0\0\0\0\0\x06\0AbCdE\0\x03\x60\xea\0\0\0\0\0\0\x60\xea\0\0\0\0\0\0\x06\0AbCdE\0";
+
+// The words of a command and its input, what NAVD's port gives meanwhile, and what is printed.
+type Step = (&'static [&'static str], &'static [u8], Giving, &'static str);
+
+// A recording is played, and a further one goes on behind it in the next second of recording time.
+const AFTER_A_RECORDING: &[Step] = &[
     (
         &["record", "9"],
+        b"",
         TWO,
         "NAVD taken 2 recorded 2 full 0 rate 0 bad 0 large 0\nVDRD taken 0 recorded 0 full 0 rate 0 bad 0 large 0\nrecords 4\n",
     ),
     (
         &["play", "capsule", "all", "-", "-"],
+        b"",
         NOTHING,
         "0 - - 1970-01-01T00:00:00.000Z start\n1 NAVD 0 1970-01-01T00:00:00.000Z data 6 AbCdE<00>\n  opaque\n2 NAVD 1 1970-01-01T00:00:00.000Z data 6 AbCdE<00>\n  opaque\n3 - - 1970-01-01T00:00:00.000Z stop\n",
     ),
     (
         &["record", "1"],
+        b"",
         TWO,
         "NAVD taken 1 recorded 1 full 0 rate 0 bad 0 large 0\nVDRD taken 0 recorded 0 full 0 rate 0 bad 0 large 0\nrecords 3\n",
     ),
-    (&["save", "dock"], NOTHING, "1\n"),
+    (&["save", "dock"], b"", NOTHING, "1\n"),
     (
         &["incidents"],
+        b"",
         NOTHING,
         "1 1000 1970-01-01T00:00:00.000Z 0 6 dock\n",
     ),
 ];
 
+// A recording of ports that have ended goes on behind a feed: its Start is place 6, at 61,000 milliseconds.
+const AFTER_A_FEED: &[Step] = &[
+    (
+        &["replay"],
+        FEED,
+        NOTHING,
+        "NAVD taken 4 recorded 4 full 0 rate 0 bad 0 large 0\nVDRD taken 0 recorded 0 full 0 rate 0 bad 0 large 0\nrecords 6\n",
+    ),
+    (
+        &["record", "100"],
+        b"",
+        NOTHING,
+        "NAVD taken 0 recorded 0 full 0 rate 0 bad 0 large 0\nVDRD taken 0 recorded 0 full 0 rate 0 bad 0 large 0\nrecords 2\n",
+    ),
+    (&["save", "dock"], b"", NOTHING, "1\n"),
+    (
+        &["incidents"],
+        b"",
+        NOTHING,
+        "1 61000 1970-01-01T00:01:00.000Z 4 7 dock\n",
+    ),
+];
+
 #[test]
-fn one_recording_goes_on_behind_another(rt: HostRuntime) -> Result<(), Fail> {
+fn a_recording_goes_on_behind_what_was_recorded(rt: HostRuntime) -> Result<(), Fail> {
     let alloc = rt.alloc();
-    let mut media = formatted(&rt, alloc)?;
-    for (words, navd, text) in STEPS {
-        let lanes = lanes(&rt, alloc, navd, NOTHING)?;
-        media = assert_step(&rt, alloc, media, lanes, words, text, 0)?;
+    for steps in [AFTER_A_RECORDING, AFTER_A_FEED] {
+        let mut media = formatted(&rt, alloc, TWO_GROUPS)?;
+        for (words, input, navd, text) in steps {
+            let lanes = lanes(&rt, alloc, *navd, NOTHING)?;
+            media = assert_step(&rt, alloc, media, lanes, words, input, text, 0)?;
+        }
     }
     Ok(())
 }
 
 #[test]
-fn media_of_zeros_are_not_recorded_on(rt: HostRuntime) -> Result<(), Fail> {
+fn media_of_no_recorder_are_not_recorded_on(rt: HostRuntime) -> Result<(), Fail> {
     let alloc = rt.alloc();
-    let contents = vec![in alloc; Vec::new(alloc), Vec::new(alloc)]?;
-    assert!(rt; contents.len() == 2);
-    let media = RamMedia::new(contents);
-    let lanes = lanes(&rt, alloc, FIVE, TWO)?;
-    assert_step(
-        &rt,
-        alloc,
-        media,
-        lanes,
-        &["record", "9"],
-        "status 4 unformatted\n",
-        4,
-    )?;
+    for (byte, text) in [
+        (0, "status 4 unformatted\n"),
+        (0xa5, "status 4 damaged 0 0\n"),
+    ] {
+        let contents = vec![in alloc;
+            vec![in alloc; byte; 163_840]?,
+            vec![in alloc; byte; 1_220_608]?,
+        ]?;
+        assert!(rt; contents.len() == 2);
+        let media = RamMedia::new(contents);
+        let lanes = lanes(&rt, alloc, FIVE, TWO)?;
+        assert_step(&rt, alloc, media, lanes, &["record", "9"], b"", text, 4)?;
+    }
     Ok(())
 }
 
@@ -251,6 +303,7 @@ fn a_recording_ends_where_the_media_fail(rt: HostRuntime) -> Result<(), Fail> {
             media,
             lanes,
             &["record", "10"],
+            b"",
             "status 5 media\n",
             5,
         )?;

@@ -12,8 +12,12 @@ use vdr_outside::{Media, Port};
 use vdr_tool::{Status, World};
 
 /// Bench windows, and groups NAVD and VDRD of two datagrams a second, each with a queue of 16 items.
-const TWO: &[u8] =
+pub(crate) const TWO_GROUPS: &[u8] =
     b"{\"profile\":\"bench\",\"capsule_seconds\":60,\"long_seconds\":600,\"incident_seconds\":30,\"incident_slots\":2,\"segment\":8192,\"batch\":2048,\"queue\":16,\"groups\":[{\"name\":\"NAVD\",\"datagrams\":2,\"bytes\":200},{\"name\":\"VDRD\",\"datagrams\":2,\"bytes\":200}],\"channels\":[{\"name\":\"heading\",\"group\":\"NAVD\",\"kind\":\"sentence\",\"formatter\":\"HDT\"}]}";
+
+/// The same with NAVD alone.
+pub(crate) const ONE_GROUP: &[u8] =
+    b"{\"profile\":\"bench\",\"capsule_seconds\":60,\"long_seconds\":600,\"incident_seconds\":30,\"incident_slots\":2,\"segment\":8192,\"batch\":2048,\"queue\":16,\"groups\":[{\"name\":\"NAVD\",\"datagrams\":2,\"bytes\":200}],\"channels\":[{\"name\":\"heading\",\"group\":\"NAVD\",\"kind\":\"sentence\",\"formatter\":\"HDT\"}]}";
 
 /// The groups of NAVD and VDRD.
 pub(crate) const NAVD: u8 = 3;
@@ -72,10 +76,11 @@ pub(crate) fn assert_step<
     media: M,
     lanes: Vec<Lane<P>>,
     words: &[&str],
+    input: &[u8],
     text: &str,
     code: u8,
 ) -> Result<M, Fail> {
-    let (status, printed, media) = answered(rt, alloc, words, b"", media, lanes)?;
+    let (status, printed, media) = answered(rt, alloc, words, input, media, lanes)?;
     assert!(rt;
         printed.as_slice() == text.as_bytes(),
         "{words:?} prints {text}"
@@ -84,24 +89,28 @@ pub(crate) fn assert_step<
     Ok(media)
 }
 
-/// Media that are formatted for both groups.
-pub(crate) fn formatted(rt: &impl Abort, alloc: Global) -> Result<RamMedia, AllocError> {
+/// Media that are formatted with this configuration.
+pub(crate) fn formatted(
+    rt: &impl Abort,
+    alloc: Global,
+    config: &[u8],
+) -> Result<RamMedia, AllocError> {
     let capsule = vec![in alloc; 0u8; 163_840]?;
     let long_term = vec![in alloc; 0u8; 1_220_608]?;
     let contents = vec![in alloc; capsule, long_term]?;
     assert!(rt; contents.len() == 2);
     let mut media = RamMedia::new(contents);
     assert!(rt; media.count() == 2);
-    assert!(rt; format(alloc, &mut media, TWO, false).is_ok());
+    assert!(rt; format(alloc, &mut media, config, false).is_ok());
     Ok(media)
 }
 
-/// The contents of such media.
+/// The contents of media that are formatted for both groups.
 pub(crate) fn formatted_contents(
     rt: &impl Abort,
     alloc: Global,
 ) -> Result<Vec<Vec<u8>>, AllocError> {
-    let media = formatted(rt, alloc)?;
+    let media = formatted(rt, alloc, TWO_GROUPS)?;
     let capsule = media.contents(0).to_vec(alloc)?;
     let long_term = media.contents(1).to_vec(alloc)?;
     Ok(vec![in alloc; capsule, long_term]?)
