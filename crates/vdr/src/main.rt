@@ -3,7 +3,7 @@
 
 use std::env;
 use std::process::ExitCode;
-use vdr_program::{command_line, udp_lanes};
+use vdr_program::{command_line, tcp_desk, udp_lanes};
 use vdr_tool::Status;
 
 fn main(rt: HostRuntime) -> ExitCode {
@@ -19,6 +19,13 @@ fn main(rt: HostRuntime) -> ExitCode {
     let Ok(mut lanes) = udp_lanes(&rt, rt.alloc()) else {
         return ExitCode::from(Status::NoMemory.code());
     };
-    let status = command_line(&rt, words.as_slice(), rt.stdin(), lanes.as_mut_slice());
+    let mut desks = [tcp_desk(&rt)];
+    let status = command_line(
+        &rt,
+        words.as_slice(),
+        rt.stdin(),
+        lanes.as_mut_slice(),
+        &mut desks,
+    );
     ExitCode::from(status.code())
 }

@@ -1,5 +1,5 @@
 -- What `record` owes, by what the recording answers and by what is printed of it.
-use Rattle.std.proofs.Common.{◌≡◌, ◌≢◌, ◌≤◌, ◌<◌, ◌^◌, inl, inr, ⊎_elim, ℕ, Bool, true, false, List, get_or, Option, Some, None, Result, Ok, Err, refl, sym, ap, ◌∙◌, subst, arith}
+use Rattle.std.proofs.Common.{◌≡◌, ◌≢◌, ◌≤◌, ◌<◌, ◌^◌, inl, inr, ⊎_elim, ℕ, Bool, true, false, List, length, get_or, Option, Some, None, Result, Ok, Err, refl, sym, ap, ◌∙◌, subst, arith}
 use Rattle.vdr_terms.specs.declared.rate.Rate.{Rate}
 use Rattle.vdr_terms.specs.Records.{Item}
 use Rattle.vdr_history.specs.Runs.{base_after}
@@ -11,6 +11,7 @@ use Rattle.vdr_capture.specs.declared.lane.Cause.{Cause}
 use Rattle.vdr_capture.specs.declared.lane.Cause.TheVariants.{Failed}
 use Rattle.vdr_capture.specs.declared.sums.Outcome.{Outcome}
 use Rattle.vdr_capture.specs.declared.sums.Outcome.TheVariants as outcomes
+use Rattle.vdr_desk.specs.Exchanges.{Exchange}
 use Rattle.vdr_session.specs.Sessions.{OutcomeMeans, is_closed}
 use Rattle.vdr_session.specs.declared.session.SessionEnd.{SessionEnd}
 use Rattle.vdr_tool.specs.Opened.{OneAnswer, WasRecorded, status_of_opening}
@@ -20,8 +21,9 @@ use Rattle.vdr_tool.specs.declared.status.Status.{Status}
 use Rattle.vdr_tool.specs.declared.status.Status.TheVariants.{Done, MediaFault, PortFault, LinkFault, OutputFault, NoMemory, Place, Tick}
 use Rattle.vdr_tool.proofs.FormatLemmas.{not_both}
 use Rattle.vdr_tool.proofs.OpenedCompleteness.{damaged_alike}
+use Rattle.vdr_live.specs.Links.{AsksLinks, LinkIn, LinkSeen, NoLinkFailed, WasAnswered}
 use Rattle.vdr_live.specs.Ports.{AsksPorts, NoPortFailed, PortIn, PortSeen}
-use Rattle.vdr_live.specs.Recordings.{IfPortFault, IsNotOpened, IsRecorded, PrintsSession, RecordingEnds, Records, RecordsAll, Surroundings, TellsSession}
+use Rattle.vdr_live.specs.Recordings.{IfLinkFault, IfPortFault, IsNotOpened, IsRecorded, PrintsSession, RecordingEnds, Records, RecordsAll, Surroundings, TellsSession}
 
 -- A failure that is told
 
@@ -34,11 +36,20 @@ ports_rose turns true (Some rate) old new cause given runs failed h = h.2.failed
     same c e = cc
 ports_rose turns false (Some rate) old new cause given runs failed h = let none : ⊥ = cc in absurd none
 
-module _ {tells tells_images : Type 0} (turns : ℕ) (ports_old ports_new : List PortSeen) (old new : MediaSeen tells tells_images) (was next : OutputSeen) where
+links_rose : (turns : ℕ) (old new : LinkSeen) (cause : Option Cause) (exchanges : List Exchange) → cause ≡ Some Failed → WasAnswered turns old new cause exchanges → Rose old.faults new.faults
+links_rose turns old new cause exchanges failed h = h.2.fails (same h.0 (sym h.1 ∙ failed))
+  where
+    same : (c : Cause) → Some c ≡ Some Failed → c ≡ Failed
+    same c e = cc
+
+module _ {tells tells_images : Type 0} (turns : ℕ) (ports_old ports_new : List PortSeen) (links_old links_new : List LinkSeen) (old new : MediaSeen tells tells_images) (was next : OutputSeen) where
   abbrev PortRose : ℕ → Type 0
   PortRose g = (g < 16) × ((d : PortSeen) → Rose (get_or ports_old g d).faults (get_or ports_new g d).faults)
 
-  module _ (end : SessionEnd) (ends : IsRecorded turns ports_old ports_new old new end) where
+  abbrev LinkRose : ℕ → Type 0
+  LinkRose i = (i < length links_old) × ((d : LinkSeen) → Rose (get_or links_old i d).faults (get_or links_new i d).faults)
+
+  module _ (end : SessionEnd) (ends : IsRecorded turns ports_old ports_new links_old links_new old new end) where
     -- The ports were asked.
     asked : (o : Outcome) → end.outcome ≡ o → o ≢ outcomes.NoMemory → AsksPorts turns ends.began ends.rates ports_old ports_new o ends.given
     asked o is memory = subst (λ (o : Outcome). AsksPorts turns ends.began ends.rates ports_old ports_new o ends.given) is (ends.ports (λ none. memory (sym is ∙ none)))
@@ -51,8 +62,10 @@ module _ {tells tells_images : Type 0} (turns : ℕ) (ports_old ports_new : List
         let a = asked (outcomes.PortFault g) is (λ none. let n : ⊥ = cc in n) in
         (a.failure.0, λ d. ports_rose turns ends.began (get_or ends.rates g None) (get_or ports_old g d) (get_or ports_new g d) (a.causes g) (ends.given g) (began (outcomes.PortFault g) is refl) a.failure.1 (a.each g d a.failure.0))
 
-    no_link : (i : ℕ) → end.outcome ≡ outcomes.LinkFault i → ⊥
-    no_link i is = (asked (outcomes.LinkFault i) is (λ none. let n : ⊥ = cc in n)).failure
+    link_rose : (i : ℕ) → end.outcome ≡ outcomes.LinkFault i → LinkRose i
+    link_rose i is =
+        let a : AsksLinks turns links_old links_new (outcomes.LinkFault i) = subst (λ (o : Outcome). AsksLinks turns links_old links_new o) is ends.links in
+        (a.failure.0, λ d. let e = a.each i d a.failure.0 in links_rose turns (get_or links_old i d) (get_or links_new i d) (a.causes i) e.0 a.failure.1 e.1)
 
     fault_of : (o : Outcome) (summary : List ℕ) (status : Status) → end.outcome ≡ o → PrintsSession o summary status was next → status ≡ MediaFault → MediaFailed old new
     fault_of outcomes.Done summary status is (inl done) fault = let clash : Done ≡ MediaFault = sym done.0 ∙ fault in let none : ⊥ = cc in absurd none
@@ -62,7 +75,7 @@ module _ {tells tells_images : Type 0} (turns : ℕ) (ports_old ports_new : List
     fault_of outcomes.Tick summary status is told fault = let clash : Tick ≡ MediaFault = sym told.0 ∙ fault in let none : ⊥ = cc in absurd none
     fault_of outcomes.MediaFault summary status is told fault = ends.fault is
     fault_of (outcomes.PortFault g) summary status is told fault = let clash : PortFault g ≡ MediaFault = sym told.0 ∙ fault in let none : ⊥ = cc in absurd none
-    fault_of (outcomes.LinkFault i) summary status is told fault = absurd (no_link i is)
+    fault_of (outcomes.LinkFault i) summary status is told fault = let clash : LinkFault i ≡ MediaFault = sym told.0 ∙ fault in let none : ⊥ = cc in absurd none
 
     port_of : (o : Outcome) (summary : List ℕ) (status : Status) → end.outcome ≡ o → PrintsSession o summary status was next → IfPortFault status PortRose
     port_of outcomes.Done summary status is (inl done) = subst (λ (s : Status). IfPortFault s PortRose) (sym done.0) tt
@@ -72,10 +85,20 @@ module _ {tells tells_images : Type 0} (turns : ℕ) (ports_old ports_new : List
     port_of outcomes.Tick summary status is told = subst (λ (s : Status). IfPortFault s PortRose) (sym told.0) tt
     port_of outcomes.MediaFault summary status is told = subst (λ (s : Status). IfPortFault s PortRose) (sym told.0) tt
     port_of (outcomes.PortFault g) summary status is told = subst (λ (s : Status). IfPortFault s PortRose) (sym told.0) (port_rose g is)
-    port_of (outcomes.LinkFault i) summary status is told = absurd (no_link i is)
+    port_of (outcomes.LinkFault i) summary status is told = subst (λ (s : Status). IfPortFault s PortRose) (sym told.0) tt
+
+    link_of : (o : Outcome) (summary : List ℕ) (status : Status) → end.outcome ≡ o → PrintsSession o summary status was next → IfLinkFault status LinkRose
+    link_of outcomes.Done summary status is (inl done) = subst (λ (s : Status). IfLinkFault s LinkRose) (sym done.0) tt
+    link_of outcomes.Done summary status is (inr failed) = subst (λ (s : Status). IfLinkFault s LinkRose) (sym failed.0) tt
+    link_of outcomes.NoMemory summary status is told = subst (λ (s : Status). IfLinkFault s LinkRose) (sym told.0) tt
+    link_of outcomes.Place summary status is told = subst (λ (s : Status). IfLinkFault s LinkRose) (sym told.0) tt
+    link_of outcomes.Tick summary status is told = subst (λ (s : Status). IfLinkFault s LinkRose) (sym told.0) tt
+    link_of outcomes.MediaFault summary status is told = subst (λ (s : Status). IfLinkFault s LinkRose) (sym told.0) tt
+    link_of (outcomes.PortFault g) summary status is told = subst (λ (s : Status). IfLinkFault s LinkRose) (sym told.0) tt
+    link_of (outcomes.LinkFault i) summary status is told = subst (λ (s : Status). IfLinkFault s LinkRose) (sym told.0) (link_rose i is)
 
     -- By exclusion
-    module _ (told : tells) (law : OneAnswer old.disk.reads) (output : OutputFailed was next → ⊥) (media : MediaFailed old new → ⊥) (ports : NoPortFailed ports_old ports_new) where
+    module _ (told : tells) (law : OneAnswer old.disk.reads) (output : OutputFailed was next → ⊥) (media : MediaFailed old new → ⊥) (ports : NoPortFailed ports_old ports_new) (links : NoLinkFailed links_old links_new) where
       means : (o : Outcome) → end.outcome ≡ o → (x : Contents) → HoldsContents old.disk.reads x → WasRecorded x → OutcomeMeans (opening_of x) o
       means o is x holds sound = subst (λ (o : Outcome). OutcomeMeans (opening_of x) o) is (ends.recorded x told holds sound).means
 
@@ -114,10 +137,10 @@ module _ {tells tells_images : Type 0} (turns : ℕ) (ports_old ports_new : List
       })
       all_of outcomes.MediaFault summary status is p = absurd (media (ends.fault is))
       all_of (outcomes.PortFault g) summary status is p = let r = port_rose g is in absurd (ports g r.0 r.1)
-      all_of (outcomes.LinkFault i) summary status is p = absurd (no_link i is)
+      all_of (outcomes.LinkFault i) summary status is p = let r = link_rose i is in absurd (links i r.0 r.1)
 
   -- Where opening was refused, or failed.
-  refused_all : tells → OneAnswer old.disk.reads → (MediaFailed old new → ⊥) → (refused : OpenRefused) → IsNotOpened turns ports_old ports_new old new refused → RecordsAll old.disk.reads (status_of_opening refused)
+  refused_all : tells → OneAnswer old.disk.reads → (MediaFailed old new → ⊥) → (refused : OpenRefused) → IsNotOpened turns ports_old ports_new links_old links_new old new refused → RecordsAll old.disk.reads (status_of_opening refused)
   refused_all told law media openings.NoMemory ends = record {
     unformatted = λ un. inr refl;
     damaged = λ f m offset r. inr refl;
@@ -148,7 +171,7 @@ module _ {tells tells_images : Type 0} (turns : ℕ) (ports_old ports_new : List
   refused_all told law media openings.Fault ends = absurd (media (ends.media.fault refl))
 
   -- By the answer
-  fault_by : (answer : Result SessionEnd OpenRefused) (status : Status) → TellsSession answer status was next → RecordingEnds turns ports_old ports_new old new answer → status ≡ MediaFault → MediaFailed old new
+  fault_by : (answer : Result SessionEnd OpenRefused) (status : Status) → TellsSession answer status was next → RecordingEnds turns ports_old ports_new links_old links_new old new answer → status ≡ MediaFault → MediaFailed old new
   fault_by (Ok end) status told ends is = fault_of end ends end.outcome (summary_text end.groups end.records) status refl told is
   fault_by (Err refused) status told ends is = ends.media.fault (sym told.0 ∙ is)
 
@@ -158,27 +181,38 @@ module _ {tells tells_images : Type 0} (turns : ℕ) (ports_old ports_new : List
   no_port (openings.Damaged m offset) = tt
   no_port openings.Fault = tt
 
-  port_by : (answer : Result SessionEnd OpenRefused) (status : Status) → TellsSession answer status was next → RecordingEnds turns ports_old ports_new old new answer → IfPortFault status PortRose
+  no_link : (refused : OpenRefused) → IfLinkFault (status_of_opening refused) LinkRose
+  no_link openings.NoMemory = tt
+  no_link openings.NotFormatted = tt
+  no_link (openings.Damaged m offset) = tt
+  no_link openings.Fault = tt
+
+  port_by : (answer : Result SessionEnd OpenRefused) (status : Status) → TellsSession answer status was next → RecordingEnds turns ports_old ports_new links_old links_new old new answer → IfPortFault status PortRose
   port_by (Ok end) status told ends = port_of end ends end.outcome (summary_text end.groups end.records) status refl told
   port_by (Err refused) status told ends = subst (λ (s : Status). IfPortFault s PortRose) (sym told.0) (no_port refused)
 
-  all_by : tells → OneAnswer old.disk.reads → (OutputFailed was next → ⊥) → (MediaFailed old new → ⊥) → NoPortFailed ports_old ports_new → (answer : Result SessionEnd OpenRefused) (status : Status)
-      → TellsSession answer status was next → RecordingEnds turns ports_old ports_new old new answer → RecordsAll old.disk.reads status
-  all_by t law output media ports (Ok end) status told ends = all_of end ends t law output media ports end.outcome (summary_text end.groups end.records) status refl told
-  all_by t law output media ports (Err refused) status told ends = subst (λ (s : Status). RecordsAll old.disk.reads s) (sym told.0) (refused_all t law media refused ends)
+  link_by : (answer : Result SessionEnd OpenRefused) (status : Status) → TellsSession answer status was next → RecordingEnds turns ports_old ports_new links_old links_new old new answer → IfLinkFault status LinkRose
+  link_by (Ok end) status told ends = link_of end ends end.outcome (summary_text end.groups end.records) status refl told
+  link_by (Err refused) status told ends = subst (λ (s : Status). IfLinkFault s LinkRose) (sym told.0) (no_link refused)
+
+  all_by : tells → OneAnswer old.disk.reads → (OutputFailed was next → ⊥) → (MediaFailed old new → ⊥) → NoPortFailed ports_old ports_new → NoLinkFailed links_old links_new → (answer : Result SessionEnd OpenRefused) (status : Status)
+      → TellsSession answer status was next → RecordingEnds turns ports_old ports_new links_old links_new old new answer → RecordsAll old.disk.reads status
+  all_by t law output media ports links (Ok end) status told ends = all_of end ends t law output media ports links end.outcome (summary_text end.groups end.records) status refl told
+  all_by t law output media ports links (Err refused) status told ends = subst (λ (s : Status). RecordsAll old.disk.reads s) (sym told.0) (refused_all t law media refused ends)
 
 -- What the command owes.
 pub records_so : {tells tells_images : Type 0} (turns : ℕ) (old new : Surroundings tells tells_images) (status : Status) (answer : Result SessionEnd OpenRefused) → OneAnswer old.alone.media.disk.reads
-    → TellsSession answer status old.alone.output new.alone.output → RecordingEnds turns old.ports new.ports old.alone.media new.alone.media answer
+    → TellsSession answer status old.alone.output new.alone.output → RecordingEnds turns old.ports new.ports old.links new.links old.alone.media new.alone.media answer
     → (status ≡ OutputFault → OutputFailed old.alone.output new.alone.output) → Records turns old new status
 records_so turns old new status answer law told ends output = record {
   answer = answer;
   told = told;
   ends = ends;
   output = output;
-  media = fault_by turns old.ports new.ports old.alone.media new.alone.media old.alone.output new.alone.output answer status told ends;
-  port = port_by turns old.ports new.ports old.alone.media new.alone.media old.alone.output new.alone.output answer status told ends;
-  complete = λ none ports t. all_by turns old.ports new.ports old.alone.media new.alone.media old.alone.output new.alone.output t law none.output none.media ports answer status told ends;
+  media = fault_by turns old.ports new.ports old.links new.links old.alone.media new.alone.media old.alone.output new.alone.output answer status told ends;
+  port = port_by turns old.ports new.ports old.links new.links old.alone.media new.alone.media old.alone.output new.alone.output answer status told ends;
+  link = link_by turns old.ports new.ports old.links new.links old.alone.media new.alone.media old.alone.output new.alone.output answer status told ends;
+  complete = λ none ports links t. all_by turns old.ports new.ports old.links new.links old.alone.media new.alone.media old.alone.output new.alone.output t law none.output none.media ports links answer status told ends;
 }
 
 -- The status of a session

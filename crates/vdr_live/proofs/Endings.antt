@@ -16,22 +16,28 @@ use Rattle.vdr_vault.specs.Vaults.{ShowsHistory}
 use Rattle.vdr_recorder.specs.Recordings.{HasRecorded, RecordingState, start_of_opening}
 use Rattle.vdr_capture.specs.declared.lane.Lane.{Lane}
 use Rattle.vdr_capture.specs.declared.sums.Outcome.TheVariants.{MediaFault, NoMemory}
-use Rattle.vdr_session.specs.Sessions.{HasGroups, HasSessionCause, PortsTold, RecordsSession, Session}
+use Rattle.vdr_outside.specs.declared.link.Link.{Ghosts as LinkTells}
+use Rattle.vdr_desk.specs.declared.desk.Desk.{Desk}
+use Rattle.vdr_session.specs.declared.mark.Mark.{Mark}
+use Rattle.vdr_session.specs.Desks.{DesksReplied, DesksTold, FailureTold}
+use Rattle.vdr_session.specs.Sessions.{HasGroups, HasSessionCause, RecordsSession, SessionWith}
 use Rattle.vdr_session.specs.declared.session.SessionEnd.{SessionEnd}
 use Rattle.vdr_replay.proofs.Headlines.{passes_opened}
 use Rattle.vdr_replay.proofs.Playing.{config_read}
 use Rattle.vdr_tool.specs.Opened.{WasRecorded}
 use Rattle.vdr_tool.specs.Outside.{MediaSeen}
+use Rattle.vdr_live.specs.Links.{AreReplied, seen_links}
 use Rattle.vdr_live.specs.Ports.{seen_ports}
 use Rattle.vdr_live.specs.Recordings.{IsRecorded}
 use Rattle.vdr_live.proofs.Headlines.{headline}
+use Rattle.vdr_live.proofs.LinkLemmas.{are_replied, asks_links}
 use Rattle.vdr_live.proofs.PortLemmas.{asks_ports, unasked}
 
 -- What stays on the other media, over two calls.
 pub same_twice : (old mid new : Image) → SameElsewhere old mid → SameElsewhere mid new → SameElsewhere old new
 same_twice old mid new first then = λ k a b. then k a b ∙ first k a b
 
-module _ {P tells tells_images : Type 0} (port_tells : PortTells P) (turns : ℕ) (lanes_old lanes_new : List (Lane P)) (old mid new : MediaSeen tells tells_images) (r : RecordingState) (end : SessionEnd)
+module _ {P L tells tells_images : Type 0} (port_tells : PortTells P) (link_tells : LinkTells L) (turns : ℕ) (lanes_old lanes_new : List (Lane P)) (desks_old desks_new : List (Desk L Mark)) (old mid new : MediaSeen tells tells_images) (r : RecordingState) (end : SessionEnd)
     (olds : length lanes_old ≡ 16) (news : length lanes_new ≡ 16)
     (contents : tells → IsFormatted old.disk.reads × (x : Contents) × HoldsContents old.disk.reads x × EndsMeet both (reading_of x) × (r.members.config ≡ x.config))
     (one : (x y : Contents) → HoldsContents old.disk.reads x → HoldsContents old.disk.reads y → (x.config ≡ y.config) × (EndsMeet both (reading_of x) → EndsMeet both (reading_of y)))
@@ -39,21 +45,23 @@ module _ {P tells tells_images : Type 0} (port_tells : PortTells P) (turns : ℕ
     (moments : (x : Contents) → tells → HoldsContents old.disk.reads x → EndsMeet both (reading_of x) → WasRecorded x
     → OpensAtEachMoment {T = RecordingState} old.disk mid.disk (Ok r) (ShowsHistory (opening_of x) []))
     (first_others : tells → SameElsewhere old.disk.reads mid.disk.reads) (first_later : NoneFalls old.faults mid.faults)
-    (session : Session port_tells turns r.members.config.queue r.members.config.groups lanes_old lanes_new r mid.disk new.disk end)
-    (told : PortsTold end.outcome lanes_new) (groups : HasGroups r.members.config.groups end)
+    (session : SessionWith port_tells turns r.members.config.queue r.members.config.groups lanes_old lanes_new r mid.disk new.disk end
+    (DesksReplied link_tells turns r.members.config.channels (Rose (sum mid.faults) (sum new.faults)) end.outcome desks_old desks_new))
+    (desks : DesksTold link_tells turns end.outcome desks_old desks_new) (told : FailureTold end.outcome lanes_new desks_new) (groups : HasGroups r.members.config.groups end)
     (memory : end.outcome ≡ NoMemory → (g : ℕ) (d : Lane P) → g < 16 → (get_or lanes_new g d).port ≡ (get_or lanes_old g d).port)
     (others : tells → SameElsewhere mid.disk.reads new.disk.reads) (cause : HasSessionCause mid.faults new.faults end.outcome) where
   abbrev rose : Type 0
   rose = Rose (sum old.faults) (sum new.faults)
 
-  pub recorded_ends : IsRecorded turns (seen_ports port_tells lanes_old) (seen_ports port_tells lanes_new) old new end
+  pub recorded_ends : IsRecorded turns (seen_ports port_tells lanes_old) (seen_ports port_tells lanes_new) (seen_links link_tells desks_old) (seen_links link_tells desks_new) old new end
   recorded_ends = record {
     rates = r.members.config.groups;
     began = session.began;
     given = session.given;
     runs = session.runs;
-    ports = λ memory. asks_ports port_tells turns r.members.config.queue session.began r.members.config.groups end.intakes lanes_old lanes_new end.outcome session.given session.rest olds news (session.lanes memory) told;
+    ports = λ memory. asks_ports port_tells turns r.members.config.queue session.began r.members.config.groups end.intakes lanes_old lanes_new end.outcome session.given session.rest olds news (session.lanes memory) desks_new told;
     unasked = λ is. unasked port_tells lanes_old lanes_new olds news (memory is);
+    links = asks_links link_tells turns end.outcome lanes_new desks_old desks_new desks told;
     groups = groups;
     recorded = λ x t holds sound.
         let was = contents t in
@@ -66,11 +74,17 @@ module _ {P tells tells_images : Type 0} (port_tells : PortTells P) (turns : ℕ
         (passes_opened x [] rose reads sound old.disk mid.disk r (moments x t holds meet sound)) begun.1 begun.2
         session.given session.rest session.items session.lost session.feed end made.0 made.1
         (subst (λ (c : Configuration). RecordsSession (start_of_opening (opening_of x)) c.groups c.queue session.given session.rest session.items session.lost end (recorded made.0)) same made.2)
-        (subst (λ (c : Configuration). HasGroups c.groups end) same groups) risen;
+        (subst (λ (c : Configuration). HasGroups c.groups end) same groups) risen
+        turns (seen_links link_tells desks_old) (seen_links link_tells desks_new)
+        (subst (λ (c : Configuration). AreReplied turns c.channels rose end.outcome (opening_of x) made.0 (seen_links link_tells desks_old) (seen_links link_tells desks_new)) same
+        (are_replied link_tells turns r.members.config.channels (Rose (sum mid.faults) (sum new.faults)) rose end.outcome (opening_of x) made.0 desks_old desks_new desks.as_many since made.3));
     legible = λ t. let was = contents t in (was.0, was.1, was.2, was.3, ap (λ (c : Configuration). c.groups) (sym was.4));
     others = λ t. same_twice old.disk.reads mid.disk.reads new.disk.reads (first_others t) (others t);
     fault = risen;
   }
     where
+      since : Rose (sum mid.faults) (sum new.faults) → Rose (sum old.faults) (sum new.faults)
+      since later = rose_after (sum old.faults) (sum mid.faults) (sum new.faults) (sum_not_less old.faults mid.faults first_later.same_media first_later.none_falls) later
+
       risen : end.outcome ≡ MediaFault → Rose (sum old.faults) (sum new.faults)
-      risen is = rose_after (sum old.faults) (sum mid.faults) (sum new.faults) (sum_not_less old.faults mid.faults first_later.same_media first_later.none_falls) (cause.rose is)
+      risen is = since (cause.rose is)

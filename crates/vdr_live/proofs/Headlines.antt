@@ -23,6 +23,7 @@ use Rattle.vdr_replay.specs.Headline.{PlaysBack}
 use Rattle.vdr_replay.proofs.Headlines.{back, keeps_told, order_after, prefix_told}
 use Rattle.vdr_replay.proofs.Passing.{passes_join}
 use Rattle.vdr_live.specs.Headline.{Headline}
+use Rattle.vdr_live.specs.Links.{AreReplied, LinkSeen}
 
 -- Of a run that was closed there are sums and queues.
 closed_has : (outcome : Outcome) → is_closed outcome ≡ true → has_groups outcome ≡ true
@@ -51,8 +52,9 @@ module _ {tells tells_images : Type 0} (x : Contents) (reads : configuration x.t
   pub headline : (given : ℕ → List Item) (rest : ℕ → Counts) (items lost : List Captured) → AllFeed (items ++ lost) rest given → (end : SessionEnd) (events : List Event)
       → KeepsSession (opening_of x) t0 end.outcome mid new events
       → RecordsSession (start_of_opening (opening_of x)) x.config.groups x.config.queue given rest items lost end (recorded events) → HasGroups x.config.groups end
-      → (end.outcome ≡ MediaFault → rose) → Headline x rose old new given end
-  headline given rest items lost feed end events k s groups risen = record {
+      → (end.outcome ≡ MediaFault → rose) → (turns : ℕ) (links_old links_new : List LinkSeen) → AreReplied turns x.config.channels rose end.outcome (opening_of x) events links_old links_new
+      → Headline x rose old new given turns links_old links_new end
+  headline given rest items lost feed end events k s groups risen turns links_old links_new replies = record {
     events = events;
     history = k.history;
     order = order;
@@ -64,6 +66,7 @@ module _ {tells tells_images : Type 0} (x : Contents) (reads : configuration x.t
     feed = feed;
     records = s;
     full = full_held (start_of_opening (opening_of x)) x.config.groups x.config.queue given rest items lost end (recorded events) s groups;
+    replies = replies;
     since_entry = λ image left. ⊎_elim (λ now. inl now) (λ shown. inr (prefix_told (ShowsHistory (opening_of x)) (PlaysBack (opening_of x)) events (back x reads events order) 0 image shown)) (all.each image left);
     synced = t0;
     after_entry = entry;

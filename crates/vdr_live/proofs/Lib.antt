@@ -1,6 +1,7 @@
 pub mod Completeness
 pub mod Endings
 pub mod Headlines
+pub mod LinkLemmas
 pub mod Lives
 pub mod PortLemmas
 pub mod Words

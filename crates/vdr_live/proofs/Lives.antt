@@ -17,11 +17,12 @@ use Rattle.vdr_tool.specs.Outside.{MediaSeen}
 use Rattle.vdr_tool.proofs.FormatLemmas.{not_both}
 use Rattle.vdr_tool.proofs.LifeGoesOn.{media_life, run_life}
 use Rattle.vdr_tool.proofs.Lives.{media_lives, played_ours}
+use Rattle.vdr_live.specs.Links.{LinkSeen}
 use Rattle.vdr_live.specs.Ports.{PortSeen}
 use Rattle.vdr_live.specs.Recordings.{RecordingEnds}
 
-module _ {tells tells_images : Type 0} (turns : ℕ) (ports_old ports_new : List PortSeen) (old new : MediaSeen tells tells_images) where
-  pub record_lives : (answer : Result SessionEnd OpenRefused) → RecordingEnds turns ports_old ports_new old new answer → tells_images → AreOurs old.disk → StayOurs old.disk new.disk
+module _ {tells tells_images : Type 0} (turns : ℕ) (ports_old ports_new : List PortSeen) (links_old links_new : List LinkSeen) (old new : MediaSeen tells tells_images) where
+  pub record_lives : (answer : Result SessionEnd OpenRefused) → RecordingEnds turns ports_old ports_new links_old links_new old new answer → tells_images → AreOurs old.disk → StayOurs old.disk new.disk
   record_lives (Ok end) ends told ours = ours_opened old.disk new.disk told ours (λ t un. absurd (not_both old.disk.reads (ends.legible t).0 un)) (λ x t holds meet sound.
       let h = ends.recorded x t holds sound in inr (
         (let first = h.after_entry in let then = h.before_exit in omega (arith, first, then)),
@@ -29,7 +30,7 @@ module _ {tells tells_images : Type 0} (turns : ℕ) (ports_old ports_new : List
       ))
   record_lives (Err refused) ends told ours = media_lives old new (status_of_opening refused) ends.media told ours
 
-  pub record_life : (c : Configuration) (text : List ℕ) (all : List Event) (image : Image) (answer : Result SessionEnd OpenRefused) → RecordingEnds turns ports_old ports_new old new answer
+  pub record_life : (c : Configuration) (text : List ℕ) (all : List Event) (image : Image) (answer : Result SessionEnd OpenRefused) → RecordingEnds turns ports_old ports_new links_old links_new old new answer
       → tells → RestAs image old.disk → Life c text all image → LivesOn c text all old.disk new.disk
   record_life c text all image (Ok end) ends told rest life =
       let l : LifeHolds c text image = life_holds c text all image life in

@@ -10,8 +10,11 @@ use Rattle.vdr_capture.specs.Gives.{Gave}
 use Rattle.vdr_capture.specs.declared.lane.Lane.{Lane}
 use Rattle.vdr_capture.specs.declared.sums.Outcome.{Outcome}
 use Rattle.vdr_capture.specs.declared.sums.Outcome.TheVariants.{Done, NoMemory, Place, Tick, MediaFault, PortFault, LinkFault}
+use Rattle.vdr_desk.specs.declared.desk.Desk.{Desk}
+use Rattle.vdr_session.specs.declared.mark.Mark.{Mark}
+use Rattle.vdr_session.specs.Desks.{FailureTold}
 use Rattle.vdr_session.specs.Ran.{PortRan, PortRests}
-use Rattle.vdr_session.specs.Sessions.{LaneTold, PortsTold}
+use Rattle.vdr_session.specs.Sessions.{LaneTold}
 use Rattle.vdr_live.specs.Ports.{AsksPorts, PortIn, PortSeen, TellsFailure, WasAsked, seen_port, seen_ports}
 
 pub first_of : {A : Type 0} (xs : List A) → 0 < length xs → A
@@ -49,20 +52,20 @@ module _ {P : Type 0} (tells : PortTells P) where
   port_in turns capacity true g (Some rate) (Some intake) was lane given rest h = (h.2.cause, h.2.told_is, asked_in turns g intake.0 intake.1 was lane given rest h.2)
   port_in turns capacity false g (Some rate) (Some intake) was lane given rest h = rests_in was lane given rest h.2
 
-  failure_of : (outcome : Outcome) (lanes : List (Lane P)) (e : Lane P) → PortsTold outcome lanes → TellsFailure outcome (λ g. (get_or lanes g e).cause)
-  failure_of Done lanes e told = λ g small. told g e small
-  failure_of NoMemory lanes e told = tt
-  failure_of Place lanes e told = tt
-  failure_of Tick lanes e told = tt
-  failure_of MediaFault lanes e told = tt
-  failure_of (PortFault k) lanes e told = (told.within, told.fails e, λ g low. told.least g e low)
-  failure_of (LinkFault i) lanes e told = told
+  failure_of : {L : Type 0} (outcome : Outcome) (lanes : List (Lane P)) (desks : List (Desk L Mark)) (e : Lane P) → FailureTold outcome lanes desks → TellsFailure outcome (λ g. (get_or lanes g e).cause)
+  failure_of Done lanes desks e told = λ g small. told.0 g e small
+  failure_of NoMemory lanes desks e told = tt
+  failure_of Place lanes desks e told = tt
+  failure_of Tick lanes desks e told = tt
+  failure_of MediaFault lanes desks e told = tt
+  failure_of (PortFault k) lanes desks e told = (told.within, told.fails e, λ g low. told.least g e low)
+  failure_of (LinkFault i) lanes desks e told = λ g small. told.0 g e small
 
-  pub asks_ports : (turns capacity : ℕ) (began : Bool) (rates : List (Option Rate)) (intakes : List (Option (QueueId × Taking))) (old new : List (Lane P)) (outcome : Outcome) (given : ℕ → List Item) (rest : ℕ → Counts)
+  pub asks_ports : {L : Type 0} (turns capacity : ℕ) (began : Bool) (rates : List (Option Rate)) (intakes : List (Option (QueueId × Taking))) (old new : List (Lane P)) (outcome : Outcome) (given : ℕ → List Item) (rest : ℕ → Counts)
       → length old ≡ 16 → length new ≡ 16
       → ((g : ℕ) (d : Lane P) → g < 16 → LaneTold tells turns capacity began g (get_or rates g None) (get_or intakes g None) (get_or old g d).port (get_or new g d) (given g) (rest g))
-      → PortsTold outcome new → AsksPorts turns began rates (seen_ports tells old) (seen_ports tells new) outcome given
-  asks_ports turns capacity began rates intakes old new outcome given rest olds news lanes told =
+      → (desks : List (Desk L Mark)) → FailureTold outcome new desks → AsksPorts turns began rates (seen_ports tells old) (seen_ports tells new) outcome given
+  asks_ports turns capacity began rates intakes old new outcome given rest olds news lanes desks told =
       let e = first_of old (omega (arith, olds)) in
       record {
         causes = λ g. (get_or new g e).cause;
@@ -71,7 +74,7 @@ module _ {P : Type 0} (tells : PortTells P) where
             let b : get_or (seen_ports tells new) g d ≡ seen_port tells (get_or new g e) = get_or-map (seen_port tells) new g e d (omega (arith, news, small)) in
             subst (λ (p : PortSeen × PortSeen). PortIn turns began (get_or rates g None) p.0 p.1 (get_or new g e).cause (given g)) (λ i. (sym a i, sym b i))
             (port_in turns capacity began g (get_or rates g None) (get_or intakes g None) (get_or old g e) (get_or new g e) (given g) (rest g) (lanes g e small));
-        failure = failure_of outcome new e told;
+        failure = failure_of outcome new desks e told;
       }
 
   -- The same ports tell the same.

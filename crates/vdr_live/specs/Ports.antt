@@ -42,7 +42,7 @@ PortIn turns began None old new cause given = (new ≡ old) × (given ≡ []) ×
 PortIn turns true (Some rate) old new cause given = (c : Cause) × (cause ≡ Some c) × WasAsked turns old new c given
 PortIn turns false (Some rate) old new cause given = (new ≡ old) × (given ≡ [])
 
--- A failure is told where the run was closed, that of the least group where several ports failed.
+-- A failure is told where the run was closed, that of the least group where several ports failed, and that of a link only where none did.
 abbrev pub TellsFailure : Outcome → (ℕ → Option Cause) → Type 0
 TellsFailure Done causes = (g : ℕ) → g < 16 → causes g ≢ Some Failed
 TellsFailure NoMemory causes = ⊤
@@ -50,7 +50,7 @@ TellsFailure Place causes = ⊤
 TellsFailure Tick causes = ⊤
 TellsFailure MediaFault causes = ⊤
 TellsFailure (PortFault k) causes = (k < 16) × (causes k ≡ Some Failed) × ((g : ℕ) → g < k → causes g ≢ Some Failed)
-TellsFailure (LinkFault i) causes = ⊥
+TellsFailure (LinkFault i) causes = (g : ℕ) → g < 16 → causes g ≢ Some Failed
 
 -- What each port gave, and which failure is told.
 pub record AsksPorts (turns : ℕ) (began : Bool) (rates : List (Option Rate)) (old new : List PortSeen) (outcome : Outcome) (given : ℕ → List Item) : Type 0 where

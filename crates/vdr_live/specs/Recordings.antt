@@ -1,5 +1,5 @@
--- What `record TURNS` answers, what it takes from the ports, and what it leaves of the media (this project's profile).
-use Rattle.std.specs.Prelude.{◌≡◌, ◌≢◌, ◌≤◌, ◌<◌, ◌^◌, ◌⊎◌, ◌∷◌, ℕ, Bool, true, List, [], String, map, string_bytes, codes, decimal, get_or, Option, Result, Ok, Err, ⊤}
+-- What `record TURNS` answers, what it takes from the ports and replies over the links, and what it leaves of the media (this project's profile).
+use Rattle.std.specs.Prelude.{◌≡◌, ◌≢◌, ◌≤◌, ◌<◌, ◌^◌, ◌⊎◌, ◌∷◌, ℕ, Bool, true, List, [], String, map, string_bytes, codes, decimal, length, get_or, Option, Result, Ok, Err, ⊤}
 use Rattle.std.specs.declared.alloc.Global.{Global}
 use Rattle.vdr_terms.specs.declared.rate.Rate.{Rate}
 use Rattle.vdr_terms.specs.Records.{Item}
@@ -24,9 +24,10 @@ use Rattle.vdr_tool.specs.Summaries.{summary_text}
 use Rattle.vdr_tool.specs.declared.status.Status.{Status}
 use Rattle.vdr_tool.specs.declared.status.Status.TheVariants.{Done, Unformatted, Damaged, MediaFault, PortFault, LinkFault, OutputFault, NoMemory, Place, Tick}
 use Rattle.vdr_live.specs.Headline.{Headline}
+use Rattle.vdr_live.specs.Links.{AsksLinks, LinkSeen, NoLinkFailed}
 use Rattle.vdr_live.specs.Ports.{AsksPorts, NoPortFailed, PortSeen}
 
--- The most takes of a port in a run.
+-- The most takes of a port, and calls of a link for a line, in a run.
 abbrev pub most_turns : ℕ
 most_turns = 1_000_000_000_000
 
@@ -39,10 +40,11 @@ pub record SpellsRecord (texts : List (List ℕ)) (turns : ℕ) : Type 0 where
 abbrev pub AsksRecord : List (String Global) → ℕ → Type 0
 AsksRecord words turns = SpellsRecord (map string_bytes words) turns
 
--- All that stands outside of the program, with the ports.
+-- All that stands outside of the program, with the ports and the links.
 pub record Surroundings (tells tells_images : Type 0) : Type 1 where
   pub alone : Outside tells tells_images
   pub ports : List PortSeen
+  pub links : List LinkSeen
 
 -- How a session ends the command, and the summary of a run that was closed.
 abbrev pub PrintsSession : Outcome → (summary : List ℕ) → Status → (old new : OutputSeen) → Type 0
@@ -62,8 +64,8 @@ abbrev pub TellsSession : Result SessionEnd OpenRefused → Status → (old new 
 TellsSession (Ok end) status old new = PrintsSession end.outcome (summary_text end.groups end.records) status old new
 TellsSession (Err refused) status old new = (status ≡ status_of_opening refused) × (new ≡ old)
 
-module _ {tells tells_images : Type 0} (turns : ℕ) (ports_old ports_new : List PortSeen) (old new : MediaSeen tells tells_images) where
-  -- The media were opened, and a session recorded what the ports gave.
+module _ {tells tells_images : Type 0} (turns : ℕ) (ports_old ports_new : List PortSeen) (links_old links_new : List LinkSeen) (old new : MediaSeen tells tells_images) where
+  -- The media were opened, and a session recorded what the ports gave and answered what the links asked for.
   pub record IsRecorded (end : SessionEnd) : Type 0 where
     pub rates : List (Option Rate)
     pub began : Bool
@@ -73,15 +75,18 @@ module _ {tells tells_images : Type 0} (turns : ℕ) (ports_old ports_new : List
     pub ports : end.outcome ≢ outcomes.NoMemory → AsksPorts turns began rates ports_old ports_new end.outcome given
     pub unasked : end.outcome ≡ outcomes.NoMemory → ports_new ≡ ports_old
     pub groups : HasGroups rates end
-    -- one history of what they gave, whole and at every moment
-    pub recorded : (x : Contents) → tells → HoldsContents old.disk.reads x → WasRecorded x → Headline x (MediaFailed old new) old.disk new.disk given end
+    -- what was answered over each link, and its failure
+    pub links : AsksLinks turns links_old links_new end.outcome
+    -- one history of what the ports gave, whole and at every moment, and in it the orders of the links
+    pub recorded : (x : Contents) → tells → HoldsContents old.disk.reads x → WasRecorded x → Headline x (MediaFailed old new) old.disk new.disk given turns links_old links_new end
     pub legible : tells → IsLegibleWith old.disk.reads (λ x. x.config.groups ≡ rates)
     pub others : tells → SameElsewhere old.disk.reads new.disk.reads
     pub fault : end.outcome ≡ outcomes.MediaFault → MediaFailed old new
 
-  -- Opening was refused, or failed: no port was asked, and nothing was recorded.
+  -- Opening was refused, or failed: no port and no link was asked, and nothing was recorded.
   pub record IsNotOpened (refused : OpenRefused) : Type 0 where
     pub unasked : ports_new ≡ ports_old
+    pub unspoken : links_new ≡ links_old
     pub media : MediaEnds (λ x. ⊤) ⊥ (λ events. events ≡ []) old new (status_of_opening refused)
 
   abbrev pub RecordingEnds : Result SessionEnd OpenRefused → Type 0
@@ -103,16 +108,22 @@ abbrev pub IfPortFault : Status → (ℕ → Type 0) → Type 0
 IfPortFault (PortFault g) P = P g
 IfPortFault status P = ⊤
 
+-- The link of this number failed.
+abbrev pub IfLinkFault : Status → (ℕ → Type 0) → Type 0
+IfLinkFault (LinkFault i) P = P i
+IfLinkFault status P = ⊤
+
 -- What `record TURNS` owes.
 pub record Records {tells tells_images : Type 0} (turns : ℕ) (old new : Surroundings tells tells_images) (status : Status) : Type 0 where
   -- how the recording ended, as status and output tell it
   pub answer : Result SessionEnd OpenRefused
   pub told : TellsSession answer status old.alone.output new.alone.output
-  -- the ports and the media, and what is said of them
-  pub ends : RecordingEnds turns old.ports new.ports old.alone.media new.alone.media answer
+  -- the ports, the links and the media, and what is said of them
+  pub ends : RecordingEnds turns old.ports new.ports old.links new.links old.alone.media new.alone.media answer
   -- each failure comes only with its cause
   pub output : status ≡ OutputFault → OutputFailed old.alone.output new.alone.output
   pub media : status ≡ MediaFault → MediaFailed old.alone.media new.alone.media
   pub port : IfPortFault status (λ g. (g < 16) × ((d : PortSeen) → Rose (get_or old.ports g d).faults (get_or new.ports g d).faults))
+  pub link : IfLinkFault status (λ i. (i < length old.links) × ((d : LinkSeen) → Rose (get_or old.links i d).faults (get_or new.links i d).faults))
   -- nothing else comes in the place of the recording, or of a refusal, but want of memory
-  pub complete : NothingFailed old.alone new.alone → NoPortFailed old.ports new.ports → tells → RecordsAll old.alone.media.disk.reads status
+  pub complete : NothingFailed old.alone new.alone → NoPortFailed old.ports new.ports → NoLinkFailed old.links new.links → tells → RecordsAll old.alone.media.disk.reads status

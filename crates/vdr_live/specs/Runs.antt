@@ -11,12 +11,12 @@ module _ {tells tells_images : Type 0} where
   -- The recording was done, and then the line of its status was written.
   pub record EndsRecord (turns : ℕ) (old new : Surroundings tells tells_images) (status : Status) : Type 0 where
     pub between : OutputSeen
-    pub owed : Records turns old (record { alone = record { input = new.alone.input; output = between; media = new.alone.media }; ports = new.ports }) status
+    pub owed : Records turns old (record { alone = record { input = new.alone.input; output = between; media = new.alone.media }; ports = new.ports; links = new.links }) status
     pub line : WritesLine status between new.alone.output
     pub later : (old.alone.output.faults ≤ between.faults) × (between.faults ≤ new.alone.output.faults)
     pub sizes : new.alone.media.disk.sizes ≡ old.alone.media.disk.sizes
 
   pub record RunsAll (words : List (String Global)) (old new : Surroundings tells tells_images) (status : Status) : Type 0 where
     pub recorded : (turns : ℕ) → AsksRecord words turns → EndsRecord turns old new status
-    -- all other words are left to `run_alone`, and no port is asked
-    pub alone : ((turns : ℕ) → AsksRecord words turns → ⊥) → Runs words old.alone new.alone status × (new.ports ≡ old.ports)
+    -- all other words are left to `run_alone`, and no port and no link is asked
+    pub alone : ((turns : ℕ) → AsksRecord words turns → ⊥) → Runs words old.alone new.alone status × (new.ports ≡ old.ports) × (new.links ≡ old.links)

@@ -1,4 +1,4 @@
-ghost use Rattle.std.specs.Prelude.{◌≡◌, ◌≤◌, ◌<◌, ◌⊎◌, ℕ, List, length, slice_index_or};
+ghost use Rattle.std.specs.Prelude.{◌≡◌, ◌≤◌, ◌<◌, ◌^◌, ◌⊎◌, ℕ, List, length, slice_index_or};
 ghost use Rattle.vdr_history.specs.Histories.{Event};
 ghost use Rattle.vdr_outside.specs.Disk.{Image};
 ghost use Rattle.vdr_config.specs.Configuration.{Configuration};
@@ -8,6 +8,7 @@ ghost use Rattle.vdr_tool.specs.Commands.{Asked};
 ghost use Rattle.vdr_tool.specs.Lives.{FormatsNothing, StartsSynced};
 ghost use Rattle.vdr_tool.specs.Runs.{Asks, page};
 ghost use Rattle.vdr_tool.specs.declared.status.Status.TheVariants.{Words};
+ghost use Rattle.vdr_live.specs.Links.{seen_links};
 ghost use Rattle.vdr_live.specs.Ports.{seen_ports};
 ghost use Rattle.vdr_live.specs.Recordings.{AsksRecord};
 ghost use Rattle.vdr_live.specs.Runs.{RunsAll};
@@ -18,25 +19,28 @@ use std::alloc::Global;
 use std::sync::Wait;
 use std::thread::Threads;
 use vdr_capture::Lane;
-use vdr_outside::{Media, Port, Sink, Source};
+use vdr_outside::{Link, Media, Port, Sink, Source};
+use vdr_session::{Desk, Mark};
 use vdr_tool::{Outer, Status, World, report, run_alone};
 
 /// Does what the words ask for, and tells how it ended.
 ///
 /// - `record TURNS`, with 1 to 1,000,000,000,000 takes in decimal digits without a leading zero, reads no input. It opens the media and records on
-///   them, as one run, what the ports of the configured groups give, each captured beside the others with at most TURNS takes. It ends when
-///   each of them has ended, failed, or was asked so often, and prints the summary of the run, as `replay` does.
-/// - For all other words it is `vdr_tool::run_alone`, and no port is asked.
+///   them, as one run, what the ports of the configured groups give, each captured beside the others with at most TURNS takes. Meanwhile it
+///   answers the orders of an operator that come over the links of the desks, with at most TURNS calls of each for a line. It ends when each
+///   port and each link has ended, failed, or was asked so often, and prints the summary of the run, as `replay` does.
+/// - For all other words it is `vdr_tool::run_alone`, and no port and no link is asked.
 ///
-/// The lanes are those of the 16 transmission groups, each at the number of its group. Where a port fails the others go on, and the run is closed
-/// and its summary printed before `PortFault`, which tells the least group whose port failed. A fault of the media wins over it; then no
-/// summary is printed, and the media have to be opened again. For each status but `Done` and `OutputFault` the output ends with a status
-/// line.
+/// The lanes are those of the 16 transmission groups, each at the number of its group, and there are fewer than 2^32 desks. Where a port or a link
+/// fails the others go on, and the run is closed and its summary printed before `PortFault`, which tells the least group whose port failed,
+/// or, where no port failed, `LinkFault`, which tells the least link that did. A fault of the media wins over both; then no summary is
+/// printed, and the media have to be opened again. For each status but `Done` and `OutputFault` the output ends with a status line.
 pub fn run<
     I: Source + Drop,
     O: Sink + Drop,
     M: Media + Send + Drop,
     P: Port + Send,
+    L: Link + Send,
     R: Threads + Wait + Sync,
 >(
     rt: &R,
@@ -44,19 +48,21 @@ pub fn run<
     words: &[String],
     world: &mut World<I, O, M>,
     lanes: &mut [Lane<P>],
+    desks: &mut [Desk<L, Mark>],
 ) -> Status
     requires two { 2 ≤ length (M.disk world.old.media).sizes }
     requires three { length (M.disk world.old.media).sizes ≤ 3 }
     requires lanes { length lanes.old ≡ 16 }
     requires groups { (g : ℕ) (d : _) → g < 16 → (slice_index_or lanes.old g d).group ≡ g }
+    requires desks { length desks.old < 2 ^ 32 }
 
     // `record` does what its page in `specs/` says, and then the line of its status is written; all other words are those of `run_alone`.
-    ensures runs { let at = ⟦<World<I, O, M> as Outer>⟧.outside in RunsAll words.now (record { alone = at world.old; ports = seen_ports P.Port lanes.old })
-        (record { alone = at world.new; ports = seen_ports P.Port lanes.new }) result }
+    ensures runs { let at = ⟦<World<I, O, M> as Outer>⟧.outside in RunsAll words.now (record { alone = at world.old; ports = seen_ports P.Port lanes.old; links = seen_links L.Link desks.old })
+        (record { alone = at world.new; ports = seen_ports P.Port lanes.new; links = seen_links L.Link desks.new }) result }
 
-    // Only a command that reads it touches the input, only one that uses them the media, and only `record` the ports.
+    // Only a command that reads it touches the input, only one that uses them the media, and only `record` the ports and the links.
     ensures live { (turns : ℕ) → AsksRecord words.now turns → (result ≡ Words → ⊥) × (world.new.input ≡ world.old.input) }
-    ensures others { ((turns : ℕ) → AsksRecord words.now turns → ⊥) → lanes.new ≡ lanes.old }
+    ensures others { ((turns : ℕ) → AsksRecord words.now turns → ⊥) → (lanes.new ≡ lanes.old) × (desks.new ≡ desks.old) }
     ensures unread { (command : Asked) → Asks words.now command → (page command).reads_input ⊎ (world.new.input ≡ world.old.input) }
     ensures untouched { (command : Asked) → Asks words.now command → (page command).uses_media ⊎ (world.new.media ≡ world.old.media) }
     ensures none { result ≡ Words → (world.new.input ≡ world.old.input) × (world.new.media ≡ world.old.media) }
@@ -70,7 +76,7 @@ pub fn run<
     let Some(turns) = turns_of(words) else {
         return run_alone(alloc, words, world);
     };
-    let Err(status) = answer_record(rt, alloc, turns, world, lanes) else {
+    let Err(status) = answer_record(rt, alloc, turns, world, lanes, desks) else {
         return Status::Done;
     };
     report(status, &mut world.output);

@@ -1,8 +1,9 @@
 // The command `record TURNS`.
-ghost use Rattle.std.specs.Prelude.{◌≡◌, ◌≤◌, ◌<◌, ℕ, length, slice_index_or};
+ghost use Rattle.std.specs.Prelude.{◌≡◌, ◌≤◌, ◌<◌, ◌^◌, ℕ, length, slice_index_or};
 ghost use Rattle.vdr_tool.specs.Endings.{ending};
 ghost use Rattle.vdr_tool.specs.Summaries.{summary_text};
 ghost use Rattle.vdr_tool.specs.declared.status.Status.TheVariants.{Words};
+ghost use Rattle.vdr_live.specs.Links.{seen_links};
 ghost use Rattle.vdr_live.specs.Ports.{seen_ports};
 ghost use Rattle.vdr_live.specs.Recordings.{PrintsSession, Records, most_turns};
 
@@ -11,8 +12,8 @@ use std::alloc::Global;
 use std::sync::Wait;
 use std::thread::Threads;
 use vdr_capture::{Lane, Outcome};
-use vdr_outside::{Media, Port, Sink, Source, print_buffered};
-use vdr_session::SessionEnd;
+use vdr_outside::{Link, Media, Port, Sink, Source, print_buffered};
+use vdr_session::{Desk, Mark, SessionEnd};
 use vdr_tool::{Outer, Status, Summary, World, law_of_openings};
 
 // Prints the summary of a session whose run was closed. A status that is already decided stands where the output fails.
@@ -49,12 +50,14 @@ fn print_session<O: Sink>(end: SessionEnd, output: &mut O) -> Result<(), Status>
     }
 }
 
-/// Records what the ports of the lanes give on the media, with at most so many takes of each, and prints the summary of the run.
+/// Records what the ports of the lanes give on the media, with at most so many takes of each, has the orders of the desks answered meanwhile, with
+/// at most so many calls of each link for a line, and prints the summary of the run.
 pub(crate) fn answer_record<
     I: Source + Drop,
     O: Sink + Drop,
     M: Media + Send + Drop,
     P: Port + Send,
+    L: Link + Send,
     R: Threads + Wait + Sync,
 >(
     rt: &R,
@@ -62,20 +65,22 @@ pub(crate) fn answer_record<
     turns: u64,
     world: &mut World<I, O, M>,
     lanes: &mut [Lane<P>],
+    desks: &mut [Desk<L, Mark>],
 ) -> Result<(), Status>
     requires two { 2 ≤ length (M.disk world.old.media).sizes }
     requires three { length (M.disk world.old.media).sizes ≤ 3 }
     requires lanes { length lanes.old ≡ 16 }
     requires groups { (g : ℕ) (d : _) → g < 16 → (slice_index_or lanes.old g d).group ≡ g }
+    requires desks { length desks.old < 2 ^ 32 }
     requires turns { turns ≤ most_turns }
-    ensures owed { let at = ⟦<World<I, O, M> as Outer>⟧.outside in Records turns (record { alone = at world.old; ports = seen_ports P.Port lanes.old })
-        (record { alone = at world.new; ports = seen_ports P.Port lanes.new }) (ending result) }
+    ensures owed { let at = ⟦<World<I, O, M> as Outer>⟧.outside in Records turns (record { alone = at world.old; ports = seen_ports P.Port lanes.old; links = seen_links L.Link desks.old })
+        (record { alone = at world.new; ports = seen_ports P.Port lanes.new; links = seen_links L.Link desks.new }) (ending result) }
     ensures known { ending result ≡ Words → ⊥ }
     ensures later { O.faults world.old.output ≤ O.faults world.new.output }
     ensures sizes { (M.disk world.new.media).sizes ≡ (M.disk world.old.media).sizes }
     ensures unread { world.new.input ≡ world.old.input }
 {
     law_of_openings();
-    let end = record_ports(rt, alloc, &mut world.media, lanes, turns)?;
+    let end = record_ports(rt, alloc, &mut world.media, lanes, desks, turns)?;
     print_session(end, &mut world.output)
 }

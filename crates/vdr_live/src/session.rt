@@ -1,5 +1,6 @@
-// Media are opened, and what the ports give is recorded on them.
-ghost use Rattle.std.specs.Prelude.{◌≡◌, ◌≤◌, ◌<◌, ℕ, length, slice_index_or};
+// Media are opened, what the ports give is recorded on them, and the orders of the links are answered.
+ghost use Rattle.std.specs.Prelude.{◌≡◌, ◌≤◌, ◌<◌, ◌^◌, ℕ, length, slice_index_or};
+ghost use Rattle.vdr_live.specs.Links.{seen_links};
 ghost use Rattle.vdr_live.specs.Ports.{seen_ports};
 ghost use Rattle.vdr_live.specs.Recordings.{RecordingEnds, most_turns};
 
@@ -8,29 +9,37 @@ use std::sync::Wait;
 use std::thread::Threads;
 use vdr_capture::Lane;
 use vdr_opening::{OpenRefused, law_of_contents};
-use vdr_outside::{Media, Port};
+use vdr_outside::{Link, Media, Port};
 use vdr_recorder::Recording;
-use vdr_session::{SessionEnd, record};
+use vdr_session::{Desk, Mark, SessionEnd, record_at_desks};
 
-/// Opens the media, and records what the ports of the lanes give as one run, with at most so many takes of each.
-pub(crate) fn record_ports<M: Media + Send, P: Port + Send, R: Threads + Wait + Sync>(
+/// Opens the media, and records what the ports of the lanes give as one run, with at most so many takes of each. The orders of the desks are
+/// answered, with at most so many calls of each link for a line.
+pub(crate) fn record_ports<
+    M: Media + Send,
+    P: Port + Send,
+    L: Link + Send,
+    R: Threads + Wait + Sync,
+>(
     rt: &R,
     alloc: Global,
     media: &mut M,
     lanes: &mut [Lane<P>],
+    desks: &mut [Desk<L, Mark>],
     turns: u64,
 ) -> Result<SessionEnd, OpenRefused>
     requires two { 2 ≤ length (M.disk media.old).sizes }
     requires three { length (M.disk media.old).sizes ≤ 3 }
     requires lanes { length lanes.old ≡ 16 }
     requires groups { (g : ℕ) (d : _) → g < 16 → (slice_index_or lanes.old g d).group ≡ g }
+    requires desks { length desks.old < 2 ^ 32 }
     requires turns { turns ≤ most_turns }
-    ensures ends { RecordingEnds turns (seen_ports P.Port lanes.old) (seen_ports P.Port lanes.new)
+    ensures ends { RecordingEnds turns (seen_ports P.Port lanes.old) (seen_ports P.Port lanes.new) (seen_links L.Link desks.old) (seen_links L.Link desks.new)
         (record { disk = M.disk media.old; faults = M.faults media.old; bytes_read = M.bytes_read media.old })
         (record { disk = M.disk media.new; faults = M.faults media.new; bytes_read = M.bytes_read media.new }) result }
     ensures sizes { (M.disk media.new).sizes ≡ (M.disk media.old).sizes }
 {
     law_of_contents();
     let recording = Recording::open(alloc, media)?;
-    Ok(record(rt, alloc, recording, media, lanes, turns))
+    Ok(record_at_desks(rt, alloc, recording, media, lanes, desks, turns))
 }

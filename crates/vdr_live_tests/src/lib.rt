@@ -1,6 +1,8 @@
-//! Tests of live recording: the program over ports, media and outputs in memory.
+//! Tests of live recording: the program over ports, links, media and outputs in memory.
 #![tactic(auto)]
 
+#[cfg(test)]
+mod desks;
 #[cfg(test)]
 mod meeting;
 #[cfg(test)]

@@ -1,4 +1,4 @@
-// The program over ports in memory, and media of two groups.
+// The program over ports and links in memory, and media of two groups.
 use std::alloc::{AllocError, Global};
 use std::process::Abort;
 use std::sync::Wait;
@@ -7,8 +7,9 @@ use std::thread::Threads;
 use vdr_capture::Lane;
 use vdr_live::{are_lanes, run};
 use vdr_media::format;
-use vdr_memory::{MemorySink, MemorySource, RamMedia};
-use vdr_outside::{Media, Port};
+use vdr_memory::{MemoryLink, MemorySink, MemorySource, RamMedia};
+use vdr_outside::{Link, Media, Port};
+use vdr_session::{Desk, Mark};
 use vdr_tool::{Status, World};
 
 /// Bench windows, and groups NAVD and VDRD of two datagrams a second, each with a queue of 16 items.
@@ -33,18 +34,24 @@ fn words_of(alloc: Global, words: &[&str]) -> Result<Vec<String>, AllocError> {
 }
 
 // What `run` answers and prints, and the media afterwards. No other function of these tests calls it.
-fn answered<M: Media + Send + Drop, P: Port + Send + Drop, R: Abort + Threads + Wait + Sync>(
+fn answered<
+    M: Media + Send + Drop,
+    P: Port + Send + Drop,
+    L: Link + Send,
+    R: Abort + Threads + Wait + Sync,
+>(
     rt: &R,
     alloc: Global,
     words: &[&str],
     input: &[u8],
     media: M,
     lanes: Vec<Lane<P>>,
+    desks: &mut [Desk<L, Mark>],
 ) -> Result<(Status, Vec<u8>, M), AllocError> {
     let texts = words_of(alloc, words)?;
     let mut lanes = lanes;
     assert!(rt; are_lanes(lanes.as_slice()));
-    assert!(rt; media.count() == 2);
+    assert!(rt; media.count() == 2 && desks.len() < 3);
     let mut world = World {
         input: MemorySource::new(input.to_vec(alloc)?, 4096, Vec::new(alloc)),
         output: MemorySink::new(alloc, Vec::new(alloc)),
@@ -56,6 +63,7 @@ fn answered<M: Media + Send + Drop, P: Port + Send + Drop, R: Abort + Threads + 
         texts.as_slice(),
         &mut world,
         lanes.as_mut_slice(),
+        desks,
     );
     let World {
         input: _,
@@ -65,7 +73,33 @@ fn answered<M: Media + Send + Drop, P: Port + Send + Drop, R: Abort + Threads + 
     Ok((status, output.taken().to_vec(alloc)?, media))
 }
 
-/// Does a command over these ports, which prints this and answers this status.
+/// Does a command over these ports and links, which prints this and answers this status.
+pub(crate) fn assert_step_at<
+    M: Media + Send + Drop,
+    P: Port + Send + Drop,
+    L: Link + Send,
+    R: Abort + Threads + Wait + Sync,
+>(
+    rt: &R,
+    alloc: Global,
+    media: M,
+    lanes: Vec<Lane<P>>,
+    desks: &mut [Desk<L, Mark>],
+    words: &[&str],
+    input: &[u8],
+    text: &str,
+    code: u8,
+) -> Result<M, Fail> {
+    let (status, printed, media) = answered(rt, alloc, words, input, media, lanes, desks)?;
+    assert!(rt;
+        printed.as_slice() == text.as_bytes(),
+        "{words:?} prints {text}"
+    );
+    assert!(rt; status.code() == code, "{words:?} answers {code}");
+    Ok(media)
+}
+
+/// Does a command over these ports and no link, which prints this and answers this status.
 pub(crate) fn assert_step<
     M: Media + Send + Drop,
     P: Port + Send + Drop,
@@ -80,13 +114,8 @@ pub(crate) fn assert_step<
     text: &str,
     code: u8,
 ) -> Result<M, Fail> {
-    let (status, printed, media) = answered(rt, alloc, words, input, media, lanes)?;
-    assert!(rt;
-        printed.as_slice() == text.as_bytes(),
-        "{words:?} prints {text}"
-    );
-    assert!(rt; status.code() == code, "{words:?} answers {code}");
-    Ok(media)
+    let mut none: [Desk<MemoryLink, Mark>; 0] = [];
+    assert_step_at(rt, alloc, media, lanes, &mut none, words, input, text, code)
 }
 
 /// Media that are formatted with this configuration.

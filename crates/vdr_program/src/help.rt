@@ -43,6 +43,9 @@ Commands:
             TURNS times at most (1 to 1,000,000,000,000), and waits up to 50 milliseconds each
             time, so that 72000 is an hour or less. Prints what `replay` prints. A port that
             fails is told at the end, and the others go on.
+            Meanwhile an operator's orders are answered on 127.0.0.1, TCP port 61450, line by line:
+            `STATUS`, `SAVE LABEL`, `RELEASE ID` and `PLAY MEDIUM CHANNEL FROM TO`. This link is
+            asked for a line TURNS times at most, and waits as a port does.
   play MEDIUM CHANNEL FROM TO
             Prints what stands on the media, as `review` does, with the Start and Stop of
             each run. MEDIUM is `capsule` or `longterm`, of which the window is printed,
@@ -122,6 +125,8 @@ Exit status, with the line that ends the output:
       `play`, `sources` and `incidents` need no leave to write
   6   `status 6 port GROUP`: the UDP port of this group could not be bound or read, the least
       group where several could not; the run is closed, and its summary stands above
+  6   `status 6 link 0`: TCP port 61450 could not be listened on, and no port failed; the run is
+      closed, and its summary stands above
   7   `status 7 input`: the input could not be read
   8   the output could not be written
   9   `status 9 memory`: there was not enough memory

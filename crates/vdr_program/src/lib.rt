@@ -1,12 +1,14 @@
 //! The program's command line: its words are judged, the objects of the outside are made for them, and what went wrong is told.
 #![tactic(auto)]
 
-ghost use Rattle.std.specs.Prelude.{◌≡◌, ◌<◌, ℕ, length, slice_index_or};
+ghost use Rattle.std.specs.Prelude.{◌≡◌, ◌<◌, ◌^◌, ℕ, length, slice_index_or};
 
+mod desks;
 mod explaining;
 mod help;
 mod lanes;
 
+pub use desks::tcp_desk;
 use explaining::explain;
 use help::{HELP, VERSION};
 pub use lanes::udp_lanes;
@@ -19,7 +21,8 @@ use std::thread::Threads;
 use vdr_adapters::{FileMedia, StandardStreams, StdIn, StdOut};
 use vdr_capture::Lane;
 use vdr_live::{run, uses_media};
-use vdr_outside::Port;
+use vdr_outside::{Link, Port};
+use vdr_session::{Desk, Mark};
 use vdr_tool::{Status, World};
 
 /// How many bytes the input is read ahead.
@@ -52,18 +55,20 @@ fn media_for<R: AllocGlobal + Files<File = File> + Eprint>(
 }
 
 /// Does what the words of the program ask for, over this input, the standard output, the media of the folder that the first
-/// word names, and the ports of these lanes, and tells how it ended.
+/// word names, the ports of these lanes and the links of these desks, and tells how it ended.
 ///
 /// `--help`, `-h` and `--version`, as the only word, print what the program says of itself. Where something went wrong, one line on the
 /// standard error says what, if that is known. Standard streams that are closed are filled before any medium is opened, and before any
-/// port is asked.
+/// port or link is asked.
 pub fn command_line<
     R: AllocGlobal + Files<File = File> + Print + Eprint + Threads + Wait + Sync,
     I: Read + Drop,
     P: Port + Send,
->(rt: &R, words: &[String], input: I, lanes: &mut [Lane<P>]) -> Status
+    L: Link + Send,
+>(rt: &R, words: &[String], input: I, lanes: &mut [Lane<P>], desks: &mut [Desk<L, Mark>]) -> Status
     requires sixteen { length lanes.old ≡ 16 }
     requires groups { (g : ℕ) (d : _) → g < 16 → (slice_index_or lanes.old g d).group ≡ g }
+    requires desks { length desks.old < 2 ^ 32 }
 {
     // Held to the end.
     let filled = StandardStreams::fill(rt);
@@ -87,7 +92,7 @@ pub fn command_line<
         output: StdOut::new(io::writer(rt)),
         media,
     };
-    let status = run(rt, rt.alloc(), command, &mut world, lanes);
+    let status = run(rt, rt.alloc(), command, &mut world, lanes, desks);
     explain(rt, status, &world);
     status
 }

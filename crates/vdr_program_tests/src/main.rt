@@ -2,15 +2,16 @@
 //! `stdout`.
 #![tactic(auto)]
 
-ghost use Rattle.std.specs.Prelude.{◌≡◌, ◌<◌, ℕ, length, slice_index_or};
+ghost use Rattle.std.specs.Prelude.{◌≡◌, ◌<◌, ◌^◌, ℕ, length, slice_index_or};
 
 use std::fs::{File, Files, OpenFile};
 use std::sync::Wait;
 use std::thread::Threads;
 use std::{fs, io};
 use vdr_capture::Lane;
-use vdr_outside::Port;
-use vdr_program::{command_line, udp_lanes};
+use vdr_outside::{Link, Port};
+use vdr_program::{command_line, tcp_desk, udp_lanes};
+use vdr_session::{Desk, Mark};
 
 #[cfg(test)]
 mod tests;
@@ -44,20 +45,28 @@ fn make<R: Files>(rt: &R, path: &str, length: u64) -> io::Result<()> {
     fs::create(rt, path)?.set_len(length)
 }
 
-// Runs one command over these ports, and prints how it ended.
+// Runs one command over these ports and links, and prints how it ended.
 fn ask<
     R: AllocGlobal + Files<File = File> + Print + Eprint + Threads + Wait + Sync,
     P: Port + Send,
->(rt: &R, lanes: &mut [Lane<P>], text: &str, input: &str) -> io::Result<()>
+    L: Link + Send,
+>(
+    rt: &R,
+    lanes: &mut [Lane<P>],
+    desks: &mut [Desk<L, Mark>],
+    text: &str,
+    input: &str,
+) -> io::Result<()>
     requires sixteen { length lanes.old ≡ 16 }
     requires groups { (g : ℕ) (d : _) → g < 16 → (slice_index_or lanes.old g d).group ≡ g }
+    requires desks { length desks.old < 2 ^ 32 }
 {
     let mut words = Vec::new(rt.alloc());
     for word in text.split(' ') {
         words.push(word.to_string(rt.alloc())?)?;
     }
     println!(rt; "> {text}")?;
-    let status = command_line(rt, words.as_slice(), File::open(rt, input)?, lanes);
+    let status = command_line(rt, words.as_slice(), File::open(rt, input)?, lanes, desks);
     let code = status.code();
     println!(rt; "< {code}")
 }
@@ -68,7 +77,8 @@ fn main(rt: HostRuntime) -> io::Result<()> {
     make(&rt, "media/longterm.vdr", 712_704)?;
     for (text, input) in COMMANDS {
         let mut lanes = udp_lanes(&rt, rt.alloc())?;
-        ask(&rt, lanes.as_mut_slice(), text, input)?;
+        let mut desks = [tcp_desk(&rt)];
+        ask(&rt, lanes.as_mut_slice(), &mut desks, text, input)?;
     }
     Ok(())
 }

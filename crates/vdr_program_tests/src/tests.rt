@@ -1,6 +1,6 @@
 use std::io::Cursor;
 use std::test::Fail;
-use vdr_program::{command_line, udp_lanes};
+use vdr_program::{command_line, tcp_desk, udp_lanes};
 use vdr_tool::Status;
 
 #[test]
@@ -13,11 +13,13 @@ fn the_program_tells_what_it_is(rt: HostRuntime) -> Result<(), Fail> {
     ] {
         let words = vec![in rt.alloc(); word.to_string(rt.alloc())?]?;
         let mut lanes = udp_lanes(&rt, rt.alloc())?;
+        let mut desks = [tcp_desk(&rt)];
         let status = command_line(
             &rt,
             words.as_slice(),
             Cursor::new(b""),
             lanes.as_mut_slice(),
+            &mut desks,
         );
         assert_eq!(rt; status.code(), wanted.code());
     }
