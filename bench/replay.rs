@@ -1,25 +1,25 @@
 // The anchor for `replay`: plain Rust, the same writes and syncs as a recording makes on both media, and no table beside them.
-// `replay FOLDER < FEED` appends a Start, each datagram of the feed as a batch, and a Stop to FOLDER/capsule.vdr and then to
-// FOLDER/longterm.vdr, in segments of 8,192 bytes from byte 32,768 on, beginning again at the first slot when the last one is full.
+// `replay FOLDER SEGMENT BATCH < FEED` appends a Start, the datagrams of the feed, as many in a batch as fit BATCH bytes, and a Stop
+// to FOLDER/capsule.vdr and then to FOLDER/longterm.vdr, in segments of SEGMENT bytes from byte 32,768 on, beginning again at the
+// first slot when the last one is full.
+use std::env;
 use std::fs::{File, OpenOptions};
 use std::io::{self, BufReader, Read};
 use std::os::unix::fs::FileExt;
-use std::env;
-
-const SEGMENT: u64 = 8_192;
 
 struct Medium {
     file: File,
+    segment: u64,
     slots: u64,
     seq: u64,
     end: u64,
 }
 
 impl Medium {
-    fn open(path: String) -> io::Result<Medium> {
+    fn open(path: String, segment: u64) -> io::Result<Medium> {
         let file = OpenOptions::new().read(true).write(true).open(path)?;
-        let slots = (file.metadata()?.len() - 32_768) / SEGMENT;
-        Ok(Medium { file, slots, seq: 0, end: SEGMENT })
+        let slots = (file.metadata()?.len() - 32_768) / segment;
+        Ok(Medium { file, segment, slots, seq: 0, end: segment })
     }
 
     // Writes the bytes and syncs.
@@ -30,7 +30,7 @@ impl Medium {
 
     // Begins the next segment, in a slot whose gate is closed first where it was open.
     fn begin(&mut self, first: u64) -> io::Result<()> {
-        let place = 32_768 + self.seq % self.slots * SEGMENT;
+        let place = 32_768 + self.seq % self.slots * self.segment;
         if self.seq >= self.slots {
             self.write_through(place, &[0])?;
         }
@@ -46,10 +46,10 @@ impl Medium {
 
     // Appends a batch, of which the last byte is the gate that closes it.
     fn append(&mut self, first: u64, batch: &[u8]) -> io::Result<()> {
-        if self.end + batch.len() as u64 > SEGMENT {
+        if self.end + batch.len() as u64 > self.segment {
             self.begin(first)?;
         }
-        let at = 32_768 + (self.seq - 1) % self.slots * SEGMENT + self.end;
+        let at = 32_768 + (self.seq - 1) % self.slots * self.segment + self.end;
         self.write_through(at + 1, &batch[1..])?;
         self.write_through(at, &batch[..1])?;
         self.end += batch.len() as u64 - 1;
@@ -57,23 +57,53 @@ impl Medium {
     }
 }
 
-// A batch of one record, with the gate that closes it.
-fn batch(kind: u8, group: u8, place: u64, tick: u64, utc: i64, payload: &[u8]) -> Vec<u8> {
-    let mut bytes = vec![0; 49 + payload.len() + 1];
-    bytes[0] = 0xA5;
-    bytes[1..5].copy_from_slice(&(44 + payload.len() as u32).to_le_bytes());
-    bytes[5] = kind;
-    bytes[6] = group;
-    bytes[7..9].copy_from_slice(&(payload.len() as u16).to_le_bytes());
-    bytes[17..25].copy_from_slice(&place.to_le_bytes());
-    bytes[33..41].copy_from_slice(&tick.to_le_bytes());
-    bytes[41..49].copy_from_slice(&utc.to_le_bytes());
-    bytes[49..49 + payload.len()].copy_from_slice(payload);
-    bytes
+// A batch that is put together, behind its gate and its length.
+struct Batch {
+    bytes: Vec<u8>,
+    first: u64,
 }
 
-// The next item of the feed: its group, when it was received, its stamp and its bytes.
-fn item(input: &mut impl Read) -> io::Result<Option<(u8, u64, i64, Vec<u8>)>> {
+impl Batch {
+    fn new(size: usize) -> Batch {
+        let mut bytes = Vec::with_capacity(size + 6);
+        bytes.extend_from_slice(&[0xA5, 0, 0, 0, 0]);
+        Batch { bytes, first: 0 }
+    }
+
+    fn push(&mut self, kind: u8, group: u8, place: u64, tick: u64, utc: i64, payload: &[u8]) {
+        if self.bytes.len() == 5 {
+            self.first = place;
+        }
+        let at = self.bytes.len();
+        self.bytes.resize(at + 44, 0);
+        let head = &mut self.bytes[at..];
+        head[0] = kind;
+        head[1] = group;
+        head[2..4].copy_from_slice(&(payload.len() as u16).to_le_bytes());
+        head[12..20].copy_from_slice(&place.to_le_bytes());
+        head[28..36].copy_from_slice(&tick.to_le_bytes());
+        head[36..44].copy_from_slice(&utc.to_le_bytes());
+        self.bytes.extend_from_slice(payload);
+    }
+
+    // Appends it to both media, and begins anew.
+    fn commit(&mut self, media: &mut [Medium; 2]) -> io::Result<()> {
+        if self.bytes.len() == 5 {
+            return Ok(());
+        }
+        let size = self.bytes.len() as u32 - 5;
+        self.bytes[1..5].copy_from_slice(&size.to_le_bytes());
+        self.bytes.push(0);
+        for medium in media {
+            medium.append(self.first, &self.bytes)?;
+        }
+        self.bytes.truncate(5);
+        Ok(())
+    }
+}
+
+// The next item of the feed: its group, when it was received and its stamp. Its bytes go to the buffer.
+fn item(input: &mut impl Read, bytes: &mut Vec<u8>) -> io::Result<Option<(u8, u64, i64)>> {
     let mut head = [0; 19];
     if input.read(&mut head[..1])? == 0 {
         return Ok(None);
@@ -81,30 +111,41 @@ fn item(input: &mut impl Read) -> io::Result<Option<(u8, u64, i64, Vec<u8>)>> {
     input.read_exact(&mut head[1..])?;
     let received = u64::from_le_bytes(head[1..9].try_into().expect("eight bytes"));
     let utc = i64::from_le_bytes(head[9..17].try_into().expect("eight bytes"));
-    let mut bytes = vec![0; u16::from_le_bytes([head[17], head[18]]) as usize];
-    input.read_exact(&mut bytes)?;
-    Ok(Some((head[0], received, utc, bytes)))
+    bytes.resize(u16::from_le_bytes([head[17], head[18]]) as usize, 0);
+    input.read_exact(bytes)?;
+    Ok(Some((head[0], received, utc)))
 }
 
 fn main() -> io::Result<()> {
-    let folder = env::args().nth(1).expect("a folder");
-    let mut capsule = Medium::open(format!("{folder}/capsule.vdr"))?;
-    let mut long_term = Medium::open(format!("{folder}/longterm.vdr"))?;
+    let words: Vec<String> = env::args().collect();
+    let segment = words[2].parse().expect("a size");
+    let room: usize = words[3].parse().expect("a size");
+    let mut media = [
+        Medium::open(format!("{}/capsule.vdr", words[1]), segment)?,
+        Medium::open(format!("{}/longterm.vdr", words[1]), segment)?,
+    ];
     let mut input = BufReader::with_capacity(65_536, io::stdin().lock());
     let mut header = [0; 8];
     input.read_exact(&mut header)?;
-    let (mut place, mut tick, mut utc) = (0, 0, 0);
-    let mut commit = |place: u64, bytes: &[u8]| {
-        capsule.append(place, bytes)?;
-        long_term.append(place, bytes)
-    };
-    commit(place, &batch(0, 0, place, tick, utc, &[]))?;
-    while let Some((group, received, stamp, bytes)) = item(&mut input)? {
+    let (mut place, mut tick, mut utc, mut left) = (0, 0, 0, room);
+    let mut bytes = Vec::new();
+    let mut batch = Batch::new(room);
+    batch.push(0, 0, place, tick, utc, &[]);
+    batch.commit(&mut media)?;
+    while let Some((group, received, stamp)) = item(&mut input, &mut bytes)? {
+        let size = 128 + bytes.len();
+        if size > left {
+            batch.commit(&mut media)?;
+            left = room;
+        }
+        left -= size;
         place += 1;
         (tick, utc) = (received, stamp);
-        commit(place, &batch(1, group, place, tick, utc, &bytes))?;
+        batch.push(1, group, place, tick, utc, &bytes);
     }
-    commit(place + 1, &batch(3, 0, place + 1, tick, utc, &[]))?;
+    batch.commit(&mut media)?;
+    batch.push(3, 0, place + 1, tick, utc, &[]);
+    batch.commit(&mut media)?;
     println!("records {}", place + 2);
     Ok(())
 }

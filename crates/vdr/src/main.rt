@@ -3,7 +3,7 @@
 
 use std::env;
 use std::process::ExitCode;
-use vdr_program::{command_line, tcp_desk, udp_lanes};
+use vdr_program::{Alarm, command_line, tcp_desk, udp_lanes};
 use vdr_tool::Status;
 
 fn main(rt: HostRuntime) -> ExitCode {
@@ -16,16 +16,19 @@ fn main(rt: HostRuntime) -> ExitCode {
             }
         }
     }
-    let Ok(mut lanes) = udp_lanes(&rt, rt.alloc()) else {
+    // Once a medium has failed nothing more can be recorded: the ports and the link end.
+    let alarm = Alarm::new();
+    let Ok(mut lanes) = udp_lanes(&rt, rt.alloc(), &alarm) else {
         return ExitCode::from(Status::NoMemory.code());
     };
-    let mut desks = [tcp_desk(&rt)];
+    let mut desks = [tcp_desk(&rt, &alarm)];
     let status = command_line(
         &rt,
         words.as_slice(),
         rt.stdin(),
         lanes.as_mut_slice(),
         &mut desks,
+        &alarm,
     );
     ExitCode::from(status.code())
 }

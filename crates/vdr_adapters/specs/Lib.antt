@@ -1,1 +1,2 @@
--- Nothing is defined here: its objects meet the definitions of vdr_outside.
+-- Its objects meet the definitions of vdr_outside.
+pub mod Answers

@@ -1,25 +1,34 @@
 // How often an object outside was asked, and what it answered.
 ghost use Rattle.std.specs.Prelude.{◌≡◌, ◌≤◌};
-ghost use Rattle.vdr_outside.specs.Calls.{asked_again, failed, other};
+ghost use Rattle.vdr_outside.specs.Calls.{asked_again, ended, failed, other};
 ghost use Rattle.vdr_outside.specs.Causes.{Rose};
 
 use std::marker::Model;
 
-/// The calls of an object that never ends. Each number stays at the greatest u64 once it is there.
+// What the last call answered.
+#[derive(Clone, Copy, PartialEq, Eq, Drop)]
+enum Last {
+    Other,
+    Ended,
+    Failed,
+}
+
+/// The calls of an object. Each number stays at the greatest u64 once it is there.
 #[derive(Drop)]
 pub(crate) struct Calls {
     times: u64,
+    ends: u64,
     failures: u64,
-    has_failed: bool,
+    last: Last,
 }
 
 impl Model for Calls {
-    ghost use Rattle.std.specs.Prelude.{if◌then◌else◌};
-    ghost use Rattle.vdr_outside.specs.Calls.{Asked, failed, other};
+    ghost use Rattle.vdr_outside.specs.Calls.{Asked};
+    ghost use Rattle.vdr_adapters.specs.Answers.{answer_of};
 
     ghost Value = { Asked };
 
-    ghost view = { λ s. record { times = s.times; ends = 0; failures = s.failures; last = if s.has_failed then failed else other } };
+    ghost view = { λ s. record { times = s.times; ends = s.ends; failures = s.failures; last = answer_of s.last } };
 }
 
 impl Calls {
@@ -27,18 +36,29 @@ impl Calls {
     pub(crate) fn new() -> Calls {
         Calls {
             times: 0,
+            ends: 0,
             failures: 0,
-            has_failed: false,
+            last: Last::Other,
         }
     }
 
-    // Counts a call that didn't fail.
+    // Counts a call that neither ended nor failed.
     pub(crate) fn count(&mut self)
         ensures again { self.new ≡ asked_again self.old other }
         ensures same { self.new.failures ≡ self.old.failures }
     {
         self.times = self.times.saturating_add(1);
-        self.has_failed = false;
+        self.last = Last::Other;
+    }
+
+    // Counts a call that answered that all was given.
+    pub(crate) fn count_end(&mut self)
+        ensures again { self.new ≡ asked_again self.old ended }
+        ensures same { self.new.failures ≡ self.old.failures }
+    {
+        self.times = self.times.saturating_add(1);
+        self.ends = self.ends.saturating_add(1);
+        self.last = Last::Ended;
     }
 
     // Counts a call that failed.
@@ -49,6 +69,6 @@ impl Calls {
     {
         self.times = self.times.saturating_add(1);
         self.failures = self.failures.saturating_add(1);
-        self.has_failed = true;
+        self.last = Last::Failed;
     }
 }

@@ -2,6 +2,7 @@
 //! over UDP, and the operator's link over TCP. They tell no content, and count their faults.
 #![tactic(auto)]
 
+mod alarm;
 mod calls;
 mod file;
 mod media;
@@ -12,6 +13,7 @@ mod tcp;
 mod trouble;
 mod udp;
 
+pub use alarm::Alarm;
 pub use media::FileMedia;
 pub use standard::StandardStreams;
 pub use streams::{StdIn, StdOut};

@@ -1,7 +1,8 @@
-ghost use Rattle.std.specs.Prelude.{[], ◌∷◌};
+ghost use Rattle.std.specs.Prelude.{◌≡◌, [], ◌∷◌};
 ghost use Rattle.vdr_outside.specs.Untold.{sizes_alone};
 
 use crate::Trouble;
+use crate::alarm::Alarm;
 use crate::file::{Access, FileMedium, protection_of};
 use std::alloc::AllocError;
 use std::fs;
@@ -20,17 +21,19 @@ const LONG_TERM: &str = "longterm.vdr";
 /// The files are locked as long as they are open, so that nobody else records on them. Where a file is locked already, or can't
 /// be opened, neither is used, and each call fails. Where one of them may only be read, both are opened to be read.
 #[derive(Drop)]
-pub struct FileMedia {
+pub struct FileMedia<'a> {
+    alarm: Option<&'a Alarm>,
     // What stood in the way of the folder.
     folder: Option<Trouble>,
     capsule: FileMedium,
     long_term: FileMedium,
 }
 
-impl FileMedia {
+impl<'a> FileMedia<'a> {
     /// Two media of size 0, for a command that uses none. No file is opened.
-    pub fn unused() -> FileMedia {
+    pub fn unused() -> FileMedia<'a> {
         FileMedia {
+            alarm: None,
             folder: None,
             capsule: FileMedium::unused(),
             long_term: FileMedium::unused(),
@@ -38,7 +41,7 @@ impl FileMedia {
     }
 
     /// Two media of size 0 that are not opened, so that each call fails.
-    pub fn shut() -> FileMedia {
+    pub fn shut() -> FileMedia<'a> {
         let mut media = FileMedia::unused();
         media.capsule.shut();
         media.long_term.shut();
@@ -49,7 +52,7 @@ impl FileMedia {
     pub fn open<R: AllocGlobal + Files<File = File>>(
         rt: &R,
         folder: &str,
-    ) -> Result<FileMedia, AllocError> {
+    ) -> Result<FileMedia<'a>, AllocError> {
         let capsule = format!(in rt.alloc(); "{folder}/{CAPSULE}")?;
         let long_term = format!(in rt.alloc(); "{folder}/{LONG_TERM}")?;
         let folder = match fs::metadata(rt, folder) {
@@ -58,10 +61,29 @@ impl FileMedia {
         };
         let (capsule, long_term) = open_both(rt, capsule.as_str(), long_term.as_str());
         Ok(FileMedia {
+            alarm: None,
             folder,
             capsule,
             long_term,
         })
+    }
+
+    /// The same media, which raise the alarm where one of them can't be written or synced.
+    pub fn telling(mut self, alarm: &'a Alarm) -> FileMedia<'a> {
+        self.alarm = Some(alarm);
+        self
+    }
+
+    // Raises the alarm where a write or a sync failed, and hands on what it answered.
+    fn told(&self, outcome: Result<(), Failed>) -> Result<(), Failed>
+        ensures { result ≡ outcome }
+    {
+        if outcome.is_err()
+            && let Some(alarm) = self.alarm
+        {
+            alarm.raise();
+        }
+        outcome
     }
 
     /// What stood in the way of the media, by the name of its file: at a call that failed, or as a file that is missing was
@@ -126,7 +148,7 @@ fn open_pair<R: Files<File = File>>(
     (capsule, long_term)
 }
 
-impl Media for FileMedia {
+impl<'a> Media for FileMedia<'a> {
     ghost tells = { ⊥ };
 
     ghost tells_images = { ⊥ };
@@ -157,16 +179,18 @@ impl Media for FileMedia {
     }
 
     fn write(&mut self, m: u8, at: u64, bytes: &[u8]) -> Result<(), Failed> {
-        match m {
+        let outcome = match m {
             0 => self.capsule.write(at, bytes),
             _ => self.long_term.write(at, bytes),
-        }
+        };
+        self.told(outcome)
     }
 
     fn sync(&mut self, m: u8) -> Result<(), Failed> {
-        match m {
+        let outcome = match m {
             0 => self.capsule.sync(),
             _ => self.long_term.sync(),
-        }
+        };
+        self.told(outcome)
     }
 }

@@ -3,6 +3,7 @@ ghost use Rattle.vdr_outside.specs.Calls.{other};
 ghost use Rattle.vdr_outside.specs.Hears.{Hears, heard_answer};
 ghost use Rattle.vdr_outside.specs.declared.link.Heard.TheVariants.{Failed as HeardFailed};
 
+use crate::alarm::Alarm;
 use crate::calls::Calls;
 use crate::pending::Pending;
 use crate::udp::is_no_fault;
@@ -29,10 +30,11 @@ const MOST_WAITS: u64 = 20;
 /// listen, that is told on the standard error, and counted. It tells no content.
 ///
 /// A peer that hangs up, or resets the connection, loses what it did not end with LF, and its reply. So does one that keeps a
-/// reply waiting for a second: it is hung up on. The next peer is then served.
+/// reply waiting for a second: it is hung up on. The next peer is then served. Once its alarm is raised the link has ended.
 #[derive(Drop)]
-pub struct TcpLink<R: Net<Listener = TcpListener, Stream = TcpStream> + Clock + Eprint + Drop> {
+pub struct TcpLink<'a, R: Net<Listener = TcpListener, Stream = TcpStream> + Clock + Eprint + Drop> {
     rt: R,
+    alarm: Option<&'a Alarm>,
     number: u16,
     listener: Option<TcpListener>,
     peer: Option<TcpStream>,
@@ -43,16 +45,20 @@ pub struct TcpLink<R: Net<Listener = TcpListener, Stream = TcpStream> + Clock + 
     faults: u64,
 }
 
-impl<R: Net<Listener = TcpListener, Stream = TcpStream> + Clock + Eprint + Drop> TcpLink<R> {
+impl<'a, R: Net<Listener = TcpListener, Stream = TcpStream> + Clock + Eprint + Drop> TcpLink<
+    'a,
+    R,
+> {
     /// The link on the port of orders.
-    pub fn new(rt: R) -> TcpLink<R> {
+    pub fn new(rt: R) -> TcpLink<'a, R> {
         TcpLink::with_number(rt, ORDERS)
     }
 
     /// A link on the port of this number.
-    pub fn with_number(rt: R, number: u16) -> TcpLink<R> {
+    pub fn with_number(rt: R, number: u16) -> TcpLink<'a, R> {
         TcpLink {
             rt,
+            alarm: None,
             number,
             listener: None,
             peer: None,
@@ -61,6 +67,17 @@ impl<R: Net<Listener = TcpListener, Stream = TcpStream> + Clock + Eprint + Drop>
             calls: Calls::new(),
             faults: 0,
         }
+    }
+
+    /// The same link, which ends once the alarm is raised.
+    pub fn until(mut self, alarm: &'a Alarm) -> TcpLink<'a, R> {
+        self.alarm = Some(alarm);
+        self
+    }
+
+    // Whether the alarm is raised.
+    fn is_over(&self) -> bool {
+        self.alarm.is_some_and(Alarm::is_raised)
     }
 
     // Listens, if that was not done yet.
@@ -170,8 +187,8 @@ fn make_ready(stream: &TcpStream) -> io::Result<()> {
     stream.set_nodelay(true)
 }
 
-impl<R: Net<Listener = TcpListener, Stream = TcpStream> + Clock + Eprint + Drop> Link
-    for TcpLink<R> {
+impl<'a, R: Net<Listener = TcpListener, Stream = TcpStream> + Clock + Eprint + Drop> Link
+    for TcpLink<'a, R> {
     ghost left = { λ _. None };
 
     ghost replied = { λ _. None };
@@ -182,6 +199,10 @@ impl<R: Net<Listener = TcpListener, Stream = TcpStream> + Clock + Eprint + Drop>
 
     fn line(&mut self, into: &mut ArrayVec<u8, 256>) -> Heard {
         into.clear();
+        if self.is_over() {
+            self.calls.count_end();
+            return Heard::Ended;
+        }
         if let Err(error) = self.listen() {
             let number = self.number;
             let _ = eprintln!(self.rt; "vdr: TCP port {number}: {error}");

@@ -1,6 +1,8 @@
-ghost use Rattle.std.specs.Prelude.{◌≡◌, ◌≤◌, ◌<◌, ◌^◌, false, None, [], length, IfOk, OnErr};
+ghost use Rattle.std.specs.Prelude.{◌≡◌, ◌≢◌, ◌≤◌, ◌<◌, ◌^◌, None, [], length, IfOk, OnErr};
 ghost use Rattle.vdr_terms.specs.Stamps.{IsStamp};
+ghost use Rattle.vdr_adapters.specs.declared.udp.Came.TheVariants.{Datagram};
 
+use crate::alarm::Alarm;
 use crate::calls::Calls;
 use arrayvec::ArrayVec;
 use std::io;
@@ -24,11 +26,23 @@ const LAST_RECEIVED: u64 = (1 << 48) - 1;
 /// The last millisecond of the year 9999.
 const LAST_STAMP: u64 = 253_402_300_799_999;
 
+// What came to a port.
+#[derive(Clone, Copy, PartialEq, Eq, Drop)]
+enum Came {
+    Datagram,
+    // None, in the time that a take waits.
+    Nothing,
+    // The alarm is raised.
+    Over,
+}
+
 /// The datagrams of a transmission group, as they come to its UDP port on all addresses of the host. The port is bound at the first
-/// take. A bind or a receive that fails is told on the standard error, and counted. It tells no content.
+/// take. A bind or a receive that fails is told on the standard error, and counted. Once its alarm is raised it has ended. It tells no
+/// content.
 #[derive(Drop)]
-pub struct UdpPort<R: Net + Clock + Eprint + Drop> {
+pub struct UdpPort<'a, R: Net + Clock + Eprint + Drop> {
     rt: R,
+    alarm: Option<&'a Alarm>,
     number: u16,
     // The reading of the monotonic clock as capture began.
     began: Duration,
@@ -40,18 +54,19 @@ pub struct UdpPort<R: Net + Clock + Eprint + Drop> {
     ghost small: { floor < 2 ^ 48 },
 }
 
-impl<R: Net + Clock + Eprint + Drop> UdpPort<R> {
+impl<'a, R: Net + Clock + Eprint + Drop> UdpPort<'a, R> {
     /// The port of a group, 0 to 15. `began` is the reading of the monotonic clock as capture began, from which `received` counts.
-    pub fn new(rt: R, group: u8, began: Duration) -> UdpPort<R>
+    pub fn new(rt: R, group: u8, began: Duration) -> UdpPort<'a, R>
         requires { group < 16 }
     {
         UdpPort::with_number(rt, FIRST_PORT + u16::from(group), began)
     }
 
     /// A port of this number.
-    pub fn with_number(rt: R, number: u16, began: Duration) -> UdpPort<R> {
+    pub fn with_number(rt: R, number: u16, began: Duration) -> UdpPort<'a, R> {
         UdpPort {
             rt,
+            alarm: None,
             number,
             began,
             socket: None,
@@ -59,6 +74,17 @@ impl<R: Net + Clock + Eprint + Drop> UdpPort<R> {
             calls: Calls::new(),
             faults: 0,
         }
+    }
+
+    /// The same port, which ends once the alarm is raised.
+    pub fn until(mut self, alarm: &'a Alarm) -> UdpPort<'a, R> {
+        self.alarm = Some(alarm);
+        self
+    }
+
+    // Whether the alarm is raised.
+    fn is_over(&self) -> bool {
+        self.alarm.is_some_and(Alarm::is_raised)
     }
 
     // Binds the port, if that was not done yet.
@@ -76,9 +102,9 @@ impl<R: Net + Clock + Eprint + Drop> UdpPort<R> {
         Ok(())
     }
 
-    // Receives a datagram, and tells whether one came in time.
-    fn receive(&mut self, into: &mut ArrayVec<u8, LONGEST>) -> io::Result<bool>
-        ensures none { IfOk result (λ came. came ≡ false → into.new.items ≡ []) }
+    // Receives a datagram, if one comes in time and the alarm isn't raised.
+    fn receive(&mut self, into: &mut ArrayVec<u8, LONGEST>) -> io::Result<Came>
+        ensures none { IfOk result (λ came. came ≢ Datagram → into.new.items ≡ []) }
         ensures failed { OnErr result (into.new.items ≡ []) }
         ensures short { length into.new.items ≤ LONGEST }
         ensures floor { self.new.floor ≡ self.old.floor }
@@ -86,17 +112,20 @@ impl<R: Net + Clock + Eprint + Drop> UdpPort<R> {
         ensures faults { self.new.faults ≡ self.old.faults }
     {
         into.clear();
+        if self.is_over() {
+            return Ok(Came::Over);
+        }
         self.bind()?;
         let Some(socket) = &self.socket else {
-            return Ok(false);
+            return Ok(Came::Nothing);
         };
         let mut buffer = [0; LONGEST];
         match socket.recv(&mut buffer) {
             Ok(count) => {
                 let _ = into.try_extend_from_slice(&buffer[..count]);
-                Ok(true)
+                Ok(Came::Datagram)
             }
-            Err(error) if is_no_fault(&error) => Ok(false),
+            Err(error) if is_no_fault(&error) => Ok(Came::Nothing),
             Err(error) => Err(error),
         }
     }
@@ -137,7 +166,7 @@ pub(crate) fn is_no_fault(error: &io::Error) -> bool {
     )
 }
 
-impl<R: Net + Clock + Eprint + Drop> Port for UdpPort<R> {
+impl<'a, R: Net + Clock + Eprint + Drop> Port for UdpPort<'a, R> {
     ghost standing = { λ s. record { left = None; taken = None; floor = s.floor } };
 
     ghost asked = { λ s. s.calls };
@@ -146,11 +175,15 @@ impl<R: Net + Clock + Eprint + Drop> Port for UdpPort<R> {
 
     fn take(&mut self, into: &mut ArrayVec<u8, LONGEST>) -> Taken {
         match self.receive(into) {
-            Ok(false) => {
+            Ok(Came::Over) => {
+                self.calls.count_end();
+                Taken::Ended
+            }
+            Ok(Came::Nothing) => {
                 self.calls.count();
                 Taken::Quiet
             }
-            Ok(true) => {
+            Ok(Came::Datagram) => {
                 let received = self.received();
                 let utc = self.utc();
                 self.floor = received;

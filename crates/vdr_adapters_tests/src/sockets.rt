@@ -4,8 +4,8 @@ use std::net::{TcpStream, UdpSocket};
 use std::process::Abort;
 use std::test::Fail;
 use std::time::{Clock, Instant};
-use vdr_adapters::{TcpLink, UdpPort};
-use vdr_outside::{Heard, Link, Port, Taken};
+use vdr_adapters::{Alarm, FileMedia, TcpLink, UdpPort};
+use vdr_outside::{Heard, Link, Media, Port, Taken};
 
 /// Ports of this host for the tests, which no recorder binds.
 const UDP: (u16, &str) = (60_990, "127.0.0.1:60990");
@@ -137,5 +137,22 @@ fn a_peer_that_reads_nothing_is_hung_up_on(rt: HostRuntime) -> Result<(), Fail> 
     peer.write_all(b"STATUS\n")?;
     hears(&rt, &mut link, Heard::Line, b"STATUS");
     drop(deaf);
+    Ok(())
+}
+
+#[test]
+fn ports_and_links_end_once_a_medium_has_failed(rt: HostRuntime) -> Result<(), Fail> {
+    let alarm = Alarm::new();
+    let mut port = UdpPort::with_number(rt, UDP.0 + 1, rt.monotonic()?).until(&alarm);
+    let mut link = TcpLink::with_number(rt, TCP.0 + 3).until(&alarm);
+    let mut media = FileMedia::shut().telling(&alarm);
+    let mut into = ArrayVec::new();
+    // A read that fails is no reason to end.
+    assert!(rt; media.count() == 2 && media.read(0, 0, &mut []).is_err());
+    assert!(rt; port.take(&mut into) == Taken::Quiet);
+    hears(&rt, &mut link, Heard::Quiet, b"");
+    assert!(rt; media.sync(0).is_err());
+    assert!(rt; port.take(&mut into) == Taken::Ended);
+    hears(&rt, &mut link, Heard::Ended, b"");
     Ok(())
 }

@@ -142,7 +142,7 @@ fn channels_select_datagrams(rt: HostRuntime) -> Result<(), Fail> {
     for (channels, group, bytes, expected) in &ROWS {
         let text = CONFIG.replace(rt.alloc(), "CHANNELS", channels)?;
         let config = read_config(rt.alloc(), text.as_bytes())?;
-        assert_eq!(rt; channel_bits(&config, *group, bytes), *expected);
+        assert!(rt; channel_bits(&config, *group, bytes) == *expected);
     }
     Ok(())
 }

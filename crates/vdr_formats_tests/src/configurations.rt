@@ -1,4 +1,5 @@
 use std::alloc::{AllocError, Global};
+use std::process::Abort;
 use std::test::*;
 use vdr_config::{Config, ConfigBad, KeyPath, Rate, TooSmall, fits, needs, read_config};
 
@@ -116,53 +117,73 @@ fn numbered(alloc: Global, number: u8, path: &KeyPath) -> Result<String, AllocEr
     format!(in alloc; "{number} {text}")
 }
 
+// This is told of a text.
+fn assert_told(rt: &impl Abort, alloc: Global, text: &str, expected: &str) -> Result<(), Fail> {
+    assert!(rt; told(alloc, text)?.as_str() == expected);
+    Ok(())
+}
+
 #[test]
 fn reads(rt: HostRuntime) -> Result<(), Fail> {
     for (text, expected) in &TEXTS {
-        assert_eq!(rt; told(rt.alloc(), text)?.as_str(), *expected);
+        assert_told(&rt, rt.alloc(), text, expected)?;
     }
     for (from, to, expected) in &CHANGED {
         let text = BENCH.replace(rt.alloc(), from, to)?;
-        assert_eq!(rt; told(rt.alloc(), &text)?.as_str(), *expected);
+        assert_told(&rt, rt.alloc(), &text, expected)?;
     }
+    Ok(())
+}
+
+#[test]
+fn bytes_are_no_text(rt: HostRuntime) {
     let blank = [b' '; 16_381];
     assert!(rt; matches!(read_config(rt.alloc(), &blank), Err(ConfigBad::TooLong)));
     assert!(rt; matches!(read_config(rt.alloc(), &blank[1..]), Err(ConfigBad::Json)));
     assert!(rt; matches!(read_config(rt.alloc(), b"\"\xFF\""), Err(ConfigBad::Json)));
-    Ok(())
+}
+
+// Sizes of both media, and what is too small: the medium, the slots that it needs and those that it has.
+const SIZES: [(u64, u64, Result<(), TooSmall>); 3] = [
+    (122_880, 712_704, Ok(())),
+    (
+        114_688,
+        712_704,
+        Err(TooSmall {
+            medium: 0,
+            need: 11,
+            have: 10,
+        }),
+    ),
+    (
+        122_880,
+        712_703,
+        Err(TooSmall {
+            medium: 1,
+            need: 83,
+            have: 82,
+        }),
+    ),
+];
+
+fn assert_answers(rt: &impl Abort, config: &Config) {
+    let channels = (config.channel_of(b"heading"), config.channel_of(b"wind"));
+    assert!(rt; channels == (Some(0), None));
+    assert!(rt; (config.window(0), config.window(1)) == (60, 600));
+    for &(capsule, long, answer) in &SIZES {
+        assert!(rt; fits(config, capsule, long) == answer);
+    }
 }
 
 #[test]
 fn answers(rt: HostRuntime) -> Result<(), Fail> {
     let config = read_config(rt.alloc(), BENCH.as_bytes())?;
-    assert_eq!(rt; config.channel_of(b"heading"), Some(0));
-    assert_eq!(rt; config.channel_of(b"wind"), None);
-    assert_eq!(rt; config.window(0), 60);
-    assert_eq!(rt; config.window(1), 600);
-    assert!(rt; fits(&config, 122_880, 712_704).is_ok());
-    let small = fits(&config, 114_688, 712_704);
-    assert!(rt;
-        small
-            == Err(TooSmall {
-                medium: 0,
-                need: 11,
-                have: 10
-            })
-    );
-    let small = fits(&config, 122_880, 712_703);
-    assert!(rt;
-        small
-            == Err(TooSmall {
-                medium: 1,
-                need: 83,
-                have: 82
-            })
-    );
+    assert_answers(&rt, &config);
     let rate = Rate {
         datagrams: 2,
         bytes: 200,
     };
     let review = Config::with_rate(rt.alloc(), rate);
-    assert_eq!(rt; needs(&review).cost, 128 + 16 * 570);
+    assert!(rt; needs(&review).cost == 128 + 16 * 570);
     Ok(())
 }

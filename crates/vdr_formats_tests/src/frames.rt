@@ -9,8 +9,8 @@ fn a_frame_is_read(rt: HostRuntime) {
     let Some(frame) = read_pcm(FRAME) else {
         panic!(rt; "no frame");
     };
-    assert_eq!(rt; (frame.microphone, frame.frame, frame.rate), (1, 0, 8000));
-    assert_eq!(rt; frame.samples, b"\x01\0\x02\0".as_slice());
+    assert!(rt; (frame.microphone, frame.frame, frame.rate) == (1, 0, 8000));
+    assert!(rt; frame.samples == b"\x01\0\x02\0".as_slice());
     law_of_pcm();
 }
 
@@ -39,7 +39,7 @@ const BYTES: [(&[u8], Option<usize>); 12] = [
 #[test]
 fn other_bytes_are_no_frame(rt: HostRuntime) {
     for (bytes, expected) in &BYTES {
-        assert_eq!(rt; read_pcm(bytes).map(|frame| frame.samples.len()), *expected);
+        assert!(rt; read_pcm(bytes).map(|frame| frame.samples.len()) == *expected);
     }
 }
 
@@ -69,6 +69,6 @@ fn frames_follow_one_another(rt: HostRuntime) {
         let Some(frame) = read_pcm(&bytes) else {
             panic!(rt; "no frame");
         };
-        assert_eq!(rt; track.step(&frame), expected, "at {microphone}, {number}");
+        assert!(rt; track.step(&frame) == expected, "at {microphone}, {number}");
     }
 }

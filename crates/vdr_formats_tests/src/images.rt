@@ -9,10 +9,10 @@ fn a_header_is_read(rt: HostRuntime) {
     let Some(header) = read_image(PART) else {
         panic!(rt; "no image");
     };
-    assert_eq!(rt; header.source, b"EI0001".as_slice());
-    assert_eq!(rt; header.destination, b"VR0001".as_slice());
-    assert_eq!(rt; (header.block, header.sequence, header.greatest), (5, 1, 3));
-    assert_eq!(rt; header.body, b"\xff\xd8\xff\xe0".as_slice());
+    assert!(rt; header.source == b"EI0001".as_slice());
+    assert!(rt; header.destination == b"VR0001".as_slice());
+    assert!(rt; (header.block, header.sequence, header.greatest) == (5, 1, 3));
+    assert!(rt; header.body == b"\xff\xd8\xff\xe0".as_slice());
     law_of_images();
 }
 
@@ -74,10 +74,7 @@ const BYTES: [(&[u8], Option<usize>); 14] = [
 #[test]
 fn other_bytes_are_no_image(rt: HostRuntime) {
     for (bytes, expected) in &BYTES {
-        assert_eq!(rt;
-            read_image(bytes).map(|header| header.body.len()),
-            *expected
-        );
+        assert!(rt; read_image(bytes).map(|header| header.body.len()) == *expected);
     }
 }
 
@@ -122,6 +119,6 @@ fn headers_follow_one_another(rt: HostRuntime) {
         let Some(header) = read_image(&bytes) else {
             panic!(rt; "no image");
         };
-        assert_eq!(rt; track.step(&header), expected, "at {block}, {sequence}");
+        assert!(rt; track.step(&header) == expected, "at {block}, {sequence}");
     }
 }

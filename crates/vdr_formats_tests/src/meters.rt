@@ -31,7 +31,7 @@ fn a_second_admits_what_the_rate_has_room_for(rt: HostRuntime) -> Result<(), Fai
     for &(group, tick, len, expected) in &ITEMS {
         assert!(rt; group < 16 && second <= tick / 1_000);
         let admitted = meter.admit(group, tick, len);
-        assert_eq!(rt; admitted, expected);
+        assert!(rt; admitted == expected);
         if admitted {
             second = tick / 1_000;
         }

@@ -1,4 +1,5 @@
 use arrayvec::ArrayVec;
+use std::process::Abort;
 use std::test::Fail;
 use vdr_entry::{
     Content, Counts, Kind, Record, law_of_stamps, one_spelling, put_record, read_record, read_utc,
@@ -17,17 +18,30 @@ const UTC: [(i64, &str); 8] = [
     (253_402_300_799, "9999-12-31T23:59:59"),
 ];
 
+// These seconds and 7 milliseconds print as this text, which is read back.
+fn assert_stamp(rt: &impl Abort, seconds: i64, text: &str) {
+    assert!(rt; 0 <= seconds && seconds <= 253_402_300_799);
+    let mut into = ArrayVec::new();
+    write_utc(seconds * 1000 + 7, &mut into);
+    let printed = into.as_slice();
+    assert!(rt;
+        printed.len() == 24 && printed.starts_with(text.as_bytes()),
+        "at {seconds}"
+    );
+    assert!(rt;
+        text.len() == 19 && printed.ends_with(b".007Z"),
+        "at {seconds}"
+    );
+    assert!(rt;
+        read_utc(printed) == Some(seconds * 1000 + 7),
+        "at {seconds}"
+    );
+}
+
 #[test]
 fn stamps_print_as_the_calendar_has_them(rt: HostRuntime) {
     for (seconds, text) in UTC {
-        let mut into = ArrayVec::new();
-        if 0 <= seconds && seconds <= 253_402_300_799 {
-            write_utc(seconds * 1000 + 7, &mut into);
-        }
-        assert_eq!(rt; into.len(), 24);
-        assert_eq!(rt; &into.as_slice()[..19], text.as_bytes(), "at {seconds}");
-        assert_eq!(rt; into.as_slice()[19..], b".007Z"[..], "at {seconds}");
-        assert_eq!(rt; read_utc(into.as_slice()), Some(seconds * 1000 + 7));
+        assert_stamp(&rt, seconds, text);
     }
     law_of_stamps();
 }
@@ -53,7 +67,7 @@ const TEXTS: [(&str, Option<i64>); 14] = [
 #[test]
 fn only_the_texts_of_stamps_are_read(rt: HostRuntime) {
     for (text, utc) in TEXTS {
-        assert_eq!(rt; read_utc(text.as_bytes()), utc, "{text}");
+        assert!(rt; read_utc(text.as_bytes()) == utc, "{text}");
     }
 }
 
@@ -66,58 +80,71 @@ const DATAGRAM: [u8; 51] = [
     0x45, 0x00, 0xff,
 ];
 
+// What a record is: its kind and group, its bits, place, number, tick and stamp.
+fn numbers_of(item: &Record) -> (Kind, u8, [u64; 4], i64) {
+    let numbers = [item.bits, item.place, item.number, item.tick];
+    (item.kind, item.group, numbers, item.utc)
+}
+
 #[test]
-fn a_datagram_is_written_and_read(rt: HostRuntime) -> Result<(), Fail> {
+fn a_datagram_is_written(rt: HostRuntime) -> Result<(), Fail> {
     let item = Record::datagram(3, 1, 513, 2, 1000, 1_704_067_200_000, b"AbCdE\0");
     let mut bytes = [0xff; 51];
     assert!(rt; item.size() <= 51);
-    assert_eq!(rt; put_record(&item, &mut bytes), 50);
-    assert_eq!(rt; bytes, DATAGRAM);
+    assert!(rt; put_record(&item, &mut bytes) == 50 && bytes == DATAGRAM);
     let mut room = vec![in rt.alloc(); 0xff; 1516]?;
-    assert_eq!(rt; write_record(&item, &mut room), 50);
-    assert_eq!(rt; record_at(&room), Some(50));
-    assert_eq!(rt; record_at(&DATAGRAM[..49]), None);
-    let Some((read, size)) = read_record(&DATAGRAM) else {
-        panic!(rt; "no record");
-    };
-    assert_eq!(rt; size, 50);
-    assert_eq!(rt; (read.kind, read.group, read.bits), (Kind::Datagram, 3, 1));
-    assert_eq!(rt; (read.place, read.number), (513, 2));
-    assert_eq!(rt; (read.tick, read.utc), (1000, 1_704_067_200_000));
-    assert!(rt; matches!(read.content(), Content::Datagram(b"AbCdE\0")));
-    one_spelling();
+    assert!(rt; write_record(&item, &mut room) == 50 && record_at(&room) == Some(50));
     Ok(())
 }
 
 #[test]
-fn the_other_kinds_are_written_and_read(rt: HostRuntime) {
-    let missed = Counts {
-        full: 10,
-        rate: 1,
-        bad: 0,
-        large: 7,
+fn a_datagram_is_read(rt: HostRuntime) {
+    assert!(rt; record_at(&DATAGRAM[..49]) == None);
+    let Some((read, size)) = read_record(&DATAGRAM) else {
+        panic!(rt; "no record");
     };
-    let items = [
-        (Record::start(3, 6, 61_000, 60_000), 44),
-        (Record::gap(3, 1, 7, 16, 61_000, 60_000, missed), 84),
-        (Record::stop(3, 8, 61_000, 60_000), 44),
-    ];
-    for (item, size) in &items {
-        let mut bytes = [0xff; 84];
-        assert!(rt; item.size() <= 84);
-        assert_eq!(rt; put_record(item, &mut bytes), *size);
-        let Some((read, taken)) = read_record(&bytes) else {
-            panic!(rt; "no record");
-        };
-        assert_eq!(rt; taken, *size);
-        assert_eq!(rt; (read.kind, read.group), (item.kind, item.group));
-        assert_eq!(rt; (read.place, read.number), (item.place, item.number));
-        assert_eq!(rt; read.payload.as_slice(), item.payload.as_slice());
-    }
-    assert!(rt; matches!(items[0].0.content(), Content::Start));
-    let Content::Gap(counts) = items[1].0.content() else {
+    let numbers = [1, 513, 2, 1000];
+    assert!(rt; size == 50);
+    assert!(rt; numbers_of(&read) == (Kind::Datagram, 3, numbers, 1_704_067_200_000));
+    assert!(rt; matches!(read.content(), Content::Datagram(b"AbCdE\0")));
+    one_spelling();
+}
+
+const MISSED: Counts = Counts {
+    full: 10,
+    rate: 1,
+    bad: 0,
+    large: 7,
+};
+
+// A record of this size is written, and read back.
+fn assert_record(rt: &impl Abort, item: &Record, size: usize) {
+    let mut bytes = [0xff; 84];
+    assert!(rt; item.size() <= 84);
+    assert!(rt; put_record(item, &mut bytes) == size);
+    let Some((read, taken)) = read_record(&bytes) else {
+        panic!(rt; "no record");
+    };
+    assert!(rt; taken == size && numbers_of(&read) == numbers_of(item));
+    assert!(rt; read.payload.as_slice() == item.payload.as_slice());
+}
+
+#[test]
+fn the_other_kinds_are_written_and_read(rt: HostRuntime) {
+    let start = Record::start(3, 6, 61_000, 60_000);
+    assert_record(&rt, &start, 44);
+    assert!(rt; matches!(start.content(), Content::Start));
+    let stop = Record::stop(3, 8, 61_000, 60_000);
+    assert_record(&rt, &stop, 44);
+    assert!(rt; matches!(stop.content(), Content::Stop));
+}
+
+#[test]
+fn a_gap_is_written_and_read(rt: HostRuntime) {
+    let gap = Record::gap(3, 1, 7, 16, 61_000, 60_000, MISSED);
+    assert_record(&rt, &gap, 84);
+    let Content::Gap(counts) = gap.content() else {
         panic!(rt; "no gap");
     };
-    assert_eq!(rt; counts, missed);
-    assert!(rt; matches!(items[2].0.content(), Content::Stop));
+    assert!(rt; counts == MISSED);
 }

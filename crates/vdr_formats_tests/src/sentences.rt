@@ -92,25 +92,31 @@ fn published(rt: HostRuntime) -> Result<(), Fail> {
             panic!(rt; "{text} is refused");
         };
         let mut again = ArrayVec::new();
-        assert_eq!(rt;
-            write_sentence(sentence.start, sentence.content, &mut again),
-            Ok(())
-        );
-        assert_eq!(rt; again.as_slice(), line.as_slice(), "{text} is written");
+        assert!(rt; write_sentence(sentence.start, sentence.content, &mut again) == Ok(()));
+        assert!(rt; again.as_slice() == line.as_slice(), "{text} is written");
 
         // Behind the address.
         let spoiled = line_of(text, Some(7));
-        assert_eq!(rt;
-            read_sentence(spoiled.as_slice()),
-            Err(Bad::Wrong {
-                written,
-                computed: written ^ 1
-            }),
+        assert!(rt;
+            read_sentence(spoiled.as_slice())
+                == Err(Bad::Wrong {
+                    written,
+                    computed: written ^ 1
+                }),
             "{text} is spoiled"
         );
     }
     Ok(())
 }
+
+// Fields of the sentence below, by their numbers.
+const FIELDS: [(usize, Option<&[u8]>); 5] = [
+    (0, None),
+    (1, Some(b"101.1")),
+    (2, Some(b"")),
+    (5, Some(b"W")),
+    (6, None),
+];
 
 #[test]
 fn fields(rt: HostRuntime) -> Result<(), Fail> {
@@ -118,13 +124,10 @@ fn fields(rt: HostRuntime) -> Result<(), Fail> {
     let Ok(sentence) = read_sentence(line.as_slice()) else {
         panic!(rt; "refused");
     };
-    assert_eq!(rt; sentence.address, b"HCHDG".as_slice());
-    assert_eq!(rt; sentence.count(), 5);
-    assert_eq!(rt; sentence.field(0), None);
-    assert_eq!(rt; sentence.field(1), Some(b"101.1".as_slice()));
-    assert_eq!(rt; sentence.field(2), Some(b"".as_slice()));
-    assert_eq!(rt; sentence.field(5), Some(b"W".as_slice()));
-    assert_eq!(rt; sentence.field(6), None);
+    assert!(rt; sentence.address == b"HCHDG".as_slice() && sentence.count() == 5);
+    for (index, field) in FIELDS {
+        assert!(rt; sentence.field(index) == field, "field {index}");
+    }
     law_of_reading();
     Ok(())
 }

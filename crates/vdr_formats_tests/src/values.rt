@@ -1,7 +1,8 @@
 use arrayvec::ArrayVec;
+use std::process::Abort;
 use vdr_sentence::read_sentence;
 use vdr_values::{
-    Fields, Formatter, Num, Time, law_of_reading, print_reading, print_value, read_value,
+    Fields, Formatter, Num, Reading, Time, law_of_reading, print_reading, print_value, read_value,
 };
 
 // Sentences as manuals of their senders print them, and others with empty fields, each with its text by the meaning of its fields in IEC 61162-1.
@@ -162,54 +163,55 @@ fn word_of(line: &[u8]) -> ArrayVec<u8, 512> {
 #[test]
 fn sentences_print_as_their_fields_say(rt: HostRuntime) {
     for (line, word) in &SENTENCES {
-        assert_eq!(rt; word_of(line).as_slice(), *word);
+        assert!(rt; word_of(line).as_slice() == *word);
     }
 }
 
 #[test]
 fn forms_have_their_ends(rt: HostRuntime) {
     for (line, word) in &FORMS {
-        assert_eq!(rt; word_of(line).as_slice(), *word);
+        assert!(rt; word_of(line).as_slice() == *word);
     }
 }
+
+// The time of day, the day, the month and the year, and the zone.
+const ZDA: Fields<'static> = Fields::Zda(
+    Some(Time {
+        hour: 16,
+        minute: 0,
+        second: 12,
+        millionths: 710_000,
+    }),
+    Some(11),
+    Some(3),
+    Some(2004),
+    Some(Num {
+        negative: true,
+        millionths: 1_000_000,
+    }),
+    Some(0),
+);
 
 #[test]
 fn a_reading_gives_its_fields(rt: HostRuntime) {
     let Ok(sentence) = read_sentence(b"$GPZDA,160012.71,11,03,2004,-1,00*7D\r\n") else {
         panic!(rt; "no sentence");
     };
-    assert_eq!(rt; Formatter::of(sentence.address), Some(Formatter::Zda));
+    assert!(rt; Formatter::of(sentence.address) == Some(Formatter::Zda));
     let Ok(Some(reading)) = read_value(&sentence) else {
         panic!(rt; "no reading");
     };
-    assert_eq!(rt; reading.formatter().code(), b"ZDA".as_slice());
-    let time = Time {
-        hour: 16,
-        minute: 0,
-        second: 12,
-        millionths: 710_000,
-    };
-    let zone = Num {
-        negative: true,
-        millionths: 1_000_000,
-    };
-    assert_eq!(rt;
-        reading.fields(),
-        Fields::Zda(
-            Some(time),
-            Some(11),
-            Some(3),
-            Some(2004),
-            Some(zone),
-            Some(0)
-        )
-    );
+    assert_reading(&rt, &reading);
+    law_of_reading();
+}
+
+fn assert_reading(rt: &impl Abort, reading: &Reading<'_>) {
+    assert!(rt; reading.formatter().code() == b"ZDA".as_slice());
+    assert!(rt; reading.fields() == ZDA);
     let mut out = ArrayVec::new();
     out.push(b' ');
-    print_value(&reading, &mut out);
-    assert_eq!(rt;
-        out.as_slice(),
-        b" time 16:00:12.71 day 11 month 3 year 2004 zone -1 0".as_slice()
+    print_value(reading, &mut out);
+    assert!(rt;
+        out.as_slice() == b" time 16:00:12.71 day 11 month 3 year 2004 zone -1 0".as_slice()
     );
-    law_of_reading();
 }

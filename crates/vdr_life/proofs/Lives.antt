@@ -48,7 +48,7 @@ order_front : (opening : Opening) (m : ℕ) (first rest : List Event) → AreInO
 order_front opening m first rest order = (parts_in_order (all_records opening m first) (recorded rest) (subst AreInOrder
     (ap (λ (rs : List Record). opening.records m ++ rs) (flat_map-append (λ (e : Event). records_of_act e.act) first rest) ∙ sym (append_assoc (opening.records m) (recorded first) (recorded rest))) order)).0
 
-run_front : (x : Contents) (first rest events : List Event) → events ≡ first ++ rest → IsRun x events → IsRun x first
+pub run_front : (x : Contents) (first rest events : List Event) → events ≡ first ++ rest → IsRun x events → IsRun x first
 run_front x first rest events split run = record {
   follow = follow_front (opening_of x) [] first rest (subst (MayFollow (opening_of x) []) split run.follow);
   order = All-weaker (λ m. AreInOrder (given_with (opening_of x) events m)) (λ m. AreInOrder (given_with (opening_of x) first m))
@@ -172,6 +172,9 @@ module _ (c : Configuration) (text : List ℕ) where
 
   pub life_ours : (all : List Event) (image : Image) → Life c text all image → IsOurs image
   life_ours all image life = let l = lives_so all image life in inr (l.contents, l.holds, l.shown.media.ends, l.sound)
+
+  pub life_config : (all : List Event) (image : Image) (x : Contents) → Life c text all image → HoldsContents image x → x.config ≡ c
+  life_config all image x life holds = same_config all image (lives_so all image life) x holds
 
   pub life_windows : (all : List Event) (image : Image) (x : Contents) (m : ℕ) → Life c text all image → HoldsContents image x → Contains both m → window (window_of c m) ((opening_of x).records m) ≡ window (window_of c m) (recorded all)
   life_windows all image x m life holds there = windows_on all image (lives_so all image life) x holds m there

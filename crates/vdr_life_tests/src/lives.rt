@@ -47,16 +47,27 @@ const COMMANDS: [Command; 10] = [
 // The commands that are cut off.
 const CUT: [usize; 2] = [2, 6];
 
-// Opening syncs both media. Each record of these feeds is a batch of its own, by four writes and syncs on each medium.
+// Opening syncs both media. A run over one of these feeds is three batches, its Start, its items and its Stop, each by four writes and
+// syncs on each medium.
 const OPENING: u64 = 2;
 
-const EACH_RECORD: u64 = 8;
+const EACH_BATCH: u64 = 8;
 
-const ALL_CALLS: u64 = OPENING + 6 * EACH_RECORD;
+const ALL_CALLS: u64 = OPENING + 3 * EACH_BATCH;
 
-// How many records of the cut run are acknowledged after so many writes and syncs.
+// How many batches of the cut run are acknowledged after so many writes and syncs.
 fn acknowledged(calls: u64) -> usize {
-    (calls.saturating_sub(OPENING) / EACH_RECORD) as usize
+    (calls.saturating_sub(OPENING) / EACH_BATCH) as usize
+}
+
+// How many records so many batches of a run over these items have.
+fn records_in(batches: usize, items: &[Given]) -> usize {
+    match batches {
+        0 => 0,
+        1 => 1,
+        2 => items.len().saturating_add(1),
+        _ => items.len().saturating_add(2),
+    }
 }
 
 // The history of the media, as `play longterm all - -` prints it: it lasts less than 20 seconds, so that the window has all of it.
@@ -219,7 +230,7 @@ fn contents_of(alloc: Global, media: &RamMedia) -> Result<Vec<Vec<u8>>, AllocErr
     Ok(vec![in alloc; capsule, long_term]?)
 }
 
-// An image that a stop left of a run over these items shows the history with the run's first records, all that were acknowledged
+// An image that a stop left of a run over these items shows the history with the run's first batches, all that were acknowledged
 // and one more at most. It is gone on with, and what is played in the end is the whole history.
 fn assert_gone_on(
     rt: &impl Abort,
@@ -233,8 +244,9 @@ fn assert_gone_on(
     requires { length image.items ≡ 2 }
 {
     let (printed, media) = played(rt, alloc, RamMedia::new(image))?;
-    let without = with_run(alloc, before, items, least)?;
-    let with = with_run(alloc, before, items, least.saturating_add(1))?;
+    let without = with_run(alloc, before, items, records_in(least, items))?;
+    let most = records_in(least.saturating_add(1), items);
+    let with = with_run(alloc, before, items, most)?;
     assert!(rt; printed == without.text || printed == with.text);
     let history = if printed == with.text { with } else { without };
     let (history, media) = does_all(rt, alloc, rest, history, media)?;

@@ -14,13 +14,14 @@ use Rattle.vdr_capture.specs.declared.sums.Outcome.TheVariants as outcomes
 use Rattle.vdr_desk.specs.Exchanges.{Exchange}
 use Rattle.vdr_session.specs.Sessions.{OutcomeMeans, is_closed}
 use Rattle.vdr_session.specs.declared.session.SessionEnd.{SessionEnd}
-use Rattle.vdr_tool.specs.Opened.{OneAnswer, WasRecorded, status_of_opening}
-use Rattle.vdr_tool.specs.Outside.{MediaFailed, MediaSeen, OutputFailed, OutputSeen, Writes}
+use Rattle.vdr_command.specs.Opened.{OneAnswer, WasRecorded}
+use Rattle.vdr_command.specs.Statuses.{status_of_opening}
+use Rattle.vdr_command.specs.Outside.{MediaFailed, MediaSeen, OutputFailed, OutputSeen, Writes}
 use Rattle.vdr_tool.specs.Summaries.{summary_text}
-use Rattle.vdr_tool.specs.declared.status.Status.{Status}
-use Rattle.vdr_tool.specs.declared.status.Status.TheVariants.{Done, MediaFault, PortFault, LinkFault, OutputFault, NoMemory, Place, Tick}
-use Rattle.vdr_tool.proofs.FormatLemmas.{not_both}
-use Rattle.vdr_tool.proofs.OpenedCompleteness.{damaged_alike}
+use Rattle.vdr_command.specs.declared.status.Status.{Status}
+use Rattle.vdr_command.specs.declared.status.Status.TheVariants.{Done, MediaFault, PortFault, LinkFault, OutputFault, NoMemory, Place, Tick}
+use Rattle.vdr_vault.proofs.OpenMoments.{never_both}
+use Rattle.vdr_command.proofs.OpenedCompleteness.{damaged_alike}
 use Rattle.vdr_live.specs.Links.{AsksLinks, LinkIn, LinkSeen, NoLinkFailed, WasAnswered}
 use Rattle.vdr_live.specs.Ports.{AsksPorts, NoPortFailed, PortIn, PortSeen}
 use Rattle.vdr_live.specs.Recordings.{IfLinkFault, IfPortFault, IsNotOpened, IsRecorded, PrintsSession, RecordingEnds, Records, RecordsAll, Surroundings, TellsSession}
@@ -107,7 +108,7 @@ module _ {tells tells_images : Type 0} (turns : ℕ) (ports_old ports_new : List
 
       all_of : (o : Outcome) (summary : List ℕ) (status : Status) → end.outcome ≡ o → PrintsSession o summary status was next → RecordsAll old.disk.reads status
       all_of outcomes.Done summary status is (inl done) = subst (λ (s : Status). RecordsAll old.disk.reads s) (sym done.0) (record {
-        unformatted = λ un. absurd (not_both old.disk.reads (ends.legible told).0 un);
+        unformatted = λ un. absurd (never_both old.disk.reads (ends.legible told).0 un);
         damaged = λ f m offset r. let l = ends.legible told in absurd (law.either l.1 m offset l.2 l.3 r);
         place = λ x holds meet sound high. absurd (too_high (opening_of x).next_place high (means outcomes.Done is x holds sound).place);
         tick = λ x holds meet sound low high. absurd (too_high (base_after (opening_of x).last) high (means outcomes.Done is x holds sound).base);
@@ -122,14 +123,14 @@ module _ {tells tells_images : Type 0} (turns : ℕ) (ports_old ports_new : List
         done = λ x holds meet sound may. tt;
       })
       all_of outcomes.Place summary status is p = subst (λ (s : Status). RecordsAll old.disk.reads s) (sym p.0) (record {
-        unformatted = λ un. absurd (not_both old.disk.reads (ends.legible told).0 un);
+        unformatted = λ un. absurd (never_both old.disk.reads (ends.legible told).0 un);
         damaged = λ f m offset r. let l = ends.legible told in absurd (law.either l.1 m offset l.2 l.3 r);
         place = λ x holds meet sound high. inl refl;
         tick = λ x holds meet sound low high. absurd (too_high (opening_of x).next_place (means outcomes.Place is x holds sound) low);
         done = λ x holds meet sound may. absurd (too_high (opening_of x).next_place (means outcomes.Place is x holds sound) may.place);
       })
       all_of outcomes.Tick summary status is p = subst (λ (s : Status). RecordsAll old.disk.reads s) (sym p.0) (record {
-        unformatted = λ un. absurd (not_both old.disk.reads (ends.legible told).0 un);
+        unformatted = λ un. absurd (never_both old.disk.reads (ends.legible told).0 un);
         damaged = λ f m offset r. let l = ends.legible told in absurd (law.either l.1 m offset l.2 l.3 r);
         place = λ x holds meet sound high. absurd (too_high (opening_of x).next_place high (means outcomes.Tick is x holds sound).0);
         tick = λ x holds meet sound low high. inl refl;
@@ -152,7 +153,7 @@ module _ {tells tells_images : Type 0} (turns : ℕ) (ports_old ports_new : List
       let un = (ends.media.unformatted refl).1 told in
       record {
         unformatted = λ other. inl refl;
-        damaged = λ f m offset r. absurd (not_both old.disk.reads f un);
+        damaged = λ f m offset r. absurd (never_both old.disk.reads f un);
         place = λ x holds meet sound high. absurd (law.formatted x holds un);
         tick = λ x holds meet sound low high. absurd (law.formatted x holds un);
         done = λ x holds meet sound may. absurd (law.formatted x holds un);
@@ -160,7 +161,7 @@ module _ {tells tells_images : Type 0} (turns : ℕ) (ports_old ports_new : List
   refused_all told law media (openings.Damaged k at) ends = ⊎_elim
       (λ r. let f = r.1 told in
       record {
-        unformatted = λ un. absurd (not_both old.disk.reads f.0 un);
+        unformatted = λ un. absurd (never_both old.disk.reads f.0 un);
         damaged = λ formatted m offset also. inl (damaged_alike k at m offset (law.one k at m offset f.1 also));
         place = λ x holds meet sound high. absurd (law.either x k at holds meet f.1);
         tick = λ x holds meet sound low high. absurd (law.either x k at holds meet f.1);

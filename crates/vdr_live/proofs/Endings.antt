@@ -24,8 +24,8 @@ use Rattle.vdr_session.specs.Sessions.{HasGroups, HasSessionCause, RecordsSessio
 use Rattle.vdr_session.specs.declared.session.SessionEnd.{SessionEnd}
 use Rattle.vdr_replay.proofs.Headlines.{passes_opened}
 use Rattle.vdr_replay.proofs.Playing.{config_read}
-use Rattle.vdr_tool.specs.Opened.{WasRecorded}
-use Rattle.vdr_tool.specs.Outside.{MediaSeen}
+use Rattle.vdr_command.specs.Opened.{WasRecorded}
+use Rattle.vdr_command.specs.Outside.{MediaSeen}
 use Rattle.vdr_live.specs.Links.{AreReplied, seen_links}
 use Rattle.vdr_live.specs.Ports.{seen_ports}
 use Rattle.vdr_live.specs.Recordings.{IsRecorded}

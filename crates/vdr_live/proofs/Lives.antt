@@ -12,9 +12,9 @@ use Rattle.vdr_life.specs.Lives.{Life, LivesOn}
 use Rattle.vdr_life.specs.Ours.{AreOurs, RestAs, StayOurs}
 use Rattle.vdr_life.proofs.Lives.{LifeHolds, life_holds, run_in_order}
 use Rattle.vdr_life.proofs.Ours.{ours_opened}
-use Rattle.vdr_tool.specs.Opened.{status_of_opening}
-use Rattle.vdr_tool.specs.Outside.{MediaSeen}
-use Rattle.vdr_tool.proofs.FormatLemmas.{not_both}
+use Rattle.vdr_command.specs.Statuses.{status_of_opening}
+use Rattle.vdr_command.specs.Outside.{MediaSeen}
+use Rattle.vdr_vault.proofs.OpenMoments.{never_both}
 use Rattle.vdr_tool.proofs.LifeGoesOn.{media_life, run_life}
 use Rattle.vdr_tool.proofs.Lives.{media_lives, played_ours}
 use Rattle.vdr_live.specs.Links.{LinkSeen}
@@ -23,7 +23,7 @@ use Rattle.vdr_live.specs.Recordings.{RecordingEnds}
 
 module _ {tells tells_images : Type 0} (turns : ℕ) (ports_old ports_new : List PortSeen) (links_old links_new : List LinkSeen) (old new : MediaSeen tells tells_images) where
   pub record_lives : (answer : Result SessionEnd OpenRefused) → RecordingEnds turns ports_old ports_new links_old links_new old new answer → tells_images → AreOurs old.disk → StayOurs old.disk new.disk
-  record_lives (Ok end) ends told ours = ours_opened old.disk new.disk told ours (λ t un. absurd (not_both old.disk.reads (ends.legible t).0 un)) (λ x t holds meet sound.
+  record_lives (Ok end) ends told ours = ours_opened old.disk new.disk told ours (λ t un. absurd (never_both old.disk.reads (ends.legible t).0 un)) (λ x t holds meet sound.
       let h = ends.recorded x t holds sound in inr (
         (let first = h.after_entry in let then = h.before_exit in omega (arith, first, then)),
         λ image left. ⊎_elim (λ now. inl now) (λ (shown : ShowsPrefix (PlaysBack (opening_of x)) h.events 0 image). inr (played_ours x shown.first image shown.shown)) (h.since_entry image left),

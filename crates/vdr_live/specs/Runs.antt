@@ -1,10 +1,10 @@
 -- What `run` promises: `record` has its page, and all other words are those of `run_alone`.
 use Rattle.std.specs.Prelude.{◌≡◌, ◌≤◌, ℕ, List, String}
 use Rattle.std.specs.declared.alloc.Global.{Global}
-use Rattle.vdr_tool.specs.Endings.{WritesLine}
-use Rattle.vdr_tool.specs.Outside.{OutputSeen}
+use Rattle.vdr_command.specs.Endings.{WritesLine}
+use Rattle.vdr_command.specs.Outside.{OutputSeen}
 use Rattle.vdr_tool.specs.Runs.{Runs}
-use Rattle.vdr_tool.specs.declared.status.Status.{Status}
+use Rattle.vdr_command.specs.declared.status.Status.{Status}
 use Rattle.vdr_live.specs.Recordings.{AsksRecord, Records, Surroundings}
 
 module _ {tells tells_images : Type 0} where

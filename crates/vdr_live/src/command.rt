@@ -7,7 +7,7 @@ ghost use Rattle.vdr_life.specs.Ours.{AreOurs, RestAs, StayOurs};
 ghost use Rattle.vdr_tool.specs.Commands.{Asked};
 ghost use Rattle.vdr_tool.specs.Lives.{FormatsNothing, StartsSynced};
 ghost use Rattle.vdr_tool.specs.Runs.{Asks, page};
-ghost use Rattle.vdr_tool.specs.declared.status.Status.TheVariants.{Words};
+ghost use Rattle.vdr_command.specs.declared.status.Status.TheVariants.{Words};
 ghost use Rattle.vdr_live.specs.Links.{seen_links};
 ghost use Rattle.vdr_live.specs.Ports.{seen_ports};
 ghost use Rattle.vdr_live.specs.Recordings.{AsksRecord};

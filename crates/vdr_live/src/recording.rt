@@ -1,8 +1,8 @@
 // The command `record TURNS`.
 ghost use Rattle.std.specs.Prelude.{◌≡◌, ◌≤◌, ◌<◌, ◌^◌, ℕ, length, slice_index_or};
-ghost use Rattle.vdr_tool.specs.Endings.{ending};
+ghost use Rattle.vdr_command.specs.Endings.{ending};
 ghost use Rattle.vdr_tool.specs.Summaries.{summary_text};
-ghost use Rattle.vdr_tool.specs.declared.status.Status.TheVariants.{Words};
+ghost use Rattle.vdr_command.specs.declared.status.Status.TheVariants.{Words};
 ghost use Rattle.vdr_live.specs.Links.{seen_links};
 ghost use Rattle.vdr_live.specs.Ports.{seen_ports};
 ghost use Rattle.vdr_live.specs.Recordings.{PrintsSession, Records, most_turns};

@@ -25,7 +25,7 @@ use Rattle.vdr_retention.proofs.Ordered.{no_later}
 use Rattle.vdr_pace.specs.Commits.{TakesItems, ClosesRun, IsDoneIn, AreDoneFrom, closing_size}
 use Rattle.vdr_pace.specs.Media.{AreLimitsOf, EndsBefore, IsAppended, IsMediumOf, IsOpened, batches_in, state_after}
 use Rattle.vdr_pace.proofs.Follow.{follow_last}
-use Rattle.vdr_pace.proofs.ItemSizes.{items_size, closes_size}
+use Rattle.vdr_pace.proofs.ItemSizes.{made_size, closes_size}
 use Rattle.vdr_pace.proofs.Parts.{all_records, part_has_less, same_last, sum_of_all}
 use Rattle.vdr_pace.proofs.Seconds.{IsNoLater, Kept, all_paced}
 
@@ -71,13 +71,10 @@ seconds_paced sizes start opened acts of was done s =
     let b = sum_by-append (batch_size_at s) (batches_in opened) (map records_of_act acts) in
     omega (arith, a, b)
 
-fits_batch : (n batch size : ℕ) → n ≤ batch / 1600 → size ≤ 1600 * n → size ≤ batch
-fits_batch n batch size few small = omega (arith, few, small)
-
 is_short : (limits : ℕ → Limit) (batch : ℕ) (s : RunState) (records : List Record) (taken : List Captured) → closing_size ≤ batch → IsDoneIn limits batch s (Commit records taken) → records_size records ≤ batch
 is_short limits batch s records taken roomy done =
     ⊎_elim
-    (λ (t : TakesItems limits batch s records taken). fits_batch (length taken) batch (records_size records) t.few (items_size s.start limits s.popped taken records t.fit t.made.made))
+    (λ (t : TakesItems limits batch s records taken). let made = made_size s.start s.popped taken records t.made.made in let short = t.short in omega (arith, made, short))
     (λ (o : BeginsWith s records taken ⊎ ClosesRun limits s records taken). ⊎_elim
     (λ (b : BeginsWith s records taken). let a = ap records_size b.made in omega (arith, a, roomy))
     (λ (c : ClosesRun limits s records taken). let a = ap records_size c.made.made in let b = closes_size s.start s.popped c.made.rest in omega (arith, a, b, roomy))

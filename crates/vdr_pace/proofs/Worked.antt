@@ -16,7 +16,7 @@ use Rattle.vdr_history.specs.Histories.Act.{Commit, Save}
 use Rattle.vdr_history.proofs.Rows.{small, start, data_at, gap_at}
 use Rattle.vdr_history.proofs.RunChecks.{popped_at}
 use Rattle.vdr_retention.specs.Layout.{Batches, batch_size_at}
-use Rattle.vdr_pace.specs.Commits.{IsFit, TakesItems, AreDoneFrom, item_size}
+use Rattle.vdr_pace.specs.Commits.{IsFit, TakesItems, AreDoneFrom, items_size, largest_item}
 use Rattle.vdr_pace.specs.Media.{IsOpened, IsMediumOf, state_after}
 
 -- One group, number 3, with two datagrams and 200 bytes a second.
@@ -32,8 +32,8 @@ first = record { limits = λ g. limit_of (slice_index_or groups g None); channel
 a_second : cost sizes ≡ 698
 a_second = refl
 
--- A batch of so many bytes has room for five items, and for a close.
-five_items : 8192 / item_size ≡ 5
+-- A batch of so many bytes has room for five items of any length, and for a close.
+five_items : 8192 / largest_item ≡ 5
 five_items = refl
 
 abbrev one_refused : Counts
@@ -57,12 +57,12 @@ are_done : AreDoneFrom first.limits 8192 (state_after first []) open_acts
 are_done = (
   inr (inl (record { is_closed = refl; made = refl; none = refl })),
   (
-    inl (record { made = record { is_open = refl; made = refl }; fit = All-cons (IsFit first.limits) (popped_at 0 0) (popped_at 1 0 ∷ []) (fits 0 0) (one_fits 1 0); few = omega arith }),
+    inl (record { made = record { is_open = refl; made = refl }; fit = All-cons (IsFit first.limits) (popped_at 0 0) (popped_at 1 0 ∷ []) (fits 0 0) (one_fits 1 0); short = omega arith }),
     (
       tt,
       (
-        inl (record { made = record { is_open = refl; made = refl }; fit = one_fits 2 999; few = omega arith }),
-        (inl (record { made = record { is_open = refl; made = refl }; fit = one_fits 3 1000; few = omega arith }), tt),
+        inl (record { made = record { is_open = refl; made = refl }; fit = one_fits 2 999; short = omega arith }),
+        (inl (record { made = record { is_open = refl; made = refl }; fit = one_fits 3 1000; short = omega arith }), tt),
       ),
     ),
   ),
@@ -96,6 +96,6 @@ lost_the_last h = omega (arith, ap place_of h.newest)
     place_of None = 0
     place_of (Some r) = suc r.place
 
--- Six items are too many for a batch.
-six_items : (records : List Record) (taken : List Captured) → length taken ≡ 6 → TakesItems first.limits 8192 (state_after first []) records taken → ⊥
-six_items records taken six t = omega (arith, six, t.few)
+-- Items whose records may be a byte longer than a batch are not taken.
+byte_too_long : (records : List Record) (taken : List Captured) → items_size taken ≡ 8193 → TakesItems first.limits 8192 (state_after first []) records taken → ⊥
+byte_too_long records taken size t = omega (arith, size, t.short)

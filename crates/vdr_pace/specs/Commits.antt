@@ -1,5 +1,5 @@
 -- What a recorder hands to commit, and on what conditions (this project's profile).
-use Rattle.std.specs.Prelude.{ℕ, ◌/◌, ◌≤◌, ◌≡◌, ◌⊎◌, ⊤, true, false, List, [], ◌∷◌, length, All}
+use Rattle.std.specs.Prelude.{ℕ, ◌+◌, ◌≤◌, ◌≡◌, ◌⊎◌, ⊤, true, false, List, [], ◌∷◌, length, sum_by, All}
 use Rattle.vdr_terms.specs.Records.{Record, total}
 use Rattle.vdr_terms.specs.Datagrams.{largest}
 use Rattle.vdr_terms.specs.Rates.{Limit, is_configured}
@@ -12,9 +12,20 @@ use Rattle.vdr_history.specs.RunStates.{RunState, after_act, GoesOnWith, BeginsW
 abbrev pub start_size : ℕ
 start_size = 44
 
--- The most bytes that the records of one item take: a Gap of 84, and a Datagram of 44 and the longest datagram.
-abbrev pub item_size : ℕ
-item_size = 1600
+-- The most bytes that the records of an item take: a Gap of 84, and a Datagram of 44 and the item's own.
+abbrev pub item_size : Captured → ℕ
+item_size c = 128 + length c.bytes
+
+-- The most bytes that the records of these items take.
+abbrev pub items_size : List Captured → ℕ
+items_size items = sum_by item_size items
+
+-- That of an item of no bytes, and that of the longest: a Datagram has up to 1,472.
+abbrev pub least_item : ℕ
+least_item = 128
+
+abbrev pub largest_item : ℕ
+largest_item = 1600
 
 -- The most bytes that a close takes: a Gap of each of 16 groups, and a Stop.
 abbrev pub closing_size : ℕ
@@ -25,11 +36,11 @@ pub record IsFit (limits : ℕ → Limit) (c : Captured) : Type 0 where
   pub configured : is_configured (limits c.group) ≡ true
   pub short : length c.bytes ≤ largest
 
--- The records of items, of which there are so few that their records fit a batch.
+-- The records of items, which fit a batch whatever they are.
 pub record TakesItems (limits : ℕ → Limit) (batch : ℕ) (s : RunState) (records : List Record) (taken : List Captured) : Type 0 where
   pub made : GoesOnWith s records taken
   pub fit : All (IsFit limits) taken
-  pub few : length taken ≤ batch / item_size
+  pub short : items_size taken ≤ batch
 
 -- The close of a run, where no group that is not configured has missed anything.
 pub record ClosesRun (limits : ℕ → Limit) (s : RunState) (records : List Record) (taken : List Captured) : Type 0 where

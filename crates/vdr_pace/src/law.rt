@@ -1,4 +1,4 @@
-ghost use Rattle.std.specs.Prelude.{◌≡◌, ◌<◌, ◌≤◌, ◌+◌, ◌*◌, [], ◌∷◌, ◌++◌, ℕ, List, All, length, map, sum_by};
+ghost use Rattle.std.specs.Prelude.{◌≡◌, ◌<◌, ◌≤◌, ◌+◌, ◌*◌, ◌/◌, [], ◌∷◌, ◌++◌, ℕ, List, All, length, map, sum_by};
 ghost use Rattle.vdr_terms.specs.declared.counts.Counts.{Counts};
 ghost use Rattle.vdr_terms.specs.Needs.{Sizes, cost};
 ghost use Rattle.vdr_terms.specs.Rates.{Limit};
@@ -12,15 +12,18 @@ ghost use Rattle.vdr_history.specs.Runs.{RunStart};
 ghost use Rattle.vdr_history.specs.Taken.{Captured};
 ghost use Rattle.vdr_retention.specs.Layout.{Batches, batch_size_at};
 ghost use Rattle.vdr_retention.specs.Regular.{IsPaced};
-ghost use Rattle.vdr_pace.specs.Commits.{AreDoneFrom, IsDoneIn, IsFit, closing_size, item_size, start_size};
+ghost use Rattle.vdr_pace.specs.Commits.{AreDoneFrom, IsDoneIn, IsFit, closing_size, items_size, largest_item, least_item, start_size};
 ghost use Rattle.vdr_pace.specs.Media.{AreLimitsOf, IsAppended, IsMediumOf, IsOpened, batches_in, state_after};
 
-/// How many bytes the records take that a recorder commits: those of items at most 1,600 each, where no item has more than
-/// 1,472 bytes, and those of a close at most 1,388.
+/// How many bytes the records take that a recorder commits: those of an item at most 128 and its own, and those of a close at
+/// most 1,388. So a batch has room for the records of an item for each 1,600 of its bytes, where none has more than 1,472, and
+/// for no more items than one for each 128.
 pub fn law_of_sizes()
     ensures start { (start : RunStart) → records_size (begun start).made ≡ start_size }
-    ensures items { (start : RunStart) (limits : ℕ → Limit) (before more : List Captured) (new : List Record) → All (IsFit limits) more
-        → (recorder_after start (before ++ more)).made ≡ (recorder_after start before).made ++ new → records_size new ≤ item_size * length more }
+    ensures items { (start : RunStart) (before more : List Captured) (new : List Record)
+        → (recorder_after start (before ++ more)).made ≡ (recorder_after start before).made ++ new → records_size new ≤ items_size more }
+    ensures few { (limits : ℕ → Limit) (batch : ℕ) (items : List Captured) → All (IsFit limits) items → length items ≤ batch / largest_item → items_size items ≤ batch }
+    ensures count { (batch : ℕ) (items : List Captured) → items_size items ≤ batch → length items ≤ batch / least_item }
     ensures close { (start : RunStart) (before : List Captured) (rest : ℕ → Counts) → records_size (closing start (recorder_after start before) rest) ≤ closing_size }
 {}
 

@@ -9,7 +9,7 @@ const NO_COMMAND: &str = "vdr: these words ask for no command; `vdr --help` teac
 pub(crate) fn explain<R: Read + Drop, W: Write + Drop>(
     rt: &impl Eprint,
     status: Status,
-    world: &World<StdIn<R>, StdOut<W>, FileMedia>,
+    world: &World<StdIn<R>, StdOut<W>, FileMedia<'_>>,
 ) {
     let (name, trouble) = match status {
         Status::Done => return,

@@ -59,6 +59,34 @@ Commands:
             source, LINES is the number of its lines, BAD how many of them are refused, as
             sentences or by a TAG block, and BREAKS how often its line count doesn't go on from
             the one before: then lines were lost. Lines that name no source stand under `-`.
+  watch MEDIUM
+            Prints what heartbeats and alarms (HBT and ALR) show of the equipment in a window or an
+            incident, MEDIUM as for `play`: `PLACE UTC silent GROUP SOURCE MS` where a heartbeat
+            comes more than twice its interval behind the one before it, or none comes up to the
+            last record; `PLACE UTC jump GROUP SOURCE OLD NEW` where its sequence number is not
+            the next one; `PLACE UTC alarm GROUP SOURCE NUMBER CONDITION ACKNOWLEDGED TEXT` at an
+            alarm's first state and at each change of it.
+  trial SEED COUNT
+            Tries media that hold nothing yet: formats them with the bench configuration (files of
+            122,880 and 712,704 bytes), records COUNT generated items (0 to 1,000,000) from SEED
+            on (0 to 2,147,483,647) as `replay` does, opens them again, and prints what was taken,
+            recorded and refused by the rate, the records of the run, and how many of them stand
+            in the windows of the capsule and of the long-term medium.
+  targets MEDIUM AT
+            Prints the ships that AIS messages in VDM and VDO sentences report, of a window or an
+            incident, MEDIUM as for `play`, up to the stamp AT, or to the end where it is `-`: for
+            each a line `MMSI UTC REPORTS LATITUDE LONGITUDE SPEED COURSE HEADING NAME`, by MMSI.
+            UTC is the stamp of the record with its last report, REPORTS how many there are, and
+            the last position and the last name stand behind them, `-` where none came. LATITUDE
+            and LONGITUDE are in ten-thousandths of a minute, north and east above 0, SPEED in
+            tenths of a knot, COURSE in tenths of a degree, HEADING in degrees. A ship that sends
+            no value sends 54600000, 108600000, 1023, 3600 or 511 in its place.
+  wav MEDIUM CHANNEL FROM TO
+            Writes the sound of a channel of kind `pcm` to standard output, as a WAVE file; the words
+            are as for `play`. Frames that are missing are silent.
+  picture MEDIUM CHANNEL SOURCE BLOCK FROM TO
+            Writes the image with this SOURCE (six bytes, such as EI0001) and BLOCK (a number), out of
+            a channel of kind `image`, to standard output, once all its parts are there.
   save LABEL
             Saves an incident: keeps the records of the long-term medium, from the first one
             of the last `incident_seconds` of recording time to the last one, until the
@@ -122,7 +150,7 @@ Exit status, with the line that ends the output:
       long-term medium, is not legal; it begins at OFFSET, in bytes
   5   `status 5 media`: a medium is in use by another process, may not be opened or
       written, or could not be read, written or synced; what was recorded before stays.
-      `play`, `sources` and `incidents` need no leave to write
+      `play`, `sources`, `targets` and `incidents` need no leave to write
   6   `status 6 port GROUP`: the UDP port of this group could not be bound or read, the least
       group where several could not; the run is closed, and its summary stands above
   6   `status 6 link 0`: TCP port 61450 could not be listened on, and no port failed; the run is

@@ -4,22 +4,24 @@ ghost use Rattle.std.specs.Prelude.{◌≡◌, ◌<◌, ℕ, length, get_or, IfO
 use std::alloc::{AllocError, Global};
 use std::net::Net;
 use std::time::{Clock, Duration};
-use vdr_adapters::UdpPort;
+use vdr_adapters::{Alarm, UdpPort};
 use vdr_capture::Lane;
 
-/// A lane for each transmission group, over its UDP port, which is bound when it is first asked. Where the clock can't be read, capture
-/// counts from the clock's own beginning.
-pub fn udp_lanes<R: Net + Clock + Eprint>(
-    rt: &R,
+/// A lane for each transmission group, over its UDP port, which is bound when it is first asked, and ends once the alarm is raised. Where
+/// the clock can't be read, capture counts from the clock's own beginning.
+pub fn udp_lanes<'a, R: Net + Clock + Eprint>(
+    rt: &'a R,
     alloc: Global,
-) -> Result<Vec<Lane<UdpPort<&R>>>, AllocError>
+    alarm: &'a Alarm,
+) -> Result<Vec<Lane<UdpPort<'a, &'a R>>>, AllocError>
     ensures sixteen { IfOk result (λ lanes. length lanes.items ≡ 16) }
     ensures groups { IfOk result (λ lanes. (g : ℕ) (d : _) → g < 16 → (get_or lanes.items g d).group ≡ g) }
 {
     let began = rt.monotonic().unwrap_or(Duration::ZERO);
     let mut lanes = Vec::with_capacity(alloc, 16)?;
     for group in 0..16u8 {
-        lanes.push(Lane::new(UdpPort::new(rt, group, began), group))?;
+        let port = UdpPort::new(rt, group, began).until(alarm);
+        lanes.push(Lane::new(port, group))?;
     }
     Ok(lanes)
 }

@@ -18,6 +18,7 @@ use std::io;
 use std::io::{BufReader, Read};
 use std::sync::Wait;
 use std::thread::Threads;
+pub use vdr_adapters::Alarm;
 use vdr_adapters::{FileMedia, StandardStreams, StdIn, StdOut};
 use vdr_capture::Lane;
 use vdr_live::{run, uses_media};
@@ -36,14 +37,15 @@ fn tell(rt: &impl Print, text: &str) -> Status {
     }
 }
 
-// The media of a folder, for this command. One that uses none opens none, and none is opened beside a standard stream that
-// could not be filled.
-fn media_for<R: AllocGlobal + Files<File = File> + Eprint>(
+// The media of a folder, for this command, which raise the alarm where they can't be written. One that uses none opens none, and none is
+// opened beside a standard stream that could not be filled.
+fn media_for<'a, R: AllocGlobal + Files<File = File> + Eprint>(
     rt: &R,
     filled: &io::Result<StandardStreams>,
     folder: &str,
     command: &[String],
-) -> Result<FileMedia, AllocError> {
+    alarm: &'a Alarm,
+) -> Result<FileMedia<'a>, AllocError> {
     if !uses_media(command) {
         return Ok(FileMedia::unused());
     }
@@ -51,7 +53,8 @@ fn media_for<R: AllocGlobal + Files<File = File> + Eprint>(
         let _ = eprintln!(rt; "vdr: /dev/null: {error}");
         return Ok(FileMedia::shut());
     }
-    FileMedia::open(rt, folder)
+    let media = FileMedia::open(rt, folder)?;
+    Ok(media.telling(alarm))
 }
 
 /// Does what the words of the program ask for, over this input, the standard output, the media of the folder that the first
@@ -59,13 +62,20 @@ fn media_for<R: AllocGlobal + Files<File = File> + Eprint>(
 ///
 /// `--help`, `-h` and `--version`, as the only word, print what the program says of itself. Where something went wrong, one line on the
 /// standard error says what, if that is known. Standard streams that are closed are filled before any medium is opened, and before any
-/// port or link is asked.
+/// port or link is asked. The alarm is raised where a medium can't be written or synced; ports and links that were made for it then end.
 pub fn command_line<
     R: AllocGlobal + Files<File = File> + Print + Eprint + Threads + Wait + Sync,
     I: Read + Drop,
     P: Port + Send,
     L: Link + Send,
->(rt: &R, words: &[String], input: I, lanes: &mut [Lane<P>], desks: &mut [Desk<L, Mark>]) -> Status
+>(
+    rt: &R,
+    words: &[String],
+    input: I,
+    lanes: &mut [Lane<P>],
+    desks: &mut [Desk<L, Mark>],
+    alarm: &Alarm,
+) -> Status
     requires sixteen { length lanes.old ≡ 16 }
     requires groups { (g : ℕ) (d : _) → g < 16 → (slice_index_or lanes.old g d).group ≡ g }
     requires desks { length desks.old < 2 ^ 32 }
@@ -84,7 +94,7 @@ pub fn command_line<
     let Ok(input) = BufReader::with_capacity(rt.alloc(), READ_AHEAD, input) else {
         return Status::NoMemory;
     };
-    let Ok(media) = media_for(rt, &filled, folder, command) else {
+    let Ok(media) = media_for(rt, &filled, folder, command, alarm) else {
         return Status::NoMemory;
     };
     let mut world = World {

@@ -10,7 +10,7 @@ use std::thread::Threads;
 use std::{fs, io};
 use vdr_capture::Lane;
 use vdr_outside::{Link, Port};
-use vdr_program::{command_line, tcp_desk, udp_lanes};
+use vdr_program::{Alarm, command_line, tcp_desk, udp_lanes};
 use vdr_session::{Desk, Mark};
 
 #[cfg(test)]
@@ -54,6 +54,7 @@ fn ask<
     rt: &R,
     lanes: &mut [Lane<P>],
     desks: &mut [Desk<L, Mark>],
+    alarm: &Alarm,
     text: &str,
     input: &str,
 ) -> io::Result<()>
@@ -66,7 +67,14 @@ fn ask<
         words.push(word.to_string(rt.alloc())?)?;
     }
     println!(rt; "> {text}")?;
-    let status = command_line(rt, words.as_slice(), File::open(rt, input)?, lanes, desks);
+    let status = command_line(
+        rt,
+        words.as_slice(),
+        File::open(rt, input)?,
+        lanes,
+        desks,
+        alarm,
+    );
     let code = status.code();
     println!(rt; "< {code}")
 }
@@ -76,9 +84,10 @@ fn main(rt: HostRuntime) -> io::Result<()> {
     make(&rt, "media/capsule.vdr", 122_880)?;
     make(&rt, "media/longterm.vdr", 712_704)?;
     for (text, input) in COMMANDS {
-        let mut lanes = udp_lanes(&rt, rt.alloc())?;
-        let mut desks = [tcp_desk(&rt)];
-        ask(&rt, lanes.as_mut_slice(), &mut desks, text, input)?;
+        let alarm = Alarm::new();
+        let mut lanes = udp_lanes(&rt, rt.alloc(), &alarm)?;
+        let mut desks = [tcp_desk(&rt, &alarm)];
+        ask(&rt, lanes.as_mut_slice(), &mut desks, &alarm, text, input)?;
     }
     Ok(())
 }

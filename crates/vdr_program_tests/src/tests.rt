@@ -1,6 +1,6 @@
 use std::io::Cursor;
 use std::test::Fail;
-use vdr_program::{command_line, tcp_desk, udp_lanes};
+use vdr_program::{Alarm, command_line, tcp_desk, udp_lanes};
 use vdr_tool::Status;
 
 #[test]
@@ -12,14 +12,16 @@ fn the_program_tells_what_it_is(rt: HostRuntime) -> Result<(), Fail> {
         ("--halp", Status::Words),
     ] {
         let words = vec![in rt.alloc(); word.to_string(rt.alloc())?]?;
-        let mut lanes = udp_lanes(&rt, rt.alloc())?;
-        let mut desks = [tcp_desk(&rt)];
+        let alarm = Alarm::new();
+        let mut lanes = udp_lanes(&rt, rt.alloc(), &alarm)?;
+        let mut desks = [tcp_desk(&rt, &alarm)];
         let status = command_line(
             &rt,
             words.as_slice(),
             Cursor::new(b""),
             lanes.as_mut_slice(),
             &mut desks,
+            &alarm,
         );
         assert_eq!(rt; status.code(), wanted.code());
     }

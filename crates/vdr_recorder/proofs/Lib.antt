@@ -15,5 +15,3 @@ pub mod QuietActs
 pub mod Opened
 pub mod Printing
 pub mod Answering
-pub mod Refusing
-pub mod Counting

@@ -6,6 +6,8 @@ use Rattle.vdr_history.specs.Histories.{Act, Event, EndsBy, IsHistory, Opening}
 use Rattle.vdr_history.specs.Histories.Act.{Look}
 use Rattle.vdr_history.specs.RunStates.{RunState, state_left}
 use Rattle.vdr_history.proofs.Growing.{history_grows, history_looks}
+use Rattle.vdr_terms.specs.Queries.{Query}
+use Rattle.vdr_playback.specs.Playback.{medium_of}
 use Rattle.vdr_durability.specs.Keeping.{IsWhole, Keeps, ShowsEither, ShowsPrefix, moment_of}
 use Rattle.vdr_durability.proofs.Kept.{keeps_after_fault, keeps_done}
 use Rattle.vdr_durability.proofs.Whole.{whole_has_not_failed}
@@ -19,6 +21,10 @@ use Rattle.vdr_ring.specs.Sequence.{Placed, segments_in}
 use Rattle.vdr_opening.specs.Media.{both}
 use Rattle.vdr_vault.specs.Vaults.{MembersState, ShowsHistory, Stands}
 use Rattle.vdr_vault.proofs.ShownHistory.{stand_shows, stands_silent}
+use Rattle.vdr_visit.specs.Stops.{HasVisitCause}
+use Rattle.vdr_visit.specs.Visits.{HasOnlyRead}
+use Rattle.vdr_visit.proofs.Reading.{cause_join, only_read_join, reads_keep, reads_keep_failed}
+use Rattle.vdr_recorder.specs.Looks.{HasLooked}
 use Rattle.vdr_recorder.specs.Making.{Makes}
 use Rattle.vdr_recorder.specs.Recordings.{HasDone, HasRecorded, IsWorking, RecordingState, TellsLeft, acts_of, start_of_opening}
 use Rattle.vdr_recorder.proofs.Continuing.{acts_with, fails_with, has_moment, left_with, made_looks, told_at_rest, told_without, whole_with}
@@ -102,3 +108,33 @@ module _ {tells tells_images : Type 0} (opening : Opening) (events : List Event)
         };
         passes = moments_still old new (λ image. old.now image ⊎ ShowsPrefix (ShowsHistory opening) (events ++ look ∷ []) 0 image) same (λ i now. inl now);
       }
+
+module _ {tells tells_images : Type 0} where
+  -- A call on the vault that only reads is a look of the recorder.
+  pub looked : (query : Query) (r : RecordingState) (after : MembersState) (old new : Disk tells tells_images) (read_before read_now faults_before faults_now : List ℕ) (answered : Type 0)
+      → HasOnlyRead query r.members after old new read_before read_now → HasVisitCause (medium_of query.medium) r.members.failed faults_before faults_now answered
+      → HasLooked query r (record r { members = after }) old new read_before read_now faults_before faults_now answered
+  looked query r after old new read_before read_now faults_before faults_now answered read cause =
+      let kept = reads_keep (medium_of query.medium) r.members after read.members in
+      record {
+        read = read;
+        maker = refl;
+        is_open = refl;
+        done = λ opening events t0 h.
+            look_done opening events t0 r old new h after read.unchanged kept.4 kept.0 kept.2 kept.3 kept.1 (λ placed stands. read.stands opening events placed stands);
+        cause = cause;
+      }
+
+  -- Two looks, one after the other, are one.
+  pub looks_join : (query : Query) (r s t : RecordingState) (old mid new : Disk tells tells_images) (read_before read_mid read_now faults_before faults_mid faults_now : List ℕ) (first second : Type 0)
+      → HasLooked query r s old mid read_before read_mid faults_before faults_mid first → HasLooked query s t mid new read_mid read_now faults_mid faults_now second
+      → HasLooked query r t old new read_before read_now faults_before faults_now (first ⊎ second)
+  looks_join query r s t old mid new read_before read_mid read_now faults_before faults_mid faults_now first second h k =
+      let m = medium_of query.medium in
+      let failed = reads_keep_failed m r.members s.members h.read.members in
+      let all = looked query r t.members old new read_before read_now faults_before faults_now (first ⊎ second)
+      (only_read_join query r.members s.members t.members old mid new read_before read_mid read_now h.read k.read)
+      (cause_join m r.members.failed faults_before faults_mid faults_now first second h.cause
+      (subst (λ (b : Bool). HasVisitCause m b faults_mid faults_now second) failed k.cause)) in
+      subst (λ (x : RecordingState). HasLooked query r x old new read_before read_now faults_before faults_now (first ⊎ second))
+      (λ i. record { members = t.members; maker = (sym h.maker ∙ sym k.maker) i; is_open = (sym h.is_open ∙ sym k.is_open) i }) all

@@ -1,212 +1,151 @@
--- The records that a query selects are taken one by one, printed or counted.
-use Rattle.std.proofs.Common.{◌≡◌, ◌≢◌, ◌<◌, ◌≤◌, ◌+◌, ◌^◌, ◌==◌, if◌then◌else◌, ℕ, List, [], ◌∷◌, ◌++◌, All, Bool, true, false, Option, Some, None, Result, Ok, Err, refl, sym, ap, ◌∙◌, subst, arith, append_assoc, append-nil, fold}
+-- What a player and a counter of sources have printed, as the texts of records.
+use Rattle.std.proofs.Common.{◌≡◌, ◌++◌, ◌∷◌, ℕ, List, [], Option, Result, Ok, Err, OnOk, None, Some, fold, refl, sym, ap, ◌∙◌, subst, append-nil}
+use Rattle.std.specs.Bool.{⊤}
+use Rattle.std.specs.Io.KnownBytes.{Appends, Keeps}
 use Rattle.std.proofs.lemmas.List.Sums.{fold-append}
-use Rattle.std.proofs.lemmas.Option.{same_Some}
-use Rattle.std.proofs.lemmas.List.Elements.{All-nil, All-cons, All-head, All-weaker}
-use Rattle.vdr_terms.specs.Order.{AreInOrder}
 use Rattle.vdr_terms.specs.Queries.{Query}
 use Rattle.vdr_terms.specs.Records.{Record}
 use Rattle.vdr_history.specs.Histories.{Event, Opening}
-use Rattle.vdr_playback.specs.Playback.{medium_of, selected}
-use Rattle.vdr_playback.proofs.Found.{is_in_order}
-use Rattle.vdr_outside.specs.Causes.{NoneFalls}
-use Rattle.vdr_outside.specs.Disk.{Disk, Unchanged}
-use Rattle.vdr_entry.specs.Queries.{asked}
-use Rattle.vdr_entry.specs.declared.query.Query.{Query as Asked}
-use Rattle.vdr_ring.specs.Rings.{RingState}
+use Rattle.vdr_playback.specs.Playback.{selected}
+use Rattle.vdr_playback.specs.Sources.{Row}
+use Rattle.vdr_outside.specs.Disk.{Disk}
+use Rattle.vdr_outside.specs.Writes.{AppendsFront}
 use Rattle.vdr_ring.specs.Sequence.{Placed}
-use Rattle.vdr_ring.specs.declared.refused.ReadRefused.{ReadRefused}
-use Rattle.vdr_ring.specs.declared.refused.ReadRefused.TheVariants.{Damaged}
-use Rattle.vdr_play.specs.Streams.{Seen, seen_after}
-use Rattle.vdr_play.specs.Texts.{record_text, records_text}
-use Rattle.vdr_vault.specs.Vaults.{AreRings, IsReadable, MembersState, Stands, ring_of}
-use Rattle.vdr_vault.specs.Walks.{CursorState, GivesNext, MayStep}
-use Rattle.vdr_vault.specs.Plays.{AreToCome, ReadsNoOther, ReadsOn, ring_for}
-use Rattle.vdr_vault.proofs.Coming.{holds_on}
+use Rattle.vdr_play.specs.Streams.{Seen, nothing_seen, seen_after}
+use Rattle.vdr_play.specs.Texts.{record_text, records_text, seen_by}
+use Rattle.vdr_sources.specs.Tables.{sources_of, sources_text, with_record}
+use Rattle.vdr_sources.proofs.Lines.{by_records}
+use Rattle.vdr_vault.specs.Vaults.{IsReadable, MembersState}
+use Rattle.vdr_visit.specs.Prints.{lines_behind, text_of, whole_text}
+use Rattle.vdr_visit.specs.Visits.{AreVisited, HasMade, HasVisited}
+use Rattle.vdr_visit.specs.declared.stop.VisitStop.{VisitStop}
+use Rattle.vdr_visit.specs.declared.stop.VisitStop.TheVariants.{NoChannel, NoIncident, Fault, Damaged, Output, Own}
+use Rattle.vdr_recorder.specs.Playing.{HasLines, HasPlayed, HasTable, HasTold}
 
--- What is printed, and what was seen of it: the text and the tracks with one more record.
-abbrev pub Printed : Type 0
-Printed = List ℕ × Seen
+-- What is printed of a record, from these tracks on.
+abbrev pub line_after : Seen → List Record → Record → List ℕ
+line_after first seen r = record_text (seen_by first seen) r
 
-abbrev pub print_step : Printed → Record → Printed
-print_step told r = (told.0 ++ record_text told.1 r, seen_after told.1 r.content)
+seen_with : (first : Seen) (seen : List Record) (r : Record) → seen_by first (seen ++ r ∷ []) ≡ seen_after (seen_by first seen) r.content
+seen_with first [] r = refl
+seen_with first (x ∷ xs) r = seen_with (seen_after first x.content) xs r
 
-pub printed_text : (text : List ℕ) (seen : Seen) (rs : List Record) → (fold print_step (text, seen) rs).0 ≡ text ++ records_text seen rs
-printed_text text seen [] = sym (append-nil text)
-printed_text text seen (r ∷ rs) =
-    printed_text (text ++ record_text seen r) (seen_after seen r.content) rs ∙ append_assoc text (record_text seen r) (records_text (seen_after seen r.content) rs)
+behind : (first : Seen) (seen records : List Record) → lines_behind (line_after first) seen records ≡ records_text (seen_by first seen) records
+behind first seen [] = refl
+behind first seen (r ∷ rs) =
+    ap (λ (l : List ℕ). record_text (seen_by first seen) r ++ l) (behind first (seen ++ r ∷ []) rs ∙ ap (λ (s : Seen). records_text s rs) (seen_with first seen r))
 
--- What follows a record in order has greater places.
-behind_in_order : (before : List Record) (r : Record) (behind : List Record) → AreInOrder (before ++ r ∷ behind) → All (λ later. r.place + 1 ≤ later.place) behind
-behind_in_order [] r behind h = All-weaker (λ later. (r.place < later.place) × (r.tick ≤ later.tick)) (λ later. r.place + 1 ≤ later.place) (λ later k. let a = k.0 in omega (arith, a)) behind h.0
-behind_in_order (x ∷ xs) r behind h = behind_in_order xs r behind h.1
+-- The tracks with one more record.
+pub tracks_with : (first now after : Seen) (seen : List Record) (r : Record) → now ≡ seen_by first seen → after ≡ seen_after now r.content → after ≡ seen_by first (seen ++ r ∷ [])
+tracks_with first now after seen r had is = is ∙ ap (λ (s : Seen). seen_after s r.content) had ∙ sym (seen_with first seen r)
 
--- The first of the selected records are taken, each by a step, and the cursor stands at the next one, if there is one.
-pub record IsBetween {S : Type 0} (records : List Record) (step : S → Record → S) (start state : S) (least : ℕ) (found : Bool) (item : Option Record) (ToCome : List Record → Type 0) : Type 0 where
-  pub taken : List Record
-  pub rest : List Record
-  pub split : records ≡ taken ++ rest
-  pub state_is : state ≡ fold step start taken
-  pub low : All (λ r. least ≤ r.place) rest
-  pub next : GivesNext rest (Ok found) item ToCome
+-- The text of a player that has printed nothing.
+lines_are : (first : Seen) (records : List Record) → first ≡ nothing_seen → text_of (line_after first) records ≡ records_text nothing_seen records
+lines_are first records new = behind first [] records ∙ ap (λ (s : Seen). records_text s records) new
 
--- Nothing is taken yet.
-pub at_first : {S : Type 0} (records : List Record) (step : S → Record → S) (start : S) (found : Bool) (item : Option Record) (ToCome : List Record → Type 0) → GivesNext records (Ok found) item ToCome
-    → IsBetween records step start start 0 found item ToCome
-at_first records step start found item ToCome next = record {
-  taken = [];
-  rest = records;
-  split = refl;
-  state_is = refl;
-  low = from_zero records;
-  next = next;
-}
+whole_is : (first : Seen) (records : List Record) → first ≡ nothing_seen → whole_text (line_after first) (λ all. []) records ≡ records_text nothing_seen records
+whole_is first records new = append-nil (text_of (line_after first) records) ∙ lines_are first records new
+
+module _ {tells tells_images : Type 0} {R : Type 0} (query : Query) (members : MembersState) (disk : Disk tells tells_images) (was now : Option (List ℕ)) (result : Result ⊤ (VisitStop R)) where
+  -- What a player was handed stands in the output as text.
+  pub played : (first : Seen) (Has : List Record → Type 0) → first ≡ nothing_seen
+      → HasVisited query members disk Has (λ seen reason. ⊥) (line_after first) (whole_text (line_after first) (λ all. [])) was now result → HasPlayed query members disk was now result
+  played first Has new v = record {
+    printed = v.seen;
+    lines = lines result v.made;
+    are = v.are;
+    front = λ opening events placed told readable.
+        subst (λ (l : List ℕ). AppendsFront was now l) (whole_is first (selected opening events query) new) (v.front opening events placed told readable);
+  }
+    where
+      told : Appends was now (text_of (line_after first) v.seen) → Appends was now (records_text nothing_seen v.seen)
+      told h = subst (λ (l : List ℕ). Appends was now l) (lines_are first v.seen new) h
+
+      lines : (r : Result ⊤ (VisitStop R)) → HasMade (Has v.seen) (λ reason. ⊥) (line_after first) (whole_text (line_after first) (λ all. []) v.seen) v.seen was now r → HasLines v.seen was now r
+      lines (Ok all) m = subst (λ (l : List ℕ). Appends was now l) (whole_is first v.seen new) m.1
+      lines (Err NoChannel) m = told m.1
+      lines (Err NoIncident) m = told m.1
+      lines (Err Fault) m = told m.1
+      lines (Err (Damaged k offset)) m = told m.1
+      lines (Err Output) m = tt
+      lines (Err (Own reason)) m = m.0
+
+-- A visitor that prints nothing of a record has no lines.
+pub no_lines : (seen records : List Record) → lines_behind (λ before r. []) seen records ≡ []
+no_lines seen [] = refl
+no_lines seen (r ∷ rs) = no_lines (seen ++ r ∷ []) rs
+
+nothing_printed : (was now : Option (List ℕ)) (text : List ℕ) → text ≡ [] → Appends was now text → Keeps was now
+nothing_printed was now text none h = kept was now (subst (λ (l : List ℕ). Appends was now l) none h)
   where
-    from_zero : (rs : List Record) → All (λ r. 0 ≤ r.place) rs
-    from_zero [] = All-nil (λ r. 0 ≤ r.place)
-    from_zero (r ∷ rs) = All-cons (λ r. 0 ≤ r.place) r rs (omega arith) (from_zero rs)
+    kept : (was now : Option (List ℕ)) → Appends was now [] → Keeps was now
+    kept None now h = tt
+    kept (Some x) None h = h
+    kept (Some x) (Some y) h = h ∙ append-nil x
 
--- The first list of a pair of equal ones, taken apart.
-cons_is : (r x : Record) (more rest : List Record) → Some x ≡ Some r → rest ≡ x ∷ more → rest ≡ r ∷ more
-cons_is r x more rest same is = is ∙ ap (λ (o : Record). o ∷ more) (same_Some x r same)
+-- The table with one more record.
+pub table_with : (first now after : List Row) (seen : List Record) (r : Record) → now ≡ fold with_record first seen → after ≡ with_record now r → after ≡ fold with_record first (seen ++ r ∷ [])
+table_with first now after seen r had is = is ∙ ap (λ (rows : List Row). with_record rows r) had ∙ sym (fold-append with_record first seen (r ∷ []))
 
-module _ {S : Type 0} (records : List Record) (step : S → Record → S) (start state : S) (least : ℕ) (found : Bool) (item : Option Record) (ToCome : List Record → Type 0)
-    (b : IsBetween records step start state least found item ToCome) where
-  -- All of them are taken.
-  pub all_taken : found ≡ false → state ≡ fold step start records
-  all_taken none =
-      let next : GivesNext b.rest (Ok false) item ToCome = subst (λ (f : Bool). GivesNext b.rest (Ok f) item ToCome) none b.next in
-      b.state_is ∙ ap (fold step start) (sym (b.split ∙ ap (λ (rs : List Record). b.taken ++ rs) next.0 ∙ append-nil b.taken))
+table_is : (first : List Row) (records : List Record) → first ≡ [] → whole_text (λ before r. []) (λ seen. sources_text (fold with_record first seen)) records ≡ sources_text (sources_of records)
+table_is first records new =
+    ap (λ (l : List ℕ). l ++ sources_text (fold with_record first records)) (no_lines [] records)
+    ∙ ap (λ (rows : List Row). sources_text (fold with_record rows records)) new ∙ ap sources_text (by_records [] records)
 
-  module _ (some : found ≡ true) (r : Record) (is : item ≡ Some r) where
-    here : GivesNext b.rest (Ok true) item ToCome
-    here = subst (λ (f : Bool). GivesNext b.rest (Ok f) item ToCome) some b.next
+module _ {tells tells_images : Type 0} {R : Type 0} (query : Query) (members : MembersState) (disk : Disk tells tells_images) (was now : Option (List ℕ)) (result : Result ⊤ (VisitStop R)) where
+  -- What a counter was handed stands in the output as a table, or nothing does.
+  pub told : (first : List Row) (Has : List Record → Type 0) (Stops : List Record → R → Type 0) → first ≡ []
+      → HasVisited query members disk Has Stops (λ before r. []) (whole_text (λ before r. []) (λ seen. sources_text (fold with_record first seen))) was now result → HasTold query members disk was now result
+  told first Has Stops new v = record {
+    counted = v.seen;
+    table = table result v.made;
+    are = v.are;
+    front = λ opening events placed known readable.
+        subst (λ (l : List ℕ). AppendsFront was now l) (table_is first (selected opening events query) new) (v.front opening events placed known readable);
+  }
+    where
+      table : (r : Result ⊤ (VisitStop R)) → HasMade (Has v.seen) (Stops v.seen) (λ before r. []) (whole_text (λ before r. []) (λ seen. sources_text (fold with_record first seen)) v.seen) v.seen was now r
+          → HasTable v.seen was now r
+      table (Ok all) m = subst (λ (l : List ℕ). Appends was now l) (table_is first v.seen new) m.1
+      table (Err NoChannel) m = nothing_printed was now _ (no_lines [] v.seen) m.1
+      table (Err NoIncident) m = nothing_printed was now _ (no_lines [] v.seen) m.1
+      table (Err Fault) m = nothing_printed was now _ (no_lines [] v.seen) m.1
+      table (Err (Damaged k offset)) m = nothing_printed was now _ (no_lines [] v.seen) m.1
+      table (Err Output) m = tt
+      table (Err (Own reason)) m = nothing_printed was now _ (no_lines [] m.1) m.4
 
-    more : List Record
-    more = here.1
+-- What was visited is never told as damaged where the media can be read.
+never_damaged : {R : Type 0} (seen records : List Record) (result : Result ⊤ (VisitStop R)) → AreVisited seen records result → (m offset : ℕ) → result ≡ Err (Damaged m offset) → ⊥
+never_damaged {R = R} seen records result are m offset is = subst (λ (o : Result ⊤ (VisitStop R)). AreVisited seen records o) is are
 
-    rest_is : b.rest ≡ r ∷ here.1
-    rest_is = cons_is r here.0 here.1 b.rest (sym here.3 ∙ is) here.2
+module _ {tells tells_images : Type 0} {R : Type 0} {query : Query} {members : MembersState} {disk : Disk tells tells_images} {was now : Option (List ℕ)} {result : Result ⊤ (VisitStop R)}
+    (opening : Opening) (events : List Event) (placed : ℕ → List Placed) (known : tells) (readable : IsReadable opening events members placed disk) where
+  -- A play that ended printed all.
+  pub played_all : HasPlayed query members disk was now result → OnOk result (Appends was now (records_text nothing_seen (selected opening events query)))
+  played_all p = by result p.lines (p.are opening events placed known readable)
+    where
+      by : (r : Result ⊤ (VisitStop R)) → HasLines p.printed was now r → AreVisited p.printed (selected opening events query) r → OnOk r (Appends was now (records_text nothing_seen (selected opening events query)))
+      by (Ok all) lines are = subst (λ (rs : List Record). Appends was now (records_text nothing_seen rs)) are lines
+      by (Err stop) lines are = tt
 
-    -- The next one has no place that is too low.
-    pub never_low : r.place < least → ⊥
-    never_low low =
-        let enough : least ≤ r.place = All-head (λ (r : Record). least ≤ r.place) r here.1 (subst (All (λ r. least ≤ r.place)) rest_is b.low) in
-        omega (arith, low, enough)
+  pub played_undamaged : HasPlayed query members disk was now result → (m offset : ℕ) → result ≡ Err (Damaged m offset) → ⊥
+  played_undamaged p = never_damaged p.printed (selected opening events query) result (p.are opening events placed known readable)
 
-    -- It is taken, and the cursor steps on.
-    pub taken_next : AreInOrder records → (after : S) (next : ℕ) → after ≡ step state r → next ≡ r.place + 1
-        → (again : Bool) (later : Option Record) (LaterToCome : List Record → Type 0) → ((rs : List Record) → ToCome rs → GivesNext rs (Ok again) later LaterToCome)
-        → IsBetween records step start after next again later LaterToCome
-    taken_next order after next after_is next_is again later LaterToCome steps = record {
-      taken = b.taken ++ r ∷ [];
-      rest = here.1;
-      split = whole ∙ sym (append_assoc b.taken (r ∷ []) here.1);
-      state_is = after_is ∙ ap (λ (s : S). step s r) b.state_is ∙ sym (fold-append step start b.taken (r ∷ []));
-      low = subst (λ (n : ℕ). All (λ q. n ≤ q.place) here.1) (sym next_is) (behind_in_order b.taken r here.1 (subst AreInOrder whole order));
-      next = steps here.1 here.4;
-    }
-      where
-        whole : records ≡ b.taken ++ r ∷ here.1
-        whole = b.split ∙ ap (λ (rs : List Record). b.taken ++ rs) rest_is
+  -- After a fault the lines of the first of the records stand there.
+  pub played_front : HasPlayed query members disk was now result → result ≡ Err Fault
+      → (front : List Record) × (rest : List Record) × (selected opening events query ≡ front ++ rest) × Appends was now (records_text nothing_seen front)
+  played_front p fault =
+      let first : (rest : List Record) × (selected opening events query ≡ p.printed ++ rest) =
+      subst (λ (o : Result ⊤ (VisitStop R)). AreVisited p.printed (selected opening events query) o) fault (p.are opening events placed known readable) in
+      (p.printed, first.0, first.1, subst (λ (o : Result ⊤ (VisitStop R)). HasLines p.printed was now o) fault p.lines)
 
--- A step on media on which the vault stands finds no damage.
-pub never_damaged : (records : List Record) (result : Result Bool ReadRefused) (item : Option Record) (ToCome : List Record → Type 0) (m offset : ℕ) → GivesNext records result item ToCome
-    → result ≡ Err (Damaged m offset) → ⊥
-never_damaged records result item ToCome m offset gives is = subst (λ (o : Result Bool ReadRefused). GivesNext records o item ToCome) is gives
+  -- A table that was printed is that of all.
+  pub told_all : HasTold query members disk was now result → OnOk result (Appends was now (sources_text (sources_of (selected opening events query))))
+  told_all p = by result p.table (p.are opening events placed known readable)
+    where
+      by : (r : Result ⊤ (VisitStop R)) → HasTable p.counted was now r → AreVisited p.counted (selected opening events query) r → OnOk r (Appends was now (sources_text (sources_of (selected opening events query))))
+      by (Ok all) table are = subst (λ (rs : List Record). Appends was now (sources_text (sources_of rs))) are table
+      by (Err stop) table are = tt
 
--- What reads change of a vault: the buffer of one ring, the capsule's or the other.
-read_ring : Bool → MembersState → RingState
-read_ring b s = if b then s.capsule else s.long_term
-
-with_read : Bool → RingState → MembersState → MembersState
-with_read b ring s = if b then record s { capsule = ring } else record s { long_term = ring }
-
-kept_by_reads : (b : Bool) (ring : RingState) (s : MembersState)
-    → ((with_read b ring s).config ≡ s.config) × ((with_read b ring s).table ≡ s.table) × ((with_read b ring s).next_place ≡ s.next_place) × ((with_read b ring s).last ≡ s.last) × ((with_read b ring s).failed ≡ s.failed)
-unfolding with_read
-kept_by_reads true ring s = (refl, refl, refl, refl, refl)
-kept_by_reads false ring s = (refl, refl, refl, refl, refl)
-
-pub reads_keep : (m : ℕ) (x y : MembersState) → ReadsOn m x y
-    → (y.config ≡ x.config) × (y.table ≡ x.table) × (y.next_place ≡ x.next_place) × (y.last ≡ x.last) × (y.failed ≡ x.failed)
-unfolding with_read
-reads_keep m x y h =
-    let k = kept_by_reads (m == 0) (record (ring_of x m) { buffer = (ring_of y m).buffer; loaded = (ring_of y m).loaded }) x in (
-      ap (λ (s : MembersState). s.config) h ∙ k.0,
-      ap (λ (s : MembersState). s.table) h ∙ k.1,
-      ap (λ (s : MembersState). s.next_place) h ∙ k.2,
-      ap (λ (s : MembersState). s.last) h ∙ k.3,
-      ap (λ (s : MembersState). s.failed) h ∙ k.4,
-    )
-
-twice_read : (b : Bool) (x y z : MembersState)
-    → y ≡ with_read b (record (read_ring b x) { buffer = (read_ring b y).buffer; loaded = (read_ring b y).loaded }) x
-    → z ≡ with_read b (record (read_ring b y) { buffer = (read_ring b z).buffer; loaded = (read_ring b z).loaded }) y
-    → z ≡ with_read b (record (read_ring b x) { buffer = (read_ring b z).buffer; loaded = (read_ring b z).loaded }) x
-unfolding with_read read_ring
-twice_read true x y z h k = k ∙ ap (λ (s : MembersState). record s { capsule = record s.capsule { buffer = z.capsule.buffer; loaded = z.capsule.loaded } }) h
-twice_read false x y z h k = k ∙ ap (λ (s : MembersState). record s { long_term = record s.long_term { buffer = z.long_term.buffer; loaded = z.long_term.loaded } }) h
-
-pub reads_join : (m : ℕ) (x y z : MembersState) → ReadsOn m x y → ReadsOn m y z → ReadsOn m x z
-unfolding with_read read_ring
-reads_join m x y z h k = twice_read (m == 0) x y z h k
-
-module _ {tells tells_images : Type 0} where
-  -- Between two records of what is selected.
-  pub record IsPlaying {S : Type 0} (query : Query) (first now : MembersState) (before after : Disk tells tells_images) (read_before read_now faults_before faults_now : List ℕ)
-      (step : S → Record → S) (start state : S) (cursor : CursorState) (found : Bool) (least : ℕ) : Type 0 where
-    pub rings : AreRings now after.sizes
-    pub reads : ReadsOn (medium_of query.medium) first now
-    pub unchanged : Unchanged before after
-    pub counts : ReadsNoOther (medium_of query.medium) read_before read_now
-    pub later : NoneFalls faults_before faults_now
-    pub may : MayStep (ring_for now query) cursor
-    pub item : found ≡ true → cursor.visit.item ≢ None
-    pub low : least ≤ 2 ^ 63
-    pub stands : (opening : Opening) (events : List Event) (placed : ℕ → List Placed) → Stands opening events first placed before → Stands opening events now placed after
-    pub readable : (opening : Opening) (events : List Event) (placed : ℕ → List Placed) → IsReadable opening events first placed before → IsReadable opening events now placed after
-    pub plays : (opening : Opening) (events : List Event) (placed : ℕ → List Placed) → tells → IsReadable opening events first placed before
-        → IsBetween (selected opening events query) step start state least found cursor.visit.item (AreToCome query now placed after cursor)
-
-  -- What is selected of what a vault holds is in order.
-  pub selected_in_order : (opening : Opening) (events : List Event) (members : MembersState) (placed : ℕ → List Placed) (disk : Disk tells tells_images) → IsReadable opening events members placed disk
-      → (query : Asked) → AreInOrder (selected opening events (asked query))
-  selected_in_order opening events members placed disk stands query = is_in_order opening events (asked query) (holds_on opening events members placed disk stands query.medium).order
-
-  module _ {query : Query} {first now : MembersState} {before after : Disk tells tells_images} {read_before read_now faults_before faults_now : List ℕ} {S : Type 0} {step : S → Record → S} {start state : S} {cursor : CursorState} {found : Bool}
-      {least : ℕ} (p : IsPlaying query first now before after read_before read_now faults_before faults_now step start state cursor found least) where
-    -- All that is selected is taken.
-    pub played_all : found ≡ false → (opening : Opening) (events : List Event) (placed : ℕ → List Placed) → tells → IsReadable opening events first placed before
-        → state ≡ fold step start (selected opening events query)
-    played_all none opening events placed told stands =
-        all_taken (selected opening events query) step start state least found cursor.visit.item (AreToCome query now placed after cursor) (p.plays opening events placed told stands) none
-
-    module _ (some : found ≡ true) (r : Record) (is : cursor.visit.item ≡ Some r) where
-      -- No record is below what was taken.
-      pub never_under : (opening : Opening) (events : List Event) (placed : ℕ → List Placed) → tells → IsReadable opening events first placed before → r.place < least → ⊥
-      never_under opening events placed told stands =
-          never_low (selected opening events query) step start state least found cursor.visit.item (AreToCome query now placed after cursor) (p.plays opening events placed told stands) some r is
-
-      -- The cursor's next step.
-      module _ (new : MembersState) (next : Disk tells tells_images) (later : CursorState) (result : Result Bool ReadRefused)
-          (steps : (opening : Opening) (events : List Event) (placed : ℕ → List Placed) (records : List Record) → tells → IsReadable opening events now placed after
-          → AreToCome query now placed after cursor records → GivesNext records result later.visit.item (AreToCome query new placed next later)) where
-        steps_on : (opening : Opening) (events : List Event) (placed : ℕ → List Placed) → tells → IsReadable opening events first placed before → (records : List Record)
-            → AreToCome query now placed after cursor records → GivesNext records result later.visit.item (AreToCome query new placed next later)
-        steps_on opening events placed told stands records = steps opening events placed records told (p.readable opening events placed stands)
-
-        pub never_spoiled : (opening : Opening) (events : List Event) (placed : ℕ → List Placed) (m offset : ℕ) → tells → IsReadable opening events first placed before
-            → result ≡ Err (Damaged m offset) → ⊥
-        never_spoiled opening events placed m offset told stands damaged =
-            let b = p.plays opening events placed told stands in
-            let h = here (selected opening events query) step start state least found cursor.visit.item (AreToCome query now placed after cursor) b some r is in
-            never_damaged h.1 result later.visit.item (AreToCome query new placed next later) m offset (steps_on opening events placed told stands h.1 h.4) damaged
-
-        pub plays_on : (again : Bool) → result ≡ Ok again → (longer : S) (more : ℕ) → longer ≡ step state r → more ≡ r.place + 1
-            → (opening : Opening) (events : List Event) (placed : ℕ → List Placed) → tells → IsReadable opening events first placed before → AreInOrder (selected opening events query)
-            → IsBetween (selected opening events query) step start longer more again later.visit.item (AreToCome query new placed next later)
-        plays_on again so longer more longer_is more_is opening events placed told stands order =
-            taken_next (selected opening events query) step start state least found cursor.visit.item (AreToCome query now placed after cursor) (p.plays opening events placed told stands) some r is order
-            longer more longer_is more_is again later.visit.item (AreToCome query new placed next later)
-            (λ rs come. subst (λ (o : Result Bool ReadRefused). GivesNext rs o later.visit.item (AreToCome query new placed next later)) so (steps_on opening events placed told stands rs come))
+  pub told_undamaged : HasTold query members disk was now result → (m offset : ℕ) → result ≡ Err (Damaged m offset) → ⊥
+  told_undamaged p = never_damaged p.counted (selected opening events query) result (p.are opening events placed known readable)

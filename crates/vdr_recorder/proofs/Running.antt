@@ -1,5 +1,5 @@
 -- A batch of items, and the close of a run, are events of the recorder's history.
-use Rattle.std.proofs.Common.{◌≡◌, ◌<◌, ◌≤◌, ◌*◌, ◌/◌, ◌+◌, ℕ, List, [], ◌∷◌, ◌++◌, length, take, get_or, All, true, false, cond, inl, inr, refl, sym, ap, ◌∙◌, subst, arith, true≢false, length-append}
+use Rattle.std.proofs.Common.{◌≡◌, ◌<◌, ◌≤◌, ◌+◌, ℕ, List, [], ◌∷◌, ◌++◌, length, take, get_or, All, true, false, cond, inl, inr, refl, sym, ap, ◌∙◌, subst, arith, true≢false, length-append}
 use Rattle.std.proofs.lemmas.Bool.{cond-true, cond-false}
 use Rattle.std.proofs.lemmas.List.{take_more}
 use Rattle.std.proofs.lemmas.List.Elements.{All-nil, All-cons, All-head, All-tail, All-append}
@@ -23,8 +23,8 @@ use Rattle.vdr_durability.proofs.Whole.{whole_has_not_failed}
 use Rattle.vdr_outside.specs.Disk.{Disk}
 use Rattle.vdr_config.specs.Configuration.{Configuration}
 use Rattle.vdr_config.specs.Sizes.{limits_in}
-use Rattle.vdr_pace.specs.Commits.{IsDoneIn, IsFit, item_size}
-use Rattle.vdr_pace.proofs.ItemSizes.{closes_size, items_size}
+use Rattle.vdr_pace.specs.Commits.{IsDoneIn, IsFit, items_size}
+use Rattle.vdr_pace.proofs.ItemSizes.{closes_size, made_size}
 use Rattle.vdr_recorder.specs.Making.{Makes, closing_by, rest_of}
 use Rattle.vdr_recorder.specs.Recordings.{HasDone, HasKept, HasRecorded, KeepsEvent, RecordingState}
 use Rattle.vdr_recorder.proofs.Continuing.{has_moment, left_with}
@@ -44,16 +44,10 @@ short_more k items c within is before recordable =
     (All-append (λ c. length c.bytes ≤ largest) (take k items) (c ∷ []) before
     (All-cons (λ (c : Captured). length c.bytes ≤ largest) c [] (recordable_short c.bytes recordable) (All-nil (λ (c : Captured). length c.bytes ≤ largest))))
 
-small_enough : (n batch size : ℕ) → n ≤ batch / 1600 → size ≤ 1600 * n → size ≤ batch
-small_enough n batch size few small = omega (arith, few, small)
-
 -- The records of a batch of items fit the configuration's batch.
-pub batch_is_short : (config : Configuration) (items : List Captured) (records : List Record) (start : RunStart) (popped : List Captured) → length items ≤ config.batch / item_size
-    → All (λ c. is_configured (limits_in config.groups c.group) ≡ true) items → All (λ c. length c.bytes ≤ largest) items
-    → (recorder_after start (popped ++ items)).made ≡ (recorder_after start popped).made ++ records → records_size records ≤ config.batch
-batch_is_short config items records start popped few known short made =
-    small_enough (length items) config.batch (records_size records) few
-    (items_size start (limits_in config.groups) popped items records (fit_all (limits_in config.groups) items known short) made)
+pub batch_is_short : (batch : ℕ) (items : List Captured) (records : List Record) (start : RunStart) (popped : List Captured) → items_size items ≤ batch
+    → (recorder_after start (popped ++ items)).made ≡ (recorder_after start popped).made ++ records → records_size records ≤ batch
+batch_is_short batch items records start popped short made = let size = made_size start popped items records made in omega (arith, size, short)
 
 -- And those of a close.
 pub close_is_short : (config : Configuration) (rest : List Counts) (records : List Record) (start : RunStart) (popped : List Captured) → 2_048 ≤ config.batch
@@ -144,12 +138,12 @@ module _ {tells tells_images : Type 0} (opening : Opening) (events : List Event)
       open_now = sym (h.works works).open_is ∙ opened
 
       pub batch_goes_on : (items : List Captured) (records : List Record) → (recorder_after (state_left opening events).start ((state_left opening events).popped ++ items)).made ≡ (recorder_in (state_left opening events)).made ++ records
-          → length items ≤ r.members.config.batch / item_size → All (λ c. is_configured (limits_in r.members.config.groups c.group) ≡ true) items → All (λ c. length c.bytes ≤ largest) items
+          → items_size items ≤ r.members.config.batch → All (λ c. is_configured (limits_in r.members.config.groups c.group) ≡ true) items → All (λ c. length c.bytes ≤ largest) items
           → IsDoneIn opening.settings.limits r.members.config.batch (state_left opening events) (Commit records items)
-      batch_goes_on items records made few known short = inl (record {
+      batch_goes_on items records made fits known short = inl (record {
         made = record { is_open = open_now; made = made };
         fit = subst (λ (limits : ℕ → Limit). All (IsFit limits) items) limits_are (fit_all (limits_in r.members.config.groups) items known short);
-        few = few;
+        short = fits;
       })
 
       pub batch_done : (items : List Captured) (after : RecordingState) (new : Disk tells tells_images) (records : List Record)

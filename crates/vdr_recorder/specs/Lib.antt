@@ -4,4 +4,5 @@ pub mod Starts
 pub mod Making
 pub mod Recordings
 pub mod Refusals
+pub mod Looks
 pub mod Playing

@@ -12,7 +12,7 @@ use Rattle.vdr_history.specs.Runs.{RunStart, base_of}
 use Rattle.vdr_history.specs.Taken.{Captured, of_group}
 use Rattle.vdr_history.specs.Recorder.{next_in, recorder_after, closing, closed_run}
 use Rattle.vdr_history.specs.Sums.{recorded_in, counted_by}
-use Rattle.vdr_pace.specs.Commits.{item_size}
+use Rattle.vdr_pace.specs.Commits.{least_item}
 use Rattle.vdr_recorder.specs.Accounts.{Counted, nothing_counted, with_recorded, with_rest, gap_after, gap_records, item_records}
 use Rattle.vdr_recorder.specs.declared.maker.Maker.{Maker}
 
@@ -55,9 +55,9 @@ closing_by start popped rest = closing start (recorder_after start popped) (rest
 unfoldable pub run_closed_by : RunStart → List Captured → List Counts → List Record
 run_closed_by start popped rest = closed_run start popped (rest_of rest)
 
--- The buffer has room for the records of so many items as a batch may have.
+-- The buffer has room for the records of as many items as a batch may have: two of each.
 abbrev pub HasRoom : Configuration → Maker → Type 0
-HasRoom config maker = 2 * (config.batch / item_size) ≤ vec_capacity maker.records
+HasRoom config maker = 2 * (config.batch / least_item) ≤ vec_capacity maker.records
 
 -- So many numbers of a group these items use up: one each, and one for each item that its port missed before it.
 abbrev pub numbers_of : ℕ → List Captured → ℕ

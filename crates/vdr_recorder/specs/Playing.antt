@@ -1,58 +1,57 @@
--- What a recorder answers to a query.
-use Rattle.std.specs.Prelude.{◌≡◌, ◌⊎◌, ◌≤◌, ℕ, Bool, true, false, List, get_or, sum, is_none, nat_le, Option, Some, None, Result, Ok, Err, ⊤}
-use Rattle.vdr_terms.specs.Queries.{Medium}
-use Rattle.vdr_terms.specs.Queries.Medium.{WindowOf, Incident}
-use Rattle.vdr_history.specs.Histories.{live}
-use Rattle.vdr_history.specs.Histories as histories
-use Rattle.vdr_outside.specs.Causes.{NoneFalls, Rose}
-use Rattle.vdr_ring.specs.declared.refused.ReadRefused.{ReadRefused}
-use Rattle.vdr_ring.specs.declared.refused.ReadRefused.TheVariants as reads
-use Rattle.vdr_recorder.specs.declared.play.PlayRefused.{PlayRefused}
-use Rattle.vdr_recorder.specs.declared.play.PlayRefused.TheVariants.{NoMemory, NoChannel, NoIncident, Fault, Damaged, Output}
+-- What is printed of what was recorded.
+use Rattle.std.specs.Prelude.{◌≡◌, ◌++◌, ℕ, List, Option, Result, Ok, Err, ⊤}
+use Rattle.std.specs.Io.KnownBytes.{Appends, Keeps}
+use Rattle.vdr_terms.specs.Records.{Record}
+use Rattle.vdr_terms.specs.Queries.{Query}
+use Rattle.vdr_history.specs.Histories.{Event, Opening}
+use Rattle.vdr_playback.specs.Playback.{selected}
+use Rattle.vdr_outside.specs.Disk.{Disk}
+use Rattle.vdr_outside.specs.Writes.{AppendsFront}
+use Rattle.vdr_ring.specs.Sequence.{Placed}
+use Rattle.vdr_play.specs.Streams.{nothing_seen}
+use Rattle.vdr_play.specs.Texts.{records_text}
+use Rattle.vdr_sources.specs.Tables.{sources_of, sources_text}
+use Rattle.vdr_vault.specs.Vaults.{IsReadable, MembersState}
+use Rattle.vdr_visit.specs.Visits.{AreVisited}
+use Rattle.vdr_visit.specs.declared.stop.VisitStop.{VisitStop}
+use Rattle.vdr_visit.specs.declared.stop.VisitStop.TheVariants.{NoChannel, NoIncident, Fault, Damaged, Output, Own}
 
--- What is answered where a read is refused.
-abbrev pub refusal_by : ReadRefused → PlayRefused
-refusal_by reads.Fault = Fault
-refusal_by (reads.Damaged m offset) = Damaged m offset
+-- The text of these records stands in the output, and nothing behind it, unless the output failed. A player never stops by itself.
+abbrev pub HasLines : {R : Type 0} → List Record → (was now : Option (List ℕ)) → Result ⊤ (VisitStop R) → Type 0
+HasLines records was now (Ok all) = Appends was now (records_text nothing_seen records)
+HasLines records was now (Err NoChannel) = Appends was now (records_text nothing_seen records)
+HasLines records was now (Err NoIncident) = Appends was now (records_text nothing_seen records)
+HasLines records was now (Err Fault) = Appends was now (records_text nothing_seen records)
+HasLines records was now (Err (Damaged m offset)) = Appends was now (records_text nothing_seen records)
+HasLines records was now (Err Output) = ⊤
+HasLines records was now (Err (Own reason)) = ⊥
 
--- So many channels have none of this number.
-abbrev pub lacks_channel : ℕ → Option ℕ → Bool
-lacks_channel count None = false
-lacks_channel count (Some k) = nat_le count k
+-- The table of sources of these records stands in the output, and nothing of it where a record was not read or counted.
+abbrev pub HasTable : {R : Type 0} → List Record → (was now : Option (List ℕ)) → Result ⊤ (VisitStop R) → Type 0
+HasTable records was now (Ok all) = Appends was now (sources_text (sources_of records))
+HasTable records was now (Err NoChannel) = Keeps was now
+HasTable records was now (Err NoIncident) = Keeps was now
+HasTable records was now (Err Fault) = Keeps was now
+HasTable records was now (Err (Damaged m offset)) = Keeps was now
+HasTable records was now (Err Output) = ⊤
+HasTable records was now (Err (Own reason)) = Keeps was now
 
--- The query asks for an incident that is not live.
-abbrev pub lacks_incident : List (Option histories.Incident) → Medium → Bool
-lacks_incident table (WindowOf m) = false
-lacks_incident table (Incident id) = is_none (live table id)
+module _ {tells tells_images : Type 0} where
+  -- Where the media can be read, what is printed is the text of all that the query selects, or of the first of these records; and where the
+  -- output fails, a front of the text of all.
+  pub record HasPlayed {R : Type 0} (query : Query) (members : MembersState) (disk : Disk tells tells_images) (was now : Option (List ℕ)) (result : Result ⊤ (VisitStop R)) : Type 0 where
+    pub printed : List Record
+    pub lines : HasLines printed was now result
+    pub are : (opening : Opening) (events : List Event) (placed : ℕ → List Placed) → tells → IsReadable opening events members placed disk
+        → AreVisited printed (selected opening events query) result
+    pub front : (opening : Opening) (events : List Event) (placed : ℕ → List Placed) → tells → IsReadable opening events members placed disk
+        → AppendsFront was now (records_text nothing_seen (selected opening events query))
 
--- Why nothing is read: no such channel, else no such incident.
-abbrev pub unanswered : (no_channel no_incident : Bool) → Result ⊤ PlayRefused
-unanswered true no_incident = Err NoChannel
-unanswered false true = Err NoIncident
-unanswered false false = Ok tt
-
--- What is answered after a fault: that nothing is read, else the fault.
-abbrev pub after_fault : Result ⊤ PlayRefused → Result ⊤ PlayRefused
-after_fault (Ok none) = Err Fault
-after_fault (Err refused) = Err refused
-
--- A read or a print was refused for one of these reasons alone: a read, or want of memory.
-abbrev pub IsReadOrMemory : PlayRefused → Type 0
-IsReadOrMemory NoMemory = ⊤
-IsReadOrMemory NoChannel = ⊥
-IsReadOrMemory NoIncident = ⊥
-IsReadOrMemory Fault = ⊤
-IsReadOrMemory (Damaged m offset) = ⊤
-IsReadOrMemory Output = ⊥
-
--- No count of faults of the media falls. A fault comes where a write had failed before, and else only where the count of medium m
--- rose, and so the sum.
-pub record HasPlayCause (m : ℕ) (failed : Bool) (before now : List ℕ) (result : Result ⊤ PlayRefused) : Type 0 where
-  pub later : NoneFalls before now
-  pub on_medium : result ≡ Err Fault → (failed ≡ true) ⊎ Rose (get_or before m 0) (get_or now m 0)
-  pub in_all : result ≡ Err Fault → (failed ≡ true) ⊎ Rose (sum before) (sum now)
-
--- The output's count of faults never falls, and Output is answered only where it rose.
-pub record HasOutputCause (before now : ℕ) (result : Result ⊤ PlayRefused) : Type 0 where
-  pub later : before ≤ now
-  pub output : result ≡ Err Output → Rose before now
+  -- The same of the table of sources.
+  pub record HasTold {R : Type 0} (query : Query) (members : MembersState) (disk : Disk tells tells_images) (was now : Option (List ℕ)) (result : Result ⊤ (VisitStop R)) : Type 0 where
+    pub counted : List Record
+    pub table : HasTable counted was now result
+    pub are : (opening : Opening) (events : List Event) (placed : ℕ → List Placed) → tells → IsReadable opening events members placed disk
+        → AreVisited counted (selected opening events query) result
+    pub front : (opening : Opening) (events : List Event) (placed : ℕ → List Placed) → tells → IsReadable opening events members placed disk
+        → AppendsFront was now (sources_text (sources_of (selected opening events query)))

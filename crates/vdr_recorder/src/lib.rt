@@ -11,11 +11,13 @@ mod run;
 mod saving;
 mod sources;
 mod start;
-mod text;
+mod visiting;
 
-pub use play::PlayRefused;
+pub use maker::LEAST_ITEM;
+pub use play::Player;
 pub use recording::{Recording, State};
 pub use run::StartRefused;
+pub use sources::SourceCounter;
 pub use vdr_entry::{Medium, Query};
 pub use vdr_incident::ReleaseRefused;
 pub use vdr_vault::SaveRefused;

@@ -9,7 +9,7 @@ ghost use Rattle.vdr_history.specs.Runs.{RunStart, base_after};
 ghost use Rattle.vdr_history.specs.Taken.{Captured as CapturedTold};
 ghost use Rattle.vdr_history.specs.Recorder.{recorder_after, begun};
 ghost use Rattle.vdr_history.specs.Sums.{recorded_in, missed_in, counted_by};
-ghost use Rattle.vdr_pace.specs.Commits.{item_size};
+ghost use Rattle.vdr_pace.specs.Commits.{items_size, least_item};
 ghost use Rattle.vdr_recorder.specs.Accounts.{nothing_counted, gap_records, item_records, datagram_record, gap_after, with_recorded};
 ghost use Rattle.vdr_recorder.specs.Starts.{stamp_of, start_with};
 
@@ -24,8 +24,8 @@ use vdr_entry::{Counts, Record};
 use vdr_intake::Captured;
 use vdr_meter::Meter;
 
-/// The most bytes that the records of one item take: a Gap of 84, and a Datagram of 44 and the longest datagram.
-const ITEM_SIZE: usize = 1600;
+/// The most bytes that an item takes of a batch besides its own: a Gap of 84, and a Datagram of 44 and the item's.
+pub const LEAST_ITEM: usize = 128;
 
 /// The most records of a close: a Gap of each group, and a Stop.
 const CLOSING_RECORDS: usize = 17;
@@ -87,12 +87,12 @@ fn push(buffer: &mut Vec<Record>, item: Record)
 impl Maker {
     ghost use Rattle.vdr_recorder.specs.Making.{Makes, CountsItems, HasRoom, NumbersFit, numbers_of, Adds, TakesOne, IsMaking, RecordsItem, ClosesBelow, counted_of, closing_by, run_closed_by, rest_of};
 
-    /// A maker for this configuration, with room for the records of so many items as a batch may have, and for those of a close.
+    /// A maker for this configuration, with room for the records of as many items as a batch may have, and for those of a close.
     /// It takes no memory later.
     pub(crate) fn new(alloc: Global, config: &Config) -> Result<Maker, AllocError>
         ensures { IfOk result (λ maker. HasRoom config.now maker) }
     {
-        let room = 2 * (config.batch as usize / ITEM_SIZE);
+        let room = 2 * (config.batch as usize / LEAST_ITEM);
         Ok(Maker {
             base: 0,
             greatest: 0,
@@ -129,7 +129,7 @@ impl Maker {
     /// Takes items, in this order: those that the rate of their group admits are recorded.
     pub(crate) fn make(&mut self, config: &Config, items: &[Captured])
         requires room { HasRoom config.now self.old }
-        requires few { length items.now ≤ config.now.batch / item_size }
+        requires short { items_size items.now ≤ config.now.batch }
         requires places { self.old.place + 2 * length items.now < 2 ^ 63 }
         requires numbers { NumbersFit self.old items.now }
         ensures makes { (start : RunStart) (popped : List CapturedTold) → Makes config.now start popped self.old

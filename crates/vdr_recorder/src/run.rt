@@ -11,7 +11,7 @@ ghost use Rattle.vdr_history.specs.RunStates.{next_start, recorder_in, state_lef
 ghost use Rattle.vdr_history.specs.Runs.{RunStart, base_after};
 ghost use Rattle.vdr_history.specs.Taken.{Captured as CapturedTold};
 ghost use Rattle.vdr_config.specs.Sizes.{limits_in};
-ghost use Rattle.vdr_pace.specs.Commits.{item_size};
+ghost use Rattle.vdr_pace.specs.Commits.{items_size};
 ghost use Rattle.vdr_vault.specs.Calls.{HasVaultCause, SameElsewhere};
 ghost use Rattle.vdr_vault.specs.Vaults.{AreRings};
 ghost use Rattle.vdr_recorder.specs.Making.{CountsItems, Makes, NumbersFit, counted_of, numbers_of, rest_of};
@@ -107,12 +107,14 @@ impl Recording {
 
     /// Records items in this order, those that the rate of their group admits, as one batch. Where none is admitted, nothing is called.
     ///
+    /// The items fit the configured `batch`, in bytes: each takes at most 128 and its own, a Gap of 84 and a Datagram of 44 and its bytes.
+    ///
     /// `Fault`: a write had failed before, and nothing was called; or a write or a sync failed, and the count of faults of that
     /// medium rose.
     pub fn take_batch<M: Media>(&mut self, media: &mut M, items: &[Captured]) -> Result<(), Fault>
         requires rings { AreRings self.old.members (M.disk media.old).sizes }
         requires open { self.old.is_open ≡ true }
-        requires few { length items.now ≤ self.old.members.config.batch / item_size }
+        requires short { items_size items.now ≤ self.old.members.config.batch }
         requires configured { All (λ c. is_configured (limits_in self.old.members.config.groups c.group) ≡ true) items.now }
         requires places { self.old.maker.place + 2 * length items.now < 2 ^ 63 }
         requires numbers { NumbersFit self.old.maker items.now }

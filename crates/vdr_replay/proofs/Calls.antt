@@ -164,3 +164,11 @@ taken_more opening feed x batch more events t0 r disk h is = record {
       ∙ append_assoc (state_left opening events).popped batch (captured_if (is_yes (verdict x.item.bytes)) feed x)
       ∙ ap (λ (cs : List Captured). (state_left opening events).popped ++ cs) (sym is);
 }
+
+pub takes_more : {tells tells_images : Type 0} (opening : Opening) (feed : List FeedItem) (x : FeedItem) (batch more : List Captured) (events : List Event) (t0 : ℕ) (r : RecordingState) (old new : Disk tells tells_images)
+    → TakesOn opening feed batch events t0 r old new → more ≡ batch ++ captured_if (is_yes (verdict x.item.bytes)) feed x → TakesOn opening (feed ++ x ∷ []) more events t0 r old new
+takes_more opening feed x batch more events t0 r old new t is = record {
+  more = t.more;
+  taken = taken_more opening feed x batch more (events ++ t.more) t0 r new t.taken is;
+  passes = t.passes;
+}

@@ -1,5 +1,5 @@
 -- What is counted of a feed fits the recorder.
-use Rattle.std.proofs.Common.{◌≡◌, ◌≤◌, ◌<◌, ◌+◌, ◌^◌, ℕ, List, [], ◌∷◌, ◌++◌, length, vec_capacity, sum_by, All, Bool, true, false, ◌==◌, refl, sym, ap, ◌∙◌, subst, arith, ⊎_elim, add-zero, length-append}
+use Rattle.std.proofs.Common.{◌≡◌, ◌≤◌, ◌<◌, ◌+◌, ◌^◌, ℕ, List, [], ◌∷◌, ◌++◌, length, sum_by, All, Bool, true, false, ◌==◌, refl, sym, ap, ◌∙◌, subst, arith, ⊎_elim, add-zero, length-append}
 use Rattle.std.proofs.lemmas.Bool.{cases_eq, cond-true, cond-false, eq-eqb, ne_eqb}
 use Rattle.std.proofs.lemmas.List.Sums.{sum_by-append, sum_by-cons}
 use Rattle.std.proofs.lemmas.List.Elements.{All-nil, All-cons, All-append, filter-append}
@@ -22,7 +22,7 @@ use Rattle.vdr_recorder.specs.Making.{counted_of, numbers_of}
 use Rattle.vdr_recorder.specs.declared.maker.Maker.{Maker}
 use Rattle.vdr_replay.specs.declared.lanes.Lanes.{Lanes}
 use Rattle.vdr_replay.specs.Feeding.{HasRate, most_items}
-use Rattle.vdr_replay.specs.Given.{AreFew, CountsFeed, HoldsFeed}
+use Rattle.vdr_replay.specs.Given.{AreFew, CountsFeed, HoldsFeed, IsSized}
 use Rattle.vdr_replay.proofs.Given.{fewer, no_start, rated, tally_other}
 
 -- What fits the recorder
@@ -96,12 +96,8 @@ numbers_fit feed batch maker h few g low = let a = h.numbers g low in let b = fe
 
 -- All that is held, with one more item
 module _ (config : Configuration) (feed : List FeedItem) (x : FeedItem) (item : Held) (old new : Lanes) (maker : Maker) (h : HoldsFeed config feed old maker) (few : length feed < most_items)
-    (holds : Holds item x) (low : item.group < 16) (rate : HasRate config.groups item.group) (space : length old.batch.items < old.room) (counts : CountsFeed (feed ++ x ∷ []) new)
-    (batch : new.batch.items ≡ old.batch.items ++ captured_if (is_yes (verdict x.item.bytes)) feed x) (room : new.room ≡ old.room) (kept : vec_capacity old.batch ≤ vec_capacity new.batch) where
-  one_at_most : (b : Bool) → length (old.batch.items ++ captured_if b feed x) ≤ old.room
-  one_at_most true = let a = length-append old.batch.items (captured_after feed x ∷ []) in omega (arith, a, space)
-  one_at_most false = let a = length-append old.batch.items [] in omega (arith, a, space)
-
+    (holds : Holds item x) (low : item.group < 16) (rate : HasRate config.groups item.group) (counts : CountsFeed (feed ++ x ∷ []) new)
+    (batch : new.batch.items ≡ old.batch.items ++ captured_if (is_yes (verdict x.item.bytes)) feed x) (room : new.room ≡ old.room) (sized : IsSized new) where
   rated_one : (b : Bool) → All (λ c. is_configured (limits_in config.groups c.group) ≡ true) (captured_if b feed x)
   rated_one true = All-cons (λ (c : Captured). is_configured (limits_in config.groups c.group) ≡ true) (captured_after feed x) []
       (rated config.groups x.group (subst (HasRate config.groups) holds.group rate)) (All-nil (λ (c : Captured). is_configured (limits_in config.groups c.group) ≡ true))
@@ -113,10 +109,7 @@ module _ (config : Configuration) (feed : List FeedItem) (x : FeedItem) (item : 
     counts = counts;
     batch = record {
       room = room ∙ h.batch.room;
-      few =
-          let a = ap (λ (cs : List Captured). length cs) batch in
-          let b = one_at_most (is_yes (verdict x.item.bytes)) in omega (arith, a, b, room);
-      space = let a = h.batch.space in omega (arith, a, room, kept);
+      sized = sized;
       configured = subst (All (λ c. is_configured (limits_in config.groups c.group) ≡ true)) (sym batch)
           (All-append (λ c. is_configured (limits_in config.groups c.group) ≡ true) old.batch.items (captured_if (is_yes (verdict x.item.bytes)) feed x) h.batch.configured (rated_one (is_yes (verdict x.item.bytes))));
     };

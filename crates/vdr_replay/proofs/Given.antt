@@ -1,7 +1,7 @@
 -- One more item of a feed is counted as the definition counts it.
 use Rattle.std.proofs.Common.{◌≡◌, ◌≢◌, ◌≤◌, ◌<◌, ℕ, suc, List, [], ◌∷◌, ◌++◌, length, map, filter, count_by, All, Bool, true, false, if◌then◌else◌, ◌==◌, fold, Option, None, Some, is_some, slice_index_or, slice_set, refl, sym, ap, ◌∙◌, subst, arith, ⊎_elim, append-nil, append_assoc, length-set, get_or-set_same, get_or-set_other, true≢false}
 use Rattle.std.proofs.lemmas.Bool.{cases_eq, cond-false, ne_eqb}
-use Rattle.std.proofs.lemmas.List.Elements.{All-nil, All-cons, All-head, All-tail, All-append}
+use Rattle.std.proofs.lemmas.List.Elements.{All-nil, All-cons, All-head, All-tail}
 use Rattle.vdr_terms.specs.declared.datagram.Verdict.{Verdict}
 use Rattle.vdr_terms.specs.declared.datagram.Verdict.TheVariants.{Yes, Bad, Large}
 use Rattle.vdr_terms.specs.declared.rate.Rate.{Rate}
@@ -160,14 +160,6 @@ quiet_group rates feed g known off = ap (λ (items : List Item). total (counts_o
 
 pub high_group : (feed : List FeedItem) (g : ℕ) → All (λ i. i.group < 16) feed → 16 ≤ g → rest_after feed g ≡ none_missed
 high_group feed g low high = ap (λ (items : List Item). counts_of (since_yes items)) (of_groups feed low g high)
-
--- One more item
-pub known_more : (rates : List (Option Rate)) (feed : List FeedItem) (x : FeedItem) → AreConfigured rates feed → HasRate rates x.group → AreConfigured rates (feed ++ x ∷ [])
-known_more rates feed x known rate = All-append (λ i. HasRate rates i.group) feed (x ∷ []) known
-    (All-cons (λ (i : FeedItem). HasRate rates i.group) x [] rate (All-nil (λ (i : FeedItem). HasRate rates i.group)))
-
-pub low_more : (feed : List FeedItem) (x : FeedItem) → All (λ i. i.group < 16) feed → x.group < 16 → All (λ i. i.group < 16) (feed ++ x ∷ [])
-low_more feed x low one = All-append (λ i. i.group < 16) feed (x ∷ []) low (All-cons (λ (i : FeedItem). i.group < 16) x [] one (All-nil (λ (i : FeedItem). i.group < 16)))
 
 -- What is taken of a feed with one more item
 taken_snoc : (feed xs : List FeedItem) (x : FeedItem) → taken_of feed (xs ++ x ∷ []) ≡ taken_of feed xs ++ captured_if (is_yes (verdict x.item.bytes)) (feed ++ xs) x

@@ -107,7 +107,8 @@ module _ (x : Contents) (reads : configuration x.text ≡ Ok x.config) (events :
     pending = pending;
     records = records;
     accounts = accounts;
-    since_entry = λ image left. ⊎_elim (λ now. inl now) (λ shown. inr (prefix_told (ShowsHistory (opening_of x)) (PlaysBack (opening_of x)) events back 0 image shown)) (passes.each image left);
+    moments = moments_weaken before after (λ image. before.now image ⊎ ShowsPrefix (ShowsHistory (opening_of x)) events 0 image) (λ image. before.now image ⊎ ShowsPrefix (PlaysBack (opening_of x)) events 0 image) passes
+        (λ image p. ⊎_elim (λ now. inl now) (λ shown. inr (prefix_told (ShowsHistory (opening_of x)) (PlaysBack (opening_of x)) events back 0 image shown)) p);
     synced = t0;
     after_entry = entry;
     before_exit = exit;
@@ -146,7 +147,7 @@ module _ {tells tells_images : Type 0} (x : Contents) (bytes : List ℕ) (rose :
 
   -- What opening leaves, whatever it answers.
   pub opened_nothing : {T : Type 0} (now : Option (List ℕ)) (old new : Disk tells tells_images) (result : Result T OpenRefused) → OpensAtEachMoment old new result (ShowsHistory (opening_of x) []) → NothingIsRecorded x bytes now rose old new
-  opened_nothing now old new result (inl ends) = inl (λ image left. ends.moments.each image left)
+  opened_nothing now old new result (inl ends) = inl ends.moments
   opened_nothing now old new result (inr goes) = inr (opened_headline old new goes)
 
   -- Where opening succeeded.

@@ -34,8 +34,8 @@ pub open_stops : {tells tells_images T : Type 0} (x : Contents) (bytes : List �
     → ((result ≡ Err refusals.NotFormatted) ⊎ ((m : ℕ) × (offset : ℕ) × (result ≡ Err (refusals.Damaged m offset))) → LeavesAll old new)
     → (EndsMeet both (reading_of x) → OpensAtEachMoment old new result (ShowsHistory (opening_of x) [])) → Answers x bytes now rose old new (Err (stop_by_opening e))
 open_stops x bytes now rose reads sound old new result refusals.NoMemory is untouched moments = λ meet. opened_nothing x bytes rose reads sound now old new result (moments meet)
-open_stops x bytes now rose reads sound old new result refusals.NotFormatted is untouched moments = inl (λ image left. (untouched (inl is)).each image left)
-open_stops x bytes now rose reads sound old new result (refusals.Damaged m offset) is untouched moments = inl (λ image left. (untouched (inr (m, offset, is))).each image left)
+open_stops x bytes now rose reads sound old new result refusals.NotFormatted is untouched moments = inl (untouched (inl is))
+open_stops x bytes now rose reads sound old new result (refusals.Damaged m offset) is untouched moments = inl (untouched (inr (m, offset, is)))
 open_stops x bytes now rose reads sound old new result refusals.Fault is untouched moments = λ meet. inl (opened_nothing x bytes rose reads sound now old new result (moments meet))
 
 -- Damage is what opening names.

@@ -17,7 +17,8 @@ use Rattle.vdr_replay.specs.declared.ended.Replayed.{Replayed}
 use Rattle.vdr_replay.specs.declared.ended.ReplayStop.{ReplayStop}
 use Rattle.vdr_replay.specs.declared.ended.ReplayStop.TheVariants.{NoMemory, Input, Refused, NotFormatted, Damaged, Place, Tick, Media}
 use Rattle.vdr_replay.specs.Feeding.{AreConfigured, ReadsFeed, most_items}
-use Rattle.vdr_replay.specs.Headline.{Headline, NotOpened}
+use Rattle.vdr_vault.specs.Openings.{LeavesAll}
+use Rattle.vdr_replay.specs.Headline.{Headline}
 use Rattle.vdr_replay.specs.Headline.RunEnd.{NotStarted, Closed, Broken}
 use Rattle.vdr_replay.specs.Summary.{AreSums}
 
@@ -27,9 +28,9 @@ pub record MayBegin (opening : Opening) : Type 0 where
   pub base : base_after opening.last < 2 ^ 62
 
 module _ {tells tells_images : Type 0} (x : Contents) (bytes : List ℕ) (now : Option (List ℕ)) (rose : Type 0) (before after : Disk tells tells_images) where
-  -- Nothing was recorded.
+  -- Nothing was recorded: a stop leaves what it might have left at entry, or the media were opened.
   abbrev pub NothingIsRecorded : Type 0
-  NothingIsRecorded = NotOpened before after ⊎ Headline x rose before after [] NotStarted
+  NothingIsRecorded = LeavesAll before after ⊎ Headline x rose before after [] NotStarted
 
   -- The feed up to its end, or to what was refused or failed, is recorded as one run that was closed.
   pub record IsRecorded (r : Replayed) : Type 0 where

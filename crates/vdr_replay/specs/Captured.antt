@@ -1,8 +1,9 @@
 -- An item as it is taken.
-use Rattle.std.specs.Prelude.{◌<◌, ◌^◌}
+use Rattle.std.specs.Prelude.{◌<◌, ◌+◌, ◌^◌, ℕ, length}
 use Rattle.vdr_terms.specs.Counting.{Tally}
 use Rattle.vdr_terms.specs.Stamps.{IsStamp}
 use Rattle.vdr_history.specs.Taken.{Captured}
+use Rattle.vdr_pace.specs.Commits.{least_item}
 use Rattle.vdr_feed.specs.declared.item.Item.{Item}
 
 -- An item that stands in a feed.
@@ -15,3 +16,7 @@ pub record IsLegalItem (item : Item) : Type 0 where
 abbrev pub captured_as : Item → Tally → Captured
 captured_as item tally =
     record { group = item.group; number = tally.taken; received = item.received; utc = item.utc; missed = tally.missed; bytes = item.bytes.items }
+
+-- The most bytes that its records take, where it is recordable.
+abbrev pub item_bytes : Item → ℕ
+item_bytes item = least_item + length item.bytes.items

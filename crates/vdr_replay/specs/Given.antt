@@ -8,7 +8,7 @@ use Rattle.vdr_terms.specs.Records.{FeedItem, Item, total}
 use Rattle.vdr_history.specs.Feed.{items_of}
 use Rattle.vdr_history.specs.Taken.{Captured}
 use Rattle.vdr_core.specs.Replay.{rest_after}
-use Rattle.vdr_pace.specs.Commits.{item_size}
+use Rattle.vdr_pace.specs.Commits.{items_size, largest_item, least_item}
 use Rattle.vdr_config.specs.Configuration.{Configuration}
 use Rattle.vdr_config.specs.Sizes.{limits_in}
 use Rattle.vdr_recorder.specs.Making.{counted_of, numbers_of}
@@ -37,11 +37,17 @@ pub record CountsFeed (feed : List FeedItem) (lanes : Lanes) : Type 0 where
   pub sixteen : length lanes.tallies ≡ 16
   pub each : (g : ℕ) → g < 16 → tally_of lanes g ≡ tally_after feed g
 
--- The batch has items of configured groups, and room for as many as a batch may have.
+-- It is counted how many bytes the batch's items take, which fit. There is room for any one item, and memory for as many as fit.
+pub record IsSized (lanes : Lanes) : Type 0 where
+  pub size : lanes.size ≡ items_size lanes.batch.items
+  pub fits : lanes.size ≤ lanes.room
+  pub any : largest_item < lanes.room
+  pub space : lanes.room / least_item ≤ vec_capacity lanes.batch
+
+-- The batch has items of configured groups, and room for the configured bytes.
 pub record HasBatch (config : Configuration) (lanes : Lanes) : Type 0 where
-  pub room : lanes.room ≡ config.batch / item_size
-  pub few : length lanes.batch.items ≤ lanes.room
-  pub space : lanes.room ≤ vec_capacity lanes.batch
+  pub room : lanes.room ≡ config.batch
+  pub sized : IsSized lanes
   pub configured : All (λ c. is_configured (limits_in config.groups c.group) ≡ true) lanes.batch.items
 
 -- The places and numbers of the run stay small: an item takes two places at most, and one number.

@@ -14,6 +14,7 @@ use Rattle.vdr_durability.specs.Keeping.{Keeps, IsWhole, ShowsPrefix}
 use Rattle.vdr_durability.specs.Shown.{Shows}
 use Rattle.vdr_playback.specs.Playback.{selected}
 use Rattle.vdr_outside.specs.Disk.{Disk, Image}
+use Rattle.vdr_outside.specs.Moments.{AtEachMoment}
 use Rattle.vdr_opening.specs.Media.{both, Contents, HoldsContents, opening_of, reading_of}
 use Rattle.vdr_vault.specs.Openings.{LeavesAll}
 use Rattle.vdr_vault.specs.Regularity.{AreSound}
@@ -60,8 +61,8 @@ pub record Headline {tells tells_images : Type 0} (x : Contents) (rose : Type 0)
   pub pending : IsWhole events ⊎ ((end ≡ Broken) × rose)
   pub records : RecordsAre end (start_of_opening (opening_of x)) feed (recorded events)
   pub accounts : (g : ℕ) → AccountBy end (start_of_opening (opening_of x)) feed (recorded events) g
-  -- since entry a stop left what it might have left at entry, or what shows the first of these events
-  pub since_entry : (image : Image) → after.since before.clock image → before.now image ⊎ ShowsPrefix (PlaysBack (opening_of x)) events 0 image
+  -- at each moment from entry on a stop left what it might have left at entry, or what shows the first of these events
+  pub moments : AtEachMoment before after (λ image. before.now image ⊎ ShowsPrefix (PlaysBack (opening_of x)) events 0 image)
   -- the clock as opening's syncs had succeeded: from then on the media keep the history
   pub synced : ℕ
   pub after_entry : before.clock ≤ synced
@@ -69,10 +70,6 @@ pub record Headline {tells tells_images : Type 0} (x : Contents) (rose : Type 0)
   pub kept : Keeps (PlaysBack (opening_of x)) events synced after
   -- what the media read as at the return plays back all of a run that was closed
   pub reads : tells → end ≡ Closed → PlaysBack (opening_of x) events after.reads
-
--- The call ended before opening's syncs had succeeded: a stop leaves what it might have left at entry.
-abbrev pub NotOpened : {tells tells_images : Type 0} → Disk tells tells_images → Disk tells tells_images → Type 0
-NotOpened before after = (image : Image) → after.since before.clock image → before.now image
 
 -- Whatever is known of the input: the call wrote nothing, or what it left is one history of some feed.
 abbrev pub LeavesHistory : {tells tells_images : Type 0} → Contents → (rose : Type 0) → Disk tells tells_images → Disk tells tells_images → Type 0

@@ -1,5 +1,5 @@
 // The items of a feed, as they are read and recorded.
-ghost use Rattle.std.specs.Prelude.{◌≡◌, ◌≤◌, ◌<◌, ◌∷◌, ◌++◌, ℕ, List, [], true, false, length, Option, None, Some, IfNone, IfOk, IfSome, OnErr, OnOk};
+ghost use Rattle.std.specs.Prelude.{◌≡◌, ◌≤◌, ◌<◌, ◌+◌, ◌∷◌, ◌++◌, ℕ, List, [], true, false, length, Option, None, Some, IfNone, IfOk, IfSome, OnErr, OnOk};
 ghost use Rattle.std.specs.Io.KnownBytes.{IsAtEnd};
 ghost use Rattle.vdr_terms.specs.Records.{FeedItem};
 ghost use Rattle.vdr_history.specs.Histories.{Event, Opening};
@@ -9,7 +9,7 @@ ghost use Rattle.vdr_feed.specs.Reader.{IfKnown, IsNext, past_item};
 ghost use Rattle.vdr_vault.specs.Calls.{SameElsewhere};
 ghost use Rattle.vdr_vault.specs.Openings.{HasCauseOnBoth};
 ghost use Rattle.vdr_vault.specs.Vaults.{AreRings};
-ghost use Rattle.vdr_replay.specs.Captured.{IsLegalItem};
+ghost use Rattle.vdr_replay.specs.Captured.{IsLegalItem, item_bytes};
 ghost use Rattle.vdr_replay.specs.Feeding.{HasRate, ReadsFeed, most_items};
 ghost use Rattle.vdr_replay.specs.Given.{CountsFeed, HoldsFeed};
 ghost use Rattle.vdr_replay.specs.Reading.{HasRead};
@@ -61,7 +61,41 @@ fn read_next<I: Source>(
     None
 }
 
-// Takes an item of a configured group. A batch that is full is recorded.
+// Records the batch, where it has no room for the item.
+fn make_room<M: Media>(
+    recording: &mut Recording,
+    media: &mut M,
+    lanes: &mut Lanes,
+    item: &Item,
+) -> Result<(), Fault>
+    requires rings { AreRings recording.old.members (M.disk media.old).sizes }
+    requires open { recording.old.is_open ≡ true }
+    requires works { recording.old.members.failed ≡ false }
+    requires held { (feed : List FeedItem) × HoldsFeed recording.old.members.config feed lanes.old recording.old.maker }
+    ensures taken { (opening : Opening) (feed : List FeedItem) (events : List Event) (t0 : ℕ) → M.tells
+        → HasTaken opening feed lanes.old.batch.items events t0 recording.old (M.disk media.old)
+        → OnOk result (TakesOn opening feed lanes.new.batch.items events t0 recording.new (M.disk media.old) (M.disk media.new)) }
+    ensures broken { (opening : Opening) (feed : List FeedItem) (events : List Event) (t0 : ℕ) → M.tells
+        → HasTaken opening feed lanes.old.batch.items events t0 recording.old (M.disk media.old)
+        → OnErr result (BreaksOff opening feed events t0 recording.new (M.disk media.old) (M.disk media.new)) }
+    ensures held { OnOk result ((feed : List FeedItem) → HoldsFeed recording.old.members.config feed lanes.old recording.old.maker
+        → HoldsFeed recording.new.members.config feed lanes.new recording.new.maker) }
+    ensures room { OnOk result (lanes.new.size + item_bytes item.now ≤ lanes.new.room) }
+    ensures works { OnOk result (recording.new.members.failed ≡ false) }
+    ensures open { recording.new.is_open ≡ true }
+    ensures config { recording.new.members.config ≡ recording.old.members.config }
+    ensures rings { AreRings recording.new.members (M.disk media.new).sizes }
+    ensures others { M.tells → SameElsewhere (M.disk media.old).reads (M.disk media.new).reads }
+    ensures sizes { (M.disk media.new).sizes ≡ (M.disk media.old).sizes }
+    ensures cause { HasCauseOnBoth (M.faults media.old) (M.faults media.new) result }
+{
+    if lanes.has_room(item) {
+        return Ok(());
+    }
+    lanes.record(recording, media)
+}
+
+// Takes an item of a configured group, once the batch has room for it.
 fn take_item<M: Media>(
     recording: &mut Recording,
     media: &mut M,
@@ -74,17 +108,15 @@ fn take_item<M: Media>(
     requires legal { IsLegalItem item.now }
     requires configured { HasRate recording.old.members.config.groups item.now.group }
     requires held { (feed : List FeedItem) × HoldsFeed recording.old.members.config feed lanes.old recording.old.maker × (length feed < most_items) }
-    requires next { (x : FeedItem) × Holds item.now x }
-    requires space { length lanes.old.batch.items < lanes.old.room }
-    ensures taken { (opening : Opening) (feed : List FeedItem) (x : FeedItem) (events : List Event) (t0 : ℕ) → M.tells → Holds item.now x → CountsFeed feed lanes.old
+    ensures taken { (opening : Opening) (feed : List FeedItem) (x : FeedItem) (events : List Event) (t0 : ℕ) → M.tells → Holds item.now x
+        → HoldsFeed recording.old.members.config feed lanes.old recording.old.maker
         → HasTaken opening feed lanes.old.batch.items events t0 recording.old (M.disk media.old)
         → OnOk result (TakesOn opening (feed ++ x ∷ []) lanes.new.batch.items events t0 recording.new (M.disk media.old) (M.disk media.new)) }
-    ensures broken { (opening : Opening) (feed : List FeedItem) (x : FeedItem) (events : List Event) (t0 : ℕ) → M.tells → Holds item.now x → CountsFeed feed lanes.old
+    ensures broken { (opening : Opening) (feed : List FeedItem) (events : List Event) (t0 : ℕ) → M.tells
         → HasTaken opening feed lanes.old.batch.items events t0 recording.old (M.disk media.old)
-        → OnErr result (BreaksOff opening (feed ++ x ∷ []) events t0 recording.new (M.disk media.old) (M.disk media.new)) }
+        → OnErr result (BreaksOff opening feed events t0 recording.new (M.disk media.old) (M.disk media.new)) }
     ensures held { OnOk result ((feed : List FeedItem) (x : FeedItem) → HoldsFeed recording.old.members.config feed lanes.old recording.old.maker
         → length feed < most_items → Holds item.now x → HoldsFeed recording.new.members.config (feed ++ x ∷ []) lanes.new recording.new.maker) }
-    ensures space { OnOk result (length lanes.new.batch.items < lanes.new.room) }
     ensures works { OnOk result (recording.new.members.failed ≡ false) }
     ensures open { recording.new.is_open ≡ true }
     ensures config { recording.new.members.config ≡ recording.old.members.config }
@@ -93,11 +125,9 @@ fn take_item<M: Media>(
     ensures sizes { (M.disk media.new).sizes ≡ (M.disk media.old).sizes }
     ensures cause { HasCauseOnBoth (M.faults media.old) (M.faults media.new) result }
 {
+    make_room(recording, media, lanes, item)?;
     lanes.take(item);
-    if !lanes.is_full() {
-        return Ok(());
-    }
-    lanes.record(recording, media)
+    Ok(())
 }
 
 /// Takes the items of the feed, up to its end, or to what is refused or fails.
@@ -114,7 +144,6 @@ pub(crate) fn take_all<I: Source, M: Media>(
     requires read { (first : Option (List ℕ)) × HasRead first (I.left input.old) reader.old [] }
     requires held { HoldsFeed recording.old.members.config [] lanes.old recording.old.maker }
     requires empty { lanes.old.batch.items ≡ [] }
-    requires space { 0 < lanes.old.room }
     ensures taken { IfOk result (λ end. TakesFeed (I.left input.old) reader.old (I.left input.new) end lanes.new recording.old recording.new (M.disk media.old) (M.disk media.new)) }
     ensures broken { OnErr result (BreaksFeed (I.left input.old) reader.old recording.old recording.new (M.disk media.old) (M.disk media.new)) }
     ensures whole { IfOk result (λ end. end ≡ Whole → IsAtEnd (I.left input.new)) }

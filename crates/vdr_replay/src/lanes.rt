@@ -12,7 +12,7 @@ ghost use Rattle.vdr_vault.specs.Calls.{SameElsewhere};
 ghost use Rattle.vdr_vault.specs.Openings.{HasCauseOnBoth};
 ghost use Rattle.vdr_vault.specs.Vaults.{AreRings};
 ghost use Rattle.vdr_recorder.specs.Making.{rest_of};
-ghost use Rattle.vdr_replay.specs.Captured.{IsLegalItem, captured_as};
+ghost use Rattle.vdr_replay.specs.Captured.{IsLegalItem, captured_as, item_bytes};
 ghost use Rattle.vdr_replay.specs.Feeding.{most_items};
 
 use arrayvec::ArrayVec;
@@ -22,11 +22,8 @@ use vdr_feed::Item;
 use vdr_gap::{Counts, Tally};
 use vdr_intake::Captured;
 use vdr_outside::{Fault, Media};
-use vdr_recorder::Recording;
+use vdr_recorder::{LEAST_ITEM, Recording};
 use vdr_terms::{Verdict, recordable};
-
-// The most bytes that the records of one item take: a Gap of 84, and a Datagram of 44 and the longest datagram.
-const ITEM_SIZE: usize = 1600;
 
 // No item.
 const NONE: Counts = Counts {
@@ -41,7 +38,8 @@ const NONE: Counts = Counts {
 pub(crate) struct Lanes {
     pub(crate) tallies: [Tally; 16],
     pub(crate) batch: Vec<Captured>,
-    // How many items a batch takes.
+    // The most bytes that the records of its items take, and those that a batch may have.
+    pub(crate) size: usize,
     pub(crate) room: usize,
 }
 
@@ -88,6 +86,13 @@ fn push(batch: &mut Vec<Captured>, item: Captured)
     let _ = batch.push(item);
 }
 
+// The most bytes that the records of an item take.
+fn item_size(item: &Item) -> usize
+    ensures { (result ≡ item_bytes item.now) × (result ≤ 1601) }
+{
+    LEAST_ITEM + item.bytes.len()
+}
+
 // The recordable item as it is taken, with its number and what its port missed before it. It is counted.
 fn capture(item: &Item, tally: &mut Tally) -> Captured
     requires legal { IsLegalItem item.now }
@@ -110,7 +115,7 @@ fn capture(item: &Item, tally: &mut Tally) -> Captured
 }
 
 impl Lanes {
-    ghost use Rattle.vdr_replay.specs.Given.{CountsFeed, HasBatch, HoldsFeed, tally_of};
+    ghost use Rattle.vdr_replay.specs.Given.{CountsFeed, HasBatch, HoldsFeed, IsSized, tally_of};
     ghost use Rattle.vdr_replay.specs.Taking.{BreaksOff, HasTaken, TakesOn};
 
     /// Nothing was given. Memory for one batch is taken here, and none later.
@@ -119,12 +124,12 @@ impl Lanes {
         ensures counts { IfOk result (λ lanes. CountsFeed [] lanes) }
         ensures batch { IfOk result (λ lanes. HasBatch config.now lanes) }
         ensures empty { IfOk result (λ lanes. lanes.batch.items ≡ []) }
-        ensures space { IfOk result (λ lanes. 0 < lanes.room) }
     {
-        let room = config.batch as usize / ITEM_SIZE;
+        let room = config.batch as usize;
         Ok(Lanes {
             tallies: tallies(),
-            batch: Vec::with_capacity(alloc, room)?,
+            batch: Vec::with_capacity(alloc, room / LEAST_ITEM)?,
+            size: 0,
             room,
         })
     }
@@ -132,18 +137,20 @@ impl Lanes {
     /// Takes the next item: one that is not recordable is counted, another goes to the batch.
     pub(crate) fn take(&mut self, item: &Item)
         requires legal { IsLegalItem item.now }
-        requires room { vec_len self.old.batch < vec_capacity self.old.batch }
+        requires sized { IsSized self.old }
+        requires fits { self.old.size + item_bytes item.now ≤ self.old.room }
         requires counted { (feed : List FeedItem) × CountsFeed feed self.old × (length feed < most_items) }
         ensures counts { (feed : List FeedItem) (x : FeedItem) → CountsFeed feed self.old → Holds item.now x → CountsFeed (feed ++ x ∷ []) self.new }
         ensures batch { (feed : List FeedItem) (x : FeedItem) → CountsFeed feed self.old → Holds item.now x
             → self.new.batch.items ≡ self.old.batch.items ++ captured_if (is_yes (verdict x.item.bytes)) feed x }
-        ensures space { vec_capacity self.old.batch ≤ vec_capacity self.new.batch }
+        ensures sized { IsSized self.new }
         ensures room { self.new.room ≡ self.old.room }
     {
         let tally = &mut self.tallies[item.group as usize];
         match recordable(item.bytes.as_slice()) {
             Verdict::Yes => {
                 let next = capture(item, tally);
+                self.size += item_size(item);
                 push(&mut self.batch, next);
             }
             Verdict::Bad => tally.bad(),
@@ -151,11 +158,13 @@ impl Lanes {
         }
     }
 
-    /// Whether the batch takes no further item.
-    pub(crate) fn is_full(&self) -> bool
-        ensures { (result ≡ true) ↔ (length self.now.batch.items ≡ self.now.room) }
+    /// Whether the batch has room for the records of this item, whatever they are.
+    pub(crate) fn has_room(&self, item: &Item) -> bool
+        requires { IsSized self.now }
+        ensures room { (result ≡ true) ↔ (self.now.size + item_bytes item.now ≤ self.now.room) }
+        ensures small { item_bytes item.now ≤ 1601 }
     {
-        self.batch.len() == self.room
+        item_size(item) <= self.room - self.size
     }
 
     /// Records what is in the batch, which is empty then.
@@ -177,6 +186,7 @@ impl Lanes {
         ensures held { OnOk result ((feed : List FeedItem) → HoldsFeed recording.old.members.config feed self.old recording.old.maker
             → HoldsFeed recording.new.members.config feed self.new recording.new.maker) }
         ensures empty { OnOk result (self.new.batch.items ≡ []) }
+        ensures size { OnOk result (self.new.size ≡ 0) }
         ensures room { self.new.room ≡ self.old.room }
         ensures works { OnOk result (recording.new.members.failed ≡ false) }
         ensures open { recording.new.is_open ≡ true }
@@ -188,6 +198,7 @@ impl Lanes {
     {
         recording.take_batch(media, self.batch.as_slice())?;
         self.batch.clear();
+        self.size = 0;
         Ok(())
     }
 

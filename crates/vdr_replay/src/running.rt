@@ -37,7 +37,6 @@ fn record_items<I: Source, M: Media>(
     requires read { (first : Option (List ℕ)) × HasRead first (I.left input.old) reader.old [] }
     requires held { HoldsFeed recording.old.members.config [] lanes.old recording.old.maker }
     requires empty { lanes.old.batch.items ≡ [] }
-    requires space { 0 < lanes.old.room }
     ensures recorded { IfOk result (λ end. RecordsFeed (I.left input.old) reader.old (I.left input.new) end lanes.new recording.old recording.new (M.disk media.old) (M.disk media.new)) }
     ensures broken { OnErr result (BreaksFeed (I.left input.old) reader.old recording.old recording.new (M.disk media.old) (M.disk media.new)) }
     ensures whole { IfOk result (λ end. end ≡ Whole → IsAtEnd (I.left input.new)) }
@@ -70,7 +69,6 @@ pub(crate) fn record_run<I: Source, M: Media>(
     requires counts { CountsFeed [] lanes.old }
     requires batch { HasBatch recording.old.members.config lanes.old }
     requires empty { lanes.old.batch.items ≡ [] }
-    requires space { 0 < lanes.old.room }
     ensures ran { (opening : Opening) (t0 : ℕ) → M.tells → HasRecorded opening [] t0 recording.old (M.disk media.old)
         → Runs opening t0 (I.left input.old) reader.old (I.left input.new) recording.old.members.config.groups recording.new (M.disk media.old) (M.disk media.new) result }
     ensures decided { DecidesRun recording.old.members.next_place recording.old.members.last (I.left input.old) reader.old (I.left input.new) recording.old.members.config.groups result }

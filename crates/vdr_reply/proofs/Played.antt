@@ -23,10 +23,10 @@ use Rattle.vdr_entry.specs.declared.query.Medium.TheVariants.{Capsule, LongTerm,
 use Rattle.vdr_opening.specs.Media.{both}
 use Rattle.vdr_control.specs.Orders.{PlainOrder}
 use Rattle.vdr_control.specs.Orders.PlainOrder.{Status as StatusOrder, Save as SaveOrder, Release as ReleaseOrder, Play as PlayOrder}
-use Rattle.vdr_recorder.specs.Playing.{lacks_channel, lacks_incident}
 use Rattle.vdr_recorder.specs.Recordings.{HasDone, HasRecorded, RecordingState}
-use Rattle.vdr_recorder.specs.declared.play.PlayRefused.{PlayRefused}
-use Rattle.vdr_recorder.specs.declared.play.PlayRefused.TheVariants as plays
+use Rattle.vdr_visit.specs.Stops.{lacks_channel, lacks_incident}
+use Rattle.vdr_visit.specs.declared.stop.VisitStop.{VisitStop}
+use Rattle.vdr_visit.specs.declared.stop.VisitStop.TheVariants as plays
 use Rattle.vdr_reply.specs.Answers.{HasAnswered, Spells}
 use Rattle.vdr_reply.specs.Orders.{channel_in, is_every, is_named, order_of, query_of}
 use Rattle.vdr_reply.specs.Texts.{IsPlayed, done_line, fault_line, memory_line, not_there_line, page_text, text_of}
@@ -103,7 +103,7 @@ module _ {tells tells_images : Type 0} (opening : Opening) (events : List Event)
   pub no_memory_answer : text ≡ memory_line → HasAnswered channels met_fault opening events t0 order text r r old old
   no_memory_answer is = still_answer opening events t0 r old h channels met_fault text order (and_false r.members.failed) (inl refl) (inr (inr is))
 
-  pub played_answer : (after : RecordingState) (new : Disk tells tells_images) (played : Result ⊤ PlayRefused) (page : List ℕ) → IsPlayed played page text
+  pub played_answer : {R : Type 0} (after : RecordingState) (new : Disk tells tells_images) (played : Result ⊤ (VisitStop R)) (page : List ℕ) → IsPlayed played page text
       → HasDone opening events t0 Look after old new → after.members.failed ≡ false → is_named channels name ≡ true
       → (played ≡ Err plays.NoChannel → lacks_channel (length channels) query.channel ≡ true)
       → ((played ≡ Err plays.NoIncident) ↔ ((lacks_channel (length channels) query.channel ≡ false) × (lacks_incident r.members.table query.medium ≡ true)))
@@ -111,7 +111,7 @@ module _ {tells tells_images : Type 0} (opening : Opening) (events : List Event)
       → ((m offset : ℕ) → played ≡ Err (plays.Damaged m offset) → ⊥)
       → (played ≡ Err plays.Fault → met_fault)
       → HasAnswered channels met_fault opening events t0 order text r after old new
-  played_answer after new played page is d goes named channel incident printed undamaged fault =
+  played_answer {R = R} after new played page is d goes named channel incident printed undamaged fault =
       looked_answer opening events t0 r old h channels met_fault text order after new (and_false r.members.failed) d (inl refl)
       (spelled played refl is printed)
     where
@@ -137,7 +137,7 @@ module _ {tells tells_images : Type 0} (opening : Opening) (events : List Event)
           by_there (inl is) = absurd (lacks_not opening events r.members.table medium table_is (incident.0 e).1 is)
           by_there (inr n) = ap (λ (b : Bool). text_of (play_reply true b (refusal_of query.medium) (selected opening events query))) n.0 ∙ ap text_of n.2
 
-      spelled : (res : Result ⊤ PlayRefused) → played ≡ res → IsPlayed res page text → OnOk res (page ≡ done_line ++ records_text nothing_seen (selected opening events query))
+      spelled : (res : Result ⊤ (VisitStop R)) → played ≡ res → IsPlayed res page text → OnOk res (page ≡ done_line ++ records_text nothing_seen (selected opening events query))
           → Spells met_fault order (answer_before (moment_of after.members.failed new.clock) answer) text
       spelled (Ok x) e (inl ends) made =
           inl (ends ∙ ap (λ (l : List ℕ). l ++ codes ".\n") made ∙ page_is (selected opening events query)
@@ -147,5 +147,5 @@ module _ {tells tells_images : Type 0} (opening : Opening) (events : List Event)
       spelled (Err plays.NoIncident) e is made = inl (is ∙ sym (not_there e) ∙ ap text_of (sym said))
       spelled (Err plays.Fault) e is made = inr (inl (is, fault e))
       spelled (Err (plays.Damaged m offset)) e is made = absurd (undamaged m offset e)
-      spelled (Err plays.NoMemory) e is made = inr (inr is)
       spelled (Err plays.Output) e is made = inr (inr is)
+      spelled (Err (plays.Own reason)) e is made = absurd is

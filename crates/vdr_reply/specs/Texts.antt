@@ -7,10 +7,10 @@ use Rattle.vdr_play.specs.Streams.{nothing_seen}
 use Rattle.vdr_play.specs.Texts.{records_text}
 use Rattle.vdr_incident.specs.declared.refused.ReleaseRefused.{ReleaseRefused}
 use Rattle.vdr_incident.specs.declared.refused.ReleaseRefused.TheVariants as releases
-use Rattle.vdr_recorder.specs.declared.play.PlayRefused.{PlayRefused}
-use Rattle.vdr_recorder.specs.declared.play.PlayRefused.TheVariants as plays
 use Rattle.vdr_vault.specs.declared.refused.SaveRefused.{SaveRefused}
 use Rattle.vdr_vault.specs.declared.refused.SaveRefused.TheVariants as saves
+use Rattle.vdr_visit.specs.declared.stop.VisitStop.{VisitStop}
+use Rattle.vdr_visit.specs.declared.stop.VisitStop.TheVariants as visits
 
 -- The media have failed, a record of them is not legal, or there is no memory for the text.
 abbrev pub fault_line : List ℕ
@@ -69,12 +69,13 @@ release_line (Ok done) = text_of Released
 release_line (Err releases.NoSuch) = text_of NoIncident
 release_line (Err releases.Fault) = text_of Failed
 
--- What is sent for a play that was answered so, of a page with this text so far: the page with its end, unless there is no memory for it.
-abbrev pub IsPlayed : Result ⊤ PlayRefused → (page text : List ℕ) → Type 0
+-- What is sent for a play that was answered so, of a page with this text so far: the page with its end, unless there is no memory for it. The
+-- page's only failure is want of memory, and a player never stops by itself.
+abbrev pub IsPlayed : {R : Type 0} → Result ⊤ (VisitStop R) → (page text : List ℕ) → Type 0
 IsPlayed (Ok done) page text = (text ≡ page ++ codes ".\n") ⊎ (text ≡ memory_line)
-IsPlayed (Err plays.NoChannel) page text = text ≡ not_there_line
-IsPlayed (Err plays.NoIncident) page text = text ≡ not_there_line
-IsPlayed (Err plays.Fault) page text = text ≡ fault_line
-IsPlayed (Err (plays.Damaged m offset)) page text = text ≡ damage_line
-IsPlayed (Err plays.NoMemory) page text = text ≡ memory_line
-IsPlayed (Err plays.Output) page text = text ≡ memory_line
+IsPlayed (Err visits.NoChannel) page text = text ≡ not_there_line
+IsPlayed (Err visits.NoIncident) page text = text ≡ not_there_line
+IsPlayed (Err visits.Fault) page text = text ≡ fault_line
+IsPlayed (Err (visits.Damaged m offset)) page text = text ≡ damage_line
+IsPlayed (Err visits.Output) page text = text ≡ memory_line
+IsPlayed (Err (visits.Own reason)) page text = ⊥

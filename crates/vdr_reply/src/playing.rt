@@ -15,10 +15,12 @@ ghost use Rattle.vdr_reply.specs.Texts.{IsPlayed};
 use crate::lines::{DAMAGED, FAULT, NO_MEMORY, NOT_THERE};
 use crate::page::Page;
 use std::alloc::Global;
+use std::convert::Infallible;
 use vdr_desk::Reply;
 use vdr_entry::{Medium, Query};
 use vdr_outside::Media;
-use vdr_recorder::{PlayRefused, Recording};
+use vdr_recorder::Recording;
+use vdr_visit::VisitStop;
 
 /// The channel's name that stands for every record.
 const EVERY: &[u8] = b"all";
@@ -57,7 +59,7 @@ fn query_of(recording: &Recording, wanted: Wanted<'_>) -> Option<Query>
 }
 
 // What a play comes to: the page with its end, or the line of a refusal.
-fn of_played(played: Result<(), PlayRefused>, page: Page) -> Reply
+fn of_played(played: Result<(), VisitStop<Infallible>>, page: Page) -> Reply
     ensures { IsPlayed played page.bytes.items result }
 {
     match played {
@@ -65,10 +67,11 @@ fn of_played(played: Result<(), PlayRefused>, page: Page) -> Reply
             Ok(bytes) => Reply::of_page(bytes),
             Err(_) => Reply::of_line(NO_MEMORY),
         },
-        Err(PlayRefused::NoChannel | PlayRefused::NoIncident) => Reply::of_line(NOT_THERE),
-        Err(PlayRefused::Fault) => Reply::of_line(FAULT),
-        Err(PlayRefused::Damaged { .. }) => Reply::of_line(DAMAGED),
-        Err(PlayRefused::NoMemory | PlayRefused::Output) => Reply::of_line(NO_MEMORY),
+        Err(VisitStop::NoChannel | VisitStop::NoIncident) => Reply::of_line(NOT_THERE),
+        Err(VisitStop::Fault) => Reply::of_line(FAULT),
+        Err(VisitStop::Damaged { .. }) => Reply::of_line(DAMAGED),
+        Err(VisitStop::Output) => Reply::of_line(NO_MEMORY),
+        Err(VisitStop::Own(never)) => match never {},
     }
 }
 
@@ -96,6 +99,6 @@ pub(crate) fn answer_play<M: Media>(
     let Ok(mut page) = Page::begin(alloc) else {
         return Reply::of_line(NO_MEMORY);
     };
-    let played = recording.play(alloc, media, &query, &mut page);
+    let played = recording.play(media, &query, &mut page);
     of_played(played, page)
 }

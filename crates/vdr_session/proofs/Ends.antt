@@ -1,5 +1,5 @@
 -- A session's end: a run that was not begun, and one that was stopped.
-use Rattle.std.proofs.Common.{◌≡◌, ◌≢◌, ◌⊎◌, inl, inr, ◌<◌, ◌≤◌, ◌+◌, ◌*◌, ◌^◌, ◌++◌, ℕ, Bool, true, false, true≢false, List, [], ◌∷◌, All, Option, Some, None, length, get_or, ⊎_elim, refl, sym, ap, ◌∙◌, subst, arith, append-nil}
+use Rattle.std.proofs.Common.{◌≡◌, ◌≢◌, ◌⊎◌, inl, inr, ◌<◌, ◌≤◌, ◌+◌, ◌*◌, ◌^◌, ◌++◌, ℕ, Bool, true, false, true≢false, List, [], ◌∷◌, Option, Some, None, length, get_or, ⊎_elim, refl, sym, ap, ◌∙◌, subst, arith, append-nil}
 use Rattle.std.specs.Prelude.{sum}
 use Rattle.std.proofs.lemmas.Bool.{cases_Bool, cases_lt}
 use Rattle.std.proofs.lemmas.List.{length-append}
@@ -32,17 +32,17 @@ use Rattle.vdr_capture.specs.declared.sums.Outcome.{Outcome}
 use Rattle.vdr_capture.specs.declared.sums.Outcome.TheVariants.{Done, MediaFault}
 use Rattle.vdr_capture.specs.Gives.{EndsBy}
 use Rattle.vdr_vault.specs.Calls.{SameElsewhere}
-use Rattle.vdr_recorder.specs.Making.{CountsItems, counted_of, numbers_of}
+use Rattle.vdr_recorder.specs.Making.{CountsItems, counted_of}
 use Rattle.vdr_recorder.specs.Recordings.{HasDone, HasRecorded, RecordingState}
 use Rattle.vdr_session.specs.declared.mark.Mark.{Mark}
 use Rattle.vdr_session.specs.declared.records.Began.{Began}
 use Rattle.vdr_session.specs.declared.records.Began.TheVariants.{Begun, Place, Tick, Fault}
 use Rattle.vdr_session.specs.Closed.{HasClosed, RanLanes}
 use Rattle.vdr_session.specs.Ended.{EndsRun, HasEnded, IsToldAs}
-use Rattle.vdr_session.specs.Events.{events_of, is_started, start_of}
+use Rattle.vdr_session.specs.Events.{events_of, start_of}
 use Rattle.vdr_session.specs.Feeding.{AreMissed, RestIs}
 use Rattle.vdr_session.specs.Lanes.{IsMet}
-use Rattle.vdr_session.specs.Marks.{begins, has_fault, is_begun, taken_in}
+use Rattle.vdr_session.specs.Marks.{has_fault, taken_in}
 use Rattle.vdr_session.specs.Ran.{HasRan, LaneRan}
 use Rattle.vdr_session.specs.Standing.{AreFew, Before, HasSession, IsKept, StartMeans}
 use Rattle.vdr_session.proofs.Closes.{closes_session}

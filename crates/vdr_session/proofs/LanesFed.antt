@@ -1,5 +1,5 @@
 -- What a lane's port gave, by its capture and by what was popped.
-use Rattle.std.proofs.Common.{◌≡◌, ◌<◌, ◌≤◌, ◌++◌, ◌+◌, ℕ, Bool, true, false, List, [], ◌∷◌, All, Option, Some, None, length, length-append, get_or, is_some, ⊎_elim, append_assoc, refl, sym, ap, ◌∙◌, subst, arith}
+use Rattle.std.proofs.Common.{◌≡◌, ◌<◌, ◌≤◌, ◌++◌, ◌+◌, ℕ, true, false, List, [], ◌∷◌, All, Option, Some, None, length, length-append, get_or, ⊎_elim, append_assoc, refl, sym, ap, ◌∙◌, subst, arith}
 use Rattle.std.proofs.lemmas.List.Elements.{All-cons, All-nil, All-tail}
 use Rattle.std.proofs.Math.Dec.{leb}
 use Rattle.std.proofs.lemmas.Bool.Decides.{leb_tells}
@@ -13,7 +13,7 @@ use Rattle.vdr_capture.specs.declared.lane.Lane.{Lane}
 use Rattle.vdr_capture.specs.Captures.{IsCapture}
 use Rattle.vdr_capture.specs.Lanes.{telling_of}
 use Rattle.vdr_session.specs.Feeding.{AreMissed, LaneFed, RestIs}
-use Rattle.vdr_session.specs.Lanes.{AllPopped, AreDrained, ArePopped, popped_by}
+use Rattle.vdr_session.specs.Lanes.{AllPopped, AreDrained, ArePopped}
 use Rattle.vdr_session.proofs.Gathered.{all_feed, gather, none_gathered}
 use Rattle.vdr_session.proofs.Marked.{no_items}
 use Rattle.vdr_session.specs.Ran.{HasRan, LaneRan}

@@ -1,14 +1,14 @@
 -- A lane through a session: made ready, captured, joined, drained.
-use Rattle.std.proofs.Common.{◌≡◌, ◌<◌, ◌≤◌, ◌++◌, ℕ, Bool, true, false, List, [], ◌∷◌, Option, Some, None, length, get_or, set, refl, sym, ap, ◌∙◌, subst, arith}
+use Rattle.std.proofs.Common.{◌≡◌, ◌<◌, ◌++◌, ℕ, Bool, false, List, [], ◌∷◌, Option, Some, None, length, get_or, set, refl, sym, ap, ◌∙◌, subst, arith}
 use Rattle.vdr_history.specs.Taken.{Captured, of_group}
 use Rattle.vdr_intake.specs.Ends.{QueueId, Taking, Feeding}
 use Rattle.vdr_intake.specs.Items.{IsRun}
 use Rattle.vdr_outside.specs.declared.port.Port.{Ghosts as PortTells}
 use Rattle.vdr_capture.specs.declared.lane.Lane.{Lane}
-use Rattle.vdr_capture.specs.Lanes.{Captures, CapturesHeld}
-use Rattle.vdr_session.specs.Joins.{HasJoined, Joins, MayJoin}
+use Rattle.vdr_capture.specs.Lanes.{CapturesHeld}
+use Rattle.vdr_session.specs.Joins.{Joins, MayJoin}
 use Rattle.vdr_session.specs.Lanes.{ArePopped, IsFront, IsMet, IsTakerOf, joined_to, popped_by}
-use Rattle.vdr_session.specs.Ran.{HasRan, IsSetUp, LaneIsReady, LaneRan}
+use Rattle.vdr_session.specs.Ran.{IsSetUp, LaneIsReady, LaneRan}
 use Rattle.vdr_session.proofs.Popped.{same_or_not}
 use Rattle.std.proofs.lemmas.List.{get_or-set_same, get_or-set_other}
 

@@ -1,7 +1,9 @@
 pub mod Popped
+pub mod Holding
 pub mod Seen
 pub mod Served
 pub mod Marked
+pub mod HeldRuns
 pub mod Told
 pub mod Gathered
 pub mod LanesRan

@@ -1,14 +1,13 @@
 -- A recorder under the latch after the order of a desk.
-use Rattle.std.proofs.Common.{◌≡◌, ◌≢◌, ◌⊎◌, inl, inr, ◌≤◌, ◌<◌, ◌+◌, ◌-◌, ◌*◌, ◌^◌, ◌++◌, ◌∷◌, ◌&&◌, not, is_some, ℕ, Bool, true, false, true≢false, List, [], length, cond, refl, sym, ap, ◌∙◌, subst, arith}
-use Rattle.std.specs.Prelude.{min, nat_le, sum}
-use Rattle.std.proofs.lemmas.Bool.{cases_Bool, cond-false, cond-true, le-leb, leb-true}
+use Rattle.std.proofs.Common.{◌≡◌, ◌⊎◌, inl, inr, ◌+◌, ◌-◌, ◌^◌, ◌++◌, ◌∷◌, ◌&&◌, not, is_some, ℕ, Bool, true, false, true≢false, List, [], length, cond, refl, sym, ap, ◌∙◌, subst, arith}
+use Rattle.std.specs.Prelude.{min, sum}
+use Rattle.std.proofs.lemmas.Bool.{cases_Bool, le-leb, leb-true}
 use Rattle.vdr_terms.specs.Counting.{next_number}
 use Rattle.vdr_terms.specs.declared.rate.Rate.{Rate}
 use Rattle.std.specs.Prelude.{Option}
 use Rattle.vdr_history.specs.Histories.{Act, Event, Opening, records_of_act}
 use Rattle.vdr_history.specs.RunStates.{RunState, after_act}
 use Rattle.vdr_history.specs.Taken.{Captured}
-use Rattle.vdr_durability.specs.Keeping.{moment_of}
 use Rattle.vdr_playback.specs.Replies.{Reply}
 use Rattle.vdr_outside.specs.Causes.{Rose}
 use Rattle.vdr_outside.specs.Disk.{Disk}
@@ -22,13 +21,12 @@ use Rattle.vdr_recorder.specs.Recordings.{HasDone, HasRecorded, RecordingState}
 use Rattle.vdr_recorder.proofs.Continuing.{has_moment}
 use Rattle.vdr_reply.specs.Answers.{HasAnswered, IsAnswer, LeavesRest, Spells}
 use Rattle.vdr_reply.specs.Orders.{changes, granted_act}
-use Rattle.vdr_session.specs.declared.mark.Did.{Did}
 use Rattle.vdr_session.specs.declared.mark.Did.TheVariants as dids
 use Rattle.vdr_session.specs.declared.mark.Mark.{Mark}
 use Rattle.vdr_session.specs.Answering.{AnswersMark, did_for, order_mark, rose_in}
 use Rattle.vdr_session.specs.Events.{act_of, event_of, events_of}
-use Rattle.vdr_session.specs.Marks.{begins, is_begun, leads, misses, taken_by, taken_in}
-use Rattle.vdr_session.specs.Standing.{Before, HasSession, IsKept}
+use Rattle.vdr_session.specs.Marks.{begins, leads, misses, taken_by, taken_in}
+use Rattle.vdr_session.specs.Standing.{Before, IsKept}
 use Rattle.vdr_session.proofs.Steps.{StaysHome, all_more, begun_none, kept_by, started_same, still_session, taken_same_by}
 
 -- an order begins nothing, takes nothing and doesn't lead

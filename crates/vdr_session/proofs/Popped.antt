@@ -1,11 +1,11 @@
--- What was popped of each group, as one more group is popped.
-use Rattle.std.proofs.Common.{◌≡◌, ◌≢◌, ◌<◌, ◌≤◌, ◌++◌, ◌==◌, ◌+◌, ℕ, zero, suc, Bool, true, false, List, [], ◌∷◌, All, IfSome, Option, Some, None, length, filter, get_or, set, cond, ⊎_elim, refl, sym, ap, ◌∙◌, subst, append_assoc, append-nil, arith}
+-- The takers, as one of them pops.
+use Rattle.std.proofs.Common.{◌≡◌, ◌<◌, ◌++◌, ◌==◌, ℕ, zero, suc, Bool, List, [], ◌∷◌, All, IfSome, Option, Some, None, length, get_or, set, ⊎_elim, refl, sym, ap, ◌∙◌, subst, append_assoc, arith}
 use Rattle.std.proofs.lemmas.List.{get_or-set_same, get_or-set_other}
 use Rattle.std.proofs.lemmas.List.Elements.{All-head, All-tail, filter-append}
 use Rattle.std.proofs.lemmas.Bool.{cond-true, cases_eq, cond-false, eq-eqb, ne_eqb}
 use Rattle.vdr_history.specs.Taken.{Captured, of_group}
 use Rattle.vdr_intake.specs.Ends.{QueueId, Taking, Feeding}
-use Rattle.vdr_session.specs.Lanes.{AreMet, ArePopped, IsDrained, IsFront, IsMet, Pops, StayJoined, joined_to, popped_by}
+use Rattle.vdr_session.specs.Lanes.{AreMet, IsFront, IsMet}
 
 pub of_own : (g : ℕ) (items : List Captured) → All (λ c. c.group ≡ g) items → of_group g items ≡ items
 of_own g [] own = refl
@@ -39,31 +39,8 @@ module _ (n : ℕ) (takers : List (Option Taking)) (sixteen : length takers ≡ 
       (λ e. subst (λ (m : ℕ). P m (get_or (set takers n new) m None)) (sym e) (subst (P n) (sym at_own) here))
       (λ ne. subst (P g) (sym (at_other g ne)) (there g small ne))
 
-  module _ (configured : ℕ → Bool) (queue : Option QueueId) (before after : List Captured) (pops : Pops configured n queue (get_or takers n None) new before after) where
-    pub joined_after : (old : List (Option Taking)) → StayJoined old takers → StayJoined old (set takers n new)
-    joined_after old stay = for_each (λ g t. joined_to t ≡ joined_to (get_or old g None)) (pops.joined ∙ stay n low) (λ g small ne. stay g small)
-
-    pub popped_after : (items : List Captured) → ArePopped (items ++ before) takers → ArePopped (items ++ after) (set takers n new)
-    popped_after items h = record {
-      each = for_each (λ g t. of_group g (items ++ after) ≡ popped_by t)
-          (more n ∙ ap (λ (xs : List Captured). xs ++ of_group n pops.more) (h.each n low) ∙ ap (λ (xs : List Captured). popped_by (get_or takers n None) ++ xs) (of_own n pops.more pops.own) ∙ sym pops.popped)
-          (λ g small ne. others g (λ e. ne (sym e)) ∙ h.each g small);
-      beyond = λ g high. others g (λ e. omega (arith, e, high, low)) ∙ h.beyond g high;
-    }
-      where
-        more : (g : ℕ) → of_group g (items ++ after) ≡ of_group g (items ++ before) ++ of_group g pops.more
-        more g = ap (λ (xs : List Captured). of_group g (items ++ xs)) pops.batch ∙ ap (of_group g) (sym (append_assoc items before pops.more)) ∙ of_appended g (items ++ before) pops.more
-
-        others : (g : ℕ) → (n ≡ g → ⊥) → of_group g (items ++ after) ≡ of_group g (items ++ before)
-        others g ne = more g ∙ ap (λ (xs : List Captured). of_group g (items ++ before) ++ xs) (of_others n g pops.more pops.own ne) ∙ append-nil (of_group g (items ++ before))
-
   pub met_after : (configured : ℕ → Bool) (queues : List (Option QueueId)) → AreMet configured queues takers → IsMet configured n (get_or queues n None) new → AreMet configured queues (set takers n new)
   met_after configured queues met here = for_each (λ g t. IsMet configured g (get_or queues g None) t) here (λ g small ne. met g small)
-
-  pub drained_after : (from : ℕ) → ((g : ℕ) → from ≤ g → g < n → IsDrained (get_or takers g None)) → IsDrained new → (g : ℕ) → from ≤ g → g < n + 1 → IsDrained (get_or (set takers n new) g None)
-  drained_after from before here g high small = same_or_not g n
-      (λ e. subst (λ (m : ℕ). IsDrained (get_or (set takers n new) m None)) (sym e) (subst IsDrained (sym at_own) here))
-      (λ ne. subst IsDrained (sym (at_other g ne)) (before g high (omega (arith, small, ne))))
 
 -- what stands at an index doesn't hang on what would stand past the end
 pub no_default : {X : Type 0} (xs : List X) (i : ℕ) (d e : X) → i < length xs → get_or xs i d ≡ get_or xs i e

@@ -1,6 +1,5 @@
 -- What was replied at the desks of a session, in its history.
-use Rattle.std.proofs.Common.{◌≡◌, ◌≢◌, ◌⊎◌, inl, inr, ◌≤◌, ◌<◌, ◌++◌, ◌∷◌, ◌||◌, ℕ, Bool, true, false, true≢false, List, [], Option, Some, None, length, get_or, refl, sym, ap, ◌∙◌, subst, arith, append_assoc, append-nil}
-use Rattle.std.specs.List.{list_any}
+use Rattle.std.proofs.Common.{◌≡◌, ◌⊎◌, inl, inr, ◌≤◌, ◌<◌, ◌++◌, ◌∷◌, ◌||◌, ℕ, Bool, true, false, true≢false, List, [], None, length, get_or, refl, sym, ap, ◌∙◌, subst, arith, append_assoc, append-nil}
 use Rattle.std.proofs.lemmas.List.{length-append}
 use Rattle.std.proofs.lemmas.List.Folds.{list_any-append}
 use Rattle.vdr_history.specs.Histories.{Event, Opening}
@@ -24,7 +23,7 @@ use Rattle.vdr_session.specs.declared.records.Began.{Began}
 use Rattle.vdr_session.specs.declared.records.Began.TheVariants as starts
 use Rattle.vdr_session.specs.Answering.{AnswersMark}
 use Rattle.vdr_session.specs.Closed.{DesksRan}
-use Rattle.vdr_session.specs.Desks.{DeskReplied, DesksReplied, DesksTold, HasSpoken}
+use Rattle.vdr_session.specs.Desks.{DesksReplied, DesksTold, HasSpoken}
 use Rattle.vdr_session.specs.Ended.{EndsRun, IsToldAs, IsWithFailures}
 use Rattle.vdr_session.specs.Events.{event_of, events_along, events_of}
 use Rattle.vdr_session.specs.Marks.{has_missed, misses, taken_by, taken_in}

@@ -1,6 +1,6 @@
 -- A session, from what it left under its media and what its counters came to.
-use Rattle.std.proofs.Common.{◌≡◌, ◌≢◌, ◌⊎◌, inl, inr, ◌<◌, ◌≤◌, ◌+◌, ◌-◌, ◌++◌, ◌&&◌, ℕ, zero, suc, Bool, true, false, true≢false, List, [], ◌∷◌, All, Option, Some, None, length, get_or, is_some, if◌then◌else◌, count_by, ⊎_elim, refl, sym, ap, ◌∙◌, subst, arith, append-nil}
-use Rattle.std.specs.Prelude.{IfSome, sum}
+use Rattle.std.proofs.Common.{◌≡◌, ◌≢◌, ◌⊎◌, inl, inr, ◌<◌, ◌≤◌, ◌+◌, ◌-◌, ◌++◌, ◌&&◌, ℕ, zero, suc, Bool, true, false, true≢false, List, [], ◌∷◌, All, Option, Some, None, length, get_or, is_some, if◌then◌else◌, count_by, refl, sym, ap, ◌∙◌, subst, arith, append-nil}
+use Rattle.std.specs.Prelude.{IfSome}
 use Rattle.std.proofs.lemmas.Bool.{cases_Bool}
 use Rattle.std.proofs.lemmas.List.Elements.{All-head, All-nil, All-tail}
 use Rattle.vdr_terms.specs.declared.counts.Counts.{Counts}
@@ -23,7 +23,6 @@ use Rattle.vdr_core.specs.Law.{Admits}
 use Rattle.vdr_core.specs.Summary.{CloseAddsUp}
 use Rattle.vdr_core.proofs.RunSums.{close_adds_up}
 use Rattle.vdr_core.proofs.Feeding.{counts_path}
-use Rattle.vdr_durability.specs.Keeping.{IsWhole}
 use Rattle.vdr_durability.proofs.Whole.{whole_has_not_failed}
 use Rattle.vdr_intake.specs.Ends.{Feeding, QueueId, Taking, full_of}
 use Rattle.vdr_opening.specs.Settings.{settings_of}
@@ -47,9 +46,9 @@ use Rattle.vdr_session.specs.Events.{is_started, run_records, start_of}
 use Rattle.vdr_session.specs.Feeding.{LaneFed, LaneGave}
 use Rattle.vdr_session.specs.Lanes.{AllPopped, IsDrained, popped_by}
 use Rattle.vdr_session.specs.Marks.{has_fault, is_begun, taken_in}
-use Rattle.vdr_session.specs.Ran.{IsSetUp, LaneIsReady, PortRan, PortRests}
+use Rattle.vdr_session.specs.Ran.{IsSetUp, PortRan}
 use Rattle.vdr_session.specs.Sessions.{SessionWith, AccountBy, AreSums, CountsFull, HasGroups, KeepsSession, LaneTold, OutcomeMeans, RecordsAre, RecordsSession, Session, has_groups, is_closed, sums_of}
-use Rattle.vdr_session.specs.Standing.{MayBegin, StartMeans}
+use Rattle.vdr_session.specs.Standing.{StartMeans}
 use Rattle.vdr_session.specs.Summing.{KnowsFull, paired, summed}
 use Rattle.vdr_session.proofs.Closes.{closed_accounts, cut_accounts}
 use Rattle.vdr_session.proofs.Gathered.{gather}

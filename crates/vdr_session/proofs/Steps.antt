@@ -1,7 +1,6 @@
 -- A recorder under the latch after one more mark.
-use Rattle.std.proofs.Common.{◌≡◌, ◌≢◌, ◌⊎◌, inl, inr, ◌<◌, ◌≤◌, ◌+◌, ◌*◌, ◌/◌, ◌^◌, ◌++◌, ◌&&◌, ◌||◌, ℕ, Bool, true, false, true≢false, List, [], ◌∷◌, All, Option, Some, None, length, drop, filter, flat_map, is_some, cond, not, if◌then◌else◌, ⊎_elim, refl, sym, ap, ◌∙◌, subst, arith, append-nil, append_assoc}
+use Rattle.std.proofs.Common.{◌≡◌, ◌≢◌, ◌⊎◌, inl, inr, ◌<◌, ◌≤◌, ◌+◌, ◌*◌, ◌^◌, ◌++◌, ◌&&◌, ◌||◌, ℕ, Bool, true, false, true≢false, List, [], ◌∷◌, All, Option, Some, None, length, drop, filter, is_some, cond, not, if◌then◌else◌, ⊎_elim, refl, sym, ap, ◌∙◌, subst, arith, append-nil, append_assoc}
 use Rattle.std.specs.Prelude.{sum, Result, Ok, Err, OnOk, OnErr, IsErr, is_ok}
-use Rattle.std.specs.List.{list_any}
 use Rattle.std.proofs.lemmas.Bool.{cases_Bool, cond-false, cond-true}
 use Rattle.std.proofs.lemmas.Grind.{flat_map-append}
 use Rattle.std.proofs.lemmas.List.{length-append}
@@ -11,7 +10,7 @@ use Rattle.std.proofs.Math.Seq.{drop-append_seam}
 use Rattle.vdr_terms.specs.Counting.{next_number}
 use Rattle.vdr_terms.specs.Records.{Record}
 use Rattle.vdr_terms.specs.declared.rate.Rate.{Rate}
-use Rattle.vdr_history.specs.Histories.{Act, Event, Opening, recorded, records_of_act}
+use Rattle.vdr_history.specs.Histories.{Event, Opening, recorded, records_of_act}
 use Rattle.vdr_history.specs.Histories.Act.{Commit}
 use Rattle.vdr_history.specs.Recorder.{begun, recorder_after}
 use Rattle.vdr_history.specs.Runs.{RunStart}
@@ -20,8 +19,7 @@ use Rattle.vdr_history.specs.Taken.{Captured}
 use Rattle.vdr_core.proofs.Commits.{further_items}
 use Rattle.vdr_core.proofs.RecorderHistory.{inside_begins_none}
 use Rattle.vdr_config.specs.Configuration.{Configuration}
-use Rattle.vdr_pace.specs.Commits.{item_size}
-use Rattle.vdr_durability.specs.Keeping.{IsWhole, ShowsPrefix, moment_of}
+use Rattle.vdr_durability.specs.Keeping.{ShowsPrefix, moment_of}
 use Rattle.vdr_durability.proofs.Whole.{whole_has_not_failed}
 use Rattle.vdr_outside.specs.Causes.{NoneFalls, Rose}
 use Rattle.vdr_outside.specs.Disk.{Disk, Image, content}
@@ -34,7 +32,7 @@ use Rattle.vdr_recorder.proofs.Answering.{same_disk}
 use Rattle.vdr_recorder.proofs.Continuing.{has_moment, left_with}
 use Rattle.vdr_recorder.proofs.Looking.{look_done}
 use Rattle.vdr_session.specs.declared.mark.Did.{Did}
-use Rattle.vdr_session.specs.declared.mark.Did.TheVariants.{Begin, Take, Save, Release, Look}
+use Rattle.vdr_session.specs.declared.mark.Did.TheVariants.{Begin, Take, Look}
 use Rattle.vdr_session.specs.declared.mark.Mark.{Mark}
 use Rattle.vdr_session.specs.Events.{act_of, added_records, event_of, events_of, is_started, run_records, start_of}
 use Rattle.vdr_session.specs.Marks.{IsMarkOf, begins, has_missed, is_begun, is_leading, misses, taken_by, taken_in}
@@ -290,7 +288,7 @@ module _ {tells tells_images : Type 0} (before : Before) (began : Opening → �
   kept_by m after new now home fell stage told = record {
     rates_are = ap (λ (c : Configuration). c.groups) home.config ∙ k.rates_are;
     sixteen = k.sixteen;
-    room_is = ap (λ (c : Configuration). c.batch / item_size) home.config ∙ k.room_is;
+    room_is = ap (λ (c : Configuration). c.batch) home.config ∙ k.room_is;
     rings = home.rings;
     sizes_are = home.sizes ∙ k.sizes_are;
     elsewhere = λ told n ne ne1. home.elsewhere told n ne ne1 ∙ k.elsewhere told n ne ne1;
@@ -472,7 +470,7 @@ module _ {tells tells_images : Type 0} (before : Before) (began : Opening → �
       record { rings = k.rings; open_is = o.0; rates_are = k.rates_are; sixteen = k.sixteen; room_is = k.room_is; place = o.1.place; numbers = o.1.numbers }
 
   -- before any turn
-  pub first_kept : (r : RecordingState) (disk : Disk tells tells_images) (now : List ℕ) → (r.members.config.groups ≡ rates) × (r.members.config.batch / item_size ≡ room) × (length rates ≡ 16)
+  pub first_kept : (r : RecordingState) (disk : Disk tells tells_images) (now : List ℕ) → (r.members.config.groups ≡ rates) × (r.members.config.batch ≡ room) × (length rates ≡ 16)
       → r.members.config.channels ≡ before.channels → AreRings r.members disk.sizes → (r.is_open ≡ false) × (r.members.failed ≡ false) → disk.sizes ≡ sizes → now ≡ faults
       → (before.clock ≡ disk.clock) × ((i : Image) → disk.now i → before.now i) × ((t : ℕ) (i : Image) → disk.since t i → before.since t i) × (disk.reads ≡ before.reads)
       → ((opening : Opening) (t0 : ℕ) → began opening t0 → HasRecorded opening [] t0 r disk) → IsKept before began rates room sizes faults [] r disk now

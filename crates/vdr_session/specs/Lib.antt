@@ -1,5 +1,6 @@
 pub mod Marks
 pub mod Lanes
+pub mod Heads
 pub mod Events
 pub mod Joins
 pub mod Feeding

@@ -1,8 +1,9 @@
 -- The marks of a session: what each turn at the latch did.
-use Rattle.std.specs.Prelude.{◌≡◌, ◌≤◌, ◌++◌, ℕ, Bool, true, false, List, [], ◌∷◌, length, flat_map, All, ◌&&◌, is_some, not, Option, None, ◌⊎◌}
+use Rattle.std.specs.Prelude.{◌≡◌, ◌≤◌, ◌++◌, ℕ, Bool, true, false, List, [], ◌∷◌, flat_map, All, ◌&&◌, is_some, not, None, ◌⊎◌}
 use Rattle.std.specs.List.{list_any}
 use Rattle.vdr_history.specs.Taken.{Captured, of_group}
 use Rattle.vdr_intake.specs.Items.{IsRun}
+use Rattle.vdr_pace.specs.Commits.{items_size}
 use Rattle.vdr_session.specs.declared.mark.Did.{Did}
 use Rattle.vdr_session.specs.declared.mark.Did.TheVariants.{Begin, Take, Save, Release, Look, Miss}
 use Rattle.vdr_session.specs.declared.mark.Mark.{Mark}
@@ -61,10 +62,10 @@ misses Miss = true
 abbrev pub has_missed : List Mark → Bool
 has_missed marks = list_any (λ m. misses m.did) marks
 
--- Further items may be taken in a run in which these were: no more than a batch has room for, of configured groups, each behind those of
--- its group.
+-- Further items may be taken in a run in which these were: whose records fit a batch of so many bytes, of configured groups, each behind
+-- those of its group.
 pub record MayTake (room : ℕ) (configured : ℕ → Bool) (popped items : List Captured) : Type 0 where
-  pub few : length items ≤ room
+  pub short : items_size items ≤ room
   pub known : All (λ c. configured c.group ≡ true) (popped ++ items)
   pub runs : (g : ℕ) → IsRun g [] (of_group g (popped ++ items))
 

@@ -1,7 +1,7 @@
 -- What a session of recording leaves, at each moment and in the end: one history, in which each datagram that a port gave, that found room in its
 -- queue and that the rate admits is once, in its port's order, and each other one is counted in a Gap; and media that keep this history
 -- (this project's profile; IEC 61996-1 and IMO MSC.333(90) for the windows that the media keep).
-use Rattle.std.specs.Prelude.{◌≡◌, ◌≢◌, ◌≤◌, ◌<◌, ◌++◌, ◌⊎◌, ◌&&◌, ℕ, Bool, true, false, List, [], length, get_or, slice_index_or, sum, Option, Some, None, is_some, ⊤}
+use Rattle.std.specs.Prelude.{◌≡◌, ◌≢◌, ◌<◌, ◌++◌, ◌⊎◌, ◌&&◌, ℕ, Bool, true, false, List, [], length, get_or, sum, Option, Some, None, is_some, ⊤}
 use Rattle.vdr_terms.specs.declared.counts.Counts.{Counts}
 use Rattle.vdr_terms.specs.declared.rate.Rate.{Rate}
 use Rattle.vdr_terms.specs.Records.{Item, Record}

@@ -1,12 +1,11 @@
 -- A recorder under the latch, after these marks.
-use Rattle.std.specs.Prelude.{◌≡◌, ◌≢◌, ◌≤◌, ◌<◌, ◌⊎◌, ◌+◌, ◌*◌, ◌/◌, ◌^◌, ℕ, Bool, true, false, List, [], ◌∷◌, length, cond, sum, All, Option, None, ⊤}
+use Rattle.std.specs.Prelude.{◌≡◌, ◌≢◌, ◌≤◌, ◌<◌, ◌⊎◌, ◌+◌, ◌*◌, ◌^◌, ℕ, Bool, true, false, List, [], length, cond, sum, All, Option, None, ⊤}
 use Rattle.vdr_terms.specs.Counting.{next_number}
 use Rattle.vdr_history.specs.Histories.{Event, Opening, recorded}
 use Rattle.vdr_history.specs.RunStates.{next_start, state_left}
 use Rattle.vdr_history.specs.Runs.{base_after}
 use Rattle.vdr_terms.specs.declared.rate.Rate.{Rate}
 use Rattle.vdr_config.specs.Configuration.{Selector}
-use Rattle.vdr_pace.specs.Commits.{item_size}
 use Rattle.vdr_durability.specs.Keeping.{ShowsPrefix, moment_of}
 use Rattle.vdr_history.specs.Taken.{Captured}
 use Rattle.vdr_outside.specs.Causes.{NoneFalls, Rose}
@@ -16,7 +15,6 @@ use Rattle.vdr_vault.specs.Vaults.{AreRings, ShowsHistory}
 use Rattle.vdr_recorder.specs.Making.{counted_of, numbers_of}
 use Rattle.vdr_recorder.specs.Recordings.{HasRecorded, RecordingState}
 use Rattle.vdr_session.specs.declared.mark.Mark.{Mark}
-use Rattle.vdr_session.specs.declared.mark.Did.{Did}
 use Rattle.vdr_session.specs.declared.mark.Did.TheVariants.{Begin, Take, Look}
 use Rattle.vdr_session.specs.declared.records.Began.{Began}
 use Rattle.vdr_session.specs.declared.records.Began.TheVariants.{Begun, Place, Tick, Fault}
@@ -74,7 +72,7 @@ module _ {tells tells_images : Type 0} where
   pub record IsKept (before : Before) (began : Opening → ℕ → Type 0) (rates : List (Option Rate)) (room : ℕ) (sizes faults : List ℕ) (marks : List Mark) (r : RecordingState) (disk : Disk tells tells_images) (now : List ℕ) : Type 0 where
     pub rates_are : r.members.config.groups ≡ rates
     pub sixteen : length rates ≡ 16
-    pub room_is : r.members.config.batch / item_size ≡ room
+    pub room_is : r.members.config.batch ≡ room
     pub rings : AreRings r.members disk.sizes
     pub sizes_are : disk.sizes ≡ sizes
     pub elsewhere : tells → SameElsewhere before.reads disk.reads
@@ -91,7 +89,7 @@ module _ {tells tells_images : Type 0} where
     pub open_is : r.is_open ≡ true
     pub rates_are : r.members.config.groups ≡ rates
     pub sixteen : length rates ≡ 16
-    pub room_is : r.members.config.batch / item_size ≡ room
+    pub room_is : r.members.config.batch ≡ room
     pub place : r.maker.place ≤ 2 ^ 62 + 2 * length popped
     pub numbers : (g : ℕ) → g < 16 → next_number (counted_of r.maker g).pending ≤ numbers_of g popped
 

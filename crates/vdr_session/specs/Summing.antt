@@ -1,5 +1,5 @@
 -- What a session's counters come to.
-use Rattle.std.specs.Prelude.{◌≡◌, ◌≤◌, ◌<◌, ℕ, List, length, Option, Some, None, IfSome}
+use Rattle.std.specs.Prelude.{◌≤◌, ◌<◌, ℕ, List, length, Option, Some, None, IfSome}
 use Rattle.vdr_terms.specs.Counting.{Tally}
 use Rattle.vdr_history.specs.Recorder.{recorder_after}
 use Rattle.vdr_history.specs.Runs.{RunStart}

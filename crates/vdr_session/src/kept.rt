@@ -35,7 +35,7 @@ pub(crate) trait Lent {
     /// The configured channels.
     ghost channels: { List Selector };
 
-    /// The rates of the configured groups, and how many items a batch may have.
+    /// The rates of the configured groups, and how many bytes a batch may have.
     ghost rates: { List (Option Rate) };
 
     ghost room: { ℕ };

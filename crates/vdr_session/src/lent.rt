@@ -3,10 +3,10 @@ ghost use Rattle.std.specs.Prelude.{◌≡◌, ◌≤◌, ◌<◌, ◌/◌, ◌^
 ghost use Rattle.vdr_terms.specs.Rates.{is_configured};
 ghost use Rattle.vdr_config.specs.Sizes.{limits_in};
 ghost use Rattle.vdr_history.specs.Histories.{Opening};
-ghost use Rattle.vdr_pace.specs.Commits.{item_size};
 ghost use Rattle.vdr_vault.specs.Vaults.{AreRings};
 ghost use Rattle.vdr_recorder.specs.Recordings.{HasRecorded};
 ghost use Rattle.vdr_outside.specs.Disk.{Image};
+ghost use Rattle.vdr_pace.specs.Commits.{largest_item, least_item};
 ghost use Rattle.vdr_intake.specs.Items.{most_items};
 ghost use Rattle.vdr_session.specs.declared.mark.Mark.{Mark as Marked};
 ghost use Rattle.vdr_session.specs.Answering.{AnswersMark};
@@ -60,7 +60,7 @@ pub(crate) fn record_lent<
     requires name { O.name ≡ media.ghost_name }
     requires began { (opening : Opening) (t0 : ℕ) → O.began opening t0 → HasRecorded opening [] t0 recording (M.disk media.old) }
     requires before { (O.clock ≡ (M.disk media.old).clock) × ((i : Image) → (M.disk media.old).now i → O.now i) × ((t : ℕ) (i : Image) → (M.disk media.old).since t i → O.since t i) × ((M.disk media.old).reads ≡ O.reads) }
-    requires config { (recording.members.config.groups ≡ O.rates) × (recording.members.config.batch / item_size ≡ O.room) × (length O.rates ≡ 16) }
+    requires config { (recording.members.config.groups ≡ O.rates) × (recording.members.config.batch ≡ O.room) × (length O.rates ≡ 16) }
     requires channels { recording.members.config.channels ≡ O.channels }
     requires rings { AreRings recording.members (M.disk media.old).sizes }
     requires new { (recording.is_open ≡ false) × (recording.members.failed ≡ false) }
@@ -70,7 +70,7 @@ pub(crate) fn record_lent<
     requires desks { length desks.old < 2 ^ 32 }
     requires sixteen { length lanes.old ≡ 16 }
     requires ready { (g : ℕ) (d : _) → g < 16 → LaneIsReady (λ g. is_configured (limits_in O.rates g)) g (get_or queues.now g None) (get_or takers.old g None) (slice_index_or lanes.old g d) }
-    requires room { (0 < room) × (room ≤ O.room) × (room ≤ vec_capacity batch.old.items) }
+    requires room { (largest_item ≤ room) × (room ≤ O.room) × (room / least_item ≤ vec_capacity batch.old.items) }
     requires empty { batch.old.items.items ≡ [] }
     ensures same { result.0.ghost_name ≡ media.entry.ghost_name }
     ensures closed { IfSome result.1 (λ r. (marks : List Marked)

@@ -7,6 +7,7 @@ mod batch;
 mod done;
 mod ending;
 mod fork;
+mod heads;
 mod joining;
 mod kept;
 mod lent;

@@ -1,5 +1,6 @@
 // The memory of a session, before it begins.
-ghost use Rattle.std.specs.Prelude.{◌≡◌, ◌≤◌, ◌<◌, ℕ, [], None, OnOk, IfOk, length, replicate, vec_capacity, get_or, slice_index_or, false};
+ghost use Rattle.std.specs.Prelude.{◌≡◌, ◌≤◌, ◌<◌, ◌/◌, ℕ, [], None, OnOk, IfOk, length, replicate, vec_capacity, get_or, slice_index_or, false};
+ghost use Rattle.vdr_pace.specs.Commits.{least_item};
 ghost use Rattle.vdr_session.specs.Ran.{IsSetUp, LaneIsReady};
 
 use crate::batch::Batch;
@@ -8,6 +9,7 @@ use std::alloc::Global;
 use vdr_capture::Lane;
 use vdr_gap::Tally;
 use vdr_intake::{Intake, NoMemory, Taker};
+use vdr_recorder::LEAST_ITEM;
 
 // Sets the lane of a group anew, with a queue of its own where the group is configured.
 fn set_up_one<P>(
@@ -96,7 +98,7 @@ impl Memory {
         ensures set_up { IfOk result (λ m. (g : ℕ) (d : _) → g < 16
             → IsSetUp (get_or plan.now.configured g false) g plan.now.capacity (get_or m.queues g None) (get_or m.takers g None) (slice_index_or lanes.old g d) (slice_index_or lanes.new g d)) }
         ensures same { (g : ℕ) (d : _) → g < 16 → (slice_index_or lanes.new g d).port ≡ (slice_index_or lanes.old g d).port }
-        ensures batch { IfOk result (λ m. (m.batch.items.items ≡ []) × (plan.now.room ≤ vec_capacity m.batch.items)) }
+        ensures batch { IfOk result (λ m. (m.batch.items.items ≡ []) × (plan.now.room / least_item ≤ vec_capacity m.batch.items)) }
         ensures sixteen { IfOk result (λ m. (length m.queues ≡ 16) × (length m.takers ≡ 16)) }
     {
         let mut queues = none();
@@ -109,7 +111,7 @@ impl Memory {
             &mut queues,
             &mut takers,
         )?;
-        let Ok(items) = Vec::with_capacity(alloc, plan.room) else {
+        let Ok(items) = Vec::with_capacity(alloc, plan.room / LEAST_ITEM) else {
             return Err(NoMemory);
         };
         Ok(Memory {

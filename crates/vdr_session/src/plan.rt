@@ -1,13 +1,10 @@
-ghost use Rattle.std.specs.Prelude.{◌≡◌, ◌≤◌, ◌<◌, ◌/◌, ℕ, false, length, get_or};
+ghost use Rattle.std.specs.Prelude.{◌≡◌, ◌≤◌, ◌<◌, ℕ, false, length, get_or};
 ghost use Rattle.vdr_terms.specs.Rates.{is_configured};
 ghost use Rattle.vdr_config.specs.Configuration.{IsConfiguration};
 ghost use Rattle.vdr_config.specs.Sizes.{limits_in};
-ghost use Rattle.vdr_pace.specs.Commits.{item_size};
+ghost use Rattle.vdr_pace.specs.Commits.{largest_item};
 
 use vdr_config::Config;
-
-/// The most bytes that the records of one item take: a Gap of 84, and a Datagram of 44 and the longest datagram.
-const ITEM_SIZE: usize = 1600;
 
 /// What a session needs of a configuration.
 #[derive(Drop)]
@@ -16,7 +13,7 @@ pub(crate) struct Plan {
     pub configured: [bool; 16],
     /// How many items each queue has room for.
     pub capacity: u32,
-    /// How many items a batch may have.
+    /// How many bytes a batch may have.
     pub room: usize,
 }
 
@@ -26,7 +23,7 @@ impl Plan {
         ensures sixteen { length result.configured ≡ 16 }
         ensures configured { (g : ℕ) → g < 16 → get_or result.configured g false ≡ is_configured (limits_in config.now.groups g) }
         ensures capacity { (result.capacity ≡ config.now.queue) × (0 < result.capacity) × (result.capacity ≤ 65536) }
-        ensures room { (result.room ≡ config.now.batch / item_size) × (0 < result.room) }
+        ensures room { (result.room ≡ config.now.batch) × (largest_item ≤ result.room) }
     {
         let mut configured = [false; 16];
         for group in 0..16 {
@@ -35,7 +32,7 @@ impl Plan {
         Plan {
             configured,
             capacity: config.queue,
-            room: config.batch as usize / ITEM_SIZE,
+            room: config.batch as usize,
         }
     }
 }

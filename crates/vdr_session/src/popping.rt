@@ -1,11 +1,13 @@
-// Popping the queues.
-ghost use Rattle.std.specs.Prelude.{◌≡◌, ◌≤◌, ◌<◌, ◌⊎◌, ◌∷◌, ◌++◌, ℕ, Bool, List, [], true, false, None, get_or, length, vec_len, vec_capacity};
-ghost use Rattle.vdr_history.specs.Taken.{Captured as CapturedTold};
+// Popping the queue of one group.
+ghost use Rattle.std.specs.Prelude.{◌≡◌, ◌≤◌, ◌<◌, ◌∷◌, ◌++◌, ℕ, Bool, List, [], true, None, Some, vec_len, vec_capacity};
+ghost use Rattle.vdr_pace.specs.Commits.{items_size};
 ghost use Rattle.vdr_intake.specs.Items.{IsRun};
-ghost use Rattle.vdr_session.specs.Lanes.{AllPopped, AreDrained, AreMet, ArePopped, HasPopped, IsDrained, IsFront, IsMet, Pops, StayJoined};
+ghost use Rattle.vdr_session.specs.Heads.{Steps};
+ghost use Rattle.vdr_session.specs.Lanes.{AllPopped, HasPopped, IsDrained, IsFront, IsMet, Pops, held};
 
 use std::sync::Wait;
 use vdr_intake::{Captured, Intake, Taker};
+use vdr_recorder::LEAST_ITEM;
 
 // Adds an item to a batch that has room for it.
 fn push(batch: &mut Vec<Captured>, item: Captured)
@@ -16,99 +18,74 @@ fn push(batch: &mut Vec<Captured>, item: Captured)
     let _ = batch.push(item);
 }
 
-/// Pops what is queued, as far as the batch has room. Says whether the queue was found empty.
-pub(crate) fn pop_group<R: Wait>(
-    rt: &R,
-    queue: &Intake,
-    taker: &mut Taker,
-    batch: &mut Vec<Captured>,
-    room: usize,
-) -> bool
+/// How many bytes of a batch the held item takes at most: those of a Gap and of its Datagram.
+pub(crate) fn size_of(head: &Option<Captured>) -> usize
+    ensures { result ≡ items_size (held head.now) }
+{
+    match head {
+        Some(item) => LEAST_ITEM + item.bytes.len(),
+        None => 0,
+    }
+}
+
+// Pops the oldest item of the queue.
+fn pop_group<R: Wait>(rt: &R, queue: &Intake, taker: &mut Taker) -> Option<Captured>
     requires queue { taker.old.queue ≡ queue.now }
     requires run { IsRun queue.now.group [] taker.old.popped }
     requires front { IsFront taker.old.popped taker.old.joined }
-    requires space { (length batch.old.items ≤ room) × (room ≤ vec_capacity batch.old) }
-    ensures popped { HasPopped queue.now.group taker.old taker.new batch.old.items batch.new.items }
-    ensures space { (length batch.new.items ≤ room) × (room ≤ vec_capacity batch.new) }
-    ensures empty { result ≡ true → AllPopped taker.new.popped taker.new.joined }
+    ensures popped { HasPopped queue.now.group taker.old taker.new result }
+    ensures empty { result ≡ None → AllPopped taker.new.popped taker.new.joined }
 {
-    while batch.len() < room {
-        match queue.next(rt, taker) {
-            Some(item) => push(batch, item),
-            None => return true,
-        }
-    }
-    false
+    queue.next(rt, taker)
 }
 
 // The same of the queue of group g, where there is one.
-fn pop_of<R: Wait>(
+fn pop_of<R: Wait>(rt: &R, queue: &Option<Intake>, taker: &mut Option<Taker>) -> Option<Captured>
+    requires met { (configured : ℕ → Bool) × (g : ℕ) × IsMet configured g queue.now taker.old }
+    ensures pops { (configured : ℕ → Bool) (g : ℕ) → IsMet configured g queue.now taker.old → Pops configured g queue.now taker.old taker.new result }
+    ensures empty { result ≡ None → IsDrained taker.new }
+{
+    match (queue, taker) {
+        (Some(queue), Some(taker)) => pop_group(rt, queue, taker),
+        _ => None,
+    }
+}
+
+/// Holds the oldest item of the queue of group g, where none is held. Says whether none is held then: the queue was found empty.
+pub(crate) fn hold<R: Wait>(
     rt: &R,
     queue: &Option<Intake>,
     taker: &mut Option<Taker>,
-    batch: &mut Vec<Captured>,
-    room: usize,
+    head: &mut Option<Captured>,
 ) -> bool
     requires met { (configured : ℕ → Bool) × (g : ℕ) × IsMet configured g queue.now taker.old }
-    requires space { (length batch.old.items ≤ room) × (room ≤ vec_capacity batch.old) }
-    ensures pops { (configured : ℕ → Bool) (g : ℕ) → IsMet configured g queue.now taker.old → Pops configured g queue.now taker.old taker.new batch.old.items batch.new.items }
-    ensures space { (length batch.new.items ≤ room) × (room ≤ vec_capacity batch.new) }
-    ensures empty { result ≡ true → IsDrained taker.new }
+    ensures steps { (configured : ℕ → Bool) (g : ℕ) → IsMet configured g queue.now taker.old → Steps configured g queue.now taker.old taker.new head.old head.new [] }
+    ensures none { result ≡ true → (head.new ≡ None) × IsDrained taker.new }
 {
-    match (queue, taker) {
-        (Some(queue), Some(taker)) => pop_group(rt, queue, taker, batch, room),
-        _ => true,
+    if head.is_some() {
+        return false;
     }
+    *head = pop_of(rt, queue, taker);
+    head.is_none()
 }
 
-// Pops the queues of the groups from one to below another, in their order, as far as the batch has room. Says whether each was found empty.
-fn pop_groups<R: Wait>(
+/// Moves the item that is held of group g to the batch, and holds the next one of its queue.
+pub(crate) fn take<R: Wait>(
     rt: &R,
-    queues: &[Option<Intake>; 16],
-    takers: &mut [Option<Taker>; 16],
+    queue: &Option<Intake>,
+    taker: &mut Option<Taker>,
+    head: &mut Option<Captured>,
     batch: &mut Vec<Captured>,
-    room: usize,
-    from: usize,
-    to: usize,
-) -> bool
-    requires met { (configured : ℕ → Bool) × AreMet configured queues.now takers.old }
-    requires space { (length batch.old.items ≤ room) × (room ≤ vec_capacity batch.old) }
-    requires groups { (from ≤ to) × (to ≤ 16) }
-    ensures met { (configured : ℕ → Bool) → AreMet configured queues.now takers.old → AreMet configured queues.now takers.new }
-    ensures popped { (items : List CapturedTold) → ArePopped (items ++ batch.old.items) takers.old → ArePopped (items ++ batch.new.items) takers.new }
-    ensures joined { StayJoined takers.old takers.new }
-    ensures space { (length batch.new.items ≤ room) × (room ≤ vec_capacity batch.new) }
-    ensures empty { result ≡ true → (g : ℕ) → from ≤ g → g < to → IsDrained (get_or takers.new g None) }
-    ensures others { (g : ℕ) → (g < from) ⊎ (to ≤ g) → get_or takers.new g None ≡ get_or takers.old g None }
-    ensures sixteen { length takers.new ≡ 16 }
+)
+    requires met { (configured : ℕ → Bool) × (g : ℕ) × IsMet configured g queue.now taker.old }
+    requires space { vec_len batch.old < vec_capacity batch.old }
+    ensures steps { (configured : ℕ → Bool) (g : ℕ) → IsMet configured g queue.now taker.old → Steps configured g queue.now taker.old taker.new head.old head.new (held head.old) }
+    ensures batch { batch.new.items ≡ batch.old.items ++ held head.old }
+    ensures space { vec_capacity batch.old ≤ vec_capacity batch.new }
 {
-    let mut empty = true;
-    for group in from..to {
-        empty &= pop_of(rt, &queues[group], &mut takers[group], batch, room);
+    let next = pop_of(rt, queue, taker);
+    match std::mem::replace(head, next) {
+        Some(item) => push(batch, item),
+        None => {}
     }
-    empty
-}
-
-/// Pops the queues of all groups, from the first on and round to it, as far as the batch has room. Says whether each was found empty.
-pub(crate) fn pop_all<R: Wait>(
-    rt: &R,
-    queues: &[Option<Intake>; 16],
-    takers: &mut [Option<Taker>; 16],
-    batch: &mut Vec<Captured>,
-    room: usize,
-    first: usize,
-) -> bool
-    requires met { (configured : ℕ → Bool) × AreMet configured queues.now takers.old }
-    requires space { (length batch.old.items ≤ room) × (room ≤ vec_capacity batch.old) }
-    requires first { first < 16 }
-    ensures met { (configured : ℕ → Bool) → AreMet configured queues.now takers.old → AreMet configured queues.now takers.new }
-    ensures popped { (items : List CapturedTold) → ArePopped (items ++ batch.old.items) takers.old → ArePopped (items ++ batch.new.items) takers.new }
-    ensures joined { StayJoined takers.old takers.new }
-    ensures space { (length batch.new.items ≤ room) × (room ≤ vec_capacity batch.new) }
-    ensures empty { result ≡ true → AreDrained takers.new }
-    ensures sixteen { length takers.new ≡ 16 }
-{
-    let late = pop_groups(rt, queues, takers, batch, room, first, 16);
-    let early = pop_groups(rt, queues, takers, batch, room, 0, first);
-    late && early
 }

@@ -1,15 +1,17 @@
 // The recorder's loop.
-ghost use Rattle.std.specs.Prelude.{◌≡◌, ◌≤◌, ◌<◌, ◌++◌, ℕ, List, [], true, false, length, vec_capacity};
+ghost use Rattle.std.specs.Prelude.{◌≡◌, ◌≤◌, ◌<◌, ◌/◌, ◌++◌, ℕ, List, [], true, false, length, vec_capacity};
 ghost use mathlib.Core.List.{IsPrefix};
 ghost use Rattle.vdr_history.specs.Taken.{Captured as CapturedTold};
+ghost use Rattle.vdr_pace.specs.Commits.{largest_item, least_item};
 ghost use Rattle.vdr_session.specs.declared.mark.Mark.{Mark as Marked};
 ghost use Rattle.vdr_session.specs.Lanes.{AreDrained, AreMet, ArePopped, StayJoined};
 ghost use Rattle.vdr_session.specs.Marks.{is_begun, is_leading, has_fault, taken_in};
 
 use crate::batch::Batch;
 use crate::done::Done;
+use crate::heads::{fill, hold_all};
+use crate::making::none;
 use crate::mark::Mark;
-use crate::popping::pop_all;
 use crate::records::Records;
 use std::sync::Wait;
 use vdr_intake::{Intake, Taker};
@@ -18,8 +20,8 @@ use vdr_latch::{Latch, LatchPass};
 /// Pops what is queued and takes it into the run, a batch in each turn at the latch. It ends once it has read that the captures are done and
 /// has then found every queue empty, or once the media have failed. Says whether they still work.
 ///
-/// Each round begins at the group after that of the round before, so that a busy group keeps none waiting for good. A round that found
-/// nothing is followed by a short sleep.
+/// Of each queue the oldest item is held, and the one that was received first goes to the batch, so that all groups are recorded in the
+/// order in which they were received. A round that found nothing is followed by a short sleep.
 pub(crate) fn record_queued<T: Records, R: Wait>(
     rt: &R,
     latch: &Latch<T>,
@@ -36,7 +38,7 @@ pub(crate) fn record_queued<T: Records, R: Wait>(
     requires takes { (history : List Marked) (x : T) → T.leaves history x → is_begun history ≡ true → T.takes (taken_in history) x }
     requires met { AreMet T.configured queues.now takers.old }
     requires popped { ArePopped (taken_in pass.old.own) takers.old }
-    requires room { (0 < room) × (room ≤ T.room) × (room ≤ vec_capacity batch.old.items) }
+    requires room { (largest_item ≤ room) × (room ≤ T.room) × (room / least_item ≤ vec_capacity batch.old.items) }
     requires empty { batch.old.items.items ≡ [] }
     ensures pass { (pass.new.latch ≡ pass.old.latch) × (pass.new.parts ≡ pass.old.parts) × (pass.new.leads ≡ true) × (is_begun pass.new.own ≡ true) }
     ensures seen { IsPrefix pass.old.seen pass.new.seen }
@@ -46,20 +48,19 @@ pub(crate) fn record_queued<T: Records, R: Wait>(
     ensures fails { result ≡ false → has_fault pass.new.seen ≡ true }
     ensures drained { result ≡ true → AreDrained takers.new }
     ensures sixteen { length takers.new ≡ 16 }
-    ensures room { room ≤ vec_capacity batch.new.items }
+    ensures room { room / least_item ≤ vec_capacity batch.new.items }
     ensures empty { batch.new.items.items ≡ [] }
 {
-    let mut first = 0;
+    let mut heads = none();
     for _ in rt.forever() {
         let last = done.is_set();
-        let empty = pop_all(rt, queues, takers, &mut batch.items, room, first);
-        first = (first + 1) % 16;
-        if batch.items.is_empty() {
-            if last && empty {
+        if hold_all(rt, queues, takers, &mut heads) {
+            if last {
                 return true;
             }
             done.sleep(rt);
         } else {
+            fill(rt, queues, takers, &mut heads, &mut batch.items, room);
             latch.turn::<Batch, R>(rt, pass, batch);
             batch.items.clear();
             if !batch.works {

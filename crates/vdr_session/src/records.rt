@@ -26,7 +26,7 @@ pub enum Began {
 
 /// A recorder that lies under the latch.
 pub(crate) trait Records: Stepped<Event = Mark> {
-    /// How many items a batch may have.
+    /// How many bytes a batch may have.
     ghost room: { ℕ };
 
     /// Which groups are configured.

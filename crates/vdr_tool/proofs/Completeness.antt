@@ -8,13 +8,14 @@ use Rattle.vdr_feed.specs.Law.{NoFeedIsRefused, OneRefusal}
 use Rattle.vdr_review.specs.Review.{most_items, IfReviewed}
 use Rattle.vdr_config.specs.Configuration.{Configuration}
 use Rattle.vdr_config.specs.Grammar.{configuration}
-use Rattle.vdr_tool.specs.Check.{IfChecked, RefusesConfig, number_of}
+use Rattle.vdr_tool.specs.Check.{IfChecked}
+use Rattle.vdr_command.specs.Refusals.{RefusesConfig, number_of}
 use Rattle.vdr_tool.specs.Checks.{ChecksAll, IsCheckStatus}
-use Rattle.vdr_tool.specs.Outside.{OutputSeen}
+use Rattle.vdr_command.specs.Outside.{OutputSeen}
 use Rattle.vdr_tool.specs.Reviews.{IsReviewStatus, ReviewsAll}
-use Rattle.vdr_tool.specs.StatusLine.{IfFeed}
-use Rattle.vdr_tool.specs.declared.status.Status.{Status}
-use Rattle.vdr_tool.specs.declared.status.Status.TheVariants.{Done, Words, Config, Small, Unformatted, Formatted, Damaged, MediaFault, PortFault, LinkFault, InputFault, OutputFault, NoMemory, Feed, NoChannel, NoIncident, SaveRefused, Place, Tick}
+use Rattle.vdr_command.specs.StatusLine.{IfFeed}
+use Rattle.vdr_command.specs.declared.status.Status.{Status}
+use Rattle.vdr_command.specs.declared.status.Status.TheVariants.{Done, Words, Config, Small, Unformatted, Formatted, Damaged, MediaFault, PortFault, LinkFault, InputFault, OutputFault, NoMemory, Feed, NoChannel, NoIncident, SaveRefused, Place, Tick, ExportKind, ExportNothing, ExportMixed, ExportLong, ExportPart}
 use Rattle.vdr_tool.proofs.FormatLemmas.{same_refusal}
 
 pub completes : (left : Option (List ℕ)) (status : Status) → IsReviewStatus status → NoFeedIsRefused → OneRefusal
@@ -39,6 +40,11 @@ completes (Some bytes) (PortFault group) own none one input output done feed = a
 completes (Some bytes) (LinkFault link) own none one input output done feed = absurd own
 completes (Some bytes) (SaveRefused cause) own none one input output done feed = absurd own
 completes (Some bytes) Tick own none one input output done feed = absurd own
+completes (Some bytes) ExportKind own none one input output done feed = absurd own
+completes (Some bytes) ExportNothing own none one input output done feed = absurd own
+completes (Some bytes) (ExportMixed place) own none one input output done feed = absurd own
+completes (Some bytes) ExportLong own none one input output done feed = absurd own
+completes (Some bytes) (ExportPart number) own none one input output done feed = absurd own
 completes (Some bytes) MediaFault own none one input output done feed = absurd own
 completes (Some bytes) InputFault own none one input output done feed = absurd (input refl)
 completes (Some bytes) OutputFault own none one input output done feed = absurd (output refl)
@@ -71,6 +77,11 @@ checks_all (Some bytes) was next (PortFault group) own input output done config 
 checks_all (Some bytes) was next (LinkFault link) own input output done config = absurd own
 checks_all (Some bytes) was next (SaveRefused cause) own input output done config = absurd own
 checks_all (Some bytes) was next Tick own input output done config = absurd own
+checks_all (Some bytes) was next ExportKind own input output done config = absurd own
+checks_all (Some bytes) was next ExportNothing own input output done config = absurd own
+checks_all (Some bytes) was next (ExportMixed place) own input output done config = absurd own
+checks_all (Some bytes) was next ExportLong own input output done config = absurd own
+checks_all (Some bytes) was next (ExportPart number) own input output done config = absurd own
 checks_all (Some bytes) was next MediaFault own input output done config = absurd own
 checks_all (Some bytes) was next InputFault own input output done config = absurd (input refl)
 checks_all (Some bytes) was next OutputFault own input output done config = absurd (output refl)

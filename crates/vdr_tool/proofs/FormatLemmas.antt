@@ -1,6 +1,6 @@
 -- What `format` answers, from what the call on the media ensures.
 use Rattle.std.specs.Prelude.{Bool, true, false, IsOk, IsErrOf, All, ⊤}
-use Rattle.std.proofs.Common.{◌≡◌, ◌⊎◌, inl, inr, ℕ, List, Option, Some, None, Result, Ok, Err, refl, sym, ap, subst, arith, ◌∙◌}
+use Rattle.std.proofs.Common.{◌≡◌, ◌⊎◌, inl, inr, ℕ, List, Option, Some, None, Result, Ok, Err, refl, sym, ap, subst, ◌∙◌}
 use Rattle.std.proofs.lemmas.List.Elements.{All-weaker}
 use Rattle.vdr_outside.specs.Disk.{Image, Durable, Unchanged, content}
 use Rattle.vdr_outside.specs.Moments.{AtEachMoment, Settled}
@@ -15,12 +15,13 @@ use Rattle.vdr_media.specs.Formatting.{FormatsAtEachMoment}
 use Rattle.vdr_media.specs.Medium.{IsEmptyMedium}
 use Rattle.vdr_media.specs.declared.refused.FormatRefused.{FormatRefused}
 use Rattle.vdr_media.specs.declared.refused.FormatRefused.TheVariants as refusal
-use Rattle.vdr_tool.specs.Check.{RefusesConfig, number_of}
+use Rattle.vdr_command.specs.Refusals.{RefusesConfig, number_of}
+use Rattle.vdr_vault.proofs.OpenMoments.{never_both}
 use Rattle.vdr_tool.specs.Formats.{FormatEnds, FormatsAll, IfBad, IfConfiguration, status_of}
-use Rattle.vdr_tool.specs.Outside.{MediaFailed, MediaSeen, OutputSeen}
-use Rattle.vdr_tool.specs.StatusLine.{IfConfig}
-use Rattle.vdr_tool.specs.declared.status.Status.{Status}
-use Rattle.vdr_tool.specs.declared.status.Status.TheVariants.{Done, Words, Config, Small, Unformatted, Formatted, Damaged, MediaFault, PortFault, LinkFault, InputFault, OutputFault, NoMemory, Feed, NoChannel, NoIncident, SaveRefused, Place, Tick}
+use Rattle.vdr_command.specs.Outside.{MediaFailed, MediaSeen, OutputSeen}
+use Rattle.vdr_command.specs.StatusLine.{IfConfig}
+use Rattle.vdr_command.specs.declared.status.Status.{Status}
+use Rattle.vdr_command.specs.declared.status.Status.TheVariants.{Done, Words, Config, Small, Unformatted, Formatted, Damaged, MediaFault, PortFault, LinkFault, InputFault, OutputFault, NoMemory, Feed, NoChannel, NoIncident, SaveRefused, Place, Tick, ExportKind, ExportNothing, ExportMixed, ExportLong, ExportPart}
 
 -- The configuration that a text is.
 pub read_as : (r : Result Configuration ConfigBad) → IsOk r → (c : Configuration) × (r ≡ Ok c)
@@ -41,7 +42,7 @@ ok_of other (Ok c) = c
 ok_of other (Err bad) = other
 
 -- A text is one configuration.
-one_configuration : (r : Result Configuration ConfigBad) (c d : Configuration) → r ≡ Ok c → r ≡ Ok d → c ≡ d
+pub one_configuration : (r : Result Configuration ConfigBad) (c d : Configuration) → r ≡ Ok c → r ≡ Ok d → c ≡ d
 unfolding ok_of
 one_configuration r c d is also = ap (ok_of c) (sym is ∙ also)
 
@@ -199,14 +200,9 @@ module _ {tells tells_images : Type 0} (again : Bool) (left : Option (List ℕ))
         leaves = λ either rest. (text, done_moments (moments rest));
       }
 
--- Media are not both.
-pub not_both : (image : Image) → IsFormatted image → IsUnformatted image → ⊥
-not_both image is (inl short) = omega (arith, is.room, short)
-not_both image is (inr closed) = closed is.gate
-
 not_again : (again : Bool) (image : Image) → (again ≡ true) ⊎ IsUnformatted image → again ≡ false → IsFormatted image → ⊥
 not_again again image (inl told) first is = let clash : true ≡ false = sym told ∙ first in cc
-not_again again image (inr un) first is = not_both image is un
+not_again again image (inr un) first is = never_both image is un
 
 -- By exclusion: what may be formatted is, and what may not is refused by its own refusal.
 module _ {tells tells_images : Type 0} (again : Bool) (bytes : List ℕ) (old new : MediaSeen tells tells_images) (told : tells) where
@@ -230,7 +226,7 @@ module _ {tells tells_images : Type 0} (again : Bool) (bytes : List ℕ) (old ne
       let c = is.1 in
       record {
         refused = λ bad e. not_refused c.0 c.1 bad e;
-        formatted = λ d e first formatted. absurd (not_both old.disk.reads formatted (is.0 first told));
+        formatted = λ d e first formatted. absurd (never_both old.disk.reads formatted (is.0 first told));
         small = λ d e may small short. absurd (let clash : Ok tt ≡ Err small = sym (one_room c.0 d (Ok tt) c.1 e c.2.0) ∙ short in cc);
         done = λ d e may fits. tt;
       }
@@ -245,7 +241,7 @@ module _ {tells tells_images : Type 0} (again : Bool) (bytes : List ℕ) (old ne
       let c = answers.small.0 in
       record {
         refused = λ bad e. not_refused c.0 c.1 bad e;
-        formatted = λ d e first formatted. absurd (not_both old.disk.reads formatted (answers.small.1 first told));
+        formatted = λ d e first formatted. absurd (never_both old.disk.reads formatted (answers.small.1 first told));
         small = λ d e may other short. inl (one_small small other (room d old.disk.sizes) (one_room c.0 d (Err small) c.1 e c.2) short);
         done = λ d e may fits. absurd (let clash : Err small ≡ Ok tt = sym (one_room c.0 d (Err small) c.1 e c.2) ∙ fits in cc);
       }
@@ -258,6 +254,11 @@ module _ {tells tells_images : Type 0} (again : Bool) (bytes : List ℕ) (old ne
   formats_all was next (LinkFault link) input media answers config = absurd answers.own
   formats_all was next (SaveRefused cause) input media answers config = absurd answers.own
   formats_all was next Tick input media answers config = absurd answers.own
+  formats_all was next ExportKind input media answers config = absurd answers.own
+  formats_all was next ExportNothing input media answers config = absurd answers.own
+  formats_all was next (ExportMixed place) input media answers config = absurd answers.own
+  formats_all was next ExportLong input media answers config = absurd answers.own
+  formats_all was next (ExportPart number) input media answers config = absurd answers.own
   formats_all was next Formatted input media answers config =
       let is = answers.formatted refl in
       let c = is.1 in

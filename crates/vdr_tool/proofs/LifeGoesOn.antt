@@ -21,16 +21,16 @@ use Rattle.vdr_replay.specs.Headline.{LeavesHistory, PlaysBack}
 use Rattle.vdr_replay.specs.declared.ended.Replayed.{Replayed}
 use Rattle.vdr_replay.specs.declared.ended.ReplayStop.{ReplayStop}
 use Rattle.vdr_tool.specs.Commands.{Asked}
-use Rattle.vdr_tool.specs.Commands.Asked.{Review, Check, Format, Replay, Play, Incidents, Save, Release, Sources}
+use Rattle.vdr_tool.specs.Commands.Asked.{Review, Check, Format, Replay, Play, Incidents, Save, Release, Sources, Watch, Targets, Wav, Picture, Trial}
 use Rattle.vdr_tool.specs.Lives.{FormatsNothing}
-use Rattle.vdr_tool.specs.Opened.{AreLooks, IsOneEvent, IsUnopened, KeepsContents, MayLeave, MediaEnds}
-use Rattle.vdr_tool.specs.Outside.{MediaSeen, Outside}
+use Rattle.vdr_command.specs.Opened.{AreLooks, IsOneEvent, IsUnopened, KeepsContents, MayLeave, MediaEnds}
+use Rattle.vdr_command.specs.Outside.{MediaSeen, Outside}
 use Rattle.vdr_tool.specs.Releases.{ReleasesId}
 use Rattle.vdr_tool.specs.Replays.{ReplayEnds}
 use Rattle.vdr_tool.specs.Runs.{page}
 use Rattle.vdr_tool.specs.Saves.{SavesAs}
-use Rattle.vdr_tool.specs.declared.status.Status.{Status}
-use Rattle.vdr_tool.specs.declared.status.Status.TheVariants.{Done, Words, Config, Small, Unformatted, Formatted, Damaged, MediaFault, PortFault, LinkFault, InputFault, OutputFault, NoMemory, Feed, NoChannel, NoIncident, SaveRefused, Place, Tick}
+use Rattle.vdr_command.specs.declared.status.Status.{Status}
+use Rattle.vdr_command.specs.declared.status.Status.TheVariants.{Done, Words, Config, Small, Unformatted, Formatted, Damaged, MediaFault, PortFault, LinkFault, InputFault, OutputFault, NoMemory, Feed, NoChannel, NoIncident, SaveRefused, Place, Tick, ExportKind, ExportNothing, ExportMixed, ExportLong, ExportPart}
 
 -- Events that record nothing
 
@@ -69,6 +69,11 @@ module _ (Does : Act → Type 0) (quiet : (act : Act) → Does act → records_o
   acts_quiet clock (PortFault group) events looks = looks_quiet events looks
   acts_quiet clock (LinkFault link) events looks = looks_quiet events looks
   acts_quiet clock Tick events looks = looks_quiet events looks
+  acts_quiet clock ExportKind events looks = looks_quiet events looks
+  acts_quiet clock ExportNothing events looks = looks_quiet events looks
+  acts_quiet clock (ExportMixed place) events looks = looks_quiet events looks
+  acts_quiet clock ExportLong events looks = looks_quiet events looks
+  acts_quiet clock (ExportPart number) events looks = looks_quiet events looks
 
 save_quiet : (label : List ℕ) (act : Act) → SavesAs label act → records_of_act act ≡ []
 save_quiet label act (id, a, b, is) = ap records_of_act is
@@ -77,12 +82,12 @@ release_quiet : (id : ℕ) (act : Act) → ReleasesId id act → records_of_act 
 release_quiet id act is = ap records_of_act is
 
 -- Over sound contents they leave all in order.
-quiet_order : (x : Contents) → AreSound x → (events : List Event) → recorded events ≡ [] → All (λ m. AreInOrder (given_with (opening_of x) events m)) both
+pub quiet_order : (x : Contents) → AreSound x → (events : List Event) → recorded events ≡ [] → All (λ m. AreInOrder (given_with (opening_of x) events m)) both
 quiet_order x sound events none = All-weaker (IsRegularMedium x) (λ m. AreInOrder (given_with (opening_of x) events m))
     (λ m h. subst AreInOrder (sym (ap (λ (rs : List Record). (opening_of x).records m ++ rs) none ∙ append-nil ((opening_of x).records m))) h.order) both sound.regular
 
 -- What plays the events back shows them.
-played_so : (x : Contents) (events : List Event) (image : Image) → PlaysBack (opening_of x) events image → ShowsHistory (opening_of x) events image
+pub played_so : (x : Contents) (events : List Event) (image : Image) → PlaysBack (opening_of x) events image → ShowsHistory (opening_of x) events image
 played_so x events image p = (both, reading_of p.contents, record { reads = record { members_are = refl; contents = p.contents; holds = p.legible; is = refl }; sound = p.sound }, p.shown)
 
 module _ {tells tells_images : Type 0} (c : Configuration) (text : List ℕ) (all : List Event) (image : Image) where
@@ -116,7 +121,7 @@ module _ {tells tells_images : Type 0} (c : Configuration) (text : List ℕ) (al
 
       by : (rose : Type 0) → LeavesHistory l.contents rose old.disk new.disk → LivesOn c text all old.disk new.disk
       by rose (inl leaves) = lives_still c text all image old.disk new.disk rest life leaves
-      by rose (inr (feed, end, run)) = run_life old.disk new.disk l run.events rest life (run_in_order l.contents run.events run.history.follow run.order) run.since_entry
+      by rose (inr (feed, end, run)) = run_life old.disk new.disk l run.events rest life (run_in_order l.contents run.events run.history.follow run.order) run.moments.each
 
   -- Of each command.
   pub life_of : (command : Asked) (old new : Outside tells tells_images) (status : Status) → (page command).owes old new status → (page command).uses_media → FormatsNothing command
@@ -129,6 +134,11 @@ module _ {tells tells_images : Type 0} (c : Configuration) (text : List ℕ) (al
   life_of Incidents old new status owed uses none told rest life = media_life old.media new.media status owed.media looks_quiet told rest life
   life_of (Save label) old new status owed uses none told rest life = media_life old.media new.media status owed.media (acts_quiet (SavesAs label) (save_quiet label) _ status) told rest life
   life_of (Sources medium) old new status owed uses none told rest life = media_life old.media new.media status owed.media.media looks_quiet told rest life
+  life_of (Trial seed count) old new status owed uses none told rest life = absurd none
+  life_of (Watch medium) old new status owed uses none told rest life = media_life old.media new.media status owed.media.media looks_quiet told rest life
+  life_of (Wav asked) old new status owed uses none told rest life = media_life old.media new.media status owed.ends.media.media looks_quiet told rest life
+  life_of (Picture asked block) old new status owed uses none told rest life = media_life old.media new.media status owed.ends.media.media looks_quiet told rest life
+  life_of (Targets medium at) old new status owed uses none told rest life = media_life old.media new.media status owed.media.media looks_quiet told rest life
   life_of (Release id) old new status owed uses none told rest life = media_life old.media new.media status owed.media (acts_quiet (ReleasesId id) (release_quiet id) _ status) told rest life
 
   -- Of media that no call was made on.

@@ -1,25 +1,29 @@
 -- Media of this product stay so over each command.
-use Rattle.std.proofs.Common.{◌≡◌, ◌≤◌, ◌⊎◌, inl, inr, ⊎_elim, ℕ, Bool, List, Option, Result, arith}
+use Rattle.std.proofs.Common.{◌≡◌, ◌≤◌, ◌⊎◌, inl, inr, ⊎_elim, ℕ, Bool, List, Option, Result, Err, arith}
 use Rattle.vdr_history.specs.Histories.{Event}
 use Rattle.vdr_durability.specs.Keeping.{ShowsPrefix}
 use Rattle.vdr_outside.specs.Disk.{Disk, Durable, Image, Unchanged}
 use Rattle.vdr_opening.specs.Media.{Contents, opening_of}
 use Rattle.vdr_vault.specs.Openings.{LeavesAll}
-use Rattle.vdr_replay.specs.Headline.{LeavesHistory, PlaysBack}
+use Rattle.vdr_replay.specs.Headline.{LeavesHistory, PlaysBack, RunEnd}
 use Rattle.vdr_replay.specs.declared.ended.Replayed.{Replayed}
 use Rattle.vdr_replay.specs.declared.ended.ReplayStop.{ReplayStop}
 use Rattle.vdr_life.specs.Ours.{AreOurs, IsOurs, StayOurs}
 use Rattle.vdr_life.proofs.Ours.{ours_formatted, ours_opened, ours_unchanged}
 use Rattle.vdr_tool.specs.Commands.{Asked}
-use Rattle.vdr_tool.specs.Commands.Asked.{Review, Check, Format, Replay, Play, Incidents, Save, Release, Sources}
+use Rattle.vdr_tool.specs.Commands.Asked.{Review, Check, Format, Replay, Play, Incidents, Save, Release, Sources, Watch, Targets, Wav, Picture, Trial}
 use Rattle.vdr_tool.specs.Formats.{FormatEnds, outcome_of}
-use Rattle.vdr_tool.specs.Opened.{IsUnopened, KeepsContents, MediaEnds}
+use Rattle.vdr_command.specs.Opened.{IsUnopened, KeepsContents, MediaEnds}
 use Rattle.vdr_tool.specs.Lives.{StartsSynced}
-use Rattle.vdr_tool.specs.Outside.{MediaSeen, Outside}
+use Rattle.vdr_command.specs.Outside.{MediaFailed, MediaSeen, Outside}
 use Rattle.vdr_tool.specs.Replays.{ReplayEnds}
+use Rattle.vdr_tool.specs.Trials.{LeavesRun, TrialEnds, TrialLeaves, bench, bench_text}
+use Rattle.vdr_terms.specs.Records.{FeedItem}
+use Rattle.vdr_life.specs.Lives.{Life}
+use Rattle.vdr_life.proofs.Lives.{life_ours}
 use Rattle.vdr_tool.specs.Runs.{page}
-use Rattle.vdr_tool.specs.declared.status.Status.{Status}
-use Rattle.vdr_tool.specs.declared.status.Status.TheVariants.{Done, MediaFault}
+use Rattle.vdr_command.specs.declared.status.Status.{Status}
+use Rattle.vdr_command.specs.declared.status.Status.TheVariants.{Done, MediaFault}
 
 pub played_ours : (x : Contents) (events : List Event) (image : Image) → PlaysBack (opening_of x) events image → IsOurs image
 played_ours x events image p = inr (p.contents, p.legible, p.shown.media.ends, p.sound)
@@ -40,7 +44,7 @@ module _ {tells tells_images : Type 0} where
   left_ours x rose old new (inl leaves) = inl leaves
   left_ours x rose old new (inr (feed, end, h)) = inr (
     (let first = h.after_entry in let then = h.before_exit in omega (arith, first, then)),
-    λ image left. ⊎_elim (λ now. inl now) (λ (shown : ShowsPrefix (PlaysBack (opening_of x)) h.events 0 image). inr (played_ours x shown.first image shown.shown)) (h.since_entry image left),
+    λ image left. ⊎_elim (λ now. inl now) (λ (shown : ShowsPrefix (PlaysBack (opening_of x)) h.events 0 image). inr (played_ours x shown.first image shown.shown)) (h.moments.each image left),
   )
 
   pub media_lives : {Can : Contents → Type 0} {Met : Type 0} {MayBe : List Event → Type 0} (old new : MediaSeen tells tells_images) (status : Status) → MediaEnds Can Met MayBe old new status
@@ -62,6 +66,24 @@ module _ {tells tells_images : Type 0} where
       by (inr (inl fault)) = formatted (inr fault)
       by (inr (inr same)) = ours_unchanged old.disk new.disk same ours
 
+  -- What a trial leaves of them, once they were formatted.
+  ran_ours : (rose : Type 0) (old new : Disk tells tells_images) (items : List FeedItem) (end : RunEnd) (status : Status) → LeavesRun rose old new items end status → Durable 0 old → AreOurs old → StayOurs old new
+  ran_ours rose old new items end status r synced ours = record {
+    later = (r.moments synced).later;
+    each = λ image left. ⊎_elim
+        (λ now. ours image now)
+        (λ k. ⊎_elim (λ un. inl un) (λ (shown : ShowsPrefix (Life bench bench_text) r.events 0 image). life_ours bench bench_text shown.first image shown.shown) k)
+        ((r.moments synced).each image left);
+  }
+
+  pub trial_lives : (seed count : ℕ) (old new : MediaSeen tells tells_images) (status : Status) → TrialEnds seed count old new status → tells → Durable 0 old.disk → AreOurs old.disk → StayOurs old.disk new.disk
+  trial_lives seed count old new status h told synced ours = by h.left
+    where
+      by : TrialLeaves seed count old new status → StayOurs old.disk new.disk
+      by (inl refused) = ours_unchanged old.disk new.disk refused.1 ours
+      by (inr (inl failed)) = ours_formatted old.disk new.disk (Err MediaFault) bench_text ours (failed.1 synced)
+      by (inr (inr ran)) = let k = ran.2 told in ran_ours (MediaFailed old new) old.disk new.disk k.1 k.0 status k.3 synced ours
+
   -- What each command that uses the media leaves of them.
   pub lives_of : (command : Asked) (old new : Outside tells tells_images) (status : Status) → (page command).owes old new status → (page command).uses_media
       → tells_images → StartsSynced command old.media.disk → AreOurs old.media.disk → StayOurs old.media.disk new.media.disk
@@ -74,6 +96,11 @@ module _ {tells tells_images : Type 0} where
   lives_of (Save label) old new status owed uses told synced ours = media_lives old.media new.media status owed.media told ours
   lives_of (Release id) old new status owed uses told synced ours = media_lives old.media new.media status owed.media told ours
   lives_of (Sources medium) old new status owed uses told synced ours = media_lives old.media new.media status owed.media.media told ours
+  lives_of (Trial seed count) old new status owed uses told synced ours = trial_lives seed count old.media new.media status owed.media (old.media.disk.shown told).0 synced ours
+  lives_of (Watch medium) old new status owed uses told synced ours = media_lives old.media new.media status owed.media.media told ours
+  lives_of (Wav asked) old new status owed uses told synced ours = media_lives old.media new.media status owed.ends.media.media told ours
+  lives_of (Picture asked block) old new status owed uses told synced ours = media_lives old.media new.media status owed.ends.media.media told ours
+  lives_of (Targets medium at) old new status owed uses told synced ours = media_lives old.media new.media status owed.media.media told ours
 
   -- Media that no call was made on.
   pub ours_still : (disk : Disk tells tells_images) → AreOurs disk → StayOurs disk disk

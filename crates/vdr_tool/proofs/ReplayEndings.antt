@@ -6,12 +6,13 @@ use Rattle.vdr_replay.specs.declared.ended.FeedEnd.TheVariants as ends
 use Rattle.vdr_replay.specs.declared.ended.Replayed.{Replayed}
 use Rattle.vdr_replay.specs.declared.ended.ReplayStop.{ReplayStop}
 use Rattle.vdr_replay.specs.declared.ended.ReplayStop.TheVariants as stops
-use Rattle.vdr_tool.specs.Opened.{OneAnswer}
-use Rattle.vdr_tool.specs.Outside.{AreLeftAlone, InputFailed, MediaSeen, OutputFailed, OutputSeen, Outside, Writes}
-use Rattle.vdr_tool.specs.Replays.{PrintsRun, ReplayEnds, Replays, TellsRun, status_of_stop}
+use Rattle.vdr_command.specs.Opened.{OneAnswer}
+use Rattle.vdr_command.specs.Outside.{AreLeftAlone, InputFailed, MediaSeen, OutputFailed, OutputSeen, Outside, Writes}
+use Rattle.vdr_tool.specs.Replays.{PrintsRun, ReplayEnds, Replays, TellsRun}
+use Rattle.vdr_command.specs.Statuses.{status_of_stop}
 use Rattle.vdr_tool.specs.Summaries.{summary_text}
-use Rattle.vdr_tool.specs.declared.status.Status.{Status}
-use Rattle.vdr_tool.specs.declared.status.Status.TheVariants.{Done, InputFault, OutputFault, Feed}
+use Rattle.vdr_command.specs.declared.status.Status.{Status}
+use Rattle.vdr_command.specs.declared.status.Status.TheVariants.{Done, InputFault, OutputFault, Feed}
 use Rattle.vdr_tool.proofs.ReplayLemmas.{replay_fault, replays_known}
 
 -- The status of a run that was not closed.

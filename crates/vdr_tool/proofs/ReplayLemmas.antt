@@ -24,17 +24,18 @@ use Rattle.vdr_replay.specs.declared.ended.FeedEnd.TheVariants as ends
 use Rattle.vdr_replay.specs.declared.ended.Replayed.{Replayed}
 use Rattle.vdr_replay.specs.declared.ended.ReplayStop.{ReplayStop}
 use Rattle.vdr_replay.specs.declared.ended.ReplayStop.TheVariants as stops
-use Rattle.vdr_tool.specs.Endings.{IsDone, IsRefusal}
-use Rattle.vdr_tool.specs.Opened.{IsLegibleWith, OneAnswer}
-use Rattle.vdr_tool.specs.Outside.{MediaFailed, MediaSeen, OutputSeen}
-use Rattle.vdr_tool.specs.StatusLine.{Wrote}
+use Rattle.vdr_command.specs.Endings.{IsDone, IsRefusal}
+use Rattle.vdr_command.specs.Opened.{IsLegibleWith, OneAnswer}
+use Rattle.vdr_command.specs.Outside.{MediaFailed, MediaSeen, OutputSeen}
+use Rattle.vdr_command.specs.StatusLine.{Wrote}
 use Rattle.vdr_tool.specs.Summaries.{summary_text}
-use Rattle.vdr_tool.specs.Replays.{PrintsRun, ReplayEnds, ReplaysAll, TellsRun, status_of_stop}
-use Rattle.vdr_tool.specs.declared.status.Status.{Status}
-use Rattle.vdr_tool.specs.declared.status.Status.TheVariants.{Done, MediaFault, InputFault, OutputFault, Feed}
+use Rattle.vdr_tool.specs.Replays.{PrintsRun, ReplayEnds, ReplaysAll, TellsRun}
+use Rattle.vdr_command.specs.Statuses.{status_of_stop}
+use Rattle.vdr_command.specs.declared.status.Status.{Status}
+use Rattle.vdr_command.specs.declared.status.Status.TheVariants.{Done, MediaFault, InputFault, OutputFault, Feed}
 use Rattle.vdr_tool.proofs.FeedLemmas.{has_header, not_refused, one_refusal}
-use Rattle.vdr_tool.proofs.FormatLemmas.{not_both}
-use Rattle.vdr_tool.proofs.OpenedCompleteness.{damaged_alike}
+use Rattle.vdr_vault.proofs.OpenMoments.{never_both}
+use Rattle.vdr_command.proofs.OpenedCompleteness.{damaged_alike}
 
 -- A feed that is refused behind its header has one.
 reads_header : (rates : List (Option Rate)) (bytes : List ℕ) (number offset : ℕ) (items : List FeedItem) → RefusesNext rates bytes number offset items → take 8 bytes ≡ feed_header
@@ -87,7 +88,7 @@ module _ {tells tells_images : Type 0} (bytes : List ℕ) (now : Option (List �
       let done = whole_is_done was next summary status output prints in
       record {
         header = λ other. absurd (other header);
-        unformatted = λ h un. absurd (not_both old.disk.reads formatted un);
+        unformatted = λ h un. absurd (never_both old.disk.reads formatted un);
         damaged = λ h f m offset r. absurd (law.either y m offset hy my r);
         place = λ x h holds meet high. absurd (no_place (opening_of x).next_place high (may_too old.disk.reads law y x hy holds may).place);
         tick = λ x h holds meet low high. absurd (no_place (base_after (opening_of x).last) high (may_too old.disk.reads law y x hy holds may).base);
@@ -105,7 +106,7 @@ module _ {tells tells_images : Type 0} (bytes : List ℕ) (now : Option (List �
       let configured = decides.1.2 in
       record {
         header = λ no. absurd (no header);
-        unformatted = λ h un. absurd (not_both old.disk.reads formatted un);
+        unformatted = λ h un. absurd (never_both old.disk.reads formatted un);
         damaged = λ h f m offset r. absurd (law.either y m offset hy my r);
         place = λ x h holds meet high. absurd (no_place (opening_of x).next_place high (may_too old.disk.reads law y x hy holds may).place);
         tick = λ x h holds meet low high. absurd (no_place (base_after (opening_of x).last) high (may_too old.disk.reads law y x hy holds may).base);
@@ -149,7 +150,7 @@ module _ {tells tells_images : Type 0} (bytes : List ℕ) (now : Option (List �
       record {
         header = λ no. absurd (no header);
         unformatted = λ h un. inl refl;
-        damaged = λ h f m offset r. absurd (not_both old.disk.reads f un);
+        damaged = λ h f m offset r. absurd (never_both old.disk.reads f un);
         place = λ x h holds meet high. absurd (law.formatted x holds un);
         tick = λ x h holds meet low high. absurd (law.formatted x holds un);
         refused = λ x feed n at holds meet may reads known. absurd (law.formatted x holds un);
@@ -159,7 +160,7 @@ module _ {tells tells_images : Type 0} (bytes : List ℕ) (now : Option (List �
       let r = damaged k at refl told in
       record {
         header = λ no. absurd (no header);
-        unformatted = λ h un. absurd (not_both old.disk.reads r.0 un);
+        unformatted = λ h un. absurd (never_both old.disk.reads r.0 un);
         damaged = λ h f m offset also. inl (damaged_alike k at m offset (law.one k at m offset r.1 also));
         place = λ x h holds meet high. absurd (law.either x k at holds meet r.1);
         tick = λ x h holds meet low high. absurd (law.either x k at holds meet r.1);
@@ -168,7 +169,7 @@ module _ {tells tells_images : Type 0} (bytes : List ℕ) (now : Option (List �
       }
   stopped stops.Place input media header (formatted, y, hy, my, high) unformatted damaged = record {
     header = λ no. absurd (no header);
-    unformatted = λ h un. absurd (not_both old.disk.reads formatted un);
+    unformatted = λ h un. absurd (never_both old.disk.reads formatted un);
     damaged = λ h f m offset r. absurd (law.either y m offset hy my r);
     place = λ x h holds meet also. inl refl;
     tick = λ x h holds meet low also. absurd (no_place (opening_of x).next_place (too_high x holds) low);
@@ -180,7 +181,7 @@ module _ {tells tells_images : Type 0} (bytes : List ℕ) (now : Option (List �
       too_high x holds = subst (λ (n : ℕ). 2 ^ 62 ≤ n) (next_is old.disk.reads law y x hy holds) high
   stopped stops.Tick input media header (formatted, y, hy, my, decides) unformatted damaged = record {
     header = λ no. absurd (no header);
-    unformatted = λ h un. absurd (not_both old.disk.reads formatted un);
+    unformatted = λ h un. absurd (never_both old.disk.reads formatted un);
     damaged = λ h f m offset r. absurd (law.either y m offset hy my r);
     place = λ x h holds meet also. absurd (no_place (opening_of x).next_place also (subst (λ (n : ℕ). n < 2 ^ 62) (next_is old.disk.reads law y x hy holds) decides.0));
     tick = λ x h holds meet below also. inl refl;

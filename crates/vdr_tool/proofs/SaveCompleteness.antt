@@ -8,15 +8,14 @@ use Rattle.vdr_ring.specs.Sequence.{Placed, all_records}
 use Rattle.vdr_opening.specs.Media.{Contents, HoldsContents, IsMedium}
 use Rattle.vdr_vault.specs.Vaults.{tick_utc}
 use Rattle.vdr_vault.proofs.OpenContents.{newest_opened}
-use Rattle.vdr_tool.specs.Incidents.{CanList, IsListStatus, ListsAll}
-use Rattle.vdr_tool.specs.Opened.{IfNoIncident, IsLegibleWith, MediaEnds, MetUnsound, OneAnswer, newest_of}
-use Rattle.vdr_tool.specs.Outside.{MediaSeen}
+use Rattle.vdr_command.specs.Opened.{IfNoIncident, IsLegibleWith, MediaEnds, MetUnsound, OneAnswer, newest_of}
+use Rattle.vdr_command.specs.Outside.{MediaSeen}
 use Rattle.vdr_tool.specs.Releases.{CanRelease, IsReleaseStatus, ReleasesAll}
 use Rattle.vdr_tool.specs.Saves.{CanSave, IfSaveRefused, IsJudged, IsSaveStatus, SavesAll, save_cause}
-use Rattle.vdr_tool.specs.declared.status.SaveCause.{SaveCause}
-use Rattle.vdr_tool.specs.declared.status.Status.{Status}
-use Rattle.vdr_tool.specs.declared.status.Status.TheVariants.{Done, Words, Config, Small, Unformatted, Formatted, Damaged, MediaFault, PortFault, LinkFault, InputFault, OutputFault, NoMemory, Feed, NoChannel, NoIncident, SaveRefused, Place, Tick}
-use Rattle.vdr_tool.proofs.OpenedCompleteness.{damaged_refused, legible_refused, memory_refused, unformatted_refused}
+use Rattle.vdr_command.specs.declared.status.SaveCause.{SaveCause}
+use Rattle.vdr_command.specs.declared.status.Status.{Status}
+use Rattle.vdr_command.specs.declared.status.Status.TheVariants.{Done, Words, Config, Small, Unformatted, Formatted, Damaged, MediaFault, PortFault, LinkFault, InputFault, OutputFault, NoMemory, Feed, NoChannel, NoIncident, SaveRefused, Place, Tick, ExportKind, ExportNothing, ExportMixed, ExportLong, ExportPart}
+use Rattle.vdr_command.proofs.OpenedCompleteness.{damaged_refused, legible_refused, memory_refused, unformatted_refused}
 
 -- The last record of what the image holds is one.
 one_newest : (image : Image) (law : OneAnswer image) (x y : Contents) → HoldsContents image x → HoldsContents image y → newest_of x ≡ newest_of y
@@ -37,31 +36,6 @@ not_both_live table other id saved same is none =
     let clash : Some saved ≡ None = sym is ∙ (ap (λ (t : List (Option Incident)). live t id) same ∙ none) in let no_one : ⊥ = cc in absurd no_one
 
 module _ {tells tells_images : Type 0} (old new : MediaSeen tells tells_images) (told : tells) (law : OneAnswer old.disk.reads) (MayBe : List Event → Type 0) where
-  pub lists_all : (status : Status) → (status ≡ OutputFault → ⊥) → (status ≡ MediaFault → ⊥) → IsListStatus status → MediaEnds CanList ⊥ MayBe old new status → ListsAll old.disk.reads status
-  lists_all Done output media own ends = let p = ends.legible tt told in record { refused = legible_refused old.disk.reads law Done p.0 p.1 p.2 p.3; done = λ x holds meet. tt }
-  lists_all Unformatted output media own ends =
-      let un = (ends.unformatted refl).1 told in record { refused = unformatted_refused old.disk.reads un; done = λ x holds meet. absurd (law.formatted x holds un) }
-  lists_all (Damaged k at) output media own ends = ⊎_elim
-      (λ refused. let r = refused.1 told in record { refused = damaged_refused old.disk.reads law k at r.0 r.1; done = λ x holds meet. absurd (law.either x k at holds meet r.1) })
-      (λ none. absurd none)
-      ends.damaged
-  lists_all NoMemory output media own ends = record { refused = memory_refused old.disk.reads; done = λ x holds meet. tt }
-  lists_all MediaFault output media own ends = absurd (media refl)
-  lists_all OutputFault output media own ends = absurd (output refl)
-  lists_all Words output media own ends = absurd own
-  lists_all (Config n) output media own ends = absurd own
-  lists_all (Small small) output media own ends = absurd own
-  lists_all Formatted output media own ends = absurd own
-  lists_all InputFault output media own ends = absurd own
-  lists_all (Feed n at) output media own ends = absurd own
-  lists_all NoChannel output media own ends = absurd own
-  lists_all Place output media own ends = absurd own
-  lists_all (PortFault group) output media own ends = absurd own
-  lists_all (LinkFault link) output media own ends = absurd own
-  lists_all Tick output media own ends = absurd own
-  lists_all (NoIncident id) output media own ends = absurd own
-  lists_all (SaveRefused cause) output media own ends = absurd own
-
   -- A save is judged in one way on all contents of the image.
   judged_too : (label : List ℕ) (cause : Option SaveCause) (x y : Contents) → HoldsContents old.disk.reads x → HoldsContents old.disk.reads y → IsJudged label cause x → IsJudged label cause y
   judged_too label cause x y holds also judged =
@@ -126,6 +100,11 @@ module _ {tells tells_images : Type 0} (old new : MediaSeen tells tells_images) 
   saves_all label (PortFault group) output media own ends refused = absurd own
   saves_all label (LinkFault link) output media own ends refused = absurd own
   saves_all label Tick output media own ends refused = absurd own
+  saves_all label ExportKind output media own ends refused = absurd own
+  saves_all label ExportNothing output media own ends refused = absurd own
+  saves_all label (ExportMixed place) output media own ends refused = absurd own
+  saves_all label ExportLong output media own ends refused = absurd own
+  saves_all label (ExportPart number) output media own ends refused = absurd own
   saves_all label (NoIncident id) output media own ends refused = absurd own
 
   pub releases_all : (id : ℕ) (status : Status) → (status ≡ MediaFault → ⊥) → IsReleaseStatus status
@@ -176,4 +155,9 @@ module _ {tells tells_images : Type 0} (old new : MediaSeen tells tells_images) 
   releases_all id (PortFault group) media own ends missing = absurd own
   releases_all id (LinkFault link) media own ends missing = absurd own
   releases_all id Tick media own ends missing = absurd own
+  releases_all id ExportKind media own ends missing = absurd own
+  releases_all id ExportNothing media own ends missing = absurd own
+  releases_all id (ExportMixed place) media own ends missing = absurd own
+  releases_all id ExportLong media own ends missing = absurd own
+  releases_all id (ExportPart number) media own ends missing = absurd own
   releases_all id (SaveRefused cause) media own ends missing = absurd own

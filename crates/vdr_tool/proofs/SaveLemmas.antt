@@ -22,17 +22,19 @@ use Rattle.vdr_vault.proofs.OpenMoments.{never_both}
 use Rattle.vdr_vault.specs.Vaults.{MembersState, ShowsHistory, Stands}
 use Rattle.vdr_vault.specs.declared.refused.SaveRefused.{SaveRefused as Refused}
 use Rattle.vdr_vault.specs.declared.refused.SaveRefused.TheVariants as saves
-use Rattle.vdr_tool.specs.Endings.{IsWorkDone}
-use Rattle.vdr_tool.specs.Opened.{AreLooks, IfNoIncident, IsLegibleWith, IsOneEvent, IsUnbegun, KeepsContents, MayLeave, MediaEnds, MetUnsound, PrintsText, WasRecorded, WritesNothing, status_of_opening}
-use Rattle.vdr_tool.specs.Outside.{MediaSeen, OutputSeen, Prints, PrintsFront}
+use Rattle.vdr_command.specs.Endings.{IsWorkDone}
+use Rattle.vdr_command.specs.Opened.{AreLooks, IfNoIncident, IsLegibleWith, IsOneEvent, IsUnbegun, KeepsContents, MayLeave, MediaEnds, MetUnsound, PrintsText, WasRecorded, WritesNothing}
+use Rattle.vdr_command.specs.Statuses.{status_of_opening}
+use Rattle.vdr_command.specs.Outside.{MediaSeen, OutputSeen, Prints, PrintsFront}
 use Rattle.vdr_tool.specs.Releases.{CanRelease, ReleasesId, status_of_release}
-use Rattle.vdr_tool.specs.Saves.{CanSave, IfSaveRefused, IsJudged, SavesAs, cause_if, save_cause, status_of_save}
-use Rattle.vdr_tool.specs.declared.status.SaveCause.{SaveCause}
-use Rattle.vdr_tool.specs.declared.status.SaveCause.TheVariants.{Label, Nothing, TableFull}
-use Rattle.vdr_tool.specs.declared.status.Status.{Status}
-use Rattle.vdr_tool.specs.declared.status.Status.TheVariants.{Done, MediaFault, OutputFault, SaveRefused}
+use Rattle.vdr_tool.specs.Saves.{CanSave, IfSaveRefused, IsJudged, SavesAs, cause_if, save_cause}
+use Rattle.vdr_command.specs.Statuses.{status_of_save}
+use Rattle.vdr_command.specs.declared.status.SaveCause.{SaveCause}
+use Rattle.vdr_command.specs.declared.status.SaveCause.TheVariants.{Label, Nothing, TableFull}
+use Rattle.vdr_command.specs.declared.status.Status.{Status}
+use Rattle.vdr_command.specs.declared.status.Status.TheVariants.{Done, MediaFault, OutputFault, SaveRefused}
 use Rattle.vdr_replay.proofs.Playing.{config_read}
-use Rattle.vdr_tool.proofs.OpenedLemmas.{OpenedOn, OpensLevel, done_either, kept_by_call, legible_so, level_looked, level_still, one_look, reads_done, worked_ends}
+use Rattle.vdr_command.proofs.OpenedLemmas.{OpenedOn, OpensLevel, done_either, kept_by_call, legible_so, level_looked, level_still, one_look, reads_done, worked_ends}
 
 -- Of a refused opening nothing is printed.
 pub prints_nothing : (text : List ℕ) (refused : OpenRefused) (old new : OutputSeen) → PrintsText text (status_of_opening refused) old new

@@ -1,10 +1,7 @@
 -- The text of a configuration, as far as it is read, and what is printed of it.
-use Rattle.std.proofs.Common.{◌≡◌, ◌≤◌, ◌<◌, ℕ, List, [], ◌++◌, length, Option, None, Some, Result, Ok, Err, codes, refl, sym, ap, ◌∙◌, arith, ⊎_elim, append-nil, append_assoc, length-append}
-use Rattle.std.specs.Prelude.{decimal}
-use Rattle.std.specs.Io.KnownBytes.{Consumes, IsAtEnd, Appends}
-use Rattle.std.proofs.KnownBytes.{Appends-trans}
+use Rattle.std.proofs.Common.{◌≡◌, ◌≤◌, ◌<◌, ℕ, List, [], ◌++◌, length, Option, None, Some, Result, Ok, Err, sym, ap, ◌∙◌, arith, ⊎_elim, append-nil, length-append}
+use Rattle.std.specs.Io.KnownBytes.{Consumes, IsAtEnd}
 use Rattle.std.proofs.lemmas.Bool.{cases_lt, cond-true, lt-ltb}
-use Rattle.vdr_outside.specs.Writes.{AppendsFront}
 use Rattle.vdr_feed.specs.Reader.{IfKnown}
 use Rattle.vdr_config.specs.declared.bad.ConfigBad.{ConfigBad}
 use Rattle.vdr_config.specs.declared.bad.ConfigBad.TheVariants.{TooLong}
@@ -12,8 +9,7 @@ use Rattle.vdr_config.specs.Configuration.{Configuration}
 use Rattle.vdr_config.specs.Grammar.{configuration}
 use Rattle.vdr_tool.specs.declared.checking.CheckStop.{CheckStop}
 use Rattle.vdr_tool.specs.declared.checking.CheckStop.TheVariants.{Input, Memory, Refused}
-use Rattle.vdr_tool.specs.Check.{IfChecked, IfRefusedStop, check_text, number_of, key_of, refusal_line}
-use Rattle.vdr_tool.specs.StatusLine.{escaped_line}
+use Rattle.vdr_tool.specs.Check.{IfChecked, IfRefusedStop, check_text}
 
 too_long : (text : List ℕ) → 16380 < length text → configuration text ≡ Err TooLong
 unfolding configuration
@@ -62,23 +58,3 @@ pub stop_weaker : (s : CheckStop) (P Q : ConfigBad → Type 0) → ((b : ConfigB
 stop_weaker Input P Q f h = tt
 stop_weaker Memory P Q f h = tt
 stop_weaker (Refused bad) P Q f h = f bad h
-
--- the line up to the key, the key, and LF
-pub refusal_is : (bad : ConfigBad) (front key : List ℕ) (n : ℕ) → n ≡ number_of bad → front ≡ codes "status 3 config " ++ decimal n ++ codes " " → key ≡ key_of bad
-    → escaped_line front key ≡ refusal_line bad
-unfolding refusal_line
-refusal_is bad front key n number is path = rw (is, number, path) refl
-
--- a front of the text's first piece
-pub front_first : (old new : Option (List ℕ)) (piece rest text : List ℕ) → text ≡ piece ++ rest → AppendsFront old new piece → AppendsFront old new text
-front_first old new piece rest text is f =
-    (f.0, f.1 ++ rest, is ∙ ap (λ (xs : List ℕ). xs ++ rest) f.2 ∙ append_assoc f.0 f.1 rest, f.3)
-
--- a front of a later piece, once those before it were written
-pub front_later : (old now new : Option (List ℕ)) (before piece rest text : List ℕ) → text ≡ before ++ (piece ++ rest) → Appends old now before → AppendsFront now new piece → AppendsFront old new text
-front_later old now new before piece rest text is p f = (
-  before ++ f.0,
-  f.1 ++ rest,
-  is ∙ ap (λ (xs : List ℕ). before ++ xs) (ap (λ (xs : List ℕ). xs ++ rest) f.2 ∙ append_assoc f.0 f.1 rest) ∙ sym (append_assoc before f.0 (f.1 ++ rest)),
-  Appends-trans old now new before f.0 p f.3,
-)

@@ -5,13 +5,14 @@ use Rattle.vdr_feed.specs.Reader.{IfKnown}
 use Rattle.vdr_config.specs.declared.bad.ConfigBad.{ConfigBad}
 use Rattle.vdr_config.specs.Configuration.{Configuration}
 use Rattle.vdr_config.specs.Grammar.{configuration}
-use Rattle.vdr_tool.specs.Check.{IfChecked, RefusesConfig}
-use Rattle.vdr_tool.specs.Endings.{IsConfigRefusal, IsDone, IsWorkDone}
-use Rattle.vdr_tool.specs.Outside.{InputFailed, NothingFailed, OutputFailed, Outside, Prints, PrintsFront}
-use Rattle.vdr_tool.specs.Promises.{Promise}
-use Rattle.vdr_tool.specs.StatusLine.{IsConfig}
-use Rattle.vdr_tool.specs.declared.status.Status.{Status}
-use Rattle.vdr_tool.specs.declared.status.Status.TheVariants.{Done, Config, InputFault, OutputFault, NoMemory}
+use Rattle.vdr_tool.specs.Check.{IfChecked}
+use Rattle.vdr_command.specs.Refusals.{RefusesConfig}
+use Rattle.vdr_command.specs.Endings.{IsConfigRefusal, IsDone, IsWorkDone}
+use Rattle.vdr_command.specs.Outside.{InputFailed, NothingFailed, OutputFailed, Outside, Prints, PrintsFront}
+use Rattle.vdr_command.specs.Promises.{Promise}
+use Rattle.vdr_command.specs.StatusLine.{IsConfig}
+use Rattle.vdr_command.specs.declared.status.Status.{Status}
+use Rattle.vdr_command.specs.declared.status.Status.TheVariants.{Done, Config, InputFault, OutputFault, NoMemory}
 
 -- The command ends so, and in no other way.
 abbrev pub IsCheckStatus : Status → Type 0

@@ -1,11 +1,11 @@
 -- The commands, each as contracts see it: with the bytes that it borrows.
-use Rattle.std.specs.Prelude.{ℕ, Bool, List, Option}
+use Rattle.std.specs.Prelude.{ℕ, ℤ, Bool, List, Option}
 use Rattle.vdr_terms.specs.declared.rate.Rate.{Rate}
 use Rattle.vdr_entry.specs.declared.query.Medium.{Medium}
-use Rattle.vdr_tool.specs.Plays.{AskedPlay}
+use Rattle.vdr_export.specs.declared.block.Block.{Block}
+use Rattle.vdr_readout.specs.Reads.{AskedPlay, plain_play}
 use Rattle.vdr_tool.specs.declared.words.Command.{Command}
 use Rattle.vdr_tool.specs.declared.words.Command.TheVariants as commands
-use Rattle.vdr_tool.specs.declared.words.Wanted.{Wanted}
 
 pub data Asked : Type 0 where
   Review : (rate : Option Rate) → Asked
@@ -17,9 +17,11 @@ pub data Asked : Type 0 where
   Save : (label : List ℕ) → Asked
   Release : (id : ℕ) → Asked
   Sources : (medium : Medium) → Asked
-
-abbrev pub plain_play : Wanted → AskedPlay
-plain_play wanted = record { medium = wanted.medium; channel = wanted.channel.now; from = wanted.from; to = wanted.to }
+  Watch : (medium : Medium) → Asked
+  Wav : (asked : AskedPlay) → Asked
+  Picture : (asked : AskedPlay) (block : Block) → Asked
+  Trial : (seed count : ℕ) → Asked
+  Targets : (medium : Medium) (at : ℤ) → Asked
 
 abbrev pub plain : Command → Asked
 plain (commands.Review rate) = Review rate
@@ -31,3 +33,8 @@ plain commands.Incidents = Incidents
 plain (commands.Save label) = Save label.now
 plain (commands.Release id) = Release id
 plain (commands.Sources medium) = Sources medium
+plain (commands.Watch medium) = Watch medium
+plain (commands.Wav wanted) = Wav (plain_play wanted)
+plain (commands.Picture wanted block) = Picture (plain_play wanted) block
+plain (commands.Trial seed count) = Trial seed count
+plain (commands.Targets medium at) = Targets medium at

@@ -12,15 +12,15 @@ use Rattle.vdr_media.specs.Answers.{KnownFormatted, KnownUnformatted, room}
 use Rattle.vdr_media.specs.Formatted.{members, IsFormatted, IsUnformatted, IsEmptyHistoryOf, SameBeside}
 use Rattle.vdr_media.specs.Formatting.{FormatsAtEachMoment}
 use Rattle.vdr_media.specs.Medium.{IsEmptyMedium}
-use Rattle.vdr_tool.specs.Endings.{IsDone, IsConfigRefusal}
+use Rattle.vdr_command.specs.Endings.{IsDone, IsConfigRefusal}
 use Rattle.vdr_media.specs.declared.refused.FormatRefused.{FormatRefused}
 use Rattle.vdr_media.specs.declared.refused.FormatRefused.TheVariants as refusal
-use Rattle.vdr_tool.specs.Check.{RefusesConfig, number_of}
-use Rattle.vdr_tool.specs.Outside.{InputFailed, MediaFailed, MediaSeen, NothingFailed, Outside}
-use Rattle.vdr_tool.specs.Promises.{Promise}
-use Rattle.vdr_tool.specs.StatusLine.{IfSmall, IsConfig}
-use Rattle.vdr_tool.specs.declared.status.Status.{Status}
-use Rattle.vdr_tool.specs.declared.status.Status.TheVariants.{Done, Config, Small, Formatted, MediaFault, InputFault, NoMemory}
+use Rattle.vdr_command.specs.Refusals.{RefusesConfig, number_of}
+use Rattle.vdr_command.specs.Outside.{InputFailed, MediaFailed, MediaSeen, NothingFailed, Outside}
+use Rattle.vdr_command.specs.Promises.{Promise}
+use Rattle.vdr_command.specs.StatusLine.{IfSmall, IsConfig}
+use Rattle.vdr_command.specs.declared.status.Status.{Status}
+use Rattle.vdr_command.specs.declared.status.Status.TheVariants.{Done, Config, Small, Formatted, MediaFault, InputFault, NoMemory}
 
 -- The bytes, where they are known, are this configuration's text, and P holds of both.
 abbrev pub IfConfiguration : Option (List ℕ) → (Configuration → List ℕ → Type 0) → Type 0

@@ -2,7 +2,7 @@
 use Rattle.std.specs.Prelude.{⊤}
 use Rattle.vdr_outside.specs.Disk.{Disk, Durable}
 use Rattle.vdr_tool.specs.Commands.{Asked}
-use Rattle.vdr_tool.specs.Commands.Asked.{Review, Check, Format, Replay, Play, Incidents, Save, Release, Sources}
+use Rattle.vdr_tool.specs.Commands.Asked.{Review, Check, Format, Replay, Play, Incidents, Save, Release, Sources, Watch, Targets, Wav, Picture, Trial}
 
 -- Nothing of the capsule is unsynced where the media are to be formatted: its gate is read before it is written. So it is after each
 -- start of the recorder, and after each command but one that a fault ended.
@@ -16,6 +16,11 @@ StartsSynced Incidents disk = ⊤
 StartsSynced (Save label) disk = ⊤
 StartsSynced (Release id) disk = ⊤
 StartsSynced (Sources medium) disk = ⊤
+StartsSynced (Watch medium) disk = ⊤
+StartsSynced (Wav asked) disk = ⊤
+StartsSynced (Picture asked block) disk = ⊤
+StartsSynced (Trial seed count) disk = Durable 0 disk
+StartsSynced (Targets medium at) disk = ⊤
 
 -- The command does not format the media.
 abbrev pub FormatsNothing : Asked → Type 0
@@ -28,3 +33,8 @@ FormatsNothing Incidents = ⊤
 FormatsNothing (Save label) = ⊤
 FormatsNothing (Release id) = ⊤
 FormatsNothing (Sources medium) = ⊤
+FormatsNothing (Watch medium) = ⊤
+FormatsNothing (Wav asked) = ⊤
+FormatsNothing (Picture asked block) = ⊤
+FormatsNothing (Trial seed count) = ⊥
+FormatsNothing (Targets medium at) = ⊤

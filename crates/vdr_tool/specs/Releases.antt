@@ -7,12 +7,12 @@ use Rattle.vdr_outside.specs.Disk.{Image}
 use Rattle.vdr_incident.specs.declared.refused.ReleaseRefused.{ReleaseRefused}
 use Rattle.vdr_incident.specs.declared.refused.ReleaseRefused.TheVariants as releases
 use Rattle.vdr_opening.specs.Media.{both, Contents, HoldsContents, reading_of}
-use Rattle.vdr_tool.specs.Endings.{IsDone}
-use Rattle.vdr_tool.specs.Opened.{IfNoIncident, IsLegibleWith, IsUnbegun, MayLeave, MediaEnds, RefusesAll, WritesNothing}
-use Rattle.vdr_tool.specs.Outside.{NothingFailed, Outside}
-use Rattle.vdr_tool.specs.Promises.{Promise}
-use Rattle.vdr_tool.specs.declared.status.Status.{Status}
-use Rattle.vdr_tool.specs.declared.status.Status.TheVariants.{Done, Unformatted, Damaged, MediaFault, NoMemory, NoIncident}
+use Rattle.vdr_command.specs.Endings.{IsDone}
+use Rattle.vdr_command.specs.Opened.{IfNoIncident, IsLegibleWith, IsUnbegun, MayLeave, MediaEnds, RefusesAll, WritesNothing}
+use Rattle.vdr_command.specs.Outside.{NothingFailed, Outside}
+use Rattle.vdr_command.specs.Promises.{Promise}
+use Rattle.vdr_command.specs.declared.status.Status.{Status}
+use Rattle.vdr_command.specs.declared.status.Status.TheVariants.{Done, Unformatted, Damaged, MediaFault, NoMemory, NoIncident}
 
 -- How a release under this id ends the command.
 abbrev pub status_of_release : Result ⊤ ReleaseRefused → (id : ℕ) → Status

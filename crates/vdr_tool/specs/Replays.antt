@@ -20,24 +20,14 @@ use Rattle.vdr_replay.specs.declared.ended.FeedEnd.TheVariants as feed_ends
 use Rattle.vdr_replay.specs.declared.ended.Replayed.{Replayed}
 use Rattle.vdr_replay.specs.declared.ended.ReplayStop.{ReplayStop}
 use Rattle.vdr_replay.specs.declared.ended.ReplayStop.TheVariants as stops
-use Rattle.vdr_tool.specs.Endings.{IsDone, IsRefusal}
-use Rattle.vdr_tool.specs.Opened.{IsLegibleWith, IsUntouched, WasRecorded, WritesNothing}
-use Rattle.vdr_tool.specs.Outside.{AreLeftAlone, InputFailed, MediaFailed, MediaSeen, NothingFailed, OutputFailed, OutputSeen, Outside, Prints, PrintsFront, Writes}
-use Rattle.vdr_tool.specs.Promises.{Promise}
+use Rattle.vdr_command.specs.Endings.{IsDone, IsRefusal}
+use Rattle.vdr_command.specs.Opened.{IsLegibleWith, IsUntouched, WasRecorded, WritesNothing}
+use Rattle.vdr_command.specs.Outside.{AreLeftAlone, InputFailed, MediaFailed, MediaSeen, NothingFailed, OutputFailed, OutputSeen, Outside, Prints, PrintsFront, Writes}
+use Rattle.vdr_command.specs.Promises.{Promise}
 use Rattle.vdr_tool.specs.Summaries.{summary_text}
-use Rattle.vdr_tool.specs.declared.status.Status.{Status}
-use Rattle.vdr_tool.specs.declared.status.Status.TheVariants.{Done, Unformatted, Damaged, MediaFault, InputFault, OutputFault, NoMemory, Feed, Place, Tick}
-
--- How the command ends where no run was closed.
-abbrev pub status_of_stop : ReplayStop → Status
-status_of_stop stops.NoMemory = NoMemory
-status_of_stop stops.Input = InputFault
-status_of_stop (stops.Refused number offset) = Feed number offset
-status_of_stop stops.NotFormatted = Unformatted
-status_of_stop (stops.Damaged m offset) = Damaged m offset
-status_of_stop stops.Place = Place
-status_of_stop stops.Tick = Tick
-status_of_stop stops.Media = MediaFault
+use Rattle.vdr_command.specs.Statuses.{status_of_stop}
+use Rattle.vdr_command.specs.declared.status.Status.{Status}
+use Rattle.vdr_command.specs.declared.status.Status.TheVariants.{Done, Unformatted, Damaged, InputFault, OutputFault, NoMemory, Feed, Place, Tick}
 
 -- The summary of a run that was closed, by the status.
 abbrev pub PrintsRun : FeedEnd → (summary : List ℕ) → Status → (old new : OutputSeen) → Type 0

@@ -8,25 +8,17 @@ use Rattle.vdr_feed.specs.Feed.{IsFeed, IsRefused}
 use Rattle.vdr_feed.specs.Reader.{IfKnown}
 use Rattle.vdr_config.specs.Configuration.{IsRate}
 use Rattle.vdr_review.specs.Review.{most_items, limit_asked, IfReviewed}
-use Rattle.vdr_review.specs.declared.reading.Stop.{Stop}
-use Rattle.vdr_review.specs.declared.reading.Stop.TheVariants as stops
-use Rattle.vdr_tool.specs.Endings.{IsDone, IsRefusal, IsWorkDone}
-use Rattle.vdr_tool.specs.Outside.{InputFailed, NothingFailed, OutputFailed, Outside, Prints, PrintsFront}
-use Rattle.vdr_tool.specs.Promises.{Promise}
-use Rattle.vdr_tool.specs.StatusLine.{IfFeed}
-use Rattle.vdr_tool.specs.declared.status.Status.{Status}
-use Rattle.vdr_tool.specs.declared.status.Status.TheVariants.{Done, InputFault, OutputFault, NoMemory, Feed}
+use Rattle.vdr_command.specs.Endings.{IsDone, IsRefusal, IsWorkDone}
+use Rattle.vdr_command.specs.Outside.{InputFailed, NothingFailed, OutputFailed, Outside, Prints, PrintsFront}
+use Rattle.vdr_command.specs.Promises.{Promise}
+use Rattle.vdr_command.specs.StatusLine.{IfFeed}
+use Rattle.vdr_command.specs.declared.status.Status.{Status}
+use Rattle.vdr_command.specs.declared.status.Status.TheVariants.{Done, InputFault, OutputFault, NoMemory, Feed}
 
 -- `review`, and with a rate the datagrams and the bytes of a second.
 abbrev pub review_words : Option Rate → List (List ℕ)
 review_words None = codes "review" ∷ []
 review_words (Some rate) = codes "review" ∷ decimal rate.datagrams ∷ decimal rate.bytes ∷ []
-
--- How the command ends where there is no review.
-abbrev pub status_of_review : Stop → Status
-status_of_review stops.Input = InputFault
-status_of_review stops.Memory = NoMemory
-status_of_review (stops.Refused number offset) = Feed number offset
 
 -- The command ends so, and in no other way.
 abbrev pub IsReviewStatus : Status → Type 0

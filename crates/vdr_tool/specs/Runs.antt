@@ -3,20 +3,24 @@ use Rattle.std.specs.Prelude.{◌≡◌, ◌≤◌, ℕ, List, String, map, stri
 use Rattle.std.specs.declared.alloc.Global.{Global}
 use Rattle.vdr_tool.specs.Checks.{checking}
 use Rattle.vdr_tool.specs.Commands.{Asked}
-use Rattle.vdr_tool.specs.Commands.Asked.{Review, Check, Format, Replay, Play, Incidents, Save, Release, Sources}
-use Rattle.vdr_tool.specs.Endings.{WritesLine}
+use Rattle.vdr_tool.specs.Commands.Asked.{Review, Check, Format, Replay, Play, Incidents, Save, Release, Sources, Watch, Targets, Wav, Picture, Trial}
+use Rattle.vdr_command.specs.Endings.{WritesLine}
 use Rattle.vdr_tool.specs.Formats.{formatting}
-use Rattle.vdr_tool.specs.Incidents.{listing}
-use Rattle.vdr_tool.specs.Outside.{OutputSeen, Outside}
-use Rattle.vdr_tool.specs.Plays.{playing}
-use Rattle.vdr_tool.specs.Promises.{Promise}
+use Rattle.vdr_readout.specs.Incidents.{listing}
+use Rattle.vdr_command.specs.Outside.{OutputSeen, Outside}
+use Rattle.vdr_readout.specs.Plays.{playing}
+use Rattle.vdr_command.specs.Promises.{Promise}
 use Rattle.vdr_tool.specs.Releases.{releasing}
 use Rattle.vdr_tool.specs.Replays.{replaying}
 use Rattle.vdr_tool.specs.Reviews.{reviewing}
 use Rattle.vdr_tool.specs.Saves.{saving}
-use Rattle.vdr_tool.specs.Sources.{sourcing}
-use Rattle.vdr_tool.specs.declared.status.Status.{Status}
-use Rattle.vdr_tool.specs.declared.status.Status.TheVariants.{Words}
+use Rattle.vdr_readout.specs.Sources.{sourcing}
+use Rattle.vdr_readout.specs.Watches.{watching}
+use Rattle.vdr_readout.specs.Exports.{picturing, sounding}
+use Rattle.vdr_tool.specs.Trials.{trying}
+use Rattle.vdr_readout.specs.Targets.{targeting}
+use Rattle.vdr_command.specs.declared.status.Status.{Status}
+use Rattle.vdr_command.specs.declared.status.Status.TheVariants.{Words}
 
 abbrev pub page : Asked → Promise
 page (Review rate) = reviewing rate
@@ -28,6 +32,11 @@ page Incidents = listing
 page (Save label) = saving label
 page (Release id) = releasing id
 page (Sources medium) = sourcing medium
+page (Watch medium) = watching medium
+page (Wav asked) = sounding asked
+page (Picture asked block) = picturing asked block
+page (Trial seed count) = trying seed count
+page (Targets medium at) = targeting medium at
 
 -- The texts are those of a command.
 pub record Spells (texts : List (List ℕ)) (command : Asked) : Type 0 where

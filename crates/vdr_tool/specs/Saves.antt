@@ -10,22 +10,14 @@ use Rattle.vdr_opening.specs.Media.{both, Contents, HoldsContents, reading_of}
 use Rattle.vdr_vault.specs.Saves.{refusal_from}
 use Rattle.vdr_vault.specs.declared.refused.SaveRefused.{SaveRefused as Refused}
 use Rattle.vdr_vault.specs.declared.refused.SaveRefused.TheVariants as saves
-use Rattle.vdr_tool.specs.Endings.{IsDone, IsWorkDone}
-use Rattle.vdr_tool.specs.Opened.{IsLegibleWith, IsUnbegun, MayLeave, MediaEnds, MetUnsound, PrintsText, RefusesAll, WasRecorded, WritesNothing, newest_of}
-use Rattle.vdr_tool.specs.Outside.{NothingFailed, OutputFailed, Outside}
-use Rattle.vdr_tool.specs.Promises.{Promise}
-use Rattle.vdr_tool.specs.declared.status.SaveCause.{SaveCause}
-use Rattle.vdr_tool.specs.declared.status.SaveCause.TheVariants.{Label, Nothing, TableFull}
-use Rattle.vdr_tool.specs.declared.status.Status.{Status}
-use Rattle.vdr_tool.specs.declared.status.Status.TheVariants.{Done, Unformatted, Damaged, MediaFault, OutputFault, NoMemory, SaveRefused}
-
--- How a refusal of a save ends the command.
-abbrev pub status_of_save : Refused → Status
-status_of_save saves.Label = SaveRefused Label
-status_of_save saves.Nothing = SaveRefused Nothing
-status_of_save saves.TableFull = SaveRefused TableFull
-status_of_save (saves.Damaged m offset) = Damaged m offset
-status_of_save saves.Fault = MediaFault
+use Rattle.vdr_command.specs.Endings.{IsDone, IsWorkDone}
+use Rattle.vdr_command.specs.Opened.{IsLegibleWith, IsUnbegun, MayLeave, MediaEnds, MetUnsound, PrintsText, RefusesAll, WasRecorded, WritesNothing, newest_of}
+use Rattle.vdr_command.specs.Outside.{NothingFailed, OutputFailed, Outside}
+use Rattle.vdr_command.specs.Promises.{Promise}
+use Rattle.vdr_command.specs.declared.status.SaveCause.{SaveCause}
+use Rattle.vdr_command.specs.declared.status.SaveCause.TheVariants.{Label, Nothing, TableFull}
+use Rattle.vdr_command.specs.declared.status.Status.{Status}
+use Rattle.vdr_command.specs.declared.status.Status.TheVariants.{Done, Unformatted, Damaged, MediaFault, OutputFault, NoMemory, SaveRefused}
 
 -- The command ends so, and in no other way.
 abbrev pub IsSaveStatus : Status → Type 0

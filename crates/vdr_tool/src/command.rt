@@ -5,61 +5,26 @@ ghost use Rattle.vdr_config.specs.Configuration.{Configuration};
 ghost use Rattle.vdr_life.specs.Lives.{Life, LivesOn};
 ghost use Rattle.vdr_life.specs.Ours.{AreOurs, RestAs, StayOurs};
 ghost use Rattle.vdr_tool.specs.Commands.{Asked, plain};
-ghost use Rattle.vdr_tool.specs.Endings.{ending};
+ghost use Rattle.vdr_command.specs.Endings.{ending};
 ghost use Rattle.vdr_tool.specs.Lives.{FormatsNothing, StartsSynced};
-ghost use Rattle.vdr_tool.specs.Outside.{Outside};
 ghost use Rattle.vdr_tool.specs.Runs.{Asks, Runs, page};
-ghost use Rattle.vdr_tool.specs.declared.status.Status.TheVariants.{Words};
+ghost use Rattle.vdr_command.specs.declared.status.Status.TheVariants.{Words};
 
-use crate::Status;
 use crate::checking::answer_check;
 use crate::formatting::answer_format;
-use crate::listing::answer_incidents;
-use crate::playing::answer_play;
 use crate::releasing::answer_release;
 use crate::replaying::answer_replay;
-use crate::reports::report;
 use crate::reviewing::answer_review;
 use crate::saving::answer_save;
-use crate::sourcing::answer_sources;
+use crate::trying::answer_trial;
 use crate::words::{Command, command_of};
 use std::alloc::Global;
+use vdr_command::{Outer, Status, World, report};
 use vdr_outside::{Media, Sink, Source};
-
-/// What the program reaches outside.
-#[derive(Drop)]
-pub struct World<I: Drop, O: Drop, M: Drop> {
-    /// The standard input.
-    pub input: I,
-    /// The standard output.
-    pub output: O,
-    /// The capsule and the long-term medium, in this order.
-    pub media: M,
-}
-
-/// What stands outside of the program, told as one value.
-pub trait Outer {
-    /// A fact where the media tell what they read as.
-    ghost tells: { Type 0 };
-
-    /// A fact where the media tell what a stop may leave.
-    ghost tells_images: { Type 0 };
-
-    /// What each object tells, and how often it failed.
-    ghost outside: { Self → Outside tells tells_images };
-}
-
-impl<I: Source + Drop, O: Sink + Drop, M: Media + Drop> Outer for World<I, O, M> {
-    ghost tells = { M.tells };
-
-    ghost tells_images = { M.tells_images };
-
-    ghost outside = { λ w. record {
-      input = record { left = I.left w.input; faults = I.faults w.input };
-      output = record { taken = O.taken w.output; faults = O.faults w.output };
-      media = record { disk = M.disk w.media; faults = M.faults w.media; bytes_read = M.bytes_read w.media };
-    } };
-}
+use vdr_readout::{
+    Wish, answer_export, answer_incidents, answer_play, answer_sources, answer_targets,
+    answer_watch,
+};
 
 // Does what a command asks for, up to the line of its status.
 fn answer<I: Source + Drop, O: Sink + Drop, M: Media + Drop>(
@@ -87,6 +52,13 @@ fn answer<I: Source + Drop, O: Sink + Drop, M: Media + Drop>(
         Command::Save { label } => answer_save(alloc, label, world),
         Command::Release { id } => answer_release(alloc, id, world),
         Command::Sources { medium } => answer_sources(alloc, medium, world),
+        Command::Watch { medium } => answer_watch(alloc, medium, world),
+        Command::Wav(wanted) => answer_export(alloc, wanted, Wish::Sound, world),
+        Command::Picture(wanted, block) => {
+            answer_export(alloc, wanted, Wish::Picture(block), world)
+        }
+        Command::Trial { seed, count } => answer_trial(alloc, seed, count, world),
+        Command::Targets { medium, at } => answer_targets(alloc, medium, at, world),
     }
 }
 
@@ -112,6 +84,14 @@ fn answer<I: Source + Drop, O: Sink + Drop, M: Media + Drop>(
 /// - `sources MEDIUM` reads no input. It prints the table of sources of the window of `capsule` or `longterm`, or of the incident
 ///   `incident-ID`: for each group and source a line `GROUP SOURCE FIRST LAST LINES BAD BREAKS`, by group and then by source in byte
 ///   order.
+/// - `watch MEDIUM` reads no input. It prints what heartbeats and alarms show of the equipment in the window or the incident, as
+///   `vdr_watch::Watch` does, in order of place.
+/// - `trial SEED COUNT` reads no input. It formats the media with the bench configuration, unless they are formatted already, records the
+///   first COUNT items of the generated feed from SEED on (`vdr_trial::GeneratedFeed`; SEED is 0 to 2,147,483,647, COUNT 0 to 1,000,000)
+///   as `replay` does, opens the media again, and prints `taken N recorded N rate N`, `records N`, `capsule N` and `longterm N`: the sums
+///   of the run, its records, and how many of them stand in the windows of both media.
+/// - `targets MEDIUM AT` reads no input. It prints the table of the ships that the AIS messages of these records report, up to the UTC
+///   stamp AT, or all where AT is `-`: for each a line `MMSI UTC REPORTS LATITUDE LONGITUDE SPEED COURSE HEADING NAME`, by MMSI.
 ///
 /// Any other words end with `Words`, and nothing is touched. A number is decimal digits without a sign and without a leading zero.
 ///

@@ -3,25 +3,18 @@
 
 mod checking;
 mod command;
+mod counting;
 mod formatting;
-mod listing;
-mod opening;
-mod playing;
-mod refusal;
 mod releasing;
 mod replaying;
-mod reports;
 mod reviewing;
 mod saving;
-mod sourcing;
-mod status;
 mod summary;
+mod trying;
 mod using;
 mod words;
 
-pub use command::{Outer, World, run_alone};
-pub use opening::law_of_openings;
-pub use reports::report;
-pub use status::{SaveCause, Status};
+pub use command::run_alone;
 pub use summary::Summary;
 pub use using::uses_media;
+pub use vdr_command::{Outer, SaveCause, Status, World, law_of_openings, report};

@@ -1,15 +1,13 @@
 // Releasing an incident.
 ghost use Rattle.std.specs.Prelude.{◌≡◌, ◌≤◌, ◌⊎◌, length, None};
 ghost use Rattle.vdr_history.specs.Histories.{live};
-ghost use Rattle.vdr_tool.specs.Endings.{ending};
-ghost use Rattle.vdr_tool.specs.Opened.{IfNoIncident, IsLegibleWith, IsUnbegun, MayLeave, MediaEnds, WritesNothing};
+ghost use Rattle.vdr_command.specs.Endings.{ending};
+ghost use Rattle.vdr_command.specs.Opened.{IfNoIncident, IsLegibleWith, IsUnbegun, MayLeave, MediaEnds, WritesNothing};
 ghost use Rattle.vdr_tool.specs.Releases.{CanRelease, IsReleaseStatus, Releases, ReleasesId, status_of_release};
-ghost use Rattle.vdr_tool.specs.declared.status.Status.TheVariants.{Words};
+ghost use Rattle.vdr_command.specs.declared.status.Status.TheVariants.{Words};
 
-use crate::command::Outer;
-use crate::opening::law_of_openings;
-use crate::{Status, World};
 use std::alloc::Global;
+use vdr_command::{Outer, Status, World, law_of_openings};
 use vdr_outside::{Media, Sink, Source};
 use vdr_recorder::{Recording, ReleaseRefused};
 

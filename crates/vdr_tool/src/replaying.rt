@@ -1,15 +1,13 @@
 // Recording a feed on the media.
 ghost use Rattle.std.specs.Prelude.{◌≡◌, ◌≤◌, Err, length};
-ghost use Rattle.vdr_tool.specs.Endings.{ending};
+ghost use Rattle.vdr_command.specs.Endings.{ending};
 ghost use Rattle.vdr_tool.specs.Replays.{PrintsRun, Replays};
 ghost use Rattle.vdr_tool.specs.Summaries.{summary_text};
-ghost use Rattle.vdr_tool.specs.declared.status.Status.TheVariants.{OutputFault, Words};
+ghost use Rattle.vdr_command.specs.declared.status.Status.TheVariants.{OutputFault, Words};
 
-use crate::command::Outer;
-use crate::opening::law_of_openings;
 use crate::summary::Summary;
-use crate::{Status, World};
 use std::alloc::Global;
+use vdr_command::{Outer, Status, World, law_of_openings};
 use vdr_outside::{Media, Sink, Source, print_buffered};
 use vdr_replay::{FeedEnd, Replayed, replay};
 

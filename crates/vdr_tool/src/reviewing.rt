@@ -7,14 +7,13 @@ ghost use Rattle.vdr_feed.specs.Reader.{IfKnown};
 ghost use Rattle.vdr_outside.specs.Causes.{Rose};
 ghost use Rattle.vdr_outside.specs.Writes.{AppendsFront};
 ghost use Rattle.vdr_review.specs.Review.{IfReviewed, limit_asked, most_items};
-ghost use Rattle.vdr_tool.specs.Endings.{IsWorkDone, ending};
+ghost use Rattle.vdr_command.specs.Endings.{IsWorkDone, ending};
 ghost use Rattle.vdr_tool.specs.Reviews.{IsReviewStatus, Reviews};
-ghost use Rattle.vdr_tool.specs.StatusLine.{IfFeed};
-ghost use Rattle.vdr_tool.specs.declared.status.Status.TheVariants.{Done, InputFault, OutputFault, Words};
+ghost use Rattle.vdr_command.specs.StatusLine.{IfFeed};
+ghost use Rattle.vdr_command.specs.declared.status.Status.TheVariants.{Done, InputFault, OutputFault, Words};
 
-use crate::command::Outer;
-use crate::{Status, World};
 use std::alloc::Global;
+use vdr_command::{Outer, Status, World};
 use vdr_config::Rate;
 use vdr_feed::law_of_feeds;
 use vdr_outside::{Media, Sink, Source, print_buffered};

@@ -2,18 +2,15 @@
 ghost use Rattle.std.specs.Prelude.{◌≡◌, ◌≤◌, ◌⊎◌, ◌++◌, codes, decimal, length, Some};
 ghost use Rattle.vdr_outside.specs.Causes.{Rose};
 ghost use Rattle.vdr_opening.specs.Media.{Contents, HoldsContents};
-ghost use Rattle.vdr_tool.specs.Endings.{IsWorkDone, ending};
-ghost use Rattle.vdr_tool.specs.Opened.{IsLegibleWith, IsUnbegun, MayLeave, MediaEnds, MetUnsound, PrintsText, WritesNothing};
+ghost use Rattle.vdr_command.specs.Endings.{IsWorkDone, ending};
+ghost use Rattle.vdr_command.specs.Opened.{IsLegibleWith, IsUnbegun, MayLeave, MediaEnds, MetUnsound, PrintsText, WritesNothing};
 ghost use Rattle.vdr_tool.specs.Saves.{CanSave, IfSaveRefused, IsJudged, IsSaveStatus, Saves, SavesAs, id_line, save_text};
-ghost use Rattle.vdr_tool.specs.declared.status.Status.TheVariants.{OutputFault, Words};
+ghost use Rattle.vdr_command.specs.declared.status.Status.TheVariants.{OutputFault, Words};
 
-use crate::command::Outer;
-use crate::opening::law_of_openings;
-use crate::reports::{ROOM, push_text};
-use crate::{Status, World};
 use arrayvec::ArrayVec;
 use itoa::Buffer;
 use std::alloc::Global;
+use vdr_command::{Outer, ROOM, Status, World, law_of_openings, push_text};
 use vdr_opening::law_of_contents;
 use vdr_outside::{Media, Sink, Source, write_all};
 use vdr_recorder::Recording;

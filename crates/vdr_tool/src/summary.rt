@@ -6,9 +6,9 @@ ghost use Rattle.vdr_outside.specs.Causes.{HasCause};
 ghost use Rattle.vdr_outside.specs.Writes.{AppendsFront};
 ghost use Rattle.vdr_tool.specs.Summaries.{count_text, group_line, line_if, records_line};
 
-use crate::reports::{ROOM, name_of, push_text};
 use arrayvec::ArrayVec;
 use itoa::Buffer;
+use vdr_command::{ROOM, name_of, push_text};
 use vdr_outside::{Failed, Printable, Sink, write_all};
 use vdr_replay::GroupSums;
 

@@ -18,7 +18,12 @@ pub fn uses_media(words: &[String]) -> bool
             | Command::Incidents
             | Command::Save { .. }
             | Command::Release { .. }
-            | Command::Sources { .. },
+            | Command::Sources { .. }
+            | Command::Watch { .. }
+            | Command::Targets { .. }
+            | Command::Wav(_)
+            | Command::Picture(..)
+            | Command::Trial { .. },
         ) => true,
     }
 }

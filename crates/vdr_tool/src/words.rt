@@ -1,27 +1,26 @@
 // The words that ask for a command.
-ghost use Rattle.std.specs.Prelude.{◌≡◌, ◌≤◌, ◌∷◌, [], ℕ, Some, IfSome, decimal, option_map};
+ghost use Rattle.std.specs.Prelude.{◌≡◌, ◌≤◌, ◌&&◌, ◌∷◌, [], ℕ, ℤ, nat_le, pos, true, Some, IfSome, decimal, option_map};
+ghost use Rattle.std.specs.List.{list_all};
+ghost use Rattle.vdr_terms.specs.Stamps.{last_stamp};
 ghost use Rattle.vdr_terms.specs.declared.rate.Rate.{Rate as RateTold};
 ghost use Rattle.vdr_config.specs.Configuration.{IsRate};
-ghost use Rattle.vdr_control.specs.Plays.{IsMedium, medium_word};
+ghost use Rattle.vdr_image.specs.Headers.{is_identifier};
+ghost use Rattle.vdr_control.specs.Orders.PlainOrder.{Play as PlayOrder};
+ghost use Rattle.vdr_control.specs.Plays.{IsMedium, SpellsBound, SpellsPlay, medium_word};
+ghost use Rattle.vdr_export.specs.declared.block.Block.{Block as ABlock};
+ghost use Rattle.vdr_readout.specs.Exports.{IsBlock};
+ghost use Rattle.vdr_readout.specs.Reads.{AskedPlay, plain_play};
 ghost use Rattle.vdr_entry.specs.declared.query.Medium.{Medium as AMedium};
 ghost use Rattle.vdr_tool.specs.Commands.{Asked, plain};
+ghost use Rattle.vdr_tool.specs.Commands.Asked.{Trial};
 ghost use Rattle.vdr_tool.specs.Runs.{Asks, Spells};
 
 use itoa::Buffer;
 use vdr_config::Rate;
 use vdr_control::{Order, law_of_plays, read_play};
 use vdr_entry::Medium;
-
-/// What is to be played: the records of a channel, or all where it is `all`, whose UTC stamps are from `from` to `to`, both included,
-/// in milliseconds since 1970.
-#[derive(Clone, Copy, Drop)]
-pub(crate) struct Wanted<'a> {
-    /// An incident's id is 1 to 32.
-    pub(crate) medium: Medium,
-    pub(crate) channel: &'a [u8],
-    pub(crate) from: i64,
-    pub(crate) to: i64,
-}
+use vdr_export::Block;
+use vdr_readout::Wanted;
 
 /// What the words ask for.
 #[derive(Clone, Copy, Drop)]
@@ -44,6 +43,16 @@ pub(crate) enum Command<'a> {
     Release { id: u32 },
     /// The table of sources is told.
     Sources { medium: Medium },
+    /// What heartbeats and alarms show is told.
+    Watch { medium: Medium },
+    /// The sound of a channel is written as a WAVE file.
+    Wav(Wanted<'a>),
+    /// The image of this block is written, out of a channel of images.
+    Picture(Wanted<'a>, Block),
+    /// The media are tried with so many generated items, at most 1,000,000, from this seed on, at most 2,147,483,647.
+    Trial { seed: u32, count: u64 },
+    /// The table of ships is told, of what was recorded up to this stamp.
+    Targets { medium: Medium, at: i64 },
 }
 
 // A number within these limits, in decimal digits without a sign and without a leading zero.
@@ -124,6 +133,10 @@ fn two_words<'a>(word: &str, text: &'a str) -> Option<Command<'a>>
         let medium = medium_of(text)?;
         return Some(Command::Sources { medium });
     }
+    if word == "watch" {
+        let medium = medium_of(text)?;
+        return Some(Command::Watch { medium });
+    }
     if word != "release" {
         return None;
     }
@@ -131,30 +144,54 @@ fn two_words<'a>(word: &str, text: &'a str) -> Option<Command<'a>>
     Some(Command::Release { id })
 }
 
-fn three_words(word: &str, datagrams: &str, bytes: &str) -> Option<Command<'static>>
-    ensures found { (command : Asked) → Spells (word.now ∷ datagrams.now ∷ bytes.now ∷ []) command → option_map plain result ≡ Some command }
-    ensures only { IfSome result (λ command. Spells (word.now ∷ datagrams.now ∷ bytes.now ∷ []) (plain command)) }
+// The trial of this seed and this number of items.
+fn trial_of(seed: &str, count: &str) -> Option<Command<'static>>
+    ensures found { (s n : ℕ) → s ≤ 2_147_483_647 → n ≤ 1_000_000 → seed.now ≡ decimal s → count.now ≡ decimal n → option_map plain result ≡ Some (Trial s n) }
+    ensures only { IfSome result (λ command. (s : ℕ) × (n : ℕ) × (plain command ≡ Trial s n) × (s ≤ 2_147_483_647) × (n ≤ 1_000_000) × (seed.now ≡ decimal s) × (count.now ≡ decimal n)) }
 {
+    let seed = number_of(seed, 0, 2_147_483_647)?;
+    let count = number_of(count, 0, 1_000_000)?;
+    Some(Command::Trial {
+        seed,
+        count: count as u64,
+    })
+}
+
+// The medium, or the incident, of this name, and the last stamp that is spelled so.
+fn last_of(name: &str, bound: &str) -> Option<(Medium, i64)>
+    ensures found { (asked : AMedium) (until : ℤ) → IsMedium asked → name.now ≡ medium_word asked → SpellsBound (pos last_stamp) bound.now until → result ≡ Some (asked, until) }
+    ensures only { IfSome result (λ last. IsMedium last.0 × (name.now ≡ medium_word last.0) × SpellsBound (pos last_stamp) bound.now last.1) }
+{
+    law_of_plays();
+    match read_play(name.as_bytes(), b"all", b"-", bound.as_bytes())? {
+        Order::Play { medium, to, .. } => Some((medium, to)),
+        _ => None,
+    }
+}
+
+fn three_words(word: &str, first: &str, second: &str) -> Option<Command<'static>>
+    ensures found { (command : Asked) → Spells (word.now ∷ first.now ∷ second.now ∷ []) command → option_map plain result ≡ Some command }
+    ensures only { IfSome result (λ command. Spells (word.now ∷ first.now ∷ second.now ∷ []) (plain command)) }
+{
+    if word == "targets" {
+        let (medium, at) = last_of(first, second)?;
+        return Some(Command::Targets { medium, at });
+    }
+    if word == "trial" {
+        return trial_of(first, second);
+    }
     if word != "review" {
         return None;
     }
-    let rate = rate_of(datagrams, bytes)?;
+    let rate = rate_of(first, second)?;
     Some(Command::Review { rate: Some(rate) })
 }
 
-fn five_words<'a>(
-    word: &str,
-    medium: &str,
-    channel: &'a str,
-    from: &str,
-    to: &str,
-) -> Option<Command<'a>>
-    ensures found { (command : Asked) → Spells (word.now ∷ medium.now ∷ channel.now ∷ from.now ∷ to.now ∷ []) command → option_map plain result ≡ Some command }
-    ensures only { IfSome result (λ command. Spells (word.now ∷ medium.now ∷ channel.now ∷ from.now ∷ to.now ∷ []) (plain command)) }
+// What these four words ask to be read out.
+fn wanted_of<'a>(medium: &str, channel: &'a str, from: &str, to: &str) -> Option<Wanted<'a>>
+    ensures found { (asked : AskedPlay) → SpellsPlay medium.now channel.now from.now to.now (PlayOrder asked.medium asked.channel asked.from asked.to) → option_map plain_play result ≡ Some asked }
+    ensures only { IfSome result (λ wanted. SpellsPlay medium.now channel.now from.now to.now (PlayOrder wanted.medium wanted.channel.now wanted.from wanted.to)) }
 {
-    if word != "play" {
-        return None;
-    }
     law_of_plays();
     let order = read_play(
         medium.as_bytes(),
@@ -168,14 +205,88 @@ fn five_words<'a>(
             channel,
             from,
             to,
-        } => Some(Command::Play(Wanted {
+        } => Some(Wanted {
             medium,
             channel,
             from,
             to,
-        })),
+        }),
         _ => None,
     }
+}
+
+fn five_words<'a>(
+    word: &str,
+    medium: &str,
+    channel: &'a str,
+    from: &str,
+    to: &str,
+) -> Option<Command<'a>>
+    ensures found { (command : Asked) → Spells (word.now ∷ medium.now ∷ channel.now ∷ from.now ∷ to.now ∷ []) command → option_map plain result ≡ Some command }
+    ensures only { IfSome result (λ command. Spells (word.now ∷ medium.now ∷ channel.now ∷ from.now ∷ to.now ∷ []) (plain command)) }
+{
+    if word == "play" {
+        let wanted = wanted_of(medium, channel, from, to)?;
+        return Some(Command::Play(wanted));
+    }
+    if word != "wav" {
+        return None;
+    }
+    let wanted = wanted_of(medium, channel, from, to)?;
+    Some(Command::Wav(wanted))
+}
+
+fn are_printable(text: &[u8]) -> bool
+    ensures { result ≡ list_all (λ b. nat_le 0x21 b && nat_le b 0x7E) text.now }
+{
+    text.iter().all(|byte| *byte >= 0x21 && *byte <= 0x7E)
+}
+
+// The source of an image: six bytes of 0x21 to 0x7E.
+fn source_of(word: &str) -> Option<[u8; 6]>
+    ensures found { is_identifier word.now ≡ true → result ≡ Some word.now }
+    ensures only { IfSome result (λ source. (source ≡ word.now) × (is_identifier source ≡ true)) }
+{
+    let text = word.as_bytes();
+    if text.len() != 6 {
+        return None;
+    }
+    let source = [text[0], text[1], text[2], text[3], text[4], text[5]];
+    if are_printable(&source) {
+        Some(source)
+    } else {
+        None
+    }
+}
+
+// The block of these words.
+fn block_of(source: &str, number: &str) -> Option<Block>
+    ensures found { (block : ABlock) → IsBlock block → source.now ≡ block.source → number.now ≡ decimal block.number → result ≡ Some block }
+    ensures only { IfSome result (λ block. IsBlock block × (source.now ≡ block.source) × (number.now ≡ decimal block.number)) }
+{
+    let source = source_of(source)?;
+    let number = number_of(number, 0, u32::MAX)?;
+    Some(Block { source, number })
+}
+
+fn seven_words<'a>(
+    word: &str,
+    medium: &str,
+    channel: &'a str,
+    source: &str,
+    number: &str,
+    from: &str,
+    to: &str,
+) -> Option<Command<'a>>
+    ensures found { (command : Asked) → Spells (word.now ∷ medium.now ∷ channel.now ∷ source.now ∷ number.now ∷ from.now ∷ to.now ∷ []) command → option_map plain result ≡ Some command }
+    ensures only { IfSome result (λ command. Spells (word.now ∷ medium.now ∷ channel.now ∷ source.now ∷ number.now ∷ from.now ∷ to.now ∷ []) (plain command)) }
+{
+    if word != "picture" {
+        return None;
+    }
+    let block = block_of(source, number)?;
+    let wanted = wanted_of(medium, channel, from, to)?;
+    Some(Command::Picture(wanted, block))
 }
 
 /// The command that these words ask for, None where they ask for none.
@@ -186,13 +297,20 @@ pub(crate) fn command_of(words: &[String]) -> Option<Command<'_>>
     match words {
         [word] => one_word(word.as_str()),
         [word, text] => two_words(word.as_str(), text.as_str()),
-        [word, datagrams, bytes] => {
-            three_words(word.as_str(), datagrams.as_str(), bytes.as_str())
-        }
+        [word, first, second] => three_words(word.as_str(), first.as_str(), second.as_str()),
         [word, medium, channel, from, to] => five_words(
             word.as_str(),
             medium.as_str(),
             channel.as_str(),
+            from.as_str(),
+            to.as_str(),
+        ),
+        [word, medium, channel, source, number, from, to] => seven_words(
+            word.as_str(),
+            medium.as_str(),
+            channel.as_str(),
+            source.as_str(),
+            number.as_str(),
             from.as_str(),
             to.as_str(),
         ),

@@ -2,6 +2,8 @@ ghost use Rattle.std.specs.Prelude.{◌≡◌, ◌≤◌, length, IfOk};
 ghost use Rattle.vdr_outside.specs.Disk.{Disk};
 
 mod checks;
+mod cuts;
+mod exports;
 mod formats;
 mod incidents;
 mod plays;
@@ -9,6 +11,9 @@ mod refusals;
 mod reviews;
 mod sources;
 mod stops;
+mod targets;
+mod trials;
+mod watches;
 mod wraps;
 
 use std::alloc::{AllocError, Global};

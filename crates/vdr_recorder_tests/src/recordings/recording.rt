@@ -163,7 +163,7 @@ pub(super) fn play(
         to: 100_000,
     };
     let mut out = MemorySink::new(alloc, Vec::new(alloc));
-    assert!(rt; recording.play(alloc, media, &query, &mut out).is_ok());
+    assert!(rt; recording.play(media, &query, &mut out).is_ok());
     assert!(rt; out.taken() == text);
 }
 

@@ -55,8 +55,8 @@ fn assert_window_before(rt: &impl Abort, alloc: Global, media: &MemoryMedia) -> 
         let left = media.image(&[], torn)?;
         assert!(rt; left.len() == 2);
         let window = played(rt, alloc, "capsule", left)?;
-        assert!(rt; window.starts_with(b"826 NAVD 825 2024-01-01T00:05:30.000Z data 44 "));
-        assert!(rt; window.ends_with(b"\n  good GP0001 974 GPHDT heading 19.5\n"));
+        assert!(rt; window.starts_with(b"818 NAVD 817 2024-01-01T00:05:27.200Z gap 0 1 0 0\n"));
+        assert!(rt; window.ends_with(b"\n  good GP0001 966 GPHDT heading 343.5\n"));
         assert!(rt; window.iter().filter(|byte| **byte == b'\n').count() == 120 * 2 + 30);
     }
     Ok(())
@@ -110,7 +110,7 @@ fn assert_batch_in_windows(
     let expected = windows(rt, alloc, image)?;
     for window in &expected {
         let text = str::from_utf8(window.as_slice())?;
-        assert!(rt; text.contains("\n976 NAVD 975 2024-01-01T00:06:30.000Z data 44 "));
+        assert!(rt; text.contains("\n969 NAVD 968 2024-01-01T00:06:27.200Z data 44 "));
     }
     for stop in 0..=OPENING + 1 {
         assert_opened_again(rt, alloc, image, stop, &expected)?;

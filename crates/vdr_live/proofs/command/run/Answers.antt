@@ -1,4 +1,4 @@
-use Rattle.vdr_tool.specs.Outside.{MediaSeen}
+use Rattle.vdr_command.specs.Outside.{MediaSeen}
 use Rattle.vdr_live.specs.Links.{seen_links}
 use Rattle.vdr_live.specs.Ports.{seen_ports}
 use Rattle.vdr_live.proofs.Lives.{record_life, record_lives}

@@ -3,8 +3,8 @@ use Rattle.std.proofs.Common.{◌≡◌, ◌∙◌, List, [], refl}
 use Rattle.std.proofs.lemmas.Result.{err_from_is_err_and}
 use Rattle.vdr_history.specs.Histories.{Event}
 use Rattle.vdr_recorder.proofs.Opened.{meet_as}
-use Rattle.vdr_tool.specs.Outside.{MediaSeen}
-use Rattle.vdr_tool.proofs.OpenedLemmas.{refused_ends}
+use Rattle.vdr_command.specs.Outside.{MediaSeen}
+use Rattle.vdr_command.proofs.OpenedLemmas.{refused_ends}
 use Rattle.vdr_live.proofs.Endings.{recorded_ends}
 use Rattle.vdr_live.proofs.session.record_ports.Goals as goal
 

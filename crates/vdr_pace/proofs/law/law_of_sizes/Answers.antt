@@ -1,8 +1,14 @@
 use Rattle.vdr_pace.proofs.law.law_of_sizes.Goals as goal
-use Rattle.vdr_pace.proofs.ItemSizes.{items_size, closes_size}
+use Rattle.vdr_pace.proofs.ItemSizes.{closes_size, few_fit, fit_few, made_size}
 
 pub returns-clause-items : goal.returns-clause-items
-returns-clause-items c = items_size
+returns-clause-items c = made_size
+
+pub returns-clause-few : goal.returns-clause-few
+returns-clause-few c = few_fit
+
+pub returns-clause-count : goal.returns-clause-count
+returns-clause-count c = fit_few
 
 pub returns-clause-close : goal.returns-clause-close
 returns-clause-close c = closes_size

@@ -1,12 +1,11 @@
-use Rattle.std.proofs.Common.{◌<◌, ◌∷◌, ◌++◌, [], List, length, refl, sym, ap, ◌∙◌, subst, arith}
+use Rattle.std.proofs.Common.{◌<◌, ◌∷◌, ◌++◌, [], List, length, refl, sym, ◌∙◌, subst, arith}
 use Rattle.vdr_history.specs.Taken.{Captured}
 use Rattle.vdr_config.specs.Configuration.{Configuration}
 use Rattle.vdr_outside.proofs.Counts.{none_falls_join, none_fell, on_err}
-use Rattle.vdr_replay.specs.Feeding.{HasRate, most_items}
+use Rattle.vdr_replay.specs.Feeding.{most_items}
 use Rattle.vdr_replay.specs.Given.{HoldsFeed}
 use Rattle.vdr_replay.specs.Taking.{HasTaken}
 use Rattle.vdr_replay.proofs.Causes.{cause_joined}
-use Rattle.vdr_replay.proofs.Given.{known_more, low_more}
 use Rattle.vdr_replay.proofs.Passing.{takes_break, takes_join, takes_none}
 use Rattle.vdr_replay.proofs.Reading.{reached, read_next}
 use Rattle.vdr_replay.proofs.feeding.take_all.Goals as goal
@@ -20,7 +19,6 @@ loop-end-init g c = record {
     λ opening events t0 told h. takes_none opening [] _ events t0 _ _
         (subst (λ (batch : List Captured). HasTaken opening [] batch events t0 c.args.recording.now (g.M.Media.disk c.args.media.now)) (sym c.requires.empty) h),
   );
-  space = let e = ap (λ (cs : List Captured). length cs) c.requires.empty in omega (arith, e, c.requires.space);
   works = c.requires.works;
   opened = c.requires.open;
   config = refl;
@@ -47,9 +45,8 @@ loop-end-preserved g c =
         λ opening events t0 told h.
             let t = w.3 opening events t0 told h in
             takes_join opening events t0 _ _ _ (g.M.Media.disk c.loop-end.media) _ w.0 _ t (w.0 ++ gave.0 ∷ []) _
-            (c.in_ok-take_item.ensures.taken opening w.0 gave.0 (events ++ t.more) t0 told gave.1.holds w.2.counts t.taken),
+            (c.in_ok-take_item.ensures.taken opening w.0 gave.0 (events ++ t.more) t0 told gave.1.holds held t.taken),
       );
-      space = c.in_ok-take_item.ensures.space;
       works = c.in_ok-take_item.ensures.works;
       opened = c.take_item.ensures.open;
       config = c.take_item.ensures.config ∙ c.loop-end.invariant.config;
@@ -63,17 +60,15 @@ loop-end-preserved g c =
 pub returns-in_err-take_item-clause-broken : goal.returns-in_err-take_item-clause-broken
 returns-in_err-take_item-clause-broken g c =
     let w = c.loop-end.invariant.walked in
-    let gave = c.in_default.ensures.gave in
-    let rate = subst (λ (config : Configuration). HasRate config.groups gave.0.group) (c.config.ensures ∙ c.loop-end.invariant.config) gave.3 in
     on_err c.from_residual.result (record {
-      feed = w.0 ++ gave.0 ∷ [];
-      read = λ first h. reached first _ _ (w.0 ++ gave.0 ∷ []) (read_next first _ _ _ _ _ w.0 gave.0 (w.1 first h) gave.1 gave.2);
-      known = known_more c.args.recording.now.members.config.groups w.0 gave.0 w.2.known rate;
-      low = low_more w.0 gave.0 w.2.low (let low = gave.1.legal.group in omega (arith, low));
+      feed = w.0;
+      read = λ first h. reached first _ _ w.0 (w.1 first h);
+      known = w.2.known;
+      low = w.2.low;
       told = λ opening events t0 told h.
           let t = w.3 opening events t0 told h in
-          takes_break opening events t0 _ _ _ (g.M.Media.disk c.loop-end.media) _ w.0 _ t (w.0 ++ gave.0 ∷ [])
-          (c.in_err-take_item.ensures.broken opening w.0 gave.0 (events ++ t.more) t0 told gave.1.holds w.2.counts t.taken);
+          takes_break opening events t0 _ _ _ (g.M.Media.disk c.loop-end.media) _ w.0 _ t w.0
+          (c.in_err-take_item.ensures.broken opening w.0 (events ++ t.more) t0 told t.taken);
     })
 
 pub returns-in_err-take_item-clause-cause : goal.returns-in_err-take_item-clause-cause

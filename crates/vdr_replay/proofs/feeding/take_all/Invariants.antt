@@ -1,4 +1,4 @@
-use Rattle.std.proofs.Common.{◌≡◌, ◌≤◌, ◌<◌, ◌+◌, ◌-◌, ℕ, List, [], true, false, length, Option}
+use Rattle.std.proofs.Common.{◌≡◌, ◌≤◌, ◌+◌, ◌-◌, ℕ, List, [], true, false, Option}
 use Rattle.vdr_terms.specs.Records.{FeedItem}
 use Rattle.vdr_history.specs.Histories.{Event, Opening}
 use Rattle.vdr_outside.specs.Causes.{NoneFalls}
@@ -17,7 +17,6 @@ invariant-loop-end g l = record {
       × HoldsFeed l.fn.recording.members.config feed l.lanes l.recording.maker
       × ((opening : Opening) (events : List Event) (t0 : ℕ) → g.M.Media.tells → HasTaken opening [] [] events t0 l.fn.recording (g.M.Media.disk l.fn.media)
       → TakesOn opening feed l.lanes.batch.items events t0 l.recording (g.M.Media.disk l.fn.media) (g.M.Media.disk l.media));
-  space : length l.lanes.batch.items < l.lanes.room;
   works : l.recording.members.failed ≡ false;
   opened : l.recording.is_open ≡ true;
   config : l.recording.members.config ≡ l.fn.recording.members.config;

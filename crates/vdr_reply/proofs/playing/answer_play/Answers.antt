@@ -7,9 +7,10 @@ use Rattle.vdr_outside.specs.Causes.{Rose}
 use Rattle.vdr_playback.specs.Playback.{selected}
 use Rattle.vdr_play.specs.Streams.{nothing_seen}
 use Rattle.vdr_play.specs.Texts.{records_text}
-use Rattle.vdr_recorder.specs.Playing.{lacks_channel, lacks_incident}
-use Rattle.vdr_recorder.specs.declared.play.PlayRefused.{PlayRefused}
-use Rattle.vdr_recorder.specs.declared.play.PlayRefused.TheVariants as plays
+use Rattle.vdr_visit.specs.Stops.{lacks_channel, lacks_incident}
+use Rattle.vdr_visit.specs.declared.stop.VisitStop.{VisitStop}
+use Rattle.vdr_visit.specs.declared.stop.VisitStop.TheVariants as plays
+use Rattle.vdr_recorder.proofs.Printing.{played_all, played_undamaged}
 use Rattle.vdr_ring.specs.Rings.{RingState}
 use Rattle.vdr_vault.specs.Plays.{ReadsOn, with_ring}
 use Rattle.vdr_vault.specs.Vaults.{MembersState}
@@ -28,7 +29,7 @@ reads_failed : (m : ℕ) (old new : MembersState) → ReadsOn m old new → new.
 reads_failed m old new is = ap (λ (x : MembersState). x.failed) is ∙ failed_by (m == 0) _ _ old.failed refl refl
 
 -- the page after what was read
-page_after : (res : Result ⊤ PlayRefused) (begun page text : List ℕ) → OnOk res (Appends (Some begun) (Some page) text) → begun ≡ done_line → OnOk res (page ≡ done_line ++ text)
+page_after : {R : Type 0} (res : Result ⊤ (VisitStop R)) (begun page text : List ℕ) → OnOk res (Appends (Some begun) (Some page) text) → begun ≡ done_line → OnOk res (page ≡ done_line ++ text)
 page_after (Ok x) begun page text more is = more ∙ ap (λ (l : List ℕ). l ++ text) is
 page_after (Err x) begun page text more is = tt
 
@@ -56,12 +57,12 @@ returns-clause-answered g c = λ opening events t0 told h.
     let readable = stands_to_read opening events c.args.recording.now.members (h.works works).placed (g.M.Media.disk c.args.media.now) (h.works works).stands in
     played_answer opening events t0 c.args.recording.now (g.M.Media.disk c.args.media.now) h (Rose (sum (g.M.Media.faults c.args.media.now)) (sum (g.M.Media.faults c.play-played.new.media))) c.of_played.result works c.args.wanted.medium c.args.wanted.name.now c.args.wanted.from c.args.wanted.to
     c.play-played.new.self (g.M.Media.disk c.play-played.new.media) c.play-played.result c.play-played.new.out.bytes.items c.of_played.ensures
-    (e.looked opening events t0 h)
-    (reads_failed _ c.args.recording.now.members c.play-played.new.self.members e.members ∙ works)
+    (e.looked.done opening events t0 h)
+    (reads_failed _ c.args.recording.now.members c.play-played.new.self.members e.looked.read.members ∙ works)
     found.1
-    (λ refused. ap (λ (q : Query). lacks_channel (length channels) q.channel) (sym is) ∙ e.channel.0 refused)
-    (subst (λ (q : Query). (c.play-played.result ≡ Err plays.NoIncident) ↔ ((lacks_channel (length channels) q.channel ≡ false) × (lacks_incident c.args.recording.now.members.table q.medium ≡ true))) is e.incident)
+    (λ refused. ap (λ (q : Query). lacks_channel (length channels) q.channel) (sym is) ∙ e.accepted.channel.0 refused)
+    (subst (λ (q : Query). (c.play-played.result ≡ Err plays.NoIncident) ↔ ((lacks_channel (length channels) q.channel ≡ false) × (lacks_incident c.args.recording.now.members.table q.medium ≡ true))) is e.accepted.incident)
     (subst (λ (q : Query). OnOk c.play-played.result (c.play-played.new.out.bytes.items ≡ done_line ++ records_text nothing_seen (selected opening events q))) is
-    (page_after c.play-played.result c.in-Ok.page.bytes.items c.play-played.new.out.bytes.items _ (e.printed opening events (h.works works).placed told readable) c.in-Ok.ensures.text))
-    (λ m offset. e.undamaged opening events (h.works works).placed m offset told readable)
-    (λ fault. in_this_call c.args.recording.now.members.failed _ works (e.cause.in_all fault))
+    (page_after c.play-played.result c.in-Ok.page.bytes.items c.play-played.new.out.bytes.items _ (played_all opening events (h.works works).placed told readable e.played) c.in-Ok.ensures.text))
+    (λ m offset. played_undamaged opening events (h.works works).placed told readable e.played m offset)
+    (λ fault. in_this_call c.args.recording.now.members.failed _ works (e.looked.cause.in_all fault))

@@ -1,4 +1,4 @@
-use Rattle.std.proofs.Common.{◌≡◌, ◌<◌, ◌+◌, ◌-◌, ◌++◌, ◌∷◌, ℕ, List, [], false, true, Option, Some, None, get_or, length, refl, sym, ap, ◌∙◌, subst, arith}
+use Rattle.std.proofs.Common.{◌<◌, get_or, length, refl, sym, ap, ◌∙◌, arith}
 use Rattle.vdr_latch.specs.Passes.{Passing}
 use Rattle.vdr_desk.specs.declared.desk.Desk.{Desk}
 use Rattle.vdr_session.specs.declared.mark.Mark.{Mark}

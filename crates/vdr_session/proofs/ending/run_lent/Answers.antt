@@ -1,4 +1,4 @@
-use Rattle.std.proofs.Common.{rules, ◌≡◌, ◌⊎◌, inl, inr, ◌≤◌, ◌<◌, ℕ, [], Bool, true, false, true≢false, List, length, Option, Some, None, IfSome, ⊎_elim, refl, sym, ap, ◌∙◌, subst, arith}
+use Rattle.std.proofs.Common.{rules, ◌≡◌, ℕ, true, false, true≢false, List, length, Option, Some, None, IfSome, ⊎_elim, refl, sym, ap, subst}
 use Rattle.std.proofs.lemmas.Bool.{cases_Bool}
 use Rattle.vdr_terms.specs.Rates.{is_configured}
 use Rattle.vdr_config.specs.Sizes.{limits_in}
@@ -12,7 +12,7 @@ use Rattle.vdr_session.specs.declared.mark.Mark.{Mark}
 use Rattle.vdr_session.specs.declared.records.Began.{Began}
 use Rattle.vdr_session.specs.Answering.{AnswersMark}
 use Rattle.vdr_session.specs.Closed.{DesksRan}
-use Rattle.vdr_session.specs.Ended.{HasEnded, IsToldAs}
+use Rattle.vdr_session.specs.Ended.{HasEnded}
 use Rattle.vdr_session.proofs.Ends.{done_ends, fault_ends, not_begun_ends, stop_numbers, stop_place, stop_quiet}
 use Rattle.vdr_session.proofs.ending.run_lent.Goals as goal
 use Rattle.vdr_session.proofs.ending.run_lent.Goals.{in-Ok, in-Err}

@@ -1,4 +1,3 @@
-use Rattle.std.proofs.Common.{◌≡◌}
 use Rattle.vdr_session.proofs.Sessions.{session_alone}
 use Rattle.vdr_session.proofs.ports_alone.record.Goals as goal
 

@@ -1,9 +1,9 @@
-use Rattle.std.proofs.Common.{rules, ◌≡◌, ◌≢◌, ◌≤◌, ◌<◌, ◌-◌, ℕ, Bool, true, false, List, [], length, get_or, is_some, Option, Some, None, IfSome, refl, sym, ap, ◌∙◌, subst, arith}
+use Rattle.std.proofs.Common.{rules, ◌≡◌, ◌-◌, ℕ, false, List, [], get_or, is_some, Option, Some, None, IfSome, refl, sym, ap, ◌∙◌, subst}
 use Rattle.vdr_terms.specs.Rates.{is_configured}
 use Rattle.vdr_config.specs.Configuration.{Configuration, IsConfiguration}
 use Rattle.vdr_config.specs.Sizes.{limits_in}
-use Rattle.vdr_intake.specs.Ends.{QueueId, Taking}
-use Rattle.vdr_outside.specs.Disk.{Disk, content}
+use Rattle.vdr_intake.specs.Ends.{QueueId}
+use Rattle.vdr_outside.specs.Disk.{content}
 use Rattle.vdr_capture.specs.declared.lane.Lane.{Lane}
 use Rattle.vdr_session.specs.declared.session.SessionEnd.{SessionEnd}
 use Rattle.vdr_session.specs.Ran.{IsSetUp}

@@ -1,5 +1,4 @@
-use Rattle.std.proofs.Common.{[], ◌/◌}
-use Rattle.vdr_pace.specs.Commits.{item_size}
+use Rattle.std.proofs.Common.{[]}
 use Rattle.vdr_recorder.specs.Recordings.{HasRecorded}
 use Rattle.vdr_session.proofs.recording.record_at_desks.Given as goal
 
@@ -13,7 +12,7 @@ ghosts-run_lent g a = record {
   reads = (g.M.Media.disk a.media.now).reads;
   channels = a.recording.members.config.channels;
   rates = a.recording.members.config.groups;
-  room = a.recording.members.config.batch / item_size;
+  room = a.recording.members.config.batch;
   sizes = (g.M.Media.disk a.media.now).sizes;
   faults = g.M.Media.faults a.media.now;
 }

@@ -1,60 +1,76 @@
-use Rattle.std.proofs.Common.{rules, ◌≡◌, ◌≤◌, ◌<◌, ◌+◌, ◌%◌, ◌++◌, ℕ, Bool, List, [], ◌∷◌, true, false, refl, sym, ap, ◌∙◌, subst, append_assoc, append-nil, arith, length}
+use Rattle.std.proofs.Common.{rules, ◌≡◌, ◌++◌, List, [], true, false, refl, sym, ap, ◌∙◌, subst, append_assoc, append-nil, arith}
 use Rattle.vdr_history.specs.Taken.{Captured as CapturedTold}
-use Rattle.vdr_session.specs.declared.mark.Mark.{Mark as Marked}
-use Rattle.vdr_session.specs.Lanes.{AreMet, ArePopped, StayJoined}
-use Rattle.vdr_session.specs.Marks.{MayTake, is_begun, taken_by, taken_in}
+use Rattle.vdr_session.specs.Heads.{AreHeld}
+use Rattle.vdr_session.specs.Lanes.{ArePopped}
+use Rattle.vdr_session.specs.Marks.{MayTake, taken_in}
 use Rattle.vdr_session.proofs.Faults.{fault_last, none_is}
 use Rattle.vdr_session.proofs.Seen.{prefix_turn}
-use Rattle.vdr_session.proofs.Marked.{batch_taken, batch_whole, begun_after, begun_same, known_popped, no_items, popped_start, runs_popped, taken_same}
+use Rattle.vdr_session.proofs.Marked.{batch_taken, batch_whole, begun_after, begun_same, taken_same}
+use Rattle.vdr_session.proofs.Holding.{all_taken, held_below, let_go, none_held}
+use Rattle.vdr_session.proofs.HeldRuns.{known_held, runs_held}
 use Rattle.vdr_session.proofs.recording_loop.record_queued.Goals as goal
 
--- the next group, round to the first
-around : (n : ℕ) → (n + 1) % 16 < 16
-around n = omega arith
+pub loop-init : goal.loop-init
+loop-init g c = (
+  (refl, refl, c.requires.leads.0, c.requires.leads.1),
+  c.requires.met,
+  none_held (taken_in c.args.pass.now.own) c.none-heads.result c.args.takers.now c.none-heads.ensures c.requires.popped,
+  (λ k small. refl),
+  c.requires.room.2,
+  c.requires.empty,
+  search rules,
+  search rules,
+)
 
-pub loop-preserved-then-is_empty : goal.loop-preserved-then-is_empty
-loop-preserved-then-is_empty g c =
+pub returns-then-last-clause-popped : goal.returns-then-last-clause-popped
+returns-then-last-clause-popped g c =
     let i = c.loop.invariant in
-    let p = c.pop_all-empty.ensures in
-    let none : c.pop_all-empty.new.batch.items ≡ [] = no_items c.pop_all-empty.new.batch.items (search rules) in
-    let popped = p.popped (taken_in c.loop.pass.own) (popped_start c.loop.takers (taken_in c.loop.pass.own) c.loop.batch.items.items i.5 i.2) in (
-      i.0,
-      p.met g.T.Records.configured i.1,
-      subst (λ (xs : List CapturedTold). ArePopped xs c.pop_all-empty.new.takers) (ap (λ (xs : List CapturedTold). taken_in c.loop.pass.own ++ xs) none ∙ append-nil (taken_in c.loop.pass.own)) popped,
-      (λ k small. p.joined k small ∙ i.3 k small),
-      p.space.1,
-      none,
-      p.sixteen,
-      around c.loop.first,
-      i.8,
-    )
+    let p = c.hold_all.ensures in
+    let none = p.none (search rules) in
+    let held = p.held (taken_in c.loop.pass.own) i.2 in
+    ([], subst (λ (xs : List CapturedTold). ArePopped xs c.hold_all.new.takers) (sym (append-nil (taken_in c.loop.pass.own))) (all_taken (taken_in c.loop.pass.own) c.hold_all.new.heads c.hold_all.new.takers none.0 held), (λ _. refl))
+
+pub loop-preserved-then-hold_all : goal.loop-preserved-then-hold_all
+loop-preserved-then-hold_all g c =
+    let i = c.loop.invariant in
+    let p = c.hold_all.ensures in
+    (i.0, p.met g.T.Records.configured i.1, p.held (taken_in c.loop.pass.own) i.2, (λ k small. p.joined k small ∙ i.3 k small), i.4, i.5, p.sixteen.0, i.7)
+
+pub fill-requires-clause-met : goal.fill-requires-clause-met
+fill-requires-clause-met g c = (g.T.Records.configured, c.hold_all.ensures.met g.T.Records.configured c.loop.invariant.1)
 
 pub turn-requires-clause-asks : goal.turn-requires-clause-asks
 turn-requires-clause-asks g c x (history, possible, leaves) =
     let i = c.loop.invariant in
-    let p = c.pop_all-empty.ensures in
-    let popped = p.popped (taken_in c.loop.pass.own) (popped_start c.loop.takers (taken_in c.loop.pass.own) c.loop.batch.items.items i.5 i.2) in
-    let met = p.met g.T.Records.configured i.1 in
+    let p = c.fill.ensures in
+    let met = p.met g.T.Records.configured (c.hold_all.ensures.met g.T.Records.configured i.1) in
+    let held = p.held (taken_in c.loop.pass.own) (c.hold_all.ensures.held (taken_in c.loop.pass.own) i.2) in
     let led = possible.led i.0.2 in
     let begun = begun_same g.T.Stepped.leading c.requires.marks history c.loop.pass.own led ∙ i.0.3 in
     let taken = taken_same g.T.Stepped.leading c.requires.marks history c.loop.pass.own led in
-    let space = p.space.0 in
+    let fits = p.fits in
     let room = c.requires.room.1 in
-    let may : MayTake g.T.Records.room g.T.Records.configured (taken_in c.loop.pass.own) c.pop_all-empty.new.batch.items = record {
-      few = omega arith;
-      known = known_popped g.T.Records.configured c.args.queues.now c.pop_all-empty.new.takers met (taken_in c.loop.pass.own ++ c.pop_all-empty.new.batch.items) popped;
-      runs = runs_popped g.T.Records.configured c.args.queues.now c.pop_all-empty.new.takers met (taken_in c.loop.pass.own ++ c.pop_all-empty.new.batch.items) popped;
+    let may : MayTake g.T.Records.room g.T.Records.configured (taken_in c.loop.pass.own) c.fill.new.batch.items = record {
+      short = omega arith;
+      known = known_held g.T.Records.configured c.args.queues.now c.fill.new.takers met (taken_in c.loop.pass.own ++ c.fill.new.batch.items) c.fill.new.heads held;
+      runs = runs_held g.T.Records.configured c.args.queues.now c.fill.new.takers met (taken_in c.loop.pass.own ++ c.fill.new.batch.items) c.fill.new.heads held;
     } in
-    (taken_in history, c.requires.takes history x leaves begun, subst (λ (xs : List CapturedTold). MayTake g.T.Records.room g.T.Records.configured xs c.pop_all-empty.new.batch.items) (sym taken) may)
+    (taken_in history, c.requires.takes history x leaves begun, subst (λ (xs : List CapturedTold). MayTake g.T.Records.room g.T.Records.configured xs c.fill.new.batch.items) (sym taken) may)
 
 pub returns-then-not-batch-clause-popped : goal.returns-then-not-batch-clause-popped
 returns-then-not-batch-clause-popped g c =
     let i = c.loop.invariant in
-    let p = c.pop_all-empty.ensures in
-    let popped = p.popped (taken_in c.loop.pass.own) (popped_start c.loop.takers (taken_in c.loop.pass.own) c.loop.batch.items.items i.5 i.2) in
+    let own = taken_in c.loop.pass.own in
+    let held = c.fill.ensures.held own (c.hold_all.ensures.held own i.2) in
     let t = c.turn.ensures.event in
     let m = t.related.0 in
-    (m.lost, subst (λ (xs : List CapturedTold). ArePopped xs c.pop_all-empty.new.takers) (sym (batch_taken c.loop.pass.own _ t.own m)) popped, (λ e. absurd (never e)))
+    let rest = held_below 16 c.fill.new.heads in (
+      m.lost ++ rest,
+      subst (λ (xs : List CapturedTold). ArePopped xs c.fill.new.takers)
+          (ap (λ (xs : List CapturedTold). xs ++ rest) (sym (batch_taken c.loop.pass.own _ t.own m)) ∙ append_assoc (taken_in c.turn.new.pass.own) m.lost rest)
+          (let_go (own ++ c.fill.new.batch.items) c.fill.new.heads c.fill.new.takers held),
+      (λ e. absurd (never e)),
+    )
   where
     never : false ≡ true → ⊥
     never e = cc
@@ -62,20 +78,20 @@ returns-then-not-batch-clause-popped g c =
 pub loop-preserved : goal.loop-preserved
 loop-preserved g c =
     let i = c.loop.invariant in
-    let p = c.pop_all-empty.ensures in
-    let popped = p.popped (taken_in c.loop.pass.own) (popped_start c.loop.takers (taken_in c.loop.pass.own) c.loop.batch.items.items i.5 i.2) in
+    let own = taken_in c.loop.pass.own in
+    let p = c.fill.ensures in
+    let held = p.held own (c.hold_all.ensures.held own i.2) in
     let t = c.turn.ensures.event in
     let m = t.related.0 in
     let works : c.turn.new.job.works ≡ true = search rules in (
       (c.turn.ensures.pass.0 ∙ i.0.0, c.turn.ensures.pass.1 ∙ i.0.1, c.turn.ensures.pass.2 ∙ i.0.2, begun_after c.loop.pass.own _ t.own i.0.3),
-      p.met g.T.Records.configured i.1,
-      subst (λ (xs : List CapturedTold). ArePopped xs c.pop_all-empty.new.takers) (batch_whole c.loop.pass.own _ t.own m works) popped,
-      (λ k small. p.joined k small ∙ i.3 k small),
+      p.met g.T.Records.configured (c.hold_all.ensures.met g.T.Records.configured i.1),
+      subst (λ (xs : List CapturedTold). AreHeld xs c.fill.new.heads c.fill.new.takers) (batch_whole c.loop.pass.own _ t.own m works) held,
+      (λ k small. p.joined k small ∙ c.hold_all.ensures.joined k small ∙ i.3 k small),
       search rules,
       c.clear.ensures.items,
-      p.sixteen,
-      around c.loop.first,
-      prefix_turn c.args.pass.now.seen c.loop.pass.seen t.history _ _ i.8 t.possible.begins t.seen,
+      p.sixteen.0,
+      prefix_turn c.args.pass.now.seen c.loop.pass.seen t.history _ _ i.7 t.possible.begins t.seen,
     )
 
 pub returns-then-not-batch-clause-fails : goal.returns-then-not-batch-clause-fails
@@ -87,4 +103,4 @@ returns-then-not-batch-clause-fails g c = λ _.
 pub returns-then-not-batch-clause-seen : goal.returns-then-not-batch-clause-seen
 returns-then-not-batch-clause-seen g c =
     let t = c.turn.ensures.event in
-    prefix_turn c.args.pass.now.seen c.loop.pass.seen t.history _ _ c.loop.invariant.8 t.possible.begins t.seen
+    prefix_turn c.args.pass.now.seen c.loop.pass.seen t.history _ _ c.loop.invariant.7 t.possible.begins t.seen

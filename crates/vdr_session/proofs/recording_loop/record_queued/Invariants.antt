@@ -1,6 +1,8 @@
-use Rattle.std.proofs.Common.{◌≡◌, ◌≤◌, ◌<◌, List, [], true, vec_capacity, length}
+use Rattle.std.proofs.Common.{◌≡◌, ◌≤◌, ◌/◌, [], true, vec_capacity, length}
 use mathlib.Core.List.{IsPrefix}
-use Rattle.vdr_session.specs.Lanes.{AreMet, ArePopped, StayJoined}
+use Rattle.vdr_pace.specs.Commits.{least_item}
+use Rattle.vdr_session.specs.Heads.{AreHeld}
+use Rattle.vdr_session.specs.Lanes.{AreMet, StayJoined}
 use Rattle.vdr_session.specs.Marks.{is_begun, taken_in}
 use Rattle.vdr_session.proofs.recording_loop.record_queued.Given as goal
 
@@ -8,10 +10,9 @@ abbrev pub invariant-loop : goal.invariant-loop
 invariant-loop g l =
     ((l.pass.latch ≡ l.initial.pass.latch) × (l.pass.parts ≡ l.initial.pass.parts) × (l.pass.leads ≡ true) × (is_begun l.pass.own ≡ true))
     × AreMet g.T.Records.configured l.queues l.takers
-    × ArePopped (taken_in l.pass.own) l.takers
+    × AreHeld (taken_in l.pass.own) l.heads l.takers
     × StayJoined l.initial.takers l.takers
-    × (l.room ≤ vec_capacity l.batch.items)
+    × (l.room / least_item ≤ vec_capacity l.batch.items)
     × (l.batch.items.items ≡ [])
     × (length l.takers ≡ 16)
-    × (l.first < 16)
     × IsPrefix l.initial.pass.seen l.pass.seen

@@ -1,8 +1,7 @@
-use Rattle.std.proofs.Common.{rules, ◌≡◌, ◌<◌, ◌++◌, ℕ, List, [], Bool, true, false, true≢false, None, length, get_or, arith, refl, sym, ap, ◌∙◌, subst, append-nil}
+use Rattle.std.proofs.Common.{rules, ◌≡◌, ◌++◌, List, Bool, true, false, true≢false, None, get_or, arith, refl, sym, ap, ◌∙◌, subst, append-nil}
 use Rattle.vdr_history.specs.Taken.{Captured as CapturedTold}
 use Rattle.vdr_capture.specs.declared.lane.Lane.{Lane}
-use Rattle.vdr_session.specs.Lanes.{ArePopped, IsMet, joined_to, popped_by}
-use Rattle.vdr_session.specs.Joins.{MayJoin}
+use Rattle.vdr_session.specs.Lanes.{ArePopped}
 use Rattle.vdr_session.specs.Marks.{has_fault, taken_in}
 use Rattle.vdr_session.proofs.LanesRan.{first_of, joins_joined, joins_met, joins_popped, may_join, none_popped, popped_stays, ran, ready_met, ready_popped}
 use Rattle.vdr_session.proofs.Served.{served_on}

@@ -1,4 +1,4 @@
-use Rattle.std.proofs.Common.{◌≡◌, ◌≢◌, ◌<◌, ℕ, Some, get_or}
+use Rattle.std.proofs.Common.{◌≢◌, ◌<◌, ℕ, Some, get_or}
 use Rattle.vdr_capture.specs.declared.lane.Cause.TheVariants.{Failed}
 use Rattle.vdr_capture.specs.declared.lane.Lane.{Lane}
 use Rattle.vdr_session.proofs.summing.failed_port.Given as goal

@@ -1,10 +1,7 @@
-use Rattle.std.proofs.Common.{rules, ◌≡◌, ◌<◌, ◌≤◌, ℕ, List, Option, Some, None, is_some, true, length, get_or, set, sym, ap, ◌∙◌, subst, arith, refl}
+use Rattle.std.proofs.Common.{◌≡◌, ◌<◌, Option, Some, None, is_some, true, length, get_or, ap, ◌∙◌, arith}
 use Rattle.std.proofs.lemmas.List.{get_or_read, get_or-set_other, length-set}
-use Rattle.vdr_history.specs.Runs.{RunStart}
-use Rattle.vdr_history.specs.Taken.{Captured}
 use Rattle.vdr_intake.specs.Ends.{QueueId}
 use Rattle.vdr_capture.specs.declared.lane.Lane.{Lane}
-use Rattle.vdr_recorder.specs.Making.{CountsItems}
 use Rattle.vdr_session.specs.Summing.{summed}
 use Rattle.vdr_session.proofs.Popped.{at_each, no_default}
 use Rattle.vdr_session.proofs.summing.sums.Goals as goal

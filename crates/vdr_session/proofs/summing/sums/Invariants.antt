@@ -1,4 +1,4 @@
-use Rattle.std.proofs.Common.{◌≡◌, ◌≤◌, ◌<◌, ℕ, List, Option, Some, None, is_some, true, length, get_or}
+use Rattle.std.proofs.Common.{◌≡◌, ◌≤◌, ◌<◌, ℕ, List, Some, None, is_some, true, length, get_or}
 use Rattle.vdr_history.specs.Runs.{RunStart}
 use Rattle.vdr_history.specs.Taken.{Captured}
 use Rattle.vdr_capture.specs.declared.lane.Lane.{Lane}

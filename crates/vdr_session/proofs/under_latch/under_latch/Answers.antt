@@ -1,18 +1,15 @@
-use Rattle.std.proofs.Common.{rules, ◌≡◌, ◌<◌, ◌++◌, ◌∷◌, ℕ, Bool, List, [], true, false, Option, get_or, None, length, refl, sym, ap, ◌∙◌, subst}
+use Rattle.std.proofs.Common.{rules, ◌≡◌, ◌++◌, List, [], false, Option, get_or, None, length, sym, ap, ◌∙◌, subst}
 use Rattle.std.specs.List.{filter}
 use Rattle.vdr_intake.specs.Ends.{Taking}
 use Rattle.vdr_capture.specs.declared.lane.Lane.{Lane}
 use Rattle.vdr_history.specs.Taken.{Captured}
 use Rattle.vdr_session.specs.declared.mark.Mark.{Mark as Marked}
-use Rattle.vdr_session.specs.declared.records.Began.{Began}
-use Rattle.vdr_session.specs.declared.records.Began.TheVariants.{Begun}
 use Rattle.vdr_session.specs.Lanes.{AreDrained, AreMet, ArePopped}
-use Rattle.vdr_session.specs.Marks.{has_fault, is_begun, is_leading, taken_in}
+use Rattle.vdr_session.specs.Marks.{has_fault, is_begun, taken_in}
 use Rattle.vdr_latch.specs.Passes.{Passing}
 use Rattle.vdr_desk.specs.declared.desk.Desk.{Desk}
 use Rattle.vdr_desk.specs.Desks.{HasServed}
 use Rattle.vdr_session.specs.Ran.{LaneRan}
-use Rattle.vdr_session.specs.Closed.{HasClosed, NotBegun, RanLanes}
 use Rattle.vdr_session.specs.Events.{is_started}
 use Rattle.vdr_session.proofs.Faults.{fault_last, fault_none, none_leads, started_by}
 use Rattle.vdr_session.proofs.Marked.{begun_same, none_begun, taken_none, taken_same}

@@ -1,8 +1,8 @@
 use Rattle.std.proofs.Common.{refl}
 use Rattle.std.proofs.lemmas.Result.{err_from_is_err_and}
-use Rattle.vdr_tool.specs.Outside.{MediaSeen}
+use Rattle.vdr_command.specs.Outside.{MediaSeen}
 use Rattle.vdr_tool.specs.Releases.{CanRelease, ReleasesId}
-use Rattle.vdr_tool.proofs.OpenedLemmas.{level_opened, no_act, refused_ends}
+use Rattle.vdr_command.proofs.OpenedLemmas.{level_opened, no_act, refused_ends}
 use Rattle.vdr_tool.proofs.SaveLemmas.{released_ends, released_missing, unreleased_level}
 use Rattle.vdr_tool.proofs.releasing.release.Goals as goal
 

@@ -2,11 +2,11 @@ use Rattle.std.proofs.Common.{List, Option, Some, ◌∙◌, ap, suc, sym}
 use Rattle.std.specs.Prelude.{is_none, option_map, position}
 use Rattle.std.proofs.lemmas.Result.{err_from_is_err_and}
 use Rattle.vdr_history.specs.Histories.{Incident}
-use Rattle.vdr_tool.specs.Opened.{MetUnsound}
-use Rattle.vdr_tool.specs.Endings.{ending}
-use Rattle.vdr_tool.specs.Outside.{MediaSeen, OutputSeen}
+use Rattle.vdr_command.specs.Opened.{MetUnsound}
+use Rattle.vdr_command.specs.Endings.{ending}
+use Rattle.vdr_command.specs.Outside.{MediaSeen, OutputSeen}
 use Rattle.vdr_tool.specs.Saves.{CanSave, SavesAs, id_line, save_text}
-use Rattle.vdr_tool.proofs.OpenedLemmas.{done_is_begun, level_opened, no_act, refused_ends}
+use Rattle.vdr_command.proofs.OpenedLemmas.{done_is_begun, level_opened, no_act, refused_ends}
 use Rattle.vdr_tool.proofs.SaveLemmas.{prints_as, saved_ends, unsaved_ends, unsaved_level, unsaved_refused}
 use Rattle.vdr_tool.proofs.saving.save.Goals as goal
 

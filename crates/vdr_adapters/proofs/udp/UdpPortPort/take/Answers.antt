@@ -5,8 +5,8 @@ use Rattle.vdr_outside.specs.Takes.{Gives, Standing}
 use Rattle.vdr_adapters.proofs.Hearing.{gives, untold}
 use Rattle.vdr_adapters.proofs.udp.UdpPortPort.take.Goals as goal
 
-pub returns-in-Ok-true-clause-took : goal.returns-in-Ok-true-clause-took
-returns-in-Ok-true-clause-took g c =
+pub returns-in-Ok-Datagram-clause-took : goal.returns-in-Ok-Datagram-clause-took
+returns-in-Ok-Datagram-clause-took g c =
     let bytes = c.receive.new.into.items in
     let received = c.received-received.result in
     let utc = c.utc-utc.result in

@@ -1,5 +1,17 @@
+use Rattle.std.proofs.Common.{arith}
+use Rattle.vdr_pace.proofs.ItemSizes.{fit_few}
 use Rattle.vdr_recorder.proofs.Batches.{number_fits, taken_more}
 use Rattle.vdr_recorder.proofs.maker.Maker.make.Goals as goal
+
+pub take-requires-clause-room : goal.take-requires-clause-room
+take-requires-clause-room c =
+    let taken = c.loop-item.invariant in
+    let few = taken.few in
+    let kept = taken.room in
+    let room = c.requires.room in
+    let test = c.loop-item-test.true in
+    let count = fit_few c.args.config.now.batch c.args.items.now c.requires.short in
+    omega (arith, few, kept, room, test, count, c.loop-item.self.records.ok.0)
 
 pub take-requires-clause-number : goal.take-requires-clause-number
 take-requires-clause-number c within =

@@ -1,65 +1,9 @@
-use Rattle.std.proofs.Common.{Err, List, ◌∙◌, ℕ, ap, refl, sym, subst}
-use Rattle.std.proofs.lemmas.Result.{err_from_is_err_and}
-use Rattle.std.specs.Io.KnownBytes.{Appends}
-use Rattle.vdr_playback.specs.Playback.{medium_of, selected}
-use Rattle.vdr_outside.specs.Writes.{AppendsFront}
-use Rattle.vdr_entry.specs.Queries.{asked, asked_medium}
-use Rattle.vdr_play.specs.Streams.{nothing_seen}
-use Rattle.vdr_play.specs.Texts.{records_text}
-use Rattle.vdr_recorder.specs.declared.play.PlayRefused.{PlayRefused}
-use Rattle.vdr_recorder.specs.declared.play.PlayRefused.TheVariants.{Damaged}
-use Rattle.vdr_recorder.proofs.Answering.{same_disk, text_is}
-use Rattle.vdr_recorder.proofs.Looking.{look_done}
-use Rattle.vdr_recorder.proofs.Printing.{reads_keep}
-use Rattle.vdr_recorder.proofs.Refusing.{same_refusal}
+use Rattle.std.proofs.Common.{refl}
+use Rattle.vdr_entry.specs.Queries.{asked}
+use Rattle.vdr_recorder.proofs.Printing.{played}
 use Rattle.vdr_recorder.proofs.recording.Recording.play.Goals as goal
 
-pub returns-in_err-accept-clause-looked : goal.returns-in_err-accept-clause-looked
-returns-in_err-accept-clause-looked g c opening events t0 h =
-    look_done opening events t0 c.args.self.now (g.M.Media.disk c.args.media.now) (g.M.Media.disk c.args.media.now) h c.args.self.now.members (same_disk (g.M.Media.disk c.args.media.now))
-    refl refl refl refl refl (λ placed stands. stands)
-
-pub returns-in_err-print_selected-clause-looked : goal.returns-in_err-print_selected-clause-looked
-returns-in_err-print_selected-clause-looked g c = rw (sym c.self.view_is) (λ opening events t0 h.
-    let kept = reads_keep (medium_of (asked_medium c.args.query.now.medium)) c.self.inside.members c.print_selected.new.members c.print_selected.ensures.members in
-    look_done opening events t0 _ (g.M.Media.disk c.args.media.now) (g.M.Media.disk c.print_selected.new.media) h c.print_selected.new.members c.print_selected.ensures.unchanged
-    kept.4 kept.0 kept.2 kept.3 kept.1 (λ placed stands. c.print_selected.ensures.stands opening events placed stands))
-
-pub returns-in-Ok-clause-printed : goal.returns-in-Ok-clause-printed
-returns-in-Ok-clause-printed g c = rw (sym c.self.view_is) (λ opening events placed told stands.
-    subst (λ (text : List ℕ). Appends (g.O.Sink.taken c.args.out.now) (g.O.Sink.taken c.write_all.new.sink) text)
-    (text_is c.bytes.result.now c.print_selected.new.text.bytes.items c.new-text.result.bytes.items (records_text nothing_seen (selected opening events (asked c.args.query.now))) c.bytes.ensures
-    c.new-text.ensures (c.in_ok-print_selected.ensures.printed opening events placed told stands))
-    c.in-Ok.ensures.all)
-
-pub returns-in-Ok-clause-front : goal.returns-in-Ok-clause-front
-returns-in-Ok-clause-front g c = rw (sym c.self.view_is) (λ opening events placed told stands.
-    subst (λ (text : List ℕ). AppendsFront (g.O.Sink.taken c.args.out.now) (g.O.Sink.taken c.write_all.new.sink) text)
-    (text_is c.bytes.result.now c.print_selected.new.text.bytes.items c.new-text.result.bytes.items (records_text nothing_seen (selected opening events (asked c.args.query.now))) c.bytes.ensures
-    c.new-text.ensures (c.in_ok-print_selected.ensures.printed opening events placed told stands))
-    c.write_all.ensures.front)
-
-pub returns-in-Ok-clause-looked : goal.returns-in-Ok-clause-looked
-returns-in-Ok-clause-looked g c = rw (sym c.self.view_is) (λ opening events t0 h.
-    let kept = reads_keep (medium_of (asked_medium c.args.query.now.medium)) c.self.inside.members c.print_selected.new.members c.print_selected.ensures.members in
-    look_done opening events t0 _ (g.M.Media.disk c.args.media.now) (g.M.Media.disk c.print_selected.new.media) h c.print_selected.new.members c.print_selected.ensures.unchanged
-    kept.4 kept.0 kept.2 kept.3 kept.1 (λ placed stands. c.print_selected.ensures.stands opening events placed stands))
-
-pub returns-clause-front : goal.returns-clause-front
-returns-clause-front g c = rw (sym c.self.view_is) (λ opening events placed told stands.
-    subst (λ (text : List ℕ). AppendsFront (g.O.Sink.taken c.args.out.now) (g.O.Sink.taken c.write_all.new.sink) text)
-    (text_is c.bytes.result.now c.print_selected.new.text.bytes.items c.new-text.result.bytes.items (records_text nothing_seen (selected opening events (asked c.args.query.now))) c.bytes.ensures
-    c.new-text.ensures (c.in_ok-print_selected.ensures.printed opening events placed told stands))
-    c.write_all.ensures.front)
-
-pub returns-clause-looked : goal.returns-clause-looked
-returns-clause-looked g c = rw (sym c.self.view_is) (λ opening events t0 h.
-    let kept = reads_keep (medium_of (asked_medium c.args.query.now.medium)) c.self.inside.members c.print_selected.new.members c.print_selected.ensures.members in
-    look_done opening events t0 _ (g.M.Media.disk c.args.media.now) (g.M.Media.disk c.print_selected.new.media) h c.print_selected.new.members c.print_selected.ensures.unchanged
-    kept.4 kept.0 kept.2 kept.3 kept.1 (λ placed stands. c.print_selected.ensures.stands opening events placed stands))
-
-pub returns-in_err-print_selected-clause-undamaged : goal.returns-in_err-print_selected-clause-undamaged
-returns-in_err-print_selected-clause-undamaged g c = rw (sym c.self.view_is) (λ opening events placed m offset told readable damage.
-    let p = err_from_is_err_and c.from_residual-in_err-print_selected.result c.from_residual-in_err-print_selected.ensures.1 in
-    c.print_selected.ensures.undamaged opening events placed m offset told readable
-    (c.in_err-print_selected.was ∙ ap (λ (e : PlayRefused). Err e) (sym p.2 ∙ same_refusal p.0 (Damaged m offset) c.from_residual-in_err-print_selected.result p.1 damage)))
+pub returns-clause-played : goal.returns-clause-played
+returns-clause-played g c =
+    played (asked c.args.query.now) c.args.self.now.members (g.M.Media.disk c.args.media.now) (g.O.Sink.taken c.args.out.now) (g.O.Sink.taken c.visit.new.out) c.visit.result c.new.result.tracks _ c.new.ensures
+    (c.visit.ensures.visited c.new.result refl)

@@ -1,11 +1,11 @@
-use Rattle.std.proofs.Common.{◌≡◌, ◌≤◌, ◌/◌, ◌++◌, ◌∙◌, sym, ap, subst, arith, true, List, length, All}
+use Rattle.std.proofs.Common.{◌≡◌, ◌≤◌, ◌++◌, ◌∙◌, sym, ap, subst, arith, true, List, All}
 use Rattle.vdr_terms.specs.Rates.{is_configured}
 use Rattle.vdr_terms.specs.Records.{Record}
 use Rattle.vdr_history.specs.Recorder.{recorder_after}
 use Rattle.vdr_history.specs.RunStates.{recorder_in, state_left}
 use Rattle.vdr_config.specs.Configuration.{Configuration}
 use Rattle.vdr_config.specs.Sizes.{limits_in}
-use Rattle.vdr_pace.specs.Commits.{item_size}
+use Rattle.vdr_pace.specs.Commits.{items_size}
 use Rattle.vdr_recorder.specs.Making.{Makes}
 use Rattle.vdr_recorder.specs.Recordings.{RecordingState}
 use Rattle.vdr_recorder.proofs.Running.{batch_done, batch_goes_on, batch_is_short, kept_of, makes_now, none_made}
@@ -16,10 +16,8 @@ commit-requires-clause-short g c =
     let opened = ap (λ (s : RecordingState). s.is_open) c.self.view_is ∙ c.requires.open in
     let m = c.self.invariant.makes opened in
     let makes = subst (λ (config : Configuration). Makes config m.0 m.1 c.self.inside.maker) (sym c.config.ensures) m.2 in
-    batch_is_short c.self.inside.members.config c.args.items.now c.records.result.now m.0 m.1
-    (subst (λ (s : RecordingState). length c.args.items.now ≤ s.members.config.batch / item_size) (sym c.self.view_is) c.requires.few)
-    (subst (λ (s : RecordingState). All (λ c. is_configured (limits_in s.members.config.groups c.group) ≡ true) c.args.items.now) (sym c.self.view_is) c.requires.configured)
-    c.note_lengths.ensures
+    batch_is_short c.self.inside.members.config.batch c.args.items.now c.records.result.now m.0 m.1
+    (subst (λ (s : RecordingState). items_size c.args.items.now ≤ s.members.config.batch) (sym c.self.view_is) c.requires.short)
     (c.make.ensures.records m.0 m.1 makes ∙ ap (λ (rs : List Record). (recorder_after m.0 m.1).made ++ rs) (sym c.records.ensures))
 
 pub returns-clause-taken : goal.returns-clause-taken
@@ -30,7 +28,7 @@ returns-clause-taken g c = rw (sym c.self.view_is) (λ opening events t0 told wo
     let made = c.make.ensures.records (state_left opening events).start (state_left opening events).popped makes
     ∙ ap (λ (rs : List Record). (recorder_in (state_left opening events)).made ++ rs) (sym c.records.ensures) in
     let done = batch_goes_on opening events t0 _ _ h works opened c.args.items.now c.records.result.now made
-    (subst (λ (s : RecordingState). length c.args.items.now ≤ s.members.config.batch / item_size) (sym c.self.view_is) c.requires.few)
+    (subst (λ (s : RecordingState). items_size c.args.items.now ≤ s.members.config.batch) (sym c.self.view_is) c.requires.short)
     (subst (λ (s : RecordingState). All (λ c. is_configured (limits_in s.members.config.groups c.group) ≡ true) c.args.items.now) (sym c.self.view_is) c.requires.configured)
     c.note_lengths.ensures in
     let k = c.commit.ensures.event opening events t0 c.args.items.now told (kept_of opening events t0 _ _ h) (omega (arith, c.self.invariant.legal.batch_low)) done in (

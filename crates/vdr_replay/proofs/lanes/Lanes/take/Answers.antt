@@ -1,4 +1,5 @@
-use Rattle.std.proofs.Common.{refl, sym, ap, ◌∙◌}
+use Rattle.std.proofs.Common.{refl, sym, ap, ◌∙◌, arith}
+use Rattle.vdr_pace.proofs.ItemSizes.{fit_few}
 use Rattle.vdr_terms.specs.declared.datagram.Verdict.TheVariants.{Yes, Bad, Large}
 use Rattle.vdr_terms.specs.Datagrams.{verdict}
 use Rattle.vdr_replay.proofs.Held.{batch_same, batch_with, counts_taken, rate_fits, taken_fits}
@@ -9,6 +10,15 @@ capture-next-requires-clause-counted c = taken_fits c.requires.counted.0 c.args.
 
 pub capture-next-requires-clause-not_by_rate : goal.capture-next-requires-clause-not_by_rate
 capture-next-requires-clause-not_by_rate c = rate_fits c.requires.counted.0 c.args.self.now c.args.item.now.group _ c.requires.counted.1 c.requires.legal.group
+
+pub push-requires : goal.push-requires
+push-requires c =
+    let sized = c.requires.sized in
+    let size = sized.size in
+    let space = sized.space in
+    let fits = c.requires.fits in
+    let few = fit_few c.args.self.now.size c.args.self.now.batch.items (omega (arith, size)) in
+    omega (arith, few, space, fits, c.args.self.now.batch.ok.0)
 
 pub bad-requires : goal.bad-requires
 bad-requires c = taken_fits c.requires.counted.0 c.args.self.now c.args.item.now.group _ c.requires.counted.1 c.requires.counted.2 c.requires.legal.group

@@ -1,7 +1,5 @@
-use Rattle.std.proofs.Common.{◌≡◌}
-use Rattle.std.specs.Prelude.{sum}
 use Rattle.vdr_control.specs.Orders.{plain}
-use Rattle.vdr_session.proofs.Orders.{follows, order_answers, order_kept}
+use Rattle.vdr_session.proofs.Orders.{order_answers, order_kept}
 use Rattle.vdr_session.proofs.answering.KeptAnswers.answer.Goals as goal
 
 pub returns-clause-leaves : goal.returns-clause-leaves

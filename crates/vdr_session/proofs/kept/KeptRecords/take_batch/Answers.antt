@@ -1,19 +1,17 @@
-use Rattle.std.proofs.Common.{◌≡◌, ◌≢◌, ◌⊎◌, inl, inr, ◌<◌, ◌≤◌, ◌+◌, ◌*◌, ◌++◌, ℕ, Bool, true, false, true≢false, List, [], ◌∷◌, Option, All, Result, Ok, Err, length, cond, sym, refl, ap, ◌∙◌, subst, arith}
+use Rattle.std.proofs.Common.{◌≡◌, ◌⊎◌, inl, inr, ◌++◌, true, false, List, [], ◌∷◌, Option, All, sym, ap, subst, arith}
 use Rattle.std.proofs.lemmas.Bool.{cases_Bool}
 use Rattle.std.proofs.lemmas.List.{length-append}
 use Rattle.vdr_terms.specs.declared.rate.Rate.{Rate}
 use Rattle.vdr_terms.specs.Rates.{is_configured}
 use Rattle.vdr_history.specs.Taken.{Captured}
 use Rattle.vdr_config.specs.Sizes.{limits_in}
-use Rattle.vdr_intake.specs.Items.{most_items}
 use Rattle.std.specs.Prelude.{sum}
 use Rattle.vdr_outside.specs.Causes.{Rose}
 use Rattle.vdr_session.proofs.LanesFed.{all_behind}
 use Rattle.vdr_session.proofs.Numbered.{items_few, numbers_append, numbers_small}
-use Rattle.vdr_session.specs.Marks.{IsMarkOf}
 use Rattle.vdr_session.specs.Standing.{IsKept, batch_mark}
 use Rattle.vdr_session.specs.declared.mark.Mark.{Mark}
-use Rattle.vdr_session.proofs.Steps.{StaysHome, batch_kept, batch_look_kept, mark_is, rose_of}
+use Rattle.vdr_session.proofs.Steps.{batch_kept, batch_look_kept, mark_is, rose_of}
 use Rattle.vdr_session.proofs.kept.KeptRecords.take_batch.Goals as goal
 
 pub take_batch-requires-clause-configured : goal.take_batch-requires-clause-configured

@@ -1,4 +1,4 @@
-use Rattle.std.proofs.Common.{rules, ◌≡◌, ◌<◌, ℕ, Bool, false, Option, Some, None, is_some, length, get_or, set, sym, ap, ◌∙◌, arith, refl}
+use Rattle.std.proofs.Common.{◌≡◌, false, Option, Some, None, is_some, get_or, ap, ◌∙◌, arith, refl}
 use Rattle.std.proofs.lemmas.List.{length-set}
 use Rattle.vdr_terms.specs.Rates.{is_configured, limit_of}
 use Rattle.vdr_terms.specs.declared.rate.Rate.{Rate}

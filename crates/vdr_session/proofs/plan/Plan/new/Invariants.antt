@@ -1,4 +1,4 @@
-use Rattle.std.proofs.Common.{◌≡◌, ◌≤◌, ◌<◌, ℕ, false, length, get_or}
+use Rattle.std.proofs.Common.{◌≡◌, ◌<◌, ℕ, false, length, get_or}
 use Rattle.vdr_terms.specs.Rates.{is_configured}
 use Rattle.vdr_config.specs.Sizes.{limits_in}
 use Rattle.vdr_session.proofs.plan.Plan.new.Given as goal

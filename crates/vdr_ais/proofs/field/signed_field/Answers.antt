@@ -1,0 +1,9 @@
+use Rattle.std.proofs.Common.{◌-◌, ◌+◌, arith}
+use Rattle.vdr_ais.proofs.BitLemmas.{pow_within}
+use Rattle.vdr_ais.proofs.field.signed_field.Goals as goal
+
+pub signed-requires-clause-half : goal.signed-requires-clause-half
+signed-requires-clause-half c = let p = pow_within (c.args.last - c.args.first) 29 (omega (arith, c.requires.short)) in omega (arith, p)
+
+pub signed-requires-clause-below : goal.signed-requires-clause-below
+signed-requires-clause-below c = let p = pow_within (c.args.last + 1 - c.args.first) 30 (omega (arith, c.requires.short)) in omega (arith, p, c.field.ensures.below)

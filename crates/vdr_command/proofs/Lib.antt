@@ -1,0 +1,5 @@
+pub mod GroupNames
+pub mod Lines
+pub mod OpenedCompleteness
+pub mod OpenedLemmas
+pub mod PlayedBack

@@ -1,0 +1,255 @@
+-- What commands on recorded media answer, from what opening them and one call of the recorder ensure.
+use Rattle.std.specs.Prelude.{IsErrOf}
+use Rattle.std.proofs.Common.{◌≡◌, ◌≤◌, ◌⊎◌, ◌∷◌, ◌++◌, ap, inl, inr, ⊎_elim, ℕ, false, List, [], Result, Ok, Err, refl, sym, subst, arith, ◌∙◌}
+use Rattle.std.proofs.lemmas.List.Elements.{All-cons, All-nil}
+use Rattle.vdr_terms.specs.Records.{Record}
+use Rattle.vdr_history.specs.Histories.{Act, Event, recorded, records_of_act}
+use Rattle.vdr_history.specs.Histories.Act.{Look}
+use Rattle.vdr_durability.specs.Keeping.{ShowsPrefix}
+use Rattle.vdr_durability.specs.Readings.{AreLevel, EndsMeet}
+use Rattle.vdr_outside.specs.Disk.{Disk, Image, SameBut, Unchanged}
+use Rattle.vdr_outside.proofs.Moments.{moments_and_reads}
+use Rattle.vdr_config.specs.Grammar.{configuration}
+use Rattle.vdr_media.specs.Formatted.{IsFormatted, IsUnformatted}
+use Rattle.vdr_opening.specs.Answers.{HasOpenCause}
+use Rattle.vdr_opening.specs.Media.{both, Contents, HoldsContents, opening_of, reading_of}
+use Rattle.vdr_opening.specs.Refusals.{IsRefused}
+use Rattle.vdr_opening.specs.declared.refused.OpenRefused.{OpenRefused}
+use Rattle.vdr_opening.specs.declared.refused.OpenRefused.TheVariants as openings
+use Rattle.vdr_recorder.specs.Recordings.{HasDone, RecordingState}
+use Rattle.vdr_vault.specs.Openings.{GoesOnSynced, LeavesAll, OpensAtEachMoment}
+use Rattle.vdr_vault.proofs.OpenMoments.{never_both}
+use Rattle.vdr_vault.specs.Vaults.{MembersState, ShowsHistory}
+use Rattle.vdr_command.specs.Endings.{IsWorkDone}
+use Rattle.vdr_command.specs.Opened.{AreLooks, IsLegibleWith, IsUnbegun, IsUnopened, KeepsContents, MayLeave, MediaEnds, WasRecorded, WritesNothing, newest_of}
+use Rattle.vdr_command.specs.Statuses.{status_of_opening}
+use Rattle.vdr_command.specs.Outside.{MediaSeen}
+use Rattle.vdr_command.specs.declared.status.Status.{Status}
+use Rattle.vdr_command.specs.declared.status.Status.TheVariants.{Done, Words, Config, Small, Unformatted, Formatted, Damaged, MediaFault, PortFault, LinkFault, InputFault, OutputFault, NoMemory, Feed, NoChannel, NoIncident, SaveRefused, Place, Tick, ExportKind, ExportNothing, ExportMixed, ExportLong, ExportPart}
+use Rattle.vdr_replay.proofs.Playing.{config_read}
+use Rattle.vdr_replay.proofs.Resting.{stand_reads}
+use Rattle.vdr_command.proofs.PlayedBack.{keeps_played, played_as, prefix_played}
+
+-- What was opened stays, where nothing is recorded.
+first_of_all : (x : Contents) (events : List Event) (image : Image) → ShowsHistory (opening_of x) [] image → ShowsPrefix (ShowsHistory (opening_of x)) events 0 image
+first_of_all x events image shows = record { first = []; rest = events; split = refl; enough = omega arith; shown = shows }
+
+pub no_looks : AreLooks []
+no_looks = record { few = omega arith; looks = All-nil (λ (e : Event). e.act ≡ Look) }
+
+pub one_look : (event : Event) → event.act ≡ Look → AreLooks (event ∷ [])
+one_look event is = record { few = omega arith; looks = All-cons (λ (e : Event). e.act ≡ Look) event [] is (All-nil (λ (e : Event). e.act ≡ Look)) }
+
+-- Opening alone does no act.
+pub no_act : (Does : Act → Type 0) (clock : ℕ) (refused : OpenRefused) → MayLeave Does clock (status_of_opening refused) []
+no_act Does clock openings.NoMemory = no_looks
+no_act Does clock openings.NotFormatted = no_looks
+no_act Does clock (openings.Damaged m offset) = no_looks
+no_act Does clock openings.Fault = inl no_looks
+
+pub done_either : (status : Status) → IsWorkDone status → (status ≡ Done) ⊎ (status ≡ OutputFault)
+done_either Done is = inl refl
+done_either OutputFault is = inr refl
+done_either Words is = absurd is
+done_either (Config n) is = absurd is
+done_either (Small small) is = absurd is
+done_either Unformatted is = absurd is
+done_either Formatted is = absurd is
+done_either (Damaged m offset) is = absurd is
+done_either MediaFault is = absurd is
+done_either InputFault is = absurd is
+done_either NoMemory is = absurd is
+done_either (Feed n at) is = absurd is
+done_either NoChannel is = absurd is
+done_either (NoIncident id) is = absurd is
+done_either (SaveRefused cause) is = absurd is
+done_either Place is = absurd is
+done_either (PortFault group) is = absurd is
+done_either (LinkFault link) is = absurd is
+done_either Tick is = absurd is
+done_either ExportKind is = absurd is
+done_either ExportNothing is = absurd is
+done_either (ExportMixed place) is = absurd is
+done_either ExportLong is = absurd is
+done_either (ExportPart number) is = absurd is
+
+-- Work that was done was begun.
+pub done_is_begun : {P : Type 0} (status : Status) → IsWorkDone status → IsUnbegun status → P
+done_is_begun status done unbegun = ⊎_elim (λ (is : status ≡ Done). absurd (subst IsUnbegun is unbegun)) (λ (is : status ≡ OutputFault). absurd (subst IsUnbegun is unbegun)) (done_either status done)
+
+module _ {tells tells_images : Type 0} where
+  keeps_opened : (x : Contents) → configuration x.text ≡ Ok x.config → WasRecorded x → (MayBe : List Event → Type 0) (status : Status) → MayBe [] → (old new : Disk tells tells_images)
+      → (IsWorkDone status → tells → ShowsHistory (opening_of x) [] new.reads) → GoesOnSynced old new (ShowsHistory (opening_of x) []) → KeepsContents x MayBe status old new
+  keeps_opened x reads sound MayBe status may old new rests goes = record {
+    events = [];
+    may_be = may;
+    history = record { follow = tt; pending = tt };
+    since_entry = λ image s. ⊎_elim (λ was. inl was) (λ shows. inr (prefix_played x reads sound [] refl 0 image (first_of_all x [] image shows))) (goes.moments.each image s);
+    synced = goes.synced;
+    after_entry = goes.after_entry;
+    before_exit = goes.before_exit;
+    kept = keeps_played x reads sound [] refl goes.synced new (record {
+      rising = omega arith;
+      pending = tt;
+      prefixes = λ t image from upto s. first_of_all x [] image (goes.since image (new.earlier goes.synced t image from s));
+      now = λ whole image n. goes.since image (new.counts_now goes.synced image goes.before_exit n);
+    });
+    reads = λ done t. played_as x reads sound [] refl new.reads (rests done t);
+  }
+
+  kept_by_opening : {T : Type 0} (x : Contents) → configuration x.text ≡ Ok x.config → WasRecorded x → (MayBe : List Event → Type 0) (status : Status) (old new : Disk tells tells_images) (result : Result T OpenRefused) → MayBe []
+      → (IsWorkDone status → tells → ShowsHistory (opening_of x) [] new.reads) → (IsErrOf result openings.Fault → IsUnopened status) → OpensAtEachMoment old new result (ShowsHistory (opening_of x) [])
+      → (IsUnopened status × LeavesAll old new) ⊎ KeepsContents x MayBe status old new
+  kept_by_opening x reads sound MayBe status old new result may rests unopened (inl ends) = inl (unopened ends.failed, ends.moments)
+  kept_by_opening x reads sound MayBe status old new result may rests unopened (inr goes) = inr (keeps_opened x reads sound MayBe status may old new rests goes)
+
+  -- The media were opened, and nothing else was done.
+  pub kept_opened : {T : Type 0} (x : Contents) → configuration x.text ≡ Ok x.config → WasRecorded x → (MayBe : List Event → Type 0) (status : Status) (old new : Disk tells tells_images) (result : Result T OpenRefused) (r : T) → result ≡ Ok r → MayBe []
+      → (IsWorkDone status → tells → ShowsHistory (opening_of x) [] new.reads) → OpensAtEachMoment old new result (ShowsHistory (opening_of x) []) → KeepsContents x MayBe status old new
+  kept_opened x reads sound MayBe status old new result r is may rests (inl ends) = let clash : Ok r ≡ Err openings.Fault = sym is ∙ ends.failed in let none : ⊥ = cc in absurd none
+  kept_opened x reads sound MayBe status old new result r is may rests (inr goes) = keeps_opened x reads sound MayBe status may old new rests goes
+
+  -- What opening leaves where nothing is missing, and calls that read, or that touch nothing, after it.
+  abbrev pub OpensLevel : (old new : Disk tells tells_images) → Type 0
+  OpensLevel old new = (x : Contents) → tells → HoldsContents old.reads x → AreLevel both (reading_of x) → LeavesAll old new × (new.reads ≡ old.reads)
+
+  pub level_opened : (old new : Disk tells tells_images) → OpensLevel old new → WritesNothing old new
+  level_opened old new h x t holds level = let k = h x t holds level in record { leaves = k.0; reads = λ _. k.1 }
+
+  pub level_looked : (old mid new : Disk tells tells_images) → OpensLevel old mid → Unchanged mid new → WritesNothing old new
+  level_looked old mid new h same x t holds level =
+      let k = h x t holds level in
+      record { leaves = moments_and_reads old mid new (λ i. old.now i) k.0 same; reads = λ told. same.reads told ∙ k.1 }
+
+  pub level_still : {A : Type 0} (disk : A → Disk tells tells_images) (old : Disk tells tells_images) (mid new : A) → OpensLevel old (disk mid) → new ≡ mid → WritesNothing old (disk new)
+  level_still disk old mid new h same = level_opened old (disk new) (subst (λ a. OpensLevel old (disk a)) (sym same) h)
+
+  -- The media were not opened.
+  pub refused_ends : {T : Type 0} (Can : Contents → Type 0) (Met : Type 0) (MayBe : List Event → Type 0) (old new : MediaSeen tells tells_images)
+      (result : Result T OpenRefused) (refused : OpenRefused) → MayBe [] → result ≡ Err refused
+      → (result ≡ Err openings.NotFormatted → tells → IsUnformatted old.disk.reads)
+      → ((m offset : ℕ) → result ≡ Err (openings.Damaged m offset) → tells → IsFormatted old.disk.reads × IsRefused old.disk.reads m offset)
+      → ((result ≡ Err openings.NotFormatted) ⊎ ((m : ℕ) × (offset : ℕ) × (result ≡ Err (openings.Damaged m offset))) → LeavesAll old.disk new.disk × (tells → new.disk.reads ≡ old.disk.reads))
+      → (tells → IsUnformatted old.disk.reads → LeavesAll old.disk new.disk)
+      → (tells → SameBut 1 old.disk.reads new.disk.reads)
+      → HasOpenCause old.faults new.faults result
+      → ((x : Contents) → tells → HoldsContents old.disk.reads x → EndsMeet both (reading_of x) → WasRecorded x → OpensAtEachMoment old.disk new.disk result (ShowsHistory (opening_of x) []))
+      → MediaEnds Can Met MayBe old new (status_of_opening refused)
+  refused_ends Can Met MayBe old new result openings.NoMemory may is unformatted damaged untouched blank others cause moments = record {
+    unformatted = λ e. let none : ⊥ = cc in absurd none;
+    damaged = tt;
+    fault = λ e. let none : ⊥ = cc in absurd none;
+    legible = λ done. absurd done;
+    others = others;
+    blank = blank;
+    kept = λ x t holds meet regular. kept_by_opening x (config_read old.disk.reads x holds) regular MayBe NoMemory old.disk new.disk result may (λ worked. absurd worked)
+        (λ failed. let clash : Err openings.NoMemory ≡ Err openings.Fault = sym is ∙ failed in let none : ⊥ = cc in absurd none)
+        (moments x t holds meet regular);
+  }
+  refused_ends Can Met MayBe old new result openings.NotFormatted may is unformatted damaged untouched blank others cause moments =
+      let same = untouched (inl is) in
+      record {
+        unformatted = λ e. (record { leaves = same.0; reads = same.1 }, unformatted is);
+        damaged = tt;
+        fault = λ e. let none : ⊥ = cc in absurd none;
+        legible = λ done. absurd done;
+        others = others;
+        blank = blank;
+        kept = λ x t holds meet regular. inl (tt, same.0);
+      }
+  refused_ends Can Met MayBe old new result (openings.Damaged m offset) may is unformatted damaged untouched blank others cause moments =
+      let same = untouched (inr (m, offset, is)) in
+      record {
+        unformatted = λ e. let none : ⊥ = cc in absurd none;
+        damaged = inl (record { leaves = same.0; reads = same.1 }, damaged m offset is);
+        fault = λ e. let none : ⊥ = cc in absurd none;
+        legible = λ done. absurd done;
+        others = others;
+        blank = blank;
+        kept = λ x t holds meet regular. inl (tt, same.0);
+      }
+  refused_ends Can Met MayBe old new result openings.Fault may is unformatted damaged untouched blank others cause moments = record {
+    unformatted = λ e. let none : ⊥ = cc in absurd none;
+    damaged = tt;
+    fault = λ e. cause.in_all is;
+    legible = λ done. absurd done;
+    others = others;
+    blank = blank;
+    kept = λ x t holds meet regular. kept_by_opening x (config_read old.disk.reads x holds) regular MayBe MediaFault old.disk new.disk result may (λ worked. absurd worked) (λ failed. tt) (moments x t holds meet regular);
+  }
+
+  -- The work was done.
+  pub worked_ends : (Can : Contents → Type 0) (Met : Type 0) (MayBe : List Event → Type 0) (old new : MediaSeen tells tells_images) (status : Status) → IsWorkDone status
+      → (tells → IsLegibleWith old.disk.reads Can) → (tells → SameBut 1 old.disk.reads new.disk.reads)
+      → ((x : Contents) → tells → HoldsContents old.disk.reads x → EndsMeet both (reading_of x) → WasRecorded x → KeepsContents x MayBe status old.disk new.disk)
+      → MediaEnds Can Met MayBe old new status
+  worked_ends Can Met MayBe old new status done legible others kept = ⊎_elim
+      (λ (is : status ≡ Done). subst (λ (s : Status). MediaEnds Can Met MayBe old new s) (sym is) (record {
+        unformatted = λ e. let none : ⊥ = cc in absurd none;
+        damaged = tt;
+        fault = λ e. let none : ⊥ = cc in absurd none;
+        legible = λ d. legible;
+        others = others;
+        blank = λ t un. absurd (never_both old.disk.reads (legible t).0 un);
+        kept = λ x t holds meet regular. inr (subst (λ (s : Status). KeepsContents x MayBe s old.disk new.disk) is (kept x t holds meet regular));
+      }))
+      (λ (is : status ≡ OutputFault). subst (λ (s : Status). MediaEnds Can Met MayBe old new s) (sym is) (record {
+        unformatted = λ e. let none : ⊥ = cc in absurd none;
+        damaged = tt;
+        fault = λ e. let none : ⊥ = cc in absurd none;
+        legible = λ d. legible;
+        others = others;
+        blank = λ t un. absurd (never_both old.disk.reads (legible t).0 un);
+        kept = λ x t holds meet regular. inr (subst (λ (s : Status). KeepsContents x MayBe s old.disk new.disk) is (kept x t holds meet regular));
+      }))
+      (done_either status done)
+
+  -- The contents whose configuration, incidents and last record the vault has.
+  abbrev pub OpenedOn : Disk tells tells_images → MembersState → Type 0
+  OpenedOn old members = tells → IsFormatted old.reads × (x : Contents) × HoldsContents old.reads x × EndsMeet both (reading_of x)
+      × (members.config ≡ x.config) × (members.table ≡ x.table) × (members.last ≡ newest_of x)
+
+  -- What was opened is legible.
+  pub legible_so : (Can : Contents → Type 0) (old : Disk tells tells_images) (members : MembersState) → OpenedOn old members
+      → ((x : Contents) → tells → HoldsContents old.reads x → members.config ≡ x.config → members.table ≡ x.table → members.last ≡ newest_of x → Can x)
+      → tells → IsLegibleWith old.reads Can
+  legible_so Can old members contents can t = let c = contents t in (c.0, c.1, c.2, c.3, can c.1 t c.2 c.4 c.5 c.6)
+
+  -- At every moment up to the call, with its events.
+  since_opening : {T : Type 0} (x : Contents) (events : List Event) (old mid : Disk tells tells_images) (result : Result T OpenRefused) → OpensAtEachMoment old mid result (ShowsHistory (opening_of x) [])
+      → (image : Image) → mid.since old.clock image → old.now image ⊎ ShowsPrefix (ShowsHistory (opening_of x)) events 0 image
+  since_opening x events old mid result (inl ends) image s = inl (ends.moments.each image s)
+  since_opening x events old mid result (inr goes) image s = ⊎_elim (λ was. inl was) (λ shows. inr (first_of_all x events image shows)) (goes.moments.each image s)
+
+  -- What the media read as after a call that was one event, where the vault goes on.
+  pub reads_done : (x : Contents) (act : Act) (after : RecordingState) (t0 : ℕ) (mid new : Disk tells tells_images) (done : HasDone (opening_of x) [] t0 act after mid new) → after.members.failed ≡ false → tells
+      → ShowsHistory (opening_of x) (done.event ∷ []) new.reads
+  reads_done x act after t0 mid new done works t = let w = done.has.works works in stand_reads (opening_of x) (done.event ∷ []) after.members w.placed new w.stands t
+
+  -- A call of the recorder was one event on the media that were opened.
+  pub kept_by_call : {T : Type 0} (x : Contents) → configuration x.text ≡ Ok x.config → WasRecorded x → (MayBe : List Event → Type 0) (status : Status) (old mid new : Disk tells tells_images) (result : Result T OpenRefused) (act : Act) → records_of_act act ≡ [] → (r after : RecordingState) (t0 : ℕ)
+      → OpensAtEachMoment old mid result (ShowsHistory (opening_of x) []) → old.clock ≤ t0 → t0 ≤ mid.clock → (done : HasDone (opening_of x) [] t0 act after mid new)
+      → (IsWorkDone status → tells → ShowsHistory (opening_of x) (done.event ∷ []) new.reads) → MayBe (done.event ∷ []) → KeepsContents x MayBe status old new
+  kept_by_call x reads sound MayBe status old mid new result act none r after t0 moments from upto done rests may =
+      let silent : recorded (done.event ∷ []) ≡ [] = ap (λ (a : Act). records_of_act a ++ []) done.act_is ∙ ap (λ (rs : List Record). rs ++ []) none in
+      let entry : old.clock ≤ mid.clock = omega (arith, from, upto) in
+      record {
+        events = done.event ∷ [];
+        may_be = may;
+        history = done.has.history;
+        since_entry = λ image s. ⊎_elim
+            (λ was. inl was)
+            (λ shows. inr (prefix_played x reads sound (done.event ∷ []) silent 0 image shows))
+            (⊎_elim
+            (λ earlier. since_opening x (done.event ∷ []) old mid result moments image earlier)
+            (λ here. ⊎_elim
+            (λ now. since_opening x (done.event ∷ []) old mid result moments image (mid.counts_now old.clock image entry now))
+            (λ shows. inr shows)
+            here)
+            (done.passes.before old.clock image entry s));
+        synced = t0;
+        after_entry = from;
+        before_exit = omega (arith, upto, done.passes.later);
+        kept = keeps_played x reads sound (done.event ∷ []) silent t0 new done.has.kept;
+        reads = λ worked t. played_as x reads sound (done.event ∷ []) silent new.reads (rests worked t);
+      }

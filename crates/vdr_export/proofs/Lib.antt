@@ -1,0 +1,14 @@
+pub mod Silent
+pub mod Sounding
+pub mod Sized
+pub mod Fronts
+pub mod Written
+pub mod Refusing
+pub mod Passes
+pub mod Placing
+pub mod Parting
+pub mod Joining
+pub mod Ending
+pub mod Visited
+pub mod TwoPasses
+mod Rows

@@ -1,0 +1,45 @@
+-- A sound in two passes.
+use Rattle.std.proofs.Common.{◌≡◌, inl, inr, ⊎_elim, ℕ, List, Option, Result, Ok, Err, sym, ap, ◌∙◌, subst}
+use Rattle.std.specs.Bool.{⊤}
+use Rattle.std.specs.Prelude.{OnOk}
+use Rattle.std.specs.Io.KnownBytes.{Appends}
+use Rattle.vdr_outside.specs.Writes.{AppendsFront}
+use Rattle.vdr_export.specs.Answers.{AnswersOrFails, FileEnds, OkOrFails, size_of, wave_of, wave_with}
+use Rattle.vdr_export.specs.Sounds.{Heard, frames_of}
+use Rattle.vdr_export.specs.Waves.{wave_file}
+use Rattle.vdr_export.specs.declared.refused.ExportRefused.{ExportRefused}
+use Rattle.vdr_export.specs.declared.refused.ExportRefused.TheVariants.{Fault}
+use Rattle.vdr_export.specs.declared.wave.WaveSize.{WaveSize}
+use Rattle.vdr_export.proofs.Ending.{failed_ends, never_both, one_file, refused_ends}
+
+size_is : (hs : List Heard) (size : WaveSize) (result : Result WaveSize ExportRefused) → AnswersOrFails (size_of hs) result → result ≡ Ok size → size_of hs ≡ Ok size
+size_is hs size result answers is = ⊎_elim (λ (same : result ≡ size_of hs). sym same ∙ is) (λ (failed : result ≡ Err Fault). let no : ⊥ = cc in absurd no) answers
+
+one_error : (r : Result WaveSize ExportRefused) (e : ExportRefused) → r ≡ Err e → r ≡ Err Fault → e ≡ Fault
+one_error r e p q = cc
+
+-- No size, and so no file.
+pub no_wave : (hs : List Heard) (a : Option (List ℕ)) (result : Result WaveSize ExportRefused) (why : ExportRefused) (out : Result ⊤ ExportRefused) → AnswersOrFails (size_of hs) result → result ≡ Err why → out ≡ Err why → FileEnds (wave_of hs) a a out
+no_wave hs a result why out answers was is = ⊎_elim
+    (λ (same : result ≡ size_of hs). refused_ends (wave_of hs) a out why (ap (wave_with hs) (sym same ∙ was)) is)
+    (λ (failed : result ≡ Err Fault). failed_ends (wave_of hs) a out why is (inl (is ∙ ap (λ (e : ExportRefused). Err e) (one_error result why was failed))))
+    answers
+
+-- The file of this size.
+pub the_wave : (hs : List Heard) (size : WaveSize) (result : Result WaveSize ExportRefused) (a b : Option (List ℕ)) (out : Result ⊤ ExportRefused) → AnswersOrFails (size_of hs) result → result ≡ Ok size
+    → OnOk out (Appends a b (wave_file size (frames_of hs))) → AppendsFront a b (wave_file size (frames_of hs)) → OkOrFails out → FileEnds (wave_of hs) a b out
+the_wave hs size result a b out answers is written front ends =
+    let file : wave_of hs ≡ Ok (wave_file size (frames_of hs)) = ap (wave_with hs) (size_is hs size result answers is) in
+    record {
+      written = λ bytes f. subst (λ (l : List ℕ). OnOk out (Appends a b l)) (one_file (wave_of hs) (wave_file size (frames_of hs)) bytes file f) written;
+      front = λ bytes f. subst (λ (l : List ℕ). AppendsFront a b l) (one_file (wave_of hs) (wave_file size (frames_of hs)) bytes file f) front;
+      done = λ bytes f. ⊎_elim (λ ok. inl ok) (λ failed. inr (⊎_elim (λ fault. inl fault) (λ output. inr (inl output)) failed)) ends;
+      refused = λ why f. absurd (never_both (wave_of hs) (wave_file size (frames_of hs)) why file f);
+    }
+
+-- An error that was passed on.
+pub passed_on : (result : Result WaveSize ExportRefused) (why given : ExportRefused) (out : Result ⊤ ExportRefused) → result ≡ Err why → given ≡ why → out ≡ Err given → out ≡ Err Fault → result ≡ Err Fault
+passed_on result why given out was same is fault = let one : Err given ≡ Err Fault = sym is ∙ fault in cc
+
+pub was_ok : (result : Result WaveSize ExportRefused) (size : WaveSize) (e : ExportRefused) → result ≡ Ok size → result ≡ Err e → ⊥
+was_ok result size e ok err = cc

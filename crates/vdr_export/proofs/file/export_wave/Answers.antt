@@ -1,0 +1,32 @@
+use Rattle.std.proofs.Common.{◌∙◌, Err, inr, ap}
+use Rattle.std.proofs.lemmas.Result.{err_from_is_err_and}
+use Rattle.vdr_playback.specs.Playback.{selected}
+use Rattle.vdr_entry.specs.Queries.{asked}
+use Rattle.vdr_recorder.proofs.Looking.{looks_join}
+use Rattle.vdr_export.specs.Sounds.{heard}
+use Rattle.vdr_export.specs.declared.refused.ExportRefused.{ExportRefused}
+use Rattle.vdr_export.proofs.Refusing.{looked_as}
+use Rattle.vdr_export.proofs.TwoPasses.{no_wave, passed_on, the_wave}
+use Rattle.vdr_export.proofs.file.export_wave.Goals as goal
+
+pub returns-in_err-size-clause-wave : goal.returns-in_err-size-clause-wave
+returns-in_err-size-clause-wave g c opening events placed told readable =
+    let p = err_from_is_err_and c.from_residual.result c.from_residual.ensures.1 in
+    no_wave (heard c.args.microphone (selected opening events (asked c.args.query.now))) (g.O.Sink.taken c.args.out.now) c.wave_size.result c.in_err-size.field-0.0 c.from_residual.result
+    (c.wave_size.ensures.size opening events placed told readable) c.in_err-size.was (p.1 ∙ ap (λ (e : ExportRefused). Err e) p.2)
+
+pub returns-in_err-size-clause-looked : goal.returns-in_err-size-clause-looked
+returns-in_err-size-clause-looked g c =
+    let p = err_from_is_err_and c.from_residual.result c.from_residual.ensures.1 in
+    looked_as _ _ _ _ _ _ _ _ _ _ _ (passed_on c.wave_size.result c.in_err-size.field-0.0 p.0 c.from_residual.result c.in_err-size.was p.2 p.1) c.wave_size.ensures.looked
+
+pub returns-clause-wave : goal.returns-clause-wave
+returns-clause-wave g c opening events placed told readable =
+    let after = c.wave_size.ensures.looked.read.readable opening events placed readable in
+    the_wave (heard c.args.microphone (selected opening events (asked c.args.query.now))) c.in_ok-size.size c.wave_size.result _ _ c.write_wave.result
+    (c.wave_size.ensures.size opening events placed told readable) c.in_ok-size.was
+    (c.write_wave.ensures.written opening events placed told after) (c.write_wave.ensures.front opening events placed told after) (c.write_wave.ensures.undamaged opening events placed told after)
+
+pub returns-clause-looked : goal.returns-clause-looked
+returns-clause-looked g c =
+    looked_as _ _ _ _ _ _ _ _ _ _ _ (λ is. inr is) (looks_join (asked c.args.query.now) _ _ _ _ _ _ _ _ _ _ _ _ _ _ c.wave_size.ensures.looked c.write_wave.ensures.looked)

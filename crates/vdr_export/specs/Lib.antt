@@ -1,0 +1,11 @@
+-- Files out of what was recorded: sound, and images.
+pub mod Numbers
+pub mod Sounds
+pub mod Waves
+pub mod Pictures
+pub mod Answers
+pub mod Stops
+pub mod Tails
+pub mod Heard
+pub mod Collected
+pub mod Kept

@@ -1,0 +1,82 @@
+// A file out of what a query selects.
+ghost use Rattle.std.specs.Prelude.{◌≡◌, ◌⊎◌, ℕ, List, length, true, false, Err, IfErr};
+ghost use Rattle.vdr_history.specs.Histories.{Event, Opening};
+ghost use Rattle.vdr_playback.specs.Playback.{selected};
+ghost use Rattle.vdr_entry.specs.Queries.{asked};
+ghost use Rattle.vdr_ring.specs.Sequence.{Placed};
+ghost use Rattle.vdr_vault.specs.Vaults.{AreRings, IsReadable};
+ghost use Rattle.vdr_visit.specs.Stops.{HasOutputCause, lacks_channel, lacks_incident};
+ghost use Rattle.vdr_recorder.specs.Looks.{HasLooked};
+ghost use Rattle.vdr_export.specs.Answers.{FileEnds, IsFileRefusal, IsWaveRefusal, IsWriteRefusal, MayBeBegun, file_of, wave_of};
+ghost use Rattle.vdr_export.specs.Sounds.{heard};
+ghost use Rattle.vdr_export.specs.declared.refused.ExportRefused.TheVariants.{Fault as AFault, Output};
+
+use crate::block::Block;
+use crate::picture::write_picture;
+use crate::refused::ExportRefused;
+use crate::waves::{wave_size, write_wave};
+use std::alloc::Global;
+use vdr_entry::Query;
+use vdr_outside::{Media, Sink};
+use vdr_recorder::Recording;
+
+/// What file is to be made.
+#[derive(Clone, Copy, Debug, PartialEq, Eq, Drop)]
+pub enum File {
+    /// The sound of this microphone, as a WAVE file.
+    Sound { microphone: u8 },
+    /// The image of this block.
+    Picture(Block),
+}
+
+// Writes a sound in two passes.
+fn export_wave<M: Media, O: Sink>(
+    recording: &mut Recording,
+    media: &mut M,
+    query: &Query,
+    microphone: u8,
+    out: &mut O,
+) -> Result<(), ExportRefused>
+    requires rings { AreRings recording.old.members (M.disk media.old).sizes }
+    requires channel { lacks_channel (length recording.old.members.config.channels) query.now.channel ≡ false }
+    requires incident { lacks_incident recording.old.members.table (asked query.now).medium ≡ false }
+    ensures wave { (opening : Opening) (events : List Event) (placed : ℕ → List Placed) → M.tells → IsReadable opening events recording.old.members placed (M.disk media.old)
+        → FileEnds (wave_of (heard microphone (selected opening events (asked query.now)))) (O.taken out.old) (O.taken out.new) result }
+    ensures silent { IfErr result (λ why. IsWriteRefusal why ⊎ (out.new ≡ out.old)) }
+    ensures own { IfErr result IsWaveRefusal }
+    ensures failed { recording.old.members.failed ≡ true → (result ≡ Err AFault) × (recording.new ≡ recording.old) × (media.new ≡ media.old) × (out.new ≡ out.old) }
+    ensures looked { HasLooked (asked query.now) recording.old recording.new (M.disk media.old) (M.disk media.new) (M.bytes_read media.old) (M.bytes_read media.new) (M.faults media.old) (M.faults media.new) (result ≡ Err AFault) }
+    ensures output { HasOutputCause (O.faults out.old) (O.faults out.new) (result ≡ Err Output) }
+{
+    let size = wave_size(recording, media, query, microphone)?;
+    write_wave(recording, media, query, microphone, &size, out)
+}
+
+/// Writes a file out of what a query selects: a sound by `wave_size` and then `write_wave`, a picture by `write_picture`. Takes memory for a
+/// picture alone. The query's channel is configured, and its incident is live, where it asks for one.
+///
+/// Where there is no such file it is refused, and nothing is written. Where a read or a write fails, a front of it may be written.
+pub fn export_file<M: Media, O: Sink>(
+    alloc: Global,
+    recording: &mut Recording,
+    media: &mut M,
+    query: &Query,
+    file: &File,
+    out: &mut O,
+) -> Result<(), ExportRefused>
+    requires rings { AreRings recording.old.members (M.disk media.old).sizes }
+    requires channel { lacks_channel (length recording.old.members.config.channels) query.now.channel ≡ false }
+    requires incident { lacks_incident recording.old.members.table (asked query.now).medium ≡ false }
+    ensures file { (opening : Opening) (events : List Event) (placed : ℕ → List Placed) → M.tells → IsReadable opening events recording.old.members placed (M.disk media.old)
+        → FileEnds (file_of file.now (selected opening events (asked query.now))) (O.taken out.old) (O.taken out.new) result }
+    ensures silent { IfErr result (λ why. MayBeBegun file.now why ⊎ (out.new ≡ out.old)) }
+    ensures own { IfErr result (IsFileRefusal file.now) }
+    ensures failed { recording.old.members.failed ≡ true → (result ≡ Err AFault) × (recording.new ≡ recording.old) × (media.new ≡ media.old) × (out.new ≡ out.old) }
+    ensures looked { HasLooked (asked query.now) recording.old recording.new (M.disk media.old) (M.disk media.new) (M.bytes_read media.old) (M.bytes_read media.new) (M.faults media.old) (M.faults media.new) (result ≡ Err AFault) }
+    ensures output { HasOutputCause (O.faults out.old) (O.faults out.new) (result ≡ Err Output) }
+{
+    match file {
+        File::Sound { microphone } => export_wave(recording, media, query, *microphone, out),
+        File::Picture(block) => write_picture(alloc, recording, media, query, block, out),
+    }
+}

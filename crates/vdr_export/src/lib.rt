@@ -1,0 +1,24 @@
+//! What was recorded as files that other tools open: sound as a WAVE file (RIFF, linear PCM), and the image of a block as its bytes.
+#![tactic(auto)]
+
+mod block;
+mod collecting;
+mod file;
+mod frames;
+mod nowhere;
+mod parts;
+mod picture;
+mod rate;
+mod refused;
+mod silence;
+mod sizing;
+mod wave;
+mod waves;
+mod writing;
+
+pub use block::Block;
+pub use file::{File, export_file};
+pub use picture::write_picture;
+pub use refused::ExportRefused;
+pub use wave::WaveSize;
+pub use waves::{wave_size, write_wave};

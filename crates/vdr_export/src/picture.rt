@@ -1,0 +1,57 @@
+// The image of a block out of what a query selects.
+ghost use Rattle.std.specs.Prelude.{◌≡◌, ◌⊎◌, ℕ, List, length, true, false, Err, IfErr, OnErr};
+ghost use Rattle.vdr_history.specs.Histories.{Event, Opening};
+ghost use Rattle.vdr_playback.specs.Playback.{selected};
+ghost use Rattle.vdr_entry.specs.Queries.{asked};
+ghost use Rattle.vdr_ring.specs.Sequence.{Placed};
+ghost use Rattle.vdr_vault.specs.Vaults.{AreRings, IsReadable};
+ghost use Rattle.vdr_visit.specs.Stops.{HasOutputCause, lacks_channel, lacks_incident};
+ghost use Rattle.vdr_recorder.specs.Looks.{HasLooked};
+ghost use Rattle.vdr_export.specs.Answers.{FileEnds, IsPictureRefusal, picture_of};
+ghost use Rattle.vdr_export.specs.Pictures.{shown};
+ghost use Rattle.vdr_export.specs.declared.refused.ExportRefused.TheVariants.{Fault as AFault, Output};
+
+use crate::block::Block;
+use crate::collecting::Collecting;
+use crate::nowhere::Nowhere;
+use crate::refused::{ExportRefused, refusal_of};
+use std::alloc::Global;
+use vdr_entry::Query;
+use vdr_outside::{Media, Sink};
+use vdr_recorder::Recording;
+
+/// Writes the image of a block that a query selects (IEC 61162-450 sends images in blocks; the header of a part is this project's
+/// profile): the data of the block's parts, in the order of their sequence numbers, of each the first that was recorded. Takes memory for the
+/// parts, and writes only when all are there. The query's channel is configured, and its incident is live, where it asks for one.
+///
+/// `Nothing`, `Mixed` and `Part` come exactly in their cases, in this order, unless there is no memory. `Damaged` never comes of media that
+/// hold what was recorded. Where a write fails, a front of the image is written.
+pub fn write_picture<M: Media, O: Sink>(
+    alloc: Global,
+    recording: &mut Recording,
+    media: &mut M,
+    query: &Query,
+    block: &Block,
+    out: &mut O,
+) -> Result<(), ExportRefused>
+    requires rings { AreRings recording.old.members (M.disk media.old).sizes }
+    requires channel { lacks_channel (length recording.old.members.config.channels) query.now.channel ≡ false }
+    requires incident { lacks_incident recording.old.members.table (asked query.now).medium ≡ false }
+    ensures picture { (opening : Opening) (events : List Event) (placed : ℕ → List Placed) → M.tells → IsReadable opening events recording.old.members placed (M.disk media.old)
+        → FileEnds (picture_of (shown block.now (selected opening events (asked query.now)))) (O.taken out.old) (O.taken out.new) result }
+    ensures silent { OnErr result ((result ≡ Err Output) ⊎ (out.new ≡ out.old)) }
+    ensures own { IfErr result IsPictureRefusal }
+    ensures failed { recording.old.members.failed ≡ true → (result ≡ Err AFault) × (recording.new ≡ recording.old) × (media.new ≡ media.old) × (out.new ≡ out.old) }
+    ensures looked { HasLooked (asked query.now) recording.old recording.new (M.disk media.old) (M.disk media.new) (M.bytes_read media.old) (M.bytes_read media.new) (M.faults media.old) (M.faults media.new) (result ≡ Err AFault) }
+    ensures output { HasOutputCause (O.faults out.old) (O.faults out.new) (result ≡ Err Output) }
+{
+    let mut collecting = Collecting::new(alloc, *block);
+    if let Err(stop) = recording.visit(media, query, &mut collecting, &mut Nowhere) {
+        return Err(refusal_of(stop));
+    }
+    collecting.parts.complete()?;
+    match collecting.parts.write(out) {
+        Ok(()) => Ok(()),
+        Err(_) => Err(ExportRefused::Output),
+    }
+}

@@ -1,0 +1,135 @@
+// How large a sound is.
+ghost use Rattle.std.specs.Prelude.{◌≡◌, ◌∷◌, ◌++◌, List, [], Err, IfErr, IfOk, OnOk};
+ghost use Rattle.vdr_export.specs.Answers.{IsSizeRefusal, size_of};
+ghost use Rattle.vdr_export.specs.Heard.{IsMixed, IsSized};
+ghost use Rattle.vdr_export.specs.Sounds.{Heard};
+ghost use Rattle.vdr_export.specs.Tails.{heard_as};
+ghost use Rattle.vdr_export.specs.Waves.{IsWaveSize};
+ghost use Rattle.vdr_export.specs.declared.refused.ExportRefused.TheVariants.{Fault as AFault};
+
+use crate::frames::{Tail, heard_in, missing, tail_of};
+use crate::rate::SampleRate;
+use crate::refused::ExportRefused;
+use crate::wave::WaveSize;
+use vdr_entry::Record;
+use vdr_outside::Sink;
+use vdr_pcm::PcmFrame;
+use vdr_visit::{Visitor, VisitorStop};
+
+/// The most bytes of sound that a file has.
+const MOST_BYTES: u64 = 4_294_967_258;
+
+/// Stands for any greater number of bytes.
+const TOO_MANY: u64 = 4_294_967_296;
+
+/// What is known of the frames of a microphone that were heard so far.
+#[derive(Drop)]
+pub(crate) struct Sizing {
+    // That of the first frame, and so of all.
+    rate: Option<SampleRate>,
+    last: Option<Tail>,
+    bytes: u64,
+}
+
+impl Sizing {
+    /// No frame was heard.
+    pub(crate) fn new() -> Sizing
+        ensures { IsSized [] result }
+    {
+        Sizing {
+            rate: None,
+            last: None,
+            bytes: 0,
+        }
+    }
+
+    // Hears one more frame, of the record at this place.
+    fn hear(&mut self, place: u64, frame: &PcmFrame<'_>) -> Result<(), ExportRefused>
+        ensures sized { (hs : List Heard) → IsSized hs self.old → OnOk result (IsSized (hs ++ heard_as place frame.now ∷ []) self.new) }
+        ensures mixed { (hs : List Heard) → IsSized hs self.old → IfErr result (IsMixed (hs ++ heard_as place frame.now ∷ [])) }
+    {
+        match self.rate {
+            None => self.rate = Some(SampleRate { hertz: frame.rate }),
+            Some(rate) if rate.hertz != frame.rate => return Err(ExportRefused::Mixed { place }),
+            Some(_) => {}
+        }
+        let more = 2 * missing(self.last, frame) + frame.samples.len() as u64;
+        self.bytes = self.bytes.saturating_add(more).min(TOO_MANY);
+        self.last = Some(tail_of(frame));
+        Ok(())
+    }
+
+    /// The size, once all frames were heard.
+    pub(crate) fn size(&self) -> Result<WaveSize, ExportRefused>
+        ensures size { (hs : List Heard) → IsSized hs self.now → result ≡ size_of hs }
+        ensures legal { IfOk result IsWaveSize }
+        ensures own { IfErr result IsSizeRefusal }
+        ensures fault { result ≡ Err AFault → ⊥ }
+    {
+        let Some(rate) = self.rate else {
+            return Err(ExportRefused::Nothing);
+        };
+        if self.bytes > MOST_BYTES {
+            return Err(ExportRefused::Long);
+        }
+        Ok(WaveSize {
+            rate: rate.hertz,
+            bytes: self.bytes as u32,
+        })
+    }
+}
+
+/// Hears the frames of a microphone, for their size. It prints nothing.
+#[derive(Drop)]
+pub(crate) struct Hearing {
+    microphone: u8,
+    /// What was heard so far.
+    pub(crate) sizing: Sizing,
+}
+
+impl Hearing {
+    /// No frame was heard.
+    pub(crate) fn new(microphone: u8) -> Hearing
+        ensures microphone { result.microphone ≡ microphone }
+        ensures nothing { IsSized [] result.sizing }
+    {
+        Hearing {
+            microphone,
+            sizing: Sizing::new(),
+        }
+    }
+}
+
+impl Visitor for Hearing {
+    ghost use Rattle.std.specs.Prelude.{◌≡◌, []};
+    ghost use Rattle.vdr_export.specs.Heard.{IsMixed, IsSized};
+    ghost use Rattle.vdr_export.specs.Sounds.{heard};
+
+    type Reason = ExportRefused;
+
+    ghost has = { λ first seen now. (now.microphone ≡ first.microphone) × IsSized (heard first.microphone seen) now.sizing };
+
+    ghost line = { λ _ _ _. [] };
+
+    ghost last = { λ _ _. [] };
+
+    ghost stops = { λ first seen reason. IsMixed (heard first.microphone seen) reason };
+
+    fn visit<O: Sink>(
+        &mut self,
+        item: &Record,
+        _out: &mut O,
+    ) -> Result<(), VisitorStop<ExportRefused>> {
+        let Some(frame) = heard_in(item, self.microphone) else {
+            return Ok(());
+        };
+        match self.sizing.hear(item.place, &frame) {
+            Ok(()) => Ok(()),
+            Err(refused) => Err(VisitorStop::Own(refused)),
+        }
+    }
+
+    fn finish<O: Sink>(&mut self, _out: &mut O) -> Result<(), VisitorStop<ExportRefused>> {
+        Ok(())
+    }
+}

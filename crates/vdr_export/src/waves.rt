@@ -1,0 +1,90 @@
+// A sound out of what a query selects, in two passes: its size, and then its samples.
+ghost use Rattle.std.specs.Prelude.{◌≡◌, ℕ, List, length, true, false, Err, IfErr, IfOk, OnOk};
+ghost use Rattle.std.specs.Io.KnownBytes.{Appends};
+ghost use Rattle.vdr_history.specs.Histories.{Event, Opening};
+ghost use Rattle.vdr_playback.specs.Playback.{selected};
+ghost use Rattle.vdr_outside.specs.Writes.{AppendsFront};
+ghost use Rattle.vdr_entry.specs.Queries.{asked};
+ghost use Rattle.vdr_ring.specs.Sequence.{Placed};
+ghost use Rattle.vdr_vault.specs.Vaults.{AreRings, IsReadable};
+ghost use Rattle.vdr_visit.specs.Stops.{HasOutputCause, lacks_channel, lacks_incident};
+ghost use Rattle.vdr_recorder.specs.Looks.{HasLooked};
+ghost use Rattle.vdr_export.specs.Answers.{AnswersOrFails, IsSizeRefusal, IsWriteRefusal, OkOrFails, size_of};
+ghost use Rattle.vdr_export.specs.Sounds.{frames_of, heard};
+ghost use Rattle.vdr_export.specs.Waves.{IsWaveSize, wave_file};
+ghost use Rattle.vdr_export.specs.declared.refused.ExportRefused.TheVariants.{Fault as AFault, Output};
+
+use crate::nowhere::Nowhere;
+use crate::refused::{ExportRefused, refusal_of};
+use crate::sizing::Hearing;
+use crate::wave::{WaveSize, header_of};
+use crate::writing::Writing;
+use vdr_entry::Query;
+use vdr_outside::{Media, Sink, write_all};
+use vdr_recorder::Recording;
+
+/// The rate and the size of the sound that a query selects of a microphone (IEC 61996-1 asks that bridge audio be recorded; its frames are
+/// this project's profile). Takes no memory. The query's channel is configured, and its incident is live, where it asks for one.
+///
+/// The sound is the samples of the microphone's PCM frames in the order of their records. Between two frames of which the second's number
+/// is m + 1 more than the first's, m times as many zero samples stand as the first frame has.
+///
+/// `Nothing`, `Mixed` and `Long` come exactly in their cases, in this order. `Damaged` never comes of media that hold what was recorded.
+pub fn wave_size<M: Media>(
+    recording: &mut Recording,
+    media: &mut M,
+    query: &Query,
+    microphone: u8,
+) -> Result<WaveSize, ExportRefused>
+    requires rings { AreRings recording.old.members (M.disk media.old).sizes }
+    requires channel { lacks_channel (length recording.old.members.config.channels) query.now.channel ≡ false }
+    requires incident { lacks_incident recording.old.members.table (asked query.now).medium ≡ false }
+    ensures size { (opening : Opening) (events : List Event) (placed : ℕ → List Placed) → M.tells → IsReadable opening events recording.old.members placed (M.disk media.old)
+        → AnswersOrFails (size_of (heard microphone (selected opening events (asked query.now)))) result }
+    ensures legal { IfOk result IsWaveSize }
+    ensures own { IfErr result IsSizeRefusal }
+    ensures failed { recording.old.members.failed ≡ true → (result ≡ Err AFault) × (recording.new ≡ recording.old) × (media.new ≡ media.old) }
+    ensures looked { HasLooked (asked query.now) recording.old recording.new (M.disk media.old) (M.disk media.new) (M.bytes_read media.old) (M.bytes_read media.new) (M.faults media.old) (M.faults media.new) (result ≡ Err AFault) }
+{
+    let mut hearing = Hearing::new(microphone);
+    if let Err(stop) = recording.visit(media, query, &mut hearing, &mut Nowhere) {
+        return Err(refusal_of(stop));
+    }
+    hearing.sizing.size()
+}
+
+/// Writes the sound that a query selects of a microphone as a WAVE file (RIFF) of this size: a header of 44 bytes, which tells linear PCM of
+/// one channel and 16 bits, and then the samples. The size is what `wave_size` answered for the same query and microphone, with nothing
+/// recorded, saved or released since. Takes no memory. The query's channel is configured, and its incident is live, where it asks for one.
+///
+/// Where a read or a write fails, a front of the file is written.
+pub fn write_wave<M: Media, O: Sink>(
+    recording: &mut Recording,
+    media: &mut M,
+    query: &Query,
+    microphone: u8,
+    size: &WaveSize,
+    out: &mut O,
+) -> Result<(), ExportRefused>
+    requires rings { AreRings recording.old.members (M.disk media.old).sizes }
+    requires channel { lacks_channel (length recording.old.members.config.channels) query.now.channel ≡ false }
+    requires incident { lacks_incident recording.old.members.table (asked query.now).medium ≡ false }
+    requires size { IsWaveSize size.now }
+    ensures written { (opening : Opening) (events : List Event) (placed : ℕ → List Placed) → M.tells → IsReadable opening events recording.old.members placed (M.disk media.old)
+        → OnOk result (Appends (O.taken out.old) (O.taken out.new) (wave_file size.now (frames_of (heard microphone (selected opening events (asked query.now)))))) }
+    ensures front { (opening : Opening) (events : List Event) (placed : ℕ → List Placed) → M.tells → IsReadable opening events recording.old.members placed (M.disk media.old)
+        → AppendsFront (O.taken out.old) (O.taken out.new) (wave_file size.now (frames_of (heard microphone (selected opening events (asked query.now))))) }
+    ensures undamaged { (opening : Opening) (events : List Event) (placed : ℕ → List Placed) → M.tells → IsReadable opening events recording.old.members placed (M.disk media.old) → OkOrFails result }
+    ensures own { IfErr result IsWriteRefusal }
+    ensures looked { HasLooked (asked query.now) recording.old recording.new (M.disk media.old) (M.disk media.new) (M.bytes_read media.old) (M.bytes_read media.new) (M.faults media.old) (M.faults media.new) (result ≡ Err AFault) }
+    ensures output { HasOutputCause (O.faults out.old) (O.faults out.new) (result ≡ Err Output) }
+{
+    let Ok(()) = write_all(out, header_of(size).as_slice()) else {
+        return Err(ExportRefused::Output);
+    };
+    let mut writing = Writing::new(microphone);
+    if let Err(stop) = recording.visit(media, query, &mut writing, out) {
+        return Err(refusal_of(stop));
+    }
+    Ok(())
+}

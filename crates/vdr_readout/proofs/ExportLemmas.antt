@@ -1,0 +1,309 @@
+-- What `wav` and `picture` answer, from what the calls on the media ensure.
+use Rattle.std.proofs.Common.{◌≡◌, ◌≤◌, ◌↔◌, ◌⊎◌, inl, inr, ⊎_elim, ℕ, ℤ, List, [], Bool, true, false, if◌then◌else◌, length, Option, Some, None, Result, Ok, Err, refl, sym, ap, ◌∙◌, subst}
+use Rattle.std.specs.Bool.{⊤}
+use Rattle.std.specs.Prelude.{IfErr, bytes_eq, is_none}
+use Rattle.std.proofs.KnownBytes.{Appends-nil}
+use Rattle.vdr_terms.specs.Queries.{Query}
+use Rattle.vdr_history.specs.Histories.{Event, Opening, live}
+use Rattle.vdr_history.specs.Histories as histories
+use Rattle.vdr_durability.specs.Readings.{AreLevel, EndsMeet}
+use Rattle.vdr_playback.specs.Playback.{selected}
+use Rattle.vdr_outside.specs.Causes.{NoneFalls}
+use Rattle.vdr_outside.specs.Disk.{SameBut}
+use Rattle.vdr_config.specs.Configuration.{Configuration}
+use Rattle.vdr_entry.specs.Queries.{asked_medium}
+use Rattle.vdr_entry.specs.declared.query.Medium.{Medium as Played}
+use Rattle.vdr_entry.specs.declared.query.Medium.TheVariants.{Capsule, LongTerm, Incident}
+use Rattle.vdr_ring.specs.Sequence.{Placed}
+use Rattle.vdr_opening.specs.Media.{both, Contents, HoldsContents, opening_of, reading_of}
+use Rattle.vdr_opening.specs.declared.refused.OpenRefused.{OpenRefused}
+use Rattle.vdr_opening.specs.declared.refused.OpenRefused.TheVariants as openings
+use Rattle.vdr_recorder.specs.Looks.{HasLooked}
+use Rattle.vdr_recorder.specs.Recordings.{HasRecorded, RecordingState}
+use Rattle.vdr_vault.proofs.Playing.{stands_to_read}
+use Rattle.vdr_vault.specs.Openings.{OpensAtEachMoment}
+use Rattle.vdr_vault.specs.Vaults.{AreRings, IsReadable, MembersState, ShowsHistory}
+use Rattle.vdr_visit.specs.Stops.{HasOutputCause, IsAccepted, lacks_channel, lacks_incident, unanswered}
+use Rattle.vdr_visit.specs.declared.stop.VisitStop.{VisitStop}
+use Rattle.vdr_visit.specs.declared.stop.VisitStop.TheVariants as stops
+use Rattle.vdr_export.specs.Answers.{FileEnds, IsFileRefusal, MayBeBegun, file_of}
+use Rattle.vdr_export.specs.declared.file.File.{File}
+use Rattle.vdr_export.specs.declared.refused.ExportRefused.{ExportRefused}
+use Rattle.vdr_export.specs.declared.refused.ExportRefused.TheVariants as exports
+use Rattle.vdr_export.proofs.Refusing.{looked_as, looked_nothing}
+use Rattle.vdr_command.specs.Endings.{IsWorkDone}
+use Rattle.vdr_command.specs.Opened.{AreLooks, IfDamaged, IsLegibleWith, IsRefusedAt, MediaEnds, PrintsText, WasRecorded, WritesNothing}
+use Rattle.vdr_command.specs.Outside.{MediaSeen, OutputFailed, OutputSeen, Outside, PrintsFront, Writes}
+use Rattle.vdr_command.specs.StatusLine.{channel_line}
+use Rattle.vdr_command.specs.Statuses.{status_of_opening}
+use Rattle.vdr_command.specs.declared.status.Status.{Status}
+use Rattle.vdr_command.specs.declared.status.Status.TheVariants as ends
+use Rattle.vdr_command.proofs.OpenedLemmas.{OpenedOn, legible_so}
+use Rattle.vdr_readout.specs.Exports.{CanExport, ExportEnds, IfRefusal, IsJudged, IsExportStatus, WritesFile, file_in, kind_at, made_of, status_of_export, wished}
+use Rattle.vdr_readout.specs.Reads.{AskedPlay, CanBeRead, CanPlay, IfItself, IsOwnStatus, LacksChannel, LacksIncident, MetUnreadable, PlayEnds, all_records, channel_asked, channel_in, id_of, query_of, records_asked, status_by}
+use Rattle.vdr_readout.specs.declared.exporting.Wish.{Wish}
+use Rattle.vdr_readout.specs.declared.exporting.Wish.TheVariants.{Sound, Picture}
+use Rattle.vdr_readout.proofs.FileLemmas.{as_visit, damage_as, fault_as, may_write, not_asked, of_damage, output_as, own_status, undamaged, writes_so}
+use Rattle.vdr_readout.proofs.ReadLemmas.{Wants, asked_within, channel_ends, read_ends, with_media}
+
+-- A channel that is not there has no file.
+no_file : (wish : Wish) → wished wish None ≡ None
+no_file Sound = refl
+no_file (Picture block) = refl
+
+lacks_no_file : (wish : Wish) (c : Configuration) (name : List ℕ) → LacksChannel c name → file_in wish c name ≡ None
+lacks_no_file wish c name lacks = ap (λ (k : Option ℕ). wished wish (kind_at c.channels k)) (none_asked (bytes_eq name all_records)) ∙ no_file wish
+  where
+    none_asked : (b : Bool) → (if b then None else channel_in c name) ≡ None
+    none_asked true = refl
+    none_asked false = lacks.1
+
+lacks_so : (table : List (Option histories.Incident)) (medium : Played) → LacksIncident table medium → lacks_incident table (asked_medium medium) ≡ true
+lacks_so table Capsule lacks = absurd lacks
+lacks_so table LongTerm lacks = absurd lacks
+lacks_so table (Incident id) lacks = ap (λ (o : Option histories.Incident). is_none o) lacks
+
+true_false : (b : Bool) → b ≡ true → b ≡ false → ⊥
+true_false b t f = cc
+
+-- What is seen of an output that is as it was.
+pub still_output : {A : Type 0} (old new : A) (out : Result ⊤ ExportRefused) (Begun : ExportRefused → Type 0) (seen : A → OutputSeen) → IfErr out (λ why. Begun why ⊎ (new ≡ old))
+    → IfErr out (λ why. Begun why ⊎ (seen new ≡ seen old))
+still_output old new (Ok u) Begun seen silent = tt
+still_output old new (Err why) Begun seen silent = ⊎_elim (λ begun. inl begun) (λ same. inr (ap seen same)) silent
+
+-- Only the incident is missing.
+missing : {R : Type 0} (no_channel no_incident : Bool) (result : Result ⊤ (VisitStop R)) (stop : VisitStop R) → result ≡ unanswered no_channel no_incident → result ≡ Err stop → no_channel ≡ false → no_incident ≡ true
+missing true no_incident result stop is err there = let none : ⊥ = cc in absurd none
+missing false true result stop is err there = refl
+missing false false result stop is err there = let clash : Ok tt ≡ Err stop = sym is ∙ err in let none : ⊥ = cc in absurd none
+
+-- Both were there.
+answered : {R : Type 0} (no_channel no_incident : Bool) → unanswered {R = R} no_channel no_incident ≡ Ok tt → (no_channel ≡ false) × (no_incident ≡ false)
+answered true no_incident is = let none : ⊥ = cc in absurd none
+answered false true is = let none : ⊥ = cc in absurd none
+answered false false is = (refl, refl)
+
+pub both_there : {R : Type 0} (no_channel no_incident : Bool) (result : Result ⊤ (VisitStop R)) → result ≡ unanswered no_channel no_incident → result ≡ Ok tt → (no_channel ≡ false) × (no_incident ≡ false)
+both_there no_channel no_incident result is ok = answered no_channel no_incident (sym is ∙ ok)
+
+module _ {tells tells_images : Type 0} (wish : Wish) (asked : AskedPlay) (old new : Outside tells tells_images) where
+  -- Nothing was written, and no file was refused.
+  still_ends : (status : Status) → IsExportStatus wish status → new.output ≡ old.output → PlayEnds asked.medium asked.channel old.media new.media status → WritesNothing old.media.disk new.media.disk
+      → (status ≡ ends.ExportKind → ⊥) → (status ≡ ends.OutputFault → ⊥) → (status ≡ ends.NoChannel → ⊥) → (status ≡ ends.Done → ⊥) → ((P : ExportRefused → Type 0) → IfRefusal status P)
+      → (IsJudged status → ⊥) → IfDamaged status (λ m offset. IsRefusedAt old.media.disk new.media.disk m offset ⊎ MetUnreadable old.media.disk (CanExport wish asked))
+      → ((bytes : List ℕ) → PrintsText bytes status old.output new.output) → ExportEnds wish asked old new status
+  still_ends status own same media level kind output channel done refusals unjudged damage prints = record {
+    own = own;
+    written = λ x file t holds can is. record {
+      written = λ bytes made. prints bytes;
+      front = λ bytes made. subst (λ (o : OutputSeen). PrintsFront bytes old.output o) (sym same) ([], bytes, refl, Appends-nil old.output.taken);
+      done = λ d. absurd (done d);
+      refused = refusals _;
+    };
+    kind = λ k. absurd (kind k);
+    legible = λ judged. absurd (unjudged judged);
+    damaged = damage;
+    output = λ o. absurd (output o);
+    line = λ c. absurd (channel c);
+    silent = inr (inr same);
+    media = media;
+    level = level;
+  }
+
+  pub opening_exports : (refused : OpenRefused) → ((m offset : ℕ) → refused ≡ openings.Damaged m offset → IsRefusedAt old.media.disk new.media.disk m offset) → new.output ≡ old.output
+      → MediaEnds (λ x. CanPlay x asked.medium asked.channel) (MetUnreadable old.media.disk (λ x. CanPlay x asked.medium asked.channel)) AreLooks old.media new.media (status_of_opening refused)
+      → WritesNothing old.media.disk new.media.disk → ExportEnds wish asked old new (status_of_opening refused)
+  opening_exports openings.NoMemory at same media level =
+      still_ends ends.NoMemory tt same (with_media asked.medium asked.channel old.media new.media openings.NoMemory media) level (λ e. let none : ⊥ = cc in none) (λ e. let none : ⊥ = cc in none)
+      (λ e. let none : ⊥ = cc in none) (λ e. let none : ⊥ = cc in none) (λ P. tt) (λ judged. judged) tt (λ bytes. tt)
+  opening_exports openings.NotFormatted at same media level =
+      still_ends ends.Unformatted tt same (with_media asked.medium asked.channel old.media new.media openings.NotFormatted media) level (λ e. let none : ⊥ = cc in none) (λ e. let none : ⊥ = cc in none)
+      (λ e. let none : ⊥ = cc in none) (λ e. let none : ⊥ = cc in none) (λ P. tt) (λ judged. judged) tt (λ bytes. tt)
+  opening_exports (openings.Damaged m offset) at same media level =
+      still_ends (ends.Damaged m offset) tt same (with_media asked.medium asked.channel old.media new.media (openings.Damaged m offset) media) level (λ e. let none : ⊥ = cc in none) (λ e. let none : ⊥ = cc in none)
+      (λ e. let none : ⊥ = cc in none) (λ e. let none : ⊥ = cc in none) (λ P. tt) (λ judged. judged) (inl (at m offset refl)) (λ bytes. tt)
+  opening_exports openings.Fault at same media level =
+      still_ends ends.MediaFault tt same (with_media asked.medium asked.channel old.media new.media openings.Fault media) level (λ e. let none : ⊥ = cc in none) (λ e. let none : ⊥ = cc in none)
+      (λ e. let none : ⊥ = cc in none) (λ e. let none : ⊥ = cc in none) (λ P. tt) (λ judged. judged) tt (λ bytes. tt)
+
+  -- No such channel is configured.
+  pub channel_exports : {T : Type 0} (result : Result T OpenRefused) (r : T) → result ≡ Ok r
+      → (members : MembersState) → LacksChannel members.config asked.channel → OpenedOn old.media.disk members
+      → (tells → SameBut 1 old.media.disk.reads new.media.disk.reads)
+      → ((x : Contents) → tells → HoldsContents old.media.disk.reads x → EndsMeet both (reading_of x) → WasRecorded x → OpensAtEachMoment old.media.disk new.media.disk result (ShowsHistory (opening_of x) []))
+      → ((x y : Contents) → HoldsContents old.media.disk.reads x → HoldsContents old.media.disk.reads y → x.config ≡ y.config)
+      → Writes (channel_line asked.channel) old.output new.output → WritesNothing old.media.disk new.media.disk → ExportEnds wish asked old new ends.NoChannel
+  channel_exports result r is members lacks contents others moments same wrote level = record {
+    own = tt;
+    written = λ x file t holds can of.
+        let c = contents t in
+        let config : members.config ≡ x.config = c.4 ∙ same c.1 x c.2 holds in
+        let none : file_in wish x.config asked.channel ≡ None = lacks_no_file wish x.config asked.channel (subst (λ (d : Configuration). LacksChannel d asked.channel) config lacks) in
+        let clash : Some file ≡ None = sym of ∙ none in let no : ⊥ = cc in absurd no;
+    kind = λ e. let none : ⊥ = cc in absurd none;
+    legible = λ judged. absurd judged;
+    damaged = tt;
+    output = λ e. let none : ⊥ = cc in absurd none;
+    line = λ e. wrote;
+    silent = inr (inl tt);
+    media = channel_ends asked.medium asked.channel old.media new.media result r is members lacks contents others moments;
+    level = level;
+  }
+
+  module _ (mid : MediaSeen tells tells_images) (r after : RecordingState) (query : Query) (wants : Wants r.members.config asked.medium asked.channel asked.from asked.to query)
+      (works : r.members.failed ≡ false)
+      (contents : OpenedOn old.media.disk r.members)
+      (opened : (x : Contents) → tells → HoldsContents old.media.disk.reads x → WasRecorded x
+      → (t0 : ℕ) × (old.media.disk.clock ≤ t0) × (t0 ≤ mid.disk.clock) × HasRecorded (opening_of x) [] t0 r mid.disk)
+      (readable : (x : Contents) → tells → HoldsContents old.media.disk.reads x → AreLevel both (reading_of x) → IsReadable (opening_of x) [] r.members x.placed mid.disk)
+      (later : NoneFalls old.media.faults mid.faults) (others : tells → SameBut 1 old.media.disk.reads mid.disk.reads) (level : WritesNothing old.media.disk new.media.disk) where
+    -- What can be read can be read by the vault.
+    to_read : (x : Contents) → tells → HoldsContents old.media.disk.reads x → CanBeRead x → (placed : ℕ → List Placed) × IsReadable (opening_of x) [] r.members placed mid.disk
+    to_read x t holds (inl sound) =
+        let has = opened x t holds sound in
+        let work = has.3.works works in
+        (work.placed, stands_to_read (opening_of x) [] r.members work.placed mid.disk work.stands)
+    to_read x t holds (inr level) = (x.placed, readable x t holds level)
+
+    module _ {T : Type 0} (result : Result T OpenRefused)
+        (moments : (x : Contents) → tells → HoldsContents old.media.disk.reads x → EndsMeet both (reading_of x) → WasRecorded x → OpensAtEachMoment old.media.disk mid.disk result (ShowsHistory (opening_of x) [])) where
+      -- How the media ended, by the end of a visit that stands for it.
+      media_so : (ended : Result ⊤ (VisitStop Status)) → IsAccepted (lacks_channel (length r.members.config.channels) query.channel) (lacks_incident r.members.table query.medium) ended
+          → ((opening : Opening) (events : List Event) (placed : ℕ → List Placed) (m offset : ℕ) → tells → IsReadable opening events r.members placed mid.disk → ended ≡ Err (stops.Damaged m offset) → ⊥)
+          → HasLooked query r after mid.disk new.media.disk mid.bytes_read new.media.bytes_read mid.faults new.media.faults (ended ≡ Err stops.Fault)
+          → IfItself ended IsOwnStatus → PlayEnds asked.medium asked.channel old.media new.media (status_by (λ (s : Status). s) ended asked.medium)
+      media_so ended accepted never looked own =
+          read_ends asked old.media mid new.media r after query ended wants works contents opened readable accepted never looked later others (λ (s : Status). s) own result moments
+
+      channel_there : lacks_channel (length r.members.config.channels) query.channel ≡ false
+      channel_there = ap (λ (q : Query). lacks_channel (length r.members.config.channels) q.channel) wants.is ∙ asked_within r.members.config asked.channel
+
+      -- The incident is not live.
+      pub incident_exports : {R : Type 0} (accepted : Result ⊤ (VisitStop R)) (stop : VisitStop R) → accepted ≡ unanswered (lacks_channel (length r.members.config.channels) query.channel) (lacks_incident r.members.table query.medium)
+          → accepted ≡ Err stop → HasLooked query r after mid.disk new.media.disk mid.bytes_read new.media.bytes_read mid.faults new.media.faults ⊥ → new.output ≡ old.output
+          → ExportEnds wish asked old new (ends.NoIncident (id_of asked.medium))
+      incident_exports accepted stop is refused looked same =
+          let misses = missing (lacks_channel (length r.members.config.channels) query.channel) (lacks_incident r.members.table query.medium) accepted stop is refused channel_there in
+          still_ends (ends.NoIncident (id_of asked.medium)) tt same
+          (media_so (Err stops.NoIncident)
+          (record {
+            channel = ((λ e. let no : ⊥ = cc in absurd no), (λ lacks. absurd (true_false _ lacks channel_there)));
+            incident = ((λ e. (channel_there, misses)), (λ lacks. refl));
+          })
+          (λ opening events placed m offset t h e. let no : ⊥ = cc in no) (looked_as _ _ _ _ _ _ _ _ _ _ _ (λ e. let no : ⊥ = cc in no) looked) tt)
+          level (λ e. let no : ⊥ = cc in no) (λ e. let no : ⊥ = cc in no) (λ e. let no : ⊥ = cc in no) (λ e. let no : ⊥ = cc in no) (λ P. tt) (λ judged. judged) tt (λ bytes. tt)
+
+      -- Channel and incident are there.
+      module _ (there : lacks_channel (length r.members.config.channels) query.channel ≡ false) (lives : lacks_incident r.members.table query.medium ≡ false) where
+        is_accepted : (ended : Result ⊤ (VisitStop Status)) → (ended ≡ Err stops.NoChannel → ⊥) → (ended ≡ Err stops.NoIncident → ⊥)
+            → IsAccepted (lacks_channel (length r.members.config.channels) query.channel) (lacks_incident r.members.table query.medium) ended
+        is_accepted ended channel incident = record {
+          channel = (λ e. absurd (channel e), λ lacks. absurd (true_false _ lacks there));
+          incident = (λ e. absurd (incident e), λ lacks. absurd (true_false _ lacks.1 lives));
+        }
+
+        can_play : (x : Contents) → r.members.config ≡ x.config → r.members.table ≡ x.table → CanPlay x asked.medium asked.channel
+        can_play x config table = record {
+          channel = λ lacks. wants.there (subst (λ (d : Configuration). LacksChannel d asked.channel) (sym config) lacks);
+          incident = λ lacks. true_false (lacks_incident r.members.table query.medium)
+              (ap (λ (q : Query). lacks_incident r.members.table q.medium) wants.is
+              ∙ lacks_so r.members.table asked.medium (subst (λ (t : List (Option histories.Incident)). LacksIncident t asked.medium) (sym table) lacks)) lives;
+        }
+
+        file_is : (found : Option File) → found ≡ wished wish (kind_at r.members.config.channels query.channel) → file_in wish r.members.config asked.channel ≡ found
+        file_is found is = sym (ap (λ (q : Query). wished wish (kind_at r.members.config.channels q.channel)) wants.is) ∙ sym is
+
+        -- The channel is of another kind.
+        pub kind_exports : (found : Option File) → found ≡ wished wish (kind_at r.members.config.channels query.channel) → found ≡ None
+            → ((x y : Contents) → HoldsContents old.media.disk.reads x → HoldsContents old.media.disk.reads y → x.config ≡ y.config)
+            → HasLooked query r after mid.disk new.media.disk mid.bytes_read new.media.bytes_read mid.faults new.media.faults ⊥ → new.output ≡ old.output → ExportEnds wish asked old new ends.ExportKind
+        kind_exports found is none same looked still = record {
+          own = tt;
+          written = λ x file t holds can of.
+              let c = contents t in
+              let config : r.members.config ≡ x.config = c.4 ∙ same c.1 x c.2 holds in
+              let clash : Some file ≡ None = sym of ∙ ap (λ (d : Configuration). file_in wish d asked.channel) (sym config) ∙ file_is found is ∙ none in let no : ⊥ = cc in absurd no;
+          kind = λ e. legible_so (λ x. CanPlay x asked.medium asked.channel × (file_in wish x.config asked.channel ≡ None)) old.media.disk r.members contents
+              (λ x t holds c k l. (can_play x c k, ap (λ (d : Configuration). file_in wish d asked.channel) (sym c) ∙ file_is found is ∙ none));
+          legible = λ judged. absurd judged;
+          damaged = tt;
+          output = λ e. let no : ⊥ = cc in absurd no;
+          line = λ e. let no : ⊥ = cc in absurd no;
+          silent = inr (inr still);
+          media = media_so (Err (stops.Own ends.ExportKind)) (is_accepted _ (λ e. let no : ⊥ = cc in no) (λ e. let no : ⊥ = cc in no))
+              (λ opening events placed m offset t h e. let no : ⊥ = cc in no) (looked_as _ _ _ _ _ _ _ _ _ _ _ (λ e. let no : ⊥ = cc in no) looked) tt;
+          level = level;
+        }
+
+        -- The file was to be written.
+        module _ (found : Option File) (is : found ≡ wished wish (kind_at r.members.config.channels query.channel)) (file : File) (some : found ≡ Some file)
+            (same : (x y : Contents) → HoldsContents old.media.disk.reads x → HoldsContents old.media.disk.reads y → x.config ≡ y.config) (out : Result ⊤ ExportRefused)
+            (made : (opening : Opening) (events : List Event) (placed : ℕ → List Placed) → tells → IsReadable opening events r.members placed mid.disk
+            → FileEnds (file_of file (selected opening events query)) old.output.taken new.output.taken out)
+            (looked : HasLooked query r after mid.disk new.media.disk mid.bytes_read new.media.bytes_read mid.faults new.media.faults (out ≡ Err exports.Fault)) where
+          made_is : (x : Contents) → tells → HoldsContents old.media.disk.reads x → file_of file (selected (opening_of x) [] query) ≡ made_of x asked file
+          unfolding made_of records_asked
+          made_is x t holds =
+              let c = contents t in
+              let config : r.members.config ≡ x.config = c.4 ∙ same c.1 x c.2 holds in
+              ap (λ (q : Query). file_of file (selected (opening_of x) [] q)) (wants.is ∙ ap (λ (d : Configuration). query_of d asked.medium asked.channel asked.from asked.to) config)
+
+          one_file : (x : Contents) → tells → HoldsContents old.media.disk.reads x → (other : File) → file_in wish x.config asked.channel ≡ Some other → other ≡ file
+          one_file x t holds other of =
+              let c = contents t in
+              let config : r.members.config ≡ x.config = c.4 ∙ same c.1 x c.2 holds in
+              let both_are : Some other ≡ Some file = sym of ∙ ap (λ (d : Configuration). file_in wish d asked.channel) (sym config) ∙ file_is found is ∙ some in cc
+
+          exportable : tells → IsLegibleWith old.media.disk.reads (CanExport wish asked)
+          exportable = legible_so (CanExport wish asked) old.media.disk r.members contents
+              (λ x t holds c k l. (can_play x c k, (file, ap (λ (d : Configuration). file_in wish d asked.channel) (sym c) ∙ file_is found is ∙ some)))
+
+          pub made_exports : IfErr out (IsFileRefusal file) → IfErr out (λ why. MayBeBegun file why ⊎ (new.output ≡ old.output)) → HasOutputCause old.output.faults new.output.faults (out ≡ Err exports.Output)
+              → ExportEnds wish asked old new (status_of_export out)
+          made_exports own silent blamed = record {
+            own = own_status wish _ file (sym is ∙ some) out own;
+            written = λ x other t holds can of.
+                let read = to_read x t holds can in
+                subst (λ (f : File). WritesFile (made_of x asked f) (status_of_export out) old.output new.output) (sym (one_file x t holds other of))
+                (subst (λ (m : Result (List ℕ) ExportRefused). WritesFile m (status_of_export out) old.output new.output) (made_is x t holds)
+                (writes_so old.output new.output _ out (made (opening_of x) [] read.0 t read.1)));
+            kind = λ e. absurd ((not_asked out).2 e);
+            legible = λ judged. exportable;
+            damaged = of_damage out _ (λ m offset told. inr (λ t. (
+              exportable t,
+              λ x holds can.
+                  let read = to_read x t holds can in
+                  undamaged old.output.taken new.output.taken out file (selected (opening_of x) [] query) m offset (made (opening_of x) [] read.0 t read.1) told,
+            )));
+            output = λ e. blamed.rose (output_as out e);
+            line = λ e. absurd ((not_asked out).3 e);
+            silent = ⊎_elim (λ begun. inl begun) (λ still. inr (inr still)) (may_write wish _ file (sym is ∙ some) out silent);
+            media = subst (λ (s : Status). PlayEnds asked.medium asked.channel old.media new.media s) (same_status out)
+                (media_so (as_visit out) (is_accepted (as_visit out) (not_asked out).0 (not_asked out).1)
+                (λ opening events placed m offset t h e. undamaged old.output.taken new.output.taken out file (selected opening events query) m offset (made opening events placed t h) (damage_as out m offset e))
+                (looked_as _ _ _ _ _ _ _ _ _ _ _ (fault_as out) looked) (own_visit out));
+            level = level;
+          }
+            where
+              same_status : (o : Result ⊤ ExportRefused) → status_by (λ (s : Status). s) (as_visit o) asked.medium ≡ status_of_export o
+              same_status (Ok u) = refl
+              same_status (Err exports.Nothing) = refl
+              same_status (Err (exports.Mixed place)) = refl
+              same_status (Err exports.Long) = refl
+              same_status (Err (exports.Part number)) = refl
+              same_status (Err exports.Fault) = refl
+              same_status (Err (exports.Damaged m offset)) = refl
+              same_status (Err exports.Output) = refl
+              same_status (Err exports.NoMemory) = refl
+
+              own_visit : (o : Result ⊤ ExportRefused) → IfItself (as_visit o) IsOwnStatus
+              own_visit (Ok u) = tt
+              own_visit (Err exports.Nothing) = tt
+              own_visit (Err (exports.Mixed place)) = tt
+              own_visit (Err exports.Long) = tt
+              own_visit (Err (exports.Part number)) = tt
+              own_visit (Err exports.Fault) = tt
+              own_visit (Err (exports.Damaged m offset)) = tt
+              own_visit (Err exports.Output) = tt
+              own_visit (Err exports.NoMemory) = tt

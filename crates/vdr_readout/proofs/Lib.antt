@@ -1,0 +1,10 @@
+pub mod ListLemmas
+pub mod PlayCompleteness
+pub mod ReadLemmas
+pub mod Rows
+pub mod PlayLemmas
+pub mod FileLemmas
+pub mod ExportLemmas
+pub mod ExportCompleteness
+pub mod WatchLemmas
+pub mod TableLemmas

@@ -1,0 +1,35 @@
+use Rattle.std.proofs.lemmas.Result.{err_from_is_err_and}
+use Rattle.vdr_readout.specs.Incidents.{CanList}
+use Rattle.vdr_command.specs.Opened.{AreLooks}
+use Rattle.vdr_command.specs.declared.status.Status.TheVariants.{Done, OutputFault}
+use Rattle.vdr_command.proofs.OpenedLemmas.{level_opened, no_looks, refused_ends}
+use Rattle.vdr_readout.proofs.ListLemmas.{listed_ends}
+use Rattle.vdr_readout.proofs.listing.list.Goals as goal
+
+pub returns-in_err-recording-clause-media : goal.returns-in_err-recording-clause-media
+returns-in_err-recording-clause-media g c =
+    let told = c.open.ensures in
+    let p = err_from_is_err_and c.from_residual.result c.from_residual.ensures.1 in
+    rw (p.1, p.2)
+    (refused_ends CanList ⊥ AreLooks _ _ c.open.result c.in_err-recording.field-0.0 no_looks c.in_err-recording.was told.unformatted told.damaged told.untouched told.blank told.others told.cause told.moments)
+
+pub returns-in-Ok-clause-media : goal.returns-in-Ok-clause-media
+returns-in-Ok-clause-media g c =
+    let told = c.open.ensures in
+    listed_ends _ _ c.open.result c.in_ok-recording.recording c.in_ok-recording.was c.in_ok-recording.recording.members c.in_ok-recording.ensures.contents
+    (λ x t holds sound. let w = (c.in_ok-recording.ensures.opened x t holds sound).3.works c.in_ok-recording.ensures.works in (w.placed, w.stands)) told.others told.moments Done tt
+
+pub returns-clause-media : goal.returns-clause-media
+returns-clause-media g c =
+    let told = c.open.ensures in
+    listed_ends _ _ c.open.result c.in_ok-recording.recording c.in_ok-recording.was c.in_ok-recording.recording.members c.in_ok-recording.ensures.contents
+    (λ x t holds sound. let w = (c.in_ok-recording.ensures.opened x t holds sound).3.works c.in_ok-recording.ensures.works in (w.placed, w.stands)) told.others told.moments OutputFault tt
+
+pub returns-in_err-recording-clause-level : goal.returns-in_err-recording-clause-level
+returns-in_err-recording-clause-level g c = level_opened (g.M.Media.disk c.args.world.now.media) (g.M.Media.disk c.open.new.media) c.open.ensures.level
+
+pub returns-in-Ok-clause-level : goal.returns-in-Ok-clause-level
+returns-in-Ok-clause-level g c = level_opened (g.M.Media.disk c.args.world.now.media) (g.M.Media.disk c.open.new.media) c.open.ensures.level
+
+pub returns-clause-level : goal.returns-clause-level
+returns-clause-level g c = level_opened (g.M.Media.disk c.args.world.now.media) (g.M.Media.disk c.open.new.media) c.open.ensures.level

@@ -1,0 +1,62 @@
+use Rattle.std.proofs.Common.{◌≡◌, inr, refl}
+use Rattle.std.proofs.lemmas.Result.{err_from_is_err_and}
+use Rattle.vdr_entry.specs.Queries.{asked}
+use Rattle.vdr_command.specs.Opened.{AreLooks}
+use Rattle.vdr_command.specs.Outside.{Outside, OutputSeen}
+use Rattle.vdr_command.proofs.OpenedLemmas.{level_looked, level_opened, no_looks, refused_ends}
+use Rattle.vdr_readout.specs.Reads.{AskedPlay, plain_play}
+use Rattle.vdr_readout.proofs.ReadLemmas.{channel_reads, never_damaged, opening_reads, read_ends, read_shows, wanted_so}
+use Rattle.vdr_readout.proofs.reading.read_out.Goals as goal
+
+pub returns-in_err-recording-clause-reads : goal.returns-in_err-recording-clause-reads
+returns-in_err-recording-clause-reads g c first had =
+    let told = c.open.ensures in
+    let p = err_from_is_err_and c.from_residual.result c.from_residual.ensures.1 in
+    rw (p.1, p.2)
+    (opening_reads _ _ _ _ _ _ _ _ c.in_err-recording.field-0.0 refl
+    (refused_ends _ _ AreLooks _ _ c.open.result c.in_err-recording.field-0.0 no_looks c.in_err-recording.was
+    told.unformatted told.damaged told.untouched told.blank told.others told.cause told.moments)
+    (level_opened (g.M.Media.disk c.args.world.now.media) (g.M.Media.disk c.open.new.media) told.level))
+
+pub returns-in_default-clause-reads : goal.returns-in_default-clause-reads
+returns-in_default-clause-reads g c first had =
+    let told = c.open.ensures in
+    channel_reads _ _ _ _ _ _ _ _ c.open.result c.in_ok-recording.recording c.in_ok-recording.was c.in_ok-recording.recording.members c.in_default.ensures.none c.in_ok-recording.ensures.contents
+    told.others told.moments c.report_channel.ensures (level_opened (g.M.Media.disk c.args.world.now.media) (g.M.Media.disk c.open.new.media) told.level)
+
+pub returns-clause-reads : goal.returns-clause-reads
+returns-clause-reads g c first had =
+    let told = c.in_ok-recording.ensures in
+    let visit = c.visit-ended.ensures in
+    let wanted : AskedPlay = plain_play c.args.wanted in
+    let old : Outside g.M.Media.tells g.M.Media.tells_images = record {
+      input = record { left = g.I.Source.left c.args.world.now.input; faults = g.I.Source.faults c.args.world.now.input };
+      output = record { taken = g.O.Sink.taken c.args.world.now.output; faults = g.O.Sink.faults c.args.world.now.output };
+      media = record { disk = g.M.Media.disk c.args.world.now.media; faults = g.M.Media.faults c.args.world.now.media; bytes_read = g.M.Media.bytes_read c.args.world.now.media };
+    } in
+    let mid : Outside g.M.Media.tells g.M.Media.tells_images = record {
+      input = old.input;
+      output = old.output;
+      media = record { disk = g.M.Media.disk c.open.new.media; faults = g.M.Media.faults c.open.new.media; bytes_read = g.M.Media.bytes_read c.open.new.media };
+    } in
+    let new : Outside g.M.Media.tells g.M.Media.tells_images = record {
+      input = old.input;
+      output = record { taken = g.O.Sink.taken c.visit-ended.new.out; faults = g.O.Sink.faults c.visit-ended.new.out };
+      media = record { disk = g.M.Media.disk c.visit-ended.new.media; faults = g.M.Media.faults c.visit-ended.new.media; bytes_read = g.M.Media.bytes_read c.visit-ended.new.media };
+    } in
+    let wants = wanted_so _ _ _ _ _ (asked c.in-Some.query) c.in-Some.ensures.found.0 c.in-Some.ensures.found.1 in
+    let visited = visit.visited first had in
+    let undamaged = never_damaged visited in
+    rw c.ended_by.ensures.is
+    (record {
+      shown =
+          read_shows wanted old.media mid.media new.media c.in_ok-recording.recording c.visit-ended.new.self (asked c.in-Some.query) c.visit-ended.result wants told.works told.contents told.opened told.readable
+          visit.accepted undamaged visit.looked c.open.ensures.cause.later c.open.ensures.others _ c.ended_by.ensures.own c.open.result c.open.ensures.moments
+          (λ a b h k. (c.law_of_contents.ensures.config (g.M.Media.disk c.args.world.now.media).reads a b h k).0) _ _ _ _ old.output new.output visited
+          (λ refused. let same = (visit.unread (inr refused)).3 in λ i. record { taken = g.O.Sink.taken (same i); faults = g.O.Sink.faults (same i) })
+          visit.output.rose;
+      media =
+          read_ends wanted old.media mid.media new.media c.in_ok-recording.recording c.visit-ended.new.self (asked c.in-Some.query) c.visit-ended.result wants told.works told.contents told.opened told.readable
+          visit.accepted undamaged visit.looked c.open.ensures.cause.later c.open.ensures.others _ c.ended_by.ensures.own c.open.result c.open.ensures.moments;
+      level = level_looked (g.M.Media.disk c.args.world.now.media) (g.M.Media.disk c.open.new.media) (g.M.Media.disk c.visit-ended.new.media) c.open.ensures.level visit.looked.read.unchanged;
+    })

@@ -1,0 +1,85 @@
+-- What `incidents` prints and answers (this project's profile; IMO MSC.333(90) asks that the record of an incident be kept).
+use Rattle.std.specs.Prelude.{◌≡◌, ◌⊎◌, ◌∷◌, ℕ, zero, suc, List, [], ◌++◌, codes, decimal, Option, Some, None, ⊤}
+use Rattle.vdr_history.specs.Histories.{Incident, live}
+use Rattle.vdr_durability.specs.Readings.{EndsMeet}
+use Rattle.vdr_outside.specs.Disk.{Image}
+use Rattle.vdr_entry.specs.Utc.{utc_text}
+use Rattle.vdr_opening.specs.Media.{both, Contents, HoldsContents, reading_of}
+use Rattle.vdr_command.specs.Endings.{IsDone, IsWorkDone}
+use Rattle.vdr_command.specs.Opened.{AreLooks, MediaEnds, PrintsText, RefusesAll, WritesNothing}
+use Rattle.vdr_command.specs.Outside.{NothingFailed, OutputFailed, Outside}
+use Rattle.vdr_command.specs.Promises.{Promise}
+use Rattle.vdr_command.specs.declared.status.Status.{Status}
+use Rattle.vdr_command.specs.declared.status.Status.TheVariants.{Done, Unformatted, Damaged, MediaFault, OutputFault, NoMemory}
+
+-- A live save: its id, tick and UTC of its last record, its first and its last place, and its label.
+unfoldable pub incident_row : (id : ℕ) → Incident → List ℕ
+incident_row id saved =
+    decimal id
+    ++ codes " "
+    ++ decimal saved.stamp.tick
+    ++ codes " "
+    ++ utc_text saved.stamp.utc
+    ++ codes " "
+    ++ decimal saved.a
+    ++ codes " "
+    ++ decimal saved.b
+    ++ codes " "
+    ++ saved.label
+    ++ codes "\n"
+
+-- An id under which nothing is live has no row.
+abbrev pub row_if : (id : ℕ) → Option Incident → List ℕ
+row_if id None = []
+row_if id (Some saved) = incident_row id saved
+
+-- The rows of the first n ids, which begin at 1.
+abbrev pub rows_to : (n : ℕ) → List (Option Incident) → List ℕ
+rows_to zero table = []
+rows_to (suc n) table = rows_to n table ++ row_if (suc n) (live table (suc n))
+
+-- The live saves in the order of their ids, of which the last is 32.
+unfoldable pub incidents_text : List (Option Incident) → List ℕ
+incidents_text table = rows_to 32 table
+
+-- The command ends so, and in no other way.
+abbrev pub IsListStatus : Status → Type 0
+IsListStatus Done = ⊤
+IsListStatus Unformatted = ⊤
+IsListStatus (Damaged m offset) = ⊤
+IsListStatus MediaFault = ⊤
+IsListStatus OutputFault = ⊤
+IsListStatus NoMemory = ⊤
+IsListStatus status = ⊥
+
+-- Any legible media are listed.
+abbrev pub CanList : Contents → Type 0
+CanList x = ⊤
+
+-- What is legible is listed, and what is not is refused by its own refusal, or there was no memory.
+pub record ListsAll (image : Image) (status : Status) : Type 0 where
+  pub refused : RefusesAll image status
+  pub done : (x : Contents) → HoldsContents image x → EndsMeet both (reading_of x) → IsDone status
+
+-- What `incidents` owes.
+pub record Lists {tells tells_images : Type 0} (old new : Outside tells tells_images) (status : Status) : Type 0 where
+  pub own : IsListStatus status
+  -- the live saves are printed
+  pub printed : (x : Contents) → tells → HoldsContents old.media.disk.reads x → PrintsText (incidents_text x.table) status old.output new.output
+  -- each failure comes only with its cause
+  pub output : status ≡ OutputFault → OutputFailed old.output new.output
+  pub silent : IsWorkDone status ⊎ (new.output ≡ old.output)
+  -- the media, and what is said of them
+  pub media : MediaEnds CanList ⊥ AreLooks old.media new.media status
+  pub level : WritesNothing old.media.disk new.media.disk
+  -- nothing else comes in the place of the list, or of a refusal, but want of memory
+  pub complete : NothingFailed old new → tells → ListsAll old.media.disk.reads status
+
+abbrev pub listing : Promise
+listing = record {
+  words = λ texts. texts ≡ codes "incidents" ∷ [];
+  legal = ⊤;
+  reads_input = ⊥;
+  uses_media = ⊤;
+  owes = λ old new status. Lists old new status;
+}

@@ -1,0 +1,9 @@
+-- What the commands that read recorded media print and answer.
+pub mod Incidents
+pub mod Reads
+pub mod Plays
+pub mod Tables
+pub mod Sources
+pub mod Exports
+pub mod Watches
+pub mod Targets

@@ -1,0 +1,173 @@
+-- What is said of every command that opens recorded media, finds a channel and an incident there, and reads records out.
+use Rattle.std.specs.Prelude.{◌≡◌, ◌≢◌, ◌⊎◌, ◌++◌, if◌then◌else◌, ℕ, ℤ, List, [], position, bytes_eq, codes, Option, None, Result, Ok, Err, ⊤}
+use Rattle.vdr_terms.specs.Records.{Record}
+use Rattle.vdr_terms.specs.Queries.{Query}
+use Rattle.vdr_history.specs.Histories.{live}
+use Rattle.vdr_history.specs.Histories as histories
+use Rattle.vdr_durability.specs.Readings.{AreLevel, EndsMeet}
+use Rattle.vdr_playback.specs.Playback.{selected}
+use Rattle.vdr_outside.specs.Disk.{Disk, Image}
+use Rattle.vdr_config.specs.Configuration.{Configuration}
+use Rattle.vdr_entry.specs.Queries.{asked_medium}
+use Rattle.vdr_entry.specs.declared.query.Medium.{Medium}
+use Rattle.vdr_entry.specs.declared.query.Medium.TheVariants.{Capsule, LongTerm, Incident}
+use Rattle.vdr_opening.specs.Media.{both, Contents, HoldsContents, opening_of, reading_of}
+use Rattle.vdr_visit.specs.Prints.{text_of, whole_text}
+use Rattle.vdr_visit.specs.declared.stop.VisitStop.{VisitStop}
+use Rattle.vdr_visit.specs.declared.stop.VisitStop.TheVariants as stops
+use Rattle.vdr_command.specs.Endings.{IsDone}
+use Rattle.vdr_command.specs.Opened.{AreLooks, IfNoIncident, IsLegibleWith, MediaEnds, RefusesAll, WasRecorded, WritesNothing}
+use Rattle.vdr_command.specs.Outside.{MediaSeen, OutputFailed, OutputSeen, Outside, Prints, PrintsFront, Writes}
+use Rattle.vdr_command.specs.StatusLine.{channel_line}
+use Rattle.vdr_command.specs.declared.status.Status.{Status}
+use Rattle.vdr_command.specs.declared.status.Status.TheVariants.{Done, Words, Unformatted, Damaged, MediaFault, OutputFault, NoMemory, NoChannel, NoIncident}
+use Rattle.vdr_readout.specs.declared.reading.Wanted.{Wanted}
+
+-- What is asked for: the medium or the incident, the channel's name, and the first and the last stamp.
+pub record AskedPlay : Type 0 where
+  pub medium : Medium
+  pub channel : List ℕ
+  pub from : ℤ
+  pub to : ℤ
+
+abbrev pub plain_play : Wanted → AskedPlay
+plain_play wanted = record { medium = wanted.medium; channel = wanted.channel.now; from = wanted.from; to = wanted.to }
+
+-- The name that stands for all records. No channel has it.
+abbrev pub all_records : List ℕ
+all_records = codes "all"
+
+-- The number of the channel of this name, None where there is none.
+abbrev pub channel_in : Configuration → (name : List ℕ) → Option ℕ
+channel_in c name = position (λ channel. bytes_eq channel.name name) c.channels
+
+-- The channel that is asked for: None for all records.
+abbrev pub channel_asked : Configuration → (name : List ℕ) → Option ℕ
+channel_asked c name = if bytes_eq name all_records then None else channel_in c name
+
+-- The name is that of no channel.
+abbrev pub LacksChannel : Configuration → (name : List ℕ) → Type 0
+LacksChannel c name = (name ≢ all_records) × (channel_in c name ≡ None)
+
+-- An incident is asked for that is not live.
+abbrev pub LacksIncident : List (Option histories.Incident) → Medium → Type 0
+LacksIncident table Capsule = ⊥
+LacksIncident table LongTerm = ⊥
+LacksIncident table (Incident id) = live table id ≡ None
+
+-- What a recorder left can be read, and what is legible where both media end with the last batch.
+abbrev pub CanBeRead : Contents → Type 0
+CanBeRead x = WasRecorded x ⊎ AreLevel both (reading_of x)
+
+-- Channel and incident are there.
+pub record CanPlay (x : Contents) (medium : Medium) (name : List ℕ) : Type 0 where
+  pub channel : LacksChannel x.config name → ⊥
+  pub incident : LacksIncident x.table medium → ⊥
+
+abbrev pub query_of : Configuration → Medium → (name : List ℕ) → (from to : ℤ) → Query
+query_of c medium name from to = record { medium = asked_medium medium; channel = channel_asked c name; from = from; to = to }
+
+-- The records that are asked for, of media with these contents.
+unfoldable pub records_asked : Contents → AskedPlay → List Record
+records_asked x asked = selected (opening_of x) [] (query_of x.config asked.medium asked.channel asked.from asked.to)
+
+-- The id of an incident, 0 where none is asked for.
+abbrev pub id_of : Medium → ℕ
+id_of Capsule = 0
+id_of LongTerm = 0
+id_of (Incident id) = id
+
+-- How a visit of this medium ends the command, by what stands for a visitor's own reason.
+abbrev pub status_by : {R : Type 0} → (R → Status) → Result ⊤ (VisitStop R) → Medium → Status
+status_by status_of (Ok all) medium = Done
+status_by status_of (Err stops.NoChannel) medium = NoChannel
+status_by status_of (Err stops.NoIncident) medium = NoIncident (id_of medium)
+status_by status_of (Err stops.Fault) medium = MediaFault
+status_by status_of (Err (stops.Damaged m offset)) medium = Damaged m offset
+status_by status_of (Err stops.Output) medium = OutputFault
+status_by status_of (Err (stops.Own reason)) medium = status_of reason
+
+-- A visitor's own reason may end a command so: with no status that opening, finding and reading have.
+abbrev pub IsOwnStatus : Status → Type 0
+IsOwnStatus Done = ⊥
+IsOwnStatus Words = ⊥
+IsOwnStatus Unformatted = ⊥
+IsOwnStatus (Damaged m offset) = ⊥
+IsOwnStatus MediaFault = ⊥
+IsOwnStatus OutputFault = ⊥
+IsOwnStatus NoChannel = ⊥
+IsOwnStatus (NoIncident id) = ⊥
+IsOwnStatus status = ⊤
+
+-- P holds of the visitor's own reason.
+abbrev pub IfItself : {R : Type 0} → Result ⊤ (VisitStop R) → (R → Type 0) → Type 0
+IfItself (Ok all) P = ⊤
+IfItself (Err stops.NoChannel) P = ⊤
+IfItself (Err stops.NoIncident) P = ⊤
+IfItself (Err stops.Fault) P = ⊤
+IfItself (Err (stops.Damaged m offset)) P = ⊤
+IfItself (Err stops.Output) P = ⊤
+IfItself (Err (stops.Own reason)) P = P reason
+
+module _ {tells tells_images : Type 0} where
+  -- The media are legible, and of none that can be read.
+  abbrev pub MetUnreadable : Disk tells tells_images → (Can : Contents → Type 0) → Type 0
+  MetUnreadable old Can = tells → IsLegibleWith old.reads Can × ((x : Contents) → HoldsContents old.reads x → CanBeRead x → ⊥)
+
+  -- What is said where the media were opened, by what they read as at entry.
+  pub record PlayEnds (medium : Medium) (name : List ℕ) (old new : MediaSeen tells tells_images) (status : Status) : Type 0 where
+    pub media : MediaEnds (λ x. CanPlay x medium name) (MetUnreadable old.disk (λ x. CanPlay x medium name)) AreLooks old new status
+    -- each refusal of the words comes only in its case
+    pub no_channel : status ≡ NoChannel → tells → IsLegibleWith old.disk.reads (λ x. LacksChannel x.config name)
+    pub no_incident : IfNoIncident status (λ id. (medium ≡ Incident id) × (tells → IsLegibleWith old.disk.reads (λ x. (LacksChannel x.config name → ⊥) × LacksIncident x.table medium)))
+
+  -- These are the records that are asked for, where the media can be read.
+  abbrev pub AreAsked : AskedPlay → Disk tells tells_images → List Record → Type 0
+  AreAsked asked disk records = (x : Contents) → tells → HoldsContents disk.reads x → CanBeRead x → records ≡ records_asked x asked
+
+  -- These are the first of them.
+  abbrev pub AreFirst : AskedPlay → Disk tells tells_images → List Record → Type 0
+  AreFirst asked disk records = (x : Contents) → tells → HoldsContents disk.reads x → CanBeRead x → (rest : List Record) × (records_asked x asked ≡ records ++ rest)
+
+  -- Reading ended before its end: the lines of the first records stand in the output, and nothing else.
+  abbrev pub IsCutOff : AskedPlay → Disk tells tells_images → (line : List Record → Record → List ℕ) → (old new : OutputSeen) → Type 0
+  IsCutOff asked disk line old new = (first : List Record) × Prints (text_of line first) old new × AreFirst asked disk first
+
+  -- The visitor ended it by itself, at the last of the records that it was handed or behind it.
+  pub record StoppedItself {R : Type 0} (asked : AskedPlay) (disk : Disk tells tells_images) (Stops : List Record → R → Type 0) (status_of : R → Status) (line : List Record → Record → List ℕ)
+      (old new : OutputSeen) (status : Status) : Type 0 where
+    pub reason : R
+    pub is : status_of reason ≡ status
+    pub seen : List Record
+    pub stops : Stops seen reason
+    pub first : AreFirst asked disk seen
+    pub legible : tells → IsLegibleWith disk.reads (λ x. CanPlay x asked.medium asked.channel)
+    pub printed : (first : List Record) × (rest : List Record) × (seen ≡ first ++ rest) × Prints (text_of line first) old new
+
+  -- What stands in the output before the line of the status.
+  abbrev pub ShowsReading : {R : Type 0} → AskedPlay → Disk tells tells_images → (Has : List Record → Type 0) → (Stops : List Record → R → Type 0) → (R → Status) → (line : List Record → Record → List ℕ)
+      → (last : List Record → List ℕ) → (old new : OutputSeen) → Status → Type 0
+  ShowsReading asked disk Has Stops status_of line last old new Done = (all : List Record) × Has all × Prints (whole_text line last all) old new × AreAsked asked disk all
+  ShowsReading asked disk Has Stops status_of line last old new OutputFault =
+      OutputFailed old new × ((x : Contents) → tells → HoldsContents disk.reads x → CanBeRead x → PrintsFront (whole_text line last (records_asked x asked)) old new)
+  ShowsReading asked disk Has Stops status_of line last old new MediaFault = IsCutOff asked disk line old new
+  ShowsReading asked disk Has Stops status_of line last old new (Damaged m offset) = IsCutOff asked disk line old new
+  ShowsReading asked disk Has Stops status_of line last old new Unformatted = new ≡ old
+  ShowsReading asked disk Has Stops status_of line last old new NoChannel = Writes (channel_line asked.channel) old new × (asked.channel ≢ all_records)
+  ShowsReading asked disk Has Stops status_of line last old new (NoIncident id) = new ≡ old
+  ShowsReading asked disk Has Stops status_of line last old new status = ((status ≡ NoMemory) × (new ≡ old)) ⊎ StoppedItself asked disk Stops status_of line old new status
+
+  -- What such a command owes, by what its visitor is, prints and may stop for.
+  pub record ReadsOut {R : Type 0} (asked : AskedPlay) (Has : List Record → Type 0) (Stops : List Record → R → Type 0) (status_of : R → Status) (line : List Record → Record → List ℕ) (last : List Record → List ℕ)
+      (old new : Outside tells tells_images) (status : Status) : Type 0 where
+    pub shown : ShowsReading asked old.media.disk Has Stops status_of line last old.output new.output status
+    pub media : PlayEnds asked.medium asked.channel old.media new.media status
+    pub level : WritesNothing old.media.disk new.media.disk
+
+-- What may be read out is, and what may not is refused by its own refusal, or there was no memory.
+pub record PlaysAll (medium : Medium) (name : List ℕ) (image : Image) (status : Status) : Type 0 where
+  pub refused : RefusesAll image status
+  pub channel : (x : Contents) → HoldsContents image x → EndsMeet both (reading_of x) → LacksChannel x.config name → (status ≡ NoChannel) ⊎ (status ≡ NoMemory)
+  pub incident : (x : Contents) (id : ℕ) → HoldsContents image x → EndsMeet both (reading_of x) → (LacksChannel x.config name → ⊥) → medium ≡ Incident id
+      → live x.table id ≡ None → (status ≡ NoIncident id) ⊎ (status ≡ NoMemory)
+  pub done : (x : Contents) → HoldsContents image x → EndsMeet both (reading_of x) → CanBeRead x → CanPlay x medium name → IsDone status

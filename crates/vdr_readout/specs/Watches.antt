@@ -1,0 +1,54 @@
+-- What `watch` prints and answers (this project's profile; heartbeats and alarms are the sentences HBT and ALR of IEC 61162-1).
+use Rattle.std.specs.Prelude.{◌≡◌, ◌⊎◌, ◌∷◌, ℕ, List, [], codes, ⊤}
+use Rattle.vdr_terms.specs.Records.{Record}
+use Rattle.vdr_entry.specs.declared.query.Medium.{Medium}
+use Rattle.vdr_control.specs.Plays.{IsMedium, medium_word}
+use Rattle.vdr_opening.specs.Media.{Contents, HoldsContents}
+use Rattle.vdr_watch.specs.Texts.{records_text, watch_text}
+use Rattle.vdr_command.specs.Endings.{IsWorkDone}
+use Rattle.vdr_command.specs.Opened.{PrintsText, WritesNothing}
+use Rattle.vdr_command.specs.Outside.{NothingFailed, OutputFailed, Outside, Prints}
+use Rattle.vdr_command.specs.Promises.{Promise}
+use Rattle.vdr_command.specs.declared.status.Status.{Status}
+use Rattle.vdr_command.specs.declared.status.Status.TheVariants.{Damaged, MediaFault, NoChannel, NoMemory, OutputFault}
+use Rattle.vdr_readout.specs.Plays.{IsPlayStatus}
+use Rattle.vdr_readout.specs.Reads.{AreFirst, CanBeRead, PlayEnds, PlaysAll, all_records, records_asked}
+use Rattle.vdr_readout.specs.Sources.{whole_of}
+
+-- What is printed of media with these contents: what all these records show, and their end.
+abbrev pub shown_text : Contents → Medium → List ℕ
+shown_text x medium = watch_text (records_asked x (whole_of medium))
+
+-- The watch was cut off: reading failed, a record was not legal, or there was no memory.
+abbrev pub IsCutShort : Status → Type 0
+IsCutShort MediaFault = ⊤
+IsCutShort (Damaged m offset) = ⊤
+IsCutShort NoMemory = ⊤
+IsCutShort status = ⊥
+
+-- What `watch` owes.
+pub record TellsWatch {tells tells_images : Type 0} (medium : Medium) (old new : Outside tells tells_images) (status : Status) : Type 0 where
+  pub own : IsPlayStatus status
+  pub no_channel : status ≡ NoChannel → ⊥
+  -- what the records that the media hold show is printed
+  pub printed : (x : Contents) → tells → HoldsContents old.media.disk.reads x → CanBeRead x → PrintsText (shown_text x medium) status old.output new.output
+  -- where it is cut off, what the first records show stands before the line of the status, and nothing else
+  pub cut : IsCutShort status → (first : List Record) × Prints (records_text [] first) old.output new.output × AreFirst (whole_of medium) old.media.disk first
+  -- each failure comes only with its cause
+  pub output : status ≡ OutputFault → OutputFailed old.output new.output
+  -- unless records were read nothing is printed
+  pub silent : IsWorkDone status ⊎ (IsCutShort status ⊎ Prints [] old.output new.output)
+  -- the media, and what is said of them, are as for a play of all records
+  pub media : PlayEnds medium all_records old.media new.media status
+  pub level : WritesNothing old.media.disk new.media.disk
+  -- nothing else comes in the place of the text, or of a refusal, but want of memory
+  pub complete : NothingFailed old new → tells → PlaysAll medium all_records old.media.disk.reads status
+
+abbrev pub watching : Medium → Promise
+watching medium = record {
+  words = λ texts. texts ≡ codes "watch" ∷ medium_word medium ∷ [];
+  legal = IsMedium medium;
+  reads_input = ⊥;
+  uses_media = ⊤;
+  owes = λ old new status. TellsWatch medium old new status;
+}

@@ -1,0 +1,118 @@
+// Files out of what was recorded: the sound of a channel, and the image of a block.
+ghost use Rattle.std.specs.Prelude.{◌≡◌, ◌≤◌, length};
+ghost use Rattle.vdr_command.specs.Endings.{ending};
+ghost use Rattle.vdr_command.specs.declared.status.Status.TheVariants.{Words};
+ghost use Rattle.vdr_readout.specs.Exports.{ExportEnds, Exports, kind_at, status_of_export, wished};
+ghost use Rattle.vdr_readout.specs.Reads.{plain_play};
+
+use crate::reading::{Wanted, id_of, query_of};
+use std::alloc::Global;
+use std::convert::Infallible;
+use vdr_command::{Outer, Status, World, law_of_openings, report_channel};
+use vdr_config::{ChannelKind, Config};
+use vdr_export::{Block, ExportRefused, File, export_file};
+use vdr_opening::law_of_contents;
+use vdr_outside::{Media, Sink, Source};
+use vdr_recorder::Recording;
+
+/// What file is asked for.
+#[derive(Clone, Copy, Debug, PartialEq, Eq, Drop)]
+pub enum Wish {
+    /// The sound of a channel of PCM frames.
+    Sound,
+    /// The image of this block, out of a channel of images.
+    Picture(Block),
+}
+
+// The file that is to be made of a channel, None where its kind is another.
+fn file_of(config: &Config, channel: Option<u8>, wish: Wish) -> Option<File>
+    ensures { result ≡ wished wish (kind_at config.now.channels channel) }
+{
+    let Some(number) = channel else {
+        return None;
+    };
+    let Some(channel) = config.channels.get(number as usize) else {
+        return None;
+    };
+    match (wish, &channel.kind) {
+        (Wish::Sound, ChannelKind::Pcm { microphone }) => Some(File::Sound {
+            microphone: *microphone,
+        }),
+        (Wish::Picture(block), ChannelKind::Image { .. }) => Some(File::Picture(block)),
+        _ => None,
+    }
+}
+
+// How the writing of a file ends the command.
+fn exported(written: Result<(), ExportRefused>) -> Result<(), Status>
+    ensures { ending result ≡ status_of_export written }
+{
+    match written {
+        Ok(()) => Ok(()),
+        Err(ExportRefused::Nothing) => Err(Status::ExportNothing),
+        Err(ExportRefused::Mixed { place }) => Err(Status::ExportMixed(place)),
+        Err(ExportRefused::Long) => Err(Status::ExportLong),
+        Err(ExportRefused::Part { number }) => Err(Status::ExportPart(number)),
+        Err(ExportRefused::Fault) => Err(Status::MediaFault),
+        Err(ExportRefused::Damaged { medium, offset }) => Err(Status::Damaged { medium, offset }),
+        Err(ExportRefused::Output) => Err(Status::OutputFault),
+        Err(ExportRefused::NoMemory) => Err(Status::NoMemory),
+    }
+}
+
+// Opens the media, finds what is wanted there, and writes the file.
+fn export<I: Source + Drop, O: Sink + Drop, M: Media + Drop>(
+    alloc: Global,
+    wanted: Wanted<'_>,
+    wish: Wish,
+    world: &mut World<I, O, M>,
+) -> Result<(), Status>
+    requires two { 2 ≤ length (M.disk world.old.media).sizes }
+    requires three { length (M.disk world.old.media).sizes ≤ 3 }
+    ensures ends { let at = ⟦<World<I, O, M> as Outer>⟧.outside in ExportEnds wish (plain_play wanted.entry) (at world.old) (at world.new) (ending result) }
+    ensures later { O.faults world.old.output ≤ O.faults world.new.output }
+    ensures sizes { (M.disk world.new.media).sizes ≡ (M.disk world.old.media).sizes }
+    ensures unread { world.new.input ≡ world.old.input }
+{
+    law_of_contents();
+    let mut recording = Recording::open(alloc, &mut world.media)?;
+    let Some(query) = query_of(&recording, wanted) else {
+        report_channel(wanted.channel, &mut world.output);
+        return Err(Status::NoChannel);
+    };
+    let Ok(()) = recording.accept::<Infallible>(&query) else {
+        return Err(Status::NoIncident(id_of(wanted.medium)));
+    };
+    let Some(file) = file_of(recording.config(), query.channel, wish) else {
+        return Err(Status::ExportKind);
+    };
+    let media = &mut world.media;
+    let written = export_file(
+        alloc,
+        &mut recording,
+        media,
+        &query,
+        &file,
+        &mut world.output,
+    );
+    exported(written)
+}
+
+/// Writes the file that is asked for to the output. Memory is taken to open the media, and for the parts of a picture.
+pub fn answer_export<I: Source + Drop, O: Sink + Drop, M: Media + Drop>(
+    alloc: Global,
+    wanted: Wanted<'_>,
+    wish: Wish,
+    world: &mut World<I, O, M>,
+) -> Result<(), Status>
+    requires two { 2 ≤ length (M.disk world.old.media).sizes }
+    requires three { length (M.disk world.old.media).sizes ≤ 3 }
+    ensures owed { let at = ⟦<World<I, O, M> as Outer>⟧.outside in Exports wish (plain_play wanted.entry) (at world.old) (at world.new) (ending result) }
+    ensures known { ending result ≡ Words → ⊥ }
+    ensures later { O.faults world.old.output ≤ O.faults world.new.output }
+    ensures sizes { (M.disk world.new.media).sizes ≡ (M.disk world.old.media).sizes }
+    ensures unread { world.new.input ≡ world.old.input }
+{
+    law_of_openings();
+    export(alloc, wanted, wish, world)
+}

@@ -1,0 +1,50 @@
+// What was recorded, for whoever makes something of it.
+ghost use Rattle.std.specs.Prelude.{◌≡◌, ◌⊎◌, [], length, true, Err};
+ghost use Rattle.vdr_entry.specs.Queries.{asked};
+ghost use Rattle.vdr_vault.specs.Vaults.{AreRings};
+ghost use Rattle.vdr_visit.specs.Prints.{whole_text};
+ghost use Rattle.vdr_visit.specs.Stops.{HasOutputCause, IsAccepted, after_fault, lacks_channel, lacks_incident, unanswered};
+ghost use Rattle.vdr_visit.specs.Visits.{HasVisited};
+ghost use Rattle.vdr_visit.specs.declared.stop.VisitStop.TheVariants.{Fault as AFault, NoChannel, NoIncident, Output};
+ghost use Rattle.vdr_recorder.specs.Looks.{HasLooked};
+
+use crate::Recording;
+use vdr_entry::Query;
+use vdr_outside::{Media, Sink};
+use vdr_visit::{VisitStop, Visitor, accept, visit_selected};
+
+impl Recording {
+    /// Whether a query asks for a channel that is configured and for an incident that is live, where it asks for one.
+    pub fn accept<R>(&self, query: &Query) -> Result<(), VisitStop<R>>
+        ensures { result ≡ unanswered (lacks_channel (length self.now.members.config.channels) query.now.channel) (lacks_incident self.now.members.table (asked query.now).medium) }
+    {
+        accept(&self.members, query)
+    }
+
+    /// Hands the records that a query selects to the visitor, in order of place, each once, and then their end. What it prints goes to the
+    /// output in few writes, through a buffer of 8,192 bytes. Reads the query's medium alone, and takes no memory of its own.
+    ///
+    /// `NoChannel` comes before `NoIncident`, and both before `Fault` of a write that had failed. After `Fault` and `Damaged` the text of
+    /// just the records that were handed on stands in the output. On media that hold what was recorded, regular or not, `Damaged` never
+    /// comes.
+    pub fn visit<M: Media, V: Visitor, O: Sink>(
+        &mut self,
+        media: &mut M,
+        query: &Query,
+        visitor: &mut V,
+        out: &mut O,
+    ) -> Result<(), VisitStop<V::Reason>>
+        requires rings { AreRings self.old.members (M.disk media.old).sizes }
+        ensures accepted { IsAccepted (lacks_channel (length self.old.members.config.channels) query.now.channel) (lacks_incident self.old.members.table (asked query.now).medium) result }
+        ensures visited { (first : V) → V.has first [] visitor.old
+            → HasVisited (asked query.now) self.old.members (M.disk media.old) (λ seen. V.has first seen visitor.new) (V.stops first) (V.line first) (whole_text (V.line first) (V.last first))
+            (O.taken out.old) (O.taken out.new) result }
+        ensures unread { (result ≡ Err NoChannel) ⊎ (result ≡ Err NoIncident) → (self.new ≡ self.old) × (media.new ≡ media.old) × (visitor.new ≡ visitor.old) × (out.new ≡ out.old) }
+        ensures failed { self.old.members.failed ≡ true → (self.new ≡ self.old) × (media.new ≡ media.old) × (visitor.new ≡ visitor.old) × (out.new ≡ out.old)
+            × (result ≡ after_fault (unanswered (lacks_channel (length self.old.members.config.channels) query.now.channel) (lacks_incident self.old.members.table (asked query.now).medium))) }
+        ensures looked { HasLooked (asked query.now) self.old self.new (M.disk media.old) (M.disk media.new) (M.bytes_read media.old) (M.bytes_read media.new) (M.faults media.old) (M.faults media.new) (result ≡ Err AFault) }
+        ensures output { HasOutputCause (O.faults out.old) (O.faults out.new) (result ≡ Err Output) }
+    {
+        visit_selected(&mut self.members, media, query, visitor, out)
+    }
+}

@@ -1,0 +1,490 @@
+-- What a trial leaves: formatting, a run, and opening again, joined.
+use Rattle.std.specs.Prelude.{All, ⊤}
+use Rattle.std.proofs.Common.{◌≡◌, ◌≢◌, ◌≤◌, ◌⊎◌, inl, inr, ⊎_elim, ℕ, false, List, [], ◌∷◌, ◌++◌, Some, Ok, Err, refl, sym, subst, ◌∙◌, append-nil, arith}
+use Rattle.std.specs.Str.{is_utf8, chars}
+use Rattle.std.proofs.lemmas.List.Elements.{All-head, All-tail}
+use Rattle.serde_json.proofs.OnLiterals.{serde_json_on_literals}
+use Rattle.vdr_terms.specs.Records.{FeedItem}
+use Rattle.vdr_history.specs.Histories.{Event, IsHistory, recorded}
+use Rattle.vdr_durability.specs.Keeping.{IsWhole, Keeps, ShowsOn, ShowsPrefix}
+use Rattle.vdr_durability.proofs.Kept.{keeps_on}
+use Rattle.vdr_outside.specs.Causes.{Rose}
+use Rattle.vdr_outside.specs.Disk.{Disk, Durable, Image, SameBut, content}
+use Rattle.vdr_outside.specs.Moments.{AtEachMoment, Settled}
+use Rattle.vdr_outside.proofs.Moments.{moments_join, moments_weaken, now_after, settled_image}
+use Rattle.vdr_config.specs.declared.media.TooSmall.{TooSmall}
+use Rattle.vdr_config.specs.Configuration.{Configuration}
+use Rattle.vdr_config.specs.Forms.{is_key}
+use Rattle.vdr_config.specs.Grammar.{agreement, channel_at, configuration, configuration_of, each_element, group_at, needed_key, only_keys, optional_key, selection_at, top_of}
+use Rattle.vdr_media.specs.Answers.{KnownUnformatted, TextTested, room}
+use Rattle.vdr_media.specs.Formatted.{IsEmptyHistory, IsEmptyHistoryOf, IsUnformatted, SameBeside, members}
+use Rattle.vdr_media.specs.Formatting.{FormatsAtEachMoment}
+use Rattle.vdr_media.specs.Medium.{IsEmptyMedium}
+use Rattle.vdr_media.specs.declared.refused.FormatRefused.{FormatRefused}
+use Rattle.vdr_media.specs.declared.refused.FormatRefused.TheVariants as refusal
+use Rattle.vdr_media.proofs.Two.{all_two}
+use Rattle.vdr_opening.specs.Media.{both, Contents, HoldsContents, opening_of}
+use Rattle.vdr_opening.proofs.Formatted.{empty_holds}
+use Rattle.vdr_vault.specs.Calls.{SameElsewhere}
+use Rattle.vdr_vault.specs.Openings.{LeavesAll}
+use Rattle.vdr_vault.specs.Regularity.{AreSound}
+use Rattle.vdr_vault.specs.Vaults.{ShowsHistory}
+use Rattle.vdr_replay.specs.Headline.{AccountBy, Headline, PlaysBack, RecordsAre, RunEnd}
+use Rattle.vdr_replay.specs.Headline.RunEnd.{NotStarted, Closed, Broken}
+use Rattle.vdr_replay.proofs.Headlines.{keeps_told, no_event_history, no_event_whole, prefix_told}
+use Rattle.vdr_life.specs.Lives.{Life}
+use Rattle.vdr_life.specs.Lives.Life.{formatted, ran}
+use Rattle.vdr_life.proofs.Lives.{run_front, run_in_order}
+use Rattle.vdr_command.specs.Endings.{IsWorkDone}
+use Rattle.vdr_command.specs.Opened.{PrintsText}
+use Rattle.vdr_command.specs.Outside.{MediaSeen, OutputSeen}
+use Rattle.vdr_command.specs.StatusLine.{IfSmall}
+use Rattle.vdr_command.specs.declared.status.Status.{Status}
+use Rattle.vdr_command.specs.declared.status.Status.TheVariants.{Done, Words, Config, Small, Unformatted, Formatted, Damaged, MediaFault, PortFault, LinkFault, InputFault, OutputFault, NoMemory, Feed, NoChannel, NoIncident, SaveRefused, Place, Tick, ExportKind, ExportNothing, ExportMixed, ExportLong, ExportPart}
+use Rattle.vdr_tool.specs.Formats.{FormatEnds, status_of}
+use Rattle.vdr_tool.specs.TrialParts.{IsBenchStop, IsOwnStop, IsRunStop, IsTrialStop, RecordsNothing}
+use Rattle.vdr_tool.specs.Trials.{IsAfterRun, IsOfOtherMedia, IsTrialStatus, LeavesRun, bench, bench_text, first_run, fresh}
+use Rattle.vdr_tool.proofs.FormatLemmas.{one_configuration}
+use Rattle.vdr_tool.proofs.LifeGoesOn.{played_so, quiet_order}
+
+-- The text is that configuration.
+pub bench_reads : configuration bench_text ≡ Ok bench
+unfolding serde_json_on_literals is_utf8 chars configuration configuration_of only_keys top_of needed_key optional_key each_element group_at channel_at selection_at agreement is_key
+bench_reads = refl
+
+pub stops_at_bench : (r : FormatRefused) → TextTested (Err r) (configuration bench_text) → IsBenchStop (status_of r)
+stops_at_bench refusal.NoMemory tested = tt
+stops_at_bench (refusal.Config bad) tested = let clash : Ok bench ≡ Err bad = sym bench_reads ∙ tested in let none : ⊥ = cc in absurd none
+stops_at_bench refusal.AlreadyFormatted tested = tt
+stops_at_bench (refusal.TooSmall small) tested = tt
+stops_at_bench refusal.Fault tested = tt
+
+-- Which statuses come of what
+
+pub bench_trial : (s : Status) → IsBenchStop s → IsTrialStop s
+bench_trial Done h = absurd h
+bench_trial Words h = absurd h
+bench_trial (Config n) h = absurd h
+bench_trial (Small small) h = tt
+bench_trial Unformatted h = absurd h
+bench_trial Formatted h = tt
+bench_trial (Damaged m offset) h = absurd h
+bench_trial MediaFault h = tt
+bench_trial (PortFault group) h = absurd h
+bench_trial (LinkFault link) h = absurd h
+bench_trial InputFault h = absurd h
+bench_trial OutputFault h = absurd h
+bench_trial NoMemory h = tt
+bench_trial (Feed n at) h = absurd h
+bench_trial NoChannel h = absurd h
+bench_trial (NoIncident id) h = absurd h
+bench_trial (SaveRefused cause) h = absurd h
+bench_trial Place h = absurd h
+bench_trial Tick h = absurd h
+bench_trial ExportKind h = absurd h
+bench_trial ExportNothing h = absurd h
+bench_trial (ExportMixed place) h = absurd h
+bench_trial ExportLong h = absurd h
+bench_trial (ExportPart part) h = absurd h
+
+pub run_trial : (s : Status) → IsRunStop s → IsTrialStop s
+run_trial Done h = absurd h
+run_trial Words h = absurd h
+run_trial (Config n) h = absurd h
+run_trial (Small small) h = absurd h
+run_trial Unformatted h = tt
+run_trial Formatted h = absurd h
+run_trial (Damaged m offset) h = tt
+run_trial MediaFault h = tt
+run_trial (PortFault group) h = absurd h
+run_trial (LinkFault link) h = absurd h
+run_trial InputFault h = absurd h
+run_trial OutputFault h = absurd h
+run_trial NoMemory h = tt
+run_trial (Feed n at) h = tt
+run_trial NoChannel h = absurd h
+run_trial (NoIncident id) h = absurd h
+run_trial (SaveRefused cause) h = absurd h
+run_trial Place h = tt
+run_trial Tick h = tt
+run_trial ExportKind h = absurd h
+run_trial ExportNothing h = absurd h
+run_trial (ExportMixed place) h = absurd h
+run_trial ExportLong h = absurd h
+run_trial (ExportPart part) h = absurd h
+
+pub stop_status : (s : Status) → IsTrialStop s → IsTrialStatus s
+stop_status Done h = absurd h
+stop_status Words h = absurd h
+stop_status (Config n) h = absurd h
+stop_status (Small small) h = tt
+stop_status Unformatted h = tt
+stop_status Formatted h = tt
+stop_status (Damaged m offset) h = tt
+stop_status MediaFault h = tt
+stop_status (PortFault group) h = absurd h
+stop_status (LinkFault link) h = absurd h
+stop_status InputFault h = absurd h
+stop_status OutputFault h = absurd h
+stop_status NoMemory h = tt
+stop_status (Feed n at) h = tt
+stop_status NoChannel h = absurd h
+stop_status (NoIncident id) h = absurd h
+stop_status (SaveRefused cause) h = absurd h
+stop_status Place h = tt
+stop_status Tick h = tt
+stop_status ExportKind h = absurd h
+stop_status ExportNothing h = absurd h
+stop_status (ExportMixed place) h = absurd h
+stop_status ExportLong h = absurd h
+stop_status (ExportPart part) h = absurd h
+
+-- No work is done where a part of it stopped.
+pub stop_undone : {P : Type 0} (s : Status) → IsTrialStop s → IsWorkDone s → P
+stop_undone Done h done = absurd h
+stop_undone Words h done = absurd h
+stop_undone (Config n) h done = absurd h
+stop_undone (Small small) h done = absurd done
+stop_undone Unformatted h done = absurd done
+stop_undone Formatted h done = absurd done
+stop_undone (Damaged m offset) h done = absurd done
+stop_undone MediaFault h done = absurd done
+stop_undone (PortFault group) h done = absurd h
+stop_undone (LinkFault link) h done = absurd h
+stop_undone InputFault h done = absurd h
+stop_undone OutputFault h done = absurd h
+stop_undone NoMemory h done = absurd done
+stop_undone (Feed n at) h done = absurd done
+stop_undone NoChannel h done = absurd h
+stop_undone (NoIncident id) h done = absurd h
+stop_undone (SaveRefused cause) h done = absurd h
+stop_undone Place h done = absurd done
+stop_undone Tick h done = absurd done
+stop_undone ExportKind h done = absurd h
+stop_undone ExportNothing h done = absurd h
+stop_undone (ExportMixed place) h done = absurd h
+stop_undone ExportLong h done = absurd h
+stop_undone (ExportPart part) h done = absurd h
+
+pub stop_prints : (text : List ℕ) (was next : OutputSeen) (s : Status) → IsTrialStop s → PrintsText text s was next
+stop_prints text was next Done h = absurd h
+stop_prints text was next Words h = absurd h
+stop_prints text was next (Config n) h = absurd h
+stop_prints text was next (Small small) h = tt
+stop_prints text was next Unformatted h = tt
+stop_prints text was next Formatted h = tt
+stop_prints text was next (Damaged m offset) h = tt
+stop_prints text was next MediaFault h = tt
+stop_prints text was next (PortFault group) h = absurd h
+stop_prints text was next (LinkFault link) h = absurd h
+stop_prints text was next InputFault h = absurd h
+stop_prints text was next OutputFault h = absurd h
+stop_prints text was next NoMemory h = tt
+stop_prints text was next (Feed n at) h = tt
+stop_prints text was next NoChannel h = absurd h
+stop_prints text was next (NoIncident id) h = absurd h
+stop_prints text was next (SaveRefused cause) h = absurd h
+stop_prints text was next Place h = tt
+stop_prints text was next Tick h = tt
+stop_prints text was next ExportKind h = absurd h
+stop_prints text was next ExportNothing h = absurd h
+stop_prints text was next (ExportMixed place) h = absurd h
+stop_prints text was next ExportLong h = absurd h
+stop_prints text was next (ExportPart part) h = absurd h
+
+pub run_not_formatted : (s : Status) → IsRunStop s → s ≡ Formatted → ⊥
+run_not_formatted Done h is = absurd h
+run_not_formatted Words h is = absurd h
+run_not_formatted (Config n) h is = absurd h
+run_not_formatted (Small small) h is = absurd h
+run_not_formatted Unformatted h is = let none : ⊥ = cc in none
+run_not_formatted Formatted h is = absurd h
+run_not_formatted (Damaged m offset) h is = let none : ⊥ = cc in none
+run_not_formatted MediaFault h is = let none : ⊥ = cc in none
+run_not_formatted (PortFault group) h is = absurd h
+run_not_formatted (LinkFault link) h is = absurd h
+run_not_formatted InputFault h is = absurd h
+run_not_formatted OutputFault h is = absurd h
+run_not_formatted NoMemory h is = let none : ⊥ = cc in none
+run_not_formatted (Feed n at) h is = let none : ⊥ = cc in none
+run_not_formatted NoChannel h is = absurd h
+run_not_formatted (NoIncident id) h is = absurd h
+run_not_formatted (SaveRefused cause) h is = absurd h
+run_not_formatted Place h is = let none : ⊥ = cc in none
+run_not_formatted Tick h is = let none : ⊥ = cc in none
+run_not_formatted ExportKind h is = absurd h
+run_not_formatted ExportNothing h is = absurd h
+run_not_formatted (ExportMixed place) h is = absurd h
+run_not_formatted ExportLong h is = absurd h
+run_not_formatted (ExportPart part) h is = absurd h
+
+pub run_not_small : (P : TooSmall → Type 0) (s : Status) → IsRunStop s → IfSmall s P
+run_not_small P Done h = absurd h
+run_not_small P Words h = absurd h
+run_not_small P (Config n) h = absurd h
+run_not_small P (Small small) h = absurd h
+run_not_small P Unformatted h = tt
+run_not_small P Formatted h = absurd h
+run_not_small P (Damaged m offset) h = tt
+run_not_small P MediaFault h = tt
+run_not_small P (PortFault group) h = absurd h
+run_not_small P (LinkFault link) h = absurd h
+run_not_small P InputFault h = absurd h
+run_not_small P OutputFault h = absurd h
+run_not_small P NoMemory h = tt
+run_not_small P (Feed n at) h = tt
+run_not_small P NoChannel h = absurd h
+run_not_small P (NoIncident id) h = absurd h
+run_not_small P (SaveRefused cause) h = absurd h
+run_not_small P Place h = tt
+run_not_small P Tick h = tt
+run_not_small P ExportKind h = absurd h
+run_not_small P ExportNothing h = absurd h
+run_not_small P (ExportMixed place) h = absurd h
+run_not_small P ExportLong h = absurd h
+run_not_small P (ExportPart part) h = absurd h
+
+pub own_after : (s : Status) → IsOwnStop s → IsAfterRun s
+own_after Done h = absurd h
+own_after Words h = absurd h
+own_after (Config n) h = absurd h
+own_after (Small small) h = absurd h
+own_after Unformatted h = absurd h
+own_after Formatted h = absurd h
+own_after (Damaged m offset) h = absurd h
+own_after MediaFault h = tt
+own_after (PortFault group) h = absurd h
+own_after (LinkFault link) h = absurd h
+own_after InputFault h = absurd h
+own_after OutputFault h = absurd h
+own_after NoMemory h = tt
+own_after (Feed n at) h = absurd h
+own_after NoChannel h = absurd h
+own_after (NoIncident id) h = absurd h
+own_after (SaveRefused cause) h = absurd h
+own_after Place h = absurd h
+own_after Tick h = absurd h
+own_after ExportKind h = absurd h
+own_after ExportNothing h = absurd h
+own_after (ExportMixed place) h = absurd h
+own_after ExportLong h = absurd h
+own_after (ExportPart part) h = absurd h
+
+pub own_not_other : (s : Status) → IsOwnStop s → IsOfOtherMedia s → ⊥
+own_not_other Done h other = absurd h
+own_not_other Words h other = absurd h
+own_not_other (Config n) h other = absurd h
+own_not_other (Small small) h other = absurd h
+own_not_other Unformatted h other = absurd h
+own_not_other Formatted h other = absurd h
+own_not_other (Damaged m offset) h other = absurd h
+own_not_other MediaFault h other = other
+own_not_other (PortFault group) h other = absurd h
+own_not_other (LinkFault link) h other = absurd h
+own_not_other InputFault h other = absurd h
+own_not_other OutputFault h other = absurd h
+own_not_other NoMemory h other = other
+own_not_other (Feed n at) h other = absurd h
+own_not_other NoChannel h other = absurd h
+own_not_other (NoIncident id) h other = absurd h
+own_not_other (SaveRefused cause) h other = absurd h
+own_not_other Place h other = absurd h
+own_not_other Tick h other = absurd h
+own_not_other ExportKind h other = absurd h
+own_not_other ExportNothing h other = absurd h
+own_not_other (ExportMixed place) h other = absurd h
+own_not_other ExportLong h other = absurd h
+own_not_other (ExportPart part) h other = absurd h
+
+-- A count that rose in a part rose in all of it.
+pub rose_wider : (a b c d : ℕ) → a ≤ b → c ≤ d → Rose b c → Rose a d
+rose_wider a b c d low high rose = omega (arith, low, high, rose)
+
+abbrev pub IsEmpty : Image → Type 0
+IsEmpty image = IsEmptyHistory both bench bench_text image
+
+abbrev pub Lives : List Event → Image → Type 0
+Lives events image = Life bench bench_text events image
+
+empty_of : (image : Image) → IsEmptyHistoryOf (0 ∷ 1 ∷ []) bench_text image → IsEmpty image
+empty_of image (c, h) = subst (λ (d : Configuration). IsEmptyHistory both d bench_text image) (one_configuration (configuration bench_text) c bench (h.each 0 0 (omega arith)).holds.reads bench_reads) h
+
+pub same_joined : (a b c : Image) → SameElsewhere a b → SameBut 1 b c → SameElsewhere a c
+same_joined a b c first then k zero_not one_not = then k one_not ∙ first k zero_not one_not
+
+module _ {tells tells_images : Type 0} where
+  -- Formatting succeeded.
+  module _ (old mid : MediaSeen tells tells_images) (ends : FormatEnds false (Some bench_text) old mid Done) where
+    settled : All (λ m. Settled m (IsEmptyMedium m bench bench_text) mid.disk) (0 ∷ 1 ∷ [])
+    settled =
+        let d = (ends.done refl).1 in
+        subst (λ (c : Configuration). All (λ m. Settled m (IsEmptyMedium m c bench_text) mid.disk) (0 ∷ 1 ∷ [])) (one_configuration (configuration bench_text) d.0 bench d.1 bench_reads) d.2.1
+
+    pub has_room : room bench old.disk.sizes ≡ Ok tt
+    has_room =
+        let d = (ends.done refl).1 in
+        subst (λ (c : Configuration). room c old.disk.sizes ≡ Ok tt) (one_configuration (configuration bench_text) d.0 bench d.1 bench_reads) d.2.0
+
+    pub was_unformatted : KnownUnformatted old.disk
+    was_unformatted = (ends.done refl).0 refl
+
+    pub empty_now : (image : Image) → mid.disk.now image → IsEmpty image
+    empty_now image now = record {
+      each = all_two (λ m. IsEmptyMedium m bench bench_text (content image m))
+          (settled_image 0 (IsEmptyMedium 0 bench bench_text) mid.disk (settled 0 0 (omega arith)) image now)
+          (settled_image 1 (IsEmptyMedium 1 bench bench_text) mid.disk (settled 1 1 (omega arith)) image now);
+    }
+
+    pub empty_read : tells → IsEmpty mid.disk.reads
+    empty_read told = record { each = all_two (λ m. IsEmptyMedium m bench bench_text (content mid.disk.reads m)) ((settled 0 0 (omega arith)).reads told) ((settled 1 1 (omega arith)).reads told) }
+
+    formats : Durable 0 old.disk → AtEachMoment old.disk mid.disk (λ image. old.disk.now image ⊎ (IsUnformatted image ⊎ IsEmpty image))
+    formats durable = by (ends.moments (inl refl) durable).2
+      where
+        by : FormatsAtEachMoment {T = ⊤} {E = Status} old.disk mid.disk (Ok tt) (IsEmptyHistoryOf (members old.disk.sizes) bench_text)
+            → AtEachMoment old.disk mid.disk (λ image. old.disk.now image ⊎ (IsUnformatted image ⊎ IsEmpty image))
+        by (inl early) = let none : ⊥ = cc in absurd none
+        by (inr goes) = moments_weaken old.disk mid.disk (λ image. old.disk.now image ⊎ (IsUnformatted image ⊎ IsEmptyHistoryOf (0 ∷ 1 ∷ []) bench_text image))
+            (λ image. old.disk.now image ⊎ (IsUnformatted image ⊎ IsEmpty image)) goes.moments
+            (λ image p. ⊎_elim (λ now. inl now) (λ k. ⊎_elim (λ un. inr (inl un)) (λ new. inr (inr (empty_of image new))) k) p)
+
+  -- A run on media that were just formatted, from the moment at which it began.
+  pub record RanOn (rose : Type 0) (mid late : Disk tells tells_images) (items : List FeedItem) (end : RunEnd) : Type 0 where
+    pub events : List Event
+    pub history : IsHistory (opening_of fresh) events
+    pub pending : IsWhole events ⊎ ((end ≡ Broken) × rose)
+    pub records : RecordsAre end first_run items (recorded events)
+    pub accounts : (g : ℕ) → AccountBy end first_run items (recorded events) g
+    pub moments : AtEachMoment mid late (λ image. mid.now image ⊎ ShowsPrefix Lives events 0 image)
+    pub synced : ℕ
+    pub after_entry : mid.clock ≤ synced
+    pub before_exit : synced ≤ late.clock
+    pub kept : Keeps Lives events synced late
+
+  pub lived : (rose : Type 0) (mid late : Disk tells tells_images) (items : List FeedItem) (end : RunEnd) → IsEmpty mid.reads → (h : Headline fresh rose mid late items end)
+      → (first rest : List Event) → h.events ≡ first ++ rest → (image : Image) → PlaysBack (opening_of fresh) first image → Lives first image
+  lived rose mid late items end empty h first rest split image p =
+      ran [] mid.reads image fresh first (formatted mid.reads empty) (empty_holds mid.reads bench bench_text empty)
+      (run_front fresh first rest h.events split (run_in_order fresh h.events h.history.follow h.order)) (played_so fresh first image p)
+
+  pub ran_on : (rose : Type 0) (mid late : Disk tells tells_images) (items : List FeedItem) (end : RunEnd) → IsEmpty mid.reads → Headline fresh rose mid late items end → RanOn rose mid late items end
+  ran_on rose mid late items end empty h = record {
+    events = h.events;
+    history = h.history;
+    pending = h.pending;
+    records = h.records;
+    accounts = h.accounts;
+    moments = moments_weaken mid late (λ image. mid.now image ⊎ ShowsPrefix (PlaysBack (opening_of fresh)) h.events 0 image) (λ image. mid.now image ⊎ ShowsPrefix Lives h.events 0 image) h.moments
+        (λ image p. ⊎_elim (λ now. inl now) (λ shown. inr (prefix_told (PlaysBack (opening_of fresh)) Lives h.events (lived rose mid late items end empty h) 0 image shown)) p);
+    synced = h.synced;
+    after_entry = h.after_entry;
+    before_exit = h.before_exit;
+    kept = keeps_told (PlaysBack (opening_of fresh)) Lives h.events (lived rose mid late items end empty h) h.synced late h.kept;
+  }
+
+  pub lived_all : (rose : Type 0) (mid late : Disk tells tells_images) (items : List FeedItem) (empty : IsEmpty mid.reads) → (h : Headline fresh rose mid late items Closed) → tells
+      → Lives (ran_on rose mid late items Closed empty h).events late.reads
+  unfolding ran_on
+  lived_all rose mid late items empty h told = lived rose mid late items Closed empty h h.events [] (sym (append-nil h.events)) late.reads (h.reads told refl)
+
+  -- It was not begun, and a stop leaves the media empty.
+  ran_nothing : (rose : Type 0) (mid late : Disk tells tells_images) → ((image : Image) → mid.now image → IsEmpty image) → LeavesAll mid late → RanOn rose mid late [] NotStarted
+  ran_nothing rose mid late empty leaves = record {
+    events = [];
+    history = no_event_history (opening_of fresh);
+    pending = inl no_event_whole;
+    records = refl;
+    accounts = λ g. tt;
+    moments = moments_weaken mid late (λ image. mid.now image) (λ image. mid.now image ⊎ ShowsPrefix Lives [] 0 image) leaves (λ image now. inl now);
+    synced = mid.clock;
+    after_entry = omega arith;
+    before_exit = leaves.later;
+    kept = record {
+      rising = omega arith;
+      pending = tt;
+      prefixes = λ t image start end left. record { first = []; rest = []; split = refl; enough = omega arith; shown = formatted image (empty image (leaves.each image (late.earlier mid.clock t image start left))) };
+      now = λ whole image now. formatted image (empty image (now_after mid late (λ image. mid.now image) leaves image now));
+    };
+  }
+
+  pub nothing_ran : (rose : Type 0) (mid late : Disk tells tells_images) (seed count : ℕ) → IsEmpty mid.reads → ((image : Image) → mid.now image → IsEmpty image) → RecordsNothing seed count rose mid late → RanOn rose mid late [] NotStarted
+  nothing_ran rose mid late seed count read empty (inl leaves) = ran_nothing rose mid late empty leaves
+  nothing_ran rose mid late seed count read empty (inr h) = ran_on rose mid late [] NotStarted read h
+
+  -- The media were opened again, which changed nothing of what they have.
+  module _ (rose : Type 0) (mid late new : Disk tells tells_images) (items : List FeedItem) (r : RanOn rose mid late items Closed) (x : Contents) (life : Lives r.events late.reads)
+      (holds : HoldsContents late.reads x) (sound : AreSound x) (moments : AtEachMoment late new (λ image. late.now image ⊎ ShowsHistory (opening_of x) [] image)) where
+    pub shows_on : (image : Image) → ShowsHistory (opening_of x) [] image → Lives r.events image
+    shows_on image shown = subst (λ (es : List Event). Lives es image) (append-nil r.events)
+        (ran r.events late.reads image x [] life holds (record { follow = tt; order = quiet_order x sound [] refl }) shown)
+
+    all_whole : IsWhole r.events
+    all_whole = ⊎_elim (λ w. w) (λ (b : (Closed ≡ Broken) × rose). let clash = b.0 in let none : ⊥ = cc in absurd none) r.pending
+
+    goes_on : ShowsOn Lives r.events late new
+    goes_on = moments_weaken late new (λ image. late.now image ⊎ ShowsHistory (opening_of x) [] image) (λ image. late.now image ⊎ Lives r.events image) moments
+        (λ image p. ⊎_elim (λ now. inl now) (λ shown. inr (shows_on image shown)) p)
+
+    abbrev pub Since : Image → Type 0
+    Since image = mid.now image ⊎ ShowsPrefix Lives r.events 0 image
+
+    pub reopened : RanOn rose mid new items Closed
+    reopened = record {
+      events = r.events;
+      history = r.history;
+      pending = r.pending;
+      records = r.records;
+      accounts = r.accounts;
+      moments = moments_join mid late new Since r.moments (moments_weaken late new (λ image. late.now image ⊎ Lives r.events image) Since goes_on
+          (λ image p. ⊎_elim (λ now. now_after mid late Since r.moments image now)
+          (λ shown. inr (record { first = r.events; rest = []; split = sym (append-nil r.events); enough = omega arith; shown = shown })) p));
+      synced = r.synced;
+      after_entry = r.after_entry;
+      before_exit = let exit = r.before_exit in let later = moments.later in omega (arith, exit, later);
+      kept = keeps_on Lives r.events r.synced late new all_whole goes_on r.kept;
+    }
+
+  pub reopened_shows : (rose : Type 0) (mid late new : Disk tells tells_images) (items : List FeedItem) (r : RanOn rose mid late items Closed) (x : Contents) (life : Lives r.events late.reads)
+      (holds : HoldsContents late.reads x) (sound : AreSound x) (moments : AtEachMoment late new (λ image. late.now image ⊎ ShowsHistory (opening_of x) [] image))
+      → (image : Image) → ShowsHistory (opening_of x) [] image → Lives (reopened rose mid late new items r x life holds sound moments).events image
+  unfolding reopened
+  reopened_shows rose mid late new items r x life holds sound moments image shown = shows_on rose mid late new items r x life holds sound moments image shown
+
+  abbrev pub SinceEntry : Disk tells tells_images → List Event → Image → Type 0
+  SinceEntry old events image = old.now image ⊎ (IsUnformatted image ⊎ ShowsPrefix Lives events 0 image)
+
+  -- Formatting, and what came after it.
+  pub joined : (old mid : MediaSeen tells tells_images) (ends : FormatEnds false (Some bench_text) old mid Done) (rose wider : Type 0) (new : Disk tells tells_images) (items : List FeedItem) (end : RunEnd) (s : Status)
+      → (rose → wider) → (r : RanOn rose mid.disk new items end) → (IsWorkDone s → Lives r.events new.reads) → LeavesRun wider old.disk new items end s
+  joined old mid ends rose wider new items end s to r reads = record {
+    events = r.events;
+    history = r.history;
+    pending = ⊎_elim (λ w. inl w) (λ (b : (end ≡ Broken) × rose). inr (b.0, to b.1)) r.pending;
+    records = r.records;
+    accounts = r.accounts;
+    moments = λ durable. moments_join old.disk mid.disk new (SinceEntry old.disk r.events)
+        (moments_weaken old.disk mid.disk (λ image. old.disk.now image ⊎ (IsUnformatted image ⊎ IsEmpty image)) (SinceEntry old.disk r.events) (formats old mid ends durable)
+        (λ image p. ⊎_elim (λ now. inl now) (λ k. ⊎_elim (λ un. inr (inl un)) (λ empty. begun image empty) k) p))
+        (moments_weaken mid.disk new (λ image. mid.disk.now image ⊎ ShowsPrefix Lives r.events 0 image) (SinceEntry old.disk r.events) r.moments
+        (λ image p. ⊎_elim (λ now. begun image (empty_now old mid ends image now)) (λ shown. inr (inr shown)) p));
+    synced = r.synced;
+    after_entry = let early = ends.others_meanwhile.later in let entry = r.after_entry in omega (arith, early, entry);
+    before_exit = r.before_exit;
+    kept = r.kept;
+    reads = reads;
+  }
+    where
+      begun : (image : Image) → IsEmpty image → SinceEntry old.disk r.events image
+      begun image empty = inr (inr (record { first = []; rest = r.events; split = refl; enough = omega arith; shown = formatted image empty }))
+
+  -- What is beside the two media
+
+  pub elsewhere : (old mid : MediaSeen tells tells_images) (new : Image) → FormatEnds false (Some bench_text) old mid Done → tells → SameElsewhere mid.disk.reads new
+      → SameBeside (members old.disk.sizes) (λ image. image ≡ old.disk.reads) new
+  elsewhere old mid new ends told same =
+      let f = ends.others told in
+      record {
+        image = f.image;
+        was = f.was;
+        same = λ k others. same k (All-head (λ m. k ≢ m) 0 (1 ∷ []) others) (All-head (λ m. k ≢ m) 1 [] (All-tail (λ m. k ≢ m) 0 (1 ∷ []) others)) ∙ f.same k others;
+      }

@@ -1,0 +1,140 @@
+// How many records stand in the windows of media that are opened for it.
+ghost use Rattle.std.specs.Prelude.{◌≡◌, ◌≤◌, ◌⊎◌, ℕ, List, length, sum, false};
+ghost use Rattle.vdr_history.specs.Histories.{Event, Opening};
+ghost use Rattle.vdr_durability.specs.Readings.{EndsMeet};
+ghost use Rattle.vdr_playback.specs.Playback.{selected};
+ghost use Rattle.vdr_outside.specs.Causes.{NoneFalls, Rose};
+ghost use Rattle.vdr_outside.specs.Disk.{SameBut};
+ghost use Rattle.vdr_entry.specs.Queries.{asked_medium};
+ghost use Rattle.vdr_entry.specs.declared.query.Medium.TheVariants.{Capsule as TheCapsule, LongTerm as TheLongTerm};
+ghost use Rattle.vdr_ring.specs.Sequence.{Placed};
+ghost use Rattle.vdr_opening.specs.Media.{Contents, HoldsContents, both, reading_of};
+ghost use Rattle.vdr_vault.specs.Regularity.{AreSound};
+ghost use Rattle.vdr_vault.specs.Vaults.{AreRings, IsReadable};
+ghost use Rattle.vdr_recorder.specs.Looks.{HasLooked};
+ghost use Rattle.vdr_tool.specs.TrialParts.{CountsRecords, CountsWindows, IfStopped, IsRunStop, cause_of, outcome, whole};
+ghost use Rattle.vdr_command.specs.declared.status.Status.TheVariants.{MediaFault};
+
+use crate::trying::Windows;
+use std::alloc::Global;
+use std::convert::Infallible;
+use vdr_command::{Status, law_of_openings};
+use vdr_entry::{Medium, Query, Record};
+use vdr_outside::{Failed, Media, Sink};
+use vdr_recorder::Recording;
+use vdr_visit::{VisitStop, Visitor, VisitorStop};
+
+/// The last stamp: the last millisecond of the year 9999.
+const LAST_STAMP: i64 = 253_402_300_799_999;
+
+/// Counts the records that it is handed, and prints nothing. At the greatest u64 the count stands still.
+#[derive(Drop)]
+struct Counter {
+    count: u64,
+}
+
+impl Visitor for Counter {
+    ghost use Rattle.std.specs.Prelude.{◌≡◌, ◌+◌, [], length};
+    ghost use Rattle.vdr_tool.specs.TrialParts.{as_u64};
+
+    /// It never stops by itself.
+    type Reason = Infallible;
+
+    ghost has = { λ first seen now. now.count ≡ as_u64 (first.count + length seen) };
+
+    ghost line = { λ _ _ _. [] };
+
+    ghost last = { λ _ _. [] };
+
+    ghost stops = { λ _ _ _. ⊥ };
+
+    fn visit<O: Sink>(
+        &mut self,
+        _item: &Record,
+        _out: &mut O,
+    ) -> Result<(), VisitorStop<Infallible>> {
+        self.count = self.count.saturating_add(1);
+        Ok(())
+    }
+
+    fn finish<O: Sink>(&mut self, _out: &mut O) -> Result<(), VisitorStop<Infallible>> {
+        Ok(())
+    }
+}
+
+/// Takes all bytes and keeps none. It never fails.
+#[derive(Drop)]
+struct Nowhere {}
+
+impl Sink for Nowhere {
+    ghost use Rattle.std.specs.Prelude.{None};
+
+    ghost taken = { λ _. None };
+
+    ghost faults = { λ _. 0 };
+
+    fn write(&mut self, bytes: &[u8]) -> Result<usize, Failed> {
+        Ok(bytes.len())
+    }
+}
+
+// The status with which a count stops. Only a fault, or damage of media that were changed from outside, stops one.
+fn cause_of(stop: VisitStop<Infallible>) -> Status
+    ensures { result ≡ cause_of stop }
+{
+    match stop {
+        VisitStop::Fault => Status::MediaFault,
+        VisitStop::Damaged { medium, offset } => Status::Damaged { medium, offset },
+        VisitStop::NoChannel => Status::NoChannel,
+        VisitStop::NoIncident => Status::NoIncident(0),
+        VisitStop::Output => Status::OutputFault,
+        VisitStop::Own(none) => match none {},
+    }
+}
+
+// Counts the records that stand in the window of this medium.
+fn count_window<M: Media>(
+    recording: &mut Recording,
+    media: &mut M,
+    medium: Medium,
+) -> Result<u64, Status>
+    requires window { (medium ≡ TheCapsule) ⊎ (medium ≡ TheLongTerm) }
+    requires rings { AreRings recording.old.members (M.disk media.old).sizes }
+    requires works { recording.old.members.failed ≡ false }
+    ensures stops { IfStopped result IsRunStop }
+    ensures counted { (opening : Opening) (events : List Event) (placed : ℕ → List Placed) → M.tells → IsReadable opening events recording.old.members placed (M.disk media.old)
+        → CountsRecords (selected opening events (whole medium)) result }
+    ensures looked { HasLooked (whole medium) recording.old recording.new (M.disk media.old) (M.disk media.new) (M.bytes_read media.old) (M.bytes_read media.new)
+        (M.faults media.old) (M.faults media.new) (outcome result ≡ MediaFault) }
+{
+    let query = Query {
+        medium,
+        channel: None,
+        from: 0,
+        to: LAST_STAMP,
+    };
+    let mut counter = Counter { count: 0 };
+    match recording.visit(media, &query, &mut counter, &mut Nowhere {}) {
+        Ok(()) => Ok(counter.count),
+        Err(stop) => Err(cause_of(stop)),
+    }
+}
+
+/// Opens the media and counts the records that stand in the windows of the capsule and of the long-term medium.
+pub(crate) fn count_windows<M: Media>(alloc: Global, media: &mut M) -> Result<Windows, Status>
+    requires two { 2 ≤ length (M.disk media.old).sizes }
+    requires three { length (M.disk media.old).sizes ≤ 3 }
+    ensures stops { IfStopped result IsRunStop }
+    ensures counts { (x : Contents) → M.tells → HoldsContents (M.disk media.old).reads x → EndsMeet both (reading_of x) → AreSound x
+        → CountsWindows x (M.disk media.old) (M.disk media.new) result }
+    ensures fault { outcome result ≡ MediaFault → Rose (sum (M.faults media.old)) (sum (M.faults media.new)) }
+    ensures later { NoneFalls (M.faults media.old) (M.faults media.new) }
+    ensures others { M.tells → SameBut 1 (M.disk media.old).reads (M.disk media.new).reads }
+    ensures sizes { (M.disk media.new).sizes ≡ (M.disk media.old).sizes }
+{
+    law_of_openings();
+    let mut recording = Recording::open(alloc, media)?;
+    let capsule = count_window(&mut recording, media, Medium::Capsule)?;
+    let long_term = count_window(&mut recording, media, Medium::LongTerm)?;
+    Ok(Windows { capsule, long_term })
+}

@@ -1,0 +1,5 @@
+//! Tests of the generated feed as a source.
+#![tactic(auto)]
+
+#[cfg(test)]
+mod feeds;

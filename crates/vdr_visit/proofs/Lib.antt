@@ -1,0 +1,5 @@
+pub mod Reading
+pub mod Between
+pub mod Visiting
+pub mod Stopping
+pub mod Printing

@@ -1,0 +1,53 @@
+// What a query asks for, and whether it is there.
+ghost use Rattle.std.specs.Prelude.{◌≡◌, length};
+ghost use Rattle.vdr_playback.specs.Playback.{medium_of};
+ghost use Rattle.vdr_entry.specs.Queries.{asked, asked_medium};
+ghost use Rattle.vdr_visit.specs.Stops.{lacks_channel, lacks_incident, unanswered};
+
+use crate::VisitStop;
+use vdr_config::Config;
+use vdr_entry::{Medium, Query};
+use vdr_vault::Members;
+
+// Whether a channel is asked for that is not configured.
+fn lacks_channel(config: &Config, channel: Option<u8>) -> bool
+    ensures { result ≡ lacks_channel (length config.now.channels) channel }
+{
+    match channel {
+        Some(number) => config.channels.len() <= number as usize,
+        None => false,
+    }
+}
+
+// Whether an incident is asked for that is not live.
+fn lacks_incident(members: &Members, medium: Medium) -> bool
+    ensures { result ≡ lacks_incident members.now.table (asked_medium medium) }
+{
+    match medium {
+        Medium::Capsule | Medium::LongTerm => false,
+        Medium::Incident(id) => members.live(id).is_none(),
+    }
+}
+
+/// Whether a query asks for a channel that is configured and for an incident that is live, where it asks for one.
+pub fn accept<R>(members: &Members, query: &Query) -> Result<(), VisitStop<R>>
+    ensures { result ≡ unanswered (lacks_channel (length members.now.config.channels) query.now.channel) (lacks_incident members.now.table (asked query.now).medium) }
+{
+    if lacks_channel(members.config(), query.channel) {
+        return Err(VisitStop::NoChannel);
+    }
+    if lacks_incident(members, query.medium) {
+        return Err(VisitStop::NoIncident);
+    }
+    Ok(())
+}
+
+/// The number of the medium that a query reads.
+pub(crate) fn number_of(medium: Medium) -> u8
+    ensures { result ≡ medium_of (asked_medium medium) }
+{
+    match medium {
+        Medium::Capsule => 0,
+        Medium::LongTerm | Medium::Incident(_) => 1,
+    }
+}

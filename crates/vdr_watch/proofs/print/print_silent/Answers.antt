@@ -1,0 +1,11 @@
+use Rattle.std.proofs.Common.{◌≡◌, ◌++◌, List, ℕ, [], codes, rules, subst}
+use Rattle.vdr_outside.specs.Writes.{AppendsFront}
+use Rattle.vdr_watch.specs.Texts.{front_text, silent_text}
+use Rattle.vdr_watch.proofs.print.print_silent.Goals as goal
+
+pub returns-clause-front : goal.returns-clause-front
+returns-clause-front g c =
+    let text : List ℕ = front_text c.args.mark.now (codes " silent ") (record { group = c.before-2.inside.group; name = c.as_slice.result.now }) ++ (c.as_bytes-age.result.now ++ (codes "\n" ++ [])) in
+    let same : text ≡ silent_text c.args.mark.now c.args.before.now = search rules in
+    let front : AppendsFront (g.O.Sink.taken c.args.out.now) (g.O.Sink.taken c.print_line.new.out) text = c.print_line.ensures.front in
+    subst (λ (xs : List ℕ). AppendsFront (g.O.Sink.taken c.args.out.now) (g.O.Sink.taken c.print_line.new.out) xs) same front

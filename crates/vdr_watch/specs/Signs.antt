@@ -1,0 +1,87 @@
+-- What records show of the equipment on board: heartbeats and states of alarms (sentences HBT and ALR of IEC 61162-1), and where a run of the
+-- recorder begins.
+use Rattle.std.specs.Prelude.{ℕ, ◌||◌, ◌==◌, List, [], ◌∷◌, filter_map, Option, Some, None, Result, Ok, Err, if◌then◌else◌}
+use Rattle.vdr_terms.specs.Records.{Content, Record}
+use Rattle.vdr_terms.specs.Records.Content.{Start, Datagram, Gap, Stop}
+use Rattle.vdr_datagram.specs.Verdicts.{LineReading, line_spans}
+use Rattle.vdr_datagram.specs.Verdicts.LineReading.{Good, Tag, Sentence}
+use Rattle.vdr_values.specs.declared.formatter.Formatter.{Formatter}
+use Rattle.vdr_values.specs.declared.formatter.Formatter.TheVariants.{Hbt, Alr}
+use Rattle.vdr_values.specs.Readings.{Reading, reading}
+use Rattle.vdr_values.specs.Values.{Value, value_at, Number, Digits, Letter, Raw}
+use Rattle.vdr_playback.specs.Sources.{Source}
+use Rattle.vdr_sources.specs.Tables.{named}
+
+-- A heartbeat of a source.
+pub record Heartbeat : Type 0 where
+  pub source : Source
+  pub tick : ℕ  -- recording time in milliseconds
+  pub interval : ℕ  -- until the next one is due, in millionths of a second
+  pub sequence : Option ℕ
+
+-- The state of an alarm of a source. Both letters are A for yes and V for no.
+pub record Alarm : Type 0 where
+  pub source : Source
+  pub number : ℕ
+  pub condition : Option ℕ
+  pub acknowledged : Option ℕ
+
+pub data Sign : Type 0 where
+  Begins : Sign
+  Beats : (beat : Heartbeat) → Sign
+  Alarms : (alarm : Alarm) (text : Option (List ℕ)) → Sign
+
+abbrev pub digits_in : Option Value → Option ℕ
+digits_in (Some (Digits n)) = Some n
+digits_in _ = None
+
+abbrev pub letter_in : Option Value → Option ℕ
+letter_in (Some (Letter letter)) = Some letter
+letter_in _ = None
+
+abbrev pub raw_in : Option Value → Option (List ℕ)
+raw_in (Some (Raw bytes)) = Some bytes
+raw_in _ = None
+
+-- An HBT sentence is a heartbeat where its interval is there and above 0.
+abbrev pub heartbeat_of : Source → (tick : ℕ) → (interval sequence : Option Value) → Option Sign
+heartbeat_of source tick (Some (Number negative millionths)) sequence =
+    if negative || millionths == 0 then None else Some (Beats (record { source = source; tick = tick; interval = millionths; sequence = digits_in sequence }))
+heartbeat_of source tick _ sequence = None
+
+-- An ALR sentence is the state of an alarm where its number is there.
+abbrev pub alarm_of : Source → (number condition acknowledged text : Option Value) → Option Sign
+alarm_of source (Some (Digits number)) condition acknowledged text =
+    Some (Alarms (record { source = source; number = number; condition = letter_in condition; acknowledged = letter_in acknowledged }) (raw_in text))
+alarm_of source _ condition acknowledged text = None
+
+abbrev pub sign_told : Formatter → Source → (tick : ℕ) → List (Option Value) → Option Sign
+sign_told Hbt source tick values = heartbeat_of source tick (value_at values 0) (value_at values 2)
+sign_told Alr source tick values = alarm_of source (value_at values 1) (value_at values 2) (value_at values 3) (value_at values 4)
+sign_told _ source tick values = None
+
+-- A sentence with a refused field has no reading, and is no sign.
+abbrev pub sign_read : Source → (tick : ℕ) → Result (Option Reading) ℕ → Option Sign
+sign_read source tick (Ok (Some r)) = sign_told r.formatter source tick r.values
+sign_read source tick (Ok None) = None
+sign_read source tick (Err bad) = None
+
+-- The sign that a line of a datagram is. One that names no source counts for the source `-`.
+abbrev pub sign_in : (group tick : ℕ) → LineReading → Option Sign
+sign_in group tick (Good tags sentence) = sign_read (record { group = group; name = named tags.source }) tick (reading sentence.content)
+sign_in group tick (Tag bad) = None
+sign_in group tick (Sentence tags bad) = None
+
+-- The signs in the lines of a datagram, in order.
+abbrev pub signs_in : (group tick : ℕ) (payload : List ℕ) → List Sign
+signs_in group tick payload = filter_map (λ s. sign_in group tick s.verdict) (line_spans payload)
+
+abbrev pub signs_said : (group tick : ℕ) → Content → List Sign
+signs_said group tick Start = Begins ∷ []
+signs_said group tick (Datagram payload) = signs_in group tick payload
+signs_said group tick (Gap missed) = []
+signs_said group tick Stop = []
+
+-- The signs of a record, in order.
+abbrev pub signs_of : Record → List Sign
+signs_of r = signs_said r.group r.tick r.content

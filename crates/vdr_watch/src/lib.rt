@@ -1,0 +1,20 @@
+//! Supervision of equipment by what it said: heartbeats that stayed away, sequence numbers that jump, and changes of alarms (sentences HBT and
+//! ALR of IEC 61162-1; when a line is printed is this project's profile).
+//!
+//! The format, with an example: docs/formats/printed.md.
+#![tactic(auto)]
+
+mod alarm;
+mod fault;
+mod heartbeat;
+mod laws;
+mod mark;
+mod place;
+mod print;
+mod sign;
+mod tables;
+mod watch;
+
+pub use fault::WatchFault;
+pub use laws::{law_of_latest, law_of_watch};
+pub use watch::Watch;

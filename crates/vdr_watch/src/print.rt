@@ -1,0 +1,256 @@
+// The lines of supervision.
+ghost use Rattle.std.specs.Prelude.{◌≡◌, ◌≤◌, ◌++◌, ◌∷◌, [], ◌+◌, ◌%◌, ◌==◌, codes, OnOk, option_copied};
+ghost use Rattle.std.specs.Io.KnownBytes.{Appends};
+ghost use Rattle.std.specs.List.{concat, flat_map};
+ghost use Rattle.vdr_entry.specs.Utc.{utc_text};
+ghost use Rattle.vdr_outside.specs.Causes.{HasCause};
+ghost use Rattle.vdr_outside.specs.Writes.{AppendsFront};
+ghost use Rattle.vdr_watch.specs.Texts.{alarm_line, alarm_text, beat_text, front_text, jump_text, letter_text, raw_text, silent_text, state_text};
+
+use crate::alarm::Alarm;
+use crate::heartbeat::Heartbeat;
+use crate::mark::Mark;
+use arrayvec::ArrayVec;
+use itoa::Buffer;
+use vdr_entry::write_utc;
+use vdr_outside::{Failed, Sink, write_all};
+use vdr_play::print_escaped;
+use vdr_terms::group_name;
+
+// What is printed for what a sentence leaves out.
+const NONE: &[u8] = b"null";
+
+// Writes the pieces one behind the other.
+fn write_pieces<O: Sink>(pieces: &[&[u8]], out: &mut O) -> Result<(), Failed>
+    ensures all { OnOk result (Appends (O.taken out.old) (O.taken out.new) (flat_map (λ piece. piece.now) pieces.now)) }
+    ensures front { AppendsFront (O.taken out.old) (O.taken out.new) (flat_map (λ piece. piece.now) pieces.now) }
+    ensures cause { HasCause (O.faults out.old) (O.faults out.new) result }
+{
+    for piece in pieces {
+        write_all(out, piece)?;
+    }
+    Ok(())
+}
+
+// The pieces are arguments of their own, so that they stand at one lifetime.
+fn print_words<O: Sink>(
+    place: &[u8],
+    utc: &[u8],
+    word: &[u8],
+    group: &[u8],
+    name: &[u8],
+    out: &mut O,
+) -> Result<(), Failed>
+    ensures all { OnOk result (Appends (O.taken out.old) (O.taken out.new) (concat (place.now ∷ codes " " ∷ utc.now ∷ word.now ∷ group.now ∷ codes " " ∷ name.now ∷ codes " " ∷ []))) }
+    ensures front { AppendsFront (O.taken out.old) (O.taken out.new) (concat (place.now ∷ codes " " ∷ utc.now ∷ word.now ∷ group.now ∷ codes " " ∷ name.now ∷ codes " " ∷ [])) }
+    ensures cause { HasCause (O.faults out.old) (O.faults out.new) result }
+{
+    write_pieces(&[place, b" ", utc, word, group, b" ", name, b" "], out)
+}
+
+// Prints the place, the stamp, the word, the source and what is told of it. The word stands between spaces of its own.
+fn print_line<O: Sink>(
+    mark: &Mark,
+    word: &[u8],
+    group: u8,
+    name: &[u8],
+    told: &[&[u8]],
+    out: &mut O,
+) -> Result<(), Failed>
+    requires { group ≤ 15 }
+    ensures all { OnOk result (Appends (O.taken out.old) (O.taken out.new) (front_text mark.now word.now (record { group = group; name = name.now }) ++ flat_map (λ piece. piece.now) told.now)) }
+    ensures front { AppendsFront (O.taken out.old) (O.taken out.new) (front_text mark.now word.now (record { group = group; name = name.now }) ++ flat_map (λ piece. piece.now) told.now) }
+    ensures cause { HasCause (O.faults out.old) (O.faults out.new) result }
+{
+    let mut place = Buffer::new();
+    let mut utc = ArrayVec::new();
+    write_utc(mark.utc, &mut utc);
+    let place = place.format(mark.place).as_bytes();
+    print_words(
+        place,
+        utc.as_slice(),
+        word,
+        group_name(group).as_bytes(),
+        name,
+        out,
+    )?;
+    write_pieces(told, out)
+}
+
+// Tells a source that was silent for more than twice the interval of its last heartbeat.
+fn print_silent<O: Sink>(mark: &Mark, before: &Heartbeat, out: &mut O) -> Result<(), Failed>
+    ensures all { OnOk result (Appends (O.taken out.old) (O.taken out.new) (silent_text mark.now before.now)) }
+    ensures front { AppendsFront (O.taken out.old) (O.taken out.new) (silent_text mark.now before.now) }
+    ensures cause { HasCause (O.faults out.old) (O.faults out.new) result }
+{
+    if !before.is_silent(mark.tick) {
+        return Ok(());
+    }
+    let mut age = Buffer::new();
+    let age = age.format(before.age(mark.tick)).as_bytes();
+    print_line(
+        mark,
+        b" silent ",
+        before.group,
+        before.name.as_slice(),
+        &[age, b"\n"],
+        out,
+    )
+}
+
+/// Tells each source that was silent, one after the other.
+pub(crate) fn print_all_silent<O: Sink>(
+    mark: &Mark,
+    beats: &[Heartbeat],
+    out: &mut O,
+) -> Result<(), Failed>
+    ensures all { OnOk result (Appends (O.taken out.old) (O.taken out.new) (flat_map (silent_text mark.now) beats.now)) }
+    ensures front { AppendsFront (O.taken out.old) (O.taken out.new) (flat_map (silent_text mark.now) beats.now) }
+    ensures cause { HasCause (O.faults out.old) (O.faults out.new) result }
+{
+    for beat in beats {
+        print_silent(mark, beat, out)?;
+    }
+    Ok(())
+}
+
+// Whether a sequence number comes next: one more, and 0 after 9.
+fn is_next(last: u32, next: u32) -> bool
+    ensures { result ≡ (next == (last + 1) % 10) }
+{
+    u64::from(next) == (u64::from(last) + 1) % 10
+}
+
+// Tells a sequence number that does not come next.
+fn print_jump<O: Sink>(
+    mark: &Mark,
+    before: &Heartbeat,
+    sequence: Option<u32>,
+    out: &mut O,
+) -> Result<(), Failed>
+    ensures all { OnOk result (Appends (O.taken out.old) (O.taken out.new) (jump_text mark.now before.now.source before.now.sequence sequence)) }
+    ensures front { AppendsFront (O.taken out.old) (O.taken out.new) (jump_text mark.now before.now.source before.now.sequence sequence) }
+    ensures cause { HasCause (O.faults out.old) (O.faults out.new) result }
+{
+    let (Some(last), Some(next)) = (before.sequence, sequence) else {
+        return Ok(());
+    };
+    if is_next(last, next) {
+        return Ok(());
+    }
+    let (mut old, mut new) = (Buffer::new(), Buffer::new());
+    let (old, new) = (old.format(last).as_bytes(), new.format(next).as_bytes());
+    print_line(
+        mark,
+        b" jump ",
+        before.group,
+        before.name.as_slice(),
+        &[old, b" ", new, b"\n"],
+        out,
+    )
+}
+
+/// Tells what a heartbeat of this sequence number shows behind its predecessor.
+pub(crate) fn print_heartbeat<O: Sink>(
+    mark: &Mark,
+    before: Option<&Heartbeat>,
+    sequence: Option<u32>,
+    out: &mut O,
+) -> Result<(), Failed>
+    ensures all { OnOk result (Appends (O.taken out.old) (O.taken out.new) (beat_text mark.now (option_copied before.entry) sequence)) }
+    ensures front { AppendsFront (O.taken out.old) (O.taken out.new) (beat_text mark.now (option_copied before.entry) sequence) }
+    ensures cause { HasCause (O.faults out.old) (O.faults out.new) result }
+{
+    let Some(before) = before else {
+        return Ok(());
+    };
+    print_silent(mark, before, out)?;
+    print_jump(mark, before, sequence, out)
+}
+
+fn letter_text(letter: Option<u8>) -> ArrayVec<u8, 4>
+    ensures { result.items ≡ letter_text letter }
+{
+    let mut text = ArrayVec::new();
+    match letter {
+        Some(letter) => text.push(letter),
+        None => {
+            let _ = text.try_extend_from_slice(NONE);
+        }
+    }
+    text
+}
+
+fn print_text<O: Sink>(text: Option<&[u8]>, out: &mut O) -> Result<(), Failed>
+    ensures all { OnOk result (Appends (O.taken out.old) (O.taken out.new) (raw_text (option_copied text.entry))) }
+    ensures front { AppendsFront (O.taken out.old) (O.taken out.new) (raw_text (option_copied text.entry)) }
+    ensures cause { HasCause (O.faults out.old) (O.faults out.new) result }
+{
+    match text {
+        Some(text) => print_escaped(text, out),
+        None => write_all(out, NONE),
+    }
+}
+
+fn print_state<O: Sink>(mark: &Mark, alarm: &Alarm, out: &mut O) -> Result<(), Failed>
+    ensures all { OnOk result (Appends (O.taken out.old) (O.taken out.new) (state_text mark.now alarm.now)) }
+    ensures front { AppendsFront (O.taken out.old) (O.taken out.new) (state_text mark.now alarm.now) }
+    ensures cause { HasCause (O.faults out.old) (O.faults out.new) result }
+{
+    let mut number = Buffer::new();
+    let number = number.format(alarm.number).as_bytes();
+    let (condition, acknowledged) = (
+        letter_text(alarm.condition),
+        letter_text(alarm.acknowledged),
+    );
+    let told = [
+        number,
+        b" ",
+        condition.as_slice(),
+        b" ",
+        acknowledged.as_slice(),
+        b" ",
+    ];
+    print_line(
+        mark,
+        b" alarm ",
+        alarm.group,
+        alarm.name.as_slice(),
+        &told,
+        out,
+    )
+}
+
+// Prints the line of an alarm's state.
+fn print_alarm_line<O: Sink>(
+    mark: &Mark,
+    alarm: &Alarm,
+    text: Option<&[u8]>,
+    out: &mut O,
+) -> Result<(), Failed>
+    ensures all { OnOk result (Appends (O.taken out.old) (O.taken out.new) (alarm_line mark.now alarm.now (option_copied text.entry))) }
+    ensures front { AppendsFront (O.taken out.old) (O.taken out.new) (alarm_line mark.now alarm.now (option_copied text.entry)) }
+    ensures cause { HasCause (O.faults out.old) (O.faults out.new) result }
+{
+    print_state(mark, alarm, out)?;
+    print_text(text, out)?;
+    write_all(out, b"\n")
+}
+
+/// Tells the state of an alarm, unless it is that of the last one.
+pub(crate) fn print_alarm<O: Sink>(
+    mark: &Mark,
+    before: Option<&Alarm>,
+    alarm: &Alarm,
+    text: Option<&[u8]>,
+    out: &mut O,
+) -> Result<(), Failed>
+    ensures all { OnOk result (Appends (O.taken out.old) (O.taken out.new) (alarm_text mark.now (option_copied before.entry) alarm.now (option_copied text.entry))) }
+    ensures front { AppendsFront (O.taken out.old) (O.taken out.new) (alarm_text mark.now (option_copied before.entry) alarm.now (option_copied text.entry)) }
+    ensures cause { HasCause (O.faults out.old) (O.faults out.new) result }
+{
+    match before {
+        Some(before) if before.is_in_state(alarm) => Ok(()),
+        _ => print_alarm_line(mark, alarm, text, out),
+    }
+}

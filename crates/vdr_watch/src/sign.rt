@@ -1,0 +1,112 @@
+// What a line says that is watched.
+ghost use Rattle.std.specs.Prelude.{◌≡◌, ◌≤◌, length, option_map};
+ghost use Rattle.vdr_datagram.specs.Views.{verdict_of};
+ghost use Rattle.vdr_sources.specs.Tables.{named, reading_of};
+ghost use Rattle.vdr_values.specs.Views.{digits_field, letter_field, number_field, raw_field};
+ghost use Rattle.vdr_watch.specs.SignViews.{sign_value};
+ghost use Rattle.vdr_watch.specs.Signs.{alarm_of, heartbeat_of, sign_in, sign_read, sign_told};
+
+use crate::alarm::Alarm;
+use crate::heartbeat::Heartbeat;
+use arrayvec::ArrayVec;
+use vdr_datagram::LineVerdict;
+use vdr_values::{Fields, Num, Reading, read_value};
+
+// The name of a source that names none.
+const NO_SOURCE: &[u8] = b"-";
+
+/// A heartbeat, or the state of an alarm with its text.
+#[derive(Drop)]
+pub(crate) enum Sign<'a> {
+    Heartbeat(Heartbeat),
+    Alarm(Alarm, Option<&'a [u8]>),
+}
+
+// The bytes of a name.
+fn name_of(bytes: &[u8]) -> ArrayVec<u8, 15>
+    requires { length bytes.now ≤ 15 }
+    ensures { result.items ≡ bytes.now }
+{
+    let mut name = ArrayVec::new();
+    let _ = name.try_extend_from_slice(bytes);
+    name
+}
+
+// A heartbeat has an interval above 0.
+fn heartbeat_of<'a>(
+    group: u8,
+    name: &[u8],
+    tick: u64,
+    interval: Option<Num>,
+    sequence: Option<u32>,
+) -> Option<Sign<'a>>
+    requires group { group ≤ 15 }
+    requires short { length name.now ≤ 15 }
+    ensures { option_map sign_value result ≡ heartbeat_of (record { group = group; name = name.now }) tick (number_field interval) (digits_field sequence) }
+{
+    let interval = interval?;
+    if interval.negative || interval.millionths == 0 {
+        return None;
+    }
+    Some(Sign::Heartbeat(Heartbeat {
+        group,
+        name: name_of(name),
+        tick,
+        interval: interval.millionths,
+        sequence,
+    }))
+}
+
+// The state of an alarm has its number.
+fn alarm_of<'a>(
+    group: u8,
+    name: &[u8],
+    number: Option<u32>,
+    condition: Option<u8>,
+    acknowledged: Option<u8>,
+    text: Option<&'a [u8]>,
+) -> Option<Sign<'a>>
+    requires group { group ≤ 15 }
+    requires short { length name.now ≤ 15 }
+    ensures { option_map sign_value result
+        ≡ alarm_of (record { group = group; name = name.now }) (digits_field number) (letter_field condition) (letter_field acknowledged) (raw_field text.entry) }
+{
+    let number = number?;
+    let alarm = Alarm {
+        group,
+        name: name_of(name),
+        number,
+        condition,
+        acknowledged,
+    };
+    Some(Sign::Alarm(alarm, text))
+}
+
+fn sign_told<'a>(group: u8, name: &[u8], tick: u64, reading: &Reading<'a>) -> Option<Sign<'a>>
+    requires group { group ≤ 15 }
+    requires short { length name.now ≤ 15 }
+    ensures { option_map sign_value result ≡ sign_told reading.now.formatter (record { group = group; name = name.now }) tick reading.now.values }
+{
+    match reading.fields() {
+        Fields::Hbt(interval, _, sequence) => heartbeat_of(group, name, tick, interval, sequence),
+        Fields::Alr(_, number, condition, acknowledged, text) => {
+            alarm_of(group, name, number, condition, acknowledged, text)
+        }
+        _ => None,
+    }
+}
+
+/// The sign that a line is, recorded at this tick. None where it is no heartbeat and no state of an alarm.
+pub(crate) fn sign_in<'a>(group: u8, tick: u64, verdict: &LineVerdict<'a>) -> Option<Sign<'a>>
+    requires group { group ≤ 15 }
+    requires short { length (reading_of (verdict_of verdict.now)).name ≤ 15 }
+    ensures { option_map sign_value result ≡ sign_in group tick (verdict_of verdict.now) }
+{
+    let LineVerdict::Good { tags, sentence } = verdict else {
+        return None;
+    };
+    let Ok(Some(reading)) = read_value(sentence) else {
+        return None;
+    };
+    sign_told(group, tags.source.unwrap_or(NO_SOURCE), tick, &reading)
+}
