@@ -2,3 +2,4 @@ pub mod Grammar
 pub mod Spelled
 pub mod Generated
 pub mod Unique
+pub mod Progress

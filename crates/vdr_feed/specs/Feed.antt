@@ -19,6 +19,10 @@ spelling i = head i ++ i.item.bytes
 abbrev pub feed : List FeedItem → List ℕ
 feed items = feed_header ++ flat_map spelling items
 
+-- The greatest number of items of a feed that a program of ours reads.
+abbrev pub longest_feed : ℕ
+longest_feed = 4_294_967_295
+
 -- when the last of them was received, 0 where there is none
 abbrev pub received_after : ℕ → List FeedItem → ℕ
 received_after floor [] = floor

@@ -4,5 +4,6 @@ pub mod Feed
 pub mod Kept
 pub mod Law
 pub mod Reader
+pub mod Progress
 pub mod Trial
 pub mod Failing

@@ -17,5 +17,5 @@ pub use fault::FeedFault;
 pub use filling::fill;
 pub use item::Item;
 pub use law::law_of_feeds;
-pub use reader::FeedReader;
+pub use reader::{FeedReader, LONGEST_FEED};
 pub use trial::trial_item;

@@ -13,6 +13,9 @@ use crate::{FeedFault, Item};
 use std::marker::Model;
 use vdr_outside::Source;
 
+/// The greatest number of items of a feed that the recorder's programs read.
+pub const LONGEST_FEED: u64 = 4_294_967_295;
+
 /// Reads a feed from a source, an item at a time.
 #[derive(Drop)]
 pub struct FeedReader {

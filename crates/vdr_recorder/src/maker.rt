@@ -17,6 +17,7 @@ use crate::account::Account;
 use crate::bits::{gap_bits, marker_bits};
 use crate::start::{base_after, utc_after};
 use std::alloc::{AllocError, Global};
+use std::array;
 use vdr_config::Config;
 use vdr_core::law_of_sums;
 use vdr_datagram::channel_bits;
@@ -55,24 +56,7 @@ pub(crate) struct Maker {
 fn accounts() -> [Account; 16]
     ensures { result ≡ replicate 16 nothing_counted }
 {
-    [
-        Account::new(),
-        Account::new(),
-        Account::new(),
-        Account::new(),
-        Account::new(),
-        Account::new(),
-        Account::new(),
-        Account::new(),
-        Account::new(),
-        Account::new(),
-        Account::new(),
-        Account::new(),
-        Account::new(),
-        Account::new(),
-        Account::new(),
-        Account::new(),
-    ]
+    array::from_fn(|_| Account::new())
 }
 
 // Adds a record to a buffer that has room for it.

@@ -21,7 +21,8 @@ use Rattle.vdr_feed.specs.declared.item.Item.{Item as Held}
 use Rattle.vdr_recorder.specs.Making.{counted_of, numbers_of}
 use Rattle.vdr_recorder.specs.declared.maker.Maker.{Maker}
 use Rattle.vdr_replay.specs.declared.lanes.Lanes.{Lanes}
-use Rattle.vdr_replay.specs.Feeding.{HasRate, most_items}
+use Rattle.vdr_feed.specs.Feed.{longest_feed}
+use Rattle.vdr_replay.specs.Feeding.{HasRate}
 use Rattle.vdr_replay.specs.Given.{AreFew, CountsFeed, HoldsFeed, IsSized}
 use Rattle.vdr_replay.proofs.Given.{fewer, no_start, rated, tally_other}
 
@@ -90,12 +91,12 @@ module _ (feed : List FeedItem) (x : FeedItem) (batch : List Captured) (maker : 
       one false = omega arith
 
 -- The numbers of each group fit.
-pub numbers_fit : (feed : List FeedItem) (batch : List Captured) (maker : Maker) → AreFew feed batch maker → length feed ≤ most_items
+pub numbers_fit : (feed : List FeedItem) (batch : List Captured) (maker : Maker) → AreFew feed batch maker → length feed ≤ longest_feed
     → (g : ℕ) → g < 16 → next_number (counted_of maker g).pending + numbers_of g batch + total (rest_after feed g) < 2 ^ 63
 numbers_fit feed batch maker h few g low = let a = h.numbers g low in let b = fewer g feed in omega (arith, a, b, few)
 
 -- All that is held, with one more item
-module _ (config : Configuration) (feed : List FeedItem) (x : FeedItem) (item : Held) (old new : Lanes) (maker : Maker) (h : HoldsFeed config feed old maker) (few : length feed < most_items)
+module _ (config : Configuration) (feed : List FeedItem) (x : FeedItem) (item : Held) (old new : Lanes) (maker : Maker) (h : HoldsFeed config feed old maker) (few : length feed < longest_feed)
     (holds : Holds item x) (low : item.group < 16) (rate : HasRate config.groups item.group) (counts : CountsFeed (feed ++ x ∷ []) new)
     (batch : new.batch.items ≡ old.batch.items ++ captured_if (is_yes (verdict x.item.bytes)) feed x) (room : new.room ≡ old.room) (sized : IsSized new) where
   rated_one : (b : Bool) → All (λ c. is_configured (limits_in config.groups c.group) ≡ true) (captured_if b feed x)

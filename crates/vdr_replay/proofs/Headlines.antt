@@ -29,7 +29,7 @@ use Rattle.vdr_replay.specs.Answers.{Answers, NothingIsRecorded}
 use Rattle.vdr_replay.specs.Headline.{AccountBy, Headline, LeavesHistory, PlaysBack, RecordsAre, RunEnd}
 use Rattle.vdr_replay.specs.Headline.RunEnd.{Broken, Closed, NotStarted}
 use Rattle.vdr_replay.specs.Ran.{HasBroken, HasRun, Runs}
-use Rattle.vdr_replay.specs.Reading.{HasRead}
+use Rattle.vdr_feed.specs.Progress.{HasRead}
 use Rattle.vdr_replay.specs.declared.ended.Replayed.{Replayed}
 use Rattle.vdr_replay.specs.declared.ended.ReplayStop.{ReplayStop}
 use Rattle.vdr_replay.specs.declared.ended.ReplayStop.TheVariants.{NoMemory, Input, Refused, NotFormatted, Damaged, Place, Tick, Media}

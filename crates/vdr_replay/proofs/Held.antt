@@ -17,7 +17,8 @@ use Rattle.vdr_feed.specs.declared.item.Item.{Item as Held}
 use Rattle.vdr_recorder.specs.Making.{rest_of}
 use Rattle.vdr_replay.specs.declared.lanes.Lanes.{Lanes}
 use Rattle.vdr_replay.specs.Captured.{captured_as}
-use Rattle.vdr_replay.specs.Feeding.{HasRate, most_items}
+use Rattle.vdr_feed.specs.Feed.{longest_feed}
+use Rattle.vdr_replay.specs.Feeding.{HasRate}
 use Rattle.vdr_replay.specs.Given.{CountsFeed, tally_after, tally_of}
 use Rattle.vdr_replay.proofs.Given.{counts_more, fewer, high_group, no_rate, stepped}
 
@@ -41,7 +42,7 @@ whole_bytes b e = ⊎_elim
     (λ (l : length b ≤ largest). take_all 1473 b (omega (arith, l)))
     (cases_lt largest (length b))
 
-pub taken_fits : (feed : List FeedItem) (lanes : Lanes) (g : ℕ) (d : Tally) → CountsFeed feed lanes → length feed < most_items → g < 16 → (slice_index_or lanes.tallies g d).taken + 1 < 2 ^ 63
+pub taken_fits : (feed : List FeedItem) (lanes : Lanes) (g : ℕ) (d : Tally) → CountsFeed feed lanes → length feed < longest_feed → g < 16 → (slice_index_or lanes.tallies g d).taken + 1 < 2 ^ 63
 taken_fits feed lanes g d h few low =
     let e = ap (λ (t : Tally). t.taken) (get_or_default lanes.tallies g d no_tally (omega (arith, low, h.sixteen)) ∙ h.each g low) in
     let k = fewer g feed in omega (arith, e, k, few)

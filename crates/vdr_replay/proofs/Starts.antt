@@ -25,7 +25,7 @@ use Rattle.vdr_opening.specs.Media.{Contents, opening_of}
 use Rattle.vdr_replay.specs.Answers.{Decides, MayBegin, RefusesRun}
 use Rattle.vdr_replay.specs.Feeding.{AreConfigured, HasRate, ReadsFeed}
 use Rattle.vdr_replay.specs.Ran.{DecidesRun, HasNotBegun, Runs}
-use Rattle.vdr_replay.specs.Reading.{HasRead}
+use Rattle.vdr_feed.specs.Progress.{HasRead}
 use Rattle.vdr_replay.specs.declared.ended.Replayed.{Replayed}
 use Rattle.vdr_replay.specs.declared.ended.ReplayStop.{ReplayStop}
 use Rattle.vdr_replay.specs.declared.ended.ReplayStop.TheVariants as stops

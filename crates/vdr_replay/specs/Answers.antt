@@ -8,7 +8,7 @@ use Rattle.vdr_durability.specs.Readings.{EndsMeet}
 use Rattle.vdr_outside.specs.Causes.{NoneFalls, Rose}
 use Rattle.vdr_outside.specs.Disk.{Disk, Image}
 use Rattle.vdr_feed.specs.Failing.{ReadsFewer}
-use Rattle.vdr_feed.specs.Feed.{Reaches, feed_header}
+use Rattle.vdr_feed.specs.Feed.{Reaches, feed_header, longest_feed}
 use Rattle.vdr_feed.specs.Reader.{IfKnown}
 use Rattle.vdr_media.specs.Formatted.{IsFormatted}
 use Rattle.vdr_opening.specs.Media.{both, Contents, HoldsContents, opening_of, reading_of}
@@ -16,7 +16,7 @@ use Rattle.vdr_recorder.specs.Recordings.{start_of_opening}
 use Rattle.vdr_replay.specs.declared.ended.Replayed.{Replayed}
 use Rattle.vdr_replay.specs.declared.ended.ReplayStop.{ReplayStop}
 use Rattle.vdr_replay.specs.declared.ended.ReplayStop.TheVariants.{NoMemory, Input, Refused, NotFormatted, Damaged, Place, Tick, Media}
-use Rattle.vdr_replay.specs.Feeding.{AreConfigured, ReadsFeed, most_items}
+use Rattle.vdr_replay.specs.Feeding.{AreConfigured, ReadsFeed}
 use Rattle.vdr_vault.specs.Openings.{LeavesAll}
 use Rattle.vdr_replay.specs.Headline.{Headline}
 use Rattle.vdr_replay.specs.Headline.RunEnd.{NotStarted, Closed, Broken}
@@ -46,7 +46,7 @@ module _ {tells tells_images : Type 0} (x : Contents) (bytes : List ℕ) (now : 
   pub record IsBrokenOff : Type 0 where
     pub feed : List FeedItem
     pub rest : List ℕ
-    pub read : Reaches most_items bytes feed rest
+    pub read : Reaches longest_feed bytes feed rest
     pub configured : AreConfigured x.config.groups feed
     pub may : MayBegin (opening_of x)
     pub left : Headline x rose before after feed Broken

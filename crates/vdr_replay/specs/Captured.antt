@@ -1,16 +1,9 @@
 -- An item as it is taken.
-use Rattle.std.specs.Prelude.{◌<◌, ◌+◌, ◌^◌, ℕ, length}
+use Rattle.std.specs.Prelude.{◌+◌, ℕ, length}
 use Rattle.vdr_terms.specs.Counting.{Tally}
-use Rattle.vdr_terms.specs.Stamps.{IsStamp}
 use Rattle.vdr_history.specs.Taken.{Captured}
 use Rattle.vdr_pace.specs.Commits.{least_item}
 use Rattle.vdr_feed.specs.declared.item.Item.{Item}
-
--- An item that stands in a feed.
-pub record IsLegalItem (item : Item) : Type 0 where
-  pub group : item.group < 16
-  pub received : item.received < 2 ^ 48
-  pub utc : IsStamp item.utc
 
 -- It comes after what its port has counted.
 abbrev pub captured_as : Item → Tally → Captured

@@ -3,13 +3,9 @@ use Rattle.std.specs.Prelude.{◌≡◌, ◌⊎◌, ◌∷◌, ◌++◌, ℕ, tr
 use Rattle.vdr_terms.specs.declared.rate.Rate.{Rate}
 use Rattle.vdr_terms.specs.Records.{FeedItem}
 use Rattle.vdr_feed.specs.Failing.{FailsAfter}
-use Rattle.vdr_feed.specs.Feed.{Reaches, IsFeed, IsRefusedAfter, feed}
+use Rattle.vdr_feed.specs.Feed.{Reaches, IsFeed, IsRefusedAfter, feed, longest_feed}
 use Rattle.vdr_replay.specs.declared.ended.FeedEnd.{FeedEnd}
 use Rattle.vdr_replay.specs.declared.ended.FeedEnd.TheVariants.{Whole, Input, Refused}
-
--- The greatest number of items of a feed.
-abbrev pub most_items : ℕ
-most_items = 4_294_967_295
 
 abbrev pub HasRate : List (Option Rate) → ℕ → Type 0
 HasRate rates g = is_some (slice_index_or rates g None) ≡ true
@@ -22,7 +18,7 @@ AreConfigured rates items = All (λ i. HasRate rates i.group) items
 pub record RefusesGroup (rates : List (Option Rate)) (bytes : List ℕ) (number offset : ℕ) (items : List FeedItem) : Type 0 where
   pub next : FeedItem
   pub rest : List ℕ
-  pub legal : Reaches most_items bytes (items ++ next ∷ []) rest
+  pub legal : Reaches longest_feed bytes (items ++ next ∷ []) rest
   pub strange : HasRate rates next.group → ⊥
   pub number_is : number ≡ 4
   pub offset_is : offset ≡ length (feed items)
@@ -30,10 +26,10 @@ pub record RefusesGroup (rates : List (Option Rate)) (bytes : List ℕ) (number 
 -- What stands behind these items is refused so.
 abbrev pub RefusesNext : List (Option Rate) → List ℕ → (number offset : ℕ) → List FeedItem → Type 0
 RefusesNext rates bytes number offset items =
-    ((rest : List ℕ) × IsRefusedAfter most_items bytes number offset items rest) ⊎ RefusesGroup rates bytes number offset items
+    ((rest : List ℕ) × IsRefusedAfter longest_feed bytes number offset items rest) ⊎ RefusesGroup rates bytes number offset items
 
 -- Of an input with these bytes, of which those of `now` are left, these items were read, and it ended so.
 abbrev pub ReadsFeed : List (Option Rate) → List ℕ → (now : Option (List ℕ)) → FeedEnd → List FeedItem → Type 0
-ReadsFeed rates bytes now Whole items = IsFeed most_items bytes items
-ReadsFeed rates bytes now Input items = FailsAfter most_items bytes now items
+ReadsFeed rates bytes now Whole items = IsFeed longest_feed bytes items
+ReadsFeed rates bytes now Input items = FailsAfter longest_feed bytes now items
 ReadsFeed rates bytes now (Refused number offset) items = RefusesNext rates bytes number offset items

@@ -13,7 +13,8 @@ use Rattle.vdr_config.specs.Configuration.{Configuration}
 use Rattle.vdr_config.specs.Sizes.{limits_in}
 use Rattle.vdr_recorder.specs.Making.{counted_of, numbers_of}
 use Rattle.vdr_recorder.specs.declared.maker.Maker.{Maker}
-use Rattle.vdr_replay.specs.Feeding.{AreConfigured, most_items}
+use Rattle.vdr_feed.specs.Feed.{longest_feed}
+use Rattle.vdr_replay.specs.Feeding.{AreConfigured}
 use Rattle.vdr_replay.specs.declared.lanes.Lanes.{Lanes}
 
 -- The items that are no recordable datagrams. No queue is full, and what the rate refuses is counted elsewhere.
@@ -58,7 +59,7 @@ pub record AreFew (feed : List FeedItem) (batch : List Captured) (maker : Maker)
 
 -- What the ports gave of this part of a feed is counted, and what is not recorded of it fits the recorder.
 pub record HoldsFeed (config : Configuration) (feed : List FeedItem) (lanes : Lanes) (maker : Maker) : Type 0 where
-  pub few : length feed ≤ most_items
+  pub few : length feed ≤ longest_feed
   pub counts : CountsFeed feed lanes
   pub batch : HasBatch config lanes
   pub fits : AreFew feed lanes.batch.items maker

@@ -3,7 +3,6 @@ pub mod Summary
 pub mod Feeding
 pub mod Headline
 pub mod Answers
-pub mod Reading
 pub mod Captured
 pub mod Given
 pub mod Taking

@@ -6,13 +6,13 @@ use Rattle.vdr_history.specs.Feed.{items_of, feed_records}
 use Rattle.vdr_history.specs.Histories.{Opening}
 use Rattle.vdr_history.specs.Runs.{base_after}
 use Rattle.vdr_outside.specs.Disk.{Disk}
-use Rattle.vdr_feed.specs.Feed.{Reaches}
+use Rattle.vdr_feed.specs.Feed.{Reaches, longest_feed}
 use Rattle.vdr_feed.specs.Reader.{IfKnown, Reading}
 use Rattle.vdr_recorder.specs.Recordings.{HasRecorded, Passes, RecordingState, start_of_opening}
 use Rattle.vdr_recorder.specs.Starts.{stamp_of}
 use Rattle.vdr_replay.specs.Answers.{MayBegin}
-use Rattle.vdr_replay.specs.Feeding.{AreConfigured, ReadsFeed, most_items}
-use Rattle.vdr_replay.specs.Reading.{HasRead}
+use Rattle.vdr_replay.specs.Feeding.{AreConfigured, ReadsFeed}
+use Rattle.vdr_feed.specs.Progress.{HasRead}
 use Rattle.vdr_replay.specs.Summary.{AreSums}
 use Rattle.vdr_replay.specs.Taking.{BreaksOff, Closes}
 use Rattle.vdr_replay.specs.declared.ended.Replayed.{Replayed}
@@ -36,7 +36,7 @@ module _ {tells tells_images : Type 0} (opening : Opening) (t0 : ℕ) (left : Op
   -- The media failed in the run.
   pub record HasBroken : Type 0 where
     pub feed : List FeedItem
-    pub read : (first : Option (List ℕ)) → HasRead first left reader [] → IfKnown first (λ bytes. (rest : List ℕ) × Reaches most_items bytes feed rest)
+    pub read : (first : Option (List ℕ)) → HasRead first left reader [] → IfKnown first (λ bytes. (rest : List ℕ) × Reaches longest_feed bytes feed rest)
     pub known : AreConfigured rates feed
     pub low : All (λ i. i.group < 16) feed
     pub may : MayBegin opening

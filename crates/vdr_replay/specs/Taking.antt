@@ -9,15 +9,15 @@ use Rattle.vdr_history.specs.Runs.{RunStart}
 use Rattle.vdr_history.specs.Taken.{Captured}
 use Rattle.vdr_core.specs.Replay.{taken_of}
 use Rattle.vdr_outside.specs.Disk.{Disk}
-use Rattle.vdr_feed.specs.Feed.{Reaches}
+use Rattle.vdr_feed.specs.Feed.{Reaches, longest_feed}
 use Rattle.vdr_feed.specs.Reader.{IfKnown, Reading}
 use Rattle.vdr_recorder.specs.Making.{CountsItems}
 use Rattle.vdr_recorder.specs.Recordings.{HasRecorded, Passes, RecordingState, start_of_opening}
 use Rattle.vdr_replay.specs.declared.ended.FeedEnd.{FeedEnd}
 use Rattle.vdr_replay.specs.declared.lanes.Lanes.{Lanes}
-use Rattle.vdr_replay.specs.Feeding.{AreConfigured, ReadsFeed, most_items}
+use Rattle.vdr_replay.specs.Feeding.{AreConfigured, ReadsFeed}
 use Rattle.vdr_replay.specs.Given.{CountsFeed, HoldsFeed}
-use Rattle.vdr_replay.specs.Reading.{HasRead}
+use Rattle.vdr_feed.specs.Progress.{HasRead}
 
 -- The records are those of a run over the first of what is taken of the feed, or of the whole run.
 abbrev pub IsCut : RunStart → List FeedItem → List Record → Type 0
@@ -81,7 +81,7 @@ module _ {tells tells_images : Type 0} where
   -- The media failed while the feed was read and recorded.
   pub record BreaksFeed (left : Option (List ℕ)) (reader : Reading) (before after : RecordingState) (old new : Disk tells tells_images) : Type 0 where
     pub feed : List FeedItem
-    pub read : (first : Option (List ℕ)) → HasRead first left reader [] → IfKnown first (λ bytes. (rest : List ℕ) × Reaches most_items bytes feed rest)
+    pub read : (first : Option (List ℕ)) → HasRead first left reader [] → IfKnown first (λ bytes. (rest : List ℕ) × Reaches longest_feed bytes feed rest)
     pub known : AreConfigured before.members.config.groups feed
     pub low : All (λ i. i.group < 16) feed
     pub told : (opening : Opening) (events : List Event) (t0 : ℕ) → tells → HasTaken opening [] [] events t0 before old

@@ -4,15 +4,16 @@ ghost use Rattle.std.specs.Io.KnownBytes.{IsAtEnd};
 ghost use Rattle.vdr_terms.specs.Records.{FeedItem};
 ghost use Rattle.vdr_history.specs.Histories.{Event, Opening};
 ghost use Rattle.vdr_outside.specs.Causes.{Rose};
-ghost use Rattle.vdr_feed.specs.Kept.{Holds};
+ghost use Rattle.vdr_feed.specs.Kept.{Holds, IsLegalItem};
 ghost use Rattle.vdr_feed.specs.Reader.{IfKnown, IsNext, past_item};
 ghost use Rattle.vdr_vault.specs.Calls.{SameElsewhere};
 ghost use Rattle.vdr_vault.specs.Openings.{HasCauseOnBoth};
 ghost use Rattle.vdr_vault.specs.Vaults.{AreRings};
-ghost use Rattle.vdr_replay.specs.Captured.{IsLegalItem, item_bytes};
-ghost use Rattle.vdr_replay.specs.Feeding.{HasRate, ReadsFeed, most_items};
+ghost use Rattle.vdr_replay.specs.Captured.{item_bytes};
+ghost use Rattle.vdr_feed.specs.Feed.{longest_feed};
+ghost use Rattle.vdr_replay.specs.Feeding.{HasRate, ReadsFeed};
 ghost use Rattle.vdr_replay.specs.Given.{CountsFeed, HoldsFeed};
-ghost use Rattle.vdr_replay.specs.Reading.{HasRead};
+ghost use Rattle.vdr_feed.specs.Progress.{HasRead};
 ghost use Rattle.vdr_replay.specs.Taking.{BreaksFeed, BreaksOff, HasTaken, TakesFeed, TakesOn};
 ghost use Rattle.vdr_replay.specs.declared.ended.FeedEnd.TheVariants.{Whole, Input};
 
@@ -107,7 +108,7 @@ fn take_item<M: Media>(
     requires works { recording.old.members.failed ≡ false }
     requires legal { IsLegalItem item.now }
     requires configured { HasRate recording.old.members.config.groups item.now.group }
-    requires held { (feed : List FeedItem) × HoldsFeed recording.old.members.config feed lanes.old recording.old.maker × (length feed < most_items) }
+    requires held { (feed : List FeedItem) × HoldsFeed recording.old.members.config feed lanes.old recording.old.maker × (length feed < longest_feed) }
     ensures taken { (opening : Opening) (feed : List FeedItem) (x : FeedItem) (events : List Event) (t0 : ℕ) → M.tells → Holds item.now x
         → HoldsFeed recording.old.members.config feed lanes.old recording.old.maker
         → HasTaken opening feed lanes.old.batch.items events t0 recording.old (M.disk media.old)
@@ -116,7 +117,7 @@ fn take_item<M: Media>(
         → HasTaken opening feed lanes.old.batch.items events t0 recording.old (M.disk media.old)
         → OnErr result (BreaksOff opening feed events t0 recording.new (M.disk media.old) (M.disk media.new)) }
     ensures held { OnOk result ((feed : List FeedItem) (x : FeedItem) → HoldsFeed recording.old.members.config feed lanes.old recording.old.maker
-        → length feed < most_items → Holds item.now x → HoldsFeed recording.new.members.config (feed ++ x ∷ []) lanes.new recording.new.maker) }
+        → length feed < longest_feed → Holds item.now x → HoldsFeed recording.new.members.config (feed ++ x ∷ []) lanes.new recording.new.maker) }
     ensures works { OnOk result (recording.new.members.failed ≡ false) }
     ensures open { recording.new.is_open ≡ true }
     ensures config { recording.new.members.config ≡ recording.old.members.config }

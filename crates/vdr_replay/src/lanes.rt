@@ -7,16 +7,17 @@ ghost use Rattle.vdr_terms.specs.declared.datagram.Verdict.TheVariants.{Yes};
 ghost use Rattle.vdr_history.specs.Histories.{Event, Opening};
 ghost use Rattle.vdr_core.specs.Replay.{captured_if};
 ghost use Rattle.vdr_config.specs.Configuration.{IsConfiguration};
-ghost use Rattle.vdr_feed.specs.Kept.{Holds};
+ghost use Rattle.vdr_feed.specs.Kept.{Holds, IsLegalItem};
 ghost use Rattle.vdr_vault.specs.Calls.{SameElsewhere};
 ghost use Rattle.vdr_vault.specs.Openings.{HasCauseOnBoth};
 ghost use Rattle.vdr_vault.specs.Vaults.{AreRings};
 ghost use Rattle.vdr_recorder.specs.Making.{rest_of};
-ghost use Rattle.vdr_replay.specs.Captured.{IsLegalItem, captured_as, item_bytes};
-ghost use Rattle.vdr_replay.specs.Feeding.{most_items};
+ghost use Rattle.vdr_replay.specs.Captured.{captured_as, item_bytes};
+ghost use Rattle.vdr_feed.specs.Feed.{longest_feed};
 
 use arrayvec::ArrayVec;
 use std::alloc::{AllocError, Global};
+use std::array;
 use vdr_config::Config;
 use vdr_feed::Item;
 use vdr_gap::{Counts, Tally};
@@ -47,24 +48,7 @@ pub(crate) struct Lanes {
 fn tallies() -> [Tally; 16]
     ensures { result ≡ replicate 16 no_tally }
 {
-    [
-        Tally::new(),
-        Tally::new(),
-        Tally::new(),
-        Tally::new(),
-        Tally::new(),
-        Tally::new(),
-        Tally::new(),
-        Tally::new(),
-        Tally::new(),
-        Tally::new(),
-        Tally::new(),
-        Tally::new(),
-        Tally::new(),
-        Tally::new(),
-        Tally::new(),
-        Tally::new(),
-    ]
+    array::from_fn(|_| Tally::new())
 }
 
 // The bytes of a recordable datagram.
@@ -139,7 +123,7 @@ impl Lanes {
         requires legal { IsLegalItem item.now }
         requires sized { IsSized self.old }
         requires fits { self.old.size + item_bytes item.now ≤ self.old.room }
-        requires counted { (feed : List FeedItem) × CountsFeed feed self.old × (length feed < most_items) }
+        requires counted { (feed : List FeedItem) × CountsFeed feed self.old × (length feed < longest_feed) }
         ensures counts { (feed : List FeedItem) (x : FeedItem) → CountsFeed feed self.old → Holds item.now x → CountsFeed (feed ++ x ∷ []) self.new }
         ensures batch { (feed : List FeedItem) (x : FeedItem) → CountsFeed feed self.old → Holds item.now x
             → self.new.batch.items ≡ self.old.batch.items ++ captured_if (is_yes (verdict x.item.bytes)) feed x }

@@ -19,13 +19,10 @@ use crate::lanes::Lanes;
 use crate::running::record_run;
 use crate::{ReplayStop, Replayed};
 use std::alloc::Global;
-use vdr_feed::FeedReader;
+use vdr_feed::{FeedReader, LONGEST_FEED};
 use vdr_opening::law_of_contents;
 use vdr_outside::{Media, Source};
 use vdr_recorder::Recording;
-
-/// The greatest number of items of a feed.
-const MOST_ITEMS: u64 = 4_294_967_295;
 
 /// Records the feed of the input on the media, in the feed's order, as one run (this project's profile): its header is read; the
 /// media are opened, and all memory is taken; the run is begun; each recordable item is recorded as it is read, by the rate of its
@@ -69,7 +66,7 @@ pub fn replay<I: Source, M: Media>(
     ensures cause { HasReplayCause (M.faults media.old) (M.faults media.new) result }
 {
     law_of_contents();
-    let mut reader = FeedReader::new(MOST_ITEMS);
+    let mut reader = FeedReader::new(LONGEST_FEED);
     reader.header(input)?;
     let mut recording = Recording::open(alloc, media)?;
     let mut lanes = Lanes::new(alloc, recording.config())?;

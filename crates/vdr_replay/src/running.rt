@@ -10,7 +10,7 @@ ghost use Rattle.vdr_recorder.specs.Recordings.{HasRecorded};
 ghost use Rattle.vdr_replay.specs.Answers.{HasReplayCause, RefusesRun};
 ghost use Rattle.vdr_replay.specs.Given.{CountsFeed, HasBatch, HoldsFeed};
 ghost use Rattle.vdr_replay.specs.Ran.{DecidesRun, Runs, StopsIn};
-ghost use Rattle.vdr_replay.specs.Reading.{HasRead};
+ghost use Rattle.vdr_feed.specs.Progress.{HasRead};
 ghost use Rattle.vdr_replay.specs.Taking.{BreaksFeed, RecordsFeed};
 ghost use Rattle.vdr_replay.specs.declared.ended.FeedEnd.TheVariants.{Whole, Input};
 ghost use Rattle.vdr_replay.specs.declared.ended.ReplayStop.TheVariants.{Place, Tick};

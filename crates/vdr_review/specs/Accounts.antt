@@ -1,14 +1,12 @@
 -- What is counted of a group, and the records that its items make.
-use Rattle.std.specs.Prelude.{◌≡◌, ◌<◌, ◌^◌, ℕ, zero, suc, ℤ, List, [], ◌∷◌, Option, Some, None}
+use Rattle.std.specs.Prelude.{◌≡◌, ℕ, zero, suc, ℤ, List, [], ◌∷◌, Option, Some, None}
 use Rattle.vdr_terms.specs.declared.counts.Counts.{Counts}
 use Rattle.vdr_terms.specs.Records.{Record, total}
 use Rattle.vdr_terms.specs.Records.Content.{Datagram, Gap}
-use Rattle.vdr_terms.specs.Stamps.{IsStamp}
 use Rattle.vdr_terms.specs.Channels.{no_channels}
 use Rattle.vdr_terms.specs.Counting.{Pending, no_tally, no_pending, pushed, with_missed, past_datagram, past_refusal}
 use Rattle.vdr_history.specs.Recorder.{make}
 use Rattle.vdr_review.specs.declared.account.Account.{Account}
-use Rattle.vdr_feed.specs.declared.item.Item.{Item}
 
 -- What is counted of a group of which nothing was given.
 abbrev pub no_account : Account
@@ -19,12 +17,6 @@ pub record IsAccount (account : Account) (count : ℕ) (since : Counts) (before 
   pub taken : account.tally.taken ≡ count
   pub missed : account.tally.missed ≡ since
   pub pending : account.pending ≡ before
-
--- An item that stands in a feed.
-pub record IsLegalItem (item : Item) : Type 0 where
-  pub group : item.group < 16
-  pub received : item.received < 2 ^ 48
-  pub utc : IsStamp item.utc
 
 -- A group's account once its item is taken, and then recorded or refused.
 abbrev pub settled_account : (Pending → Pending) → Account → Account

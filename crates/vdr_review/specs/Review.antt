@@ -10,7 +10,7 @@ use Rattle.vdr_history.specs.Runs.{RunStart}
 use Rattle.vdr_history.specs.Feed.{feed_records}
 use Rattle.vdr_play.specs.Streams.{nothing_seen}
 use Rattle.vdr_play.specs.Texts.{records_text}
-use Rattle.vdr_feed.specs.Feed.{IsFeed}
+use Rattle.vdr_feed.specs.Feed.{IsFeed, longest_feed}
 use Rattle.vdr_feed.specs.Reader.{IfKnown}
 
 -- The window of a review: 48 hours, as the fixed medium keeps them (IEC 61996-1).
@@ -44,13 +44,9 @@ PopsOld last false old new = new ≡ old
 unfoldable pub review_text : Limit → List FeedItem → List ℕ
 review_text limit items = records_text nothing_seen (reviewed limit items)
 
--- The greatest number of items of a feed.
-abbrev pub most_items : ℕ
-most_items = 4_294_967_295
-
 -- The bytes, where they are known, are a feed, and P holds of what `review` prints of it by this limit.
 abbrev pub IfReviewed : Limit → Option (List ℕ) → (List ℕ → Type 0) → Type 0
-IfReviewed limit left P = IfKnown left (λ bytes. (items : List FeedItem) × IsFeed most_items bytes items × P (review_text limit items))
+IfReviewed limit left P = IfKnown left (λ bytes. (items : List FeedItem) × IsFeed longest_feed bytes items × P (review_text limit items))
 
 -- The records of a window that ends in this second.
 abbrev pub shown_records : ℕ → List Record → List Record

@@ -3,9 +3,9 @@ ghost use Rattle.std.specs.Prelude.{◌≡◌, ◌≤◌, IfOk, IfSome, IsErrOf}
 ghost use Rattle.std.specs.Io.KnownBytes.{IsAtEnd};
 ghost use Rattle.vdr_config.specs.Configuration.{IsRate};
 ghost use Rattle.vdr_outside.specs.Causes.{Rose};
-ghost use Rattle.vdr_feed.specs.Feed.{IsRefused};
+ghost use Rattle.vdr_feed.specs.Feed.{IsRefused, longest_feed};
 ghost use Rattle.vdr_feed.specs.Reader.{IfKnown};
-ghost use Rattle.vdr_review.specs.Review.{IfReviewed, limit_asked, most_items};
+ghost use Rattle.vdr_review.specs.Review.{IfReviewed, limit_asked};
 ghost use Rattle.vdr_review.specs.Printed.{printed};
 ghost use Rattle.vdr_review.specs.Stops.{IfRefusedStop};
 ghost use Rattle.vdr_review.specs.declared.reading.Stop.TheVariants.{Input};
@@ -14,11 +14,8 @@ use crate::walk::Walk;
 use crate::window::Review;
 use std::alloc::Global;
 use vdr_config::Rate;
-use vdr_feed::{FeedFault, FeedReader, Item};
+use vdr_feed::{FeedFault, FeedReader, Item, LONGEST_FEED};
 use vdr_outside::Source;
-
-/// The greatest number of items of a feed.
-const MOST_ITEMS: u64 = 4_294_967_295;
 
 /// Why a feed has no review.
 #[derive(Drop)]
@@ -35,11 +32,11 @@ pub enum Stop {
 pub fn review<I: Source>(alloc: Global, rate: Option<Rate>, input: &mut I) -> Result<Review, Stop>
     requires rate { IfSome rate IsRate }
     ensures text { IfOk result (λ review. IsAtEnd (I.left input.new) × IfReviewed (limit_asked rate) (I.left input.old) (λ text. printed review ≡ text)) }
-    ensures refused { IfRefusedStop result (λ number offset. IfKnown (I.left input.old) (λ bytes. IsRefused most_items bytes number offset)) }
+    ensures refused { IfRefusedStop result (λ number offset. IfKnown (I.left input.old) (λ bytes. IsRefused longest_feed bytes number offset)) }
     ensures failed { IsErrOf result Input → Rose (I.faults input.old) (I.faults input.new) }
     ensures later { I.faults input.old ≤ I.faults input.new }
 {
-    let mut reader = FeedReader::new(MOST_ITEMS);
+    let mut reader = FeedReader::new(LONGEST_FEED);
     match reader.header(input) {
         Ok(()) => {}
         Err(FeedFault::Fault) => return Err(Stop::Input),

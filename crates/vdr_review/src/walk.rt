@@ -8,15 +8,16 @@ ghost use Rattle.vdr_config.specs.Configuration.{IsRate};
 ghost use Rattle.vdr_terms.specs.Rates.{Limit};
 ghost use Rattle.vdr_terms.specs.declared.datagram.Verdict.TheVariants.{Yes};
 ghost use Rattle.vdr_terms.specs.Datagrams.{verdict};
-ghost use Rattle.vdr_feed.specs.Kept.{Holds};
+ghost use Rattle.vdr_feed.specs.Kept.{Holds, IsLegalItem};
 ghost use Rattle.vdr_review.specs.Review.{limit_asked, reviewed, shown_records};
-ghost use Rattle.vdr_review.specs.Accounts.{no_account, recorded_account, gap_told, gap_records, datagram_told, IsLegalItem};
+ghost use Rattle.vdr_review.specs.Accounts.{no_account, recorded_account, gap_told, gap_records, datagram_told};
 
 use crate::account::Account;
 use crate::kept::{Kept, Spot};
 use crate::metering::{admit, meter_of};
 use crate::window::{Review, Window};
 use std::alloc::{AllocError, Global};
+use std::array;
 use vdr_config::Rate;
 use vdr_core::{law_of_feed, law_of_item};
 use vdr_feed::Item;
@@ -43,24 +44,7 @@ pub(crate) struct Walk {
 fn accounts() -> [Account; 16]
     ensures { result ≡ replicate 16 no_account }
 {
-    [
-        Account::new(),
-        Account::new(),
-        Account::new(),
-        Account::new(),
-        Account::new(),
-        Account::new(),
-        Account::new(),
-        Account::new(),
-        Account::new(),
-        Account::new(),
-        Account::new(),
-        Account::new(),
-        Account::new(),
-        Account::new(),
-        Account::new(),
-        Account::new(),
-    ]
+    array::from_fn(|_| Account::new())
 }
 
 impl Walk {

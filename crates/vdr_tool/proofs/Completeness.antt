@@ -2,10 +2,10 @@
 use Rattle.std.proofs.Common.{◌≡◌, ℕ, List, Option, Some, None, Ok, Err, refl, sym, ap, ◌∙◌}
 use Rattle.vdr_terms.specs.Records.{FeedItem}
 use Rattle.vdr_terms.specs.Rates.{Limit}
-use Rattle.vdr_feed.specs.Feed.{IsFeed, IsRefused}
+use Rattle.vdr_feed.specs.Feed.{IsFeed, IsRefused, longest_feed}
 use Rattle.vdr_feed.specs.Reader.{IfKnown}
 use Rattle.vdr_feed.specs.Law.{NoFeedIsRefused, OneRefusal}
-use Rattle.vdr_review.specs.Review.{most_items, IfReviewed}
+use Rattle.vdr_review.specs.Review.{IfReviewed}
 use Rattle.vdr_config.specs.Configuration.{Configuration}
 use Rattle.vdr_config.specs.Grammar.{configuration}
 use Rattle.vdr_tool.specs.Check.{IfChecked}
@@ -20,13 +20,13 @@ use Rattle.vdr_tool.proofs.FormatLemmas.{same_refusal}
 
 pub completes : (left : Option (List ℕ)) (status : Status) → IsReviewStatus status → NoFeedIsRefused → OneRefusal
     → (status ≡ InputFault → ⊥) → (status ≡ OutputFault → ⊥)
-    → (status ≡ Done → IfKnown left (λ bytes. (items : List FeedItem) × IsFeed most_items bytes items))
-    → IfFeed status (λ number offset. IfKnown left (λ bytes. IsRefused most_items bytes number offset))
+    → (status ≡ Done → IfKnown left (λ bytes. (items : List FeedItem) × IsFeed longest_feed bytes items))
+    → IfFeed status (λ number offset. IfKnown left (λ bytes. IsRefused longest_feed bytes number offset))
     → IfKnown left (λ bytes. ReviewsAll bytes status)
 completes None status own none one input output done feed = tt
 completes (Some bytes) Done own none one input output done feed =
-    let is : (items : List FeedItem) × IsFeed most_items bytes items = done refl in
-    (λ items f. tt, λ number offset r. none most_items bytes is.0 number offset is.1 r)
+    let is : (items : List FeedItem) × IsFeed longest_feed bytes items = done refl in
+    (λ items f. tt, λ number offset r. none longest_feed bytes is.0 number offset is.1 r)
 completes (Some bytes) Words own none one input output done feed = absurd own
 completes (Some bytes) (Config n) own none one input output done feed = absurd own
 completes (Some bytes) (Small small) own none one input output done feed = absurd own
@@ -50,9 +50,9 @@ completes (Some bytes) InputFault own none one input output done feed = absurd (
 completes (Some bytes) OutputFault own none one input output done feed = absurd (output refl)
 completes (Some bytes) NoMemory own none one input output done feed = (λ items f. tt, λ number offset r. tt)
 completes (Some bytes) (Feed n at) own none one input output done feed =
-    (λ items f. none most_items bytes items n at f feed, λ number offset r. one most_items bytes n at number offset feed r)
+    (λ items f. none longest_feed bytes items n at f feed, λ number offset r. one longest_feed bytes n at number offset feed r)
 
-pub is_feed : (limit : Limit) (left : Option (List ℕ)) (P : List ℕ → Type 0) → IfReviewed limit left P → IfKnown left (λ bytes. (items : List FeedItem) × IsFeed most_items bytes items)
+pub is_feed : (limit : Limit) (left : Option (List ℕ)) (P : List ℕ → Type 0) → IfReviewed limit left P → IfKnown left (λ bytes. (items : List FeedItem) × IsFeed longest_feed bytes items)
 is_feed limit None P h = tt
 is_feed limit (Some bytes) P h = (h.0, h.1)
 

@@ -5,9 +5,9 @@ use Rattle.std.proofs.lemmas.Grind.{flat_map-append}
 use Rattle.std.proofs.lemmas.List.Elements.{All-head, All-tail}
 use Rattle.vdr_terms.specs.Records.{FeedItem}
 use Rattle.vdr_terms.specs.declared.rate.Rate.{Rate}
-use Rattle.vdr_feed.specs.Feed.{feed, feed_header, spelling, AreItems, IsItem, received_after, fault_of, Reaches, IsFeed, IsRefusedAfter}
+use Rattle.vdr_feed.specs.Feed.{feed, feed_header, spelling, AreItems, IsItem, received_after, fault_of, Reaches, IsFeed, IsRefusedAfter, longest_feed}
 use Rattle.vdr_feed.proofs.Spelled.{same_item, no_fault}
-use Rattle.vdr_replay.specs.Feeding.{AreConfigured, HasRate, RefusesGroup, RefusesNext, most_items}
+use Rattle.vdr_replay.specs.Feeding.{AreConfigured, HasRate, RefusesGroup, RefusesNext}
 
 -- Here stands an item of a group that is not configured.
 record IsStrange (rates : List (Option Rate)) (floor : ℕ) (rest : List ℕ) : Type 0 where
@@ -92,7 +92,7 @@ feed_split xs y rest =
     ∙ ap (λ (b : List ℕ). b ++ rest) (sym (append_assoc feed_header (flat_map spelling xs) (spelling y)))
     ∙ append_assoc (feed xs) (spelling y) rest
 
-stands_at_group : (rates : List (Option Rate)) (bytes : List ℕ) (number offset : ℕ) (items : List FeedItem) → RefusesGroup rates bytes number offset items → Stands rates most_items bytes items
+stands_at_group : (rates : List (Option Rate)) (bytes : List ℕ) (number offset : ℕ) (items : List FeedItem) → RefusesGroup rates bytes number offset items → Stands rates longest_feed bytes items
 stands_at_group rates bytes number offset items r =
     let parts = items_split 0 items r.next r.legal.legal in
     let few = r.legal.few in
@@ -103,38 +103,38 @@ stands_at_group rates bytes number offset items r =
       ends = inr (inr (record { item = r.next; more = r.rest; legal = parts.1; is = refl; strange = r.strange }));
     }
 
-stands_at_fault : (rates : List (Option Rate)) (bytes : List ℕ) (number offset : ℕ) (items : List FeedItem) (rest : List ℕ) → IsRefusedAfter most_items bytes number offset items rest
-    → Stands rates most_items bytes items
+stands_at_fault : (rates : List (Option Rate)) (bytes : List ℕ) (number offset : ℕ) (items : List FeedItem) (rest : List ℕ) → IsRefusedAfter longest_feed bytes number offset items rest
+    → Stands rates longest_feed bytes items
 stands_at_fault rates bytes number offset items rest r = record { rest = rest; front = r.front; ends = inr (inl (number, r.fault)) }
 
-stands_at_end : (rates : List (Option Rate)) (bytes : List ℕ) (items : List FeedItem) → IsFeed most_items bytes items → Stands rates most_items bytes items
+stands_at_end : (rates : List (Option Rate)) (bytes : List ℕ) (items : List FeedItem) → IsFeed longest_feed bytes items → Stands rates longest_feed bytes items
 stands_at_end rates bytes items r = record { rest = []; front = r; ends = inl refl }
 
 -- A feed whose groups are all configured is not refused where it is recorded.
 pub not_refused : (rates : List (Option Rate)) (bytes : List ℕ) (number offset : ℕ) (items others : List FeedItem) → AreConfigured rates items → AreConfigured rates others
-    → IsFeed most_items bytes items → RefusesNext rates bytes number offset others → ⊥
+    → IsFeed longest_feed bytes items → RefusesNext rates bytes number offset others → ⊥
 unfolding stands_at_fault stands_at_end stands_at_group
 not_refused rates bytes number offset items others known also whole (inl fault) =
     let r = fault.1 in
-    let same = one_stand rates most_items bytes items others known also (stands_at_end rates bytes items whole) (stands_at_fault rates bytes number offset others fault.0 r) in
-    let clash : None ≡ Some number = ap (λ (xs : List ℕ). fault_of most_items (length others) (received_after 0 others) xs) same.1 ∙ r.fault in
+    let same = one_stand rates longest_feed bytes items others known also (stands_at_end rates bytes items whole) (stands_at_fault rates bytes number offset others fault.0 r) in
+    let clash : None ≡ Some number = ap (λ (xs : List ℕ). fault_of longest_feed (length others) (received_after 0 others) xs) same.1 ∙ r.fault in
     let none : ⊥ = cc in none
 not_refused rates bytes number offset items others known also whole (inr group) =
-    let same = one_stand rates most_items bytes items others known also (stands_at_end rates bytes items whole) (stands_at_group rates bytes number offset others group) in
+    let same = one_stand rates longest_feed bytes items others known also (stands_at_end rates bytes items whole) (stands_at_group rates bytes number offset others group) in
     nothing group.next group.rest same.1
 
 -- No fault stands where an item does.
 no_both : (rates : List (Option Rate)) (bytes : List ℕ) (number offset other at : ℕ) (items others : List FeedItem) (rest : List ℕ) → AreConfigured rates items → AreConfigured rates others
-    → IsRefusedAfter most_items bytes number offset items rest → RefusesGroup rates bytes other at others → ⊥
+    → IsRefusedAfter longest_feed bytes number offset items rest → RefusesGroup rates bytes other at others → ⊥
 unfolding stands_at_fault stands_at_group
 no_both rates bytes number offset other at items others rest known also r group =
-    let same = one_stand rates most_items bytes items others known also (stands_at_fault rates bytes number offset items rest r) (stands_at_group rates bytes other at others group) in
+    let same = one_stand rates longest_feed bytes items others known also (stands_at_fault rates bytes number offset items rest r) (stands_at_group rates bytes other at others group) in
     let parts = items_split 0 others group.next group.legal.legal in
     let few = group.legal.few in
     let count = length-append others (group.next ∷ []) in
-    let fault : fault_of most_items (length others) (received_after 0 others) rest ≡ Some number =
-    subst (λ (xs : List FeedItem). fault_of most_items (length xs) (received_after 0 xs) rest ≡ Some number) same.0 r.fault in
-    faultless most_items (length others) (received_after 0 others) number group.next rest group.rest (omega (arith, few, count)) parts.1 same.1 fault
+    let fault : fault_of longest_feed (length others) (received_after 0 others) rest ≡ Some number =
+    subst (λ (xs : List FeedItem). fault_of longest_feed (length xs) (received_after 0 xs) rest ≡ Some number) same.0 r.fault in
+    faultless longest_feed (length others) (received_after 0 others) number group.next rest group.rest (omega (arith, few, count)) parts.1 same.1 fault
 
 -- Where it is refused, it is so by one number, at one offset.
 pub one_refusal : (rates : List (Option Rate)) (bytes : List ℕ) (number offset other at : ℕ) (items others : List FeedItem) → AreConfigured rates items → AreConfigured rates others
@@ -142,8 +142,8 @@ pub one_refusal : (rates : List (Option Rate)) (bytes : List ℕ) (number offset
 unfolding stands_at_fault
 one_refusal rates bytes number offset other at items others known also (inl first) (inl second) =
     let r = first.1 in let t = second.1 in
-    let same = one_stand rates most_items bytes items others known also (stands_at_fault rates bytes number offset items first.0 r) (stands_at_fault rates bytes other at others second.0 t) in
-    let faults : Some number ≡ Some other = sym r.fault ∙ ((λ i. fault_of most_items (length (same.0 i)) (received_after 0 (same.0 i)) (same.1 i)) ∙ t.fault) in
+    let same = one_stand rates longest_feed bytes items others known also (stands_at_fault rates bytes number offset items first.0 r) (stands_at_fault rates bytes other at others second.0 t) in
+    let faults : Some number ≡ Some other = sym r.fault ∙ ((λ i. fault_of longest_feed (length (same.0 i)) (received_after 0 (same.0 i)) (same.1 i)) ∙ t.fault) in
     let numbers : number ≡ other = cc in
     (numbers, r.offset_is ∙ (ap (λ (xs : List FeedItem). length (feed xs)) same.0 ∙ sym t.offset_is))
 one_refusal rates bytes number offset other at items others known also (inl first) (inr second) =
@@ -151,5 +151,5 @@ one_refusal rates bytes number offset other at items others known also (inl firs
 one_refusal rates bytes number offset other at items others known also (inr first) (inl second) =
     absurd (no_both rates bytes other at number offset others items second.0 also known second.1 first)
 one_refusal rates bytes number offset other at items others known also (inr first) (inr second) =
-    let same = one_stand rates most_items bytes items others known also (stands_at_group rates bytes number offset items first) (stands_at_group rates bytes other at others second) in
+    let same = one_stand rates longest_feed bytes items others known also (stands_at_group rates bytes number offset items first) (stands_at_group rates bytes other at others second) in
     (first.number_is ∙ sym second.number_is, first.offset_is ∙ (ap (λ (xs : List FeedItem). length (feed xs)) same.0 ∙ sym second.offset_is))

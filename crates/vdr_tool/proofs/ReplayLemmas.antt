@@ -10,7 +10,7 @@ use Rattle.vdr_durability.specs.Readings.{Reading, next_after, records_on, resto
 use Rattle.vdr_outside.specs.Causes.{HasCause}
 use Rattle.vdr_outside.specs.Disk.{Image}
 use Rattle.vdr_outside.specs.Writes.{AppendsFront}
-use Rattle.vdr_feed.specs.Feed.{feed_header}
+use Rattle.vdr_feed.specs.Feed.{feed_header, longest_feed}
 use Rattle.vdr_feed.specs.Reader.{IfKnown}
 use Rattle.vdr_media.specs.Formatted.{IsFormatted, IsUnformatted}
 use Rattle.vdr_opening.specs.Media.{both, Contents, HoldsContents, opening_of}
@@ -18,7 +18,7 @@ use Rattle.vdr_opening.specs.Refusals.{IsRefused}
 use Rattle.vdr_config.specs.Configuration.{Configuration}
 use Rattle.vdr_ring.specs.Sequence.{Placed, batches_in}
 use Rattle.vdr_replay.specs.Answers.{Decides, IfOpened, MayBegin, TellsHeader}
-use Rattle.vdr_replay.specs.Feeding.{AreConfigured, ReadsFeed, RefusesNext, most_items}
+use Rattle.vdr_replay.specs.Feeding.{AreConfigured, ReadsFeed, RefusesNext}
 use Rattle.vdr_replay.specs.declared.ended.FeedEnd.{FeedEnd}
 use Rattle.vdr_replay.specs.declared.ended.FeedEnd.TheVariants as ends
 use Rattle.vdr_replay.specs.declared.ended.Replayed.{Replayed}
@@ -39,8 +39,8 @@ use Rattle.vdr_command.proofs.OpenedCompleteness.{damaged_alike}
 
 -- A feed that is refused behind its header has one.
 reads_header : (rates : List (Option Rate)) (bytes : List ℕ) (number offset : ℕ) (items : List FeedItem) → RefusesNext rates bytes number offset items → take 8 bytes ≡ feed_header
-reads_header rates bytes number offset items (inl fault) = has_header most_items bytes items fault.0 fault.1.front
-reads_header rates bytes number offset items (inr group) = has_header most_items bytes (items ++ group.next ∷ []) group.rest group.legal
+reads_header rates bytes number offset items (inl fault) = has_header longest_feed bytes items fault.0 fault.1.front
+reads_header rates bytes number offset items (inr group) = has_header longest_feed bytes (items ++ group.next ∷ []) group.rest group.legal
 
 -- Where the feed was read to its end.
 whole_is_done : (was next : OutputSeen) (summary : List ℕ) (status : Status) → (status ≡ OutputFault → ⊥) → PrintsRun ends.Whole summary status was next → status ≡ Done
@@ -143,7 +143,7 @@ module _ {tells tells_images : Type 0} (bytes : List ℕ) (now : Option (List �
     place = λ x h holds meet high. absurd (header.2 h);
     tick = λ x h holds meet low high. absurd (header.2 h);
     refused = λ x feed n at holds meet may reads known. absurd (header.2 (reads_header x.config.groups bytes n at feed reads));
-    done = λ x feed holds meet may whole known. absurd (header.2 (has_header most_items bytes feed [] whole));
+    done = λ x feed holds meet may whole known. absurd (header.2 (has_header longest_feed bytes feed [] whole));
   }
   stopped stops.NotFormatted input media header legible unformatted damaged =
       let un = unformatted refl told in

@@ -7,7 +7,7 @@ use Rattle.vdr_history.specs.Feed.{feed_records, items_of}
 use Rattle.vdr_history.specs.Runs.{base_after}
 use Rattle.vdr_capture.specs.declared.sums.GroupSums.{GroupSums}
 use Rattle.vdr_outside.specs.Disk.{Disk}
-use Rattle.vdr_feed.specs.Feed.{IsFeed}
+use Rattle.vdr_feed.specs.Feed.{IsFeed, longest_feed}
 use Rattle.vdr_feed.specs.Law.{OneFeed}
 use Rattle.vdr_feed.specs.Trial.{trial_item, trial_state}
 use Rattle.vdr_trial.specs.Generated.{generated_feed, items_from}
@@ -16,7 +16,7 @@ use Rattle.vdr_opening.specs.Media.{HoldsContents, opening_of}
 use Rattle.vdr_opening.specs.Refusals.{IsRefused}
 use Rattle.vdr_opening.proofs.Formatted.{empty_meet}
 use Rattle.vdr_replay.specs.Answers.{Answers, IsRecorded, TellsHeader}
-use Rattle.vdr_replay.specs.Feeding.{AreConfigured, HasRate, ReadsFeed, most_items}
+use Rattle.vdr_replay.specs.Feeding.{AreConfigured, HasRate, ReadsFeed}
 use Rattle.vdr_replay.specs.Headline.{Headline}
 use Rattle.vdr_replay.specs.Headline.RunEnd.{Closed}
 use Rattle.vdr_replay.specs.Summary.{sums_of}
@@ -37,7 +37,7 @@ configured zero state index = All-nil (λ (i : FeedItem). HasRate bench.groups i
 configured (suc n) state index =
     All-cons (λ (i : FeedItem). HasRate bench.groups i.group) (trial_item (trial_state state) index) (items_from n (trial_state state) (index + 1)) refl (configured n (trial_state state) (index + 1))
 
-module _ {tells tells_images : Type 0} (seed count : ℕ) (rose : Type 0) (old new : Disk tells tells_images) (whole : IsFeed most_items (generated_feed seed count) (trial_items seed count)) where
+module _ {tells tells_images : Type 0} (seed count : ℕ) (rose : Type 0) (old new : Disk tells tells_images) (whole : IsFeed longest_feed (generated_feed seed count) (trial_items seed count)) where
   -- The run was not closed.
   pub run_stopped : OneAnswer old.reads → HoldsContents old.reads fresh → (now : Option (List ℕ)) (stop : ReplayStop)
       → Answers fresh (generated_feed seed count) now rose old new (Err stop) → TellsHeader (Some (generated_feed seed count)) now (Err stop)
@@ -47,7 +47,7 @@ module _ {tells tells_images : Type 0} (seed count : ℕ) (rose : Type 0) (old n
       → RunsItems seed count rose old new (Err (status_of_stop stop))
   run_stopped law holds now stops.NoMemory answers header input unformatted damaged = answers (empty_meet bench bench_text)
   run_stopped law holds now stops.Input answers header input unformatted damaged = input refl
-  run_stopped law holds now (stops.Refused number offset) answers header input unformatted damaged = header.2 (has_header most_items (generated_feed seed count) (trial_items seed count) [] whole)
+  run_stopped law holds now (stops.Refused number offset) answers header input unformatted damaged = header.2 (has_header longest_feed (generated_feed seed count) (trial_items seed count) [] whole)
   run_stopped law holds now stops.NotFormatted answers header input unformatted damaged = law.formatted fresh holds (unformatted refl)
   run_stopped law holds now (stops.Damaged m offset) answers header input unformatted damaged = law.either fresh m offset holds (empty_meet bench bench_text) (damaged m offset refl).1
   run_stopped law holds now stops.Place answers header input unformatted damaged =
@@ -65,8 +65,8 @@ module _ {tells tells_images : Type 0} (seed count : ℕ) (rose : Type 0) (old n
       → (sums ≡ trial_sums seed count) × (r.records ≡ length (trial_records seed count)) × Headline fresh rose old new (trial_items seed count) Closed
   unfolding trial_sums trial_records
   run_whole one now r h is sums given =
-      let read : IsFeed most_items (generated_feed seed count) h.feed = subst (λ (e : FeedEnd). ReadsFeed bench.groups (generated_feed seed count) now e h.feed) is h.read in
-      let same : h.feed ≡ trial_items seed count = one most_items (generated_feed seed count) h.feed (trial_items seed count) read whole in (
+      let read : IsFeed longest_feed (generated_feed seed count) h.feed = subst (λ (e : FeedEnd). ReadsFeed bench.groups (generated_feed seed count) now e h.feed) is h.read in
+      let same : h.feed ≡ trial_items seed count = one longest_feed (generated_feed seed count) h.feed (trial_items seed count) read whole in (
         given (sums_of 3 (items_of 3 h.feed) (feed_records first_run h.feed)) (h.sums.each 3 (omega arith)) ∙ ap (λ (f : List FeedItem). sums_of 3 (items_of 3 f) (feed_records first_run f)) same,
         h.total ∙ ap (λ (f : List FeedItem). length (feed_records first_run f)) same,
         subst (λ (f : List FeedItem). Headline fresh rose old new f Closed) same h.left,

@@ -5,7 +5,7 @@ use Rattle.vdr_terms.specs.Records.{FeedItem}
 use Rattle.vdr_history.specs.Runs.{base_after}
 use Rattle.vdr_durability.specs.Readings.{EndsMeet}
 use Rattle.vdr_outside.specs.Disk.{Image, SameBut}
-use Rattle.vdr_feed.specs.Feed.{IsFeed, feed_header}
+use Rattle.vdr_feed.specs.Feed.{IsFeed, feed_header, longest_feed}
 use Rattle.vdr_feed.specs.Reader.{IfKnown}
 use Rattle.vdr_media.specs.Formatted.{IsFormatted, IsUnformatted}
 use Rattle.vdr_opening.specs.Media.{both, Contents, HoldsContents, opening_of, reading_of}
@@ -14,7 +14,7 @@ use Rattle.vdr_vault.specs.Calls.{SameElsewhere}
 use Rattle.vdr_vault.specs.Openings.{LeavesAll}
 use Rattle.vdr_replay.specs.Answers.{Answers, Decides, EndsAtHeader, HasReplayCause, IfOpened, MayBegin, RefusesMedia, RefusesRun, TellsHeader}
 use Rattle.vdr_replay.specs.Headline.{LeavesHistory}
-use Rattle.vdr_replay.specs.Feeding.{AreConfigured, RefusesNext, most_items}
+use Rattle.vdr_replay.specs.Feeding.{AreConfigured, RefusesNext}
 use Rattle.vdr_replay.specs.declared.ended.FeedEnd.{FeedEnd}
 use Rattle.vdr_replay.specs.declared.ended.FeedEnd.TheVariants as feed_ends
 use Rattle.vdr_replay.specs.declared.ended.Replayed.{Replayed}
@@ -76,7 +76,7 @@ pub record ReplaysAll (bytes : List ℕ) (image : Image) (status : Status) : Typ
   pub refused : (x : Contents) (feed : List FeedItem) (number offset : ℕ) → HoldsContents image x → EndsMeet both (reading_of x) → MayBegin (opening_of x)
       → RefusesNext x.config.groups bytes number offset feed → AreConfigured x.config.groups feed → IsRefusal number offset status
   pub done : (x : Contents) (feed : List FeedItem) → HoldsContents image x → EndsMeet both (reading_of x) → MayBegin (opening_of x)
-      → IsFeed most_items bytes feed → AreConfigured x.config.groups feed → IsDone status
+      → IsFeed longest_feed bytes feed → AreConfigured x.config.groups feed → IsDone status
 
 -- What `replay` owes.
 pub record Replays {tells tells_images : Type 0} (old new : Outside tells tells_images) (status : Status) : Type 0 where

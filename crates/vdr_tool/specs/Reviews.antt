@@ -4,10 +4,10 @@ use Rattle.std.specs.Prelude.{◌≡◌, ◌⊎◌, ℕ, List, [], ◌∷◌, co
 use Rattle.std.specs.Io.KnownBytes.{IsAtEnd}
 use Rattle.vdr_terms.specs.Records.{FeedItem}
 use Rattle.vdr_terms.specs.declared.rate.Rate.{Rate}
-use Rattle.vdr_feed.specs.Feed.{IsFeed, IsRefused}
+use Rattle.vdr_feed.specs.Feed.{IsFeed, IsRefused, longest_feed}
 use Rattle.vdr_feed.specs.Reader.{IfKnown}
 use Rattle.vdr_config.specs.Configuration.{IsRate}
-use Rattle.vdr_review.specs.Review.{most_items, limit_asked, IfReviewed}
+use Rattle.vdr_review.specs.Review.{limit_asked, IfReviewed}
 use Rattle.vdr_command.specs.Endings.{IsDone, IsRefusal, IsWorkDone}
 use Rattle.vdr_command.specs.Outside.{InputFailed, NothingFailed, OutputFailed, Outside, Prints, PrintsFront}
 use Rattle.vdr_command.specs.Promises.{Promise}
@@ -32,8 +32,8 @@ IsReviewStatus status = ⊥
 -- A feed is done, and what is none is refused by its own number and offset.
 abbrev pub ReviewsAll : List ℕ → Status → Type 0
 ReviewsAll bytes status =
-    ((items : List FeedItem) → IsFeed most_items bytes items → IsDone status)
-    × ((number offset : ℕ) → IsRefused most_items bytes number offset → IsRefusal number offset status)
+    ((items : List FeedItem) → IsFeed longest_feed bytes items → IsDone status)
+    × ((number offset : ℕ) → IsRefused longest_feed bytes number offset → IsRefusal number offset status)
 
 -- What `review` owes.
 pub record Reviews {tells tells_images : Type 0} (rate : Option Rate) (old new : Outside tells tells_images) (status : Status) : Type 0 where
@@ -41,7 +41,7 @@ pub record Reviews {tells tells_images : Type 0} (rate : Option Rate) (old new :
   -- all was done: the input was read to its end, and its review is printed
   pub done : status ≡ Done → IsAtEnd new.input.left × IfReviewed (limit_asked rate) old.input.left (λ text. Prints text old.output new.output)
   -- each refusal and failure comes only with its cause
-  pub feed : IfFeed status (λ number offset. IfKnown old.input.left (λ bytes. IsRefused most_items bytes number offset))
+  pub feed : IfFeed status (λ number offset. IfKnown old.input.left (λ bytes. IsRefused longest_feed bytes number offset))
   pub input : status ≡ InputFault → InputFailed old.input new.input
   pub output : status ≡ OutputFault → OutputFailed old.output new.output × IfReviewed (limit_asked rate) old.input.left (λ text. PrintsFront text old.output new.output)
   -- a status line stands alone

@@ -5,7 +5,7 @@ use Rattle.vdr_terms.specs.Records.{FeedItem, Record}
 use Rattle.vdr_terms.specs.Stamps.{last_stamp}
 use Rattle.vdr_outside.specs.Disk.{Disk}
 use Rattle.vdr_outside.specs.Moments.{AtEachMoment}
-use Rattle.vdr_feed.specs.Feed.{Reaches}
+use Rattle.vdr_feed.specs.Feed.{Reaches, longest_feed}
 use Rattle.vdr_trial.specs.Generated.{generated_feed}
 use Rattle.vdr_config.specs.Sizes.{window_of}
 use Rattle.vdr_entry.specs.Queries.{asked_medium}
@@ -15,7 +15,6 @@ use Rattle.vdr_visit.specs.declared.stop.VisitStop.TheVariants as visits
 use Rattle.vdr_opening.specs.Media.{Contents, opening_of}
 use Rattle.vdr_vault.specs.Openings.{LeavesAll}
 use Rattle.vdr_vault.specs.Vaults.{ShowsHistory}
-use Rattle.vdr_replay.specs.Feeding.{most_items}
 use Rattle.vdr_replay.specs.Headline.{Headline}
 use Rattle.vdr_replay.specs.Headline.RunEnd.{NotStarted, Closed, Broken}
 use Rattle.vdr_command.specs.declared.status.Status.{Status}
@@ -110,7 +109,7 @@ module _ {tells tells_images : Type 0} where
     RecordsNothing = LeavesAll before after ⊎ Headline fresh rose before after [] NotStarted
 
     abbrev pub BreaksOff : Type 0
-    BreaksOff = (items : List FeedItem) × ((rest : List ℕ) × Reaches most_items (generated_feed seed count) items rest) × Headline fresh rose before after items Broken
+    BreaksOff = (items : List FeedItem) × ((rest : List ℕ) × Reaches longest_feed (generated_feed seed count) items rest) × Headline fresh rose before after items Broken
 
     abbrev pub RunsItems : Result Ran Status → Type 0
     RunsItems (Ok ran) = (ran.sums ≡ trial_sums seed count) × (ran.records ≡ length (trial_records seed count)) × Headline fresh rose before after (trial_items seed count) Closed

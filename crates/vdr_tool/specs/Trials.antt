@@ -14,7 +14,7 @@ use Rattle.vdr_capture.specs.declared.sums.GroupSums.{GroupSums}
 use Rattle.vdr_durability.specs.Keeping.{IsWhole, Keeps, ShowsPrefix}
 use Rattle.vdr_outside.specs.Disk.{Disk, Durable, Unchanged}
 use Rattle.vdr_outside.specs.Moments.{AtEachMoment}
-use Rattle.vdr_feed.specs.Feed.{Reaches}
+use Rattle.vdr_feed.specs.Feed.{Reaches, longest_feed}
 use Rattle.vdr_trial.specs.Generated.{generated_feed, items_from}
 use Rattle.vdr_config.specs.declared.media.TooSmall.{TooSmall}
 use Rattle.vdr_config.specs.declared.profile.Profile.TheVariants.{Bench}
@@ -26,7 +26,6 @@ use Rattle.vdr_media.specs.Formatted.{IsEmptyHistoryOf, IsFormatted, IsUnformatt
 use Rattle.vdr_media.specs.Formatting.{FormatsAtEachMoment}
 use Rattle.vdr_opening.specs.Media.{Contents, nothing_on, opening_of}
 use Rattle.vdr_recorder.specs.Recordings.{start_of_opening}
-use Rattle.vdr_replay.specs.Feeding.{most_items}
 use Rattle.vdr_replay.specs.Headline.{AccountBy, RecordsAre, RunEnd}
 use Rattle.vdr_replay.specs.Headline.RunEnd.{NotStarted, Closed, Broken}
 use Rattle.vdr_replay.specs.Summary.{sums_of}
@@ -152,7 +151,7 @@ IsAfterRun status = ⊥
 -- How far the run came, what was read of the generator's items by then, and the status.
 abbrev pub ComesTo : (seed count : ℕ) → RunEnd → List FeedItem → Status → Type 0
 ComesTo seed count NotStarted items status = (status ≡ MediaFault) ⊎ (status ≡ NoMemory)
-ComesTo seed count Broken items status = (status ≡ MediaFault) × ((rest : List ℕ) × Reaches most_items (generated_feed seed count) items rest)
+ComesTo seed count Broken items status = (status ≡ MediaFault) × ((rest : List ℕ) × Reaches longest_feed (generated_feed seed count) items rest)
 ComesTo seed count Closed items status = IsAfterRun status × (items ≡ trial_items seed count)
 
 module _ {tells tells_images : Type 0} where

@@ -2,11 +2,11 @@
 ghost use Rattle.std.specs.Prelude.{◌≡◌, ◌≤◌, ◌⊎◌, IfSome};
 ghost use Rattle.std.specs.Io.KnownBytes.{IsAtEnd, Appends};
 ghost use Rattle.vdr_config.specs.Configuration.{IsRate};
-ghost use Rattle.vdr_feed.specs.Feed.{IsRefused};
+ghost use Rattle.vdr_feed.specs.Feed.{IsRefused, longest_feed};
 ghost use Rattle.vdr_feed.specs.Reader.{IfKnown};
 ghost use Rattle.vdr_outside.specs.Causes.{Rose};
 ghost use Rattle.vdr_outside.specs.Writes.{AppendsFront};
-ghost use Rattle.vdr_review.specs.Review.{IfReviewed, limit_asked, most_items};
+ghost use Rattle.vdr_review.specs.Review.{IfReviewed, limit_asked};
 ghost use Rattle.vdr_command.specs.Endings.{IsWorkDone, ending};
 ghost use Rattle.vdr_tool.specs.Reviews.{IsReviewStatus, Reviews};
 ghost use Rattle.vdr_command.specs.StatusLine.{IfFeed};
@@ -29,7 +29,7 @@ fn print_review<I: Source, O: Sink>(
     requires rate { IfSome rate IsRate }
     ensures statuses { IsReviewStatus (ending result) }
     ensures done { ending result ≡ Done → IsAtEnd (I.left input.new) × IfReviewed (limit_asked rate) (I.left input.old) (λ text. Appends (O.taken output.old) (O.taken output.new) text) }
-    ensures feed { IfFeed (ending result) (λ number offset. IfKnown (I.left input.old) (λ bytes. IsRefused most_items bytes number offset)) }
+    ensures feed { IfFeed (ending result) (λ number offset. IfKnown (I.left input.old) (λ bytes. IsRefused longest_feed bytes number offset)) }
     ensures input { ending result ≡ InputFault → Rose (I.faults input.old) (I.faults input.new) }
     ensures output { ending result ≡ OutputFault → Rose (O.faults output.old) (O.faults output.new)
         × IfReviewed (limit_asked rate) (I.left input.old) (λ text. AppendsFront (O.taken output.old) (O.taken output.new) text) }

@@ -1,6 +1,6 @@
 -- The generated items may follow one another in a feed.
 use Rattle.std.proofs.Common.{◌≡◌, ◌≤◌, ◌+◌, ◌*◌, ℕ, zero, suc, arith, length, refl, sym, ap, append-nil}
-use Rattle.vdr_feed.specs.Feed.{AreItems, IsFeed, feed}
+use Rattle.vdr_feed.specs.Feed.{AreItems, IsFeed, feed, longest_feed}
 use Rattle.vdr_feed.specs.Trial.{trial_bytes, trial_state}
 use Rattle.vdr_trial.specs.Generated.{generated_feed, items_from}
 
@@ -24,7 +24,7 @@ so_many : (count state index : ℕ) → length (items_from count state index) �
 so_many zero state index = refl
 so_many (suc n) state index = ap suc (so_many n (trial_state state) (index + 1))
 
-pub is_feed : (seed count : ℕ) → count ≤ 1_000_000 → IsFeed 4_294_967_295 (generated_feed seed count) (items_from count seed 0)
+pub is_feed : (seed count : ℕ) → count ≤ 1_000_000 → IsFeed longest_feed (generated_feed seed count) (items_from count seed 0)
 is_feed seed count few = record {
   spelled = sym (append-nil (feed (items_from count seed 0)));
   legal = legal count seed 0 0 (omega arith) (omega (arith, few));

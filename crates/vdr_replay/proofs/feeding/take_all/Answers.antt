@@ -2,12 +2,13 @@ use Rattle.std.proofs.Common.{◌<◌, ◌∷◌, ◌++◌, [], List, length, re
 use Rattle.vdr_history.specs.Taken.{Captured}
 use Rattle.vdr_config.specs.Configuration.{Configuration}
 use Rattle.vdr_outside.proofs.Counts.{none_falls_join, none_fell, on_err}
-use Rattle.vdr_replay.specs.Feeding.{most_items}
+use Rattle.vdr_feed.specs.Feed.{longest_feed}
 use Rattle.vdr_replay.specs.Given.{HoldsFeed}
 use Rattle.vdr_replay.specs.Taking.{HasTaken}
 use Rattle.vdr_replay.proofs.Causes.{cause_joined}
 use Rattle.vdr_replay.proofs.Passing.{takes_break, takes_join, takes_none}
-use Rattle.vdr_replay.proofs.Reading.{reached, read_next}
+use Rattle.vdr_feed.proofs.Progress.{read_next}
+use Rattle.vdr_replay.proofs.Reading.{reached}
 use Rattle.vdr_replay.proofs.feeding.take_all.Goals as goal
 
 pub loop-end-init : goal.loop-end-init
@@ -34,7 +35,7 @@ loop-end-preserved g c =
     let w = c.loop-end.invariant.walked in
     let gave = c.in_default.ensures.gave in
     let some = w.1 c.requires.read.0 c.requires.read.1 in
-    let few : length w.0 < most_items = omega (arith, gave.1.few, some.count, some.limit) in
+    let few : length w.0 < longest_feed = omega (arith, gave.1.few, some.count, some.limit) in
     let held = subst (λ (config : Configuration). HoldsFeed config w.0 c.loop-end.lanes c.loop-end.recording.maker) (sym c.loop-end.invariant.config) w.2 in
     record {
       walked = (

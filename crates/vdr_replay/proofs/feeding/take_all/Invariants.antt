@@ -4,9 +4,9 @@ use Rattle.vdr_history.specs.Histories.{Event, Opening}
 use Rattle.vdr_outside.specs.Causes.{NoneFalls}
 use Rattle.vdr_vault.specs.Calls.{SameElsewhere}
 use Rattle.vdr_vault.specs.Vaults.{AreRings}
-use Rattle.vdr_replay.specs.Feeding.{most_items}
+use Rattle.vdr_feed.specs.Feed.{longest_feed}
 use Rattle.vdr_replay.specs.Given.{HoldsFeed}
-use Rattle.vdr_replay.specs.Reading.{HasRead}
+use Rattle.vdr_feed.specs.Progress.{HasRead}
 use Rattle.vdr_replay.specs.Taking.{HasTaken, TakesOn}
 use Rattle.vdr_replay.proofs.feeding.take_all.Given as goal
 
@@ -28,4 +28,4 @@ invariant-loop-end g l = record {
 }
 
 abbrev pub decreases-loop-end : goal.decreases-loop-end
-decreases-loop-end g l = most_items + 1 - l.reader.count
+decreases-loop-end g l = longest_feed + 1 - l.reader.count

@@ -12,7 +12,7 @@ use Rattle.vdr_vault.proofs.OpenMoments.{never_both}
 use Rattle.vdr_recorder.proofs.Opened.{meet_as}
 use Rattle.vdr_replay.specs.Answers.{Answers, Decides, EndsAtHeader, IfOpened, IsLegible, RefusesMedia, RefusesRun}
 use Rattle.vdr_replay.specs.Ran.{Runs}
-use Rattle.vdr_replay.specs.Reading.{HasRead}
+use Rattle.vdr_feed.specs.Progress.{HasRead}
 use Rattle.vdr_replay.specs.declared.ended.Replayed.{Replayed}
 use Rattle.vdr_replay.specs.declared.ended.ReplayStop.{ReplayStop}
 use Rattle.vdr_replay.proofs.Causes.{replay_after, rose_joined, sum_of_rose}
@@ -20,7 +20,8 @@ use Rattle.vdr_replay.proofs.Headlines.{answers, begun_nothing, leaves, opened_l
 use Rattle.vdr_replay.proofs.Opened.{admits_all, begun_header, begun_media, begun_tells, beside_still, damaged_by, header_of_feed, header_says, level_still, no_run_of_feed, not_at_header, open_stops, opened_says, opening_says, refused_media}
 use Rattle.vdr_replay.proofs.Passing.{passes_first}
 use Rattle.vdr_replay.proofs.Playing.{config_read}
-use Rattle.vdr_replay.proofs.Reading.{begins_so, read_first}
+use Rattle.vdr_feed.proofs.Progress.{read_first}
+use Rattle.vdr_replay.proofs.Reading.{begins_so}
 use Rattle.vdr_replay.proofs.Starts.{decides_as}
 use Rattle.vdr_replay.proofs.replaying.replay.Goals as goal
 

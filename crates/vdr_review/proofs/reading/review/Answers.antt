@@ -10,19 +10,21 @@ use Rattle.vdr_feed.specs.declared.item.Item.{Item as Held}
 use Rattle.vdr_review.specs.Review.{IfReviewed, limit_asked, reviewed, review_text}
 use Rattle.vdr_review.specs.Walks.{Tells}
 use Rattle.vdr_review.specs.declared.walk.Walk.{Walk}
-use Rattle.vdr_review.proofs.Stream.{Stands, stands_first, stands_next, reviews}
+use Rattle.vdr_feed.specs.Progress.{HasRead}
+use Rattle.vdr_feed.proofs.Progress.{read_first, read_next}
+use Rattle.vdr_review.proofs.Stream.{reviews}
 use Rattle.vdr_review.proofs.reading.review.Goals as goal
 
 -- the walk has met the items that the reader has read
 abbrev Walked : Limit → Option (List ℕ) → Option (List ℕ) → Reading → Walk → Type 0
-Walked limit first now r walk = (feed : List FeedItem) × Stands first now r feed × Tells limit walk feed
+Walked limit first now r walk = (feed : List FeedItem) × HasRead first now r feed × Tells limit walk feed
 
 more : (limit : Limit) (first before now : Option (List ℕ)) (r r' : Reading) (held : Held) (w w' : Walk) → Walked limit first before r w → GivesItem before now r r' held true
     → ((l : Limit) (feed : List FeedItem) (x : FeedItem) → Tells l w feed → Holds held x → Tells l w' (feed ++ x ∷ []))
     → Walked limit first now r' w'
 more limit first before now r r' held w w' p i add = (
   p.0 ++ i.0 ∷ [],
-  stands_next first before now r r' held p.0 i.0 p.1 i.1 i.2,
+  read_next first before now r r' held p.0 i.0 p.1 i.1 i.2,
   add limit p.0 i.0 p.2 i.1.holds,
 )
 
@@ -43,7 +45,7 @@ ends limit first before now r r' held w records p e told =
 
 pub loop-item-init : goal.loop-item-init
 loop-item-init g c = record {
-  walked = ([], stands_first _ _ _ c.in-Ok.ensures.bytes (c.in-Ok.ensures.ready ∙ search rules), c.new-walk.ensures);
+  walked = ([], read_first _ _ _ c.in-Ok.ensures.bytes (c.in-Ok.ensures.ready ∙ search rules), c.new-walk.ensures);
   later = search rules;
 }
 
