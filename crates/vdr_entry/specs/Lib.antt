@@ -1,5 +1,6 @@
 -- Records as values, as bytes on the media, and as printed text.
 pub mod Fields
+pub mod Buffers
 pub mod Contents
 pub mod Spelling
 pub mod Reading

@@ -3,6 +3,7 @@
 //! The format, with an example: docs/MEDIA.md.
 #![tactic(auto)]
 
+mod buffer;
 mod content;
 mod kind;
 mod payload;
@@ -13,6 +14,7 @@ mod summary;
 mod utc;
 mod write;
 
+pub use buffer::RecordBuffer;
 pub use content::Content;
 pub use kind::Kind;
 pub use query::{Medium, Query};

@@ -22,6 +22,17 @@ pub(crate) fn kept(bytes: &[u8]) -> ArrayVec<u8, 1472>
     payload
 }
 
+/// Puts these bytes in the place of those that are held. Only they are copied.
+pub(crate) fn refill(payload: &mut ArrayVec<u8, 1472>, bytes: &[u8])
+    requires { length bytes.now ≤ 1472 }
+    ensures { payload.new.items ≡ bytes.now }
+{
+    let kept = payload.len().min(bytes.len());
+    payload.truncate(kept);
+    payload.as_mut_slice().copy_from_slice(&bytes[..kept]);
+    let _ = payload.try_extend_from_slice(&bytes[kept..]);
+}
+
 /// The payload of a Gap.
 pub(crate) fn gap_payload(first: u64, missed: Counts) -> [u8; GAP_SIZE]
     ensures bytes { result ≡ gap_payload first missed }

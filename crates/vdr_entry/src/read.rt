@@ -8,7 +8,7 @@ ghost use Rattle.vdr_entry.specs.Reading.{Begins};
 ghost use Rattle.vdr_entry.specs.Spotting.{AreInRange, Spots, Suits, payload_in};
 ghost use Rattle.vdr_entry.specs.Spelling.{gap_payload, record_bytes};
 
-use crate::payload::{GAP_SIZE, kept, missed_in};
+use crate::payload::{GAP_SIZE, missed_in, refill};
 use crate::{Kind, Record};
 use vdr_bytes::{u16_at, u64_at};
 use vdr_terms::{Counts, Verdict, recordable};
@@ -100,26 +100,38 @@ pub fn record_at(bytes: &[u8]) -> Option<usize>
     Some(44 + payload.len())
 }
 
+impl Record {
+    /// Reads the record at the front of the bytes into this place, and answers how many of them it takes. What stood here
+    /// is gone. None exactly where no front of the bytes is a record, and then this one is as it was.
+    pub fn read_from(&mut self, bytes: &[u8]) -> Option<usize>
+        ensures found { IfSome result (λ size. (rest : List ℕ) × Begins bytes.now self.new rest × (size ≡ record_size self.new)) }
+        ensures none { IfNone result ((r : Entry) (rest : List ℕ) → Begins bytes.now r rest → ⊥) }
+        ensures same { IfNone result (self.new ≡ self.old) }
+    {
+        let Some((kind, payload)) = spot(bytes) else {
+            return None;
+        };
+        self.kind = kind;
+        self.group = bytes[1];
+        self.bits = u64_at(bytes, 4);
+        self.place = u64_at(bytes, 12);
+        self.number = u64_at(bytes, 20);
+        self.tick = u64_at(bytes, 28);
+        self.utc = u64_at(bytes, 36) as i64;
+        refill(&mut self.payload, payload);
+        Some(self.size())
+    }
+}
+
 /// The record at the front of the bytes, and how many of them it takes. None exactly where no front of the bytes is a
 /// record.
 pub fn read_record(bytes: &[u8]) -> Option<(Record, usize)>
     ensures found { IfSome result (λ x. (rest : List ℕ) × Begins bytes.now x.0 rest × (x.1 ≡ record_size x.0)) }
     ensures none { IfNone result ((r : Entry) (rest : List ℕ) → Begins bytes.now r rest → ⊥) }
 {
-    let Some((kind, payload)) = spot(bytes) else {
-        return None;
-    };
-    let item = Record {
-        kind,
-        group: bytes[1],
-        bits: u64_at(bytes, 4),
-        place: u64_at(bytes, 12),
-        number: u64_at(bytes, 20),
-        tick: u64_at(bytes, 28),
-        utc: u64_at(bytes, 36) as i64,
-        payload: kept(payload),
-    };
-    Some((item, 44 + payload.len()))
+    let mut item = Record::start(0, 0, 0, 0);
+    let size = item.read_from(bytes)?;
+    Some((item, size))
 }
 
 /// No record's bytes begin another's: a written record reads back whatever follows it.

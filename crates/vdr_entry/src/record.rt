@@ -7,15 +7,16 @@ ghost use Rattle.vdr_terms.specs.Records.Content.{Start, Datagram, Gap, Stop};
 ghost use Rattle.vdr_terms.specs.Sizes.{record_size};
 ghost use Rattle.vdr_terms.specs.Stamps.{IsStamp};
 ghost use Rattle.vdr_entry.specs.Contents.{said_by};
+ghost use Rattle.vdr_entry.specs.Fields.{Carries, content_of};
 
-use crate::payload::{gap_payload, kept, missed_in};
+use crate::payload::{gap_payload, kept, missed_in, refill};
 use crate::{Content, Kind};
 use arrayvec::ArrayVec;
 use std::marker::Model;
 use vdr_terms::Counts;
 
 /// The group of a record that belongs to none.
-const NO_GROUP: u8 = 255;
+pub(crate) const NO_GROUP: u8 = 255;
 
 /// One entry of the recording. Its type keeps that it is a legal record (this project's profile):
 ///
@@ -147,6 +148,31 @@ impl Record {
             utc,
             payload: ArrayVec::new(),
         }
+    }
+
+    /// Makes it the record of these fields, in the memory that it has.
+    pub(crate) fn refill(
+        &mut self,
+        kind: Kind,
+        group: u8,
+        bits: u64,
+        place: u64,
+        number: u64,
+        tick: u64,
+        utc: i64,
+        payload: &[u8],
+    )
+        requires { Carries (record { content = content_of kind payload.now; group = group; bits = bits; place = place; number = number; tick = tick; utc = utc }) payload.now }
+        ensures { self.new ≡ record { content = content_of kind payload.now; group = group; bits = bits; place = place; number = number; tick = tick; utc = utc } }
+    {
+        self.kind = kind;
+        self.group = group;
+        self.bits = bits;
+        self.place = place;
+        self.number = number;
+        self.tick = tick;
+        self.utc = utc;
+        refill(&mut self.payload, payload);
     }
 
     /// What it says: of a Datagram its bytes, and of a Gap its counts.

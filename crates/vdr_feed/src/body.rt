@@ -9,18 +9,20 @@ use crate::filling::fill;
 use arrayvec::ArrayVec;
 use vdr_outside::{Failed, Source};
 
+/// The most bytes of a body that are kept.
+pub(crate) const KEPT: usize = 1473;
+
 // Passes over so many bytes, or fewer where the input ends. It says how many.
-fn skip<I: Source>(input: &mut I, count: usize) -> Result<usize, Failed>
+fn skip<I: Source>(input: &mut I, count: usize, scratch: &mut [u8; KEPT]) -> Result<usize, Failed>
     ensures bytes { IfOk result (λ n. (bytes : List ℕ) × (length bytes ≡ n) × Consumes (I.left input.old) (I.left input.new) bytes) }
     ensures bound { IfOk result (λ n. n ≤ count) }
     ensures end { IfOk result (λ n. n < count → IsAtEnd (I.left input.new)) }
     ensures part { OnErr result (ReadsFewer count (I.left input.old) (I.left input.new)) }
     ensures cause { HasCause (I.faults input.old) (I.faults input.new) result }
 {
-    let mut scratch = [0; 512];
     let mut left = count;
     while left > 0 {
-        let piece = left.min(512);
+        let piece = left.min(KEPT);
         let got = fill(input, &mut scratch[..piece])?;
         left -= got;
         if got < piece {
@@ -31,7 +33,7 @@ fn skip<I: Source>(input: &mut I, count: usize) -> Result<usize, Failed>
 }
 
 // Puts these bytes in the place of those that are held.
-fn refill(into: &mut ArrayVec<u8, 1473>, bytes: &[u8])
+fn refill(into: &mut ArrayVec<u8, KEPT>, bytes: &[u8])
     requires { length bytes.now ≤ 1473 }
     ensures { into.new.items ≡ bytes.now }
 {
@@ -39,25 +41,26 @@ fn refill(into: &mut ArrayVec<u8, 1473>, bytes: &[u8])
     let _ = into.try_extend_from_slice(bytes);
 }
 
-/// Reads a body of so many bytes, of which the first 1,473 are kept. It answers false where the input ends before.
+/// Reads a body of so many bytes, of which the first 1,473 are kept. It answers false where the input ends before. What stands
+/// in the scratch is of no matter.
 pub(crate) fn read_body<I: Source>(
     input: &mut I,
     len: usize,
-    into: &mut ArrayVec<u8, 1473>,
+    scratch: &mut [u8; KEPT],
+    into: &mut ArrayVec<u8, KEPT>,
 ) -> Result<bool, Failed>
     ensures body { IfOk result (λ whole. ReadsBody (I.left input.old) (I.left input.new) len whole into.new.items) }
     ensures part { OnErr result (ReadsFewer len (I.left input.old) (I.left input.new)) }
     ensures cause { HasCause (I.faults input.old) (I.faults input.new) result }
 {
-    let kept = len.min(1473);
-    let mut buffer = [0; 1473];
-    let part = &mut buffer[..kept];
+    let kept = len.min(KEPT);
+    let part = &mut scratch[..kept];
     let got = fill(input, part)?;
     if got < kept {
         return Ok(false);
     }
     refill(into, part);
-    let passed = skip(input, len - kept)?;
+    let passed = skip(input, len - kept, scratch)?;
     if passed < len - kept {
         return Ok(false);
     }

@@ -7,7 +7,7 @@ ghost use Rattle.vdr_feed.specs.Reader.{ReadsItem, IfKnown, IfStopped};
 ghost use Rattle.vdr_feed.specs.declared.fault.Stop.TheVariants.{Failed as StopFailed};
 
 use crate::Item;
-use crate::body::read_body;
+use crate::body::{KEPT, read_body};
 use crate::fault::Stop;
 use crate::filling::fill;
 use crate::head::{fault_of_head, length_of, received_of, utc_of};
@@ -38,12 +38,13 @@ fn read_past_limit<I: Source>(
 }
 
 /// Reads the next item and answers the length of its body, or None at the end. It stands after `count` others, the last of which
-/// was received at `floor`.
+/// was received at `floor`. What stands in the scratch is of no matter.
 pub(crate) fn read_item<I: Source>(
     limit: u64,
     count: u64,
     floor: u64,
     input: &mut I,
+    scratch: &mut [u8; KEPT],
     into: &mut Item,
 ) -> Result<Option<u16>, Stop>
     ensures kept { IfOk result (λ len. len ≡ None → into.new ≡ into.old) }
@@ -68,7 +69,7 @@ pub(crate) fn read_item<I: Source>(
         return Err(Stop::Refused(number));
     }
     let len = length_of(&head);
-    if !read_body(input, len as usize, &mut into.bytes)? {
+    if !read_body(input, len as usize, scratch, &mut into.bytes)? {
         return Err(Stop::Refused(2));
     }
     into.group = head[0];

@@ -6,6 +6,7 @@ ghost use Rattle.vdr_feed.specs.Feed.{feed_header, fault_of};
 ghost use Rattle.vdr_feed.specs.declared.fault.FeedFault.{FeedFault as Stopped};
 ghost use Rattle.vdr_feed.specs.declared.fault.FeedFault.TheVariants.{Fault};
 
+use crate::body::KEPT;
 use crate::fault::Stop;
 use crate::head::read_header;
 use crate::next::read_item;
@@ -25,6 +26,8 @@ pub struct FeedReader {
     offset: u64,
     begun: bool,
     stopped: Option<FeedFault>,
+    // Where a body is read. It takes no part in what the reader is.
+    scratch: [u8; KEPT],
 }
 
 impl Model for FeedReader {
@@ -53,6 +56,7 @@ impl FeedReader {
             offset: 0,
             begun: false,
             stopped: None,
+            scratch: [0; KEPT],
         }
     }
 
@@ -121,7 +125,14 @@ impl FeedReader {
         if let Some(stopped) = self.stopped {
             return Err(stopped);
         }
-        match read_item(self.limit, self.count, self.floor, input, into) {
+        match read_item(
+            self.limit,
+            self.count,
+            self.floor,
+            input,
+            &mut self.scratch,
+            into,
+        ) {
             Ok(Some(len)) => {
                 self.count += 1;
                 self.floor = into.received;

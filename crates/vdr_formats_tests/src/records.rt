@@ -1,10 +1,13 @@
+ghost use Rattle.std.specs.Prelude.{◌≡◌, ◌≤◌};
+
 use arrayvec::ArrayVec;
 use std::process::Abort;
 use std::test::Fail;
 use vdr_entry::{
-    Content, Counts, Kind, Record, law_of_stamps, one_spelling, put_record, read_record, read_utc,
-    record_at, write_record, write_utc,
+    Content, Counts, Kind, Record, RecordBuffer, law_of_stamps, one_spelling, put_record,
+    read_record, read_utc, record_at, write_record, write_utc,
 };
+use vdr_terms::{Verdict, recordable};
 
 /// Seconds since 1970 and their texts, as `date -u` of GNU coreutils prints them.
 const UTC: [(i64, &str); 8] = [
@@ -147,4 +150,41 @@ fn a_gap_is_written_and_read(rt: HostRuntime) {
         panic!(rt; "no gap");
     };
     assert!(rt; counts == MISSED);
+}
+
+// They are the same record.
+fn assert_same(rt: &impl Abort, item: &Record, other: &Record) {
+    assert!(rt; numbers_of(item) == numbers_of(other));
+    assert!(rt; item.payload.as_slice() == other.payload.as_slice());
+}
+
+// The records of a buffer are those that the constructors make, whatever stood in its memory before.
+fn assert_made(rt: &impl Abort, buffer: &mut RecordBuffer, bytes: &[u8])
+    requires { 4 ≤ buffer.old.capacity }
+    ensures { buffer.new.capacity ≡ buffer.old.capacity }
+{
+    assert!(rt; recordable(bytes) == Verdict::Yes);
+    buffer.clear();
+    assert!(rt; buffer.as_slice().is_empty());
+    buffer.push_datagram(3, 1, 7, 2, 61_000, 60_000, bytes);
+    buffer.push_start(3, 6, 61_000, 60_000);
+    buffer.push_gap(3, 1, 8, 16, 61_000, 60_000, MISSED);
+    buffer.push_stop(3, 9, 61_000, 60_000);
+    let records = buffer.as_slice();
+    assert!(rt; records.len() == 4);
+    let made = Record::datagram(3, 1, 7, 2, 61_000, 60_000, bytes);
+    assert_same(rt, &records[0], &made);
+    assert_same(rt, &records[1], &Record::start(3, 6, 61_000, 60_000));
+    let made = Record::gap(3, 1, 8, 16, 61_000, 60_000, MISSED);
+    assert_same(rt, &records[2], &made);
+    assert_same(rt, &records[3], &Record::stop(3, 9, 61_000, 60_000));
+}
+
+#[test]
+fn a_buffer_makes_what_the_constructors_make(rt: HostRuntime) -> Result<(), Fail> {
+    let mut buffer = RecordBuffer::with_capacity(rt.alloc(), 4)?;
+    assert_made(&rt, &mut buffer, b"AbCdE\0 and some more");
+    assert_made(&rt, &mut buffer, b"AbCdE\0");
+    assert_made(&rt, &mut buffer, b"AbCdE\0 and more");
+    Ok(())
 }

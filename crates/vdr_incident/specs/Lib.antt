@@ -2,3 +2,4 @@
 pub mod Saves
 pub mod Fields
 pub mod Tables
+pub mod Calls

@@ -1,15 +1,9 @@
 -- The incident slots of the long-term medium, which is medium 1 (this project's profile; IMO MSC.333(90) asks that the record of
 -- an incident be kept).
-use Rattle.std.specs.Prelude.{◌≡◌, ◌⊎◌, ◌<◌, ◌≤◌, ◌+◌, ◌*◌, ℕ, zero, suc, List, length, get_or, Option, Result, IsErrOf}
+use Rattle.std.specs.Prelude.{◌≡◌, ◌⊎◌, ◌<◌, ◌≤◌, ◌+◌, ◌*◌, ℕ, zero, suc, List, length, get_or, Option}
 use Rattle.vdr_history.specs.Histories.{Incident}
-use Rattle.vdr_outside.specs.Causes.{NoneFalls, Rose, counted}
+use Rattle.vdr_outside.specs.Causes.{counted}
 use Rattle.vdr_outside.specs.Parts.{Slots, part}
-use Rattle.vdr_outside.specs.declared.fault.PartRefused.{PartRefused}
-use Rattle.vdr_outside.specs.declared.fault.PartRefused.TheVariants.{Fault}
-use Rattle.vdr_incident.specs.declared.refused.TableRefused.{TableRefused}
-use Rattle.vdr_incident.specs.declared.refused.TableRefused.TheVariants.{Fault as save_fault}
-use Rattle.vdr_incident.specs.declared.refused.ReleaseRefused.{ReleaseRefused}
-use Rattle.vdr_incident.specs.declared.refused.ReleaseRefused.TheVariants.{Fault as release_fault}
 use Rattle.vdr_incident.specs.Saves.{IsIncidentSlot}
 
 -- Where an incident slot begins.
@@ -48,19 +42,6 @@ pub record Refuses (slots : ℕ) (bytes : List ℕ) (offset : ℕ) : Type 0 wher
   pub legal : (table : List (Option Incident)) × HoldsTable slot table bytes
   pub broken : (saved : Option Incident) → IsIncidentSlot (part bytes (place_of slot) 256) saved → ⊥
   pub at : offset ≡ place_of slot
-
--- The count of no medium falls. A fault comes only where that of medium 1 rose.
-pub record HasFaultCause {T : Type 0} (before now : List ℕ) (result : Result T PartRefused) : Type 0 where
-  pub later : NoneFalls before now
-  pub rose : IsErrOf result Fault → Rose (get_or before 1 0) (get_or now 1 0)
-
-pub record HasSaveCause {T : Type 0} (before now : List ℕ) (result : Result T TableRefused) : Type 0 where
-  pub later : NoneFalls before now
-  pub rose : IsErrOf result save_fault → Rose (get_or before 1 0) (get_or now 1 0)
-
-pub record HasReleaseCause {T : Type 0} (before now : List ℕ) (result : Result T ReleaseRefused) : Type 0 where
-  pub later : NoneFalls before now
-  pub rose : IsErrOf result release_fault → Rose (get_or before 1 0) (get_or now 1 0)
 
 -- How many bytes of each medium were read after so many slots.
 abbrev pub counted_slots : List ℕ → ℕ → List ℕ

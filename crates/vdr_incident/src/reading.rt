@@ -5,7 +5,8 @@ ghost use Rattle.vdr_outside.specs.Disk.{Unchanged, content};
 ghost use Rattle.vdr_outside.specs.Parts.{part};
 ghost use Rattle.vdr_outside.specs.declared.fault.PartRefused.TheVariants.{Damaged, NoMemory};
 ghost use Rattle.vdr_incident.specs.Saves.{IsIncidentSlot};
-ghost use Rattle.vdr_incident.specs.Tables.{HasIncidents, HasFaultCause, HoldsTable, Refuses, ReadsSlots, place_of};
+ghost use Rattle.vdr_incident.specs.Tables.{HasIncidents, HoldsTable, Refuses, ReadsSlots, place_of};
+ghost use Rattle.vdr_incident.specs.Calls.{HasFaultCause};
 
 use crate::Save;
 use crate::save::{SLOT_SIZE, saved_in};

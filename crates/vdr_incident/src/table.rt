@@ -1,11 +1,12 @@
-ghost use Rattle.std.specs.Prelude.{◌≡◌, ◌≤◌, ◌<◌, ◌↔◌, ◌+◌, ℕ, suc, Option, Some, None, is_none, position, set, length, option_map, option_copied, Err, Ok, OnOk, IfOk, OnErr, IfSome, IsSome, IsTrue, count_by, is_some};
+ghost use Rattle.std.specs.Prelude.{◌≡◌, ◌≤◌, ◌<◌, ◌↔◌, ◌+◌, ℕ, suc, Option, Some, None, is_none, position, set, length, option_copied, Err, Ok, OnOk, IfOk, IsErrOf, OnErr, IfSome, IsSome, IsTrue, count_by, is_some};
 ghost use Rattle.vdr_history.specs.Histories.{Incident, live, with_slot};
-ghost use Rattle.vdr_outside.specs.Disk.{Unchanged, Rises, SameBut, content};
+ghost use Rattle.vdr_outside.specs.Disk.{content};
 ghost use Rattle.vdr_outside.specs.Moments.{ChangesOnly, Settled};
 ghost use Rattle.vdr_outside.specs.declared.fault.PartRefused.TheVariants.{Damaged, NoMemory};
-ghost use Rattle.vdr_incident.specs.declared.refused.TableRefused.TheVariants.{TableFull};
-ghost use Rattle.vdr_incident.specs.declared.refused.ReleaseRefused.TheVariants.{NoSuch};
-ghost use Rattle.vdr_incident.specs.Tables.{HasIncidents, HasFaultCause, HoldsTable, HoldsBeside, HoldsEither, HasSaveCause, HasReleaseCause, Refuses, ReadsSlots};
+ghost use Rattle.vdr_incident.specs.declared.refused.TableRefused.TheVariants.{Fault as SaveFault, TableFull};
+ghost use Rattle.vdr_incident.specs.declared.refused.ReleaseRefused.TheVariants.{Fault as ReleaseFault, NoSuch};
+ghost use Rattle.vdr_incident.specs.Tables.{HasIncidents, HoldsTable, HoldsBeside, HoldsEither, Refuses};
+ghost use Rattle.vdr_incident.specs.Calls.{PutsSave, ReadsTable, WritesUnlessRefused};
 
 use crate::reading::read_slots;
 use crate::save::Save;
@@ -50,9 +51,7 @@ impl Table {
         ensures size { IfOk result (λ table. length table ≡ slots) }
         ensures damaged { (m offset : ℕ) → result ≡ Err (Damaged m offset) → (m ≡ 1) × (M.tells → Refuses slots (content (M.disk media.old).reads 1) offset) }
         ensures memory { result ≡ Err NoMemory → ⊥ }
-        ensures unchanged { Unchanged (M.disk media.old) (M.disk media.new) }
-        ensures counts { ReadsSlots slots (M.bytes_read media.old) (M.bytes_read media.new) }
-        ensures cause { HasFaultCause (M.faults media.old) (M.faults media.new) result }
+        ensures reads { ReadsTable M.Media slots media.old media.new result }
     {
         let saves = read_slots(media, slots)?;
         Ok(Table { saves })
@@ -95,18 +94,12 @@ impl Table {
         requires incidents { HasIncidents (M.disk media.old).sizes }
         ensures full { position is_none self.old ≡ None → (result ≡ Err TableFull) × (media.new ≡ media.old) }
         ensures refused { result ≡ Err TableFull → position is_none self.old ≡ None }
-        ensures id { IfOk result (λ id. option_map suc (position is_none self.old) ≡ Some id) }
-        ensures table { IfOk result (λ id. self.new ≡ with_slot self.old id (Some save.now)) }
-        ensures kept { OnErr result (self.new ≡ self.old) }
+        ensures saved { PutsSave self.old self.new save.now result }
         ensures moments { (slots slot : ℕ) → Settled 1 (HoldsTable slots self.old) (M.disk media.old) → position is_none self.old ≡ Some slot
             → ChangesOnly 1 (HoldsEither slot slots self.old (with_slot self.old (suc slot) (Some save.now)) (content (M.disk media.old).reads 1)) (M.disk media.old) (M.disk media.new) }
         ensures settled { (slots slot : ℕ) → Settled 1 (HoldsTable slots self.old) (M.disk media.old) → position is_none self.old ≡ Some slot
             → OnOk result (Settled 1 (HoldsBeside slot slots (with_slot self.old (suc slot) (Some save.now)) (content (M.disk media.old).reads 1)) (M.disk media.new)) }
-        ensures others { M.tells → SameBut 1 (M.disk media.old).reads (M.disk media.new).reads }
-        ensures sizes { (M.disk media.new).sizes ≡ (M.disk media.old).sizes }
-        ensures rises { (result ≡ Err TableFull → ⊥) → Rises (M.disk media.old) (M.disk media.new) }
-        ensures counts { M.bytes_read media.new ≡ M.bytes_read media.old }
-        ensures cause { HasSaveCause (M.faults media.old) (M.faults media.new) result }
+        ensures writes { WritesUnlessRefused M.Media media.old media.new (result ≡ Err TableFull) (IsErrOf result SaveFault) }
     {
         let Some(slot) = self.free_slot() else {
             return Err(TableRefused::TableFull);
@@ -145,11 +138,7 @@ impl Table {
             → ChangesOnly 1 (HoldsEither slot slots self.old (with_slot self.old id None) (content (M.disk media.old).reads 1)) (M.disk media.old) (M.disk media.new) }
         ensures settled { (slots slot : ℕ) (x : Incident) → Settled 1 (HoldsTable slots self.old) (M.disk media.old) → id ≡ suc slot → live self.old id ≡ Some x
             → OnOk result (Settled 1 (HoldsBeside slot slots (with_slot self.old id None) (content (M.disk media.old).reads 1)) (M.disk media.new)) }
-        ensures others { M.tells → SameBut 1 (M.disk media.old).reads (M.disk media.new).reads }
-        ensures sizes { (M.disk media.new).sizes ≡ (M.disk media.old).sizes }
-        ensures rises { (result ≡ Err NoSuch → ⊥) → Rises (M.disk media.old) (M.disk media.new) }
-        ensures counts { M.bytes_read media.new ≡ M.bytes_read media.old }
-        ensures cause { HasReleaseCause (M.faults media.old) (M.faults media.new) result }
+        ensures writes { WritesUnlessRefused M.Media media.old media.new (result ≡ Err NoSuch) (IsErrOf result ReleaseFault) }
     {
         let Some(slot) = self.slot_of(id) else {
             return Err(ReleaseRefused::NoSuch);

@@ -1,7 +1,7 @@
 ghost use Rattle.std.specs.Prelude.{◌≡◌, ◌<◌, ℕ, List, set, slice_get, Option, None, Some, OnOk};
 ghost use Rattle.vdr_history.specs.Histories.{Incident};
-ghost use Rattle.vdr_outside.specs.Causes.{HasCauseOn};
-ghost use Rattle.vdr_outside.specs.Disk.{Rises, SameBut, content};
+ghost use Rattle.vdr_outside.specs.Disk.{content};
+ghost use Rattle.vdr_outside.specs.Frames.{WritesTo};
 ghost use Rattle.vdr_outside.specs.Moments.{ChangesOnly, Settled};
 ghost use Rattle.vdr_incident.specs.Tables.{HasIncidents, HoldsTable, HoldsBeside, HoldsEither, place_of};
 
@@ -31,11 +31,7 @@ pub(crate) fn write_save<M: Media>(media: &mut M, slot: u8, save: &Save) -> Resu
         → ChangesOnly 1 (HoldsEither slot slots table (set table slot (Some save.now)) (content (M.disk media.old).reads 1)) (M.disk media.old) (M.disk media.new) }
     ensures settled { (slots : ℕ) (table : List (Option Incident)) → Settled 1 (HoldsTable slots table) (M.disk media.old) → slice_get table slot ≡ Some None
         → OnOk result (Settled 1 (HoldsBeside slot slots (set table slot (Some save.now)) (content (M.disk media.old).reads 1)) (M.disk media.new)) }
-    ensures others { M.tells → SameBut 1 (M.disk media.old).reads (M.disk media.new).reads }
-    ensures sizes { (M.disk media.new).sizes ≡ (M.disk media.old).sizes }
-    ensures rises { Rises (M.disk media.old) (M.disk media.new) }
-    ensures counts { M.bytes_read media.new ≡ M.bytes_read media.old }
-    ensures cause { HasCauseOn 1 (M.faults media.old) (M.faults media.new) result }
+    ensures writes { WritesTo M.Media 1 media.old media.new result }
 {
     let place = place_of(slot);
     write_through(media, LONG_TERM, place + 1, &save.body())?;
@@ -50,11 +46,7 @@ pub(crate) fn close_slot<M: Media>(media: &mut M, slot: u8) -> Result<(), Fault>
         → ChangesOnly 1 (HoldsEither slot slots table (set table slot None) (content (M.disk media.old).reads 1)) (M.disk media.old) (M.disk media.new) }
     ensures settled { (slots : ℕ) (table : List (Option Incident)) (x : Incident) → Settled 1 (HoldsTable slots table) (M.disk media.old) → slice_get table slot ≡ Some (Some x)
         → OnOk result (Settled 1 (HoldsBeside slot slots (set table slot None) (content (M.disk media.old).reads 1)) (M.disk media.new)) }
-    ensures others { M.tells → SameBut 1 (M.disk media.old).reads (M.disk media.new).reads }
-    ensures sizes { (M.disk media.new).sizes ≡ (M.disk media.old).sizes }
-    ensures rises { Rises (M.disk media.old) (M.disk media.new) }
-    ensures counts { M.bytes_read media.new ≡ M.bytes_read media.old }
-    ensures cause { HasCauseOn 1 (M.faults media.old) (M.faults media.new) result }
+    ensures writes { WritesTo M.Media 1 media.old media.new result }
 {
     write_through(media, LONG_TERM, place_of(slot), &[CLOSED_GATE])
 }

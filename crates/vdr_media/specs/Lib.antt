@@ -5,3 +5,4 @@ pub mod Formatted
 pub mod Answers
 pub mod Formatting
 pub mod Writing
+pub mod Calls

@@ -1,12 +1,12 @@
-ghost use Rattle.std.specs.Prelude.{◌≡◌, ◌<◌, ◌≤◌, true, false, length, Ok, All, OnOk, IfOk};
+ghost use Rattle.std.specs.Prelude.{◌≡◌, ◌<◌, ◌≤◌, true, false, length, All, OnOk, IfOk};
 ghost use Rattle.vdr_outside.specs.Causes.{HasCauseOn};
 ghost use Rattle.vdr_outside.specs.Disk.{Durable, Unchanged};
-ghost use Rattle.vdr_outside.specs.Moments.{AtEachMoment, Settled};
+ghost use Rattle.vdr_outside.specs.Moments.{Settled};
 ghost use Rattle.vdr_config.specs.Configuration.{Configuration};
-ghost use Rattle.vdr_config.specs.Grammar.{configuration};
 ghost use Rattle.vdr_media.specs.Medium.{IsEmptyMedium};
-ghost use Rattle.vdr_media.specs.Formatted.{members, IsEmptyHistoryOf, SameBeside};
-ghost use Rattle.vdr_media.specs.Answers.{TextTested, FormattedTested, RoomTested, IfRefused, IfTextRefused, KnownFormatted, KnownUnformatted, HasFaultCause, ReadsOneByte, room};
+ghost use Rattle.vdr_media.specs.Formatted.{members, IsEmptyHistoryOf};
+ghost use Rattle.vdr_media.specs.Answers.{KnownFormatted, KnownUnformatted, ReadsOneByte};
+ghost use Rattle.vdr_media.specs.Calls.{IsTested, LeavesRefused, WritesToMembers};
 ghost use Rattle.vdr_media.specs.Formatting.{FormatsAtEachMoment};
 
 use crate::emptying::make_all_empty;
@@ -50,15 +50,9 @@ pub fn format<M: Media>(
     requires two { 2 ≤ length (M.disk media.old).sizes }
     requires three { length (M.disk media.old).sizes ≤ 3 }
 
-    // The three tests, in their order.
-    ensures config { TextTested result (configuration text.now) }
-    ensures formatted { FormattedTested result again (KnownFormatted (M.disk media.old)) (KnownUnformatted (M.disk media.old)) (Unchanged (M.disk media.old) (M.disk media.new)) }
-    ensures small { (c : Configuration) → configuration text.now ≡ Ok c
-        → RoomTested result (room c (M.disk media.old).sizes) (Unchanged (M.disk media.old) (M.disk media.new)) }
-
-    // What a refusal leaves: the object itself where only the text was looked at, else all that it tells.
-    ensures unasked { IfTextRefused result (media.new ≡ media.old) }
-    ensures untouched { IfRefused result (Unchanged (M.disk media.old) (M.disk media.new)) }
+    // The three tests, in their order, and what a refusal leaves.
+    ensures tested { IsTested result again text.now (M.disk media.old) (M.disk media.new) }
+    ensures refused { LeavesRefused M.Media media.old media.new result }
 
     // What a success leaves, and a stop after it.
     ensures done { OnOk result ((c : Configuration)
@@ -69,11 +63,7 @@ pub fn format<M: Media>(
         → FormatsAtEachMoment (M.disk media.old) (M.disk media.new) result (IsEmptyHistoryOf (members (M.disk media.old).sizes) text.now) }
 
     // Other media are as before, as they read and as a stop leaves them.
-    ensures others { M.tells → SameBeside (members (M.disk media.old).sizes) (λ image. image ≡ (M.disk media.old).reads) (M.disk media.new).reads }
-    ensures others_meanwhile { AtEachMoment (M.disk media.old) (M.disk media.new) (SameBeside (members (M.disk media.old).sizes) (M.disk media.old).now) }
-    ensures sizes { (M.disk media.new).sizes ≡ (M.disk media.old).sizes }
-    ensures counts { ReadsOneByte (M.bytes_read media.old) (M.bytes_read media.new) }
-    ensures cause { HasFaultCause (members (M.disk media.old).sizes) (M.faults media.old) (M.faults media.new) result }
+    ensures writes { WritesToMembers M.Media media.old media.new result }
 {
     let config = read_config(alloc, text)?;
     let formatted = are_formatted(media)?;

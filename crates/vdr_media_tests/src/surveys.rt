@@ -75,9 +75,10 @@ fn a_survey_tells_end_extent_and_order(rt: HostRuntime) {
 fn stepped(segment: &[u8; SEGMENT_SIZE]) -> ([u64; 4], Option<usize>) {
     let mut places = [0; 4];
     let mut position = Position::front();
+    let mut item = Record::start(0, 0, 0, 0);
     for place in &mut places {
-        match step(segment, position) {
-            Ok(Some((item, next))) => {
+        match step(segment, position, &mut item) {
+            Ok(Some(next)) => {
                 *place = item.place;
                 position = next;
             }

@@ -1,18 +1,21 @@
 -- What opening answers.
-use Rattle.std.specs.Prelude.{◌≡◌, ◌⊎◌, ◌∷◌, ℕ, List, [], get_or, sum, Any, Option, Result, IsErrOf}
+use Rattle.std.specs.Prelude.{◌≡◌, ◌≢◌, ◌⊎◌, ◌≤◌, ◌+◌, ◌∷◌, ℕ, List, [], length, get_or, sum, All, Any, Option, Result, Err, IsErrOf}
 use Rattle.vdr_terms.specs.Records.{Record}
 use Rattle.vdr_terms.specs.Needs.{slots_in}
+use Rattle.vdr_terms.specs.Sizes.{batch_size}
 use Rattle.vdr_history.specs.Histories.{Incident}
 use Rattle.vdr_durability.specs.Readings.{Reading, AreLevel, EndsMeet, IsPassedOn}
 use Rattle.vdr_outside.specs.Causes.{NoneFalls, Rose}
-use Rattle.vdr_outside.specs.Disk.{Disk}
+use Rattle.vdr_outside.specs.Disk.{Disk, Durable}
 use Rattle.vdr_config.specs.Configuration.{Configuration}
 use Rattle.vdr_config.specs.Sizes.{sizes_of, window_of}
+use Rattle.vdr_media.specs.Formatted.{IsFormatted, IsUnformatted}
 use Rattle.vdr_ring.specs.Rings.{RingState, HasMedium}
 use Rattle.vdr_ring.specs.Rings as rings
 use Rattle.vdr_opening.specs.declared.refused.OpenRefused.{OpenRefused}
-use Rattle.vdr_opening.specs.declared.refused.OpenRefused.TheVariants.{Fault}
+use Rattle.vdr_opening.specs.declared.refused.OpenRefused.TheVariants.{Damaged, Fault, NotFormatted}
 use Rattle.vdr_opening.specs.Media.{both, Contents, HoldsContents, reading_of}
+use Rattle.vdr_opening.specs.Refusals.{IsRefused}
 
 -- What was opened: the configuration, a ring on each medium, the incidents, and the batch that the long-term medium lacks, if any.
 pub record OpenedState : Type 0 where
@@ -30,6 +33,16 @@ pub record IsRingOf (c : Configuration) (sizes : List ℕ) (m : ℕ) (ring : Rin
   pub seconds : ring.seconds ≡ window_of c m
   pub room : HasMedium ring sizes
 
+-- What was opened is of media of these sizes: each ring is that of its medium, the table has the configured slots, and the batch that
+-- the long-term medium lacks fits a segment.
+pub record FitsMedia (o : OpenedState) (sizes : List ℕ) : Type 0 where
+  -- each ring is that of its medium
+  pub rings : IsRingOf o.config sizes 0 o.capsule × IsRingOf o.config sizes 1 o.long_term
+  -- the table has the configured slots
+  pub slots : length o.table ≡ o.config.incident_slots
+  -- the batch that is missing fits an empty segment
+  pub fits : o.missing ≢ [] → 64 + batch_size o.missing + 1 ≤ o.config.segment
+
 -- The long-term medium lacks this batch, which is the capsule's last one; or it lacks none.
 abbrev pub IsMissing : List Record → Reading → Type 0
 IsMissing missing reading = ((missing ≡ []) × AreLevel both reading) ⊎ IsPassedOn both (0 ∷ []) (1 ∷ []) missing reading
@@ -44,6 +57,13 @@ module _ {tells tells_images : Type 0} where
     pub long_term : rings.Reads o.long_term (x.placed 1) disk
     pub table : o.table ≡ x.table
     pub missing : IsMissing o.missing (reading_of x)
+
+  -- The media that are read were not formatted, or this is the first part that is not legal.
+  pub record RefusesAsRead {T : Type 0} (result : Result T OpenRefused) (disk : Disk tells tells_images) : Type 0 where
+    -- the media were not formatted
+    pub unformatted : result ≡ Err NotFormatted → tells → IsUnformatted disk.reads
+    -- this is the first part that is not legal, where nothing was unsynced
+    pub damaged : (m offset : ℕ) → result ≡ Err (Damaged m offset) → tells → All (λ k. Durable k disk) both → IsFormatted disk.reads × IsRefused disk.reads m offset
 
 -- No count of faults falls, and a fault comes only where that of one of the media rose, and so their sum.
 pub record HasOpenCause {T : Type 0} (before now : List ℕ) (result : Result T OpenRefused) : Type 0 where

@@ -1,13 +1,11 @@
-ghost use Rattle.std.specs.Prelude.{◌≡◌, ◌≢◌, ◌+◌, ◌≤◌, ℕ, [], length, All, IfOk, Err};
-ghost use Rattle.vdr_terms.specs.Sizes.{batch_size};
+ghost use Rattle.std.specs.Prelude.{◌≡◌, ◌≤◌, ℕ, length, All, IfOk, Err};
 ghost use Rattle.vdr_outside.specs.Disk.{Durable, Unchanged};
 ghost use Rattle.vdr_outside.specs.declared.fault.PartRefused.TheVariants.{Damaged as PartDamaged};
-ghost use Rattle.vdr_media.specs.Formatted.{IsFormatted, IsUnformatted};
+ghost use Rattle.vdr_media.specs.Formatted.{IsFormatted};
 ghost use Rattle.vdr_opening.specs.Media.{Contents, both};
 ghost use Rattle.vdr_opening.specs.Refusals.{IsRefused};
-ghost use Rattle.vdr_opening.specs.Answers.{HasOpenCause, IsOpened, IsRingOf};
+ghost use Rattle.vdr_opening.specs.Answers.{FitsMedia, HasOpenCause, IsOpened, RefusesAsRead};
 ghost use Rattle.vdr_opening.specs.Parts.{HasPartCause};
-ghost use Rattle.vdr_opening.specs.declared.refused.OpenRefused.TheVariants.{Damaged, NotFormatted};
 
 use crate::ends::missing_batch;
 use crate::medium::{Capsule, open_capsule, open_long_term};
@@ -21,9 +19,7 @@ use vdr_outside::{Media, PartRefused};
 fn read_formatted<M: Media>(alloc: Global, media: &mut M) -> Result<Opened, PartRefused>
     requires { 2 ≤ length (M.disk media.old).sizes }
     ensures opened { IfOk result (λ o. M.tells → All (λ m. Durable m (M.disk media.old)) both → (x : Contents) × IsOpened o x (M.disk media.new)) }
-    ensures rings { IfOk result (λ o. IsRingOf o.config (M.disk media.old).sizes 0 o.capsule × IsRingOf o.config (M.disk media.old).sizes 1 o.long_term) }
-    ensures slots { IfOk result (λ o. length o.table ≡ o.config.incident_slots) }
-    ensures fits { IfOk result (λ o. o.missing ≢ [] → 64 + batch_size o.missing + 1 ≤ o.config.segment) }
+    ensures shape { IfOk result (λ o. FitsMedia o (M.disk media.old).sizes) }
     ensures damaged { (m offset : ℕ) → result ≡ Err (PartDamaged m offset) → M.tells → All (λ k. Durable k (M.disk media.old)) both → IsRefused (M.disk media.old).reads m offset }
     ensures unchanged { Unchanged (M.disk media.old) (M.disk media.new) }
     ensures cause { HasPartCause (M.faults media.old) (M.faults media.new) result }
@@ -56,12 +52,8 @@ pub fn read_media<M: Media>(alloc: Global, media: &mut M) -> Result<Opened, Open
     requires three { length (M.disk media.old).sizes ≤ 3 }
     ensures opened { IfOk result (λ o. M.tells → All (λ m. Durable m (M.disk media.old)) both → (x : Contents) × IsOpened o x (M.disk media.new)) }
     ensures formatted { IfOk result (λ o. M.tells → IsFormatted (M.disk media.old).reads) }
-    ensures rings { IfOk result (λ o. IsRingOf o.config (M.disk media.old).sizes 0 o.capsule × IsRingOf o.config (M.disk media.old).sizes 1 o.long_term) }
-    ensures slots { IfOk result (λ o. length o.table ≡ o.config.incident_slots) }
-    ensures fits { IfOk result (λ o. o.missing ≢ [] → 64 + batch_size o.missing + 1 ≤ o.config.segment) }
-    ensures unformatted { result ≡ Err NotFormatted → M.tells → IsUnformatted (M.disk media.old).reads }
-    ensures damaged { (m offset : ℕ) → result ≡ Err (Damaged m offset) → M.tells → All (λ k. Durable k (M.disk media.old)) both
-        → IsFormatted (M.disk media.old).reads × IsRefused (M.disk media.old).reads m offset }
+    ensures shape { IfOk result (λ o. FitsMedia o (M.disk media.old).sizes) }
+    ensures refused { RefusesAsRead result (M.disk media.old) }
     ensures unchanged { Unchanged (M.disk media.old) (M.disk media.new) }
     ensures cause { HasOpenCause (M.faults media.old) (M.faults media.new) result }
 {

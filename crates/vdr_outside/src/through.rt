@@ -1,6 +1,6 @@
 ghost use Rattle.std.specs.Prelude.{◌≡◌, length, OnOk};
-ghost use Rattle.vdr_outside.specs.Causes.{HasCauseOn};
-ghost use Rattle.vdr_outside.specs.Disk.{InRange, Durable, Overwritten, Rises, SameBut, content, over};
+ghost use Rattle.vdr_outside.specs.Disk.{InRange, Overwritten, content, over};
+ghost use Rattle.vdr_outside.specs.Frames.{WritesThrough};
 ghost use Rattle.vdr_outside.specs.Moments.{AtEachMoment};
 
 use crate::{Fault, Media};
@@ -10,13 +10,8 @@ use crate::{Fault, Media};
 pub fn write_through<M: Media>(media: &mut M, m: u8, at: u64, bytes: &[u8]) -> Result<(), Fault>
     requires range { InRange (M.disk media.old).sizes m at (length bytes.now) }
     ensures reads { OnOk result (M.tells → content (M.disk media.new).reads m ≡ over (content (M.disk media.old).reads m) at bytes.now) }
-    ensures others { M.tells → SameBut m (M.disk media.old).reads (M.disk media.new).reads }
-    ensures durable { OnOk result (Durable m (M.disk media.new)) }
     ensures moments { AtEachMoment (M.disk media.old) (M.disk media.new) (Overwritten m at (length bytes.now) (M.disk media.old).now) }
-    ensures rises { Rises (M.disk media.old) (M.disk media.new) }
-    ensures sizes { (M.disk media.new).sizes ≡ (M.disk media.old).sizes }
-    ensures counts { M.bytes_read media.new ≡ M.bytes_read media.old }
-    ensures cause { HasCauseOn m (M.faults media.old) (M.faults media.new) result }
+    ensures writes { WritesThrough M.Media m media.old media.new result }
 {
     media.write(m, at, bytes)?;
     media.sync(m)?;

@@ -1,5 +1,5 @@
 -- What a maker has taken of a batch, item by item.
-use Rattle.std.proofs.Common.{◌≡◌, ◌≢◌, ◌≤◌, ◌<◌, ◌+◌, ◌*◌, ◌^◌, ℕ, List, [], ◌∷◌, ◌++◌, length, take, drop, sum_by, ◌==◌, vec_capacity, get_or, refl, sym, ap, ◌∙◌, subst, arith, ⊎_elim, append_assoc, zero-add}
+use Rattle.std.proofs.Common.{◌≡◌, ◌≢◌, ◌≤◌, ◌<◌, ◌+◌, ◌*◌, ◌^◌, ℕ, List, [], ◌∷◌, ◌++◌, length, take, drop, sum_by, ◌==◌, get_or, refl, sym, ap, ◌∙◌, subst, arith, ⊎_elim, append_assoc, zero-add}
 use Rattle.std.proofs.lemmas.Bool.{cases_eq, eq-eqb, ne_eqb, cond-true, cond-false}
 use Rattle.std.proofs.lemmas.List.{take_more, take-append-drop}
 use Rattle.std.proofs.lemmas.List.Sums.{sum_by-append}
@@ -21,7 +21,7 @@ pub record HasTaken (config : Configuration) (k : ℕ) (items : List Captured) (
   pub place : after.place ≡ before.place + length after.records.items
   pub few : length after.records.items ≤ 2 * k
   pub numbers : (g : ℕ) → g < 16 → next_number (counted_of after g).pending ≡ next_number (counted_of before g).pending + numbers_of g (take k items)
-  pub room : vec_capacity before.records ≤ vec_capacity after.records
+  pub room : before.records.capacity ≤ after.records.capacity
 
 numbers_append : (g : ℕ) (xs ys : List Captured) → numbers_of g (xs ++ ys) ≡ numbers_of g xs + numbers_of g ys
 numbers_append g xs ys = ap (sum_by (λ (c : Captured). total c.missed + 1)) (filter-append (λ (c : Captured). c.group == g) xs ys)

@@ -1,5 +1,5 @@
 -- The closing gaps, group by group.
-use Rattle.std.proofs.Common.{◌≡◌, ◌≢◌, ◌≤◌, ◌<◌, ◌+◌, ℕ, zero, suc, List, [], ◌∷◌, ◌++◌, length, Option, slice_index_or, slice_set, vec_capacity, refl, sym, ap, ◌∙◌, subst, arith, add-one, add-zero, append_assoc, length-append, length-set, ⊎_elim, get_or-set_same, get_or-set_other}
+use Rattle.std.proofs.Common.{◌≡◌, ◌≢◌, ◌≤◌, ◌<◌, ◌+◌, ℕ, zero, suc, List, [], ◌∷◌, ◌++◌, length, Option, slice_index_or, slice_set, refl, sym, ap, ◌∙◌, subst, arith, add-one, add-zero, append_assoc, length-append, length-set, ⊎_elim, get_or-set_same, get_or-set_other}
 use Rattle.std.proofs.lemmas.Bool.{cases_eq}
 use Rattle.vdr_terms.specs.declared.counts.Counts.{Counts}
 use Rattle.vdr_terms.specs.Records.{Record}
@@ -123,7 +123,7 @@ module _ (n : ℕ) (channels : Channels) (rest : List Counts) (before mid after 
     (place : after.place ≡ mid.place + length (gap_records channels n mid.place (mid.base + mid.greatest) mid.utc gap))
     (meter : after.meter ≡ mid.meter)
     (records : after.records.items ≡ mid.records.items ++ gap_records channels n mid.place (mid.base + mid.greatest) mid.utc gap)
-    (room : vec_capacity mid.records ≤ vec_capacity after.records) where
+    (room : mid.records.capacity ≤ after.records.capacity) where
   abbrev mine : List Record
   mine = gap_records channels n (before.place + length (gaps_made n channels before rest)) (before.base + before.greatest) before.utc (gap_after (rest_of rest n) (counted_of before n).pending)
 

@@ -1,5 +1,5 @@
 -- A gap as a maker makes it is the recorder's.
-use Rattle.std.proofs.Common.{◌≡◌, ◌≤◌, ℕ, zero, suc, ℤ, List, [], ◌∷◌, ◌++◌, ◌+◌, length, Option, Some, None, vec_capacity, refl, sym, ap, ◌∙◌, subst, arith}
+use Rattle.std.proofs.Common.{◌≡◌, ◌≤◌, ℕ, zero, suc, ℤ, List, [], ◌∷◌, ◌++◌, ◌+◌, length, Option, Some, None, refl, sym, ap, ◌∙◌, subst, arith}
 use Rattle.vdr_terms.specs.declared.counts.Counts.{Counts}
 use Rattle.vdr_terms.specs.Records.{Record, total}
 use Rattle.vdr_terms.specs.Records.Content.{Gap}
@@ -38,7 +38,7 @@ same_records start c place tick p =
 pub adds_gap : (channels : Channels) (g place tick : ℕ) (utc : ℤ) (gap : Option (ℕ × Counts)) (first : ℕ) (missed : Counts) (x : Record) (before after : Maker)
     → gap ≡ Some (first, missed) → x ≡ make channels g place first tick utc (Gap missed)
     → after.base ≡ before.base → after.greatest ≡ before.greatest → after.utc ≡ before.utc → after.place ≡ before.place + 1 → after.accounts ≡ before.accounts → after.meter ≡ before.meter
-    → after.records.items ≡ before.records.items ++ x ∷ [] → vec_capacity before.records ≤ vec_capacity after.records
+    → after.records.items ≡ before.records.items ++ x ∷ [] → before.records.capacity ≤ after.records.capacity
     → Adds (gap_records channels g place tick utc gap) before after
 adds_gap channels g place tick utc gap first missed x before after told is base greatest utcs places accounts meter records room =
     subst (λ (o : Option (ℕ × Counts)). Adds (gap_records channels g place tick utc o) before after) (sym told)

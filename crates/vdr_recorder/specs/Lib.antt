@@ -6,3 +6,4 @@ pub mod Recordings
 pub mod Refusals
 pub mod Looks
 pub mod Playing
+pub mod Calls

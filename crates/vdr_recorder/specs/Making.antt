@@ -1,5 +1,5 @@
 -- What a maker has counted and made of the items that were taken in a run.
-use Rattle.std.specs.Prelude.{ℕ, zero, suc, ◌+◌, ◌*◌, ◌/◌, ◌≡◌, ◌≢◌, ◌≤◌, ◌<◌, ◌^◌, List, [], ◌++◌, length, sum_by, slice_index_or, slice_set, vec_capacity}
+use Rattle.std.specs.Prelude.{ℕ, zero, suc, ◌+◌, ◌*◌, ◌/◌, ◌≡◌, ◌≢◌, ◌≤◌, ◌<◌, ◌^◌, List, [], ◌++◌, length, sum_by, slice_index_or, slice_set}
 use Rattle.vdr_terms.specs.declared.counts.Counts.{Counts}
 use Rattle.vdr_terms.specs.Records.{Record, none_missed, total}
 use Rattle.vdr_terms.specs.Channels.{Channels}
@@ -57,7 +57,7 @@ run_closed_by start popped rest = closed_run start popped (rest_of rest)
 
 -- The buffer has room for the records of as many items as a batch may have: two of each.
 abbrev pub HasRoom : Configuration → Maker → Type 0
-HasRoom config maker = 2 * (config.batch / least_item) ≤ vec_capacity maker.records
+HasRoom config maker = 2 * (config.batch / least_item) ≤ maker.records.capacity
 
 -- So many numbers of a group these items use up: one each, and one for each item that its port missed before it.
 abbrev pub numbers_of : ℕ → List Captured → ℕ
@@ -76,7 +76,7 @@ pub record Adds (more : List Record) (before after : Maker) : Type 0 where
   pub accounts : after.accounts ≡ before.accounts
   pub meter : after.meter ≡ before.meter
   pub records : after.records.items ≡ before.records.items ++ more
-  pub room : vec_capacity before.records ≤ vec_capacity after.records
+  pub room : before.records.capacity ≤ after.records.capacity
 
 -- The records of an item under the maker's present tick and stamp.
 abbrev pub records_at : Channels → Maker → Captured → List Record
@@ -92,7 +92,7 @@ pub record RecordsItem (channels : Channels) (c : Captured) (before after : Make
   pub accounts : after.accounts ≡ slice_set before.accounts c.group (with_recorded c.missed (counted_of before c.group))
   pub meter : after.meter ≡ before.meter
   pub records : after.records.items ≡ before.records.items ++ records_at channels before c
-  pub room : vec_capacity before.records ≤ vec_capacity after.records
+  pub room : before.records.capacity ≤ after.records.capacity
 
 -- It has taken these items, and the buffer has the records behind these.
 pub record IsMaking (config : Configuration) (start : RunStart) (popped : List Captured) (before : List Record) (maker : Maker) : Type 0 where
@@ -103,7 +103,7 @@ pub record IsMaking (config : Configuration) (start : RunStart) (popped : List C
 pub record TakesOne (before after : Maker) (c : Captured) : Type 0 where
   pub place : after.place + length before.records.items ≡ before.place + length after.records.items
   pub records : length after.records.items ≤ length before.records.items + 2
-  pub room : vec_capacity before.records ≤ vec_capacity after.records
+  pub room : before.records.capacity ≤ after.records.capacity
   pub own : next_number (counted_of after c.group).pending ≡ next_number (counted_of before c.group).pending + total c.missed + 1
   pub others : (g : ℕ) → c.group ≢ g → counted_of after g ≡ counted_of before g
 
@@ -125,4 +125,4 @@ pub record ClosesBelow (n : ℕ) (channels : Channels) (rest : List Counts) (bef
   pub others : (g : ℕ) → n ≤ g → counted_of after g ≡ counted_of before g
   pub meter : after.meter ≡ before.meter
   pub records : after.records.items ≡ before.records.items ++ gaps_made n channels before rest
-  pub room : vec_capacity before.records ≤ vec_capacity after.records
+  pub room : before.records.capacity ≤ after.records.capacity

@@ -1,5 +1,5 @@
 // The records of a run, as they are made of its items.
-ghost use Rattle.std.specs.Prelude.{◌≡◌, ◌≤◌, ◌<◌, ◌+◌, ◌*◌, ◌/◌, ◌^◌, ℕ, [], ◌∷◌, ◌++◌, List, length, replicate, slice_index_or, max, vec_len, vec_capacity, IfOk, IfSome, option_map};
+ghost use Rattle.std.specs.Prelude.{◌≡◌, ◌≤◌, ◌<◌, ◌+◌, ◌*◌, ◌/◌, ◌^◌, ℕ, [], ◌∷◌, ◌++◌, List, length, replicate, slice_index_or, max, IfOk, IfSome, option_map};
 ghost use Rattle.vdr_terms.specs.declared.counts.Counts.{Counts as CountsTold};
 ghost use Rattle.vdr_terms.specs.Records.{Record as Told, second, none_missed, total};
 ghost use Rattle.vdr_terms.specs.Counting.{next_number};
@@ -21,7 +21,7 @@ use std::array;
 use vdr_config::Config;
 use vdr_core::law_of_sums;
 use vdr_datagram::channel_bits;
-use vdr_entry::{Counts, Record};
+use vdr_entry::{Counts, Record, RecordBuffer};
 use vdr_intake::Captured;
 use vdr_meter::Meter;
 
@@ -44,12 +44,12 @@ pub(crate) struct Maker {
     place: u64,
     accounts: [Account; 16],
     meter: Meter,
-    records: Vec<Record>,
+    records: RecordBuffer,
     ghost base_in_time: { base < 2 ^ 62 },
     ghost in_time: { greatest < 2 ^ 48 },
     ghost stamp: { IsStamp utc },
     ghost forward: { meter.second ≤ second (base + greatest) },
-    ghost room: { 17 ≤ vec_capacity records },
+    ghost room: { 17 ≤ records.capacity },
 }
 
 // One for each group.
@@ -57,15 +57,6 @@ fn accounts() -> [Account; 16]
     ensures { result ≡ replicate 16 nothing_counted }
 {
     array::from_fn(|_| Account::new())
-}
-
-// Adds a record to a buffer that has room for it.
-fn push(buffer: &mut Vec<Record>, item: Record)
-    requires { vec_len buffer.old < vec_capacity buffer.old }
-    ensures records { buffer.new.items ≡ buffer.old.items ++ item ∷ [] }
-    ensures room { vec_capacity buffer.old ≤ vec_capacity buffer.new }
-{
-    let _ = buffer.push(item);
 }
 
 impl Maker {
@@ -84,7 +75,7 @@ impl Maker {
             place: 0,
             accounts: accounts(),
             meter: Meter::new(config),
-            records: Vec::with_capacity(alloc, room.max(CLOSING_RECORDS))?,
+            records: RecordBuffer::with_capacity(alloc, room.max(CLOSING_RECORDS))?,
         })
     }
 
@@ -106,8 +97,8 @@ impl Maker {
         self.accounts = accounts();
         self.meter = Meter::new(config);
         self.records.clear();
-        let start = Record::start(marker_bits(config), place, self.base, self.utc);
-        push(&mut self.records, start);
+        self.records
+            .push_start(marker_bits(config), place, self.base, self.utc);
     }
 
     /// Takes items, in this order: those that the rate of their group admits are recorded.
@@ -151,8 +142,9 @@ impl Maker {
         law_of_sums();
         self.records.clear();
         self.push_closing_gaps(config, rest);
-        let stop = Record::stop(marker_bits(config), self.place, self.tick(), self.utc);
-        push(&mut self.records, stop);
+        let tick = self.tick();
+        self.records
+            .push_stop(marker_bits(config), self.place, tick, self.utc);
         self.place += 1;
     }
 
@@ -185,7 +177,7 @@ impl Maker {
 
     // Takes an item: what its port missed before it is pending, and the meter decides.
     fn take(&mut self, config: &Config, item: &Captured)
-        requires room { vec_len self.old.records + 2 ≤ vec_capacity self.old.records }
+        requires room { length self.old.records.items + 2 ≤ self.old.records.capacity }
         requires place { self.old.place + 2 < 2 ^ 63 }
         requires number { item.now.group < 16 → next_number (counted_of self.old item.now.group).pending + total item.now.missed + 1 < 2 ^ 63 }
         ensures making { (start : RunStart) (popped : List CapturedTold) (before : List Told) → IsMaking config.now start popped before self.old
@@ -205,7 +197,7 @@ impl Maker {
 
     // Makes the records of an item under the present tick and stamp.
     fn record(&mut self, config: &Config, item: &Captured)
-        requires room { vec_len self.old.records + 2 ≤ vec_capacity self.old.records }
+        requires room { length self.old.records.items + 2 ≤ self.old.records.capacity }
         requires place { self.old.place + 2 < 2 ^ 63 }
         requires number { next_number (counted_of self.old item.now.group).pending + total item.now.missed + 1 < 2 ^ 63 }
         ensures { RecordsItem (channels_of config.now) item.now self.old self.new }
@@ -220,50 +212,43 @@ impl Maker {
         requires group { group < 16 }
         requires missed { IfSome gap (λ told. 0 < total told.1) }
         requires place { self.old.place + 1 < 2 ^ 63 }
-        requires room { vec_len self.old.records < vec_capacity self.old.records }
+        requires room { length self.old.records.items < self.old.records.capacity }
         ensures { Adds (gap_records (channels_of config.now) group self.old.place (self.old.base + self.old.greatest) self.old.utc gap) self.old self.new }
     {
         let Some((first, missed)) = gap else {
             return;
         };
         let bits = gap_bits(config, group);
-        let item = Record::gap(
-            group,
-            bits,
-            self.place,
-            first,
-            self.tick(),
-            self.utc,
-            missed,
-        );
-        push(&mut self.records, item);
+        let tick = self.tick();
+        self.records
+            .push_gap(group, bits, self.place, first, tick, self.utc, missed);
         self.place += 1;
     }
 
     // Makes the Datagram of an item under the present tick and stamp.
     fn push_datagram(&mut self, config: &Config, item: &Captured)
         requires place { self.old.place + 1 < 2 ^ 63 }
-        requires room { vec_len self.old.records < vec_capacity self.old.records }
+        requires room { length self.old.records.items < self.old.records.capacity }
         ensures { Adds (datagram_record (channels_of config.now) item.now.group self.old.place item.now.number (self.old.base + self.old.greatest) self.old.utc item.now.bytes ∷ []) self.old self.new }
     {
         let bytes = item.bytes.as_slice();
         let bits = channel_bits(config, item.group, bytes);
-        let datagram = Record::datagram(
+        let tick = self.tick();
+        self.records.push_datagram(
             item.group,
             bits,
             self.place,
             item.number,
-            self.tick(),
+            tick,
             self.utc,
             bytes,
         );
-        push(&mut self.records, datagram);
         self.place += 1;
     }
 
     // Makes the closing gaps, in order of group.
     fn push_closing_gaps(&mut self, config: &Config, rest: &[Counts; 16])
-        requires room { vec_len self.old.records + 16 < vec_capacity self.old.records }
+        requires room { length self.old.records.items + 16 < self.old.records.capacity }
         requires place { self.old.place + 17 < 2 ^ 63 }
         requires numbers { (g : ℕ) → g < 16 → next_number (counted_of self.old g).pending + total (rest_of rest.now g) < 2 ^ 63 }
         ensures { ClosesBelow 16 (channels_of config.now) rest.now self.old self.new }

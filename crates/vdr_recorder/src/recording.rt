@@ -1,5 +1,5 @@
 // A recorder without its media, how it is opened, and what it answers without a call on them.
-ghost use Rattle.std.specs.Prelude.{◌≡◌, ◌≤◌, ◌<◌, ◌⊎◌, ℕ, List, [], length, count_by, is_some, option_map, false, Err, IfOk};
+ghost use Rattle.std.specs.Prelude.{◌≡◌, ◌≤◌, ◌<◌, List, [], length, count_by, is_some, option_map, false, Err};
 ghost use Rattle.vdr_core.specs.Ended.{last_tick};
 ghost use Rattle.vdr_history.specs.Histories.{Event, Opening, done, incidents};
 ghost use Rattle.vdr_history.specs.Recorder.{recorder_after};
@@ -8,17 +8,14 @@ ghost use Rattle.vdr_history.specs.Runs.{RunStart};
 ghost use Rattle.vdr_history.specs.Sums.{counted_by, recorded_in};
 ghost use Rattle.vdr_history.specs.Taken.{Captured as CapturedTold};
 ghost use Rattle.vdr_durability.specs.Readings.{AreLevel, EndsMeet};
-ghost use Rattle.vdr_outside.specs.Disk.{SameBut};
-ghost use Rattle.vdr_media.specs.Formatted.{IsFormatted, IsUnformatted};
-ghost use Rattle.vdr_opening.specs.Answers.{HasOpenCause};
 ghost use Rattle.vdr_opening.specs.Media.{Contents, HoldsContents, both, opening_of, reading_of};
-ghost use Rattle.vdr_opening.specs.Refusals.{IsRefused};
 ghost use Rattle.vdr_opening.specs.declared.refused.OpenRefused.TheVariants.{Damaged, NotFormatted};
-ghost use Rattle.vdr_vault.specs.Openings.{LeavesAll, OpensAtEachMoment};
+ghost use Rattle.vdr_vault.specs.Openings.{LeavesAll, OpensAtEachMoment, ReachesLongTerm, RefusesMedia};
 ghost use Rattle.vdr_vault.specs.Regularity.{AreSound};
-ghost use Rattle.vdr_vault.specs.Vaults.{AreRings, IsReadable, ShowsHistory, of_stamp};
+ghost use Rattle.vdr_vault.specs.Vaults.{ShowsHistory};
+ghost use Rattle.vdr_recorder.specs.Calls.{OpensRecording};
 ghost use Rattle.vdr_recorder.specs.Making.{CountsItems};
-ghost use Rattle.vdr_recorder.specs.Recordings.{HasRecorded, TellsLeft};
+ghost use Rattle.vdr_recorder.specs.Recordings.{TellsLeft};
 ghost use Rattle.vdr_recorder.specs.Starts.{stamp_of};
 
 use crate::maker::Maker;
@@ -68,29 +65,13 @@ impl Recording {
     pub fn open<M: Media>(alloc: Global, media: &mut M) -> Result<Recording, OpenRefused>
         requires two { 2 ≤ length (M.disk media.old).sizes }
         requires three { length (M.disk media.old).sizes ≤ 3 }
-        ensures opened { IfOk result (λ r. (x : Contents) → M.tells → HoldsContents (M.disk media.old).reads x → AreSound x
-            → (t0 : ℕ) × ((M.disk media.old).clock ≤ t0) × (t0 ≤ (M.disk media.new).clock) × HasRecorded (opening_of x) [] t0 r (M.disk media.new)) }
-        ensures contents { IfOk result (λ r. M.tells → IsFormatted (M.disk media.old).reads × (x : Contents) × HoldsContents (M.disk media.old).reads x
-            × EndsMeet both (reading_of x) × (r.members.config ≡ x.config) × (r.members.table ≡ x.table)
-            × (r.members.last ≡ option_map of_stamp (opening_of x).last)) }
-        ensures place { IfOk result (λ r. (x : Contents) → M.tells → HoldsContents (M.disk media.old).reads x → r.members.next_place ≡ (opening_of x).next_place) }
-        ensures readable { IfOk result (λ r. (x : Contents) → M.tells → HoldsContents (M.disk media.old).reads x → AreLevel both (reading_of x)
-            → IsReadable (opening_of x) [] r.members x.placed (M.disk media.new)) }
+        ensures opened { OpensRecording result (M.disk media.old) (M.disk media.new) }
         ensures level { (x : Contents) → M.tells → HoldsContents (M.disk media.old).reads x → AreLevel both (reading_of x)
             → LeavesAll (M.disk media.old) (M.disk media.new) × ((M.disk media.new).reads ≡ (M.disk media.old).reads) }
-        ensures works { IfOk result (λ r. r.members.failed ≡ false) }
-        ensures closed { IfOk result (λ r. r.is_open ≡ false) }
-        ensures rings { IfOk result (λ r. AreRings r.members (M.disk media.new).sizes) }
         ensures moments { (x : Contents) → M.tells → HoldsContents (M.disk media.old).reads x → EndsMeet both (reading_of x) → AreSound x
             → OpensAtEachMoment (M.disk media.old) (M.disk media.new) result (ShowsHistory (opening_of x) []) }
-        ensures unformatted { result ≡ Err NotFormatted → M.tells → IsUnformatted (M.disk media.old).reads }
-        ensures damaged { (m offset : ℕ) → result ≡ Err (Damaged m offset) → M.tells → IsFormatted (M.disk media.old).reads × IsRefused (M.disk media.old).reads m offset }
-        ensures untouched { (result ≡ Err NotFormatted) ⊎ ((m : ℕ) × (offset : ℕ) × (result ≡ Err (Damaged m offset)))
-            → LeavesAll (M.disk media.old) (M.disk media.new) × (M.tells → (M.disk media.new).reads ≡ (M.disk media.old).reads) }
-        ensures blank { M.tells → IsUnformatted (M.disk media.old).reads → LeavesAll (M.disk media.old) (M.disk media.new) }
-        ensures others { M.tells → SameBut 1 (M.disk media.old).reads (M.disk media.new).reads }
-        ensures sizes { (M.disk media.new).sizes ≡ (M.disk media.old).sizes }
-        ensures cause { HasOpenCause (M.faults media.old) (M.faults media.new) result }
+        ensures refused { RefusesMedia result (M.disk media.old) (M.disk media.new) }
+        ensures writes { ReachesLongTerm M.Media media.old media.new result }
     {
         law_of_contents();
         let members = Members::open(alloc, media)?;

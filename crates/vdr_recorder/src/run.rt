@@ -1,5 +1,5 @@
 // A run: its Start, its batches, and its close.
-ghost use Rattle.std.specs.Prelude.{◌≡◌, ◌≤◌, ◌<◌, ◌⊎◌, ◌↔◌, ◌+◌, ◌*◌, ◌/◌, ◌^◌, ◌++◌, ℕ, List, [], true, false, length, take, All, Err, IsErr, OnErr, OnOk, option_map};
+ghost use Rattle.std.specs.Prelude.{◌≡◌, ◌≤◌, ◌<◌, ◌+◌, ◌*◌, ◌/◌, ◌^◌, ◌++◌, ℕ, List, [], true, false, length, All, Err};
 ghost use Rattle.vdr_terms.specs.Counting.{next_number};
 ghost use Rattle.vdr_terms.specs.Datagrams.{largest};
 ghost use Rattle.vdr_terms.specs.Rates.{is_configured};
@@ -8,17 +8,16 @@ ghost use Rattle.vdr_history.specs.Histories.{Event, Opening};
 ghost use Rattle.vdr_history.specs.Histories.Act.{Commit};
 ghost use Rattle.vdr_history.specs.Recorder.{begun, closing, recorder_after};
 ghost use Rattle.vdr_history.specs.RunStates.{next_start, recorder_in, state_left};
-ghost use Rattle.vdr_history.specs.Runs.{RunStart, base_after};
+ghost use Rattle.vdr_history.specs.Runs.{RunStart};
 ghost use Rattle.vdr_history.specs.Taken.{Captured as CapturedTold};
 ghost use Rattle.vdr_config.specs.Sizes.{limits_in};
 ghost use Rattle.vdr_pace.specs.Commits.{items_size};
-ghost use Rattle.vdr_vault.specs.Calls.{HasVaultCause, SameElsewhere};
+ghost use Rattle.vdr_vault.specs.Keeps.{StopsAtFault, WritesToBoth};
 ghost use Rattle.vdr_vault.specs.Vaults.{AreRings};
-ghost use Rattle.vdr_recorder.specs.Making.{CountsItems, Makes, NumbersFit, counted_of, numbers_of, rest_of};
+ghost use Rattle.vdr_recorder.specs.Calls.{BeginsRun, EndsRun, GoesOnWith, RefusesStart, StaysBelowLimits, WritesStart};
+ghost use Rattle.vdr_recorder.specs.Making.{CountsItems, Makes, NumbersFit, counted_of, rest_of};
 ghost use Rattle.vdr_recorder.specs.Recordings.{HasDone, HasRecorded};
-ghost use Rattle.vdr_recorder.specs.Refusals.{HasStartCause};
-ghost use Rattle.vdr_recorder.specs.Starts.{stamp_of};
-ghost use Rattle.vdr_recorder.specs.declared.run.StartRefused.TheVariants.{Place, Tick, Fault as AFault};
+ghost use Rattle.vdr_recorder.specs.declared.run.StartRefused.TheVariants.{Place, Tick};
 
 use crate::Recording;
 use crate::commit::commit;
@@ -70,22 +69,10 @@ impl Recording {
         ensures started { (opening : Opening) (events : List Event) (t0 : ℕ) → M.tells → self.old.members.failed ≡ false → HasRecorded opening events t0 self.old (M.disk media.old)
             → (result ≡ Err Place → ⊥) → (result ≡ Err Tick → ⊥)
             → HasDone opening events t0 (Commit (begun (next_start (state_left opening events))).made []) self.new (M.disk media.old) (M.disk media.new) }
-        ensures place { self.old.members.failed ≡ false → (result ≡ Err Place) ↔ (2 ^ 62 ≤ self.old.members.next_place) }
-        ensures tick { self.old.members.failed ≡ false
-            → (result ≡ Err Tick) ↔ ((self.old.members.next_place < 2 ^ 62) × (2 ^ 62 ≤ base_after (option_map stamp_of self.old.members.last))) }
-        ensures refused { (result ≡ Err Place) ⊎ (result ≡ Err Tick) → (self.new ≡ self.old) × (media.new ≡ media.old) }
-        ensures failed { self.old.members.failed ≡ true → (result ≡ Err AFault) × (self.new ≡ self.old) × (media.new ≡ media.old) }
-        ensures fails { result ≡ Err AFault → self.new.members.failed ≡ true }
-        ensures works { OnOk result (self.new.members.failed ≡ false) }
-        ensures open { OnOk result (self.new.is_open ≡ true) }
-        ensures closed { OnErr result (self.new.is_open ≡ false) }
-        ensures numbers { OnOk result ((self.new.maker.place ≤ 2 ^ 62) × ((g : ℕ) → g < 16 → next_number (counted_of self.new.maker g).pending ≡ 0)) }
-        ensures config { self.new.members.config ≡ self.old.members.config }
-        ensures rings { AreRings self.new.members (M.disk media.new).sizes }
-        ensures others { M.tells → SameElsewhere (M.disk media.old).reads (M.disk media.new).reads }
-        ensures sizes { (M.disk media.new).sizes ≡ (M.disk media.old).sizes }
-        ensures counts { M.bytes_read media.new ≡ M.bytes_read media.old }
-        ensures cause { HasStartCause self.old.members.failed (M.faults media.old) (M.faults media.new) result }
+        ensures limits { StaysBelowLimits self.old.members result }
+        ensures refuses { RefusesStart self.old self.new media.old media.new result }
+        ensures begins { BeginsRun self.old self.new (M.disk media.new).sizes result }
+        ensures writes { WritesStart M.Media self.old.members.failed media.old media.new result }
     {
         if self.members.failed() {
             return Err(StartRefused::Fault);
@@ -124,19 +111,9 @@ impl Recording {
             × HasDone opening events t0 (Commit records items.now) self.new (M.disk media.old) (M.disk media.new) }
         ensures nothing { (start : RunStart) (popped : List CapturedTold) → Makes self.old.members.config start popped self.old.maker
             → (recorder_after start (popped ++ items.now)).made ≡ (recorder_after start popped).made → media.new ≡ media.old }
-        ensures failed { self.old.members.failed ≡ true → IsErr result × (self.new ≡ self.old) × (media.new ≡ media.old) }
-        ensures fails { OnErr result (self.new.members.failed ≡ true) }
-        ensures works { OnOk result (self.new.members.failed ≡ false) }
-        ensures open { self.new.is_open ≡ true }
-        ensures places { self.new.maker.place ≤ self.old.maker.place + 2 * length items.now }
-        ensures numbers { (g : ℕ) → g < 16
-            → next_number (counted_of self.new.maker g).pending ≤ next_number (counted_of self.old.maker g).pending + numbers_of g items.now }
-        ensures config { self.new.members.config ≡ self.old.members.config }
-        ensures rings { AreRings self.new.members (M.disk media.new).sizes }
-        ensures others { M.tells → SameElsewhere (M.disk media.old).reads (M.disk media.new).reads }
-        ensures sizes { (M.disk media.new).sizes ≡ (M.disk media.old).sizes }
-        ensures counts { M.bytes_read media.new ≡ M.bytes_read media.old }
-        ensures cause { HasVaultCause self.old.members.failed (M.faults media.old) (M.faults media.new) result }
+        ensures failing { StopsAtFault self.old.members.failed self.new.members.failed self.old self.new media.old media.new result }
+        ensures goes_on { GoesOnWith items.now self.old self.new (M.disk media.new).sizes }
+        ensures writes { WritesToBoth M.Media self.old.members.failed media.old media.new result }
     {
         if self.members.failed() {
             return Err(Fault);
@@ -160,16 +137,9 @@ impl Recording {
         ensures stopped { (opening : Opening) (events : List Event) (t0 : ℕ) → M.tells → self.old.members.failed ≡ false → HasRecorded opening events t0 self.old (M.disk media.old)
             → HasDone opening events t0 (Commit (closing (state_left opening events).start (recorder_in (state_left opening events)) (rest_of rest.now)) []) self.new (M.disk media.old) (M.disk media.new) }
         ensures counted { (start : RunStart) (popped : List CapturedTold) → CountsItems start popped self.old.maker → CountsItems start popped self.new.maker }
-        ensures failed { self.old.members.failed ≡ true → IsErr result × (self.new ≡ self.old) × (media.new ≡ media.old) }
-        ensures fails { OnErr result (self.new.members.failed ≡ true) }
-        ensures works { OnOk result (self.new.members.failed ≡ false) }
-        ensures closed { self.old.members.failed ≡ false → self.new.is_open ≡ false }
-        ensures config { self.new.members.config ≡ self.old.members.config }
-        ensures rings { AreRings self.new.members (M.disk media.new).sizes }
-        ensures others { M.tells → SameElsewhere (M.disk media.old).reads (M.disk media.new).reads }
-        ensures sizes { (M.disk media.new).sizes ≡ (M.disk media.old).sizes }
-        ensures counts { M.bytes_read media.new ≡ M.bytes_read media.old }
-        ensures cause { HasVaultCause self.old.members.failed (M.faults media.old) (M.faults media.new) result }
+        ensures failing { StopsAtFault self.old.members.failed self.new.members.failed self.old self.new media.old media.new result }
+        ensures ends { EndsRun self.old self.new (M.disk media.new).sizes }
+        ensures writes { WritesToBoth M.Media self.old.members.failed media.old media.new result }
     {
         if self.members.failed() {
             return Err(Fault);

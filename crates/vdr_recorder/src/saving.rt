@@ -1,16 +1,12 @@
 // What is kept of an incident, and until when.
-ghost use Rattle.std.specs.Prelude.{◌≡◌, ◌⊎◌, ◌-◌, ℕ, List, suc, is_none, position, option_copied, option_map, IfOk, OnErr, OnOk, None, Some, Err, true, false};
-ghost use Rattle.vdr_history.specs.Histories.{Event, Incident, Opening, live, with_slot};
-ghost use Rattle.vdr_history.specs.Histories.Act.{Look, Release, Save};
-ghost use Rattle.vdr_outside.specs.Disk.{SameBut, Unchanged};
-ghost use Rattle.vdr_ring.specs.Sequence.{Placed};
-ghost use Rattle.vdr_incident.specs.declared.refused.ReleaseRefused.TheVariants.{Fault as AReleaseFault, NoSuch};
-ghost use Rattle.vdr_vault.specs.Vaults.{AreRings, Stands, of_stamp};
+ghost use Rattle.std.specs.Prelude.{◌≡◌, option_copied, Err};
+ghost use Rattle.vdr_history.specs.Histories.{live};
+ghost use Rattle.vdr_incident.specs.declared.refused.ReleaseRefused.TheVariants.{Fault as AReleaseFault};
+ghost use Rattle.vdr_vault.specs.Vaults.{AreRings};
 ghost use Rattle.vdr_vault.specs.Plays.{ReadsNoOther};
-ghost use Rattle.vdr_vault.specs.Saves.{HasFaultOn, save_refusal};
-ghost use Rattle.vdr_vault.specs.declared.refused.SaveRefused.{SaveRefused as Refused};
-ghost use Rattle.vdr_vault.specs.declared.refused.SaveRefused.TheVariants.{Damaged, Fault as AFault, Label, Nothing, TableFull};
-ghost use Rattle.vdr_recorder.specs.Recordings.{HasDone, HasRecorded};
+ghost use Rattle.vdr_vault.specs.Keeps.{FailsWhere, FreesSlot, MeetsDamage, PutsIncident, RefusesRelease, RefusesSave, WritesToLongTerm};
+ghost use Rattle.vdr_vault.specs.declared.refused.SaveRefused.TheVariants.{Fault as AFault};
+ghost use Rattle.vdr_recorder.specs.Calls.{KeepsRecording, ReleasesAsEvent, SavesAsEvent};
 
 use crate::Recording;
 use vdr_incident::{ReleaseRefused, Save as Saved};
@@ -27,37 +23,13 @@ impl Recording {
     /// until the media are opened again.
     pub fn save<M: Media>(&mut self, media: &mut M, label: &[u8]) -> Result<u32, SaveRefused>
         requires rings { AreRings self.old.members (M.disk media.old).sizes }
-        ensures saved { (opening : Opening) (events : List Event) (t0 : ℕ) → M.tells → self.old.members.failed ≡ false → save_refusal label.now self.old.members ≡ None
-            → ((m offset : ℕ) → result ≡ Err (Damaged m offset) → ⊥) → HasRecorded opening events t0 self.old (M.disk media.old)
-            → (id : ℕ) × (a : ℕ) × (b : ℕ) × IfOk result (λ told. told ≡ id) × HasDone opening events t0 (Save id label.now a b) self.new (M.disk media.old) (M.disk media.new) }
-        ensures looked { (opening : Opening) (events : List Event) (t0 : ℕ) (refused : Refused) → (self.old.members.failed ≡ true) ⊎ (save_refusal label.now self.old.members ≡ Some refused)
-            → HasRecorded opening events t0 self.old (M.disk media.old) → HasDone opening events t0 Look self.new (M.disk media.old) (M.disk media.new) }
-        ensures met_damage { (opening : Opening) (events : List Event) (t0 m offset : ℕ) → M.tells → result ≡ Err (Damaged m offset)
-            → HasRecorded opening events t0 self.old (M.disk media.old) → HasDone opening events t0 Look self.new (M.disk media.old) (M.disk media.new) }
-        ensures failed { self.old.members.failed ≡ true → (result ≡ Err AFault) × (self.new ≡ self.old) × (media.new ≡ media.old) }
-        ensures refused { (refused : Refused) → self.old.members.failed ≡ false → save_refusal label.now self.old.members ≡ Some refused
-            → (result ≡ Err refused) × (self.new ≡ self.old) × (media.new ≡ media.old) }
-        ensures reason { (refused : Refused) → result ≡ Err refused → (refused ≡ Label) ⊎ ((refused ≡ Nothing) ⊎ (refused ≡ TableFull))
-            → (self.old.members.failed ≡ false) × (save_refusal label.now self.old.members ≡ Some refused) }
-        ensures undamaged { (opening : Opening) (events : List Event) (placed : ℕ → List Placed) (m offset : ℕ) → M.tells → Stands opening events self.old.members placed (M.disk media.old)
-            → result ≡ Err (Damaged m offset) → ⊥ }
-        ensures damaged { (m offset : ℕ) → result ≡ Err (Damaged m offset) → Unchanged (M.disk media.old) (M.disk media.new) × (self.new.members.failed ≡ false) }
-        ensures fails { result ≡ Err AFault → self.new.members.failed ≡ true }
-        ensures works { (result ≡ Err AFault → ⊥) → self.new.members.failed ≡ false }
-        ensures id { IfOk result (λ id. option_map suc (position is_none self.old.members.table) ≡ Some id) }
-        ensures table { IfOk result (λ id. (saved : Incident) × (self.new.members.table ≡ with_slot self.old.members.table id (Some saved)) × (saved.label ≡ label.now)
-            × (saved.b ≡ self.old.members.next_place - 1) × (self.old.members.last ≡ Some (of_stamp saved.stamp))) }
-        ensures kept { OnErr result (self.new.members.table ≡ self.old.members.table) }
-        ensures next_place { self.new.members.next_place ≡ self.old.members.next_place }
-        ensures last { self.new.members.last ≡ self.old.members.last }
-        ensures config { self.new.members.config ≡ self.old.members.config }
-        ensures maker { self.new.maker ≡ self.old.maker }
-        ensures open { self.new.is_open ≡ self.old.is_open }
-        ensures rings { AreRings self.new.members (M.disk media.new).sizes }
-        ensures others { M.tells → SameBut 1 (M.disk media.old).reads (M.disk media.new).reads }
-        ensures sizes { (M.disk media.new).sizes ≡ (M.disk media.old).sizes }
-        ensures counts { ReadsNoOther 1 (M.bytes_read media.old) (M.bytes_read media.new) }
-        ensures cause { HasFaultOn 1 self.old.members.failed (M.faults media.old) (M.faults media.new) (result ≡ Err AFault) }
+        ensures event { SavesAsEvent M.Media label.now self.old self.new media.old media.new result }
+        ensures refuses { RefusesSave label.now self.old.members self.old self.new media.old media.new result }
+        ensures damage { MeetsDamage self.old.members self.new.members (M.disk media.old) (M.disk media.new) result }
+        ensures failing { FailsWhere (result ≡ Err AFault) self.new.members.failed }
+        ensures incident { PutsIncident label.now self.old.members self.new.members.table result }
+        ensures keeps { KeepsRecording self.old self.new (M.disk media.new).sizes }
+        ensures writes { WritesToLongTerm M.Media self.old.members.failed media.old media.new (ReadsNoOther 1) (result ≡ Err AFault) }
     {
         self.members.save(media, label)
     }
@@ -70,27 +42,12 @@ impl Recording {
     /// the media are opened again.
     pub fn release<M: Media>(&mut self, media: &mut M, id: u32) -> Result<(), ReleaseRefused>
         requires rings { AreRings self.old.members (M.disk media.old).sizes }
-        ensures released { (opening : Opening) (events : List Event) (t0 : ℕ) (saved : Incident) → M.tells → self.old.members.failed ≡ false → live self.old.members.table id ≡ Some saved
-            → HasRecorded opening events t0 self.old (M.disk media.old) → HasDone opening events t0 (Release id) self.new (M.disk media.old) (M.disk media.new) }
-        ensures looked { (opening : Opening) (events : List Event) (t0 : ℕ) → (self.old.members.failed ≡ true) ⊎ (live self.old.members.table id ≡ None)
-            → HasRecorded opening events t0 self.old (M.disk media.old) → HasDone opening events t0 Look self.new (M.disk media.old) (M.disk media.new) }
-        ensures failed { self.old.members.failed ≡ true → (result ≡ Err AReleaseFault) × (self.new ≡ self.old) × (media.new ≡ media.old) }
-        ensures refused { self.old.members.failed ≡ false → live self.old.members.table id ≡ None → (result ≡ Err NoSuch) × (self.new ≡ self.old) × (media.new ≡ media.old) }
-        ensures reason { result ≡ Err NoSuch → (self.old.members.failed ≡ false) × (live self.old.members.table id ≡ None) }
-        ensures fails { result ≡ Err AReleaseFault → self.new.members.failed ≡ true }
-        ensures works { (result ≡ Err AReleaseFault → ⊥) → self.new.members.failed ≡ false }
-        ensures table { OnOk result (self.new.members.table ≡ with_slot self.old.members.table id None) }
-        ensures kept { OnErr result (self.new.members.table ≡ self.old.members.table) }
-        ensures next_place { self.new.members.next_place ≡ self.old.members.next_place }
-        ensures last { self.new.members.last ≡ self.old.members.last }
-        ensures config { self.new.members.config ≡ self.old.members.config }
-        ensures maker { self.new.maker ≡ self.old.maker }
-        ensures open { self.new.is_open ≡ self.old.is_open }
-        ensures rings { AreRings self.new.members (M.disk media.new).sizes }
-        ensures others { M.tells → SameBut 1 (M.disk media.old).reads (M.disk media.new).reads }
-        ensures sizes { (M.disk media.new).sizes ≡ (M.disk media.old).sizes }
-        ensures counts { M.bytes_read media.new ≡ M.bytes_read media.old }
-        ensures cause { HasFaultOn 1 self.old.members.failed (M.faults media.old) (M.faults media.new) (result ≡ Err AReleaseFault) }
+        ensures event { ReleasesAsEvent M.Media id self.old self.new media.old media.new }
+        ensures refuses { RefusesRelease id self.old.members self.old self.new media.old media.new result }
+        ensures failing { FailsWhere (result ≡ Err AReleaseFault) self.new.members.failed }
+        ensures freed { FreesSlot id self.old.members.table self.new.members.table result }
+        ensures keeps { KeepsRecording self.old self.new (M.disk media.new).sizes }
+        ensures writes { WritesToLongTerm M.Media self.old.members.failed media.old media.new (λ before now. now ≡ before) (result ≡ Err AReleaseFault) }
     {
         self.members.release(media, id)
     }

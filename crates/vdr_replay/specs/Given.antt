@@ -1,5 +1,5 @@
 -- What the ports of a feed gave so far, as it is counted, and what waits for the next batch.
-use Rattle.std.specs.Prelude.{◌≡◌, ◌≤◌, ◌<◌, ◌+◌, ◌*◌, ◌/◌, ◌^◌, ℕ, true, List, length, count_by, slice_index_or, vec_capacity, All}
+use Rattle.std.specs.Prelude.{◌≡◌, ◌≤◌, ◌<◌, ◌+◌, ◌*◌, ◌/◌, ◌^◌, ℕ, true, List, length, count_by, slice_index_or, All}
 use Rattle.vdr_terms.specs.declared.counts.Counts.{Counts}
 use Rattle.vdr_terms.specs.Counting.{Tally, next_number, no_tally}
 use Rattle.vdr_terms.specs.Datagrams.{verdict, is_bad, is_large}
@@ -43,7 +43,7 @@ pub record IsSized (lanes : Lanes) : Type 0 where
   pub size : lanes.size ≡ items_size lanes.batch.items
   pub fits : lanes.size ≤ lanes.room
   pub any : largest_item < lanes.room
-  pub space : lanes.room / least_item ≤ vec_capacity lanes.batch
+  pub space : lanes.room / least_item ≤ lanes.batch.capacity
 
 -- The batch has items of configured groups, and room for the configured bytes.
 pub record HasBatch (config : Configuration) (lanes : Lanes) : Type 0 where

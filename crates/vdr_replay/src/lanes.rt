@@ -1,5 +1,5 @@
 // What the ports of a feed gave, and what is on its way to the recorder.
-ghost use Rattle.std.specs.Prelude.{◌≡◌, ◌≤◌, ◌<◌, ◌↔◌, ◌∷◌, ◌++◌, ◌+◌, ◌^◌, ℕ, List, [], true, false, length, replicate, vec_capacity, vec_len, IfOk, OnOk, OnErr};
+ghost use Rattle.std.specs.Prelude.{◌≡◌, ◌≤◌, ◌<◌, ◌↔◌, ◌∷◌, ◌++◌, ◌+◌, ◌^◌, ℕ, List, [], true, false, length, replicate, IfOk, OnOk, OnErr};
 ghost use Rattle.vdr_terms.specs.Counting.{no_tally, pushed};
 ghost use Rattle.vdr_terms.specs.Datagrams.{verdict, is_yes};
 ghost use Rattle.vdr_terms.specs.Records.{FeedItem};
@@ -15,13 +15,12 @@ ghost use Rattle.vdr_recorder.specs.Making.{rest_of};
 ghost use Rattle.vdr_replay.specs.Captured.{captured_as, item_bytes};
 ghost use Rattle.vdr_feed.specs.Feed.{longest_feed};
 
-use arrayvec::ArrayVec;
 use std::alloc::{AllocError, Global};
 use std::array;
 use vdr_config::Config;
 use vdr_feed::Item;
 use vdr_gap::{Counts, Tally};
-use vdr_intake::Captured;
+use vdr_intake::CapturedBuffer;
 use vdr_outside::{Fault, Media};
 use vdr_recorder::{LEAST_ITEM, Recording};
 use vdr_terms::{Verdict, recordable};
@@ -38,7 +37,7 @@ const NONE: Counts = Counts {
 #[derive(Drop)]
 pub(crate) struct Lanes {
     pub(crate) tallies: [Tally; 16],
-    pub(crate) batch: Vec<Captured>,
+    pub(crate) batch: CapturedBuffer,
     // The most bytes that the records of its items take, and those that a batch may have.
     pub(crate) size: usize,
     pub(crate) room: usize,
@@ -51,25 +50,6 @@ fn tallies() -> [Tally; 16]
     array::from_fn(|_| Tally::new())
 }
 
-// The bytes of a recordable datagram.
-fn payload(bytes: &[u8]) -> ArrayVec<u8, 1472>
-    requires { verdict bytes.now ≡ Yes }
-    ensures { result.items ≡ bytes.now }
-{
-    let mut payload = ArrayVec::new();
-    let _ = payload.try_extend_from_slice(bytes);
-    payload
-}
-
-// Adds an item to a batch that has room for it.
-fn push(batch: &mut Vec<Captured>, item: Captured)
-    requires { vec_len batch.old < vec_capacity batch.old }
-    ensures items { batch.new.items ≡ batch.old.items ++ item ∷ [] }
-    ensures room { vec_capacity batch.old ≤ vec_capacity batch.new }
-{
-    let _ = batch.push(item);
-}
-
 // The most bytes that the records of an item take.
 fn item_size(item: &Item) -> usize
     ensures { (result ≡ item_bytes item.now) × (result ≤ 1601) }
@@ -77,25 +57,26 @@ fn item_size(item: &Item) -> usize
     LEAST_ITEM + item.bytes.len()
 }
 
-// The recordable item as it is taken, with its number and what its port missed before it. It is counted.
-fn capture(item: &Item, tally: &mut Tally) -> Captured
+// Puts the recordable item at the end of the batch, with its number and what its port missed before it. It is counted.
+fn capture(batch: &mut CapturedBuffer, item: &Item, tally: &mut Tally)
+    requires room { length batch.old.items < batch.old.capacity }
     requires legal { IsLegalItem item.now }
     requires recordable { verdict item.now.bytes.items ≡ Yes }
     requires counted { tally.old.taken + 1 < 2 ^ 63 }
     requires not_by_rate { tally.old.missed.rate ≡ 0 }
-    ensures item { result ≡ captured_as item.now tally.old }
+    ensures items { batch.new.items ≡ batch.old.items ++ captured_as item.now tally.old ∷ [] }
+    ensures capacity { batch.new.capacity ≡ batch.old.capacity }
     ensures tally { tally.new ≡ pushed tally.old }
 {
-    let captured = Captured {
-        group: item.group,
-        number: tally.taken(),
-        received: item.received,
-        utc: item.utc,
-        missed: tally.counts(),
-        bytes: payload(item.bytes.as_slice()),
-    };
+    batch.push(
+        item.group,
+        tally.taken(),
+        item.received,
+        item.utc,
+        tally.counts(),
+        item.bytes.as_slice(),
+    );
     tally.pushed();
-    captured
 }
 
 impl Lanes {
@@ -112,7 +93,7 @@ impl Lanes {
         let room = config.batch as usize;
         Ok(Lanes {
             tallies: tallies(),
-            batch: Vec::with_capacity(alloc, room / LEAST_ITEM)?,
+            batch: CapturedBuffer::with_capacity(alloc, room / LEAST_ITEM)?,
             size: 0,
             room,
         })
@@ -133,9 +114,8 @@ impl Lanes {
         let tally = &mut self.tallies[item.group as usize];
         match recordable(item.bytes.as_slice()) {
             Verdict::Yes => {
-                let next = capture(item, tally);
+                capture(&mut self.batch, item, tally);
                 self.size += item_size(item);
-                push(&mut self.batch, next);
             }
             Verdict::Bad => tally.bad(),
             Verdict::Large => tally.large(),

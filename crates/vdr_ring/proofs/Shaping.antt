@@ -1,7 +1,6 @@
 -- A ring made of what was found on its medium.
-use Rattle.std.proofs.Common.{◌≡◌, ◌≢◌, ◌<◌, ◌≤◌, ℕ, List, length, All, Contains, None, sym, ap, ◌∙◌, subst, arith}
+use Rattle.std.proofs.Common.{◌≡◌, ◌≢◌, ◌<◌, ◌≤◌, ℕ, List, length, All, Contains, Some, sym, ap, subst, arith}
 use Rattle.std.specs.Prelude.{◌↔◌}
-use Rattle.std.proofs.lemmas.Option.{none-some}
 use Rattle.vdr_terms.specs.Needs.{Sizes, Fits, slots_in}
 use Rattle.vdr_outside.specs.Disk.{Disk, Image, Durable, Unchanged, content}
 use Rattle.vdr_outside.specs.Moments.{Settled}
@@ -11,7 +10,9 @@ use Rattle.vdr_ring.specs.Sequence.{Placed}
 use Rattle.vdr_ring.specs.Entries.{Describe}
 use Rattle.vdr_ring.specs.Tables.{TableState}
 use Rattle.vdr_ring.specs.Rings.{RingState, HoldsPlaced, Ascends, Tells, Reads}
-use Rattle.vdr_ring.specs.Opening.{Refuses}
+use Rattle.vdr_ring.specs.Opening.{Refuses, slot_bytes}
+use Rattle.vdr_slots.specs.Slots.{place_of}
+use Rattle.vdr_outside.specs.Parts.{part}
 use Rattle.vdr_ring.specs.Fronts.{AreSlots, Finds}
 
 -- A medium that fits has four slots at least.
@@ -32,15 +33,17 @@ found_tells segment count bytes opened closed table e f slots found = record {
 }
 
 module _ {tells tells_images : Type 0} where
-  pub ring_reads : (old new : Disk tells tells_images) (ring : RingState) (m : ℕ) (opened : List Entry) (closed : List ℕ) → ring.medium ≡ m → ring.loaded ≡ None → Unchanged old new → Durable m old → tells
+  pub ring_reads : (old new : Disk tells tells_images) (ring : RingState) (m : ℕ) (opened : List Entry) (closed : List ℕ) → ring.medium ≡ m → ((j : ℕ) → ring.loaded ≡ Some j → ring.buffer ≡ slot_bytes ring.segment j (content old.reads m)) → Unchanged old new → Durable m old → tells
       → ring.table.opened ≡ opened → ring.table.closed ≡ closed → AreSlots ring.slots opened closed → Finds ring.segment ring.slots (content old.reads m) opened closed → (placed : List Placed) × Reads ring placed new
-  ring_reads old new ring m opened closed is none same durable told e f slots found = (
+  ring_reads old new ring m opened closed is held same durable told e f slots found = (
     found.placed,
     record {
       settled = subst (λ (k : ℕ). Settled k (HoldsPlaced ring.segment ring.slots found.placed) new) (sym is)
           (settled_still m (HoldsPlaced ring.segment ring.slots found.placed) old new same (record { durable = durable; reads = λ _. found.holds }));
       order = found.order;
       table = found_tells ring.segment ring.slots (content old.reads m) opened closed ring.table e f slots found;
-      loaded = λ j loaded _. absurd (none-some j (sym none ∙ loaded));
+      loaded = λ j loaded _.
+          subst (λ (i : Image). ring.buffer ≡ part (content i ring.medium) (place_of ring.segment j) ring.segment) (sym (same.reads told))
+          (subst (λ (k : ℕ). ring.buffer ≡ part (content old.reads k) (place_of ring.segment j) ring.segment) (sym is) (held j loaded));
     },
   )

@@ -1,7 +1,7 @@
 -- The first segment with a record of a second or a later one, by the entries of a table.
-use Rattle.std.proofs.Common.{◌≡◌, ◌<◌, ◌≤◌, ℕ, Bool, cond, true, false, nat_le, List, [], ◌∷◌, ◌++◌, Bor, Option, Some, None, option_map, find, refl, sym, ap, ◌∙◌, subst, arith, true≢false}
+use Rattle.std.proofs.Common.{◌≡◌, ◌<◌, ◌≤◌, ℕ, Bool, cond, true, false, List, [], ◌∷◌, Bor, Option, Some, None, option_map, find, refl, sym, ap, ◌∙◌, subst, arith, true≢false}
 use Rattle.std.specs.Prelude.{All, Any, Contains, IfNone, IfSome}
-use Rattle.std.proofs.lemmas.Bool.{cases_Bool, leb-true, leb-false}
+use Rattle.std.proofs.lemmas.Bool.{leb-true, leb-false}
 use Rattle.std.proofs.lemmas.Option.{none-some, same_Some}
 use Rattle.std.proofs.lemmas.List.Elements.{All-append, All-cons, All-head, All-nil, All-weaker}
 use Rattle.vdr_terms.specs.Order.{NeverFalls}

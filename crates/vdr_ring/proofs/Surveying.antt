@@ -1,10 +1,11 @@
 -- Segments surveyed one after another: each keeps what its header says.
-use Rattle.std.proofs.Common.{◌≡◌, ◌<◌, ◌≤◌, ◌+◌, ◌*◌, ◌^◌, ℕ, suc, List, [], ◌∷◌, ◌++◌, length, map, take, drop, get_or, set, All, sym, ap, ◌∙◌, subst, arith, length-take, drop-cons}
+use Rattle.std.proofs.Common.{◌≡◌, ◌<◌, ◌≤◌, ◌+◌, ◌*◌, ◌^◌, ℕ, suc, List, [], ◌∷◌, ◌++◌, length, map, take, drop, get_or, set, All, Some, sym, ap, ◌∙◌, subst, arith, length-take, drop-cons}
 use Rattle.std.specs.List.{AllWithin}
 use Rattle.std.proofs.Math.Nat.{mul-le-mul_right}
 use Rattle.std.proofs.lemmas.List.{get_or-take, take-append-drop}
 use Rattle.std.proofs.lemmas.List.Elements.{All-head, All-tail, All-cons, AllWithin-more_set}
-use Rattle.std.proofs.lemmas.Option.{slice_get_within}
+use Rattle.std.proofs.lemmas.Option.{same_Some, slice_get_within}
+use Rattle.vdr_ring.specs.Opening.{slot_bytes}
 use Rattle.vdr_slots.specs.Slots.{place_of}
 use Rattle.vdr_segment.specs.Gates.{open_gate}
 use Rattle.vdr_survey.specs.declared.extent.Survey.{Survey}
@@ -38,6 +39,10 @@ breaks_still segment slot offset old now same h = subst (λ (bytes : List ℕ). 
 
 pub survey_still : (segment slot first : ℕ) (s : Survey) (old now : List ℕ) → now ≡ old → HasSurvey segment slot now first s → HasSurvey segment slot old first s
 survey_still segment slot first s old now same h = subst (λ (bytes : List ℕ). HasSurvey segment slot bytes first s) same h
+
+pub held_now : (segment : ℕ) (old now buffer : List ℕ) (s slot : ℕ) → Some s ≡ Some slot → now ≡ old → buffer ≡ slot_bytes segment s now → buffer ≡ slot_bytes segment slot old
+held_now segment old now buffer s slot is same h =
+    subst (λ (j : ℕ). buffer ≡ slot_bytes segment j old) (same_Some s slot is) (subst (λ (bytes : List ℕ). buffer ≡ slot_bytes segment s bytes) same h)
 
 -- All up to the entry at i were surveyed.
 

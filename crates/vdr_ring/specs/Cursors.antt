@@ -1,9 +1,11 @@
 -- A cursor over the records of a slot, and what a step of it answers.
-use Rattle.std.specs.Prelude.{◌≡◌, ◌≢◌, ◌⊎◌, ◌↔◌, ◌+◌, ◌==◌, if◌then◌else◌, ℕ, Bool, true, false, List, [], ◌∷◌, All, Contains, Option, Some, None, Result, Ok, Err}
+use Rattle.std.specs.Prelude.{◌≡◌, ◌≢◌, ◌⊎◌, ◌↔◌, ◌+◌, ◌==◌, if◌then◌else◌, ℕ, Bool, true, false, List, [], ◌∷◌, ◌++◌, All, Contains, Option, Some, None, Result, Ok, Err}
 use Rattle.vdr_terms.specs.Records.{Record}
 use Rattle.vdr_outside.specs.Disk.{Disk, content}
 use Rattle.vdr_segment.specs.Gates.{IsOpenAt}
 use Rattle.vdr_survey.specs.declared.position.Position.{Position}
+use Rattle.vdr_survey.specs.declared.selection.Selection.{Selection}
+use Rattle.vdr_survey.specs.Selections.{Passes, StartsSelected, is_selected}
 use Rattle.vdr_survey.specs.Positions.{front, IsAt, HasAhead, IsBrokenAt, StepsOver}
 use Rattle.vdr_ring.specs.Sequence.{Placed, records_of}
 use Rattle.vdr_ring.specs.Rings.{RingState}
@@ -32,17 +34,25 @@ position_within slot (Some s) position = if s == slot then position else front
 abbrev pub position_in : ℕ → CursorState → Position
 position_in slot c = position_within slot c.slot c.position
 
+-- What a step from this position of a slot with these bytes, over records that are not selected, makes of a cursor that has no record.
+abbrev pub StepsFrom : Selection → (slot : ℕ) (bytes : List ℕ) → Position → (old : CursorState) → Result Bool ℕ → (new : CursorState) → Type 0
+StepsFrom selection slot bytes position old (Ok true) new =
+    (q : Position) × Passes bytes selection position q × StartsSelected bytes selection q × (IsBrokenAt bytes q → ⊥)
+    × (r : Record) × StepsOver bytes q r new.position × (new.slot ≡ Some slot) × (new.item ≡ Some r)
+StepsFrom selection slot bytes position old (Ok false) new =
+    Passes bytes selection position new.position × ((records : List Record) → HasAhead bytes new.position records ↔ (records ≡ [])) × (new.slot ≡ Some slot) × (new.item ≡ None)
+StepsFrom selection slot bytes position old (Err at) new = (q : Position) × Passes bytes selection position q × IsBrokenAt bytes q × (at ≡ q.to) × (new ≡ old)
+
 -- What a step in a slot with these bytes, which stands at this place of its medium, makes of the cursor.
-abbrev pub Steps : (medium slot place : ℕ) (bytes : List ℕ) (old : CursorState) → Result Bool ReadRefused → (new : CursorState) → Type 0
-Steps medium slot place bytes old (Ok true) new =
-    IsOpenAt bytes 0 × (IsBrokenAt bytes (position_in slot old) → ⊥) × (r : Record) × StepsOver bytes (position_in slot old) r new.position × (new.slot ≡ Some slot) × (new.item ≡ Some r)
-Steps medium slot place bytes old (Ok false) new =
+abbrev pub Steps : Selection → (medium slot place : ℕ) (bytes : List ℕ) (old : CursorState) → Result Bool ReadRefused → (new : CursorState) → Type 0
+Steps selection medium slot place bytes old (Ok true) new = IsOpenAt bytes 0 × StepsFrom selection slot bytes (position_in slot old) old (Ok true) new
+Steps selection medium slot place bytes old (Ok false) new =
     ((IsOpenAt bytes 0 → ⊥) × (new.slot ≡ None) × (new.item ≡ None))
-    ⊎ (IsOpenAt bytes 0 × IsAt bytes (position_in slot old) × ((records : List Record) → HasAhead bytes (position_in slot old) records ↔ (records ≡ [])) × (new ≡ without_item old))
-Steps medium slot place bytes old (Err Fault) new = new ≡ without_item old
-Steps medium slot place bytes old (Err (Damaged m offset)) new =
+    ⊎ (IsOpenAt bytes 0 × IsAt bytes (position_in slot old) × StepsFrom selection slot bytes (position_in slot old) old (Ok false) new)
+Steps selection medium slot place bytes old (Err Fault) new = new ≡ without_item old
+Steps selection medium slot place bytes old (Err (Damaged m offset)) new =
     IsOpenAt bytes 0 × (m ≡ medium) × (new ≡ without_item old)
-    × ((IsAt bytes (position_in slot old) × IsBrokenAt bytes (position_in slot old) × (offset ≡ place + (position_in slot old).to))
+    × ((IsAt bytes (position_in slot old) × (q : Position) × Passes bytes selection (position_in slot old) q × IsBrokenAt bytes q × (offset ≡ place + q.to))
     ⊎ ((IsAt bytes (position_in slot old) → ⊥) × (offset ≡ place)))
 
 -- These records of a segment are ahead: those behind the cursor where it stands in its slot, else all of them.
@@ -53,12 +63,14 @@ IsAhead bytes p c records = ((c.slot ≡ Some p.slot) × IsAt bytes c.position �
 abbrev pub AreAhead : (bytes : List ℕ) (placed : List Placed) (slot : ℕ) → CursorState → List Record → Type 0
 AreAhead bytes placed slot c records = ((p : Placed) × Contains placed p × (p.slot ≡ slot) × IsAhead bytes p c records) ⊎ (All (λ p. p.slot ≢ slot) placed × (records ≡ []))
 
--- The cursor steps to the first of the records ahead, and the others are ahead of it then; or there is none.
-abbrev pub Visits : (bytes : List ℕ) (placed : List Placed) (slot : ℕ) (records : List Record) → Result Bool ReadRefused → (new : CursorState) → Type 0
-Visits bytes placed slot records (Ok true) new = (r : Record) × (more : List Record) × (records ≡ r ∷ more) × (new.item ≡ Some r) × AreAhead bytes placed slot new more
-Visits bytes placed slot records (Ok false) new = (records ≡ []) × (new.item ≡ None) × AreAhead bytes placed slot new []
-Visits bytes placed slot records (Err Fault) new = (new.item ≡ None) × AreAhead bytes placed slot new records
-Visits bytes placed slot records (Err (Damaged m offset)) new = ⊥
+-- The cursor steps to the first of the records ahead that is selected, and those behind it are ahead of it then; or there is none.
+abbrev pub Visits : Selection → (bytes : List ℕ) (placed : List Placed) (slot : ℕ) (records : List Record) → Result Bool ReadRefused → (new : CursorState) → Type 0
+Visits selection bytes placed slot records (Ok true) new =
+    (passed : List Record) × (r : Record) × (more : List Record) × (records ≡ passed ++ r ∷ more) × All (λ x. is_selected selection x ≡ false) passed
+    × (is_selected selection r ≡ true) × (new.item ≡ Some r) × AreAhead bytes placed slot new more
+Visits selection bytes placed slot records (Ok false) new = All (λ x. is_selected selection x ≡ false) records × (new.item ≡ None) × AreAhead bytes placed slot new []
+Visits selection bytes placed slot records (Err Fault) new = (new.item ≡ None) × AreAhead bytes placed slot new records
+Visits selection bytes placed slot records (Err (Damaged m offset)) new = ⊥
 
 module _ {tells tells_images : Type 0} where
   -- What a slot reads as.

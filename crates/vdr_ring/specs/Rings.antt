@@ -61,3 +61,10 @@ pub record IsSameRing (old new : RingState) : Type 0 where
   pub segment : new.segment ≡ old.segment
   pub slots : new.slots ≡ old.slots
   pub seconds : new.seconds ≡ old.seconds
+
+-- It stays as it is, and its medium among those of these sizes.
+pub record StaysOnMedium (old new : RingState) (sizes : List ℕ) : Type 0 where
+  -- its slots and its window are as before
+  pub same : IsSameRing old new
+  -- its medium is among them
+  pub medium : HasMedium new sizes

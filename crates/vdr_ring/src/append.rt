@@ -2,13 +2,12 @@ ghost use Rattle.std.specs.Prelude.{◌≡◌, ◌+◌, ◌<◌, ◌≤◌, ℕ,
 ghost use Rattle.vdr_terms.specs.Records.{Record as ARecord};
 ghost use Rattle.vdr_terms.specs.Needs.{Sizes};
 ghost use Rattle.vdr_terms.specs.Sizes.{batch_size};
-ghost use Rattle.vdr_outside.specs.Causes.{HasCauseOn};
-ghost use Rattle.vdr_outside.specs.Disk.{Durable, Rises, SameBut, content};
+ghost use Rattle.vdr_outside.specs.Frames.{WritesTo};
 ghost use Rattle.vdr_outside.specs.Moments.{ChangesOnly};
 ghost use Rattle.vdr_retention.specs.Retention.{Retains};
-ghost use Rattle.vdr_slots.specs.Slots.{SameFront};
+ghost use Rattle.vdr_slots.specs.Writes.{KeepsFront};
 ghost use Rattle.vdr_ring.specs.Sequence.{Placed, all_records};
-ghost use Rattle.vdr_ring.specs.Rings.{HasMedium, HoldsAny, IsSameRing, Reads};
+ghost use Rattle.vdr_ring.specs.Rings.{HasMedium, HoldsAny, Reads, StaysOnMedium};
 ghost use Rattle.vdr_ring.specs.Stages.{AreStages, Continues, Stages};
 ghost use Rattle.vdr_ring.specs.Regularity.{IsAllowed};
 ghost use Rattle.vdr_ring.specs.Keeping.{HasKept, IsKept};
@@ -51,16 +50,9 @@ impl Ring {
             → Retains self.old.seconds pins.now all (all_records placed)
             → ChangesOnly self.old.medium (IsKept self.old.segment self.old.slots self.old.seconds pins.now placed all records.now) (M.disk media.old) (M.disk media.new)
             × OnOk result (HasKept sizes pins.now (all ++ records.now) self.new (M.disk media.new)) }
-        ensures ring { IsSameRing self.old self.new }
-        ensures medium { HasMedium self.new (M.disk media.new).sizes }
-        ensures front { Durable self.old.medium (M.disk media.old)
-            → ChangesOnly self.old.medium (SameFront (content (M.disk media.old).reads self.old.medium)) (M.disk media.old) (M.disk media.new) }
-        ensures front_reads { M.tells → SameFront (content (M.disk media.old).reads self.old.medium) (content (M.disk media.new).reads self.old.medium) }
-        ensures others { M.tells → SameBut self.old.medium (M.disk media.old).reads (M.disk media.new).reads }
-        ensures sizes { (M.disk media.new).sizes ≡ (M.disk media.old).sizes }
-        ensures rises { Rises (M.disk media.old) (M.disk media.new) }
-        ensures counts { M.bytes_read media.new ≡ M.bytes_read media.old }
-        ensures cause { HasCauseOn self.old.medium (M.faults media.old) (M.faults media.new) result }
+        ensures ring { StaysOnMedium self.old self.new (M.disk media.new).sizes }
+        ensures front { KeepsFront self.old.medium (M.disk media.old) (M.disk media.new) }
+        ensures writes { WritesTo M.Media self.old.medium media.old media.new result }
     {
         law_of_stages();
         self.append_staged(media, records, pins)

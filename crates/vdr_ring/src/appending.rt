@@ -2,15 +2,16 @@ ghost use Rattle.std.specs.Prelude.{◌≡◌, ◌↔◌, ◌+◌, ◌<◌, ◌�
 ghost use Rattle.vdr_terms.specs.Records.{Record as ARecord, last};
 ghost use Rattle.vdr_terms.specs.Sizes.{batch_size};
 ghost use Rattle.vdr_outside.specs.Causes.{HasCauseOn};
-ghost use Rattle.vdr_outside.specs.Disk.{Durable, Rises, SameBut, content};
+ghost use Rattle.vdr_outside.specs.Disk.{Durable, Rises, SameBut};
+ghost use Rattle.vdr_outside.specs.Frames.{WritesTo};
 ghost use Rattle.vdr_outside.specs.Moments.{ChangesOnly};
 ghost use Rattle.vdr_segment.specs.Batches.{IsBatch};
-ghost use Rattle.vdr_slots.specs.Slots.{SameFront};
+ghost use Rattle.vdr_slots.specs.Writes.{KeepsFront};
 ghost use Rattle.vdr_ring.specs.declared.entry.Entry.{Entry as AnEntry};
 ghost use Rattle.vdr_ring.specs.Sequence.{Placed};
 ghost use Rattle.vdr_ring.specs.Order.{AreInOrder};
 ghost use Rattle.vdr_ring.specs.Entries.{Describe};
-ghost use Rattle.vdr_ring.specs.Rings.{HasMedium, HoldsAny, IsSameRing, Reads, Tells};
+ghost use Rattle.vdr_ring.specs.Rings.{HasMedium, HoldsAny, IsSameRing, Reads, StaysOnMedium, Tells};
 ghost use Rattle.vdr_ring.specs.Stages.{AreStages, BeginsAnew, Continues, IsNextSlot, IsVictim, Stages, next_seq};
 ghost use Rattle.vdr_ring.specs.Appends.{HasNoRoom, HasRoomFor, IsFree, IsReady, LeavesFree, MayCome, RisesOrStays};
 
@@ -93,9 +94,7 @@ impl Ring {
         ensures buffer { self.new.buffer ≡ self.old.buffer }
         ensures loaded { self.new.loaded ≡ self.old.loaded }
         ensures durable { OnOk result (Durable self.old.medium (M.disk media.old) → Durable self.old.medium (M.disk media.new)) }
-        ensures front { Durable self.old.medium (M.disk media.old)
-            → ChangesOnly self.old.medium (SameFront (content (M.disk media.old).reads self.old.medium)) (M.disk media.old) (M.disk media.new) }
-        ensures front_reads { M.tells → SameFront (content (M.disk media.old).reads self.old.medium) (content (M.disk media.new).reads self.old.medium) }
+        ensures front { KeepsFront self.old.medium (M.disk media.old) (M.disk media.new) }
         ensures others { M.tells → SameBut self.old.medium (M.disk media.old).reads (M.disk media.new).reads }
         ensures sizes { (M.disk media.new).sizes ≡ (M.disk media.old).sizes }
         ensures clock { RisesOrStays (M.disk media.old) (M.disk media.new) }
@@ -125,14 +124,8 @@ impl Ring {
         ensures buffer { self.new.buffer ≡ self.old.buffer }
         ensures loaded { self.new.loaded ≡ self.old.loaded }
         ensures durable { OnOk result (Durable self.old.medium (M.disk media.old) → Durable self.old.medium (M.disk media.new)) }
-        ensures front { Durable self.old.medium (M.disk media.old)
-            → ChangesOnly self.old.medium (SameFront (content (M.disk media.old).reads self.old.medium)) (M.disk media.old) (M.disk media.new) }
-        ensures front_reads { M.tells → SameFront (content (M.disk media.old).reads self.old.medium) (content (M.disk media.new).reads self.old.medium) }
-        ensures others { M.tells → SameBut self.old.medium (M.disk media.old).reads (M.disk media.new).reads }
-        ensures sizes { (M.disk media.new).sizes ≡ (M.disk media.old).sizes }
-        ensures rises { Rises (M.disk media.old) (M.disk media.new) }
-        ensures counts { M.bytes_read media.new ≡ M.bytes_read media.old }
-        ensures cause { HasCauseOn self.old.medium (M.faults media.old) (M.faults media.new) result }
+        ensures front { KeepsFront self.old.medium (M.disk media.old) (M.disk media.new) }
+        ensures writes { WritesTo M.Media self.old.medium media.old media.new result }
     {
         let seq = self.next_seq();
         self.free_slot(media, pins)?;
@@ -163,9 +156,7 @@ impl Ring {
         ensures buffer { self.new.buffer ≡ self.old.buffer }
         ensures loaded { self.new.loaded ≡ self.old.loaded }
         ensures durable { OnOk result (Durable self.old.medium (M.disk media.old) → Durable self.old.medium (M.disk media.new)) }
-        ensures front { Durable self.old.medium (M.disk media.old)
-            → ChangesOnly self.old.medium (SameFront (content (M.disk media.old).reads self.old.medium)) (M.disk media.old) (M.disk media.new) }
-        ensures front_reads { M.tells → SameFront (content (M.disk media.old).reads self.old.medium) (content (M.disk media.new).reads self.old.medium) }
+        ensures front { KeepsFront self.old.medium (M.disk media.old) (M.disk media.new) }
         ensures others { M.tells → SameBut self.old.medium (M.disk media.old).reads (M.disk media.new).reads }
         ensures sizes { (M.disk media.new).sizes ≡ (M.disk media.old).sizes }
         ensures clock { RisesOrStays (M.disk media.old) (M.disk media.new) }
@@ -195,16 +186,9 @@ impl Ring {
             × ChangesOnly self.old.medium (HoldsAny self.old.segment self.old.slots (placed ∷ stages.closed ∷ stages.begun ∷ stages.done ∷ [])) (M.disk media.old) (M.disk media.new)
             × OnOk result (Reads self.new stages.done (M.disk media.new)) }
         ensures legal { IsBatch records.now }
-        ensures ring { IsSameRing self.old self.new }
-        ensures medium { HasMedium self.new (M.disk media.new).sizes }
-        ensures front { Durable self.old.medium (M.disk media.old)
-            → ChangesOnly self.old.medium (SameFront (content (M.disk media.old).reads self.old.medium)) (M.disk media.old) (M.disk media.new) }
-        ensures front_reads { M.tells → SameFront (content (M.disk media.old).reads self.old.medium) (content (M.disk media.new).reads self.old.medium) }
-        ensures others { M.tells → SameBut self.old.medium (M.disk media.old).reads (M.disk media.new).reads }
-        ensures sizes { (M.disk media.new).sizes ≡ (M.disk media.old).sizes }
-        ensures rises { Rises (M.disk media.old) (M.disk media.new) }
-        ensures counts { M.bytes_read media.new ≡ M.bytes_read media.old }
-        ensures cause { HasCauseOn self.old.medium (M.faults media.old) (M.faults media.new) result }
+        ensures ring { StaysOnMedium self.old self.new (M.disk media.new).sizes }
+        ensures front { KeepsFront self.old.medium (M.disk media.old) (M.disk media.new) }
+        ensures writes { WritesTo M.Media self.old.medium media.old media.new result }
     {
         self.loaded = None;
         let size = write_batch(records, &mut self.buffer);

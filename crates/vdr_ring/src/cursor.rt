@@ -1,27 +1,31 @@
-ghost use Rattle.std.specs.Prelude.{◌≡◌, ◌↔◌, List, IsTrue, Some, None, option_map};
+ghost use Rattle.std.specs.Prelude.{◌≡◌, ◌↔◌, List, IsTrue, None, option_map};
 ghost use Rattle.vdr_terms.specs.Records.{Record as Entry};
 ghost use Rattle.vdr_segment.specs.Batches.{AreRecords};
 ghost use Rattle.vdr_survey.specs.Positions.{IsAt};
-ghost use Rattle.vdr_ring.specs.Cursors.{position_in, without_item};
+ghost use Rattle.vdr_ring.specs.Cursors.{StepsFrom, position_in, without_item};
 
 use std::marker::Model;
 use vdr_entry::{Record, record_at};
-use vdr_survey::Position;
+use vdr_survey::{Position, Selection, pass_by, step};
 
-/// A position in a segment, and the record there. It takes no memory.
+/// A position in a segment, and the record there. It takes no memory, and each record is read into the place of the one before.
 #[derive(Drop)]
 pub struct Cursor {
     slot: Option<u32>,
     position: Position,
-    item: Option<Record>,
+    // The record that was read last.
+    item: Record,
+    // Whether the last step was to it.
+    found: bool,
 }
 
 impl Model for Cursor {
+    ghost use Rattle.std.specs.Prelude.{if◌then◌else◌, Some, None};
     ghost use Rattle.vdr_ring.specs.Cursors.{CursorState};
 
     ghost Value = { CursorState };
 
-    ghost view = { λ c. record { slot = c.slot; position = c.position; item = c.item } };
+    ghost view = { λ c. record { slot = c.slot; position = c.position; item = if c.found then Some c.item else None } };
 }
 
 impl Cursor {
@@ -33,7 +37,8 @@ impl Cursor {
         Cursor {
             slot: None,
             position: Position::front(),
-            item: None,
+            item: Record::start(0, 0, 0, 0),
+            found: false,
         }
     }
 
@@ -42,7 +47,7 @@ impl Cursor {
     pub fn item(&self) -> Option<&Record>
         ensures { option_map (λ r. r.now) result ≡ self.now.item }
     {
-        self.item.as_ref()
+        if self.found { Some(&self.item) } else { None }
     }
 
     // Where a step in this slot begins.
@@ -59,7 +64,7 @@ impl Cursor {
     pub(crate) fn clear_item(&mut self)
         ensures { self.new ≡ without_item self.old }
     {
-        self.item = None;
+        self.found = false;
     }
 
     // The slot is closed, and so the cursor stands in none.
@@ -70,14 +75,29 @@ impl Cursor {
         self.slot = None;
     }
 
-    pub(crate) fn step_to(&mut self, slot: u32, position: Position, item: Record)
-        ensures slot { self.new.slot ≡ Some slot }
-        ensures position { self.new.position ≡ position }
-        ensures item { self.new.item ≡ Some item }
+    // Steps from this position of a slot with these bytes to the next record that is selected. False where none is, and then it stands
+    // behind them all. Err: the batch that begins at this offset is not legal.
+    pub(crate) fn step_from(
+        &mut self,
+        slot: u32,
+        segment: &[u8],
+        position: Position,
+        selection: &Selection,
+    ) -> Result<bool, usize>
+        requires stands { IsAt segment.now position }
+        requires item { self.old.item ≡ None }
+        ensures { StepsFrom selection.now slot segment.now position self.old result self.new }
     {
+        let reached = pass_by(segment, position, selection);
+        let next = step(segment, reached, &mut self.item)?;
         self.slot = Some(slot);
-        self.position = position;
-        self.item = Some(item);
+        self.position = reached;
+        let Some(behind) = next else {
+            return Ok(false);
+        };
+        self.position = behind;
+        self.found = true;
+        Ok(true)
     }
 }
 

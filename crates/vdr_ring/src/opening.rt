@@ -1,4 +1,4 @@
-ghost use Rattle.std.specs.Prelude.{◌≡◌, ◌+◌, ◌*◌, ◌<◌, ◌≤◌, ℕ, List, length, get_or, IfOk};
+ghost use Rattle.std.specs.Prelude.{◌≡◌, ◌+◌, ◌*◌, ◌<◌, ◌≤◌, ℕ, List, length, get_or, IfOk, Some};
 ghost use Rattle.vdr_terms.specs.Needs.{Fits, slots_in};
 ghost use Rattle.vdr_outside.specs.Disk.{Durable, Unchanged, content};
 ghost use Rattle.vdr_outside.specs.declared.fault.PartRefused.TheVariants.{Damaged};
@@ -6,7 +6,7 @@ ghost use Rattle.vdr_config.specs.Sizes.{sizes_of, window_of};
 ghost use Rattle.vdr_slots.specs.Areas.{HasRoom};
 ghost use Rattle.vdr_ring.specs.Sequence.{Placed};
 ghost use Rattle.vdr_ring.specs.Rings.{HasMedium, Reads};
-ghost use Rattle.vdr_ring.specs.Opening.{HasFaultCause, Refuses};
+ghost use Rattle.vdr_ring.specs.Opening.{HasFaultCause, Refuses, slot_bytes};
 ghost use Rattle.vdr_ring.specs.Fronts.{AreSlots, Finds};
 
 use crate::Ring;
@@ -53,17 +53,20 @@ fn seconds_of(config: &Config, m: u8) -> u64
     }
 }
 
-// Reads the medium's segments, in order of sequence number, and its closed slots. The buffer has room for a segment.
+// Reads the medium's segments, in order of sequence number, and its closed slots, and answers besides the slot whose bytes the buffer
+// holds then. The buffer has room for a segment.
 fn read_segments<M: Media>(
     alloc: Global,
     media: &mut M,
     area: Area,
     buffer: &mut [u8],
-) -> Result<Fronts, PartRefused>
+) -> Result<(Fronts, Option<u32>), PartRefused>
     requires room { HasRoom area (M.disk media.old).sizes }
     requires whole { length buffer.old ≡ area.segment }
-    ensures slots { IfOk result (λ f. AreSlots area.slots f.opened.items f.closed.items) }
-    ensures found { IfOk result (λ f. M.tells → Finds area.segment area.slots (content (M.disk media.old).reads area.medium) f.opened.items f.closed.items) }
+    ensures slots { IfOk result (λ x. AreSlots area.slots x.0.opened.items x.0.closed.items) }
+    ensures found { IfOk result (λ x. M.tells → Finds area.segment area.slots (content (M.disk media.old).reads area.medium) x.0.opened.items x.0.closed.items) }
+    ensures held { IfOk result (λ x. M.tells → (slot : ℕ) → x.1 ≡ Some slot
+        → buffer.new ≡ slot_bytes area.segment slot (content (M.disk media.old).reads area.medium)) }
     ensures damaged { (k offset : ℕ) → result ≡ Err (Damaged k offset) → (k ≡ area.medium)
         × (M.tells → Refuses area.segment area.slots (content (M.disk media.old).reads area.medium) offset) }
     ensures unchanged { Unchanged (M.disk media.old) (M.disk media.new) }
@@ -71,14 +74,14 @@ fn read_segments<M: Media>(
 {
     let mut fronts = read_fronts(alloc, media, area)?;
     sort_by_seq(&mut fronts.opened);
-    survey_all(media, area, &mut fronts.opened, buffer)?;
+    let held = survey_all(media, area, &mut fronts.opened, buffer)?;
     if let Some(index) = first_break(&fronts.opened) {
         return Err(PartRefused::Damaged {
             medium: area.medium,
             offset: area.place_of(fronts.opened[index].slot),
         });
     }
-    Ok(fronts)
+    Ok((fronts, held))
 }
 
 impl Ring {
@@ -109,7 +112,7 @@ impl Ring {
         let Ok(mut buffer) = vec![in alloc; 0; area.segment as usize] else {
             return Err(PartRefused::NoMemory);
         };
-        let Fronts { opened, closed } = read_segments(alloc, media, area, &mut buffer)?;
+        let (Fronts { opened, closed }, loaded) = read_segments(alloc, media, area, &mut buffer)?;
         let Ok(table) = Table::new(opened, &closed) else {
             return Err(PartRefused::NoMemory);
         };
@@ -118,7 +121,7 @@ impl Ring {
             seconds: seconds_of(config, m),
             table,
             buffer,
-            loaded: None,
+            loaded,
         })
     }
 }

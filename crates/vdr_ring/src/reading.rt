@@ -15,7 +15,7 @@ use crate::{Cursor, ReadRefused, Ring};
 use vdr_outside::{Fault, Media};
 use vdr_segment::OPEN_GATE;
 use vdr_slots::read_slot;
-use vdr_survey::{Position, step};
+use vdr_survey::{Position, Selection};
 
 impl Ring {
     // Reads a slot into the buffer, where the buffer does not hold it already. Says whether it did.
@@ -74,7 +74,13 @@ impl Ring {
     }
 
     // A step of a cursor that has no record, in the slot that is loaded.
-    fn step_in(&mut self, slot: u32, visit: &mut Cursor, held: bool) -> Result<bool, ReadRefused>
+    fn step_in(
+        &mut self,
+        slot: u32,
+        visit: &mut Cursor,
+        selection: &Selection,
+        held: bool,
+    ) -> Result<bool, ReadRefused>
         requires loaded { self.old.loaded ≡ Some slot }
         requires stands { IsTrue held → StandsIn self.old visit.old }
         requires item { visit.old.item ≡ None }
@@ -83,7 +89,7 @@ impl Ring {
         ensures left { (self.new.loaded ≡ self.old.loaded) ⊎ (self.new.loaded ≡ None) }
         ensures stands { StandsIn self.new visit.new }
         ensures no_fault { result ≢ Err AFault }
-        ensures steps { Steps self.old.medium slot (place_of self.old.segment slot) self.old.buffer visit.old result visit.new }
+        ensures steps { Steps selection.now self.old.medium slot (place_of self.old.segment slot) self.old.buffer visit.old result visit.new }
     {
         if !self.is_open() {
             visit.leave();
@@ -93,32 +99,29 @@ impl Ring {
             self.loaded = None;
             return Err(self.damaged(slot, 0));
         };
-        match step(&self.buffer, position) {
-            Ok(Some((item, next))) => {
-                visit.step_to(slot, next, item);
-                Ok(true)
-            }
-            Ok(None) => Ok(false),
+        match visit.step_from(slot, &self.buffer, position, selection) {
+            Ok(found) => Ok(found),
             Err(at) => Err(self.damaged(slot, at)),
         }
     }
 
-    /// Steps to the next record of the segment in a slot. False exactly where no further record is there, as in a slot that is
-    /// closed, after which the cursor stands in none. A cursor that is new begins at the first record of the slot, and so does
-    /// one that stands in another slot. The slot is read whole where the last step was in another one, or an `append` came
-    /// since; else nothing is read. It takes no memory.
+    /// Steps to the next record of the segment in a slot that is selected. False exactly where no further one is there, as in a slot
+    /// that is closed, after which the cursor stands in none. A cursor that is new begins at the first record of the slot, and so
+    /// does one that stands in another slot. The slot is read whole where the last step was in another one, or an `append` came
+    /// since; else nothing is read. Of a record that is not selected only the head is looked at. It takes no memory.
     ///
     /// The cursor is new, or its last step was by this ring and no other cursor's came since (`stands`): then it may go on in
     /// the buffer without a look at what is behind it.
     ///
-    /// `Damaged` names the medium and where the next batch begins, in bytes, exactly where that batch is not legal. Where the
-    /// bytes have changed so that no record begins where the cursor stands, it names the slot. `Fault`: the read failed. Where a
+    /// `Damaged` names the medium and where a batch begins, in bytes, exactly where that batch is not legal and no record before it is
+    /// selected. Where the bytes have changed so that no record begins where the cursor stands, it names the slot. `Fault`: the read failed. Where a
     /// step is refused, the cursor stays where it is, without a record.
     pub fn read_span<M: Media>(
         &mut self,
         media: &mut M,
         slot: u32,
         visit: &mut Cursor,
+        selection: &Selection,
     ) -> Result<bool, ReadRefused>
         requires room { HasMedium self.old (M.disk media.old).sizes }
         requires within { slot < self.old.slots }
@@ -131,10 +134,10 @@ impl Ring {
         ensures reads { (placed : List Placed) → Reads self.old placed (M.disk media.old) → Reads self.new placed (M.disk media.new) }
         ensures item { visit.new.item ≢ None ↔ (result ≡ Ok true) }
         ensures steps { M.tells → IsLoaded self.old (M.disk media.old)
-            → Steps self.old.medium slot (place_of self.old.segment slot) (slot_read self.old slot (M.disk media.old)) visit.old result visit.new }
+            → Steps selection.now self.old.medium slot (place_of self.old.segment slot) (slot_read self.old slot (M.disk media.old)) visit.old result visit.new }
         ensures visits { M.tells → (placed : List Placed) (records : List Entry) → Reads self.old placed (M.disk media.old)
             → AreAhead (slot_read self.old slot (M.disk media.old)) placed slot visit.old records
-            → Visits (slot_read self.old slot (M.disk media.old)) placed slot records result visit.new }
+            → Visits selection.now (slot_read self.old slot (M.disk media.old)) placed slot records result visit.new }
         ensures medium { (m offset : ℕ) → result ≡ Err (Damaged m offset) → m ≡ self.old.medium }
         ensures unchanged { Unchanged (M.disk media.old) (M.disk media.new) }
         ensures again { self.old.loaded ≡ Some slot → M.bytes_read media.new ≡ M.bytes_read media.old }
@@ -144,6 +147,6 @@ impl Ring {
     {
         visit.clear_item();
         let held = self.load(media, slot)?;
-        self.step_in(slot, visit, held)
+        self.step_in(slot, visit, selection, held)
     }
 }

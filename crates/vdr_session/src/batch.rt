@@ -2,13 +2,13 @@
 ghost use Rattle.std.specs.Prelude.{◌≡◌, ℕ, Bool, List, []};
 
 use crate::records::{Began, Records};
-use vdr_intake::Captured;
+use vdr_intake::CapturedBuffer;
 use vdr_latch::Job;
 
 /// The items that were popped and are not yet recorded, and whether the media still work.
 #[derive(Drop)]
 pub(crate) struct Batch {
-    pub items: Vec<Captured>,
+    pub items: CapturedBuffer,
     pub works: bool,
 }
 

@@ -1,5 +1,5 @@
 // A session on media that were lent to it, with the close of its run.
-ghost use Rattle.std.specs.Prelude.{◌≡◌, ◌≤◌, ◌<◌, ◌/◌, ◌^◌, ℕ, [], true, false, length, vec_capacity, get_or, slice_index_or, None, IfSome};
+ghost use Rattle.std.specs.Prelude.{◌≡◌, ◌≤◌, ◌<◌, ◌/◌, ◌^◌, ℕ, [], true, false, length, get_or, slice_index_or, None, IfSome};
 ghost use Rattle.vdr_terms.specs.Rates.{is_configured};
 ghost use Rattle.vdr_config.specs.Sizes.{limits_in};
 ghost use Rattle.vdr_history.specs.Histories.{Opening};
@@ -80,7 +80,7 @@ pub(crate) fn run_lent<
     requires desks { length desks.old < 2 ^ 32 }
     requires sixteen { length lanes.old ≡ 16 }
     requires ready { (g : ℕ) (d : _) → g < 16 → LaneIsReady (λ g. is_configured (limits_in O.rates g)) g (get_or memory.old.queues g None) (get_or memory.old.takers g None) (slice_index_or lanes.old g d) }
-    requires room { (largest_item ≤ room) × (room ≤ O.room) × (room / least_item ≤ vec_capacity memory.old.batch.items) }
+    requires room { (largest_item ≤ room) × (room ≤ O.room) × (room / least_item ≤ memory.old.batch.items.capacity) }
     requires empty { memory.old.batch.items.items ≡ [] }
     ensures same { result.0.ghost_name ≡ media.entry.ghost_name }
     ensures ended { IfSome result.1 (λ e. HasEnded P.Port turns (λ g. is_configured (limits_in O.rates g)) memory.old.queues memory.old.takers memory.new.takers lanes.old lanes.new

@@ -1,5 +1,5 @@
 // The captures and the recorder's loop beside each other.
-ghost use Rattle.std.specs.Prelude.{◌≡◌, ◌≤◌, ◌<◌, ◌/◌, ◌++◌, ℕ, List, [], All, true, false, vec_capacity, slice_index_or, length};
+ghost use Rattle.std.specs.Prelude.{◌≡◌, ◌≤◌, ◌<◌, ◌/◌, ◌++◌, ℕ, List, [], All, true, false, slice_index_or, length};
 ghost use mathlib.Core.List.{IsPrefix};
 ghost use Rattle.vdr_history.specs.Taken.{Captured as CapturedTold};
 ghost use Rattle.vdr_pace.specs.Commits.{largest_item, least_item};
@@ -57,7 +57,7 @@ pub(crate) fn capture_and_record<T: Records + Send, P: Port + Send, R: Threads +
     requires takes { (history : List Marked) (x : T) → T.leaves history x → is_begun history ≡ true → T.takes (taken_in history) x }
     requires met { AreMet T.configured queues.now takers.old }
     requires popped { ArePopped (taken_in pass.old.own) takers.old }
-    requires room { (largest_item ≤ room) × (room ≤ T.room) × (room / least_item ≤ vec_capacity batch.old.items) }
+    requires room { (largest_item ≤ room) × (room ≤ T.room) × (room / least_item ≤ batch.old.items.capacity) }
     requires empty { batch.old.items.items ≡ [] }
     ensures captured { (i : ℕ) (d : _) → i < length lanes.old → CapturesHeld P.Port turns (slice_index_or lanes.old i d) (slice_index_or lanes.new i d) }
     ensures pass { (pass.new.latch ≡ pass.old.latch) × (pass.new.parts ≡ pass.old.parts) × (pass.new.leads ≡ true) × (is_begun pass.new.own ≡ true) }
@@ -66,7 +66,7 @@ pub(crate) fn capture_and_record<T: Records + Send, P: Port + Send, R: Threads +
     ensures popped { (lost : List CapturedTold) × ArePopped (taken_in pass.new.own ++ lost) takers.new × (result ≡ true → lost ≡ []) }
     ensures fails { result ≡ false → has_fault pass.new.seen ≡ true }
     ensures joined { StayJoined takers.old takers.new }
-    ensures room { room / least_item ≤ vec_capacity batch.new.items }
+    ensures room { room / least_item ≤ batch.new.items.capacity }
     ensures empty { batch.new.items.items ≡ [] }
 {
     let done = Done::new();
@@ -85,7 +85,7 @@ pub(crate) fn capture_and_record<T: Records + Send, P: Port + Send, R: Threads +
             requires takes { (history : List Marked) (x : T) → T.leaves history x → is_begun history ≡ true → T.takes (taken_in history) x }
             requires met { AreMet T.configured queues.now takers.now }
             requires popped { ArePopped (taken_in pass.now.own) takers.now }
-            requires room { (largest_item ≤ room) × (room ≤ T.room) × (room / least_item ≤ vec_capacity batch.now.items) }
+            requires room { (largest_item ≤ room) × (room ≤ T.room) × (room / least_item ≤ batch.now.items.capacity) }
             requires empty { batch.now.items.items ≡ [] }
             ensures pass { (pass.exit.now.latch ≡ pass.entry.now.latch) × (pass.exit.now.parts ≡ pass.entry.now.parts) × (pass.exit.now.leads ≡ true) × (is_begun pass.exit.now.own ≡ true) }
             ensures seen { IsPrefix pass.entry.now.seen pass.exit.now.seen }
@@ -93,7 +93,7 @@ pub(crate) fn capture_and_record<T: Records + Send, P: Port + Send, R: Threads +
             ensures popped { (lost : List CapturedTold) × ArePopped (taken_in pass.exit.now.own ++ lost) takers.exit.now × (result ≡ true → lost ≡ []) }
             ensures fails { result ≡ false → has_fault pass.exit.now.seen ≡ true }
             ensures joined { StayJoined takers.entry.now takers.exit.now }
-            ensures room { room / least_item ≤ vec_capacity batch.exit.now.items }
+            ensures room { room / least_item ≤ batch.exit.now.items.capacity }
             ensures empty { batch.exit.now.items.items ≡ [] }
         { record_queued(rt, latch, pass, queues, takers, batch, room, flag) },
     );

@@ -1,5 +1,5 @@
 // The oldest item of each queue, held until a batch takes it.
-ghost use Rattle.std.specs.Prelude.{◌≡◌, ◌≤◌, ◌<◌, ◌+◌, ◌/◌, ◌++◌, ℕ, Bool, List, [], true, None, Some, IfSome, get_or, length, vec_capacity};
+ghost use Rattle.std.specs.Prelude.{◌≡◌, ◌≤◌, ◌<◌, ◌+◌, ◌/◌, ◌++◌, ℕ, Bool, List, [], true, None, Some, IfSome, get_or, length};
 ghost use Rattle.vdr_history.specs.Taken.{Captured as CapturedTold};
 ghost use Rattle.vdr_pace.specs.Commits.{items_size, least_item};
 ghost use Rattle.vdr_session.specs.Heads.{AreHeld, IsOldest, NoneHeld, received_of as received};
@@ -7,7 +7,7 @@ ghost use Rattle.vdr_session.specs.Lanes.{AreDrained, AreMet, StayJoined, held};
 
 use crate::popping::{hold, size_of, take};
 use std::sync::Wait;
-use vdr_intake::{Captured, Intake, Taker};
+use vdr_intake::{Captured, CapturedBuffer, Intake, Taker};
 
 /// Holds the oldest item of each queue of which none is held. Says whether none is held then: each queue was found empty.
 pub(crate) fn hold_all<R: Wait>(
@@ -76,17 +76,17 @@ pub(crate) fn fill<R: Wait>(
     queues: &[Option<Intake>; 16],
     takers: &mut [Option<Taker>; 16],
     heads: &mut [Option<Captured>; 16],
-    batch: &mut Vec<Captured>,
+    batch: &mut CapturedBuffer,
     room: usize,
 )
     requires met { (configured : ℕ → Bool) × AreMet configured queues.now takers.old }
     requires empty { batch.old.items ≡ [] }
-    requires space { room / least_item ≤ vec_capacity batch.old }
+    requires space { room / least_item ≤ batch.old.capacity }
     ensures met { (configured : ℕ → Bool) → AreMet configured queues.now takers.old → AreMet configured queues.now takers.new }
     ensures held { (items : List CapturedTold) → AreHeld items heads.old takers.old → AreHeld (items ++ batch.new.items) heads.new takers.new }
     ensures joined { StayJoined takers.old takers.new }
     ensures fits { items_size batch.new.items ≤ room }
-    ensures space { room / least_item ≤ vec_capacity batch.new }
+    ensures space { room / least_item ≤ batch.new.capacity }
     ensures sixteen { (length takers.new ≡ 16) × (length heads.new ≡ 16) }
 {
     let mut left = room;

@@ -1,5 +1,5 @@
 // A session on media that were lent to it, from the making of the latch to its close.
-ghost use Rattle.std.specs.Prelude.{◌≡◌, ◌≤◌, ◌<◌, ◌/◌, ◌^◌, ℕ, List, [], true, false, length, vec_capacity, get_or, slice_index_or, None, IfSome};
+ghost use Rattle.std.specs.Prelude.{◌≡◌, ◌≤◌, ◌<◌, ◌/◌, ◌^◌, ℕ, List, [], true, false, length, get_or, slice_index_or, None, IfSome};
 ghost use Rattle.vdr_terms.specs.Rates.{is_configured};
 ghost use Rattle.vdr_config.specs.Sizes.{limits_in};
 ghost use Rattle.vdr_history.specs.Histories.{Opening};
@@ -70,7 +70,7 @@ pub(crate) fn record_lent<
     requires desks { length desks.old < 2 ^ 32 }
     requires sixteen { length lanes.old ≡ 16 }
     requires ready { (g : ℕ) (d : _) → g < 16 → LaneIsReady (λ g. is_configured (limits_in O.rates g)) g (get_or queues.now g None) (get_or takers.old g None) (slice_index_or lanes.old g d) }
-    requires room { (largest_item ≤ room) × (room ≤ O.room) × (room / least_item ≤ vec_capacity batch.old.items) }
+    requires room { (largest_item ≤ room) × (room ≤ O.room) × (room / least_item ≤ batch.old.items.capacity) }
     requires empty { batch.old.items.items ≡ [] }
     ensures same { result.0.ghost_name ≡ media.entry.ghost_name }
     ensures closed { IfSome result.1 (λ r. (marks : List Marked)

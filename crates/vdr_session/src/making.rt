@@ -1,5 +1,5 @@
 // The memory of a session, before it begins.
-ghost use Rattle.std.specs.Prelude.{◌≡◌, ◌≤◌, ◌<◌, ◌/◌, ℕ, [], None, OnOk, IfOk, length, replicate, vec_capacity, get_or, slice_index_or, false};
+ghost use Rattle.std.specs.Prelude.{◌≡◌, ◌≤◌, ◌<◌, ◌/◌, ℕ, [], None, OnOk, IfOk, length, replicate, get_or, slice_index_or, false};
 ghost use Rattle.vdr_pace.specs.Commits.{least_item};
 ghost use Rattle.vdr_session.specs.Ran.{IsSetUp, LaneIsReady};
 
@@ -8,7 +8,7 @@ use crate::plan::Plan;
 use std::alloc::Global;
 use vdr_capture::Lane;
 use vdr_gap::Tally;
-use vdr_intake::{Intake, NoMemory, Taker};
+use vdr_intake::{CapturedBuffer, Intake, NoMemory, Taker};
 use vdr_recorder::LEAST_ITEM;
 
 // Sets the lane of a group anew, with a queue of its own where the group is configured.
@@ -98,7 +98,7 @@ impl Memory {
         ensures set_up { IfOk result (λ m. (g : ℕ) (d : _) → g < 16
             → IsSetUp (get_or plan.now.configured g false) g plan.now.capacity (get_or m.queues g None) (get_or m.takers g None) (slice_index_or lanes.old g d) (slice_index_or lanes.new g d)) }
         ensures same { (g : ℕ) (d : _) → g < 16 → (slice_index_or lanes.new g d).port ≡ (slice_index_or lanes.old g d).port }
-        ensures batch { IfOk result (λ m. (m.batch.items.items ≡ []) × (plan.now.room / least_item ≤ vec_capacity m.batch.items)) }
+        ensures batch { IfOk result (λ m. (m.batch.items.items ≡ []) × (plan.now.room / least_item ≤ m.batch.items.capacity)) }
         ensures sixteen { IfOk result (λ m. (length m.queues ≡ 16) × (length m.takers ≡ 16)) }
     {
         let mut queues = none();
@@ -111,7 +111,7 @@ impl Memory {
             &mut queues,
             &mut takers,
         )?;
-        let Ok(items) = Vec::with_capacity(alloc, plan.room / LEAST_ITEM) else {
+        let Ok(items) = CapturedBuffer::with_capacity(alloc, plan.room / LEAST_ITEM) else {
             return Err(NoMemory);
         };
         Ok(Memory {

@@ -1,21 +1,24 @@
 // Popping the queue of one group.
-ghost use Rattle.std.specs.Prelude.{◌≡◌, ◌≤◌, ◌<◌, ◌∷◌, ◌++◌, ℕ, Bool, List, [], true, None, Some, vec_len, vec_capacity};
+ghost use Rattle.std.specs.Prelude.{◌≡◌, ◌≤◌, ◌<◌, ◌∷◌, ◌++◌, ℕ, Bool, List, [], true, None, Some, length};
 ghost use Rattle.vdr_pace.specs.Commits.{items_size};
 ghost use Rattle.vdr_intake.specs.Items.{IsRun};
 ghost use Rattle.vdr_session.specs.Heads.{Steps};
 ghost use Rattle.vdr_session.specs.Lanes.{AllPopped, HasPopped, IsDrained, IsFront, IsMet, Pops, held};
 
 use std::sync::Wait;
-use vdr_intake::{Captured, Intake, Taker};
+use vdr_intake::{Captured, CapturedBuffer, Intake, Taker};
 use vdr_recorder::LEAST_ITEM;
 
-// Adds an item to a batch that has room for it.
-fn push(batch: &mut Vec<Captured>, item: Captured)
-    requires { vec_len batch.old < vec_capacity batch.old }
-    ensures items { batch.new.items ≡ batch.old.items ++ item ∷ [] }
-    ensures room { vec_capacity batch.old ≤ vec_capacity batch.new }
+// Adds a copy of the held item, if there is one, to a batch that has room for it.
+fn push_held(batch: &mut CapturedBuffer, head: &Option<Captured>)
+    requires { length batch.old.items < batch.old.capacity }
+    ensures items { batch.new.items ≡ batch.old.items ++ held head.now }
+    ensures capacity { batch.new.capacity ≡ batch.old.capacity }
 {
-    let _ = batch.push(item);
+    match head {
+        Some(item) => batch.push_copy(item),
+        None => {}
+    }
 }
 
 /// How many bytes of a batch the held item takes at most: those of a Gap and of its Datagram.
@@ -69,23 +72,20 @@ pub(crate) fn hold<R: Wait>(
     head.is_none()
 }
 
-/// Moves the item that is held of group g to the batch, and holds the next one of its queue.
+/// Copies the item that is held of group g to the batch, and holds the next one of its queue in its place.
 pub(crate) fn take<R: Wait>(
     rt: &R,
     queue: &Option<Intake>,
     taker: &mut Option<Taker>,
     head: &mut Option<Captured>,
-    batch: &mut Vec<Captured>,
+    batch: &mut CapturedBuffer,
 )
     requires met { (configured : ℕ → Bool) × (g : ℕ) × IsMet configured g queue.now taker.old }
-    requires space { vec_len batch.old < vec_capacity batch.old }
+    requires space { length batch.old.items < batch.old.capacity }
     ensures steps { (configured : ℕ → Bool) (g : ℕ) → IsMet configured g queue.now taker.old → Steps configured g queue.now taker.old taker.new head.old head.new (held head.old) }
     ensures batch { batch.new.items ≡ batch.old.items ++ held head.old }
-    ensures space { vec_capacity batch.old ≤ vec_capacity batch.new }
+    ensures space { batch.old.capacity ≤ batch.new.capacity }
 {
-    let next = pop_of(rt, queue, taker);
-    match std::mem::replace(head, next) {
-        Some(item) => push(batch, item),
-        None => {}
-    }
+    push_held(batch, head);
+    *head = pop_of(rt, queue, taker);
 }

@@ -1,5 +1,5 @@
 // The recorder's loop.
-ghost use Rattle.std.specs.Prelude.{◌≡◌, ◌≤◌, ◌<◌, ◌/◌, ◌++◌, ℕ, List, [], true, false, length, vec_capacity};
+ghost use Rattle.std.specs.Prelude.{◌≡◌, ◌≤◌, ◌<◌, ◌/◌, ◌++◌, ℕ, List, [], true, false, length};
 ghost use mathlib.Core.List.{IsPrefix};
 ghost use Rattle.vdr_history.specs.Taken.{Captured as CapturedTold};
 ghost use Rattle.vdr_pace.specs.Commits.{largest_item, least_item};
@@ -38,7 +38,7 @@ pub(crate) fn record_queued<T: Records, R: Wait>(
     requires takes { (history : List Marked) (x : T) → T.leaves history x → is_begun history ≡ true → T.takes (taken_in history) x }
     requires met { AreMet T.configured queues.now takers.old }
     requires popped { ArePopped (taken_in pass.old.own) takers.old }
-    requires room { (largest_item ≤ room) × (room ≤ T.room) × (room / least_item ≤ vec_capacity batch.old.items) }
+    requires room { (largest_item ≤ room) × (room ≤ T.room) × (room / least_item ≤ batch.old.items.capacity) }
     requires empty { batch.old.items.items ≡ [] }
     ensures pass { (pass.new.latch ≡ pass.old.latch) × (pass.new.parts ≡ pass.old.parts) × (pass.new.leads ≡ true) × (is_begun pass.new.own ≡ true) }
     ensures seen { IsPrefix pass.old.seen pass.new.seen }
@@ -48,7 +48,7 @@ pub(crate) fn record_queued<T: Records, R: Wait>(
     ensures fails { result ≡ false → has_fault pass.new.seen ≡ true }
     ensures drained { result ≡ true → AreDrained takers.new }
     ensures sixteen { length takers.new ≡ 16 }
-    ensures room { room / least_item ≤ vec_capacity batch.new.items }
+    ensures room { room / least_item ≤ batch.new.items.capacity }
     ensures empty { batch.new.items.items ≡ [] }
 {
     let mut heads = none();

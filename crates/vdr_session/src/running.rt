@@ -1,5 +1,5 @@
 // What goes between the making of the latch and its close.
-ghost use Rattle.std.specs.Prelude.{◌≡◌, ◌≤◌, ◌<◌, ◌/◌, ◌++◌, ℕ, List, [], All, true, false, vec_capacity, get_or, slice_index_or, length, None};
+ghost use Rattle.std.specs.Prelude.{◌≡◌, ◌≤◌, ◌<◌, ◌/◌, ◌++◌, ℕ, List, [], All, true, false, get_or, slice_index_or, length, None};
 ghost use mathlib.Core.List.{IsPrefix};
 ghost use Rattle.vdr_desk.specs.Desks.{HasServed};
 ghost use Rattle.vdr_history.specs.Taken.{Captured as CapturedTold};
@@ -54,7 +54,7 @@ pub(crate) fn run_lanes<
     requires leads { (pass.old.leads ≡ true) × (is_begun pass.old.own ≡ true) × (taken_in pass.old.own ≡ []) }
     requires marks { (m : Marked) → T.leading m ≡ is_leading m }
     requires takes { (history : List Marked) (x : T) → T.leaves history x → is_begun history ≡ true → T.takes (taken_in history) x }
-    requires room { (largest_item ≤ room) × (room ≤ T.room) × (room / least_item ≤ vec_capacity batch.old.items) }
+    requires room { (largest_item ≤ room) × (room ≤ T.room) × (room / least_item ≤ batch.old.items.capacity) }
     requires empty { batch.old.items.items ≡ [] }
     ensures lanes { (g : ℕ) (d : _) → g < 16 → LaneRan P.Port turns g (get_or queues.now g None) (get_or takers.new g None) (slice_index_or lanes.old g d) (slice_index_or lanes.new g d) }
     ensures pass { (pass.new.latch ≡ pass.old.latch) × (pass.new.parts ≡ pass.old.parts) × (pass.new.leads ≡ true) × (is_begun pass.new.own ≡ true) }

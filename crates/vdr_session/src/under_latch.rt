@@ -1,5 +1,5 @@
 // A session over a value, from the making of the latch to its close.
-ghost use Rattle.std.specs.Prelude.{◌≡◌, ◌≤◌, ◌<◌, ◌/◌, ◌++◌, ◌∷◌, ◌^◌, ℕ, List, [], true, false, vec_capacity, get_or, slice_index_or, length, None, IfOk, IfErr};
+ghost use Rattle.std.specs.Prelude.{◌≡◌, ◌≤◌, ◌<◌, ◌/◌, ◌++◌, ◌∷◌, ◌^◌, ℕ, List, [], true, false, get_or, slice_index_or, length, None, IfOk, IfErr};
 ghost use Rattle.std.specs.List.{filter};
 ghost use Rattle.vdr_pace.specs.Commits.{largest_item, least_item};
 ghost use Rattle.vdr_intake.specs.Items.{most_items};
@@ -55,7 +55,7 @@ pub(crate) fn under_latch<
     requires marks { (m : Marked) → T.leading m ≡ is_leading m }
     requires fresh { (history : List Marked) (x : T) → T.leaves history x → filter T.leading history ≡ [] → T.fresh x }
     requires takes { (history : List Marked) (x : T) → T.leaves history x → is_begun history ≡ true → T.takes (taken_in history) x }
-    requires room { (largest_item ≤ room) × (room ≤ T.room) × (room / least_item ≤ vec_capacity batch.old.items) }
+    requires room { (largest_item ≤ room) × (room ≤ T.room) × (room / least_item ≤ batch.old.items.capacity) }
     requires empty { batch.old.items.items ≡ [] }
     ensures closed { IfOk result (λ r. (marks : List Marked) × T.leaves marks r.value × HasClosed P.Port turns T.configured queues.now takers.old takers.new lanes.old lanes.new r.began marks × DesksRan L.Link T.answers turns desks.old desks.new r.began marks × T.means r.began) }
     ensures refused { IfErr result (λ r. (r.value ≡ value) × (lanes.new ≡ lanes.old) × (takers.new ≡ takers.old) × (desks.new ≡ desks.old)) }

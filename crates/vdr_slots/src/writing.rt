@@ -1,7 +1,7 @@
 ghost use Rattle.std.specs.Prelude.{◌≡◌, ◌≢◌, ◌+◌, ◌<◌, ◌≤◌, [], ◌∷◌, ◌++◌, List, length, drop, slice_get, Option, None, Some, OnOk};
 ghost use Rattle.vdr_terms.specs.Records.{Record as Entry};
-ghost use Rattle.vdr_outside.specs.Causes.{HasCauseOn};
-ghost use Rattle.vdr_outside.specs.Disk.{Durable, InRange, Overwritten, Rises, SameBut, content, over};
+ghost use Rattle.vdr_outside.specs.Disk.{InRange, Overwritten, content, over};
+ghost use Rattle.vdr_outside.specs.Frames.{WritesThrough};
 ghost use Rattle.vdr_outside.specs.Moments.{AtEachMoment, ChangesOnly, Settled};
 ghost use Rattle.vdr_segment.specs.Gates.{closed_gate};
 ghost use Rattle.vdr_segment.specs.Headers.{new_header};
@@ -9,6 +9,7 @@ ghost use Rattle.vdr_segment.specs.Batches.{IsBatch, batch_bytes};
 ghost use Rattle.vdr_segment.specs.Segments.{Segment, end_of};
 ghost use Rattle.vdr_slots.specs.Slots.{HoldsSlots, HoldsEither, SameFront, slots_closed, slots_begun, slots_from, slots_with_batch};
 ghost use Rattle.vdr_slots.specs.Areas.{HasRoom};
+ghost use Rattle.vdr_slots.specs.Writes.{KeepsFront};
 
 use crate::Area;
 use vdr_bytes::put;
@@ -23,15 +24,10 @@ fn write_synced<M: Media>(media: &mut M, area: Area, at: u64, bytes: &[u8]) -> R
     requires behind { slots_from ≤ at }
     ensures reads { OnOk result (M.tells
         → content (M.disk media.new).reads area.medium ≡ over (content (M.disk media.old).reads area.medium) at bytes.now) }
-    ensures durable { OnOk result (Durable area.medium (M.disk media.new)) }
     ensures moments { AtEachMoment (M.disk media.old) (M.disk media.new)
         (Overwritten area.medium at (length bytes.now) (M.disk media.old).now) }
     ensures front_reads { M.tells → SameFront (content (M.disk media.old).reads area.medium) (content (M.disk media.new).reads area.medium) }
-    ensures others { M.tells → SameBut area.medium (M.disk media.old).reads (M.disk media.new).reads }
-    ensures sizes { (M.disk media.new).sizes ≡ (M.disk media.old).sizes }
-    ensures rises { Rises (M.disk media.old) (M.disk media.new) }
-    ensures counts { M.bytes_read media.new ≡ M.bytes_read media.old }
-    ensures cause { HasCauseOn area.medium (M.faults media.old) (M.faults media.new) result }
+    ensures writes { WritesThrough M.Media area.medium media.old media.new result }
 {
     media.write(area.medium, at, bytes)?;
     media.sync(area.medium)?;
@@ -49,15 +45,8 @@ pub fn close_slot<M: Media>(media: &mut M, area: Area, slot: u32) -> Result<(), 
         → ChangesOnly area.medium (HoldsEither area.segment slots (slots_closed slots slot)) (M.disk media.old) (M.disk media.new) }
     ensures settled { (slots : List (Option Segment)) → Settled area.medium (HoldsSlots area.segment slots) (M.disk media.old)
         → OnOk result (Settled area.medium (HoldsSlots area.segment (slots_closed slots slot)) (M.disk media.new)) }
-    ensures durable { OnOk result (Durable area.medium (M.disk media.new)) }
-    ensures front { Durable area.medium (M.disk media.old)
-        → ChangesOnly area.medium (SameFront (content (M.disk media.old).reads area.medium)) (M.disk media.old) (M.disk media.new) }
-    ensures front_reads { M.tells → SameFront (content (M.disk media.old).reads area.medium) (content (M.disk media.new).reads area.medium) }
-    ensures others { M.tells → SameBut area.medium (M.disk media.old).reads (M.disk media.new).reads }
-    ensures sizes { (M.disk media.new).sizes ≡ (M.disk media.old).sizes }
-    ensures rises { Rises (M.disk media.old) (M.disk media.new) }
-    ensures counts { M.bytes_read media.new ≡ M.bytes_read media.old }
-    ensures cause { HasCauseOn area.medium (M.faults media.old) (M.faults media.new) result }
+    ensures front { KeepsFront area.medium (M.disk media.old) (M.disk media.new) }
+    ensures writes { WritesThrough M.Media area.medium media.old media.new result }
 {
     write_synced(media, area, area.place_of(slot), &[CLOSED_GATE])
 }
@@ -92,15 +81,8 @@ pub fn begin_segment<M: Media>(
         → ChangesOnly area.medium (HoldsEither area.segment slots (slots_begun slots slot seq first)) (M.disk media.old) (M.disk media.new) }
     ensures settled { (slots : List (Option Segment)) → Settled area.medium (HoldsSlots area.segment slots) (M.disk media.old) → slice_get slots slot ≡ Some None
         → OnOk result (Settled area.medium (HoldsSlots area.segment (slots_begun slots slot seq first)) (M.disk media.new)) }
-    ensures durable { OnOk result (Durable area.medium (M.disk media.new)) }
-    ensures front { Durable area.medium (M.disk media.old)
-        → ChangesOnly area.medium (SameFront (content (M.disk media.old).reads area.medium)) (M.disk media.old) (M.disk media.new) }
-    ensures front_reads { M.tells → SameFront (content (M.disk media.old).reads area.medium) (content (M.disk media.new).reads area.medium) }
-    ensures others { M.tells → SameBut area.medium (M.disk media.old).reads (M.disk media.new).reads }
-    ensures sizes { (M.disk media.new).sizes ≡ (M.disk media.old).sizes }
-    ensures rises { Rises (M.disk media.old) (M.disk media.new) }
-    ensures counts { M.bytes_read media.new ≡ M.bytes_read media.old }
-    ensures cause { HasCauseOn area.medium (M.faults media.old) (M.faults media.new) result }
+    ensures front { KeepsFront area.medium (M.disk media.old) (M.disk media.new) }
+    ensures writes { WritesThrough M.Media area.medium media.old media.new result }
 {
     let place = area.place_of(slot);
     write_synced(media, area, place + 1, &behind_gate(seq, first))?;
@@ -130,15 +112,8 @@ pub fn append_batch<M: Media>(
     ensures settled { (slots : List (Option Segment)) (s : Segment) (records : List Entry) → Settled area.medium (HoldsSlots area.segment slots) (M.disk media.old) → slice_get slots slot ≡ Some (Some s)
         → end_of s ≡ at → batch.now ≡ batch_bytes records ++ closed_gate ∷ [] → IsBatch records
         → OnOk result (Settled area.medium (HoldsSlots area.segment (slots_with_batch slots slot s records)) (M.disk media.new)) }
-    ensures durable { OnOk result (Durable area.medium (M.disk media.new)) }
-    ensures front { Durable area.medium (M.disk media.old)
-        → ChangesOnly area.medium (SameFront (content (M.disk media.old).reads area.medium)) (M.disk media.old) (M.disk media.new) }
-    ensures front_reads { M.tells → SameFront (content (M.disk media.old).reads area.medium) (content (M.disk media.new).reads area.medium) }
-    ensures others { M.tells → SameBut area.medium (M.disk media.old).reads (M.disk media.new).reads }
-    ensures sizes { (M.disk media.new).sizes ≡ (M.disk media.old).sizes }
-    ensures rises { Rises (M.disk media.old) (M.disk media.new) }
-    ensures counts { M.bytes_read media.new ≡ M.bytes_read media.old }
-    ensures cause { HasCauseOn area.medium (M.faults media.old) (M.faults media.new) result }
+    ensures front { KeepsFront area.medium (M.disk media.old) (M.disk media.new) }
+    ensures writes { WritesThrough M.Media area.medium media.old media.new result }
 {
     let gate = area.place_of(slot) + at as u64;
     write_synced(media, area, gate + 1, &batch[1..])?;

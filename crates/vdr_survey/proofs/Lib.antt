@@ -4,3 +4,4 @@ pub mod SurveyLemmas
 pub mod SpanLemmas
 pub mod WalkLemmas
 pub mod StepLemmas
+pub mod PassLemmas

@@ -81,7 +81,7 @@ pub record Stands (segment : List ℕ) (p : Position) (r : Record) (size : ℕ) 
   pub begins : Begins (take (p.to - p.at) (drop p.at segment)) r after
   pub size_is : size ≡ record_size r
 
-span_length : (segment : List ℕ) (p : Position) → IsAt segment p → length (take (p.to - p.at) (drop p.at segment)) ≡ p.to - p.at
+pub span_length : (segment : List ℕ) (p : Position) → IsAt segment p → length (take (p.to - p.at) (drop p.at segment)) ≡ p.to - p.at
 span_length segment p s = omega (arith, length-take (p.to - p.at) (drop p.at segment), length-drop p.at segment, s.inside)
 
 pub step_within : (segment : List ℕ) (p : Position) (r : Record) (size : ℕ) → IsAt segment p → p.at < p.to → Stands segment p r size
@@ -134,7 +134,7 @@ pub batch_has_more : (segment : List ℕ) (at from to : ℕ) → Walks segment a
 batch_has_more segment at from to w = omega (arith, w.3, span_some segment at w.0 w.1)
 
 -- ahead of the gate behind a batch is what is ahead of the next batch's records
-ahead_of_gate : (segment : List ℕ) (p : Position) (from to : ℕ) → p.to ≤ p.at → Walks segment p.to (Batch from to) → (records : List Record) → HasAhead segment p records ↔ HasAhead segment (record { at = from; to = to }) records
+pub ahead_of_gate : (segment : List ℕ) (p : Position) (from to : ℕ) → p.to ≤ p.at → Walks segment p.to (Batch from to) → (records : List Record) → HasAhead segment p records ↔ HasAhead segment (record { at = from; to = to }) records
 ahead_of_gate segment p from to past w records =
     let t = walk_tells segment p.to (Batch from to) w in
     let first : AreRecords (take (to - from) (drop from segment)) t.0 = subst (λ (b : List Record). AreRecords (take (to - from) (drop from segment)) b) (one_batch segment p.to w.0 t.0 w.1 t.1) (span_records segment p.to from to w.0 w.1 w.2 w.3) in (

@@ -12,6 +12,8 @@ use Rattle.vdr_entry.specs.Spelling.{records_bytes}
 use Rattle.vdr_entry.proofs.ReadingLemmas.{begun_spots, kind_for, spotted_size, length-payload_in, one_record}
 use Rattle.vdr_segment.specs.Batches.{AreRecords}
 use Rattle.vdr_segment.proofs.WalkLemmas.{first_begins, records_behind}
+use Rattle.vdr_survey.specs.declared.head.Head.{Head}
+use Rattle.vdr_survey.specs.Selections.{head_of}
 use Rattle.vdr_survey.specs.declared.stretch.Mark.{Mark}
 use Rattle.vdr_survey.specs.declared.stretch.Stretch.{Stretch}
 use Rattle.vdr_survey.specs.Stretches.{mark_of, Follows, ComesTo}
@@ -43,17 +45,12 @@ taken_more front xs i r within is =
 
 -- At the front of bytes
 
-mark_by : (p t q u : ℕ) (y z : ℤ) → p ≡ q → t ≡ u → y ≡ z → ◌≡◌ {A = Mark} (record { place = p; tick = t; utc = y }) (record { place = q; tick = u; utc = z })
-mark_by p t q u y z e f g = cc
+pub mark_by : (p q t u : ℕ) (y z : ℤ) → p ≡ q → t ≡ u → y ≡ z → ◌≡◌ {A = Mark} (record { place = p; tick = t; utc = y }) (record { place = q; tick = u; utc = z })
+mark_by p q t u y z e f g = cc
 
-pub mark_read : (bytes rest : List ℕ) (r : Record) → Begins bytes r rest → (p t u : ℕ) → p ≡ u64_at 12 bytes → t ≡ u64_at 28 bytes → u ≡ u64_at 36 bytes
-    → ◌≡◌ {A = Mark} (record { place = p; tick = t; utc = to_z w64 u }) (mark_of r)
-unfolding record_in
-mark_read bytes rest r g p t u p_is t_is u_is =
-    let b = begun_spots bytes rest r g in
-    let small : u < 2 ^ 63 = omega (arith, u_is, b.0.numbers.utc) in
-    mark_by _ _ _ _ _ _ (p_is ∙ ap (λ (x : Record). x.place) b.1) (t_is ∙ ap (λ (x : Record). x.tick) b.1)
-    (to_z_pos w64 u small ∙ ap (λ (n : ℕ). pos n) u_is ∙ ap (λ (x : Record). x.utc) b.1)
+head_by : (b c p q t u m n : ℕ) (y z : ℤ) → b ≡ c → p ≡ q → t ≡ u → y ≡ z → m ≡ n
+    → ◌≡◌ {A = Head} (record { bits = b; place = p; tick = t; utc = y; size = m }) (record { bits = c; place = q; tick = u; utc = z; size = n })
+head_by b c p q t u m n y z e f g h i = cc
 
 pub stamp_read : (bytes rest : List ℕ) (r : Record) → Begins bytes r rest → u64_at 36 bytes < 2 ^ 63
 stamp_read bytes rest r g = omega (arith, (begun_spots bytes rest r g).0.numbers.utc)
@@ -65,6 +62,15 @@ size_read bytes rest r g =
 
 pub front_long : (bytes rest : List ℕ) (r : Record) → Begins bytes r rest → 44 ≤ length bytes
 front_long bytes rest r g = omega (arith, (begun_spots bytes rest r g).0.long)
+
+pub head_read : (bytes rest : List ℕ) (r : Record) → Begins bytes r rest → (b p t u n : ℕ) → b ≡ u64_at 4 bytes → p ≡ u64_at 12 bytes → t ≡ u64_at 28 bytes → u ≡ u64_at 36 bytes → n ≡ u16_at 2 bytes
+    → ◌≡◌ {A = Head} (record { bits = b; place = p; tick = t; utc = to_z w64 u; size = 44 + n }) (head_of r)
+unfolding record_in
+head_read bytes rest r g b p t u n b_is p_is t_is u_is n_is =
+    let s = begun_spots bytes rest r g in
+    let small : u < 2 ^ 63 = omega (arith, u_is, s.0.numbers.utc) in
+    head_by _ _ _ _ _ _ _ _ _ _ (b_is ∙ ap (λ (x : Record). x.bits) s.1) (p_is ∙ ap (λ (x : Record). x.place) s.1) (t_is ∙ ap (λ (x : Record). x.tick) s.1)
+    (to_z_pos w64 u small ∙ ap (λ (n : ℕ). pos n) u_is ∙ ap (λ (x : Record). x.utc) s.1) (ap (λ (k : ℕ). 44 + k) n_is ∙ size_read bytes rest r g)
 
 -- Through bytes
 

@@ -3,3 +3,4 @@ pub mod Extents
 pub mod Surveys
 pub mod Stretches
 pub mod Positions
+pub mod Selections

@@ -1,15 +1,20 @@
-//! What the batches of a segment come to, and a step from record to record.
+//! What the batches of a segment come to, and steps from record to record.
 #![tactic(auto)]
 
 mod extent;
+mod head;
 mod law;
+mod passing;
 mod position;
+mod selection;
 mod stepping;
 mod stretch;
 mod surveying;
 
 pub use extent::{Extent, Survey};
 pub use law::{law_of_positions, law_of_surveys};
+pub use passing::pass_by;
 pub use position::Position;
+pub use selection::{Selection, Span};
 pub use stepping::step;
 pub use surveying::survey;

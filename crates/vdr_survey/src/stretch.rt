@@ -5,7 +5,7 @@ ghost use Rattle.vdr_entry.specs.Reading.{Begins};
 ghost use Rattle.vdr_segment.specs.Batches.{AreRecords};
 ghost use Rattle.vdr_survey.specs.Stretches.{mark_of, Follows, ComesTo};
 
-use vdr_bytes::{u16_at, u64_at};
+use crate::head::head_at;
 use vdr_entry::Record;
 
 /// What is kept of a record: its place, its tick in milliseconds, and its stamp in milliseconds since 1970.
@@ -83,12 +83,13 @@ fn mark_at(bytes: &[u8]) -> (Mark, usize)
     requires { (r : Entry) × (rest : List ℕ) × Begins bytes.now r rest }
     ensures { (r : Entry) × (rest : List ℕ) × Begins bytes.now r rest × (result.0 ≡ mark_of r) × (result.1 ≡ record_size r) }
 {
+    let head = head_at(bytes);
     let mark = Mark {
-        place: u64_at(bytes, 12),
-        tick: u64_at(bytes, 28),
-        utc: u64_at(bytes, 36) as i64,
+        place: head.place,
+        tick: head.tick,
+        utc: head.utc,
     };
-    (mark, 44 + u16_at(bytes, 2) as usize)
+    (mark, head.size)
 }
 
 /// What the records in the bytes, at least one, come to.

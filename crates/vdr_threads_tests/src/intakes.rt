@@ -3,11 +3,13 @@ ghost use Rattle.vdr_terms.specs.Records.{total};
 ghost use Rattle.vdr_intake.specs.Items.{most_items};
 
 use arrayvec::ArrayVec;
+use std::process::Abort;
 use std::sync::Wait;
 use std::sync::atomic::{AtomicBool, Ordering};
 use std::test::Fail;
 use std::thread;
-use vdr_intake::{Captured, Counts, Feeder, Intake, Taker};
+use vdr_intake::{Captured, CapturedBuffer, Counts, Feeder, Intake, Taker};
+use vdr_terms::{Verdict, recordable};
 
 // A datagram of the group NAVD, before which so many found the queue full.
 fn item(number: u64, full: u64) -> Captured
@@ -29,6 +31,42 @@ fn item(number: u64, full: u64) -> Captured
         },
         bytes,
     }
+}
+
+// What four items are counted as that found the queue full.
+const FOUR_FULL: Counts = Counts {
+    full: 4,
+    rate: 0,
+    bad: 0,
+    large: 0,
+};
+
+// An item of these bytes and a copy of another one are what the buffer has, whatever stood in its memory before.
+fn assert_put(rt: &impl Abort, buffer: &mut CapturedBuffer, bytes: &[u8])
+    requires { 2 ≤ buffer.old.capacity }
+    ensures { buffer.new.capacity ≡ buffer.old.capacity }
+{
+    assert!(rt; recordable(bytes) == Verdict::Yes);
+    buffer.clear();
+    assert!(rt; buffer.as_slice().is_empty());
+    buffer.push(3, 8, 70, 1000, FOUR_FULL, bytes);
+    buffer.push_copy(&item(9, 4));
+    let items = buffer.as_slice();
+    assert!(rt; items.len() == 2);
+    let (put, copied) = (&items[0], &items[1]);
+    assert!(rt; (put.group, put.number, put.received, put.utc) == (3, 8, 70, 1000));
+    assert!(rt; put.missed == FOUR_FULL && put.bytes.as_slice() == bytes);
+    assert!(rt; (copied.group, copied.number, copied.missed) == (3, 9, FOUR_FULL));
+    assert!(rt; copied.bytes.as_slice() == b"AbCdE\0".as_slice());
+}
+
+#[test]
+fn a_buffer_has_the_items_that_were_put_in_it(rt: HostRuntime) -> Result<(), Fail> {
+    let mut buffer = CapturedBuffer::with_capacity(rt.alloc(), 2)?;
+    assert_put(&rt, &mut buffer, b"AbCdE\0 and some more");
+    assert_put(&rt, &mut buffer, b"AbCdE\0");
+    assert_put(&rt, &mut buffer, b"AbCdE\0 and more");
+    Ok(())
 }
 
 #[test]

@@ -24,7 +24,6 @@ pub mod CommitAll
 pub mod CommitCalls
 pub mod Passing
 pub mod Stepping
-pub mod Seeking
 pub mod Playing
 pub mod Coming
 pub mod Since

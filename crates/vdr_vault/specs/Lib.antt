@@ -3,7 +3,7 @@ pub mod Vaults
 pub mod Regularity
 pub mod Calls
 pub mod Openings
-pub mod Spans
 pub mod Walks
 pub mod Plays
 pub mod Saves
+pub mod Keeps

@@ -1,17 +1,21 @@
 -- What a stop leaves while media are opened.
-use Rattle.std.specs.Prelude.{◌≡◌, ◌⊎◌, ◌≤◌, ℕ, List, [], get_or, sum, Any, option_map, Result, OnOk, OnErr, IsErrOf, ⊤}
+use Rattle.std.specs.Prelude.{◌≡◌, ◌⊎◌, ◌≤◌, ℕ, List, [], get_or, sum, Any, option_map, Result, Err, IfOk, OnOk, OnErr, IsErrOf, false, ⊤}
 use Rattle.vdr_terms.specs.Records.{Record, last}
-use Rattle.vdr_durability.specs.Readings.{next_after}
+use Rattle.vdr_durability.specs.Readings.{AreLevel, EndsMeet, next_after}
 use Rattle.vdr_outside.specs.Causes.{NoneFalls, Rose}
-use Rattle.vdr_outside.specs.Disk.{Disk, Image}
+use Rattle.vdr_outside.specs.Disk.{Disk, Image, SameBut}
 use Rattle.vdr_outside.specs.Moments.{AtEachMoment}
 use Rattle.vdr_outside.specs.declared.fault.Fault.{Fault}
+use Rattle.vdr_outside.specs.declared.media.Media.{Ghosts as MediaTells}
+use Rattle.vdr_media.specs.Formatted.{IsFormatted, IsUnformatted}
 use Rattle.vdr_ring.specs.Sequence.{Placed, all_records}
 use Rattle.vdr_opening.specs.declared.refused.OpenRefused.{OpenRefused}
-use Rattle.vdr_opening.specs.declared.refused.OpenRefused.TheVariants.{Fault as a_fault}
-use Rattle.vdr_opening.specs.Media.{both, Contents, opening_of}
-use Rattle.vdr_opening.specs.Answers.{OpenedState}
-use Rattle.vdr_vault.specs.Vaults.{MembersState, ShowsHistory, Stands, tick_utc}
+use Rattle.vdr_opening.specs.declared.refused.OpenRefused.TheVariants.{Damaged, Fault as a_fault, NotFormatted}
+use Rattle.vdr_opening.specs.Media.{both, Contents, HoldsContents, opening_of, reading_of}
+use Rattle.vdr_opening.specs.Refusals.{IsRefused}
+use Rattle.vdr_opening.specs.Answers.{HasOpenCause, OpenedState}
+use Rattle.vdr_vault.specs.Vaults.{AreRings, IsReadable, MembersState, ShowsHistory, Stands, of_stamp, tick_utc}
+use Rattle.vdr_vault.specs.Regularity.{AreSound}
 
 -- What was read, as the vault that is made of it and the batch that the long-term medium lacks.
 abbrev pub opened_with : MembersState → List Record → OpenedState
@@ -54,3 +58,39 @@ module _ {tells tells_images : Type 0} where
   pub record Reconciles (x : Contents) (members : MembersState) (old new : Disk tells tells_images) (result : Result ⊤ Fault) : Type 0 where
     pub moments : AtEachMoment old new (ShowsHistory (opening_of x) [])
     pub done : OnOk result ((placed : ℕ → List Placed) × Stands (opening_of x) [] members placed new)
+
+  -- The vault that was opened, and what the media hold of it. They were formatted and legible, and where they are sound it stands.
+  pub record OpensMembers (result : Result MembersState OpenRefused) (old new : Disk tells tells_images) : Type 0 where
+    -- where the media are sound the vault stands on them
+    pub opened : IfOk result (λ members. (x : Contents) → tells → HoldsContents old.reads x → AreSound x → (placed : ℕ → List Placed) × Stands (opening_of x) [] members placed new)
+    -- the media were formatted, and what the vault tells is what they hold
+    pub contents : IfOk result (λ members. tells → IsFormatted old.reads × (x : Contents) × HoldsContents old.reads x
+        × EndsMeet both (reading_of x) × (members.config ≡ x.config) × (members.table ≡ x.table) × (members.last ≡ option_map of_stamp (opening_of x).last))
+    -- the next place is that of what they hold
+    pub place : IfOk result (λ members. (x : Contents) → tells → HoldsContents old.reads x → members.next_place ≡ (opening_of x).next_place)
+    -- where both end with the last batch the vault can be read
+    pub readable : IfOk result (λ members. (x : Contents) → tells → HoldsContents old.reads x → AreLevel both (reading_of x) → IsReadable (opening_of x) [] members x.placed new)
+    -- no write has failed
+    pub works : IfOk result (λ members. members.failed ≡ false)
+    -- each ring is its medium's
+    pub rings : IfOk result (λ members. AreRings members new.sizes)
+
+  -- The media were not formatted, or this is the first part that is not legal, and nothing was written.
+  pub record RefusesMedia {T : Type 0} (result : Result T OpenRefused) (old new : Disk tells tells_images) : Type 0 where
+    -- the media were not formatted
+    pub unformatted : result ≡ Err NotFormatted → tells → IsUnformatted old.reads
+    -- this is the first part that is not legal
+    pub damaged : (m offset : ℕ) → result ≡ Err (Damaged m offset) → tells → IsFormatted old.reads × IsRefused old.reads m offset
+    -- after either a stop leaves what it might have left before, and the media read as before
+    pub untouched : (result ≡ Err NotFormatted) ⊎ ((m : ℕ) × (offset : ℕ) × (result ≡ Err (Damaged m offset))) → LeavesAll old new × (tells → new.reads ≡ old.reads)
+    -- of media that are not formatted a stop leaves what it might have left before, whatever is answered
+    pub blank : tells → IsUnformatted old.reads → LeavesAll old new
+
+-- The call wrote to no medium but the long-term one.
+pub record ReachesLongTerm {M T : Type 0} (media : MediaTells M) (old new : M) (result : Result T OpenRefused) : Type 0 where
+  -- the other media read as before
+  pub others : media.tells → SameBut 1 (media.disk old).reads (media.disk new).reads
+  -- no medium changes its size
+  pub sizes : (media.disk new).sizes ≡ (media.disk old).sizes
+  -- no count of faults falls, and a fault has its cause
+  pub cause : HasOpenCause (media.faults old) (media.faults new) result

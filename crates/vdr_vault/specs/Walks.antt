@@ -88,6 +88,12 @@ pub record AreLeft (slots : Slots) (placed : List Placed) (query : Query) (span 
   pub are_ahead : AreAhead slots placed c ahead
   pub are : records ≡ found query span ahead
 
+-- The same, where none is in the segment in which the cursor stands.
+pub record AreLeftBehind (slots : Slots) (placed : List Placed) (query : Query) (span : Option Span) (c : CursorState) (records : List Record) : Type 0 where
+  pub ahead : List Record
+  pub are_behind : AreBehind slots placed c ahead
+  pub are : records ≡ found query span ahead
+
 -- No byte of another medium than m was read, and no count of faults falls.
 pub record CountsOn (m : ℕ) (read_before read_now faults_before faults_now : List ℕ) : Type 0 where
   pub others : (k : ℕ) → k ≢ m → get_or read_now k 0 ≡ get_or read_before k 0

@@ -1,13 +1,13 @@
-ghost use Rattle.std.specs.Prelude.{◌≡◌, ◌≤◌, ◌<◌, ℕ, List, length, true, false, IsErr, OnErr, OnOk, option_map};
+ghost use Rattle.std.specs.Prelude.{◌≡◌, ◌≤◌, ◌<◌, ℕ, List, length, false};
 ghost use Rattle.vdr_terms.specs.Records.{last};
 ghost use Rattle.vdr_terms.specs.Sizes.{records_size};
 ghost use Rattle.vdr_history.specs.Histories.{Event, Opening};
 ghost use Rattle.vdr_history.specs.Histories.Act.{Commit};
 ghost use Rattle.vdr_history.specs.Taken.{Captured};
-ghost use Rattle.vdr_durability.specs.Readings.{next_after};
 ghost use Rattle.vdr_ring.specs.Sequence.{Placed};
-ghost use Rattle.vdr_vault.specs.Vaults.{AreRings, Stands, tick_utc, working, working_from};
+ghost use Rattle.vdr_vault.specs.Vaults.{AreRings, Stands, working, working_from};
 ghost use Rattle.vdr_vault.specs.Calls.{Commits, HasVaultCause, MayCommit, SameElsewhere};
+ghost use Rattle.vdr_vault.specs.Keeps.{GoesOn, KeepsMembers, StopsAtFault, WritesToBoth};
 
 use crate::Members;
 use vdr_entry::Record;
@@ -26,9 +26,7 @@ impl Members {
         ensures failed { self.new.failed ≡ self.old.failed }
         ensures next_place { self.new.next_place ≡ self.old.next_place }
         ensures last { self.new.last ≡ self.old.last }
-        ensures config { self.new.config ≡ self.old.config }
-        ensures table { self.new.table ≡ self.old.table }
-        ensures rings { AreRings self.new (M.disk media.new).sizes }
+        ensures keeps { KeepsMembers self.old self.new (M.disk media.new).sizes }
         ensures others { M.tells → SameElsewhere (M.disk media.old).reads (M.disk media.new).reads }
         ensures sizes { (M.disk media.new).sizes ≡ (M.disk media.old).sizes }
         ensures counts { M.bytes_read media.new ≡ M.bytes_read media.old }
@@ -54,19 +52,10 @@ impl Members {
         ensures commits { (opening : Opening) (events : List Event) (e : Event) (taken : List Captured) (placed : ℕ → List Placed) → M.tells
             → e.act ≡ Commit records.now taken → Stands opening events self.old placed (M.disk media.old) → MayCommit opening events self.old.config placed records.now
             → Commits opening events e records.now placed self.new (M.disk media.old) (M.disk media.new) result }
-        ensures failed { self.old.failed ≡ true → IsErr result × (self.new ≡ self.old) × (media.new ≡ media.old) }
-        ensures fails { OnErr result (self.new.failed ≡ true) }
-        ensures works { OnOk result (self.new.failed ≡ false) }
-        ensures next_place { OnOk result (self.new.next_place ≡ next_after (last records.now)) }
-        ensures last { OnOk result (self.new.last ≡ option_map tick_utc (last records.now)) }
-        ensures kept { OnErr result ((self.new.next_place ≡ self.old.next_place) × (self.new.last ≡ self.old.last)) }
-        ensures config { self.new.config ≡ self.old.config }
-        ensures table { self.new.table ≡ self.old.table }
-        ensures rings { AreRings self.new (M.disk media.new).sizes }
-        ensures others { M.tells → SameElsewhere (M.disk media.old).reads (M.disk media.new).reads }
-        ensures sizes { (M.disk media.new).sizes ≡ (M.disk media.old).sizes }
-        ensures counts { M.bytes_read media.new ≡ M.bytes_read media.old }
-        ensures cause { HasVaultCause self.old.failed (M.faults media.old) (M.faults media.new) result }
+        ensures failing { StopsAtFault self.old.failed self.new.failed self.old self.new media.old media.new result }
+        ensures goes_on { GoesOn self.old self.new records.now result }
+        ensures keeps { KeepsMembers self.old self.new (M.disk media.new).sizes }
+        ensures writes { WritesToBoth M.Media self.old.failed media.old media.new result }
     {
         if self.failed {
             return Err(Fault);

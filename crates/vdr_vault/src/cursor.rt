@@ -1,4 +1,4 @@
-ghost use Rattle.std.specs.Prelude.{◌≡◌, ◌≢◌, ◌↔◌, ◌<◌, ◌++◌, ℕ, List, [], IfNone, IfSome, IsTrue, true, false, None, Ok, Err, get_or, option_map};
+ghost use Rattle.std.specs.Prelude.{◌≡◌, ◌≢◌, ◌↔◌, ◌<◌, ◌++◌, ℕ, List, [], IfNone, IfSome, IsTrue, true, false, Some, None, Ok, Err, get_or, option_map};
 ghost use Rattle.vdr_terms.specs.Records.{Record as Entry};
 ghost use Rattle.vdr_outside.specs.Causes.{Rose};
 ghost use Rattle.vdr_ring.specs.Sequence.{Placed, all_records, records_of};
@@ -7,12 +7,15 @@ ghost use Rattle.vdr_ring.specs.Rings.{HasMedium, Reads, Tells};
 ghost use Rattle.vdr_ring.specs.Lookup.{AreEarlier, IsAbove, IsFirstSince};
 ghost use Rattle.vdr_ring.specs.Cursors.{IsLoaded};
 ghost use Rattle.vdr_ring.specs.declared.refused.ReadRefused.TheVariants.{Fault as AFault, Damaged};
-ghost use Rattle.vdr_vault.specs.Walks.{AreAhead, AreBehind, CountsOn, GivesHere, GivesNext, HasRead, MayStep, Slots, segments_left, seq_in, slots_read};
+ghost use Rattle.vdr_entry.specs.Queries.{asked};
+ghost use Rattle.vdr_survey.specs.Selections.{span_as};
+ghost use Rattle.vdr_vault.specs.Walks.{AreAhead, AreBehind, AreLeft, AreLeftBehind, CountsOn, GivesHere, GivesNext, HasRead, MayStep, Slots, segments_left, seq_in, slots_read};
 
 use std::marker::Model;
 use vdr_entry::Record;
 use vdr_outside::Media;
 use vdr_ring::{Cursor as Visit, ReadRefused, Ring};
+use vdr_survey::Selection;
 
 // The segment in which a cursor stands.
 #[derive(Clone, Copy, Debug, PartialEq, Eq, Drop)]
@@ -77,8 +80,13 @@ impl Cursor {
         self.visit.item()
     }
 
-    // Steps to the next record of the segment in which it stands.
-    fn step_in<M: Media>(&mut self, ring: &mut Ring, media: &mut M) -> Result<bool, ReadRefused>
+    // Steps to the next record of the segment in which it stands that is selected.
+    fn step_in<M: Media>(
+        &mut self,
+        ring: &mut Ring,
+        media: &mut M,
+        selection: &Selection,
+    ) -> Result<bool, ReadRefused>
         requires room { HasMedium ring.old (M.disk media.old).sizes }
         requires may { MayStep ring.old self.old }
         ensures read { HasRead ring.old ring.new (M.disk media.old) (M.disk media.new) }
@@ -86,15 +94,16 @@ impl Cursor {
         ensures may { MayStep ring.new self.new }
         ensures standing { self.new.standing ≡ self.old.standing }
         ensures item { self.new.visit.item ≢ None ↔ (result ≡ Ok true) }
-        ensures steps { M.tells → (placed : List Placed) (ahead : List Entry) → Reads ring.old placed (M.disk media.old)
-            → AreAhead (slots_read ring.old (M.disk media.old)) placed self.old ahead
-            → GivesHere ahead result self.new.visit.item (AreAhead (slots_read ring.old (M.disk media.old)) placed self.new)
-            (AreBehind (slots_read ring.old (M.disk media.old)) placed self.new) }
+        ensures steps { M.tells → (placed : List Placed) (records : List Entry) → Reads ring.old placed (M.disk media.old)
+            → AreLeft (slots_read ring.old (M.disk media.old)) placed (asked selection.now.query) (Some (span_as selection.now.span)) self.old records
+            → GivesHere records result self.new.visit.item
+            (AreLeft (slots_read ring.old (M.disk media.old)) placed (asked selection.now.query) (Some (span_as selection.now.span)) self.new)
+            (AreLeftBehind (slots_read ring.old (M.disk media.old)) placed (asked selection.now.query) (Some (span_as selection.now.span)) self.new) }
         ensures damaged { (m offset : ℕ) → M.tells → IsLoaded ring.old (M.disk media.old) → result ≡ Err (Damaged m offset) → m ≡ ring.old.medium }
         ensures cause { result ≡ Err AFault → Rose (get_or (M.faults media.old) ring.old.medium 0) (get_or (M.faults media.new) ring.old.medium 0) }
     {
         match self.standing {
-            Some(standing) => ring.read_span(media, standing.slot, &mut self.visit),
+            Some(standing) => ring.read_span(media, standing.slot, &mut self.visit, selection),
             None => Ok(false),
         }
     }
@@ -141,11 +150,12 @@ impl Cursor {
         true
     }
 
-    /// Steps to the next record of the medium, of whatever segment. False where no further record is there.
+    /// Steps to the next record of the medium that is selected, of whatever segment. False where no further one is there.
     pub(crate) fn step<M: Media>(
         &mut self,
         ring: &mut Ring,
         media: &mut M,
+        selection: &Selection,
     ) -> Result<bool, ReadRefused>
         requires room { HasMedium ring.old (M.disk media.old).sizes }
         requires may { MayStep ring.old self.old }
@@ -153,13 +163,14 @@ impl Cursor {
         ensures counts { CountsOn ring.old.medium (M.bytes_read media.old) (M.bytes_read media.new) (M.faults media.old) (M.faults media.new) }
         ensures may { MayStep ring.new self.new }
         ensures item { self.new.visit.item ≢ None ↔ (result ≡ Ok true) }
-        ensures steps { M.tells → (placed : List Placed) (ahead : List Entry) → Reads ring.old placed (M.disk media.old)
-            → AreAhead (slots_read ring.old (M.disk media.old)) placed self.old ahead
-            → GivesNext ahead result self.new.visit.item (AreAhead (slots_read ring.old (M.disk media.old)) placed self.new) }
+        ensures plays { M.tells → (placed : List Placed) (records : List Entry) → Reads ring.old placed (M.disk media.old)
+            → AreLeft (slots_read ring.old (M.disk media.old)) placed (asked selection.now.query) (Some (span_as selection.now.span)) self.old records
+            → GivesNext records result self.new.visit.item
+            (AreLeft (slots_read ring.old (M.disk media.old)) placed (asked selection.now.query) (Some (span_as selection.now.span)) self.new) }
         ensures damaged { (m offset : ℕ) → M.tells → IsLoaded ring.old (M.disk media.old) → result ≡ Err (Damaged m offset) → m ≡ ring.old.medium }
         ensures cause { result ≡ Err AFault → Rose (get_or (M.faults media.old) ring.old.medium 0) (get_or (M.faults media.new) ring.old.medium 0) }
     {
-        while !self.step_in(ring, media)? {
+        while !self.step_in(ring, media, selection)? {
             if !self.enter_next(ring) {
                 return Ok(false);
             }

@@ -4,7 +4,6 @@
 mod commit;
 mod cursor;
 mod law;
-mod matching;
 mod members;
 mod open;
 mod pins;

@@ -12,7 +12,7 @@ ghost use Rattle.vdr_opening.specs.Answers.{HasOpenCause, IsOpened};
 ghost use Rattle.vdr_opening.specs.declared.refused.OpenRefused.TheVariants.{Damaged, NotFormatted};
 ghost use Rattle.vdr_vault.specs.Vaults.{AreRings, IsReadable, ShowsHistory, Stands, of_stamp};
 ghost use Rattle.vdr_vault.specs.Regularity.{AreSound};
-ghost use Rattle.vdr_vault.specs.Openings.{GoesOnBehind, HasCauseOnBoth, LeavesAll, OpensAtEachMoment, Reconciles, opened_with};
+ghost use Rattle.vdr_vault.specs.Openings.{GoesOnBehind, HasCauseOnBoth, LeavesAll, OpensAtEachMoment, OpensMembers, ReachesLongTerm, Reconciles, RefusesMedia, opened_with};
 
 use crate::Members;
 use crate::members::ending;
@@ -125,28 +125,13 @@ impl Members {
     pub fn open<M: Media>(alloc: Global, media: &mut M) -> Result<Members, OpenRefused>
         requires two { 2 ≤ length (M.disk media.old).sizes }
         requires three { length (M.disk media.old).sizes ≤ 3 }
-        ensures opened { IfOk result (λ members. (x : Contents) → M.tells → HoldsContents (M.disk media.old).reads x → AreSound x
-            → (placed : ℕ → List Placed) × Stands (opening_of x) [] members placed (M.disk media.new)) }
-        ensures contents { IfOk result (λ members. M.tells → IsFormatted (M.disk media.old).reads × (x : Contents) × HoldsContents (M.disk media.old).reads x
-            × EndsMeet both (reading_of x) × (members.config ≡ x.config) × (members.table ≡ x.table)
-            × (members.last ≡ option_map of_stamp (opening_of x).last)) }
-        ensures place { IfOk result (λ members. (x : Contents) → M.tells → HoldsContents (M.disk media.old).reads x → members.next_place ≡ (opening_of x).next_place) }
-        ensures readable { IfOk result (λ members. (x : Contents) → M.tells → HoldsContents (M.disk media.old).reads x → AreLevel both (reading_of x)
-            → IsReadable (opening_of x) [] members x.placed (M.disk media.new)) }
+        ensures opened { OpensMembers result (M.disk media.old) (M.disk media.new) }
         ensures level { (x : Contents) → M.tells → HoldsContents (M.disk media.old).reads x → AreLevel both (reading_of x)
             → LeavesAll (M.disk media.old) (M.disk media.new) × ((M.disk media.new).reads ≡ (M.disk media.old).reads) }
-        ensures works { IfOk result (λ members. members.failed ≡ false) }
-        ensures rings { IfOk result (λ members. AreRings members (M.disk media.new).sizes) }
         ensures moments { (x : Contents) → M.tells → HoldsContents (M.disk media.old).reads x → EndsMeet both (reading_of x) → AreSound x
             → OpensAtEachMoment (M.disk media.old) (M.disk media.new) result (ShowsHistory (opening_of x) []) }
-        ensures unformatted { result ≡ Err NotFormatted → M.tells → IsUnformatted (M.disk media.old).reads }
-        ensures damaged { (m offset : ℕ) → result ≡ Err (Damaged m offset) → M.tells → IsFormatted (M.disk media.old).reads × IsRefused (M.disk media.old).reads m offset }
-        ensures untouched { (result ≡ Err NotFormatted) ⊎ ((m : ℕ) × (offset : ℕ) × (result ≡ Err (Damaged m offset)))
-            → LeavesAll (M.disk media.old) (M.disk media.new) × (M.tells → (M.disk media.new).reads ≡ (M.disk media.old).reads) }
-        ensures blank { M.tells → IsUnformatted (M.disk media.old).reads → LeavesAll (M.disk media.old) (M.disk media.new) }
-        ensures others { M.tells → SameBut 1 (M.disk media.old).reads (M.disk media.new).reads }
-        ensures sizes { (M.disk media.new).sizes ≡ (M.disk media.old).sizes }
-        ensures cause { HasOpenCause (M.faults media.old) (M.faults media.new) result }
+        ensures refused { RefusesMedia result (M.disk media.old) (M.disk media.new) }
+        ensures writes { ReachesLongTerm M.Media media.old media.new result }
     {
         let Ok(()) = sync_both(media) else {
             return Err(OpenRefused::Fault);

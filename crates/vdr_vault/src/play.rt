@@ -12,16 +12,16 @@ ghost use Rattle.vdr_ring.specs.Cursors.{IsLoaded};
 ghost use Rattle.vdr_ring.specs.declared.refused.ReadRefused.TheVariants.{Fault as AFault, Damaged};
 ghost use Rattle.vdr_opening.specs.Media.{both};
 ghost use Rattle.vdr_vault.specs.Vaults.{AreRings, IsReadable, Stands, ring_of};
-ghost use Rattle.vdr_vault.specs.Spans.{span_as};
+ghost use Rattle.vdr_survey.specs.Selections.{span_as};
 ghost use Rattle.vdr_vault.specs.Walks.{AreLeft, CountsOn, GivesNext, HasRead, MayStep, slots_read};
 ghost use Rattle.vdr_vault.specs.Plays.{AreToCome, HasReadCause, ReadsNoOther, ReadsOn, ring_for, span_in};
 
-use crate::matching::{Span, selects};
 use crate::{Cursor, Members};
 use vdr_entry::{Medium, Query};
 use vdr_outside::Media;
 use vdr_playback::law_of_playback;
 use vdr_ring::{ReadRefused, Ring};
+use vdr_survey::{Selection, Span};
 
 // The window that ends with the second of a medium's last record. None where it has no record.
 fn window_of(ring: &Ring, seconds: u64) -> Option<Span>
@@ -34,59 +34,6 @@ fn window_of(ring: &Ring, seconds: u64) -> Option<Span>
         last: tick / 1000,
         seconds: seconds as u32,
     })
-}
-
-// The number of the medium that is read.
-fn number_of(medium: Medium) -> u8
-    ensures { result ≡ medium_of (asked_medium medium) }
-{
-    match medium {
-        Medium::Capsule => 0,
-        Medium::LongTerm | Medium::Incident(_) => 1,
-    }
-}
-
-// Steps to the next record of the ring's medium that the query selects of the span.
-pub(crate) fn seek<M: Media>(
-    ring: &mut Ring,
-    media: &mut M,
-    query: &Query,
-    span: Span,
-    cursor: &mut Cursor,
-) -> Result<bool, ReadRefused>
-    requires room { HasMedium ring.old (M.disk media.old).sizes }
-    requires may { MayStep ring.old cursor.old }
-    requires medium { ring.old.medium ≡ medium_of (asked query.now).medium }
-    ensures read { HasRead ring.old ring.new (M.disk media.old) (M.disk media.new) }
-    ensures counts { CountsOn ring.old.medium (M.bytes_read media.old) (M.bytes_read media.new) (M.faults media.old) (M.faults media.new) }
-    ensures may { MayStep ring.new cursor.new }
-    ensures item { cursor.new.visit.item ≢ None ↔ (result ≡ Ok true) }
-    ensures plays { M.tells → (placed : List Placed) (records : List Entry) → Reads ring.old placed (M.disk media.old)
-        → AreLeft (slots_read ring.old (M.disk media.old)) placed (asked query.now) (Some (span_as span)) cursor.old records
-        → GivesNext records result cursor.new.visit.item
-        (AreLeft (slots_read ring.old (M.disk media.old)) placed (asked query.now) (Some (span_as span)) cursor.new) }
-    ensures damaged { (m offset : ℕ) → M.tells → IsLoaded ring.old (M.disk media.old) → result ≡ Err (Damaged m offset) → m ≡ ring.old.medium }
-    ensures cause { result ≡ Err AFault → Rose (get_or (M.faults media.old) ring.old.medium 0) (get_or (M.faults media.new) ring.old.medium 0) }
-{
-    let mut least = 0;
-    while cursor.step(ring, media)? {
-        let Some(item) = cursor.item() else {
-            unreachable!()
-        };
-        if selects(query, span, item) {
-            return Ok(true);
-        }
-        // Places rise on a medium, so that this ends on one that was changed from outside too.
-        if item.place < least {
-            *cursor = Cursor::new();
-            return Err(ReadRefused::Damaged {
-                medium: number_of(query.medium),
-                offset: 0,
-            });
-        }
-        least = item.place + 1;
-    }
-    Ok(false)
 }
 
 impl Members {
@@ -132,10 +79,14 @@ impl Members {
         ensures cause { result ≡ Err AFault
             → Rose (get_or (M.faults media.old) (medium_of (asked query.now).medium) 0) (get_or (M.faults media.new) (medium_of (asked query.now).medium) 0) }
     {
+        let selection = Selection {
+            span,
+            query: *query,
+        };
         match query.medium {
-            Medium::Capsule => seek(&mut self.capsule, media, query, span, cursor),
+            Medium::Capsule => cursor.step(&mut self.capsule, media, &selection),
             Medium::LongTerm | Medium::Incident(_) => {
-                seek(&mut self.long_term, media, query, span, cursor)
+                cursor.step(&mut self.long_term, media, &selection)
             }
         }
     }

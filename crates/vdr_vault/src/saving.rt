@@ -1,5 +1,5 @@
 // What is kept of an incident, and until when.
-ghost use Rattle.std.specs.Prelude.{◌≡◌, ◌≢◌, ◌⊎◌, ◌-◌, ◌≤◌, ℕ, ℤ, suc, List, length, is_none, position, option_map, IfOk, IfNone, IfSome, OnErr, OnOk, None, Some, Err, Ok, true, false, IsTrue};
+ghost use Rattle.std.specs.Prelude.{◌≡◌, ◌-◌, ◌≤◌, ℕ, ℤ, suc, List, is_none, position, option_map, IfOk, IfNone, IfSome, OnErr, None, Some, Err, Ok, false};
 ghost use Rattle.vdr_terms.specs.Records.{Record, last, second};
 ghost use Rattle.vdr_history.specs.Histories.{Event, Incident, Opening, live, with_slot};
 ghost use Rattle.vdr_history.specs.Histories.Act.{Release};
@@ -16,16 +16,16 @@ ghost use Rattle.vdr_vault.specs.Vaults.{AreRings, Stands, of_stamp};
 ghost use Rattle.vdr_vault.specs.Walks.{HasRead};
 ghost use Rattle.vdr_vault.specs.Plays.{ReadsNoOther, ReadsOn};
 ghost use Rattle.vdr_vault.specs.Saves.{Does, HasFaultOn, Saves, first_in_window, save_refusal};
+ghost use Rattle.vdr_vault.specs.Keeps.{FailsWhere, FreesSlot, KeepsHistory, MeetsDamage, PutsIncident, RefusesRelease, RefusesSave, WritesToLongTerm};
 ghost use Rattle.vdr_vault.specs.declared.refused.SaveRefused.{SaveRefused as Refused};
 ghost use Rattle.vdr_vault.specs.declared.refused.SaveRefused.TheVariants.{Damaged, Fault as AFault, Label, Nothing, TableFull};
 
 use crate::cursor::Cursor;
-use crate::matching::Span;
-use crate::play::seek;
 use crate::{Members, SaveRefused};
 use vdr_entry::{Medium, Query};
 use vdr_incident::{ReleaseRefused, Save, is_label};
 use vdr_outside::Media;
+use vdr_survey::{Selection, Span};
 
 // The records of a medium, whatever their channels and stamps.
 const ALL: Query = Query {
@@ -100,11 +100,14 @@ impl Members {
                 offset: 0,
             });
         };
-        let span = Span::Window {
-            last: last_second,
-            seconds: seconds as u32,
+        let selection = Selection {
+            span: Span::Window {
+                last: last_second,
+                seconds: seconds as u32,
+            },
+            query: ALL,
         };
-        if !seek(&mut self.long_term, media, &ALL, span, &mut cursor)? {
+        if !cursor.step(&mut self.long_term, media, &selection)? {
             return Err(SaveRefused::Damaged {
                 medium: 1,
                 offset: 0,
@@ -188,34 +191,14 @@ impl Members {
     /// until the media are opened again.
     pub fn save<M: Media>(&mut self, media: &mut M, label: &[u8]) -> Result<u32, SaveRefused>
         requires rings { AreRings self.old (M.disk media.old).sizes }
-        ensures failed { self.old.failed ≡ true → (result ≡ Err AFault) × (self.new ≡ self.old) × (media.new ≡ media.old) }
-        ensures refused { (refused : Refused) → self.old.failed ≡ false → save_refusal label.now self.old ≡ Some refused
-            → (result ≡ Err refused) × (self.new ≡ self.old) × (media.new ≡ media.old) }
-        ensures reason { (refused : Refused) → result ≡ Err refused → (refused ≡ Label) ⊎ ((refused ≡ Nothing) ⊎ (refused ≡ TableFull))
-            → (self.old.failed ≡ false) × (save_refusal label.now self.old ≡ Some refused) }
+        ensures refuses { RefusesSave label.now self.old self.old self.new media.old media.new result }
         ensures saves { (opening : Opening) (events : List Event) (placed : ℕ → List Placed) → M.tells → Stands opening events self.old placed (M.disk media.old)
             → save_refusal label.now self.old ≡ None → Saves opening events label.now placed self.new (M.disk media.old) (M.disk media.new) result }
-        ensures undamaged { (opening : Opening) (events : List Event) (placed : ℕ → List Placed) (m offset : ℕ) → M.tells → Stands opening events self.old placed (M.disk media.old)
-            → result ≡ Err (Damaged m offset) → ⊥ }
-        ensures stands { (opening : Opening) (events : List Event) (placed : ℕ → List Placed) (m offset : ℕ) → M.tells → result ≡ Err (Damaged m offset)
-            → Stands opening events self.old placed (M.disk media.old) → Stands opening events self.new placed (M.disk media.new) }
-        ensures damaged { (m offset : ℕ) → result ≡ Err (Damaged m offset) → Unchanged (M.disk media.old) (M.disk media.new)
-            × (self.new.failed ≡ false) × (M.tells → IsLoaded self.old.long_term (M.disk media.old) → m ≡ 1) }
-        ensures fails { result ≡ Err AFault → self.new.failed ≡ true }
-        ensures works { (result ≡ Err AFault → ⊥) → self.new.failed ≡ false }
-        ensures id { IfOk result (λ id. option_map suc (position is_none self.old.table) ≡ Some id) }
-        ensures table { IfOk result (λ id. (saved : Incident) × (self.new.table ≡ with_slot self.old.table id (Some saved)) × (saved.label ≡ label.now)
-            × (saved.b ≡ self.old.next_place - 1) × (self.old.last ≡ Some (of_stamp saved.stamp))) }
-        ensures kept { OnErr result (self.new.table ≡ self.old.table) }
-        ensures next_place { self.new.next_place ≡ self.old.next_place }
-        ensures last { self.new.last ≡ self.old.last }
-        ensures config { self.new.config ≡ self.old.config }
-        ensures capsule { self.new.capsule ≡ self.old.capsule }
-        ensures rings { AreRings self.new (M.disk media.new).sizes }
-        ensures others { M.tells → SameBut 1 (M.disk media.old).reads (M.disk media.new).reads }
-        ensures sizes { (M.disk media.new).sizes ≡ (M.disk media.old).sizes }
-        ensures counts { ReadsNoOther 1 (M.bytes_read media.old) (M.bytes_read media.new) }
-        ensures cause { HasFaultOn 1 self.old.failed (M.faults media.old) (M.faults media.new) (result ≡ Err AFault) }
+        ensures damage { MeetsDamage self.old self.new (M.disk media.old) (M.disk media.new) result }
+        ensures failing { FailsWhere (result ≡ Err AFault) self.new.failed }
+        ensures saved { PutsIncident label.now self.old self.new.table result }
+        ensures keeps { KeepsHistory self.old self.new (M.disk media.new).sizes }
+        ensures writes { WritesToLongTerm M.Media self.old.failed media.old media.new (ReadsNoOther 1) (result ≡ Err AFault) }
     {
         if self.failed {
             return Err(SaveRefused::Fault);
@@ -235,26 +218,15 @@ impl Members {
     /// the media are opened again.
     pub fn release<M: Media>(&mut self, media: &mut M, id: u32) -> Result<(), ReleaseRefused>
         requires rings { AreRings self.old (M.disk media.old).sizes }
-        ensures failed { self.old.failed ≡ true → (result ≡ Err AReleaseFault) × (self.new ≡ self.old) × (media.new ≡ media.old) }
-        ensures refused { self.old.failed ≡ false → live self.old.table id ≡ None → (result ≡ Err NoSuch) × (self.new ≡ self.old) × (media.new ≡ media.old) }
-        ensures reason { result ≡ Err NoSuch → (self.old.failed ≡ false) × (live self.old.table id ≡ None) }
+        ensures refuses { RefusesRelease id self.old self.old self.new media.old media.new result }
         ensures releases { (opening : Opening) (events : List Event) (placed : ℕ → List Placed) (saved : Incident) (e : Event) → M.tells
             → Stands opening events self.old placed (M.disk media.old) → live self.old.table id ≡ Some saved → e.act ≡ Release id
             → Does opening events e placed self.new (M.disk media.old) (M.disk media.new) result }
-        ensures fails { result ≡ Err AReleaseFault → self.new.failed ≡ true }
-        ensures works { (result ≡ Err AReleaseFault → ⊥) → self.new.failed ≡ false }
-        ensures table { OnOk result (self.new.table ≡ with_slot self.old.table id None) }
-        ensures kept { OnErr result (self.new.table ≡ self.old.table) }
-        ensures next_place { self.new.next_place ≡ self.old.next_place }
-        ensures last { self.new.last ≡ self.old.last }
-        ensures config { self.new.config ≡ self.old.config }
-        ensures capsule { self.new.capsule ≡ self.old.capsule }
+        ensures failing { FailsWhere (result ≡ Err AReleaseFault) self.new.failed }
+        ensures released { FreesSlot id self.old.table self.new.table result }
+        ensures keeps { KeepsHistory self.old self.new (M.disk media.new).sizes }
         ensures long_term { self.new.long_term ≡ self.old.long_term }
-        ensures rings { AreRings self.new (M.disk media.new).sizes }
-        ensures others { M.tells → SameBut 1 (M.disk media.old).reads (M.disk media.new).reads }
-        ensures sizes { (M.disk media.new).sizes ≡ (M.disk media.old).sizes }
-        ensures counts { M.bytes_read media.new ≡ M.bytes_read media.old }
-        ensures cause { HasFaultOn 1 self.old.failed (M.faults media.old) (M.faults media.new) (result ≡ Err AReleaseFault) }
+        ensures writes { WritesToLongTerm M.Media self.old.failed media.old media.new (λ before now. now ≡ before) (result ≡ Err AReleaseFault) }
     {
         if self.failed {
             return Err(ReleaseRefused::Fault);

@@ -6,10 +6,11 @@ use std::alloc::{AllocError, Global};
 use std::process::Abort;
 use std::test::Fail;
 use vdr_config::{fits, read_config};
-use vdr_entry::Record;
+use vdr_entry::{Medium, Query, Record};
 use vdr_memory::{MemoryMedia, RamMedia, Torn};
 use vdr_outside::{Fault, Media};
 use vdr_ring::{Cursor, Pins, Ring};
+use vdr_survey::{Selection, Span};
 use vdr_terms::{Verdict, recordable};
 
 // The bench configuration: a window of 60 seconds, for which the capsule has 11 slots.
@@ -147,21 +148,39 @@ fn opening_reads_each_header_and_each_segment_once(rt: HostRuntime) -> Result<()
     assert!(rt; media.bytes_read(0) == 11 * 64);
     append_all(&rt, &mut media, &mut ring, 0, 100);
     let changes = media.made().changes();
-    let again = open(&rt, alloc, &mut media)?;
+    let mut again = open(&rt, alloc, &mut media)?;
+    assert!(rt; again.last() == ring.last());
+    let Ok(batch) = again.read_last_batch(alloc, &mut media) else {
+        return Err("not read".into());
+    };
+    assert!(rt; batch.len() == 1 && batch[0].place == 99);
     assert!(rt;
         (media.bytes_read(0), media.made().changes()) == (2 * 11 * 64 + 2 * 8_192, changes)
     );
-    assert!(rt; again.last() == ring.last());
     Ok(())
 }
 
-// Steps to the next record of a slot, and answers its place, None where there is no further one.
+// The records of these places, whatever their channels and stamps.
+fn places(first: u64, last: u64) -> Selection {
+    Selection {
+        span: Span::Places { first, last },
+        query: Query {
+            medium: Medium::Capsule,
+            channel: None,
+            from: i64::MIN,
+            to: i64::MAX,
+        },
+    }
+}
+
+// Steps to the next record of a slot that is selected, and answers its place, None where there is no further one.
 fn step<M: Media>(
     rt: &impl Abort,
     media: &mut M,
     ring: &mut Ring,
     slot: u32,
     visit: &mut Cursor,
+    selection: &Selection,
 ) -> Option<u64>
     requires room { HasMedium ring.old (M.disk media.old).sizes }
     requires within { slot < ring.old.slots }
@@ -170,7 +189,7 @@ fn step<M: Media>(
     ensures slots { ring.new.slots ≡ ring.old.slots }
     ensures stands { StandsIn ring.new visit.new }
 {
-    let read = ring.read_span(media, slot, visit);
+    let read = ring.read_span(media, slot, visit, selection);
     let place = visit.item().map(|item| item.place);
     assert!(rt; read == Ok(place.is_some()));
     place
@@ -188,12 +207,13 @@ fn a_cursor_steps_from_record_to_record_of_a_slot(rt: HostRuntime) -> Result<(),
     };
     let closed = ring.victim(&Pins::new());
     let mut visit = Cursor::new();
-    assert!(rt; step(&rt, &mut media, &mut ring, first, &mut visit) == Some(0));
-    assert!(rt; step(&rt, &mut media, &mut ring, first, &mut visit) == Some(1));
-    assert!(rt; step(&rt, &mut media, &mut ring, second, &mut visit) == Some(54));
-    assert!(rt; step(&rt, &mut media, &mut ring, second, &mut visit) == Some(55));
-    assert!(rt; step(&rt, &mut media, &mut ring, second, &mut visit) == None);
-    assert!(rt; step(&rt, &mut media, &mut ring, closed, &mut visit) == None);
+    let (all, some) = (places(0, u64::MAX), places(53, 54));
+    assert!(rt; step(&rt, &mut media, &mut ring, first, &mut visit, &all) == Some(0));
+    assert!(rt; step(&rt, &mut media, &mut ring, first, &mut visit, &all) == Some(1));
+    assert!(rt; step(&rt, &mut media, &mut ring, first, &mut visit, &some) == Some(53));
+    assert!(rt; step(&rt, &mut media, &mut ring, second, &mut visit, &some) == Some(54));
+    assert!(rt; step(&rt, &mut media, &mut ring, second, &mut visit, &some) == None);
+    assert!(rt; step(&rt, &mut media, &mut ring, closed, &mut visit, &all) == None);
     Ok(())
 }
 

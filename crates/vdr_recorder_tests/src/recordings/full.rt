@@ -113,6 +113,17 @@ fn assert_made<M: Media>(rt: &impl Abort, media: &mut M, members: &mut Members)
     assert!(rt; found == Ok(false));
 }
 
+// Closes the run, whose port has missed four items behind those of the queue.
+fn close(rt: &impl Abort, media: &mut RamMedia, recording: &mut Recording)
+    requires rings { AreRings recording.old.members (contents_alone media.old).sizes }
+    requires open { recording.old.is_open ≡ true }
+    requires place { recording.old.maker.place ≤ 2 ^ 62 + 32 }
+    requires numbers { (g : ℕ) → g < 16 → next_number (counted_of recording.old.maker g).pending ≤ 16 }
+{
+    assert!(rt; recording.config().groups[3].is_some());
+    assert!(rt; recording.stop(media, &REST).is_ok());
+}
+
 // What found no room stands in a closing Gap, behind what the queue held.
 #[test]
 fn a_full_queue_is_drained_and_its_gap_closes_the_run(rt: HostRuntime) -> Result<(), Fail> {
@@ -130,8 +141,7 @@ fn a_full_queue_is_drained_and_its_gap_closes_the_run(rt: HostRuntime) -> Result
     capture(&rt, &mut lane, 21, &queue);
     assert!(rt; lane.tally.counts() == FOUR_FULL);
     drain(&rt, &queue, &mut taker, &mut media, &mut recording);
-    assert!(rt; recording.config().groups[3].is_some());
-    assert!(rt; recording.stop(&mut media, &REST).is_ok());
+    close(&rt, &mut media, &mut recording);
     assert!(rt; media.count() == 2);
     let Ok(mut members) = Members::open(alloc, &mut media) else {
         return Err("the media are not opened".into());

@@ -10,4 +10,4 @@ pub returns-clause-settled : goal.returns-clause-settled
 returns-clause-settled g c slots table x settled held =
     on_ok_both c.write_through.result
     (close_settled slots c.args.slot _ table x c.place_of.ensures held _ _ settled)
-    c.write_through.ensures.durable c.write_through.ensures.reads
+    c.write_through.ensures.writes.durable c.write_through.ensures.reads

@@ -16,10 +16,10 @@ pub returns-clause-done : goal.returns-clause-done
 returns-clause-done g c =
     on_ok_both c.write_through.result
     (λ durable reads. opening_done _ _ _ c.lay_out.ensures.writes _ c.write_through.ensures.moments _ _ c.in_ok-lay_out.ensures.laid_out durable reads)
-    c.write_through.ensures.durable c.write_through.ensures.reads
+    c.write_through.ensures.writes.durable c.write_through.ensures.reads
 
 pub returns-clause-others : goal.returns-clause-others
-returns-clause-others g c told k ne = c.write_through.ensures.others told k ne ∙ c.lay_out.ensures.writes.others told k ne
+returns-clause-others g c told k ne = c.write_through.ensures.writes.medium.others told k ne ∙ c.lay_out.ensures.writes.others told k ne
 
 pub returns-clause-cause : goal.returns-clause-cause
-returns-clause-cause g c = cause_after _ _ _ _ _ c.lay_out.ensures.cause.later c.write_through.ensures.cause
+returns-clause-cause g c = cause_after _ _ _ _ _ c.lay_out.ensures.cause.later c.write_through.ensures.writes.medium.cause

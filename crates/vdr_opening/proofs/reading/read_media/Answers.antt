@@ -1,4 +1,4 @@
-use Rattle.std.proofs.Common.{get_or, subst}
+use Rattle.std.proofs.Common.{rules, get_or, subst}
 use Rattle.std.proofs.lemmas.Result.{err_from_is_err_and}
 use Rattle.vdr_outside.proofs.Counts.{none_falls_join}
 use Rattle.vdr_outside.specs.Causes.{Rose}
@@ -15,14 +15,17 @@ returns-in_err-are_formatted-clause-cause g c =
     open_cause _ _ _ c.are_formatted.ensures.cause.later
     (λ is. first_of (λ m. Rose (get_or (g.M.Media.faults c.args.media.now) m 0) (get_or (g.M.Media.faults c.are_formatted.new.media) m 0)) c.in_err-are_formatted.ensures.cause.failed)
 
-pub returns-in_err-opened-clause-damaged : goal.returns-in_err-opened-clause-damaged
-returns-in_err-opened-clause-damaged g c =
+pub returns-in_err-opened-clause-refused : goal.returns-in_err-opened-clause-refused
+returns-in_err-opened-clause-refused g c =
     let p = err_from_is_err_and c.from_residual-in_err-opened.result c.from_residual-in_err-opened.ensures.1 in
-    rw p.1 (λ m offset e told durable. (
-      (c.in_ok-are_formatted.ensures.formatted c.if-not-branch.false).1 told,
-      subst (λ (i : Image). IsRefused i m offset) (c.are_formatted.ensures.unchanged.reads told)
-          (c.in_err-opened.ensures.damaged m offset (passed_damaged _ _ m offset p.2 e) told (λ k d lt. durable_still _ _ _ c.are_formatted.ensures.unchanged (durable k d lt))),
-    ))
+    rw p.1 (record {
+      unformatted = search rules;
+      damaged = λ m offset e told durable. (
+        (c.in_ok-are_formatted.ensures.formatted c.if-not-branch.false).1 told,
+        subst (λ (i : Image). IsRefused i m offset) (c.are_formatted.ensures.unchanged.reads told)
+            (c.in_err-opened.ensures.damaged m offset (passed_damaged _ _ m offset p.2 e) told (λ k d lt. durable_still _ _ _ c.are_formatted.ensures.unchanged (durable k d lt))),
+      );
+    })
 
 pub returns-in_err-opened-clause-cause : goal.returns-in_err-opened-clause-cause
 returns-in_err-opened-clause-cause g c =

@@ -19,17 +19,17 @@ returns-in_err-recording-clause-ends g c =
     let p = err_from_is_err_and c.from_residual.result c.from_residual.ensures.1 in
     rw (p.1, p.2)
     (opening_exports _ _ _ _ c.in_err-recording.field-0.0
-    (λ m offset e. let was = c.in_err-recording.was ∙ ap (λ (r : OpenRefused). Err r) e in let same = told.untouched (inr (m, offset, was)) in (record { leaves = same.0; reads = same.1 }, told.damaged m offset was))
+    (λ m offset e. let was = c.in_err-recording.was ∙ ap (λ (r : OpenRefused). Err r) e in let same = told.refused.untouched (inr (m, offset, was)) in (record { leaves = same.0; reads = same.1 }, told.refused.damaged m offset was))
     refl
     (refused_ends _ _ AreLooks _ _ c.open.result c.in_err-recording.field-0.0 no_looks c.in_err-recording.was
-    told.unformatted told.damaged told.untouched told.blank told.others told.cause told.moments)
+    told.refused.unformatted told.refused.damaged told.refused.untouched told.refused.blank told.writes.others told.writes.cause told.moments)
     (level_opened (g.M.Media.disk c.args.world.now.media) (g.M.Media.disk c.open.new.media) told.level))
 
 pub returns-in_default-clause-ends : goal.returns-in_default-clause-ends
 returns-in_default-clause-ends g c =
     let told = c.open.ensures in
-    channel_exports _ _ _ _ c.open.result c.in_ok-recording.recording c.in_ok-recording.was c.in_ok-recording.recording.members c.in_default.ensures.none c.in_ok-recording.ensures.contents
-    told.others told.moments (λ a b h k. (c.law_of_contents.ensures.config (g.M.Media.disk c.args.world.now.media).reads a b h k).0)
+    channel_exports _ _ _ _ c.open.result c.in_ok-recording.recording c.in_ok-recording.was c.in_ok-recording.recording.members c.in_default.ensures.none c.in_ok-recording.ensures.opened.contents
+    told.writes.others told.moments (λ a b h k. (c.law_of_contents.ensures.config (g.M.Media.disk c.args.world.now.media).reads a b h k).0)
     c.report_channel.ensures (level_opened (g.M.Media.disk c.args.world.now.media) (g.M.Media.disk c.open.new.media) told.level)
 
 pub returns-in_default-accept-clause-ends : goal.returns-in_default-accept-clause-ends
@@ -47,10 +47,10 @@ returns-in_default-accept-clause-ends g c =
     } in
     let wants = wanted_so _ _ _ _ _ (asked c.in-Some.query) c.in-Some.ensures.found.0 c.in-Some.ensures.found.1 in
     rw (c.id_of.ensures)
-    (incident_exports c.args.wish (plain_play c.args.wanted) old mid mid.media c.in_ok-recording.recording c.in_ok-recording.recording (asked c.in-Some.query) wants told.works told.contents told.opened told.readable
-    c.open.ensures.cause.later c.open.ensures.others (level_opened (g.M.Media.disk c.args.world.now.media) (g.M.Media.disk c.open.new.media) c.open.ensures.level) c.open.result c.open.ensures.moments
+    (incident_exports c.args.wish (plain_play c.args.wanted) old mid mid.media c.in_ok-recording.recording c.in_ok-recording.recording (asked c.in-Some.query) wants told.opened.works told.opened.contents told.opened.opened told.opened.readable
+    c.open.ensures.writes.cause.later c.open.ensures.writes.others (level_opened (g.M.Media.disk c.args.world.now.media) (g.M.Media.disk c.open.new.media) c.open.ensures.level) c.open.result c.open.ensures.moments
     c.accept.result _ c.accept.ensures c.in_default-accept.is
-    (looked_nothing (asked c.in-Some.query) c.in_ok-recording.recording (g.M.Media.disk c.open.new.media) (g.M.Media.bytes_read c.open.new.media) (g.M.Media.faults c.open.new.media) ⊥ (λ never. never) told.rings) refl)
+    (looked_nothing (asked c.in-Some.query) c.in_ok-recording.recording (g.M.Media.disk c.open.new.media) (g.M.Media.bytes_read c.open.new.media) (g.M.Media.faults c.open.new.media) ⊥ (λ never. never) told.opened.rings) refl)
 
 pub returns-in_default-file_of-clause-ends : goal.returns-in_default-file_of-clause-ends
 returns-in_default-file_of-clause-ends g c =
@@ -67,11 +67,11 @@ returns-in_default-file_of-clause-ends g c =
     } in
     let wants = wanted_so _ _ _ _ _ (asked c.in-Some.query) c.in-Some.ensures.found.0 c.in-Some.ensures.found.1 in
     let there = both_there _ _ c.accept.result c.accept.ensures c.in-Ok.is in
-    kind_exports c.args.wish (plain_play c.args.wanted) old mid mid.media c.in_ok-recording.recording c.in_ok-recording.recording (asked c.in-Some.query) wants told.works told.contents told.opened told.readable
-    c.open.ensures.cause.later c.open.ensures.others (level_opened (g.M.Media.disk c.args.world.now.media) (g.M.Media.disk c.open.new.media) c.open.ensures.level) c.open.result c.open.ensures.moments
+    kind_exports c.args.wish (plain_play c.args.wanted) old mid mid.media c.in_ok-recording.recording c.in_ok-recording.recording (asked c.in-Some.query) wants told.opened.works told.opened.contents told.opened.opened told.opened.readable
+    c.open.ensures.writes.cause.later c.open.ensures.writes.others (level_opened (g.M.Media.disk c.args.world.now.media) (g.M.Media.disk c.open.new.media) c.open.ensures.level) c.open.result c.open.ensures.moments
     there.0 there.1 c.file_of.result (c.file_of.ensures ∙ ap (λ (d : Configuration). wished c.args.wish (kind_at d.channels c.in-Some.query.channel)) c.config.ensures) c.in_default-file_of.is
     (λ a b h k. (c.law_of_contents.ensures.config (g.M.Media.disk c.args.world.now.media).reads a b h k).0)
-    (looked_nothing (asked c.in-Some.query) c.in_ok-recording.recording (g.M.Media.disk c.open.new.media) (g.M.Media.bytes_read c.open.new.media) (g.M.Media.faults c.open.new.media) ⊥ (λ never. never) told.rings) refl
+    (looked_nothing (asked c.in-Some.query) c.in_ok-recording.recording (g.M.Media.disk c.open.new.media) (g.M.Media.bytes_read c.open.new.media) (g.M.Media.faults c.open.new.media) ⊥ (λ never. never) told.opened.rings) refl
 
 pub returns-clause-ends : goal.returns-clause-ends
 returns-clause-ends g c =
@@ -95,8 +95,8 @@ returns-clause-ends g c =
     } in
     let there = both_there _ _ c.accept.result c.accept.ensures c.in-Ok.is in
     rw c.exported.ensures
-    (made_exports c.args.wish (plain_play c.args.wanted) old new mid.media c.in_ok-recording.recording c.export_file-written.new.recording (asked c.in-Some.query) wants told.works told.contents told.opened told.readable
-    c.open.ensures.cause.later c.open.ensures.others
+    (made_exports c.args.wish (plain_play c.args.wanted) old new mid.media c.in_ok-recording.recording c.export_file-written.new.recording (asked c.in-Some.query) wants told.opened.works told.opened.contents told.opened.opened told.opened.readable
+    c.open.ensures.writes.cause.later c.open.ensures.writes.others
     (level_looked (g.M.Media.disk c.args.world.now.media) (g.M.Media.disk c.open.new.media) (g.M.Media.disk c.export_file-written.new.media) c.open.ensures.level made.looked.read.unchanged) c.open.result c.open.ensures.moments
     there.0 there.1 c.file_of.result (c.file_of.ensures ∙ ap (λ (d : Configuration). wished c.args.wish (kind_at d.channels c.in-Some.query.channel)) c.config.ensures) c.in-Some-file_of.file c.in-Some-file_of.is
     (λ a b h k. (c.law_of_contents.ensures.config (g.M.Media.disk c.args.world.now.media).reads a b h k).0) c.export_file-written.result made.file made.looked made.own

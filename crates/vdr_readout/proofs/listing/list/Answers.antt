@@ -11,19 +11,19 @@ returns-in_err-recording-clause-media g c =
     let told = c.open.ensures in
     let p = err_from_is_err_and c.from_residual.result c.from_residual.ensures.1 in
     rw (p.1, p.2)
-    (refused_ends CanList ⊥ AreLooks _ _ c.open.result c.in_err-recording.field-0.0 no_looks c.in_err-recording.was told.unformatted told.damaged told.untouched told.blank told.others told.cause told.moments)
+    (refused_ends CanList ⊥ AreLooks _ _ c.open.result c.in_err-recording.field-0.0 no_looks c.in_err-recording.was told.refused.unformatted told.refused.damaged told.refused.untouched told.refused.blank told.writes.others told.writes.cause told.moments)
 
 pub returns-in-Ok-clause-media : goal.returns-in-Ok-clause-media
 returns-in-Ok-clause-media g c =
     let told = c.open.ensures in
-    listed_ends _ _ c.open.result c.in_ok-recording.recording c.in_ok-recording.was c.in_ok-recording.recording.members c.in_ok-recording.ensures.contents
-    (λ x t holds sound. let w = (c.in_ok-recording.ensures.opened x t holds sound).3.works c.in_ok-recording.ensures.works in (w.placed, w.stands)) told.others told.moments Done tt
+    listed_ends _ _ c.open.result c.in_ok-recording.recording c.in_ok-recording.was c.in_ok-recording.recording.members c.in_ok-recording.ensures.opened.contents
+    (λ x t holds sound. let w = (c.in_ok-recording.ensures.opened.opened x t holds sound).3.works c.in_ok-recording.ensures.opened.works in (w.placed, w.stands)) told.writes.others told.moments Done tt
 
 pub returns-clause-media : goal.returns-clause-media
 returns-clause-media g c =
     let told = c.open.ensures in
-    listed_ends _ _ c.open.result c.in_ok-recording.recording c.in_ok-recording.was c.in_ok-recording.recording.members c.in_ok-recording.ensures.contents
-    (λ x t holds sound. let w = (c.in_ok-recording.ensures.opened x t holds sound).3.works c.in_ok-recording.ensures.works in (w.placed, w.stands)) told.others told.moments OutputFault tt
+    listed_ends _ _ c.open.result c.in_ok-recording.recording c.in_ok-recording.was c.in_ok-recording.recording.members c.in_ok-recording.ensures.opened.contents
+    (λ x t holds sound. let w = (c.in_ok-recording.ensures.opened.opened x t holds sound).3.works c.in_ok-recording.ensures.opened.works in (w.placed, w.stands)) told.writes.others told.moments OutputFault tt
 
 pub returns-in_err-recording-clause-level : goal.returns-in_err-recording-clause-level
 returns-in_err-recording-clause-level g c = level_opened (g.M.Media.disk c.args.world.now.media) (g.M.Media.disk c.open.new.media) c.open.ensures.level

@@ -15,14 +15,14 @@ returns-in_err-recording-clause-reads g c first had =
     rw (p.1, p.2)
     (opening_reads _ _ _ _ _ _ _ _ c.in_err-recording.field-0.0 refl
     (refused_ends _ _ AreLooks _ _ c.open.result c.in_err-recording.field-0.0 no_looks c.in_err-recording.was
-    told.unformatted told.damaged told.untouched told.blank told.others told.cause told.moments)
+    told.refused.unformatted told.refused.damaged told.refused.untouched told.refused.blank told.writes.others told.writes.cause told.moments)
     (level_opened (g.M.Media.disk c.args.world.now.media) (g.M.Media.disk c.open.new.media) told.level))
 
 pub returns-in_default-clause-reads : goal.returns-in_default-clause-reads
 returns-in_default-clause-reads g c first had =
     let told = c.open.ensures in
-    channel_reads _ _ _ _ _ _ _ _ c.open.result c.in_ok-recording.recording c.in_ok-recording.was c.in_ok-recording.recording.members c.in_default.ensures.none c.in_ok-recording.ensures.contents
-    told.others told.moments c.report_channel.ensures (level_opened (g.M.Media.disk c.args.world.now.media) (g.M.Media.disk c.open.new.media) told.level)
+    channel_reads _ _ _ _ _ _ _ _ c.open.result c.in_ok-recording.recording c.in_ok-recording.was c.in_ok-recording.recording.members c.in_default.ensures.none c.in_ok-recording.ensures.opened.contents
+    told.writes.others told.moments c.report_channel.ensures (level_opened (g.M.Media.disk c.args.world.now.media) (g.M.Media.disk c.open.new.media) told.level)
 
 pub returns-clause-reads : goal.returns-clause-reads
 returns-clause-reads g c first had =
@@ -50,13 +50,13 @@ returns-clause-reads g c first had =
     rw c.ended_by.ensures.is
     (record {
       shown =
-          read_shows wanted old.media mid.media new.media c.in_ok-recording.recording c.visit-ended.new.self (asked c.in-Some.query) c.visit-ended.result wants told.works told.contents told.opened told.readable
-          visit.accepted undamaged visit.looked c.open.ensures.cause.later c.open.ensures.others _ c.ended_by.ensures.own c.open.result c.open.ensures.moments
+          read_shows wanted old.media mid.media new.media c.in_ok-recording.recording c.visit-ended.new.self (asked c.in-Some.query) c.visit-ended.result wants told.opened.works told.opened.contents told.opened.opened told.opened.readable
+          visit.accepted undamaged visit.looked c.open.ensures.writes.cause.later c.open.ensures.writes.others _ c.ended_by.ensures.own c.open.result c.open.ensures.moments
           (λ a b h k. (c.law_of_contents.ensures.config (g.M.Media.disk c.args.world.now.media).reads a b h k).0) _ _ _ _ old.output new.output visited
           (λ refused. let same = (visit.unread (inr refused)).3 in λ i. record { taken = g.O.Sink.taken (same i); faults = g.O.Sink.faults (same i) })
           visit.output.rose;
       media =
-          read_ends wanted old.media mid.media new.media c.in_ok-recording.recording c.visit-ended.new.self (asked c.in-Some.query) c.visit-ended.result wants told.works told.contents told.opened told.readable
-          visit.accepted undamaged visit.looked c.open.ensures.cause.later c.open.ensures.others _ c.ended_by.ensures.own c.open.result c.open.ensures.moments;
+          read_ends wanted old.media mid.media new.media c.in_ok-recording.recording c.visit-ended.new.self (asked c.in-Some.query) c.visit-ended.result wants told.opened.works told.opened.contents told.opened.opened told.opened.readable
+          visit.accepted undamaged visit.looked c.open.ensures.writes.cause.later c.open.ensures.writes.others _ c.ended_by.ensures.own c.open.result c.open.ensures.moments;
       level = level_looked (g.M.Media.disk c.args.world.now.media) (g.M.Media.disk c.open.new.media) (g.M.Media.disk c.visit-ended.new.media) c.open.ensures.level visit.looked.read.unchanged;
     })

@@ -31,12 +31,12 @@ returns-in_err-recording-clause-replayed g c = λ x bytes told holds sound known
     let rose = Rose (sum (g.M.Media.faults c.args.media.now)) (sum (g.M.Media.faults c.open.new.media)) in
     subst (Answers x bytes (g.I.Source.left c.header.new.input) rose (g.M.Media.disk c.args.media.now) (g.M.Media.disk c.open.new.media)) (sym (p.1 ∙ ap (λ (stop : ReplayStop). Err stop) p.2))
     (open_stops x bytes (g.I.Source.left c.header.new.input) rose (config_read (g.M.Media.disk c.args.media.now).reads x holds) sound (g.M.Media.disk c.args.media.now) (g.M.Media.disk c.open.new.media) c.open.result
-    c.in_err-recording.field-0.0 c.in_err-recording.was (λ either. (c.open.ensures.untouched either).0) (λ meet. c.open.ensures.moments x told holds meet sound))
+    c.in_err-recording.field-0.0 c.in_err-recording.was (λ either. (c.open.ensures.refused.untouched either).0) (λ meet. c.open.ensures.moments x told holds meet sound))
 
 pub returns-in_err-recording-clause-damaged : goal.returns-in_err-recording-clause-damaged
 returns-in_err-recording-clause-damaged g c = λ m offset is.
     let p = err_from_is_err_and c.from_residual-in_err-recording.result c.from_residual-in_err-recording.ensures.1 in
-    c.open.ensures.damaged m offset (c.in_err-recording.was
+    c.open.ensures.refused.damaged m offset (c.in_err-recording.was
     ∙ ap (λ (e : OpenRefused). Err e) (damaged_by c.in_err-recording.field-0.0 m offset (sym (p.1 ∙ ap (λ (stop : ReplayStop). Err stop) p.2) ∙ is)))
 
 pub returns-in_err-lanes-clause-replayed : goal.returns-in_err-lanes-clause-replayed
@@ -44,7 +44,7 @@ returns-in_err-lanes-clause-replayed g c = λ x bytes told holds sound known.
     let p = err_from_is_err_and c.from_residual-in_err-lanes.result c.from_residual-in_err-lanes.ensures.1 in
     let rose = Rose (sum (g.M.Media.faults c.args.media.now)) (sum (g.M.Media.faults c.open.new.media)) in
     let reads = config_read (g.M.Media.disk c.args.media.now).reads x holds in
-    let opened = c.in_ok-recording.ensures.opened x told holds sound in
+    let opened = c.in_ok-recording.ensures.opened.opened x told holds sound in
     subst (Answers x bytes (g.I.Source.left c.header.new.input) rose (g.M.Media.disk c.args.media.now) (g.M.Media.disk c.open.new.media)) (sym (p.1 ∙ ap (λ (stop : ReplayStop). Err stop) p.2))
     (λ meet. begun_nothing x bytes (g.I.Source.left c.header.new.input) rose reads sound opened.0 c.in_ok-recording.recording c.in_ok-recording.recording (g.M.Media.disk c.args.media.now) (g.M.Media.disk c.open.new.media) (g.M.Media.disk c.open.new.media) opened.3
     (passes_opened x bytes rose reads sound (g.M.Media.disk c.args.media.now) (g.M.Media.disk c.open.new.media) c.in_ok-recording.recording (c.in_ok-recording.ensures.moments x told holds meet sound))
@@ -54,8 +54,8 @@ pub returns-clause-replayed : goal.returns-clause-replayed
 returns-clause-replayed g c = λ x bytes told holds sound known.
     let rose = Rose (sum (g.M.Media.faults c.args.media.now)) (sum (g.M.Media.faults c.record_run.new.media)) in
     let reads = config_read (g.M.Media.disk c.args.media.now).reads x holds in
-    let opened = c.in_ok-recording.ensures.opened x told holds sound in
-    let was = c.in_ok-recording.ensures.contents told in
+    let opened = c.in_ok-recording.ensures.opened.opened x told holds sound in
+    let was = c.in_ok-recording.ensures.opened.contents told in
     let meet = meet_as was.1 x (c.law_of_contents.ensures.placed (g.M.Media.disk c.args.media.now).reads was.1 x was.2 holds) was.3 in
     let same = was.4 ∙ (c.law_of_contents.ensures.config (g.M.Media.disk c.args.media.now).reads was.1 x was.2 holds).0 in
     let begins = subst (λ (first : Option (List ℕ)). HasRead first (g.I.Source.left c.header.new.input) c.header.new.self []) known
@@ -63,7 +63,7 @@ returns-clause-replayed g c = λ x bytes told holds sound known.
     answers x bytes (g.I.Source.left c.record_run.new.input) rose reads sound opened.0 c.in_ok-recording.recording c.record_run.new.recording (g.M.Media.disk c.args.media.now) (g.M.Media.disk c.open.new.media) (g.M.Media.disk c.record_run.new.media) opened.3
     (passes_opened x bytes rose reads sound (g.M.Media.disk c.args.media.now) (g.M.Media.disk c.open.new.media) c.in_ok-recording.recording (c.in_ok-recording.ensures.moments x told holds meet sound))
     opened.1 opened.2 (g.I.Source.left c.header.new.input) c.header.new.self (admits_all x.config (subst IsConfiguration (c.config.ensures ∙ same) c.new.ensures.legal)) begins c.record_run.result
-    (λ is. sum_of_rose _ _ (none_falls_join _ _ _ c.open.ensures.cause.later c.record_run.ensures.cause.later) (rose_joined _ _ _ c.open.ensures.cause.later (c.record_run.ensures.cause.by_medium is)))
+    (λ is. sum_of_rose _ _ (none_falls_join _ _ _ c.open.ensures.writes.cause.later c.record_run.ensures.cause.later) (rose_joined _ _ _ c.open.ensures.writes.cause.later (c.record_run.ensures.cause.by_medium is)))
     (subst (λ (config : Configuration). Runs (opening_of x) opened.0 (g.I.Source.left c.header.new.input) c.header.new.self (g.I.Source.left c.record_run.new.input) config.groups c.record_run.new.recording (g.M.Media.disk c.open.new.media) (g.M.Media.disk c.record_run.new.media) c.record_run.result) same
     (c.record_run.ensures.ran (opening_of x) opened.0 told opened.3))
 
@@ -84,13 +84,13 @@ pub returns-clause-left : goal.returns-clause-left
 returns-clause-left g c = λ x told holds meet sound.
     let rose = Rose (sum (g.M.Media.faults c.args.media.now)) (sum (g.M.Media.faults c.record_run.new.media)) in
     let reads = config_read (g.M.Media.disk c.args.media.now).reads x holds in
-    let opened = c.in_ok-recording.ensures.opened x told holds sound in
-    let was = c.in_ok-recording.ensures.contents told in
+    let opened = c.in_ok-recording.ensures.opened.opened x told holds sound in
+    let was = c.in_ok-recording.ensures.opened.contents told in
     let same = was.4 ∙ (c.law_of_contents.ensures.config (g.M.Media.disk c.args.media.now).reads was.1 x was.2 holds).0 in
     leaves x [] (g.I.Source.left c.record_run.new.input) rose reads sound opened.0 c.in_ok-recording.recording c.record_run.new.recording (g.M.Media.disk c.args.media.now) (g.M.Media.disk c.open.new.media) (g.M.Media.disk c.record_run.new.media) opened.3
     (passes_opened x [] rose reads sound (g.M.Media.disk c.args.media.now) (g.M.Media.disk c.open.new.media) c.in_ok-recording.recording (c.in_ok-recording.ensures.moments x told holds meet sound))
     opened.1 opened.2 (g.I.Source.left c.header.new.input) c.header.new.self (admits_all x.config (subst IsConfiguration (c.config.ensures ∙ same) c.new.ensures.legal)) c.record_run.result
-    (λ is. sum_of_rose _ _ (none_falls_join _ _ _ c.open.ensures.cause.later c.record_run.ensures.cause.later) (rose_joined _ _ _ c.open.ensures.cause.later (c.record_run.ensures.cause.by_medium is)))
+    (λ is. sum_of_rose _ _ (none_falls_join _ _ _ c.open.ensures.writes.cause.later c.record_run.ensures.cause.later) (rose_joined _ _ _ c.open.ensures.writes.cause.later (c.record_run.ensures.cause.by_medium is)))
     (subst (λ (config : Configuration). Runs (opening_of x) opened.0 (g.I.Source.left c.header.new.input) c.header.new.self (g.I.Source.left c.record_run.new.input) config.groups c.record_run.new.recording (g.M.Media.disk c.open.new.media) (g.M.Media.disk c.record_run.new.media) c.record_run.result) same
     (c.record_run.ensures.ran (opening_of x) opened.0 told opened.3))
 
@@ -98,10 +98,10 @@ pub returns-in_err-header-clause-blank : goal.returns-in_err-header-clause-blank
 returns-in_err-header-clause-blank g c told un = moments_none (g.M.Media.disk c.args.media.now) (λ i. (g.M.Media.disk c.args.media.now).now i) (λ i now. now)
 
 pub returns-clause-blank : goal.returns-clause-blank
-returns-clause-blank g c told un = absurd (never_both (g.M.Media.disk c.args.media.now).reads (c.in_ok-recording.ensures.contents told).0 un)
+returns-clause-blank g c told un = absurd (never_both (g.M.Media.disk c.args.media.now).reads (c.in_ok-recording.ensures.opened.contents told).0 un)
 
 pub returns-clause-cause : goal.returns-clause-cause
-returns-clause-cause g c = replay_after _ _ _ c.record_run.result c.open.ensures.cause.later c.record_run.ensures.cause
+returns-clause-cause g c = replay_after _ _ _ c.record_run.result c.open.ensures.writes.cause.later c.record_run.ensures.cause
 
 pub returns-in_err-header-clause-legible : goal.returns-in_err-header-clause-legible
 returns-in_err-header-clause-legible g c = λ told.
@@ -123,14 +123,14 @@ returns-in_err-lanes-clause-legible g c = λ told.
 
 pub returns-clause-legible : goal.returns-clause-legible
 returns-clause-legible g c = λ told.
-    let was = c.in_ok-recording.ensures.contents told in
+    let was = c.in_ok-recording.ensures.opened.contents told in
     let read = read_first _ _ _ c.in_ok-header.ensures.bytes (c.in_ok-header.ensures.ready ∙ ap (λ (r : Reading). begun_reading r.limit) c.new-reader.ensures) in
     opened_says c.record_run.result _ (
       was.0,
       was.1,
       was.2,
       was.3,
-      decides_as was.1 _ _ _ (g.I.Source.left c.args.input.now) (g.I.Source.left c.header.new.input) (g.I.Source.left c.record_run.new.input) c.header.new.self (c.in_ok-recording.ensures.place was.1 told was.2) was.6 was.4 read
+      decides_as was.1 _ _ _ (g.I.Source.left c.args.input.now) (g.I.Source.left c.header.new.input) (g.I.Source.left c.record_run.new.input) c.header.new.self (c.in_ok-recording.ensures.opened.place was.1 told was.2) was.6 was.4 read
           c.record_run.result c.record_run.ensures.decided,
     )
 
@@ -147,7 +147,7 @@ returns-in_err-recording-clause-unopened g c = λ ends.
 pub returns-in_err-recording-clause-untouched : goal.returns-in_err-recording-clause-untouched
 returns-in_err-recording-clause-untouched g c = λ refuses.
     let p = err_from_is_err_and c.from_residual-in_err-recording.result c.from_residual-in_err-recording.ensures.1 in
-    c.open.ensures.untouched (refused_media c.open.result c.in_err-recording.field-0.0 c.in_err-recording.was (subst RefusesMedia (p.1 ∙ ap (λ (stop : ReplayStop). Err stop) p.2) refuses))
+    c.open.ensures.refused.untouched (refused_media c.open.result c.in_err-recording.field-0.0 c.in_err-recording.was (subst RefusesMedia (p.1 ∙ ap (λ (stop : ReplayStop). Err stop) p.2) refuses))
 
 pub returns-in_err-lanes-clause-unopened : goal.returns-in_err-lanes-clause-unopened
 returns-in_err-lanes-clause-unopened g c = λ ends.
@@ -183,13 +183,13 @@ returns-in_err-header-clause-beside g c = λ refuses.
     no_run_of_feed c.in_err-header.field-0.0 (subst RefusesRun (p.1 ∙ ap (λ (stop : ReplayStop). Err stop) p.2) refuses)
 
 pub returns-clause-beside : goal.returns-clause-beside
-returns-clause-beside g c = λ refuses told. beside_still (λ m. g.M.Media.disk m) (g.M.Media.disk c.args.media.now).reads c.open.new.media c.record_run.new.media (c.record_run.ensures.unbegun refuses) (c.open.ensures.others told)
+returns-clause-beside g c = λ refuses told. beside_still (λ m. g.M.Media.disk m) (g.M.Media.disk c.args.media.now).reads c.open.new.media c.record_run.new.media (c.record_run.ensures.unbegun refuses) (c.open.ensures.writes.others told)
 
 pub returns-in_err-recording-clause-others : goal.returns-in_err-recording-clause-others
-returns-in_err-recording-clause-others g c = λ told k first second. c.open.ensures.others told k second
+returns-in_err-recording-clause-others g c = λ told k first second. c.open.ensures.writes.others told k second
 
 pub returns-in_err-lanes-clause-others : goal.returns-in_err-lanes-clause-others
-returns-in_err-lanes-clause-others g c = λ told k first second. c.open.ensures.others told k second
+returns-in_err-lanes-clause-others g c = λ told k first second. c.open.ensures.writes.others told k second
 
 pub returns-clause-others : goal.returns-clause-others
-returns-clause-others g c = λ told k first second. c.record_run.ensures.others told k first second ∙ c.open.ensures.others told k second
+returns-clause-others g c = λ told k first second. c.record_run.ensures.others told k first second ∙ c.open.ensures.writes.others told k second

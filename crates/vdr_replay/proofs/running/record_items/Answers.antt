@@ -67,7 +67,7 @@ returns-in_err-stop-clause-broken g c =
 
 pub returns-in_err-stop-clause-cause : goal.returns-in_err-stop-clause-cause
 returns-in_err-stop-clause-cause g c =
-    vault_joined _ _ _ _ _ c.from_residual-in_err-stop.result c.in_ok-record.ensures.works (none_falls_join _ _ _ c.take_all.ensures.cause.later c.record.ensures.cause.later) c.in_err-stop.ensures.cause
+    vault_joined _ _ _ _ _ c.from_residual-in_err-stop.result c.in_ok-record.ensures.works (none_falls_join _ _ _ c.take_all.ensures.cause.later c.record.ensures.cause.later) c.in_err-stop.ensures.writes.cause
 
 pub returns-clause-recorded : goal.returns-clause-recorded
 returns-clause-recorded g c =

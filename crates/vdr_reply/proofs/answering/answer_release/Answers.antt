@@ -8,8 +8,8 @@ returns-clause-answered g c = λ opening events t0 told h.
     let works = c.requires.works in
     release_answer opening events t0 c.args.recording.now (g.M.Media.disk c.args.media.now) h c.args.recording.now.members.config.channels _ c.of_release.result works c.release.new.self (g.M.Media.disk c.release.new.media)
     c.args.id c.release.result c.of_release.ensures
-    (λ saved some. e.released opening events t0 saved told works some h)
-    (λ none. e.looked opening events t0 (inr none) h)
-    (λ none. let same = e.refused works none in (same.0, same.1))
-    (λ is. (e.reason is).1)
-    e.fails e.works
+    (λ saved some. e.event.released opening events t0 saved told works some h)
+    (λ none. e.event.looked opening events t0 (inr none) h)
+    (λ none. let same = e.refuses.refused works none in (same.0, same.1))
+    (λ is. (e.refuses.reason is).1)
+    e.failing.fails e.failing.works

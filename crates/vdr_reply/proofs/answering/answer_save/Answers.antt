@@ -8,9 +8,9 @@ returns-clause-answered g c = λ opening events t0 told h.
     let works = c.requires.works in
     save_answer opening events t0 c.args.recording.now (g.M.Media.disk c.args.media.now) h c.args.recording.now.members.config.channels _ c.of_save.result works c.save.new.self (g.M.Media.disk c.save.new.media)
     c.args.label.now c.save.result c.of_save.ensures
-    (λ none undamaged. e.saved opening events t0 told works none undamaged h)
-    (λ refused some. e.looked opening events t0 refused (inr some) h)
-    (λ refused some. let same = e.refused refused works some in (same.0, same.1))
-    (λ refused is which. (e.reason refused is which).1)
-    (λ m offset. e.undamaged opening events (h.works works).placed m offset told (h.works works).stands)
-    e.fails e.works
+    (λ none undamaged. e.event.saved opening events t0 told works none undamaged h)
+    (λ refused some. e.event.looked opening events t0 refused (inr some) h)
+    (λ refused some. let same = e.refuses.refused refused works some in (same.0, same.1))
+    (λ refused is which. (e.refuses.reason refused is which).1)
+    (λ m offset. e.damage.undamaged opening events (h.works works).placed m offset told (h.works works).stands)
+    e.failing.fails e.failing.works

@@ -13,20 +13,20 @@ use Rattle.vdr_ring.proofs.opening.read_segments.Goals as goal
 pub returns-in_err-fronts-clause-damaged : goal.returns-in_err-fronts-clause-damaged
 returns-in_err-fronts-clause-damaged g c =
     let p = err_from_is_err_and c.from_residual.result c.from_residual.ensures.1 in
-    rw (p.1, p.2) (λ k offset e. let h = c.in_err-fronts.ensures.damaged k offset e in (h.0, λ told. inl (h.1 told)))
+    rw (p.1, p.2) (λ k offset e. let h = c.in_err-fronts.ensures.damaged k offset (same_err _ _ e) in (h.0, λ told. inl (h.1 told)))
 
 pub survey_all-requires-clause-within : goal.survey_all-requires-clause-within
 survey_all-requires-clause-within g c =
     second_within _ _ _ _ _ _ [] _ c.in_ok-fronts.ensures.slots c.in_ok-fronts.ensures.ascends (omega (arith, c.in_ok-fronts.fronts.opened.ok.0)) c.deref_mut.ensures.value c.sort_by_seq.ensures.permutation c.sort_by_seq.ensures.sorted
     c.deref_mut-2.ensures.value
 
-pub returns-in_err-survey_all-clause-damaged : goal.returns-in_err-survey_all-clause-damaged
-returns-in_err-survey_all-clause-damaged g c =
+pub returns-in_err-held-clause-damaged : goal.returns-in_err-held-clause-damaged
+returns-in_err-held-clause-damaged g c =
     let s = reordered _ _ _ _ _ _ _ _ c.in_ok-fronts.ensures.slots c.in_ok-fronts.ensures.ascends (omega (arith, c.in_ok-fronts.fronts.opened.ok.0)) c.deref_mut.ensures.value c.sort_by_seq.ensures.permutation c.sort_by_seq.ensures.sorted
     c.deref_mut-2.ensures.value c.survey_all.ensures.heads in
-    let p = err_from_is_err_and c.from_residual-in_err-survey_all.result c.from_residual-in_err-survey_all.ensures.1 in
+    let p = err_from_is_err_and c.from_residual-in_err-held.result c.from_residual-in_err-held.ensures.1 in
     rw (p.1, p.2) (λ k offset e.
-    let h = c.in_err-survey_all.ensures.damaged k offset (same_err _ _ e) in (
+    let h = c.in_err-held.ensures.damaged k offset (same_err _ _ e) in (
       h.0,
       λ told. batch_refused _ _ _ _ _ _ _ s (c.in_ok-fronts.ensures.told told) offset
           (subst (λ (image : Image). BreaksAmong c.args.area.segment (content image c.args.area.medium) c.survey_all.new.opened offset) (c.read_fronts.ensures.unchanged.reads told) (h.1 told)),
@@ -43,7 +43,7 @@ returns-in-Some-clause-damaged g c k offset e =
     c.deref_mut-2.ensures.value c.survey_all.ensures.heads in (
       cc,
       λ told. order_refused _ _ _ _ _ _ _ s (c.in_ok-fronts.ensures.told told) (omega (arith, c.args.area.segment_low)) (omega (arith, c.requires.room.room, size_read (g.M.Media.disk c.args.media.now) c.args.area.medium told))
-          (subst (λ (image : Image). All (IsSurveyed c.args.area.segment (content image c.args.area.medium)) c.survey_all.new.opened) (c.read_fronts.ensures.unchanged.reads told) (c.in_ok-survey_all.ensures.surveyed told))
+          (subst (λ (image : Image). All (IsSurveyed c.args.area.segment (content image c.args.area.medium)) c.survey_all.new.opened) (c.read_fronts.ensures.unchanged.reads told) (c.in_ok-held.ensures.surveyed told))
           _ _ c.in-Some.index _ offset l c.deref.ensures.value c.in-Some.ensures.some c.index.ensures (let at : offset ≡ c.place_of.result = cc in at ∙ c.place_of.ensures),
     )
 
@@ -62,5 +62,5 @@ returns-clause-found g c told =
     let l = last_done _ _ _ _ _ _ _ _ c.in_ok-fronts.ensures.slots c.in_ok-fronts.ensures.ascends (omega (arith, c.in_ok-fronts.fronts.opened.ok.0)) c.deref_mut.ensures.value c.sort_by_seq.ensures.permutation c.sort_by_seq.ensures.sorted
     c.deref_mut-2.ensures.value c.survey_all.ensures.heads in
     found _ _ _ _ _ _ _ s (c.in_ok-fronts.ensures.told told) (omega (arith, c.args.area.segment_low)) (omega (arith, c.requires.room.room, size_read (g.M.Media.disk c.args.media.now) c.args.area.medium told))
-    (subst (λ (image : Image). All (IsSurveyed c.args.area.segment (content image c.args.area.medium)) c.survey_all.new.opened) (c.read_fronts.ensures.unchanged.reads told) (c.in_ok-survey_all.ensures.surveyed told))
+    (subst (λ (image : Image). All (IsSurveyed c.args.area.segment (content image c.args.area.medium)) c.survey_all.new.opened) (c.read_fronts.ensures.unchanged.reads told) (c.in_ok-held.ensures.surveyed told))
     _ _ l c.deref.ensures.value c.in_default.ensures.none

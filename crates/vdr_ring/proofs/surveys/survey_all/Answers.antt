@@ -7,7 +7,7 @@ use Rattle.vdr_outside.proofs.Counts.{none_falls_join}
 use Rattle.vdr_outside.proofs.Moments.{unchanged_join}
 use Rattle.vdr_ring.specs.Fronts.{head_of}
 use Rattle.vdr_ring.proofs.Faults.{same_err}
-use Rattle.vdr_ring.proofs.Surveying.{breaks_still, survey_still, breaks_among, surveyed_more}
+use Rattle.vdr_ring.proofs.Surveying.{breaks_still, held_now, survey_still, breaks_among, surveyed_more}
 use Rattle.vdr_ring.proofs.surveys.survey_all.Goals as goal
 
 pub returns-in_err-found-clause-damaged : goal.returns-in_err-found-clause-damaged
@@ -29,6 +29,7 @@ loop-i-preserved g c =
       later = none_falls_join _ _ _ c.loop-i.invariant.later c.survey_slot.ensures.cause.later;
       heads = map-set_same head_of c.loop-i.opened c.loop-i.i _ _ refl ∙ c.loop-i.invariant.heads;
       within = All-set (λ e. e.slot < c.args.area.slots) c.loop-i.opened c.loop-i.i _ (All-get_or (λ e. e.slot < c.args.area.slots) c.loop-i.opened c.loop-i.i _ lt c.loop-i.invariant.within) c.loop-i.invariant.within;
+      held = λ told slot is. held_now _ _ _ _ _ slot is (ap (λ (image : Image). content image c.args.area.medium) (c.loop-i.invariant.unchanged.reads told)) (c.in_ok-found.ensures.bytes told);
       told = λ told. surveyed_more _ _ c.loop-i.opened c.loop-i.i _ lt (c.loop-i.invariant.told told) c.in_ok-found.found
           (survey_still _ _ _ _ _ _ (ap (λ (image : Image). content image c.args.area.medium) (c.loop-i.invariant.unchanged.reads told)) (c.in_ok-found.ensures.legal told));
     }

@@ -79,13 +79,13 @@ returns-clause-ended g c =
           subst ends (sym w.outcome-is)
           (done_ends g.P.Port c.args.turns c.args.memory.now.queues c.args.memory.now.takers c.record_lent-media.new.takers c.args.lanes.now c.record_lent-media.new.lanes
           (record { clock = g.O.Lent.clock; now = g.O.Lent.now; since = g.O.Lent.since; reads = g.O.Lent.reads; channels = g.O.Lent.channels }) g.O.Lent.began g.O.Lent.rates g.O.Lent.room g.O.Lent.sizes g.O.Lent.faults p.0 c.in-Some.field-0.began c.in-Some.field-0.recording
-          (g.M.Media.disk c.record_lent-media.result.0.now) (g.M.Media.faults c.record_lent-media.result.0.now) p.1 p.2 p.4 (beside_of g.L.Link (AnswersMark g.M.Media.tells g.O.Lent.began g.O.Lent.channels) c.args.turns c.args.desks.now c.record_lent-media.new.desks) p.3 is (rest_of c.rest_of.result) c.rest_of.ensures sixteen c.requires.turns c.stop.new.self (g.M.Media.disk c.stop.new.media) (g.M.Media.faults c.stop.new.media) e.sizes e.others e.cause.later e.stopped e.counted
-          (⊎_elim (λ (fails : c.in-Some.field-0.recording.members.failed ≡ true). absurd (true≢false (sym (e.failed fails).0))) (λ (works : c.in-Some.field-0.recording.members.failed ≡ false). works) (cases_Bool c.in-Some.field-0.recording.members.failed)) e.works))
+          (g.M.Media.disk c.record_lent-media.result.0.now) (g.M.Media.faults c.record_lent-media.result.0.now) p.1 p.2 p.4 (beside_of g.L.Link (AnswersMark g.M.Media.tells g.O.Lent.began g.O.Lent.channels) c.args.turns c.args.desks.now c.record_lent-media.new.desks) p.3 is (rest_of c.rest_of.result) c.rest_of.ensures sixteen c.requires.turns c.stop.new.self (g.M.Media.disk c.stop.new.media) (g.M.Media.faults c.stop.new.media) e.writes.sizes e.writes.others e.writes.cause.later e.stopped e.counted
+          (⊎_elim (λ (fails : c.in-Some.field-0.recording.members.failed ≡ true). absurd (true≢false (sym (e.failing.failed fails).0))) (λ (works : c.in-Some.field-0.recording.members.failed ≡ false). works) (cases_Bool c.in-Some.field-0.recording.members.failed)) e.failing.works))
       | in-Err w ↦
           (let e = w.in-Err.ensures in
           subst ends (sym w.outcome-is)
           (fault_ends g.P.Port c.args.turns c.args.memory.now.queues c.args.memory.now.takers c.record_lent-media.new.takers c.args.lanes.now c.record_lent-media.new.lanes
           (record { clock = g.O.Lent.clock; now = g.O.Lent.now; since = g.O.Lent.since; reads = g.O.Lent.reads; channels = g.O.Lent.channels }) g.O.Lent.began g.O.Lent.rates g.O.Lent.room g.O.Lent.sizes g.O.Lent.faults p.0 c.in-Some.field-0.began c.in-Some.field-0.recording
-          (g.M.Media.disk c.record_lent-media.result.0.now) (g.M.Media.faults c.record_lent-media.result.0.now) p.1 p.2 p.4 (beside_of g.L.Link (AnswersMark g.M.Media.tells g.O.Lent.began g.O.Lent.channels) c.args.turns c.args.desks.now c.record_lent-media.new.desks) p.3 is (rest_of c.rest_of.result) c.rest_of.ensures sixteen c.requires.turns c.stop.new.self (g.M.Media.disk c.stop.new.media) (g.M.Media.faults c.stop.new.media) e.sizes e.others e.cause.later e.stopped e.counted
-          (λ fails. let q = e.failed fails in (q.1, ap g.M.Media.disk q.2)) e.cause.in_all))
+          (g.M.Media.disk c.record_lent-media.result.0.now) (g.M.Media.faults c.record_lent-media.result.0.now) p.1 p.2 p.4 (beside_of g.L.Link (AnswersMark g.M.Media.tells g.O.Lent.began g.O.Lent.channels) c.args.turns c.args.desks.now c.record_lent-media.new.desks) p.3 is (rest_of c.rest_of.result) c.rest_of.ensures sixteen c.requires.turns c.stop.new.self (g.M.Media.disk c.stop.new.media) (g.M.Media.faults c.stop.new.media) e.writes.sizes e.writes.others e.writes.cause.later e.stopped e.counted
+          (λ fails. let q = e.failing.failed fails in (q.1, ap g.M.Media.disk q.2)) e.writes.cause.in_all))
     ]

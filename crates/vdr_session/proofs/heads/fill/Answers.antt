@@ -21,7 +21,7 @@ pub take-requires-clause-space : goal.take-requires-clause-space
 take-requires-clause-space g c =
     let i = c.loop-group.invariant in
     let room = room_for c.loop-group.batch.items (get_or c.loop-group.heads c.in-Some.group None) c.args.room c.loop-group.left _ i.3 c.in-Some.ensures.1 c.in-Some.ensures.2 i.4 in
-    omega (arith, room, c.loop-group.batch.ok.0)
+    omega (arith, room)
 
 pub loop-group-preserved : goal.loop-group-preserved
 loop-group-preserved g c =

@@ -1,4 +1,4 @@
-use Rattle.std.proofs.Common.{◌≡◌, ◌≤◌, ◌+◌, ◌/◌, ◌++◌, ℕ, Bool, List, length, vec_capacity}
+use Rattle.std.proofs.Common.{◌≡◌, ◌≤◌, ◌+◌, ◌/◌, ◌++◌, ℕ, Bool, List, length}
 use Rattle.vdr_history.specs.Taken.{Captured as CapturedTold}
 use Rattle.vdr_pace.specs.Commits.{items_size, least_item}
 use Rattle.vdr_session.specs.Heads.{AreHeld}
@@ -11,7 +11,7 @@ invariant-loop-group g l =
     × ((items : List CapturedTold) → AreHeld items l.initial.heads l.initial.takers → AreHeld (items ++ l.batch.items) l.heads l.takers)
     × StayJoined l.initial.takers l.takers
     × (items_size l.batch.items + l.left ≡ l.room)
-    × (l.room / least_item ≤ vec_capacity l.batch)
+    × (l.room / least_item ≤ l.batch.capacity)
     × (length l.takers ≡ 16)
     × (length l.heads ≡ 16)
 

@@ -89,7 +89,7 @@ loop-preserved g c =
       subst (λ (xs : List CapturedTold). AreHeld xs c.fill.new.heads c.fill.new.takers) (batch_whole c.loop.pass.own _ t.own m works) held,
       (λ k small. p.joined k small ∙ c.hold_all.ensures.joined k small ∙ i.3 k small),
       search rules,
-      c.clear.ensures.items,
+      c.clear.ensures.empty,
       p.sixteen.0,
       prefix_turn c.args.pass.now.seen c.loop.pass.seen t.history _ _ i.7 t.possible.begins t.seen,
     )

@@ -1,4 +1,4 @@
-use Rattle.std.proofs.Common.{◌≡◌, ◌≤◌, ◌/◌, [], true, vec_capacity, length}
+use Rattle.std.proofs.Common.{◌≡◌, ◌≤◌, ◌/◌, [], true, length}
 use mathlib.Core.List.{IsPrefix}
 use Rattle.vdr_pace.specs.Commits.{least_item}
 use Rattle.vdr_session.specs.Heads.{AreHeld}
@@ -12,7 +12,7 @@ invariant-loop g l =
     × AreMet g.T.Records.configured l.queues l.takers
     × AreHeld (taken_in l.pass.own) l.heads l.takers
     × StayJoined l.initial.takers l.takers
-    × (l.room / least_item ≤ vec_capacity l.batch.items)
+    × (l.room / least_item ≤ l.batch.items.capacity)
     × (l.batch.items.items ≡ [])
     × (length l.takers ≡ 16)
     × IsPrefix l.initial.pass.seen l.pass.seen

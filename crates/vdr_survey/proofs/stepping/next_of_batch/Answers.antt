@@ -7,4 +7,4 @@ unreachable-requires c = never_stuck c.args.segment.now c.args.position c.requir
 pub returns : goal.returns
 returns c =
     let f = c.in-Some.ensures.found in
-    step_within c.args.segment.now c.args.position c.in-Some.item c.in-Some.size c.requires.stands c.requires.more (record { after = f.0; begins = f.1; size_is = f.2 })
+    step_within c.args.segment.now c.args.position c.read_from.new.self c.in-Some.size c.requires.stands c.requires.more (record { after = f.0; begins = f.1; size_is = f.2 })

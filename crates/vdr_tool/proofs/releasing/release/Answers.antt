@@ -13,7 +13,7 @@ returns-in_err-recording-clause-media g c =
     let p = err_from_is_err_and c.from_residual.result c.from_residual.ensures.1 in
     rw (p.1, p.2)
     (refused_ends (CanRelease c.args.id) ⊥ _ _ _ c.open.result refused (no_act (ReleasesId c.args.id) (g.M.Media.disk c.open.new.media).clock refused) c.in_err-recording.was
-    told.unformatted told.damaged told.untouched told.blank told.others told.cause told.moments)
+    told.refused.unformatted told.refused.damaged told.refused.untouched told.refused.blank told.writes.others told.writes.cause told.moments)
 
 pub returns-clause-media : goal.returns-clause-media
 returns-clause-media g c =
@@ -24,8 +24,8 @@ returns-clause-media g c =
     let new : MediaSeen g.M.Media.tells g.M.Media.tells_images = record { disk = g.M.Media.disk c.release-released.new.media; faults = g.M.Media.faults c.release-released.new.media; bytes_read = g.M.Media.bytes_read c.release-released.new.media } in
     rw c.ended_by.ensures
     (released_ends old mid new c.in_ok-recording.recording c.release-released.new.self
-    told.works told.contents told.opened c.open.ensures.cause.later c.open.ensures.others release.others c.args.id c.release-released.result release.released release.looked (λ works none. (release.refused works none).0)
-    release.reason release.fails release.works release.cause c.open.result c.open.ensures.moments c.release-released.result refl)
+    told.opened.works told.opened.contents told.opened.opened c.open.ensures.writes.cause.later c.open.ensures.writes.others release.writes.others c.args.id c.release-released.result release.event.released release.event.looked (λ works none. (release.refuses.refused works none).0)
+    release.refuses.reason release.failing.fails release.failing.works release.writes.cause c.open.result c.open.ensures.moments c.release-released.result refl)
 
 pub returns-clause-no_incident : goal.returns-clause-no_incident
 returns-clause-no_incident g c =
@@ -36,8 +36,8 @@ returns-clause-no_incident g c =
     let new : MediaSeen g.M.Media.tells g.M.Media.tells_images = record { disk = g.M.Media.disk c.release-released.new.media; faults = g.M.Media.faults c.release-released.new.media; bytes_read = g.M.Media.bytes_read c.release-released.new.media } in
     rw c.ended_by.ensures
     (released_missing old mid new c.in_ok-recording.recording c.release-released.new.self
-    told.works told.contents told.opened c.open.ensures.cause.later c.open.ensures.others release.others c.args.id c.release-released.result release.released release.looked (λ works none. (release.refused works none).0)
-    release.reason release.fails release.works release.cause c.release-released.result refl)
+    told.opened.works told.opened.contents told.opened.opened c.open.ensures.writes.cause.later c.open.ensures.writes.others release.writes.others c.args.id c.release-released.result release.event.released release.event.looked (λ works none. (release.refuses.refused works none).0)
+    release.refuses.reason release.failing.fails release.failing.works release.writes.cause c.release-released.result refl)
 
 pub returns-in_err-recording-clause-level : goal.returns-in_err-recording-clause-level
 returns-in_err-recording-clause-level g c = λ _. level_opened (g.M.Media.disk c.args.world.now.media) (g.M.Media.disk c.open.new.media) c.open.ensures.level
@@ -47,4 +47,4 @@ returns-clause-level g c =
     let release = c.release-released.ensures in
     rw c.ended_by.ensures
     (unreleased_level (λ m. g.M.Media.disk m) (g.M.Media.disk c.args.world.now.media) c.open.new.media c.release-released.new.media c.in_ok-recording.recording.members c.args.id c.release-released.result refl
-    c.open.ensures.level release.reason (λ works none. (release.refused works none).2))
+    c.open.ensures.level release.refuses.reason (λ works none. (release.refuses.refused works none).2))

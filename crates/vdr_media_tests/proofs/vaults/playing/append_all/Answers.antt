@@ -33,6 +33,6 @@ append-requires-2-clause-fits g c =
     let same : c.config.inside.segment ≡ c.in-Ok.config.segment = ap (λ (x : Configuration). x.segment) c.config.view_is in
     let shape = c.in-Ok-open.ensures.shape in
     let segment : c.in-Ok-open.ring.segment ≡ c.in-Ok.config.segment = shape.1 in
-    let kept = c.append.ensures.ring.segment in
+    let kept = c.append.ensures.ring.same.segment in
     let fit = two_fit c.datagram-4.result c.datagram-5.result c.datagram-4.ensures c.datagram-5.ensures in
     omega (arith, low, same, segment, kept, fit)

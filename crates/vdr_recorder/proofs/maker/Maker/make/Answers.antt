@@ -11,7 +11,7 @@ take-requires-clause-room c =
     let room = c.requires.room in
     let test = c.loop-item-test.true in
     let count = fit_few c.args.config.now.batch c.args.items.now c.requires.short in
-    omega (arith, few, kept, room, test, count, c.loop-item.self.records.ok.0)
+    omega (arith, few, kept, room, test, count)
 
 pub take-requires-clause-number : goal.take-requires-clause-number
 take-requires-clause-number c within =

@@ -20,7 +20,7 @@ push_gap-requires-clause-room c =
     let few = few_gaps c.loop-group.group (channels_of c.args.config.now) c.args.self.now c.args.rest.now in
     let more = ap (λ (xs : List Record). length xs) c.loop-group.invariant.closes.records in
     let sum = length-append c.args.self.now.records.items (gaps_made c.loop-group.group (channels_of c.args.config.now) c.args.self.now c.args.rest.now) in
-    omega (arith, room, few, more, sum, c.requires.room, c.loop-group.self.records.ok.0, c.args.self.now.records.ok.0)
+    omega (arith, room, few, more, sum, c.requires.room)
 
 pub loop-group-preserved : goal.loop-group-preserved
 loop-group-preserved c =

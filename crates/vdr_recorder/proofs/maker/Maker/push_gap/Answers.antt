@@ -1,4 +1,4 @@
-use Rattle.std.proofs.Common.{◌+◌, refl, ◌∙◌}
+use Rattle.std.proofs.Common.{◌+◌, refl, arith}
 use Rattle.vdr_terms.specs.Records.Content.{Gap}
 use Rattle.vdr_datagram.specs.Channels.{channels_of}
 use Rattle.vdr_recorder.proofs.StampLemmas.{stamp_kept}
@@ -8,14 +8,14 @@ use Rattle.vdr_recorder.proofs.maker.Maker.push_gap.Goals as goal
 pub returns : goal.returns
 returns c =
     adds_gap (channels_of c.args.config.now) c.args.group c.args.self.now.place (c.args.self.now.base + c.args.self.now.greatest) c.args.self.now.utc c.args.gap c.in-Some.first c.in-Some.missed
-    c.gap-item.result c.args.self.now _ c.in-Some.is
-    (c.gap-item.ensures ∙ (λ i. record {
+    _ c.args.self.now _ c.in-Some.is
+    (λ i. record {
       content = Gap c.in-Some.missed;
       group = c.args.group;
       bits = c.gap_bits-bits.ensures c.in-Some.missed i;
       place = c.args.self.now.place;
       number = c.in-Some.first;
-      tick = c.tick.ensures.tick i;
+      tick = c.tick-tick.ensures.tick i;
       utc = stamp_kept c.args.self.now.utc c.args.self.now.stamp i;
-    }))
-    refl refl refl refl refl refl c.push.ensures.records c.push.ensures.room
+    })
+    refl refl refl refl refl refl c.push_gap.ensures.items (omega (arith, c.push_gap.ensures.capacity))

@@ -1,4 +1,4 @@
-use Rattle.std.proofs.Common.{inr, []}
+use Rattle.std.proofs.Common.{rules, inr, []}
 use Rattle.std.proofs.lemmas.Result.{err_from_is_err_and}
 use Rattle.vdr_opening.specs.Media.{opening_of}
 use Rattle.vdr_vault.specs.Vaults.{ShowsHistory}
@@ -11,30 +11,43 @@ returns-in_err-members-clause-moments g c x told holds meet regular =
     opens_as (g.M.Media.disk c.args.media.now) (g.M.Media.disk c.open.new.media) c.open.result c.from_residual.result c.in_err-members.field-0.0 p.0 (ShowsHistory (opening_of x) [])
     c.in_err-members.was p.1 p.2 (c.open.ensures.moments x told holds meet regular)
 
-pub returns-in_err-members-clause-damaged : goal.returns-in_err-members-clause-damaged
-returns-in_err-members-clause-damaged g c m offset damage =
-    let p = err_from_is_err_and c.from_residual.result c.from_residual.ensures.1 in
-    c.open.ensures.damaged m offset (same_refused c.open.result c.from_residual.result c.in_err-members.field-0.0 p.0 _ c.in_err-members.was p.1 p.2 damage)
-
 pub returns-in_default-clause-moments : goal.returns-in_default-clause-moments
 returns-in_default-clause-moments g c x told holds meet regular =
     inr (synced_where (g.M.Media.disk c.args.media.now) (g.M.Media.disk c.open.new.media) c.open.result c.in_ok-members.members (ShowsHistory (opening_of x) []) c.in_ok-members.was
     (c.open.ensures.moments x told holds meet regular))
 
-pub returns-clause-opened : goal.returns-clause-opened
-returns-clause-opened g c x told holds regular =
-    let opened = c.in_ok-members.ensures.opened x told holds regular in
-    let read = c.in_ok-members.ensures.contents told in
-    let meet = meet_as read.1 x (c.law_of_contents.ensures.placed (g.M.Media.disk c.args.media.now).reads read.1 x read.2 holds) read.3 in
-    let on = synced_where (g.M.Media.disk c.args.media.now) (g.M.Media.disk c.open.new.media) c.open.result c.in_ok-members.members (ShowsHistory (opening_of x) []) c.in_ok-members.was
-    (c.open.ensures.moments x told holds meet regular) in (
-      on.synced,
-      on.after_entry,
-      on.before_exit,
-      has_opened (opening_of x) c.in_ok-members.members opened.0 (g.M.Media.disk c.open.new.media) opened.1 on.synced c.in-Ok.maker on.before_exit on.since,
-    )
-
 pub returns-clause-moments : goal.returns-clause-moments
 returns-clause-moments g c x told holds meet regular =
     inr (synced_where (g.M.Media.disk c.args.media.now) (g.M.Media.disk c.open.new.media) c.open.result c.in_ok-members.members (ShowsHistory (opening_of x) []) c.in_ok-members.was
     (c.open.ensures.moments x told holds meet regular))
+
+pub returns-in_err-members-clause-refused : goal.returns-in_err-members-clause-refused
+returns-in_err-members-clause-refused g c = record {
+  unformatted = search rules;
+  damaged = λ m offset damage.
+      let p = err_from_is_err_and c.from_residual.result c.from_residual.ensures.1 in
+      c.open.ensures.refused.damaged m offset (same_refused c.open.result c.from_residual.result c.in_err-members.field-0.0 p.0 _ c.in_err-members.was p.1 p.2 damage);
+  untouched = search rules;
+  blank = search rules;
+}
+
+pub returns-clause-opened : goal.returns-clause-opened
+returns-clause-opened g c = record {
+  opened = λ x told holds regular.
+      let opened = c.in_ok-members.ensures.opened.opened x told holds regular in
+      let read = c.in_ok-members.ensures.opened.contents told in
+      let meet = meet_as read.1 x (c.law_of_contents.ensures.placed (g.M.Media.disk c.args.media.now).reads read.1 x read.2 holds) read.3 in
+      let on = synced_where (g.M.Media.disk c.args.media.now) (g.M.Media.disk c.open.new.media) c.open.result c.in_ok-members.members (ShowsHistory (opening_of x) []) c.in_ok-members.was
+      (c.open.ensures.moments x told holds meet regular) in (
+        on.synced,
+        on.after_entry,
+        on.before_exit,
+        has_opened (opening_of x) c.in_ok-members.members opened.0 (g.M.Media.disk c.open.new.media) opened.1 on.synced c.in-Ok.maker on.before_exit on.since,
+      );
+  contents = search rules;
+  place = search rules;
+  readable = search rules;
+  works = search rules;
+  closed = search rules;
+  rings = search rules;
+}

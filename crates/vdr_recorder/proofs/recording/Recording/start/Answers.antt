@@ -9,47 +9,47 @@ use Rattle.vdr_recorder.proofs.Running.{kept_of}
 use Rattle.vdr_recorder.proofs.Starting.{fault_or_place, fault_or_tick, late_by, ok_or_place, ok_or_tick, place_or_tick, start_done, start_event, starts_next}
 use Rattle.vdr_recorder.proofs.recording.Recording.start.Goals as goal
 
-pub returns-then-place-ge-LIMIT-clause-place : goal.returns-then-place-ge-LIMIT-clause-place
-returns-then-place-ge-LIMIT-clause-place g c = rw (sym c.self.view_is) (λ works.
-    let at = c.next_place-place.ensures in
-    (λ _. omega (arith, at, c.if-place-ge-LIMIT.true), λ _. refl))
+pub returns-then-place-ge-LIMIT-clause-limits : goal.returns-then-place-ge-LIMIT-clause-limits
+returns-then-place-ge-LIMIT-clause-limits g c = record {
+  place = rw (sym c.self.view_is) (λ works.
+      let at = c.next_place-place.ensures in
+      (λ _. omega (arith, at, c.if-place-ge-LIMIT.true), λ _. refl));
+  tick = rw (sym c.self.view_is) (λ works.
+      let at = c.next_place-place.ensures in
+      (λ e. absurd (place_or_tick e), λ k. absurd (omega (arith, at, c.if-place-ge-LIMIT.true, k.0))));
+}
 
-pub returns-then-place-ge-LIMIT-clause-tick : goal.returns-then-place-ge-LIMIT-clause-tick
-returns-then-place-ge-LIMIT-clause-tick g c = rw (sym c.self.view_is) (λ works.
-    let at = c.next_place-place.ensures in
-    (λ e. absurd (place_or_tick e), λ k. absurd (omega (arith, at, c.if-place-ge-LIMIT.true, k.0))))
+pub returns-then-is_late-clause-limits : goal.returns-then-is_late-clause-limits
+returns-then-is_late-clause-limits g c = record {
+  place = rw (sym c.self.view_is) (λ works.
+      let at = c.next_place-place.ensures in
+      (λ e. absurd (place_or_tick (sym e)), λ k. absurd (omega (arith, at, c.if-place-ge-LIMIT.false, k))));
+  tick = rw (sym c.self.view_is) (λ works.
+      let at = c.next_place-place.ensures in
+      (λ _. (omega (arith, at, c.if-place-ge-LIMIT.false), late_by _ _ c.last-last.ensures (c.is_late.ensures.0 c.if-is_late.true)), λ _. refl));
+}
 
-pub returns-then-is_late-clause-place : goal.returns-then-is_late-clause-place
-returns-then-is_late-clause-place g c = rw (sym c.self.view_is) (λ works.
-    let at = c.next_place-place.ensures in
-    (λ e. absurd (place_or_tick (sym e)), λ k. absurd (omega (arith, at, c.if-place-ge-LIMIT.false, k))))
+pub returns-in_err-commit-clause-limits : goal.returns-in_err-commit-clause-limits
+returns-in_err-commit-clause-limits g c = record {
+  place = rw (sym c.self.view_is) (λ works.
+      let at = c.next_place-place.ensures in
+      let p = err_from_is_err_and c.from_residual.result c.from_residual.ensures.1 in
+      (λ e. absurd (fault_or_place c.from_residual.result (p.1 ∙ ap (λ (x : StartRefused). Err x) p.2) e), λ k. absurd (omega (arith, at, c.if-place-ge-LIMIT.false, k))));
+  tick = rw (sym c.self.view_is) (λ works.
+      let p = err_from_is_err_and c.from_residual.result c.from_residual.ensures.1 in (
+        λ e. absurd (fault_or_tick c.from_residual.result (p.1 ∙ ap (λ (x : StartRefused). Err x) p.2) e),
+        λ k. absurd (true≢false (sym (c.is_late.ensures.1 (late_by _ _ (sym c.last-last.ensures) k.1)) ∙ c.if-is_late.false)),
+      ));
+}
 
-pub returns-then-is_late-clause-tick : goal.returns-then-is_late-clause-tick
-returns-then-is_late-clause-tick g c = rw (sym c.self.view_is) (λ works.
-    let at = c.next_place-place.ensures in
-    (λ _. (omega (arith, at, c.if-place-ge-LIMIT.false), late_by _ _ c.last-last.ensures (c.is_late.ensures.0 c.if-is_late.true)), λ _. refl))
-
-pub returns-in_err-commit-clause-place : goal.returns-in_err-commit-clause-place
-returns-in_err-commit-clause-place g c = rw (sym c.self.view_is) (λ works.
-    let at = c.next_place-place.ensures in
-    let p = err_from_is_err_and c.from_residual.result c.from_residual.ensures.1 in
-    (λ e. absurd (fault_or_place c.from_residual.result (p.1 ∙ ap (λ (x : StartRefused). Err x) p.2) e), λ k. absurd (omega (arith, at, c.if-place-ge-LIMIT.false, k))))
-
-pub returns-in_err-commit-clause-tick : goal.returns-in_err-commit-clause-tick
-returns-in_err-commit-clause-tick g c = rw (sym c.self.view_is) (λ works.
-    let p = err_from_is_err_and c.from_residual.result c.from_residual.ensures.1 in (
-      λ e. absurd (fault_or_tick c.from_residual.result (p.1 ∙ ap (λ (x : StartRefused). Err x) p.2) e),
-      λ k. absurd (true≢false (sym (c.is_late.ensures.1 (late_by _ _ (sym c.last-last.ensures) k.1)) ∙ c.if-is_late.false)),
-    ))
-
-pub returns-clause-place : goal.returns-clause-place
-returns-clause-place g c = rw (sym c.self.view_is) (λ works.
-    let at = c.next_place-place.ensures in
-    (λ e. absurd (ok_or_place e), λ k. absurd (omega (arith, at, c.if-place-ge-LIMIT.false, k))))
-
-pub returns-clause-tick : goal.returns-clause-tick
-returns-clause-tick g c = rw (sym c.self.view_is) (λ works.
-    (λ e. absurd (ok_or_tick e), λ k. absurd (true≢false (sym (c.is_late.ensures.1 (late_by _ _ (sym c.last-last.ensures) k.1)) ∙ c.if-is_late.false))))
+pub returns-clause-limits : goal.returns-clause-limits
+returns-clause-limits g c = record {
+  place = rw (sym c.self.view_is) (λ works.
+      let at = c.next_place-place.ensures in
+      (λ e. absurd (ok_or_place e), λ k. absurd (omega (arith, at, c.if-place-ge-LIMIT.false, k))));
+  tick = rw (sym c.self.view_is) (λ works.
+      (λ e. absurd (ok_or_tick e), λ k. absurd (true≢false (sym (c.is_late.ensures.1 (late_by _ _ (sym c.last-last.ensures) k.1)) ∙ c.if-is_late.false))));
+}
 
 pub returns-in_err-commit-clause-started : goal.returns-in_err-commit-clause-started
 returns-in_err-commit-clause-started g c = rw (sym c.self.view_is) (λ opening events t0 told works h not_place not_tick.

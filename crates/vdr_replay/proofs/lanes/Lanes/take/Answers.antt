@@ -5,20 +5,20 @@ use Rattle.vdr_terms.specs.Datagrams.{verdict}
 use Rattle.vdr_replay.proofs.Held.{batch_same, batch_with, counts_taken, rate_fits, taken_fits}
 use Rattle.vdr_replay.proofs.lanes.Lanes.take.Goals as goal
 
-pub capture-next-requires-clause-counted : goal.capture-next-requires-clause-counted
-capture-next-requires-clause-counted c = taken_fits c.requires.counted.0 c.args.self.now c.args.item.now.group _ c.requires.counted.1 c.requires.counted.2 c.requires.legal.group
+pub capture-requires-clause-counted : goal.capture-requires-clause-counted
+capture-requires-clause-counted c = taken_fits c.requires.counted.0 c.args.self.now c.args.item.now.group _ c.requires.counted.1 c.requires.counted.2 c.requires.legal.group
 
-pub capture-next-requires-clause-not_by_rate : goal.capture-next-requires-clause-not_by_rate
-capture-next-requires-clause-not_by_rate c = rate_fits c.requires.counted.0 c.args.self.now c.args.item.now.group _ c.requires.counted.1 c.requires.legal.group
+pub capture-requires-clause-not_by_rate : goal.capture-requires-clause-not_by_rate
+capture-requires-clause-not_by_rate c = rate_fits c.requires.counted.0 c.args.self.now c.args.item.now.group _ c.requires.counted.1 c.requires.legal.group
 
-pub push-requires : goal.push-requires
-push-requires c =
+pub capture-requires-clause-room : goal.capture-requires-clause-room
+capture-requires-clause-room c =
     let sized = c.requires.sized in
     let size = sized.size in
     let space = sized.space in
     let fits = c.requires.fits in
     let few = fit_few c.args.self.now.size c.args.self.now.batch.items (omega (arith, size)) in
-    omega (arith, few, space, fits, c.args.self.now.batch.ok.0)
+    omega (arith, few, space, fits)
 
 pub bad-requires : goal.bad-requires
 bad-requires c = taken_fits c.requires.counted.0 c.args.self.now c.args.item.now.group _ c.requires.counted.1 c.requires.counted.2 c.requires.legal.group
@@ -28,13 +28,13 @@ large-requires c = taken_fits c.requires.counted.0 c.args.self.now c.args.item.n
 
 pub returns-in-Yes-clause-counts : goal.returns-in-Yes-clause-counts
 returns-in-Yes-clause-counts c = λ feed x h holds.
-    counts_taken feed x c.args.item.now c.args.self.now c.index-self-item.result h holds c.requires.legal.group _ c.capture-next.new.tally Yes
-    (ap verdict (sym c.as_slice.ensures.value) ∙ sym c.in-Yes.ensures) refl c.capture-next.ensures.tally
+    counts_taken feed x c.args.item.now c.args.self.now c.index-self-item.result h holds c.requires.legal.group _ c.capture.new.tally Yes
+    (ap verdict (sym c.as_slice.ensures.value) ∙ sym c.in-Yes.ensures) refl c.capture.ensures.tally
 
 pub returns-in-Yes-clause-batch : goal.returns-in-Yes-clause-batch
 returns-in-Yes-clause-batch c = λ feed x h holds.
-    batch_with feed x c.args.item.now c.args.self.now c.index-self-item.result h holds c.requires.legal.group _ c.capture-next.result
-    (ap verdict (sym c.as_slice.ensures.value) ∙ sym c.in-Yes.ensures) c.push.ensures.items c.capture-next.ensures.item
+    batch_with feed x c.args.item.now c.args.self.now c.index-self-item.result h holds c.requires.legal.group _ _
+    (ap verdict (sym c.as_slice.ensures.value) ∙ sym c.in-Yes.ensures) c.capture.ensures.items refl
 
 pub returns-in-Bad-clause-counts : goal.returns-in-Bad-clause-counts
 returns-in-Bad-clause-counts c = λ feed x h holds.

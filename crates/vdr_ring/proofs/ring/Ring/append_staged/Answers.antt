@@ -1,8 +1,8 @@
-use Rattle.std.proofs.Common.{◌≡◌, refl, sym, ap, ◌∙◌, ◌+◌, take}
+use Rattle.std.proofs.Common.{rules, ◌≡◌, refl, sym, ap, ◌∙◌, ◌+◌, take}
 use Rattle.std.proofs.lemmas.List.{with_items_is}
 use Rattle.std.proofs.lemmas.Option.{none-some}
 use Rattle.std.proofs.lemmas.Result.{IfOk-from_err}
-use Rattle.vdr_slots.proofs.Fronts.{front_then}
+use Rattle.vdr_slots.proofs.Fronts.{front_joined, front_then}
 use Rattle.vdr_ring.proofs.ring.Ring.append_staged.Goals as goal
 use Rattle.vdr_ring.proofs.Adding.{batch_written, appended_before, appended_moments, appended_reads, set_count}
 
@@ -50,11 +50,35 @@ returns-clause-appended g c = rw (sym c.self.view_is) (λ placed first told read
     ))
 
 pub returns-in_err-append_batch-clause-front : goal.returns-in_err-append_batch-clause-front
-returns-in_err-append_batch-clause-front g c = rw (sym c.self.view_is) (λ durable.
+returns-in_err-append_batch-clause-front g c = rw (sym c.self.view_is) (
     let m : c.self-2.inside.area.medium ≡ c.self.inside.area.medium = (rw (sym c.self-2.view_is) at c.make_room.ensures.ring).medium in
-    front_then _ _ _ _ (c.make_room.ensures.front durable) c.make_room.ensures.front_reads (rw m at c.append_batch.ensures.front (c.in_ok-make_room.ensures.durable durable)))
+    let front = rw m at c.append_batch.ensures.front in record {
+      meanwhile = λ durable. front_then _ _ _ _ (c.make_room.ensures.front.meanwhile durable) c.make_room.ensures.front.reads (front.meanwhile (c.in_ok-make_room.ensures.durable durable));
+      reads = λ told. front_joined _ _ _ (c.make_room.ensures.front.reads told) (front.reads told);
+    })
 
 pub returns-clause-front : goal.returns-clause-front
-returns-clause-front g c = rw (sym c.self.view_is) (λ durable.
+returns-clause-front g c = rw (sym c.self.view_is) (
     let m : c.self-2.inside.area.medium ≡ c.self.inside.area.medium = (rw (sym c.self-2.view_is) at c.make_room.ensures.ring).medium in
-    front_then _ _ _ _ (c.make_room.ensures.front durable) c.make_room.ensures.front_reads (rw m at c.append_batch.ensures.front (c.in_ok-make_room.ensures.durable durable)))
+    let front = rw m at c.append_batch.ensures.front in record {
+      meanwhile = λ durable. front_then _ _ _ _ (c.make_room.ensures.front.meanwhile durable) c.make_room.ensures.front.reads (front.meanwhile (c.in_ok-make_room.ensures.durable durable));
+      reads = λ told. front_joined _ _ _ (c.make_room.ensures.front.reads told) (front.reads told);
+    })
+
+pub returns-in_err-append_batch-clause-writes : goal.returns-in_err-append_batch-clause-writes
+returns-in_err-append_batch-clause-writes g c = record {
+  others = search rules;
+  sizes = search rules;
+  rises = search rules;
+  counts = search rules;
+  cause = search rules;
+}
+
+pub returns-clause-writes : goal.returns-clause-writes
+returns-clause-writes g c = record {
+  others = search rules;
+  sizes = search rules;
+  rises = search rules;
+  counts = search rules;
+  cause = search rules;
+}

@@ -1,7 +1,7 @@
 use Rattle.std.proofs.Common.{◌≡◌, sym, ◌∙◌, arith}
 use Rattle.std.proofs.lemmas.Option.{same_Some}
 use Rattle.std.proofs.lemmas.Result.{IfOk-from_err}
-use Rattle.vdr_slots.proofs.Fronts.{front_then}
+use Rattle.vdr_slots.proofs.Fronts.{front_joined, front_then}
 use Rattle.vdr_ring.proofs.ring.Ring.begin.Goals as goal
 use Rattle.vdr_ring.proofs.Beginning.{stages_begun, next_segment, begins, begun_before, begun_moments, begun_stands, begun_in_order, begun_count, free_at, ready_at}
 
@@ -58,11 +58,17 @@ returns-clause-newest g c =
     (k.1, k.2, k.3)
 
 pub returns-in_err-begin_segment-clause-front : goal.returns-in_err-begin_segment-clause-front
-returns-in_err-begin_segment-clause-front g c durable =
+returns-in_err-begin_segment-clause-front g c =
     let m : c.self.inside.area.medium ≡ c.args.self.now.medium = (rw (sym c.self.view_is) at c.free_slot.ensures.ring).medium in
-    front_then _ _ _ _ (c.free_slot.ensures.front durable) c.free_slot.ensures.front_reads (rw m at c.begin_segment.ensures.front (c.in_ok-free_slot.ensures.durable durable))
+    let front = rw m at c.begin_segment.ensures.front in record {
+      meanwhile = λ durable. front_then _ _ _ _ (c.free_slot.ensures.front.meanwhile durable) c.free_slot.ensures.front.reads (front.meanwhile (c.in_ok-free_slot.ensures.durable durable));
+      reads = λ told. front_joined _ _ _ (c.free_slot.ensures.front.reads told) (front.reads told);
+    }
 
 pub returns-clause-front : goal.returns-clause-front
-returns-clause-front g c durable =
+returns-clause-front g c =
     let m : c.self.inside.area.medium ≡ c.args.self.now.medium = (rw (sym c.self.view_is) at c.free_slot.ensures.ring).medium in
-    front_then _ _ _ _ (c.free_slot.ensures.front durable) c.free_slot.ensures.front_reads (rw m at c.begin_segment.ensures.front (c.in_ok-free_slot.ensures.durable durable))
+    let front = rw m at c.begin_segment.ensures.front in record {
+      meanwhile = λ durable. front_then _ _ _ _ (c.free_slot.ensures.front.meanwhile durable) c.free_slot.ensures.front.reads (front.meanwhile (c.in_ok-free_slot.ensures.durable durable));
+      reads = λ told. front_joined _ _ _ (c.free_slot.ensures.front.reads told) (front.reads told);
+    }

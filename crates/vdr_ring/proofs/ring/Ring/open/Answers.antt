@@ -1,9 +1,12 @@
-use Rattle.std.proofs.Common.{◌<◌, ℕ, length, get_or, All, refl, ◌∙◌, ap, subst, arith, length-append, length-drop, length-take}
+use Rattle.std.proofs.Common.{◌≡◌, ◌<◌, ℕ, Some, length, get_or, All, ◌∙◌, ap, subst, arith, length-append, length-drop, length-take}
+use Rattle.std.specs.Vec.{with_items}
+use Rattle.std.proofs.lemmas.List.{with_items_is}
 use Rattle.std.proofs.lemmas.Result.{err_from_is_err_and}
 use Rattle.vdr_terms.specs.Needs.{slots_in}
 use Rattle.vdr_outside.specs.Disk.{content}
 use Rattle.vdr_config.specs.Sizes.{sizes_of}
 use Rattle.vdr_ring.specs.Fronts.{Finds}
+use Rattle.vdr_ring.specs.Opening.{slot_bytes}
 use Rattle.vdr_ring.proofs.Faults.{same_err}
 use Rattle.vdr_ring.proofs.Shaping.{four_slots, refused_by, ring_reads}
 use Rattle.vdr_ring.proofs.Tabling.{slots_below}
@@ -20,7 +23,7 @@ returns-in_err-opened-clause-damaged g c =
 pub new-requires-clause-opened : goal.new-requires-clause-opened
 new-requires-clause-opened g c =
     let s = c.in_ok-opened.ensures.slots in
-    subst (λ (n : ℕ). All (λ e. e.slot < n) c.in_ok-opened.field-0.opened.items) (omega (arith, s.total, ap length c.deref.ensures.value)) (slots_below _ _ s.opened_within)
+    subst (λ (n : ℕ). All (λ e. e.slot < n) c.in_ok-opened.field-0-0.opened.items) (omega (arith, s.total, ap length c.deref.ensures.value)) (slots_below _ _ s.opened_within)
 
 pub invariant_of-result : goal.invariant_of-result
 invariant_of-result g c = (
@@ -35,6 +38,10 @@ invariant_of-result g c = (
 
 pub returns-clause-reads : goal.returns-clause-reads
 returns-clause-reads g c told durable =
-    ring_reads (g.M.Media.disk c.args.media.now) (g.M.Media.disk c.read_segments.new.media) _ _ _ _ c.area_of-area.ensures.medium refl c.read_segments.ensures.unchanged durable told
+    let written = with_items_is c.in-Ok.buffer c.read_segments.new.buffer (c.read_segments.auto.buffer ∙ c.deref_mut.ensures.len) in
+    let held = λ (j : ℕ) (at : c.in_ok-opened.loaded ≡ Some j).
+    subst (λ (m : ℕ). (with_items c.in-Ok.buffer c.read_segments.new.buffer).items ≡ slot_bytes c.area_of-area.result.segment j (content (g.M.Media.disk c.args.media.now).reads m))
+    c.area_of-area.ensures.medium (written ∙ c.in_ok-opened.ensures.held told j at) in
+    ring_reads (g.M.Media.disk c.args.media.now) (g.M.Media.disk c.read_segments.new.media) _ _ _ _ c.area_of-area.ensures.medium held c.read_segments.ensures.unchanged durable told
     c.in-Ok-new.ensures.opened (c.in-Ok-new.ensures.closed ∙ c.deref.ensures.value) c.in_ok-opened.ensures.slots
-    (subst (λ (m : ℕ). Finds c.area_of-area.result.segment c.area_of-area.result.slots (content (g.M.Media.disk c.args.media.now).reads m) c.in_ok-opened.field-0.opened.items c.in_ok-opened.field-0.closed.items) c.area_of-area.ensures.medium (c.in_ok-opened.ensures.found told))
+    (subst (λ (m : ℕ). Finds c.area_of-area.result.segment c.area_of-area.result.slots (content (g.M.Media.disk c.args.media.now).reads m) c.in_ok-opened.field-0-0.opened.items c.in_ok-opened.field-0-0.closed.items) c.area_of-area.ensures.medium (c.in_ok-opened.ensures.found told))

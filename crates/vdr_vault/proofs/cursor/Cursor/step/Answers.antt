@@ -1,4 +1,7 @@
-use Rattle.std.proofs.Common.{◌≡◌, List, [], Err, ◌∙◌, ap, subst}
+use Rattle.std.proofs.Common.{◌≡◌, List, [], Some, Err, ◌∙◌, ap, refl, subst}
+use Rattle.vdr_entry.specs.Queries.{asked}
+use Rattle.vdr_playback.specs.Playback.{found}
+use Rattle.vdr_survey.specs.Selections.{span_as}
 use Rattle.std.proofs.lemmas.Result.{err_from_is_err_and}
 use Rattle.vdr_terms.specs.Records.{Record}
 use Rattle.vdr_ring.specs.declared.refused.ReadRefused.{ReadRefused}
@@ -7,10 +10,10 @@ use Rattle.vdr_vault.proofs.Passing.{read_join}
 use Rattle.vdr_vault.proofs.Stepping.{counts_since, found_next, is_behind, refused_next}
 use Rattle.vdr_vault.proofs.cursor.Cursor.step.Goals as goal
 
-pub returns-in_err-step_in-clause-steps : goal.returns-in_err-step_in-clause-steps
-returns-in_err-step_in-clause-steps g c told placed ahead reads are_ahead =
+pub returns-in_err-step_in-clause-plays : goal.returns-in_err-step_in-clause-plays
+returns-in_err-step_in-clause-plays g c told placed records reads left =
     let p = err_from_is_err_and c.from_residual.result c.from_residual.ensures.1 in
-    refused_next c.loop-self.invariant c.step_in.new.self told placed ahead reads are_ahead c.in_err-step_in.field-0.0 c.step_in.result c.from_residual.result c.in_err-step_in.was
+    refused_next c.loop-self.invariant c.step_in.new.self told placed records reads left c.in_err-step_in.field-0.0 c.step_in.result c.from_residual.result c.in_err-step_in.was
     (p.1 ∙ ap (λ (x : ReadRefused). Err x) p.2) c.step_in.ensures.steps
 
 pub returns-then-not-enter_next-clause-read : goal.returns-then-not-enter_next-clause-read
@@ -18,15 +21,18 @@ returns-then-not-enter_next-clause-read g c =
     read_join c.args.ring.now c.loop-self.ring c.step_in.new.ring (g.M.Media.disk c.args.media.now) (g.M.Media.disk c.loop-self.media) (g.M.Media.disk c.step_in.new.media) c.loop-self.invariant.read
     c.step_in.ensures.read
 
-pub returns-then-not-enter_next-clause-steps : goal.returns-then-not-enter_next-clause-steps
-returns-then-not-enter_next-clause-steps g c told placed ahead reads are_ahead =
+pub returns-then-not-enter_next-clause-plays : goal.returns-then-not-enter_next-clause-plays
+returns-then-not-enter_next-clause-plays g c told placed records reads left =
     let slots = slots_read c.args.ring.now (g.M.Media.disk c.args.media.now) in
     let later = c.step_in.ensures.read.reads placed (c.loop-self.invariant.read.reads placed reads) in
-    let behind = is_behind c.loop-self.invariant c.step_in.new.self told placed ahead reads are_ahead c.in_ok-step_in.field-0 c.step_in.result c.in_ok-step_in.was c.if-not-branch.true
+    let behind = is_behind c.loop-self.invariant c.step_in.new.self told placed records reads left c.in_ok-step_in.field-0 c.step_in.result c.in_ok-step_in.was c.if-not-branch.true
     c.step_in.ensures.steps in
-    let entered = c.enter_next.ensures.enters slots placed ahead later.table later.order behind in
-    let none : ahead ≡ [] = entered.1 c.if-not-enter_next.true in
-    (none, c.enter_next.ensures.item, subst (λ (rs : List Record). AreAhead slots placed c.enter_next.new.self rs) none entered.0)
+    let entered = c.enter_next.ensures.enters slots placed behind.ahead later.table later.order behind.are_behind in
+    let none : behind.ahead ≡ [] = entered.1 c.if-not-enter_next.true in (
+      behind.are ∙ ap (found (asked c.args.selection.now.query) (Some (span_as c.args.selection.now.span))) none,
+      c.enter_next.ensures.item,
+      record { ahead = []; are_ahead = subst (λ (rs : List Record). AreAhead slots placed c.enter_next.new.self rs) none entered.0; are = refl },
+    )
 
 pub loop-self-preserved : goal.loop-self-preserved
 loop-self-preserved g c = record {
@@ -34,13 +40,14 @@ loop-self-preserved g c = record {
       c.loop-self.invariant.read c.step_in.ensures.read;
   counts = counts_since c.loop-self.invariant (g.M.Media.bytes_read c.step_in.new.media) (g.M.Media.faults c.step_in.new.media) c.step_in.ensures.counts;
   may = c.enter_next.ensures.may;
-  ahead = λ told placed ahead reads are_ahead.
+  left = λ told placed records reads left.
       let later = c.step_in.ensures.read.reads placed (c.loop-self.invariant.read.reads placed reads) in
-      let behind = is_behind c.loop-self.invariant c.step_in.new.self told placed ahead reads are_ahead c.in_ok-step_in.field-0 c.step_in.result c.in_ok-step_in.was c.if-not-branch.true
+      let behind = is_behind c.loop-self.invariant c.step_in.new.self told placed records reads left c.in_ok-step_in.field-0 c.step_in.result c.in_ok-step_in.was c.if-not-branch.true
       c.step_in.ensures.steps in
-      (c.enter_next.ensures.enters (slots_read c.args.ring.now (g.M.Media.disk c.args.media.now)) placed ahead later.table later.order behind).0;
+      let entered = c.enter_next.ensures.enters (slots_read c.args.ring.now (g.M.Media.disk c.args.media.now)) placed behind.ahead later.table later.order behind.are_behind in
+      record { ahead = behind.ahead; are_ahead = entered.0; are = behind.are };
 }
 
-pub returns-clause-steps : goal.returns-clause-steps
-returns-clause-steps g c told placed ahead reads are_ahead =
-    found_next c.loop-self.invariant c.step_in.new.self told placed ahead reads are_ahead c.in_ok-step_in.field-0 c.step_in.result c.in_ok-step_in.was c.if-not-branch.false c.step_in.ensures.steps
+pub returns-clause-plays : goal.returns-clause-plays
+returns-clause-plays g c told placed records reads left =
+    found_next c.loop-self.invariant c.step_in.new.self told placed records reads left c.in_ok-step_in.field-0 c.step_in.result c.in_ok-step_in.was c.if-not-branch.false c.step_in.ensures.steps

@@ -13,16 +13,6 @@ returns-in_err-append_to_both-clause-commits g c = rw (sym c.self.view_is) (λ o
     let made = c.append_to_both.ensures.commits opening events e taken placed told is (unfailed opening events _ placed (g.M.Media.disk c.args.media.now) c.if-self.false stands) may in
     record { moments = made.moments; done = IfOk-from_err c.from_residual.result _ c.from_residual.ensures.0 })
 
-pub returns-clause-next_place : goal.returns-clause-next_place
-returns-clause-next_place g c = told_next c.args.records.now c.index-records-records.result c.newest.inside.place c.requires.some c.index-records-records.is (ap (λ (r : Record). r.place) c.newest.view_is)
-
-pub returns-clause-last : goal.returns-clause-last
-returns-clause-last g c =
-    let stamp = c.newest.invariant.legal.utc in
-    let fits : SFits w64 c.newest.inside.utc = omega (arith, ints, stamp.whole, stamp.in_time) in
-    told_last c.args.records.now c.index-records-records.result c.newest.inside.tick _ c.requires.some c.index-records-records.is
-    (ap (λ (r : Record). r.tick) c.newest.view_is) (to_z-of_z w64 c.newest.inside.utc fits ∙ ap (λ (r : Record). r.utc) c.newest.view_is)
-
 pub returns-clause-commits : goal.returns-clause-commits
 returns-clause-commits g c = rw (sym c.self.view_is) (λ opening events e taken placed told is stands may.
     let stamp = c.newest.invariant.legal.utc in
@@ -42,3 +32,14 @@ returns-clause-commits g c = rw (sym c.self.view_is) (λ opening events e taken 
     (told_last c.args.records.now c.index-records-records.result c.newest.inside.tick _ c.requires.some c.index-records-records.is
     (ap (λ (r : Record). r.tick) c.newest.view_is) (to_z-of_z w64 c.newest.inside.utc fits ∙ ap (λ (r : Record). r.utc) c.newest.view_is))
     (rw (sym c.self-2.view_is) at made))
+
+pub returns-clause-goes_on : goal.returns-clause-goes_on
+returns-clause-goes_on g c =
+    let stamp = c.newest.invariant.legal.utc in
+    let fits : SFits w64 c.newest.inside.utc = omega (arith, ints, stamp.whole, stamp.in_time) in
+    record {
+      next_place = told_next c.args.records.now c.index-records-records.result c.newest.inside.place c.requires.some c.index-records-records.is (ap (λ (r : Record). r.place) c.newest.view_is);
+      last = told_last c.args.records.now c.index-records-records.result c.newest.inside.tick _ c.requires.some c.index-records-records.is
+          (ap (λ (r : Record). r.tick) c.newest.view_is) (to_z-of_z w64 c.newest.inside.utc fits ∙ ap (λ (r : Record). r.utc) c.newest.view_is);
+      kept = tt;
+    }

@@ -1,49 +1,27 @@
-use Rattle.std.proofs.Common.{◌≡◌, ℕ, List, [], All, inr, sym, subst, ◌∙◌}
+use Rattle.std.proofs.Common.{rules, ◌≡◌, ℕ, List, [], All, inr, sym, subst, ◌∙◌}
 use Rattle.std.proofs.lemmas.Result.{IfOk-weaker}
-use Rattle.vdr_durability.specs.Readings.{AreLevel}
+use Rattle.std.specs.Prelude.{option_map}
+use Rattle.vdr_durability.specs.Readings.{AreLevel, EndsMeet}
 use Rattle.vdr_outside.specs.Disk.{Durable, Image}
 use Rattle.vdr_outside.proofs.Moments.{moments_and_reads}
 use Rattle.vdr_media.specs.Formatted.{IsFormatted, IsUnformatted}
 use Rattle.vdr_ring.specs.Sequence.{Placed}
 use Rattle.vdr_opening.specs.Media.{both, Contents, HoldsContents, opening_of, reading_of}
 use Rattle.vdr_opening.specs.Refusals.{IsRefused}
-use Rattle.vdr_vault.specs.Vaults.{IsReadable, ShowsHistory, Stands}
+use Rattle.vdr_vault.specs.Vaults.{IsReadable, MembersState, ShowsHistory, Stands, of_stamp}
 use Rattle.vdr_vault.specs.Regularity.{AreSound}
 use Rattle.vdr_vault.proofs.OpenCauses.{cause_after}
 use Rattle.vdr_vault.proofs.OpenMoments.{goes_on_synced}
 use Rattle.vdr_vault.proofs.members.Members.open.Goals as goal
 
-pub returns-clause-opened : goal.returns-clause-opened
-returns-clause-opened g c = IfOk-weaker c.open_synced.result
-    (λ members. (x : Contents) → g.M.Media.tells → All (λ m. Durable m (g.M.Media.disk c.sync_both.new.media)) both → HoldsContents (g.M.Media.disk c.sync_both.new.media).reads x → AreSound x
-    → (placed : ℕ → List Placed) × Stands (opening_of x) [] members placed (g.M.Media.disk c.open_synced.new.media))
-    (λ members. (x : Contents) → g.M.Media.tells → HoldsContents (g.M.Media.disk c.args.media.now).reads x → AreSound x
-    → (placed : ℕ → List Placed) × Stands (opening_of x) [] members placed (g.M.Media.disk c.open_synced.new.media))
-    (λ members h x told holds regular. h x told c.in-Ok.ensures.durable (subst (λ (i : Image). HoldsContents i x) (sym (c.sync_both.ensures.reads told)) holds) regular)
-    c.open_synced.ensures.opened
+-- what the media with this image hold, and the vault tells of it
+abbrev HasContents : Image → MembersState → Type 0
+HasContents image members = IsFormatted image × (x : Contents) × HoldsContents image x × EndsMeet both (reading_of x) × (members.config ≡ x.config) × (members.table ≡ x.table)
+    × (members.last ≡ option_map of_stamp (opening_of x).last)
 
 pub returns-clause-moments : goal.returns-clause-moments
 returns-clause-moments g c x told holds meet regular = inr (goes_on_synced (ShowsHistory (opening_of x) []) (g.M.Media.disk c.args.media.now) (g.M.Media.disk c.sync_both.new.media) (g.M.Media.disk c.open_synced.new.media)
     c.sync_both.ensures.moments (c.open_synced.ensures.moments x told c.in-Ok.ensures.durable (subst (λ (i : Image). HoldsContents i x) (sym (c.sync_both.ensures.reads told)) holds) meet regular))
-
-pub returns-clause-blank : goal.returns-clause-blank
-returns-clause-blank g c told un = moments_and_reads (g.M.Media.disk c.args.media.now) (g.M.Media.disk c.sync_both.new.media) (g.M.Media.disk c.open_synced.new.media) (λ i. (g.M.Media.disk c.args.media.now).now i)
-    c.sync_both.ensures.moments (c.open_synced.ensures.blank told (subst IsUnformatted (sym (c.sync_both.ensures.reads told)) un))
-
-pub returns-clause-damaged : goal.returns-clause-damaged
-returns-clause-damaged g c m offset is told =
-    subst (λ (i : Image). IsFormatted i × IsRefused i m offset) (c.sync_both.ensures.reads told) (c.open_synced.ensures.damaged m offset is told c.in-Ok.ensures.durable)
-
-pub returns-clause-cause : goal.returns-clause-cause
-returns-clause-cause g c = cause_after _ _ _ _ c.sync_both.ensures.cause.later c.open_synced.ensures.cause
-
-pub returns-clause-place : goal.returns-clause-place
-returns-clause-place g c = IfOk-weaker c.open_synced.result
-    (λ members. (x : Contents) → g.M.Media.tells → All (λ m. Durable m (g.M.Media.disk c.sync_both.new.media)) both → HoldsContents (g.M.Media.disk c.sync_both.new.media).reads x
-    → members.next_place ≡ (opening_of x).next_place)
-    (λ members. (x : Contents) → g.M.Media.tells → HoldsContents (g.M.Media.disk c.args.media.now).reads x → members.next_place ≡ (opening_of x).next_place)
-    (λ members h x told holds. h x told c.in-Ok.ensures.durable (subst (λ (i : Image). HoldsContents i x) (sym (c.sync_both.ensures.reads told)) holds))
-    c.open_synced.ensures.place
 
 pub returns-clause-level : goal.returns-clause-level
 returns-clause-level g c x told holds level =
@@ -52,11 +30,49 @@ returns-clause-level g c x told holds level =
       same.reads told ∙ c.sync_both.ensures.reads told,
     )
 
-pub returns-clause-readable : goal.returns-clause-readable
-returns-clause-readable g c = IfOk-weaker c.open_synced.result
-    (λ members. (x : Contents) → g.M.Media.tells → All (λ m. Durable m (g.M.Media.disk c.sync_both.new.media)) both → HoldsContents (g.M.Media.disk c.sync_both.new.media).reads x
-    → AreLevel both (reading_of x) → IsReadable (opening_of x) [] members x.placed (g.M.Media.disk c.open_synced.new.media))
-    (λ members. (x : Contents) → g.M.Media.tells → HoldsContents (g.M.Media.disk c.args.media.now).reads x → AreLevel both (reading_of x)
-    → IsReadable (opening_of x) [] members x.placed (g.M.Media.disk c.open_synced.new.media))
-    (λ members h x told holds level. h x told c.in-Ok.ensures.durable (subst (λ (i : Image). HoldsContents i x) (sym (c.sync_both.ensures.reads told)) holds) level)
-    c.open_synced.ensures.readable
+pub returns-clause-opened : goal.returns-clause-opened
+returns-clause-opened g c = record {
+  opened = IfOk-weaker c.open_synced.result
+      (λ members. (x : Contents) → g.M.Media.tells → All (λ m. Durable m (g.M.Media.disk c.sync_both.new.media)) both → HoldsContents (g.M.Media.disk c.sync_both.new.media).reads x → AreSound x
+      → (placed : ℕ → List Placed) × Stands (opening_of x) [] members placed (g.M.Media.disk c.open_synced.new.media))
+      (λ members. (x : Contents) → g.M.Media.tells → HoldsContents (g.M.Media.disk c.args.media.now).reads x → AreSound x
+      → (placed : ℕ → List Placed) × Stands (opening_of x) [] members placed (g.M.Media.disk c.open_synced.new.media))
+      (λ members h x told holds regular. h x told c.in-Ok.ensures.durable (subst (λ (i : Image). HoldsContents i x) (sym (c.sync_both.ensures.reads told)) holds) regular)
+      c.open_synced.ensures.opened;
+  contents = IfOk-weaker c.open_synced.result
+      (λ members. g.M.Media.tells → All (λ m. Durable m (g.M.Media.disk c.sync_both.new.media)) both → HasContents (g.M.Media.disk c.sync_both.new.media).reads members)
+      (λ members. g.M.Media.tells → HasContents (g.M.Media.disk c.args.media.now).reads members)
+      (λ members h told. subst (λ (i : Image). HasContents i members) (c.sync_both.ensures.reads told) (h told c.in-Ok.ensures.durable))
+      c.open_synced.ensures.contents;
+  place = IfOk-weaker c.open_synced.result
+      (λ members. (x : Contents) → g.M.Media.tells → All (λ m. Durable m (g.M.Media.disk c.sync_both.new.media)) both → HoldsContents (g.M.Media.disk c.sync_both.new.media).reads x
+      → members.next_place ≡ (opening_of x).next_place)
+      (λ members. (x : Contents) → g.M.Media.tells → HoldsContents (g.M.Media.disk c.args.media.now).reads x → members.next_place ≡ (opening_of x).next_place)
+      (λ members h x told holds. h x told c.in-Ok.ensures.durable (subst (λ (i : Image). HoldsContents i x) (sym (c.sync_both.ensures.reads told)) holds))
+      c.open_synced.ensures.place;
+  readable = IfOk-weaker c.open_synced.result
+      (λ members. (x : Contents) → g.M.Media.tells → All (λ m. Durable m (g.M.Media.disk c.sync_both.new.media)) both → HoldsContents (g.M.Media.disk c.sync_both.new.media).reads x
+      → AreLevel both (reading_of x) → IsReadable (opening_of x) [] members x.placed (g.M.Media.disk c.open_synced.new.media))
+      (λ members. (x : Contents) → g.M.Media.tells → HoldsContents (g.M.Media.disk c.args.media.now).reads x → AreLevel both (reading_of x)
+      → IsReadable (opening_of x) [] members x.placed (g.M.Media.disk c.open_synced.new.media))
+      (λ members h x told holds level. h x told c.in-Ok.ensures.durable (subst (λ (i : Image). HoldsContents i x) (sym (c.sync_both.ensures.reads told)) holds) level)
+      c.open_synced.ensures.readable;
+  works = search rules;
+  rings = search rules;
+}
+
+pub returns-clause-refused : goal.returns-clause-refused
+returns-clause-refused g c = record {
+  unformatted = search rules;
+  damaged = λ m offset is told. subst (λ (i : Image). IsFormatted i × IsRefused i m offset) (c.sync_both.ensures.reads told) (c.open_synced.ensures.damaged m offset is told c.in-Ok.ensures.durable);
+  untouched = search rules;
+  blank = λ told un. moments_and_reads (g.M.Media.disk c.args.media.now) (g.M.Media.disk c.sync_both.new.media) (g.M.Media.disk c.open_synced.new.media) (λ i. (g.M.Media.disk c.args.media.now).now i)
+      c.sync_both.ensures.moments (c.open_synced.ensures.blank told (subst IsUnformatted (sym (c.sync_both.ensures.reads told)) un));
+}
+
+pub returns-clause-writes : goal.returns-clause-writes
+returns-clause-writes g c = record {
+  others = search rules;
+  sizes = search rules;
+  cause = cause_after _ _ _ _ c.sync_both.ensures.cause.later c.open_synced.ensures.cause;
+}

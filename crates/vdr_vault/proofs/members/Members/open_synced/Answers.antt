@@ -15,7 +15,7 @@ returns-in_err-config-clause-moments g c x told durable holds meet regular = rea
 pub returns-in_err-config-clause-damaged : goal.returns-in_err-config-clause-damaged
 returns-in_err-config-clause-damaged g c =
     let p = err_from_is_err_and c.from_residual.result c.from_residual.ensures.1 in
-    rw (p.1, p.2) (λ m offset e. c.in_err-config.ensures.damaged m offset (same_err _ _ e))
+    rw (p.1, p.2) (λ m offset e. c.in_err-config.ensures.refused.damaged m offset (same_err _ _ e))
 
 pub returns-in_default-clause-moments : goal.returns-in_default-clause-moments
 returns-in_default-clause-moments g c x told durable holds meet regular =

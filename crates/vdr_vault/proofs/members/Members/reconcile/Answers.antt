@@ -12,4 +12,4 @@ returns-clause-reconciled g c = rw (sym c.self.view_is) (λ x told opened regula
     let some = some_of_length c.args.missing.now (sym c.is_empty.ensures ∙ c.if-is_empty.false) in
     reconciled_append x _ c.args.missing.now (g.M.Media.disk c.args.media.now) told (rw (sym c.self.view_is) at c.requires.works) (rw (sym c.self.view_is) at c.requires.rings) opened regular behind some
     (rw (sym c.self.view_is) at c.pins-pins.ensures.legal) (rw (sym c.self.view_is) at c.requires.fits some) c.pins-pins.result (rw (sym c.self.view_is) at c.pins-pins.ensures.pins) c.append.new.self (g.M.Media.disk c.append.new.media) c.append.result
-    c.append.ensures.ring c.append.ensures.medium c.append.ensures.sizes c.append.ensures.appended c.append.ensures.front c.append.ensures.front_reads c.append.ensures.others)
+    c.append.ensures.ring.same c.append.ensures.ring.medium c.append.ensures.writes.sizes c.append.ensures.appended c.append.ensures.front.meanwhile c.append.ensures.front.reads c.append.ensures.writes.others)

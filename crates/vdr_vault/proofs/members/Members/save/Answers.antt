@@ -1,4 +1,4 @@
-use Rattle.std.proofs.Common.{refl, sym, ap, ◌∙◌, subst}
+use Rattle.std.proofs.Common.{rules, refl, sym, ap, ◌∙◌, subst}
 use Rattle.vdr_vault.specs.Vaults.{MembersState, Stands}
 use Rattle.vdr_vault.specs.Saves.{Saves}
 use Rattle.vdr_vault.proofs.SaveFaults.{no_fault_of_damage, not_failed, saves_so, stands_so}
@@ -14,8 +14,12 @@ returns-clause-saves g c opening events placed told stands accepted =
     (ap (λ (s : MembersState). s.failed) c.self-2.view_is ∙ c.save_accepted-saved.ensures.failed ∙ stands.working)
     (subst (λ (s : MembersState). Saves opening events c.args.label.now placed s before now result) (sym c.self-2.view_is) made)
 
-pub returns-clause-stands : goal.returns-clause-stands
-returns-clause-stands g c opening events placed m offset told is stands =
-    stands_so opening events placed _ c.eq-self-inside.result (g.M.Media.disk c.save_accepted-saved.new.media) (no_fault_of_damage _ _ c.save_accepted-saved.result m offset c.eq-self-inside.result is refl c.eq-self-inside.ensures)
-    (subst (λ (s : MembersState). Stands opening events s placed (g.M.Media.disk c.save_accepted-saved.new.media)) (sym c.self-2.view_is)
-    (c.save_accepted-saved.ensures.stands opening events placed m offset told is stands))
+pub returns-clause-damage : goal.returns-clause-damage
+returns-clause-damage g c = record {
+  undamaged = search rules;
+  stands = λ opening events placed m offset told is stands.
+      stands_so opening events placed _ c.eq-self-inside.result (g.M.Media.disk c.save_accepted-saved.new.media) (no_fault_of_damage _ _ c.save_accepted-saved.result m offset c.eq-self-inside.result is refl c.eq-self-inside.ensures)
+      (subst (λ (s : MembersState). Stands opening events s placed (g.M.Media.disk c.save_accepted-saved.new.media)) (sym c.self-2.view_is)
+      (c.save_accepted-saved.ensures.stands opening events placed m offset told is stands));
+  damaged = search rules;
+}

@@ -50,7 +50,7 @@ returns-in_default-clause-undamaged g c opening events placed m offset told stan
 pub returns-in_err-save-clause-cause : goal.returns-in_err-save-clause-cause
 returns-in_err-save-clause-cause g c =
     cause_of_table (g.M.Media.faults c.args.media.now) (g.M.Media.faults c.first_of_incident.new.media) (g.M.Media.faults c.save.new.media) c.in_err-save.field-0.0 c.save.result
-    c.from_residual-in_err-save.result c.first_of_incident.ensures.cause.later c.save.ensures.cause.later c.save.ensures.cause.rose c.in_err-save.was c.from_residual-in_err-save.ensures.1
+    c.from_residual-in_err-save.result c.first_of_incident.ensures.cause.later c.save.ensures.writes.later c.save.ensures.writes.rose c.in_err-save.was c.from_residual-in_err-save.ensures.1
 
 pub returns-in_err-save-clause-saves : goal.returns-in_err-save-clause-saves
 returns-in_err-save-clause-saves g c opening events placed told stands =
@@ -69,7 +69,7 @@ returns-in_err-save-clause-saves g c opening events placed told stands =
     c.in_ok-a.a (ap (λ (n : ℕ). first_in_window n (all_records (placed 1))) seconds ∙ first) c.in-Some.save
     (c.in-Some.ensures.made ∙ ap (λ (p : MembersState × ℤ). incident_at p.0 c.args.label.now c.in_ok-a.a c.args.tick p.1) (λ i. (sym c.self.view_is i, to_z-of_z w64 c.args.utc fits i)))
     (subst (λ (s : MembersState). HasPlaces s c.in_ok-a.a) (sym c.self.view_is) c.in-Some.ensures.there) (g.M.Media.disk c.save.new.media)
-    c.from_residual-in_err-save.result c.save.new.self c.save.ensures.moments (λ slots slot held free. IfOk-from_err c.from_residual-in_err-save.result _ none) c.save.ensures.others c.save.ensures.sizes
+    c.from_residual-in_err-save.result c.save.new.self c.save.ensures.moments (λ slots slot held free. IfOk-from_err c.from_residual-in_err-save.result _ none) c.save.ensures.writes.others c.save.ensures.writes.sizes
     (IfOk-from_err c.from_residual-in_err-save.result _ none) (IfOk-from_err c.from_residual-in_err-save.result _ none))
 
 pub returns-clause-saves : goal.returns-clause-saves
@@ -88,7 +88,7 @@ returns-clause-saves g c opening events placed told stands =
     c.in_ok-a.a (ap (λ (n : ℕ). first_in_window n (all_records (placed 1))) seconds ∙ first) c.in-Some.save
     (c.in-Some.ensures.made ∙ ap (λ (p : MembersState × ℤ). incident_at p.0 c.args.label.now c.in_ok-a.a c.args.tick p.1) (λ i. (sym c.self.view_is i, to_z-of_z w64 c.args.utc fits i)))
     (subst (λ (s : MembersState). HasPlaces s c.in_ok-a.a) (sym c.self.view_is) c.in-Some.ensures.there) (g.M.Media.disk c.save.new.media)
-    (Ok c.in_ok-save.field-0) c.save.new.self c.save.ensures.moments c.in_ok-save.ensures.settled c.save.ensures.others c.save.ensures.sizes c.in_ok-save.ensures.table c.in_ok-save.ensures.id)
+    (Ok c.in_ok-save.field-0) c.save.new.self c.save.ensures.moments c.in_ok-save.ensures.settled c.save.ensures.writes.others c.save.ensures.writes.sizes c.in_ok-save.ensures.saved.table c.in_ok-save.ensures.saved.id)
 
 pub returns-in_err-a-clause-stands : goal.returns-in_err-a-clause-stands
 returns-in_err-a-clause-stands g c opening events placed m offset told is stands =

@@ -15,8 +15,8 @@ reads_long_term members ring same = ap (λ (r : RingState). record members { lon
 
 pub returns-in-LongTerm-clause-members : goal.returns-in-LongTerm-clause-members
 returns-in-LongTerm-clause-members g c =
-    let new : MembersState = record (the_view c.self.inside) { long_term = c.seek-in-LongTerm.new.ring } in
-    let reads : ReadsOn 1 c.args.self.now new = subst (λ (s : MembersState). ReadsOn 1 s new) c.self.view_is (reads_long_term (the_view c.self.inside) c.seek-in-LongTerm.new.ring c.seek-in-LongTerm.ensures.read.ring) in
+    let new : MembersState = record (the_view c.self.inside) { long_term = c.step-in-LongTerm.new.ring } in
+    let reads : ReadsOn 1 c.args.self.now new = subst (λ (s : MembersState). ReadsOn 1 s new) c.self.view_is (reads_long_term (the_view c.self.inside) c.step-in-LongTerm.new.ring c.step-in-LongTerm.ensures.read.ring) in
     ⊎_elim
     (λ (e : c.args.query.now.medium ≡ LongTerm). subst (λ (m : Medium). ReadsOn (medium_of (asked_medium m)) c.args.self.now new) (sym e) reads)
     (λ (f : (id : ℕ) × (c.args.query.now.medium ≡ Incident id)). subst (λ (m : Medium). ReadsOn (medium_of (asked_medium m)) c.args.self.now new) (sym f.1) reads)

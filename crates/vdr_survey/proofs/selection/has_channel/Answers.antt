@@ -2,7 +2,7 @@ use Rattle.std.proofs.Common.{◌≡◌, ◌==◌, ℕ, ◌<◌, ◌≤◌, ◌/
 use Rattle.std.proofs.Math.Nat.{div-eq_of_lt}
 use Rattle.std.proofs.lemmas.Bool.{le-ltb}
 use Rattle.vdr_terms.specs.Queries.{has_channel}
-use Rattle.vdr_vault.proofs.matching.has_channel.Goals as goal
+use Rattle.vdr_survey.proofs.selection.has_channel.Goals as goal
 
 -- a word has no such bit
 not_there : (k bits : ℕ) → 64 ≤ k → bits < 2 ^ 64 → (bits / 2 ^ k % 2 == 1) ≡ false

@@ -1,0 +1,131 @@
+-- What each call of a vault keeps, and what it answers, whatever becomes of it.
+use Rattle.std.specs.Prelude.{◌≡◌, ◌⊎◌, ◌-◌, ℕ, suc, Bool, true, false, List, is_none, position, Option, Some, None, option_map, Result, Err, IfOk, IsErr, OnErr, OnOk}
+use Rattle.vdr_terms.specs.Records.{Record, last}
+use Rattle.vdr_history.specs.Histories.{Event, Incident, Opening, live, with_slot}
+use Rattle.vdr_durability.specs.Readings.{next_after}
+use Rattle.vdr_outside.specs.declared.media.Media.{Ghosts as MediaTells}
+use Rattle.vdr_outside.specs.Disk.{Disk, SameBut, Unchanged}
+use Rattle.vdr_ring.specs.Cursors.{IsLoaded}
+use Rattle.vdr_ring.specs.Sequence.{Placed}
+use Rattle.vdr_incident.specs.declared.refused.ReleaseRefused.{ReleaseRefused}
+use Rattle.vdr_incident.specs.declared.refused.ReleaseRefused.TheVariants.{Fault as a_release_fault, NoSuch}
+use Rattle.vdr_vault.specs.declared.refused.SaveRefused.{SaveRefused}
+use Rattle.vdr_vault.specs.declared.refused.SaveRefused.TheVariants.{Damaged, Fault, Label, Nothing, TableFull}
+use Rattle.vdr_vault.specs.Vaults.{AreRings, MembersState, Stands, of_stamp, tick_utc}
+use Rattle.vdr_vault.specs.Calls.{HasVaultCause, SameElsewhere}
+use Rattle.vdr_vault.specs.Saves.{HasFaultOn, save_refusal}
+
+-- Where a write had failed before, the call does nothing; and where it fails, the next one does nothing.
+pub record StopsAtFault {S M T E : Type 0} (had_failed has_failed : Bool) (old new : S) (before after : M) (result : Result T E) : Type 0 where
+  -- where a write had failed, nothing was called
+  pub failed : had_failed ≡ true → IsErr result × (new ≡ old) × (after ≡ before)
+  -- after an error a write has failed
+  pub fails : OnErr result (has_failed ≡ true)
+  -- after Ok none has
+  pub works : OnOk result (has_failed ≡ false)
+
+-- After a fault the next call does nothing.
+pub record FailsWhere (faulted : Type 0) (has_failed : Bool) : Type 0 where
+  -- after a fault a write has failed
+  pub fails : faulted → has_failed ≡ true
+  -- after any other answer none has
+  pub works : (faulted → ⊥) → has_failed ≡ false
+
+-- Next place and last record are those behind these records; where the call fails, they stay.
+pub record GoesOn {T E : Type 0} (old new : MembersState) (records : List Record) (result : Result T E) : Type 0 where
+  -- after Ok the next place is behind them
+  pub next_place : OnOk result (new.next_place ≡ next_after (last records))
+  -- after Ok the last record is theirs
+  pub last : OnOk result (new.last ≡ option_map tick_utc (last records))
+  -- after an error both are as before
+  pub kept : OnErr result ((new.next_place ≡ old.next_place) × (new.last ≡ old.last))
+
+-- Configuration and incidents stay, and the rings are those of media of these sizes.
+pub record KeepsMembers (old new : MembersState) (sizes : List ℕ) : Type 0 where
+  -- the configuration is as before
+  pub config : new.config ≡ old.config
+  -- the incidents are as before
+  pub table : new.table ≡ old.table
+  -- each ring is its medium's
+  pub rings : AreRings new sizes
+
+-- All that tells what was recorded stays, and the rings are those of media of these sizes.
+pub record KeepsHistory (old new : MembersState) (sizes : List ℕ) : Type 0 where
+  -- the next place is as before
+  pub next_place : new.next_place ≡ old.next_place
+  -- the last record is as before
+  pub last : new.last ≡ old.last
+  -- the configuration is as before
+  pub config : new.config ≡ old.config
+  -- the ring on the capsule is as before
+  pub capsule : new.capsule ≡ old.capsule
+  -- each ring is its medium's
+  pub rings : AreRings new sizes
+
+-- The call wrote to the capsule and the long-term medium alone and read nothing. An error comes only of a fault.
+pub record WritesToBoth {M T E : Type 0} (media : MediaTells M) (failed : Bool) (old new : M) (result : Result T E) : Type 0 where
+  -- the other media read as before
+  pub others : media.tells → SameElsewhere (media.disk old).reads (media.disk new).reads
+  -- no medium changes its size
+  pub sizes : (media.disk new).sizes ≡ (media.disk old).sizes
+  -- nothing was read
+  pub counts : media.bytes_read new ≡ media.bytes_read old
+  -- no count of faults falls, and an error has its cause
+  pub cause : HasVaultCause failed (media.faults old) (media.faults new) result
+
+-- The call wrote to the long-term medium alone, and so many bytes were read.
+pub record WritesToLongTerm {M : Type 0} (media : MediaTells M) (failed : Bool) (old new : M) (Reads : List ℕ → List ℕ → Type 0) (faulted : Type 0) : Type 0 where
+  -- the other media read as before
+  pub others : media.tells → SameBut 1 (media.disk old).reads (media.disk new).reads
+  -- no medium changes its size
+  pub sizes : (media.disk new).sizes ≡ (media.disk old).sizes
+  -- what was read
+  pub counts : Reads (media.bytes_read old) (media.bytes_read new)
+  -- no count of faults falls, and a fault has its cause
+  pub cause : HasFaultOn 1 failed (media.faults old) (media.faults new) faulted
+
+-- The first three refusals of a save, each exactly where it is due, leave all as it is, and so does a vault that a write had failed.
+pub record RefusesSave {S M : Type 0} (label : List ℕ) (members : MembersState) (old new : S) (before after : M) (result : Result ℕ SaveRefused) : Type 0 where
+  -- where a write had failed, a fault is answered and nothing is called
+  pub failed : members.failed ≡ true → (result ≡ Err Fault) × (new ≡ old) × (after ≡ before)
+  -- where a save is refused for its label, for want of records or of a free slot, that is answered and nothing is called
+  pub refused : (refused : SaveRefused) → members.failed ≡ false → save_refusal label members ≡ Some refused → (result ≡ Err refused) × (new ≡ old) × (after ≡ before)
+  -- and it is answered only there
+  pub reason : (refused : SaveRefused) → result ≡ Err refused → (refused ≡ Label) ⊎ ((refused ≡ Nothing) ⊎ (refused ≡ TableFull)) → (members.failed ≡ false) × (save_refusal label members ≡ Some refused)
+
+-- The save is in the table under its id, and where it is refused the table stays.
+pub record PutsIncident (label : List ℕ) (old : MembersState) (table_now : List (Option Incident)) (result : Result ℕ SaveRefused) : Type 0 where
+  -- the id is that of the free slot of least index
+  pub id : IfOk result (λ id. option_map suc (position is_none old.table) ≡ Some id)
+  -- the table has the save under its id: its label, its last place and its stamp
+  pub table : IfOk result (λ id. (saved : Incident) × (table_now ≡ with_slot old.table id (Some saved)) × (saved.label ≡ label)
+      × (saved.b ≡ old.next_place - 1) × (old.last ≡ Some (of_stamp saved.stamp)))
+  -- after an error the table is as before
+  pub kept : OnErr result (table_now ≡ old.table)
+
+-- A release is refused exactly where no live save has this id; it leaves all as it is, and so does a vault that a write had failed.
+pub record RefusesRelease {T S M : Type 0} (id : ℕ) (members : MembersState) (old new : S) (before after : M) (result : Result T ReleaseRefused) : Type 0 where
+  -- where a write had failed, a fault is answered and nothing is called
+  pub failed : members.failed ≡ true → (result ≡ Err a_release_fault) × (new ≡ old) × (after ≡ before)
+  -- where no live save has the id, that is answered and nothing is called
+  pub refused : members.failed ≡ false → live members.table id ≡ None → (result ≡ Err NoSuch) × (new ≡ old) × (after ≡ before)
+  -- and it is answered only there
+  pub reason : result ≡ Err NoSuch → (members.failed ≡ false) × (live members.table id ≡ None)
+
+-- The slot of the id is free, and where the call fails the table stays.
+pub record FreesSlot {T E : Type 0} (id : ℕ) (old new : List (Option Incident)) (result : Result T E) : Type 0 where
+  -- after Ok the slot is free
+  pub table : OnOk result (new ≡ with_slot old id None)
+  -- after an error the table is as before
+  pub kept : OnErr result (new ≡ old)
+
+module _ {tells tells_images : Type 0} where
+  -- Damage that a save meets: media that hold what was recorded have none, and of others nothing was written.
+  pub record MeetsDamage (old new : MembersState) (before after : Disk tells tells_images) (result : Result ℕ SaveRefused) : Type 0 where
+    -- media that hold what was recorded have no damage
+    pub undamaged : (opening : Opening) (events : List Event) (placed : ℕ → List Placed) (m offset : ℕ) → tells → Stands opening events old placed before → result ≡ Err (Damaged m offset) → ⊥
+    -- a vault that stood over them still does
+    pub stands : (opening : Opening) (events : List Event) (placed : ℕ → List Placed) (m offset : ℕ) → tells → result ≡ Err (Damaged m offset)
+        → Stands opening events old placed before → Stands opening events new placed after
+    -- nothing was written, no write has failed, and the damage is on the long-term medium
+    pub damaged : (m offset : ℕ) → result ≡ Err (Damaged m offset) → Unchanged before after × (new.failed ≡ false) × (tells → IsLoaded old.long_term before → m ≡ 1)
