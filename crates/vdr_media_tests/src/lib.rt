@@ -6,6 +6,8 @@ mod formatting;
 #[cfg(test)]
 mod incidents;
 #[cfg(test)]
+mod indexes;
+#[cfg(test)]
 mod memory;
 #[cfg(test)]
 mod openings;

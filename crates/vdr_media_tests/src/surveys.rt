@@ -1,4 +1,4 @@
-use vdr_entry::Record;
+use vdr_entry::{Record, Summary};
 use vdr_segment::write_batch;
 use vdr_survey::{Extent, Position, Survey, law_of_positions, law_of_surveys, step, survey};
 
@@ -13,6 +13,15 @@ const EXTENT: Extent = Extent {
     last_tick: 1400,
     last_utc: UTC + 400,
     last_batch: 42,
+};
+
+const SUMMARY: Summary = Summary {
+    count: 3,
+    first_second: 1,
+    last_second: 1,
+    least_utc: UTC,
+    greatest_utc: UTC + 400,
+    bits: 0b111,
 };
 
 /// A segment of a Start and a Datagram (places 40 and 41, ticks 1,000 and 1,300), and a batch of a Stop (place 42, tick 1,400).
@@ -36,6 +45,7 @@ fn a_survey_tells_end_extent_and_order(rt: HostRuntime) {
         end: 212,
         extent: Some(EXTENT),
         in_order: true,
+        summary: Some(SUMMARY),
     };
     let unordered = Survey {
         in_order: false,

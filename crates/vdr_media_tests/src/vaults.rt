@@ -1,3 +1,4 @@
+mod bounding;
 mod committing;
 mod opening;
 mod playing;

@@ -1,5 +1,5 @@
 -- A medium at every moment until a batch stands in its newest segment.
-use Rattle.std.proofs.Common.{◌≡◌, ◌<◌, ◌≤◌, ◌+◌, ℕ, List, [], ◌∷◌, ◌++◌, length, get_or, take, slice_get, Option, Some, None, inl, inr, refl, sym, ap, ◌∙◌, subst, arith, length-set}
+use Rattle.std.proofs.Common.{◌≡◌, ◌<◌, ◌≤◌, ◌+◌, ◌^◌, ℕ, List, [], ◌∷◌, ◌++◌, length, get_or, set, take, slice_get, Option, Some, None, inl, inr, refl, sym, ap, ◌∙◌, subst, arith, length-set}
 use Rattle.std.proofs.lemmas.Option.{none-some, same_Some}
 use Rattle.std.proofs.lemmas.List.{take-append-le, take_all, length_push}
 use Rattle.std.proofs.lemmas.List.Elements.{All-contains, Contains-append_right}
@@ -19,13 +19,15 @@ use Rattle.vdr_survey.specs.Surveys.{Surveys}
 use Rattle.vdr_retention.specs.Retention.{Pin}
 use Rattle.vdr_retention.proofs.Lists.{contains_here, last_behind}
 use Rattle.vdr_ring.specs.declared.entry.Entry.{Entry}
-use Rattle.vdr_ring.specs.Sequence.{Placed, batches_of, AreInSequence}
+use Rattle.vdr_ring.specs.Sequence.{Placed, batches_of, records_of, AreInSequence}
 use Rattle.vdr_ring.specs.Order.{AreInOrder}
 use Rattle.vdr_ring.specs.Entries.{Describes, Describe}
 use Rattle.vdr_ring.specs.Tables.{TableState}
 use Rattle.vdr_ring.specs.Rings.{RingState, HoldsPlaced, HoldsAny, IsSameRing, Tells, Reads}
 use Rattle.vdr_ring.specs.Stages.{with_batch_in, Stages, BeginsAnew, AreStages, Continues}
 use Rattle.vdr_ring.specs.Appends.{HasRoomFor, MayCome, HasNoRoom, Stands, IsReady}
+use Rattle.vdr_ring.specs.Indexed.{known_by}
+use Rattle.vdr_ring.proofs.Filing.{few_records}
 use Rattle.vdr_ring.proofs.Placing.{append_in_sequence}
 use Rattle.vdr_ring.proofs.Ordering.{append_in_order}
 use Rattle.vdr_ring.proofs.Telling.{any_here, EndsWith, ends_with, IsNewest, described_newest, described_none, tells_done}
@@ -149,24 +151,32 @@ module _ {tells tells_images : Type 0} where
         (λ b h. any_right (λ (ps : List Placed). HoldsPlaced q.segment q.slots ps b) (placed ∷ stages.closed ∷ []) (before ∷ after ∷ [])
         (holds_either q.segment q.slots slots (slots_with_batch slots e.slot ready.newest.segment records) before after b (ready.stands.settled.reads told).sequence sequence (ready.stands.settled.reads told).all_slots every h)))))
 
-    pub appended_reads : (u : RingState) (survey : Survey) → u.medium ≡ q.medium → u.segment ≡ q.segment → u.slots ≡ q.slots → u.loaded ≡ None
+    pub appended_reads : (u : RingState) (survey : Survey) → q.segment < 2 ^ 32 → u.medium ≡ q.medium → u.segment ≡ q.segment → u.slots ≡ q.slots → u.loaded ≡ None
         → ((batches : List (List Record)) → Surveys e.first batches e.survey → Surveys e.first (batches ++ records ∷ []) survey)
         → ((entries : List Entry) (x : Entry) → q.table.opened ≡ entries ++ x ∷ [] → u.table.opened ≡ entries ++ (record x { survey = survey }) ∷ []) → u.table.closed ≡ q.table.closed
+        → ((e : Entry) → last q.table.opened ≡ Some e → u.table.index ≡ set q.table.index e.slot (known_by e.seq e.first survey.summary))
         → ((slots : List (Option Segment)) (s : Segment) (records : List Record) → Settled q.medium (HoldsSlots q.segment slots) mid → slice_get slots e.slot ≡ Some (Some s) → end_of s ≡ e.survey.end
         → bytes ≡ batch_bytes records ++ closed_gate ∷ [] → IsBatch records → Settled q.medium (HoldsSlots q.segment (slots_with_batch slots e.slot s records)) new)
         → Reads u stages.done new
-    appended_reads u survey medium segment count loaded more opened closed settled = record {
+    appended_reads u survey small medium segment count loaded more opened closed set_known settled = record {
       settled = subst (λ (ps : List Placed). Settled u.medium (HoldsPlaced u.segment u.slots ps) new) (sym ready.done)
           (settled_at u.medium q.medium u.segment q.segment u.slots q.slots after new (sym medium) (sym segment) (sym count)
-          (settled_placed q.medium q.segment q.slots (slots_with_batch slots e.slot ready.newest.segment records) after new sequence every
-          (settled slots ready.newest.segment records (settled_slots q.medium q.segment q.slots before mid ready.stands.settled told) there ends written legal)));
+          now);
       order = ready.order;
       table = subst (λ (k : List Placed × ℕ). Tells k.1 k.0 u.table) (λ i. (sym ready.done i, sym count i))
-          (tells_done q.slots ready.older ready.newest records q.table u.table e survey ready.stands.table is
+          (tells_done q.slots slots ready.older ready.newest records q.table u.table e survey (ready.stands.settled.reads told).sequence (ready.stands.settled.reads told).all_slots few ready.stands.table is
           (subst (λ (n : ℕ). Surveys n (batches_of ready.newest ++ records ∷ []) survey) described.first (more (batches_of ready.newest) (subst (λ (n : ℕ). Surveys n (batches_of ready.newest) e.survey) (sym described.first) described.survey)))
-          opened closed);
+          opened closed set_known);
       loaded = λ j bad. absurd (none-some j (sym loaded ∙ bad));
     }
+      where
+        now : Settled q.medium (HoldsPlaced q.segment q.slots after) new
+        now = settled_placed q.medium q.segment q.slots (slots_with_batch slots e.slot ready.newest.segment records) after new sequence every
+            (settled slots ready.newest.segment records (settled_slots q.medium q.segment q.slots before mid ready.stands.settled told) there ends written legal)
+
+        few : length (records_of (with_batch_in ready.newest records)) < 2 ^ 32
+        few = All-contains (λ p. length (records_of p) < 2 ^ 32) after (with_batch_in ready.newest records) (few_records q.segment q.slots after _ small (now.reads told))
+            (Contains-append_right ready.older (with_batch_in ready.newest records ∷ []) (with_batch_in ready.newest records) (contains_here (with_batch_in ready.newest records) []))
 
 -- The ring keeps its number of slots.
 pub set_count : (t u : TableState) (e : Entry) (survey : Survey) → last t.opened ≡ Some e

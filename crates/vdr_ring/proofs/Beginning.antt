@@ -116,15 +116,15 @@ module _ {tells tells_images : Type 0} where
         (λ b h. any_right (λ (ps : List Placed). HoldsPlaced segment count ps b) (placed ∷ []) (closed ∷ (closed ++ new_segment slot seq first ∷ []) ∷ [])
         (holds_either segment count slots (slots_begun slots slot seq first) closed (closed ++ new_segment slot seq first ∷ []) b (s.reads told).sequence sequence every every_begun h))))
 
-    pub begun_stands : (u : TableState) → ((slot : ℕ) (rest : List ℕ) → t.closed ≡ slot ∷ rest → (u.opened ≡ t.opened ++ begun_entry slot seq first ∷ []) × (u.closed ≡ rest))
+    pub begun_stands : (u : TableState) → ((slot : ℕ) (rest : List ℕ) → t.closed ≡ slot ∷ rest → (u.opened ≡ t.opened ++ begun_entry slot seq first ∷ []) × (u.closed ≡ rest)) → u.index ≡ t.index
         → ((slots : List (Option Segment)) → Settled m (HoldsSlots segment slots) mid → slice_get slots slot ≡ Some None → Settled m (HoldsSlots segment (slots_begun slots slot seq first)) new)
         → Settled m (HoldsPlaced segment count (closed ++ next_segment placed slot first ∷ [])) new × Tells count (closed ++ next_segment placed slot first ∷ []) u
-    begun_stands u table settled =
+    begun_stands u table same settled =
         let b = begins_with t.closed slot first_closed in
         let k = table slot b.rest b.is in
         subst (λ (n : ℕ). Settled m (HoldsPlaced segment count (closed ++ new_segment slot n first ∷ [])) new × Tells count (closed ++ new_segment slot n first ∷ []) u) seq_is (
           settled_placed m segment count (slots_begun slots slot seq first) (closed ++ new_segment slot seq first ∷ []) new sequence every_begun (settled slots (settled_slots m segment count closed mid s told) free),
-          tells_begun count closed slot seq first b.rest t u tell b.is k.0 k.1,
+          tells_begun count closed slot seq first b.rest t u tell b.is k.0 k.1 same,
         )
 
   -- With the batch it is in order.

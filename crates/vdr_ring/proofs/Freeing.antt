@@ -115,10 +115,12 @@ module _ {tells tells_images : Type 0} where
         (λ b. holds_either segment count slots (set slots n None) placed left b (s.reads told).sequence closed every every_closed)
 
     pub freed_stands : (u : TableState) → u.opened ≡ remove t.opened i → ((e : Entry) → slice_get t.opened i ≡ Some e → u.closed ≡ slot_of e ∷ [])
+        → ((e : Entry) → slice_get t.opened i ≡ Some e → u.index ≡ set t.index (slot_of e) None)
         → ((slots : List (Option Segment)) → Settled m (HoldsSlots segment slots) old → Settled m (HoldsSlots segment (slots_closed slots n)) new)
         → Settled m (HoldsPlaced segment count left) new × Tells count left u × (slice_get u.closed 0 ≡ Some v.1.slot)
-    freed_stands u opened more settled =
-        let k = tells_closed count slots v.0 v.1 v.2 t u tell_split full sequence every (opened ∙ ap (λ (j : ℕ). remove t.opened j) (sym v.3)) (λ e at. more e (ap (λ (j : ℕ). slice_get t.opened j) (sym v.3) ∙ at)) in
+    freed_stands u opened more cleared settled =
+        let k = tells_closed count slots v.0 v.1 v.2 t u tell_split full sequence every (opened ∙ ap (λ (j : ℕ). remove t.opened j) (sym v.3)) (λ e at. more e (ap (λ (j : ℕ). slice_get t.opened j) (sym v.3) ∙ at))
+        (λ e at. cleared e (ap (λ (j : ℕ). slice_get t.opened j) (sym v.3) ∙ at)) in
         (settled_placed m segment count (set slots n None) left new closed every_closed (settled slots (settled_slots m segment count placed old s told)), k.0, k.1)
 
 -- The entry at an index, as it was read.

@@ -2,6 +2,7 @@
 use Rattle.std.proofs.Common.{◌≡◌, ◌≢◌, ◌<◌, ◌+◌, ℕ, Bool, true, List, [], ◌∷◌, ◌++◌, map, All, Contains, Option, Some, None, inl, inr, ⊎_elim, refl, sym, ap, ◌∙◌, subst, arith, append-nil, length-append}
 use Rattle.std.specs.Prelude.{◌↔◌, IsTrue, is_some}
 use Rattle.std.proofs.lemmas.Bool.{cases_eq}
+use Rattle.std.proofs.lemmas.Option.{none-some}
 use Rattle.std.proofs.lemmas.List.Elements.{All-contains, Contains-append_left, Contains-append_right, Contains-append_cases}
 use Rattle.vdr_entry.specs.declared.summary.Summary.{Summary}
 use Rattle.vdr_segment.specs.declared.header.Header.{Header}
@@ -9,6 +10,7 @@ use Rattle.vdr_segment.specs.Gates.{IsOpenAt}
 use Rattle.vdr_segment.specs.Headers.{IsHeader}
 use Rattle.vdr_slots.specs.Slots.{IsFront, place_of}
 use Rattle.vdr_survey.specs.declared.extent.Survey.{Survey}
+use Rattle.vdr_survey.specs.Summaries.{Summarises}
 use Rattle.vdr_survey.specs.Surveys.{Surveys}
 use Rattle.vdr_retention.proofs.Lists.{none_contained, contains_here, contains_there, contains_cases, all_from}
 use Rattle.vdr_ring.specs.declared.entry.Entry.{Entry}
@@ -22,9 +24,13 @@ pub no_front : (bytes : List ℕ) (front : Option Header) → IsOpenAt bytes 0 �
 no_front bytes None opened none is = is opened
 no_front bytes (Some h) opened none is = none h is.1
 
+no_summary : (o : Option Summary) → Summarises [] o → o ≡ None
+no_summary None h = refl
+no_summary (Some s) h = absurd (none-some s.first_second h.first_second)
+
 -- the survey of no batch
-pub empty_survey : (first : ℕ) (s : Survey) → s.end ≡ 64 → Surveys first [] s → s ≡ record { end = 64; extent = None; in_order = true }
-empty_survey first s end h = let extent : s.extent ≡ None = h.extent in let order : s.in_order ≡ true = h.in_order.1 (tt, tt) in λ i. record { end = end i; extent = extent i; in_order = order i }
+pub empty_survey : (first : ℕ) (s : Survey) → s.end ≡ 64 → Surveys first [] s → s ≡ record { end = 64; extent = None; in_order = true; summary = None }
+empty_survey first s end h = let extent : s.extent ≡ None = h.extent in let order : s.in_order ≡ true = h.in_order.1 (tt, tt) in let summary : s.summary ≡ None = no_summary s.summary h.summary in λ i. record { end = end i; extent = extent i; in_order = order i; summary = summary i }
 
 -- The numbers of slots
 
@@ -159,7 +165,7 @@ module _ (segment n : ℕ) (bytes : List ℕ) (opened : List Entry) (closed : Li
   refuses_header count offset lt at broken = record { slot = n; within = lt; legal = front_known; broken = broken; at = at }
 
 -- the entry as it is pushed
-pub entry_pushed : (es new : List Entry) (slot : ℕ) (front : Option Header) (header : Header) (b : Bool) (s : Survey) → front ≡ Some header → b ≡ is_some header.summary → s ≡ record { end = 64; extent = None; in_order = true }
+pub entry_pushed : (es new : List Entry) (slot : ℕ) (front : Option Header) (header : Header) (b : Bool) (s : Survey) → front ≡ Some header → b ≡ is_some header.summary → s ≡ record { end = 64; extent = None; in_order = true; summary = None }
     → new ≡ es ++ (record { slot = slot; seq = header.seq; first = header.first; summarized = b; survey = s }) ∷ [] → new ≡ es ++ opened_by slot front
 entry_pushed es new slot front header b s is some empty pushed =
     pushed ∙ (λ i. es ++ (record { slot = slot; seq = header.seq; first = header.first; summarized = some i; survey = empty i }) ∷ []) ∙ ap (λ (o : Option Header). es ++ opened_by slot o) (sym is)

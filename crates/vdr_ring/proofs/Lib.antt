@@ -12,7 +12,9 @@ pub mod Choosing
 pub mod Extents
 pub mod Passing
 pub mod Retaining
+pub mod Filing
 pub mod Telling
+pub mod Answering
 pub mod NextSegment
 pub mod Freeing
 pub mod Beginning

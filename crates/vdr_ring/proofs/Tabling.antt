@@ -1,7 +1,8 @@
 -- A table made of its open segments and its closed slots.
-use Rattle.std.proofs.Common.{◌≡◌, ◌<◌, ◌≤◌, ◌+◌, ℕ, List, [], ◌∷◌, ◌++◌, length, map, take, drop, All, refl, sym, ap, ◌∙◌, subst, arith, append-nil, append_assoc, length-append}
+use Rattle.std.proofs.Common.{◌≡◌, ◌<◌, ◌≤◌, ◌+◌, ℕ, List, [], ◌∷◌, ◌++◌, length, map, take, drop, All, Option, refl, sym, ap, ◌∙◌, subst, arith, append-nil, append_assoc, length-append}
 use Rattle.std.proofs.lemmas.List.{length-map, take_all}
 use Rattle.std.proofs.lemmas.List.Elements.{All-append, All-cons, All-nil, All-head, All-tail}
+use Rattle.vdr_index.specs.declared.known.Known.{Known}
 use Rattle.vdr_ring.specs.declared.entry.Entry.{Entry}
 use Rattle.vdr_ring.specs.Tables.{AreEntries, slot_of}
 
@@ -50,12 +51,13 @@ module _ (opened entries : List Entry) (closed : List ℕ) (n : ℕ) (count : n 
   filled_long : length entries ≡ length opened + length closed
   filled_long = let a = ap length h.are in let b = ap length h.slots_are in omega (arith, a, b, length-append opened h.rest, length-map h.rest slot_of)
 
-  pub filled_entries : All (λ e. e.slot < length opened + length closed) opened → All (λ j. j < length opened + length closed) closed → AreEntries entries n
-  filled_entries front back = record {
+  pub filled_entries : All (λ e. e.slot < length opened + length closed) opened → All (λ j. j < length opened + length closed) closed → (index : List (Option Known)) → length index ≡ length opened + length closed → AreEntries entries n index
+  filled_entries front back index same = record {
     opened_within = omega (arith, count, filled_long);
     slots_within =
         subst (λ (k : ℕ). All (λ e. e.slot < k) entries) (sym filled_long)
         (subst (λ (es : List Entry). All (λ e. e.slot < length opened + length closed) es) (sym h.are)
         (All-append (λ e. e.slot < length opened + length closed) opened h.rest front
         (slots_below h.rest (length opened + length closed) (subst (λ (js : List ℕ). All (λ j. j < length opened + length closed) js) (sym h.slots_are) back))));
+    indexed = same ∙ sym filled_long;
   }

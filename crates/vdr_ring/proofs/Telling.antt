@@ -1,5 +1,5 @@
 -- What a ring's table tells of its segments, at each step of an append.
-use Rattle.std.proofs.Common.{◌≡◌, ◌≢◌, ◌⊎◌, ◌<◌, ◌-◌, ℕ, suc, List, [], ◌∷◌, ◌++◌, length, slice_get, All, Contains, Option, Some, None, inl, inr, ⊎_elim, refl, sym, ap, ◌∙◌, subst, arith}
+use Rattle.std.proofs.Common.{◌≡◌, ◌≢◌, ◌⊎◌, ◌<◌, ◌-◌, ◌^◌, ℕ, suc, List, [], ◌∷◌, ◌++◌, length, set, slice_get, All, Contains, Option, Some, None, inl, inr, ⊎_elim, refl, sym, ap, ◌∙◌, subst, arith}
 use Rattle.std.specs.Prelude.{Any, remove}
 use Rattle.std.proofs.lemmas.Bool.{cases_eq, false≢true}
 use Rattle.std.proofs.lemmas.Option.{none-some, same_Some, slice_get_within}
@@ -12,12 +12,14 @@ use Rattle.vdr_segment.specs.Segments.{Segment}
 use Rattle.vdr_survey.specs.declared.extent.Survey.{Survey}
 use Rattle.vdr_survey.specs.Surveys.{Surveys}
 use Rattle.vdr_ring.specs.declared.entry.Entry.{Entry}
-use Rattle.vdr_ring.specs.Sequence.{Placed, first_of, batches_of, AreInSequence}
+use Rattle.vdr_ring.specs.Sequence.{Placed, first_of, batches_of, records_of, AreInSequence}
 use Rattle.vdr_ring.specs.Entries.{Describes, Describe}
 use Rattle.vdr_ring.specs.Tables.{TableState, slot_of, begun_entry}
 use Rattle.vdr_ring.specs.Rings.{Ascends, Tells}
 use Rattle.vdr_ring.specs.Stages.{IsLeastClosed, new_segment, with_batch_in}
+use Rattle.vdr_ring.specs.Indexed.{known_by, told_by}
 use Rattle.vdr_ring.proofs.Placing.{distinct_slots}
+use Rattle.vdr_ring.proofs.Filing.{indexed_closed, indexed_begun, indexed_newest, known_as}
 
 -- Lists
 
@@ -154,8 +156,8 @@ least_closed count placed t slot tells first =
 
 pub tells_closed : (count : ℕ) (slots : List (Option Segment)) (before : List Placed) (v : Placed) (after : List Placed) (t u : TableState) → Tells count (before ++ v ∷ after) t → length t.closed ≡ 0
     → AreInSequence slots (before ++ v ∷ after) → length slots ≡ count → u.opened ≡ remove t.opened (length before) → ((e : Entry) → slice_get t.opened (length before) ≡ Some e → u.closed ≡ slot_of e ∷ [])
-    → Tells count (before ++ after) u × (slice_get u.closed 0 ≡ Some v.slot)
-tells_closed count slots before v after t u tells full sequence every opened closed = (
+    → ((e : Entry) → slice_get t.opened (length before) ≡ Some e → u.index ≡ set t.index (slot_of e) None) → Tells count (before ++ after) u × (slice_get u.closed 0 ≡ Some v.slot)
+tells_closed count slots before v after t u tells full sequence every opened closed cleared = (
   record {
     opened = subst (Describe (before ++ after)) (sym opened) a.others;
     closed = λ j. (
@@ -170,6 +172,7 @@ tells_closed count slots before v after t u tells full sequence every opened clo
     );
     ascends = subst Ascends (sym is) (All-nil (λ k. v.slot < k), tt);
     total = let i = slice_get_within t.opened (length before) a.entry a.at in let k = length-remove t.opened (length before) i in let l = ap length opened in let m = ap length is in omega (arith, k, l, m, full, tells.total);
+    index = indexed_closed count before v after t.index u.index others (cleared a.entry a.at ∙ ap (λ (n : ℕ). set t.index n None) a.described.slot) tells.index;
   },
   ap (λ (xs : List ℕ). slice_get xs 0) is,
 )
@@ -207,12 +210,13 @@ describes_new slot seq first = record {
   seq = refl;
   first = refl;
   summarized = (λ f. absurd (false≢true f), λ some. absurd (some refl));
-  survey = record { end = refl; extent = refl; in_order = (λ f. (tt, tt), λ f. refl) };
+  survey = record { end = refl; extent = refl; in_order = (λ f. (tt, tt), λ f. refl); summary = refl };
 }
 
 pub tells_begun : (count : ℕ) (closed : List Placed) (slot seq first : ℕ) (rest : List ℕ) (t u : TableState) → Tells count closed t → t.closed ≡ slot ∷ rest
-    → u.opened ≡ t.opened ++ begun_entry slot seq first ∷ [] → u.closed ≡ rest → Tells count (closed ++ new_segment slot seq first ∷ []) u
-tells_begun count closed slot seq first rest t u tells is opened less = record {
+    → u.opened ≡ t.opened ++ begun_entry slot seq first ∷ [] → u.closed ≡ rest → u.index ≡ t.index
+    → Tells count (closed ++ new_segment slot seq first ∷ []) u
+tells_begun count closed slot seq first rest t u tells is opened less same = record {
   opened = subst (Describe (closed ++ new_segment slot seq first ∷ [])) (sym opened) (described_push closed t.opened (new_segment slot seq first) (begun_entry slot seq first) tells.opened (describes_new slot seq first));
   closed = λ j. (
     λ m.
@@ -231,16 +235,18 @@ tells_begun count closed slot seq first rest t u tells is opened less = record {
   );
   ascends = subst Ascends (sym less) ascends.1;
   total = let a = ap length is in let b = ap length opened in let c = ap length less in let d = length_push t.opened (begun_entry slot seq first) in omega (arith, a, b, c, d, tells.total);
+  index = indexed_begun count closed (new_segment slot seq first) t.index u.index ((tells.closed slot).0 (subst (λ (xs : List ℕ). Contains xs slot) (sym is) (contains_here slot rest))).1 refl same tells.index;
 }
   where
     ascends : Ascends (slot ∷ rest)
     ascends = subst Ascends is tells.ascends
 
-pub tells_done : (count : ℕ) (older : List Placed) (newest : Placed) (records : List Record) (t u : TableState) (e : Entry) (survey : Survey) → Tells count (older ++ newest ∷ []) t → last t.opened ≡ Some e
+pub tells_done : (count : ℕ) (slots : List (Option Segment)) (older : List Placed) (newest : Placed) (records : List Record) (t u : TableState) (e : Entry) (survey : Survey) → AreInSequence slots (older ++ newest ∷ [])
+    → length slots ≡ count → length (records_of (with_batch_in newest records)) < 2 ^ 32 → Tells count (older ++ newest ∷ []) t → last t.opened ≡ Some e
     → Surveys (first_of newest) (batches_of newest ++ records ∷ []) survey
     → ((entries : List Entry) (x : Entry) → t.opened ≡ entries ++ x ∷ [] → u.opened ≡ entries ++ (record x { survey = survey }) ∷ []) → u.closed ≡ t.closed
-    → Tells count (older ++ with_batch_in newest records ∷ []) u
-tells_done count older newest records t u e survey tells is more opened closed = record {
+    → ((e : Entry) → last t.opened ≡ Some e → u.index ≡ set t.index e.slot (known_by e.seq e.first survey.summary)) → Tells count (older ++ with_batch_in newest records ∷ []) u
+tells_done count slots older newest records t u e survey sequence every few tells is more opened closed set_known = record {
   opened = subst (Describe (older ++ with_batch_in newest records ∷ [])) (sym (opened b.entries e b.split)) (described_push older b.entries (with_batch_in newest records) (record e { survey = survey }) b.each described);
   closed = λ j. (
     λ m. let k = (tells.closed j).0 (subst (λ (xs : List ℕ). Contains xs j) closed m) in (k.0, moved older j k.1),
@@ -250,6 +256,8 @@ tells_done count older newest records t u e survey tells is more opened closed =
   total =
       let a = ap length (opened b.entries e b.split) in let c = ap length closed in let d = length_push b.entries e in let f = length_push b.entries (record e { survey = survey }) in let g = ap length b.split in
       omega (arith, a, c, d, f, g, tells.total);
+  index = indexed_newest count older newest (with_batch_in newest records) t.index u.index (told_by (record e { survey = survey })) refl within (distinct_slots slots older newest [] sequence).0
+      (known_as (with_batch_in newest records) (record e { survey = survey }) described few) (set_known e is ∙ ap (λ (n : ℕ). set t.index n (known_by e.seq e.first survey.summary)) of_newest.slot) tells.index;
 }
   where
     b : AreBefore older t.opened e
@@ -263,6 +271,12 @@ tells_done count older newest records t u e survey tells is more opened closed =
 
     described : Describes (with_batch_in newest records) (record e { survey = survey })
     described = record { slot = of_newest.slot; seq = of_newest.seq; first = of_newest.first; summarized = of_newest.summarized; survey = more }
+
+    within : newest.slot < count
+    within =
+        let k = slice_get_within slots newest.slot (Some newest.segment)
+        (All-contains (λ p. slice_get slots p.slot ≡ Some (Some p.segment)) (older ++ newest ∷ []) newest sequence.there (Contains-append_right older (newest ∷ []) newest (contains_here newest []))) in
+        omega (arith, k, every)
 
     moved : (ps : List Placed) (j : ℕ) → All (λ p. p.slot ≢ j) (ps ++ newest ∷ []) → All (λ p. p.slot ≢ j) (ps ++ with_batch_in newest records ∷ [])
     moved ps j h = All-push (λ p. p.slot ≢ j) ps (with_batch_in newest records)

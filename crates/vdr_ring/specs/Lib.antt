@@ -6,6 +6,7 @@ pub mod Candidates
 pub mod Tables
 pub mod Rings
 pub mod Lookup
+pub mod Indexed
 pub mod Stages
 pub mod Appends
 pub mod Regularity

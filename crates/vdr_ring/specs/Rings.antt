@@ -9,6 +9,7 @@ use Rattle.vdr_ring.specs.Sequence.{Placed, AreInSequence}
 use Rattle.vdr_ring.specs.Order.{AreInOrder}
 use Rattle.vdr_ring.specs.Tables.{TableState}
 use Rattle.vdr_ring.specs.Entries.{Describe}
+use Rattle.vdr_ring.specs.Indexed.{IsIndexed}
 
 -- A ring: where the slots of its medium stand, its window in seconds, its table, and the slot that its buffer holds.
 pub record RingState : Type 0 where
@@ -40,12 +41,13 @@ abbrev pub Ascends : List ℕ → Type 0
 Ascends [] = ⊤
 Ascends (j ∷ js) = All (λ k. j < k) js × Ascends js
 
--- The table tells of these segments, and of the slots that hold none.
+-- The table tells of these segments, with what its index knows of them, and of the slots that hold none.
 pub record Tells (count : ℕ) (placed : List Placed) (table : TableState) : Type 0 where
   pub opened : Describe placed table.opened
   pub closed : (j : ℕ) → Contains table.closed j ↔ ((j < count) × All (λ p. p.slot ≢ j) placed)
   pub ascends : Ascends table.closed
   pub total : length table.opened + length table.closed ≡ count
+  pub index : IsIndexed count placed table.index
 
 module _ {tells tells_images : Type 0} where
   -- The ring's medium reads as these segments, in a legal order, a stop leaves it so, and the table tells of them.

@@ -11,6 +11,7 @@ ghost use Rattle.vdr_ring.specs.Fronts.{AreSlots, Finds};
 
 use crate::Ring;
 use crate::fronts::{Fronts, read_fronts};
+use crate::known::index_of;
 use crate::order::first_break;
 use crate::surveys::{sort_by_seq, survey_all};
 use crate::table::Table;
@@ -89,8 +90,8 @@ impl Ring {
     ///
     /// `Damaged` names the medium and the first part of it that is not legal, by where that begins, in bytes: first the slots,
     /// in their order, by their headers; then the segments, in order of sequence number, by their batches; then the segments
-    /// in that order by how each stands among the others (this project's profile). `NoMemory`: there was no room for the table
-    /// or for one segment. `Fault`: a read failed, and the count of faults of this medium rose.
+    /// in that order by how each stands among the others (this project's profile). `NoMemory`: there was no room for the table,
+    /// its index or one segment. `Fault`: a read failed, and the count of faults of this medium rose.
     pub fn open<M: Media>(
         alloc: Global,
         media: &mut M,
@@ -113,7 +114,10 @@ impl Ring {
             return Err(PartRefused::NoMemory);
         };
         let (Fronts { opened, closed }, loaded) = read_segments(alloc, media, area, &mut buffer)?;
-        let Ok(table) = Table::new(opened, &closed) else {
+        let Ok(index) = index_of(alloc, area.slots, &opened) else {
+            return Err(PartRefused::NoMemory);
+        };
+        let Ok(table) = Table::new(opened, &closed, index) else {
             return Err(PartRefused::NoMemory);
         };
         Ok(Ring {

@@ -1,4 +1,5 @@
 pub mod OrderLemmas
+pub mod JoinLemmas
 pub mod StretchLemmas
 pub mod SurveyLemmas
 pub mod SpanLemmas

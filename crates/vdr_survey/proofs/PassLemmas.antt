@@ -1,23 +1,21 @@
 -- Records that are passed by.
-use Rattle.std.proofs.Common.{◌≡◌, ◌≤◌, ◌<◌, ◌+◌, ◌-◌, ℕ, Bool, true, false, List, [], ◌∷◌, ◌++◌, length, take, drop, get_or, refl, ap, ◌∙◌, sym, subst, arith, append_assoc}
-use Rattle.std.specs.Prelude.{◌↔◌, All}
+use Rattle.std.proofs.Common.{◌≡◌, ◌≤◌, ◌<◌, ◌+◌, ◌-◌, ℕ, true, false, List, [], ◌∷◌, ◌++◌, length, take, drop, get_or, refl, ap, ◌∙◌, sym, subst, arith, append_assoc}
 use Rattle.std.proofs.lemmas.List.Elements.{All-nil, All-cons, All-append}
 use Rattle.vdr_terms.specs.Records.{Record}
-use Rattle.vdr_terms.specs.Sizes.{record_size}
 use Rattle.vdr_entry.specs.Reading.{Begins}
+use Rattle.vdr_index.specs.declared.span.Span.{Span}
+use Rattle.vdr_index.specs.declared.span.Span.TheVariants.{Window, Places}
 use Rattle.vdr_segment.specs.declared.step.Walk.{Walk}
 use Rattle.vdr_segment.specs.declared.step.Walk.TheVariants.{Batch, End, Broken}
 use Rattle.vdr_segment.specs.Walks.{Walks}
 use Rattle.vdr_survey.specs.declared.head.Head.{Head}
 use Rattle.vdr_survey.specs.declared.position.Position.{Position}
 use Rattle.vdr_survey.specs.declared.selection.Selection.{Selection}
-use Rattle.vdr_survey.specs.declared.selection.Span.{Span}
-use Rattle.vdr_survey.specs.declared.selection.Span.TheVariants.{Window as LastSeconds, Places}
 use Rattle.vdr_survey.specs.Positions.{IsAt, HasAhead, IsBrokenAt, StepsOver}
-use Rattle.vdr_survey.specs.Selections.{head_of, shown, span_as, is_selected, Passes, StartsSelected}
+use Rattle.vdr_survey.specs.Selections.{head_of, shown, is_selected, Passes, StartsSelected}
 use Rattle.vdr_survey.proofs.StepLemmas.{ahead_of_gate, batch_stands, end_ahead, none_ahead, step_within}
 use Rattle.vdr_survey.proofs.StretchLemmas.{some_begin}
-use Rattle.vdr_survey.proofs.StepLemmas.{Stands, span_length}
+use Rattle.vdr_survey.proofs.StepLemmas.{span_length}
 
 -- What is selected is told by the head
 
@@ -27,8 +25,8 @@ module _ (s : Selection) where
       ap (λ (x : Head). is_selected s (shown x)) e ∙ go s.span
     where
       go : (span : Span) → is_selected (record { span = span; query = s.query }) (shown (head_of r)) ≡ is_selected (record { span = span; query = s.query }) r
-      go (LastSeconds last seconds) = refl
-      go (Places first last) = refl
+      go (Window last seconds) = refl
+      go (Places a b) = refl
 
 -- One record, the gate of a batch, and one way after another
 

@@ -16,14 +16,16 @@ use Rattle.vdr_survey.specs.declared.head.Head.{Head}
 use Rattle.vdr_survey.specs.Selections.{head_of}
 use Rattle.vdr_survey.specs.declared.stretch.Mark.{Mark}
 use Rattle.vdr_survey.specs.declared.stretch.Stretch.{Stretch}
+use Rattle.vdr_entry.specs.declared.summary.Summary.{Summary}
+use Rattle.vdr_survey.specs.Summaries.{IsSummaryOf}
 use Rattle.vdr_survey.specs.Stretches.{mark_of, Follows, ComesTo}
 use Rattle.vdr_survey.proofs.OrderLemmas.{last_join, order_join, order_split, order_alone}
 
 -- One record more
 
-pub stretch_more : (records : List Record) (r : Record) (s : Stretch) (mark : Mark) (b : Bool) → ComesTo records s → mark ≡ mark_of r → (IsTrue b ↔ (IsTrue s.in_order × Follows s.last mark))
-    → ComesTo (records ++ r ∷ []) (record { first = s.first; last = mark; in_order = b })
-stretch_more records r s mark b c is tells =
+pub stretch_more : (records : List Record) (r : Record) (s : Stretch) (mark : Mark) (b : Bool) (t : Summary) → ComesTo records s → mark ≡ mark_of r → (IsTrue b ↔ (IsTrue s.in_order × Follows s.last mark))
+    → IsSummaryOf (records ++ r ∷ []) t → ComesTo (records ++ r ∷ []) (record { first = s.first; last = mark; in_order = b; summary = t })
+stretch_more records r s mark b t c is tells summary =
     let follows : Follows s.last mark ≡ Follows (mark_of (last_after c.head c.tail)) (mark_of r) =
     ap (λ (m : Mark). Follows m mark) c.newest ∙ ap (λ (m : Mark). Follows (mark_of (last_after c.head c.tail)) m) is in
     record {
@@ -36,6 +38,7 @@ stretch_more records r s mark b c is tells =
         λ h. let t = tells.0 h in order_join _ _ c.head c.tail r [] (c.in_order.0 t.0) (subst (λ (A : Type 0). A) follows t.1) (order_alone r),
         λ o. let p = order_split _ _ c.head c.tail r [] o in tells.1 (c.in_order.1 p.0, subst (λ (A : Type 0). A) (sym follows) p.1),
       );
+      summary = summary;
     }
 
 -- so many of a list, and one more

@@ -1,6 +1,7 @@
 -- What batches come to, one more at a time.
-use Rattle.std.proofs.Common.{◌≡◌, ◌+◌, ℕ, List, [], ◌∷◌, ◌++◌, take, refl, ap, ◌∙◌, sym, subst, arith, Bool, IsTrue, Option, Some, inl, inr}
+use Rattle.std.proofs.Common.{◌≡◌, ◌+◌, ℕ, List, [], ◌∷◌, ◌++◌, take, refl, ap, ◌∙◌, sym, subst, arith, Bool, true, false, IsTrue, Option, Some, inl, inr}
 use Rattle.std.specs.Prelude.{◌↔◌, ◌⊎◌, slice_get}
+use Rattle.std.proofs.lemmas.Bool.{false≢true}
 use Rattle.std.proofs.lemmas.Grind.{flat_map-append}
 use Rattle.std.proofs.lemmas.List.{append-nil}
 use Rattle.std.proofs.lemmas.List.Sums.{sum_by_push}
@@ -10,10 +11,13 @@ use Rattle.vdr_survey.specs.declared.extent.Extent.{Extent}
 use Rattle.vdr_survey.specs.declared.extent.Survey.{Survey}
 use Rattle.vdr_survey.specs.declared.stretch.Mark.{Mark}
 use Rattle.vdr_survey.specs.declared.stretch.Stretch.{Stretch}
+use Rattle.vdr_entry.specs.declared.summary.Summary.{Summary}
+use Rattle.vdr_survey.specs.Summaries.{IsSummaryOf, Summarises}
 use Rattle.vdr_survey.specs.Extents.{records_in, first_records, extent_between, extent_of}
 use Rattle.vdr_survey.specs.Stretches.{mark_of, AreInOrderFrom, GoesOn, grown, ComesTo}
 use Rattle.vdr_survey.specs.Surveys.{Surveys}
 use Rattle.vdr_survey.proofs.OrderLemmas.{last_join, order_join, order_split, order_from, order_own}
+use Rattle.vdr_survey.proofs.JoinLemmas.{one_summarised}
 
 -- The records of batches, and the first of each
 
@@ -100,10 +104,11 @@ order_more first batches head tail before there all = elim (none_or_some batches
 
 -- A batch more
 
-pub surveys_more : (first : ℕ) (batches : List (List Record)) (records : List Record) (s : Survey) (t : Stretch) (end : ℕ) (e : Extent) (b : Bool) → Surveys first batches s → ComesTo records t → end ≡ s.end + batch_size records
+pub surveys_more : (first : ℕ) (batches : List (List Record)) (records : List Record) (s : Survey) (t : Stretch) (end : ℕ) (e : Extent) (b : Bool) (m : Summary) → Surveys first batches s → ComesTo records t → end ≡ s.end + batch_size records
     → e ≡ grown s.extent t.first t.last → (IsTrue b ↔ (IsTrue s.in_order × GoesOn first s.extent t.first × IsTrue t.in_order))
-    → Surveys first (batches ++ records ∷ []) (record { end = end; extent = Some e; in_order = b })
-surveys_more first batches records s t end e b v c end_is e_is tells = subst (λ (rs : List Record). Surveys first (batches ++ rs ∷ []) (record { end = end; extent = Some e; in_order = b })) (sym c.are) (record {
+    → ((xs ys : List Record) → Summarises xs s.summary → IsSummaryOf ys t.summary → IsSummaryOf (xs ++ ys) m)
+    → Surveys first (batches ++ records ∷ []) (record { end = end; extent = Some e; in_order = b; summary = Some m })
+surveys_more first batches records s t end e b m v c end_is e_is tells gathers = subst (λ (rs : List Record). Surveys first (batches ++ rs ∷ []) (record { end = end; extent = Some e; in_order = b; summary = Some m })) (sym c.are) (record {
   end = omega (arith, end_is, v.end, ap batch_size c.are, sum_by_push batch_size batches (c.head ∷ c.tail));
   extent = ap (λ (x : Extent). Some x) (e_is ∙ ap (λ (o : Option Extent). grown o t.first t.last) v.extent ∙ ap (λ (m : Mark). grown (extent_of batches) m t.last) c.first
       ∙ ap (λ (m : Mark). grown (extent_of batches) (mark_of c.head) m) c.newest)
@@ -115,4 +120,21 @@ surveys_more first batches records s t end e b v c end_is e_is tells = subst (λ
         whole = subst (λ (m : Mark). IsTrue b ↔ (IsTrue s.in_order × GoesOn first (extent_of batches) m × IsTrue t.in_order)) c.first
             (subst (λ (o : Option Extent). IsTrue b ↔ (IsTrue s.in_order × GoesOn first o t.first × IsTrue t.in_order)) v.extent tells);
       }));
+  summary = subst (λ (rs : List Record). IsSummaryOf rs m) (sym (records_in_more batches (c.head ∷ c.tail)))
+      (gathers (records_in batches) (c.head ∷ c.tail) v.summary (subst (λ (rs : List Record). IsSummaryOf rs t.summary) c.are c.summary));
 })
+
+-- Batches have one survey
+
+same_test : {P : Type 0} (a b : Bool) → IsTrue a ↔ P → IsTrue b ↔ P → a ≡ b
+same_test true true p q = refl
+same_test true false p q = absurd (false≢true (q.1 (p.0 refl)))
+same_test false true p q = absurd (false≢true (p.1 (q.0 refl)))
+same_test false false p q = refl
+
+pub one_survey : (first : ℕ) (batches : List (List Record)) (s t : Survey) → Surveys first batches s → Surveys first batches t → s ≡ t
+one_survey first batches s t v w = by_fields s t (v.end ∙ sym w.end) (v.extent ∙ sym w.extent) (same_test s.in_order t.in_order v.in_order w.in_order)
+    (one_summarised (records_in batches) s.summary t.summary v.summary w.summary)
+  where
+    by_fields : (s t : Survey) → s.end ≡ t.end → s.extent ≡ t.extent → s.in_order ≡ t.in_order → s.summary ≡ t.summary → s ≡ t
+    by_fields s t a b c d = λ i. record { end = a i; extent = b i; in_order = c i; summary = d i }

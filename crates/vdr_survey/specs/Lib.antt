@@ -1,5 +1,6 @@
 -- What the batches of a segment come to, and the records ahead of a reader.
 pub mod Extents
+pub mod Summaries
 pub mod Surveys
 pub mod Stretches
 pub mod Positions

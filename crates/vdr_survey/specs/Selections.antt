@@ -3,21 +3,13 @@ use Rattle.std.specs.Prelude.{◌≡◌, ◌↔◌, ℕ, Bool, true, false, List
 use Rattle.vdr_terms.specs.Records.{Record}
 use Rattle.vdr_terms.specs.Records.Content.{Start}
 use Rattle.vdr_terms.specs.Sizes.{record_size}
-use Rattle.vdr_terms.specs.Queries.Span.{Window, Places as AtPlaces}
 use Rattle.vdr_terms.specs.Queries.{in_span, matches}
-use Rattle.vdr_terms.specs.Queries as queries
 use Rattle.vdr_entry.specs.Queries.{asked}
+use Rattle.vdr_index.specs.Indexes.{span_as}
 use Rattle.vdr_survey.specs.declared.head.Head.{Head}
 use Rattle.vdr_survey.specs.declared.position.Position.{Position}
 use Rattle.vdr_survey.specs.declared.selection.Selection.{Selection}
-use Rattle.vdr_survey.specs.declared.selection.Span.{Span}
-use Rattle.vdr_survey.specs.declared.selection.Span.TheVariants.{Window as LastSeconds, Places}
 use Rattle.vdr_survey.specs.Positions.{IsAt, HasAhead, IsBrokenAt}
-
--- What the values of the Rust type `Span` say.
-abbrev pub span_as : Span → queries.Span
-span_as (LastSeconds last seconds) = Window last seconds
-span_as (Places first last) = AtPlaces first last
 
 -- The record is of the span, and the query selects it.
 abbrev pub is_selected : Selection → Record → Bool

@@ -5,6 +5,7 @@ use Rattle.vdr_terms.specs.Order.{RunOn, NeverFalls}
 use Rattle.vdr_survey.specs.declared.extent.Extent.{Extent}
 use Rattle.vdr_survey.specs.declared.stretch.Mark.{Mark}
 use Rattle.vdr_survey.specs.declared.stretch.Stretch.{Stretch}
+use Rattle.vdr_survey.specs.Summaries.{IsSummaryOf}
 
 -- What is kept of a record.
 abbrev pub mark_of : Record → Mark
@@ -45,3 +46,4 @@ pub record ComesTo (records : List Record) (stretch : Stretch) : Type 0 where
   pub first : stretch.first ≡ mark_of head
   pub newest : stretch.last ≡ mark_of (last_after head tail)
   pub in_order : IsTrue stretch.in_order ↔ AreInOrderFrom head.place head.tick (head ∷ tail)
+  pub summary : IsSummaryOf records stretch.summary

@@ -9,12 +9,14 @@ use Rattle.vdr_segment.specs.Walks.{Walks}
 use Rattle.vdr_segment.specs.declared.step.Walk.TheVariants.{Broken}
 use Rattle.vdr_survey.specs.declared.extent.Survey.{Survey}
 use Rattle.vdr_survey.specs.Extents.{records_in, extent_of}
+use Rattle.vdr_survey.specs.Summaries.{Summarises}
 
 -- The survey is that of these batches of a segment whose first place is `first`.
 pub record Surveys (first : ℕ) (batches : List (List Record)) (survey : Survey) : Type 0 where
   pub end : survey.end ≡ 64 + sum_by batch_size batches
   pub extent : survey.extent ≡ extent_of batches
   pub in_order : IsTrue survey.in_order ↔ (RunOn first (records_in batches) × NeverFalls 0 (records_in batches))
+  pub summary : Summarises (records_in batches) survey.summary
 
 -- The first batch of a segment that is not legal is at this offset: legal batches stand before it, and there an open gate
 -- and no batch.

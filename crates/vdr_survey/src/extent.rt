@@ -5,7 +5,8 @@ ghost use Rattle.vdr_survey.specs.Stretches.{ComesTo, GoesOn, grown};
 ghost use Rattle.vdr_survey.specs.Surveys.{Surveys};
 
 use crate::stretch::{Mark, Stretch, stretch_of};
-use vdr_entry::Record;
+use crate::summary::grown_summary;
+use vdr_entry::{Record, Summary};
 use vdr_segment::{BATCH_HEAD, HEADER_SIZE};
 
 /// From where to where the records of some batches reach.
@@ -44,6 +45,8 @@ pub struct Survey {
     pub extent: Option<Extent>,
     /// Places run on from the segment's first place, and ticks never fall.
     pub in_order: bool,
+    /// What the records have in common. None where there is no record. Its count is at most 2^32 - 1, also where there are more.
+    pub summary: Option<Summary>,
 }
 
 // How many bytes the records take.
@@ -88,6 +91,7 @@ impl Survey {
             end: HEADER_SIZE,
             extent: None,
             in_order: true,
+            summary: None,
         }
     }
 
@@ -120,6 +124,7 @@ impl Survey {
             end,
             extent: Some(grown(self.extent, stretch)),
             in_order: self.goes_on_with(first, stretch),
+            summary: Some(grown_summary(self.summary, stretch.summary)),
         }
     }
 }

@@ -9,12 +9,13 @@ mod position;
 mod selection;
 mod stepping;
 mod stretch;
+mod summary;
 mod surveying;
 
 pub use extent::{Extent, Survey};
 pub use law::{law_of_positions, law_of_surveys};
 pub use passing::pass_by;
 pub use position::Position;
-pub use selection::{Selection, Span};
+pub use selection::Selection;
 pub use stepping::step;
 pub use surveying::survey;

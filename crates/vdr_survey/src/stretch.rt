@@ -3,10 +3,12 @@ ghost use Rattle.vdr_terms.specs.Records.{Record as Entry};
 ghost use Rattle.vdr_terms.specs.Sizes.{record_size};
 ghost use Rattle.vdr_entry.specs.Reading.{Begins};
 ghost use Rattle.vdr_segment.specs.Batches.{AreRecords};
+ghost use Rattle.vdr_survey.specs.Summaries.{IsSummaryOf};
 ghost use Rattle.vdr_survey.specs.Stretches.{mark_of, Follows, ComesTo};
 
 use crate::head::head_at;
-use vdr_entry::Record;
+use crate::summary::{joined_summary, summary_of_one};
+use vdr_entry::{Record, Summary};
 
 /// What is kept of a record: its place, its tick in milliseconds, and its stamp in milliseconds since 1970.
 #[derive(Clone, Copy, Drop)]
@@ -31,26 +33,31 @@ pub(crate) struct Stretch {
     pub(crate) last: Mark,
     /// Places run on from the first one, and ticks never fall.
     pub(crate) in_order: bool,
+    pub(crate) summary: Summary,
 }
 
 impl Stretch {
-    fn one(mark: Mark) -> Stretch
-        ensures { (r : Entry) → mark ≡ mark_of r → ComesTo (r ∷ []) result }
+    fn one(mark: Mark, summary: Summary) -> Stretch
+        ensures { (r : Entry) → mark ≡ mark_of r → IsSummaryOf (r ∷ []) summary → ComesTo (r ∷ []) result }
     {
         Stretch {
             first: mark,
             last: mark,
             in_order: true,
+            summary,
         }
     }
 
-    fn with(self, mark: Mark) -> Stretch
-        ensures { (records : List Entry) (r : Entry) → ComesTo records self → mark ≡ mark_of r → ComesTo (records ++ r ∷ []) result }
+    // With one record more, of which this is kept and which by itself has this summary.
+    fn with(self, mark: Mark, summary: Summary) -> Stretch
+        ensures { (records : List Entry) (r : Entry) → ComesTo records self → mark ≡ mark_of r → IsSummaryOf (r ∷ []) summary → ComesTo (records ++ r ∷ []) result }
     {
+        let summary = joined_summary(self.summary, summary);
         Stretch {
             first: self.first,
             last: mark,
             in_order: self.in_order && mark.follows(self.last),
+            summary,
         }
     }
 }
@@ -65,23 +72,30 @@ fn mark_of(item: &Record) -> Mark
     }
 }
 
+fn summary_of(item: &Record) -> Summary
+    ensures { IsSummaryOf (item.now ∷ []) result }
+{
+    summary_of_one(item.tick, item.utc, item.bits)
+}
+
 /// What these records, at least one, come to.
 pub(crate) fn stretch_of(records: &[Record]) -> Stretch
     requires { 0 < length records.now }
     ensures { ComesTo records.now result }
 {
     let (first, others) = (&records[0], &records[1..]);
-    let mut stretch = Stretch::one(mark_of(first));
+    let mut stretch = Stretch::one(mark_of(first), summary_of(first));
     for item in others {
-        stretch = stretch.with(mark_of(item));
+        stretch = stretch.with(mark_of(item), summary_of(item));
     }
     stretch
 }
 
-// What is kept of the record at the front of the bytes, and how many bytes it takes. That there is one is not asked again.
-fn mark_at(bytes: &[u8]) -> (Mark, usize)
+// What is kept of the record at the front of the bytes, its summary, and how many bytes it takes. That there is one is not
+// asked again.
+fn mark_at(bytes: &[u8]) -> (Mark, Summary, usize)
     requires { (r : Entry) × (rest : List ℕ) × Begins bytes.now r rest }
-    ensures { (r : Entry) × (rest : List ℕ) × Begins bytes.now r rest × (result.0 ≡ mark_of r) × (result.1 ≡ record_size r) }
+    ensures { (r : Entry) × (rest : List ℕ) × Begins bytes.now r rest × (result.0 ≡ mark_of r) × IsSummaryOf (r ∷ []) result.1 × (result.2 ≡ record_size r) }
 {
     let head = head_at(bytes);
     let mark = Mark {
@@ -89,7 +103,8 @@ fn mark_at(bytes: &[u8]) -> (Mark, usize)
         tick: head.tick,
         utc: head.utc,
     };
-    (mark, head.size)
+    let summary = summary_of_one(head.tick, head.utc, head.bits);
+    (mark, summary, head.size)
 }
 
 /// What the records in the bytes, at least one, come to.
@@ -98,12 +113,12 @@ pub(crate) fn stretch_in(bytes: &[u8]) -> Stretch
     requires legal { (records : List Entry) × AreRecords bytes.now records }
     ensures { (records : List Entry) × AreRecords bytes.now records × ComesTo records result }
 {
-    let (first, size) = mark_at(bytes);
-    let mut stretch = Stretch::one(first);
+    let (first, summary, size) = mark_at(bytes);
+    let mut stretch = Stretch::one(first, summary);
     let mut rest = &bytes[size..];
     while !rest.is_empty() {
-        let (mark, size) = mark_at(rest);
-        stretch = stretch.with(mark);
+        let (mark, summary, size) = mark_at(rest);
+        stretch = stretch.with(mark, summary);
         rest = &rest[size..];
     }
     stretch

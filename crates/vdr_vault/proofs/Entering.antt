@@ -1,16 +1,21 @@
--- The segment after the one in which a cursor stands.
-use Rattle.std.proofs.Common.{◌≡◌, inl, inr, ⊎_elim, ◌<◌, ◌≤◌, ℕ, List, [], ◌∷◌, ◌++◌, Option, Some, None, refl, sym, ap, ◌∙◌, subst, arith, append_assoc}
-use Rattle.std.specs.Prelude.{Contains}
-use Rattle.std.proofs.lemmas.List.Elements.{Contains-append_right, Contains-append_cases}
+-- The next segment that may have a record that a query selects.
+use Rattle.std.proofs.Common.{◌≡◌, inl, inr, ⊎_elim, ◌<◌, ℕ, false, List, [], ◌∷◌, ◌++◌, Option, Some, None, refl, sym, ap, ◌∙◌, subst, arith, append_assoc}
+use Rattle.std.specs.Prelude.{All, Contains}
+use Rattle.std.proofs.lemmas.Bool.{cond-false}
+use Rattle.std.proofs.lemmas.List.Elements.{All-head, All-tail, Contains-append_left, Contains-append_right, Contains-append_cases, filter-append}
 use Rattle.std.proofs.lemmas.Option.{none-some}
 use Rattle.vdr_terms.specs.Records.{Record}
+use Rattle.vdr_terms.specs.Queries.{Query, Span}
+use Rattle.vdr_playback.specs.Playback.{found}
 use Rattle.vdr_retention.proofs.Lists.{none_contained, contains_here, contains_there, contains_cases}
 use Rattle.vdr_ring.specs.Sequence.{Placed, seq_of, records_of, all_records}
 use Rattle.vdr_ring.specs.Order.{AreInPlace, AreInOrder}
-use Rattle.vdr_ring.specs.Lookup.{IsAbove, IsNext}
+use Rattle.vdr_ring.specs.Lookup.{IsAbove}
+use Rattle.vdr_ring.specs.Indexed.{HasNoneSelected, is_selected}
 use Rattle.vdr_ring.specs.Cursors as visits
 use Rattle.vdr_vault.specs.declared.cursor.Standing.{Standing}
-use Rattle.vdr_vault.specs.Walks.{CursorState, Slots, IsWithin, IsBefore, IsBehind, AreAhead, AreBehind, seq_in}
+use Rattle.vdr_vault.specs.Walks.{CursorState, Slots, IsWithin, IsBefore, IsBehind, AreAhead, AreLeft, AreLeftBehind, seq_in}
+use Rattle.vdr_vault.proofs.CommitStages.{records_append}
 
 -- Sequence numbers rise from segment to segment
 
@@ -34,43 +39,50 @@ below_own o (x ∷ xs) own later h p m =
     (λ (k : Contains xs p). below_own (Some x) xs own later h.1 p k)
     (contains_cases x xs p m)
 
--- These segments begin with this one.
-abbrev Begins : List Placed → Placed → Type 0
-Begins ps p = (rest : List Placed) × (ps ≡ p ∷ rest)
+-- A segment stands between those before it and those behind it.
+pub record StandsAmong (ps : List Placed) (p : Placed) : Type 0 where
+  pub before : List Placed
+  pub rest : List Placed
+  pub split : ps ≡ before ++ p ∷ rest
 
--- The first of these segments is the one of least sequence number.
-least_first : (ps : List Placed) (o : Option Placed) → AreInPlace o ps → (p : Placed) → Contains ps p → ((q : Placed) → Contains ps q → seq_of p ≤ seq_of q) → Begins ps p
-least_first [] o h p m least = absurd (none_contained p m)
-least_first (x ∷ xs) o h p m least =
+among : (ps : List Placed) (p : Placed) → Contains ps p → StandsAmong ps p
+among [] p m = absurd (none_contained p m)
+among (x ∷ xs) p m =
     ⊎_elim
-    (λ (e : x ≡ p). (xs, ap (λ (y : Placed). y ∷ xs) e))
-    (λ (k : Contains xs p). let a = rises_behind x xs h.1 p k in let b = least x (contains_here x xs) in absurd (omega (arith, a, b)))
+    (λ (e : x ≡ p). record { before = []; rest = xs; split = ap (λ (y : Placed). y ∷ xs) e })
+    (λ (k : Contains xs p). let a = among xs p k in record { before = x ∷ a.before; rest = a.rest; split = ap (λ (ys : List Placed). x ∷ ys) a.split })
     (contains_cases x xs p m)
 
-module _ (before : List Placed) (own : Placed) (later : List Placed) (order : AreInOrder (before ++ own ∷ later)) where
-  next_later : (p : Placed) → IsNext (Some (seq_of own)) (before ++ own ∷ later) p → Begins later p
-  next_later p next =
-      let behind = in_place_behind None before own later order in
-      let among = λ (q : Placed) (k : Contains later q). Contains-append_right before (own ∷ later) q (contains_there own later q k) in
-      ⊎_elim
-      (λ (k : Contains before p). let a = below_own None before own later order p k in let b = next.above in absurd (omega (arith, a, b)))
-      (λ (k : Contains (own ∷ later) p).
-      ⊎_elim
-      (λ (e : own ≡ p). let b = subst (λ (y : Placed). seq_of own < seq_of y) (sym e) next.above in absurd (omega (arith, b)))
-      (λ (m : Contains later p). least_first later (Some own) behind p m (λ q n. next.least q (among q n) (rises_behind own later behind q n)))
-      (contains_cases own later p k))
-      (Contains-append_cases before (own ∷ later) p next.there)
+-- What a query selects none of
 
-  none_later : ((p : Placed) → Contains (before ++ own ∷ later) p → seq_of own < seq_of p → ⊥) → later ≡ []
-  none_later none = go later (in_place_behind None before own later order) (λ p k. none p (Contains-append_right before (own ∷ later) p (contains_there own later p k)))
-    where
-      go : (ps : List Placed) → AreInPlace (Some own) ps → ((p : Placed) → Contains ps p → seq_of own < seq_of p → ⊥) → ps ≡ []
-      go [] h none = refl
-      go (x ∷ xs) h none = absurd (none x (contains_here x xs) h.0.follows.seq)
+module _ (query : Query) (span : Span) where
+  none_of_records : (rs : List Record) → All (λ r. is_selected query span r ≡ false) rs → found query (Some span) rs ≡ []
+  none_of_records [] h = refl
+  none_of_records (r ∷ rs) h =
+      cond-false (is_selected query span r) (r ∷ found query (Some span) rs) (found query (Some span) rs) (All-head (λ r. is_selected query span r ≡ false) r rs h)
+      ∙ none_of_records rs (All-tail (λ r. is_selected query span r ≡ false) r rs h)
 
-none_at_all : (placed : List Placed) → ((p : Placed) → Contains placed p → ⊥) → placed ≡ []
-none_at_all [] none = refl
-none_at_all (x ∷ xs) none = absurd (none x (contains_here x xs))
+  -- what is found in two parts, where none is found in the first
+  found_in_rest : (ahead passed rest : List Record) → ahead ≡ passed ++ rest → found query (Some span) passed ≡ [] → found query (Some span) ahead ≡ found query (Some span) rest
+  found_in_rest ahead passed rest split none =
+      ap (found query (Some span)) split ∙ filter-append (is_selected query span) passed rest ∙ ap (λ (rs : List Record). rs ++ found query (Some span) rest) none
+
+  none_of_segments : (ps : List Placed) → ((q : Placed) → Contains ps q → HasNoneSelected query span q) → found query (Some span) (all_records ps) ≡ []
+  none_of_segments [] h = refl
+  none_of_segments (p ∷ ps) h =
+      found_in_rest (all_records (p ∷ ps)) (records_of p) (all_records ps) refl (none_of_records (records_of p) (h p (contains_here p ps))) ∙ none_of_segments ps (λ q m. h q (contains_there p ps q m))
+
+-- a segment above the cursor's own is among the later ones
+in_later : (before : List Placed) (own : Placed) (later : List Placed) → AreInOrder (before ++ own ∷ later) → (p : Placed) → Contains (before ++ own ∷ later) p → seq_of own < seq_of p → Contains later p
+in_later before own later order p there above =
+    ⊎_elim
+    (λ (k : Contains before p). let a = below_own None before own later order p k in absurd (omega (arith, a, above)))
+    (λ (k : Contains (own ∷ later) p).
+    ⊎_elim
+    (λ (e : own ≡ p). let b = subst (λ (y : Placed). seq_of own < seq_of y) (sym e) above in absurd (omega (arith, b)))
+    (λ (m : Contains later p). m)
+    (contains_cases own later p k))
+    (Contains-append_cases before (own ∷ later) p there)
 
 -- What is ahead once it is entered, or where none is there
 
@@ -102,35 +114,72 @@ front_ahead slots placed before p rest c s ahead passed is stands slot seq new a
   );
 }
 
-pub entered_ahead : (slots : Slots) (placed : List Placed) (old new : CursorState) (s : Standing) (p : Placed) (ahead : List Record) → AreInOrder placed → AreBehind slots placed old ahead
-    → IsNext (seq_in old.standing) placed p → new.standing ≡ Some s → s.slot ≡ p.slot → s.seq ≡ seq_of p → new.visit.slot ≡ None → AreAhead slots placed new ahead
-entered_ahead slots placed old new s p ahead order behind next stands slot seq fresh = go old.standing behind.from next
-  where
-    go : (o : Option Standing) → IsBehind slots placed o old.visit ahead → IsNext (seq_in o) placed p → AreAhead slots placed new ahead
-    go None from next =
-        let b = least_first placed None order p next.there (λ q m. next.least q m tt) in
-        front_ahead slots placed [] p b.0 new s ahead behind.passed b.1 stands slot seq fresh (from ∙ ap all_records b.1) behind.split
-    go (Some t) from next =
-        let in_order = subst AreInOrder from.split order in
-        let here = subst (λ (n : ℕ). IsNext (Some n) placed p) (sym from.seq) next in
-        let b = next_later from.before from.own from.later in_order p (subst (λ (ps : List Placed). IsNext (Some (seq_of from.own)) ps p) from.split here) in
-        front_ahead slots placed (from.before ++ from.own ∷ []) p b.0 new s ahead behind.passed
-        (from.split ∙ ap (λ (ps : List Placed). from.before ++ from.own ∷ ps) b.1 ∙ sym (append_assoc from.before (from.own ∷ []) (p ∷ b.0)))
-        stands slot seq fresh (from.are ∙ ap all_records b.1) behind.split
+-- The next segment that meets is entered: those before it, behind the cursor's own, are passed over.
+module _ (query : Query) (span : Span) (slots : Slots) (placed : List Placed) (old : CursorState) (records : List Record) (order : AreInOrder placed) (left : AreLeftBehind slots placed query (Some span) old records) where
+  -- those before what is ahead
+  abbrev behind : List Record
+  behind = left.are_behind.passed
 
--- no segment is above
-pub none_ahead : (slots : Slots) (placed : List Placed) (c : CursorState) (ahead : List Record) → AreInOrder placed → AreBehind slots placed c ahead
-    → ((p : Placed) → Contains placed p → IsAbove (seq_in c.standing) (seq_of p) → ⊥) → AreAhead slots placed c ahead × (ahead ≡ [])
-none_ahead slots placed c ahead order behind none = (record { passed = behind.passed; split = behind.split; from = still c.standing behind.from }, empty c.standing behind.from none)
-  where
-    still : (o : Option Standing) → IsBehind slots placed o c.visit ahead → IsBefore slots placed o c.visit ahead
-    still None from = from
-    still (Some s) from = ([], from)
+  -- what is left at the front of a segment, where none is found in those that are passed over
+  left_at_front : (new : CursorState) (s : Standing) (before : List Placed) (p : Placed) (rest over : List Placed) → placed ≡ before ++ p ∷ rest → left.ahead ≡ all_records (over ++ p ∷ rest)
+      → found query (Some span) (all_records over) ≡ [] → new.standing ≡ Some s → s.slot ≡ p.slot → s.seq ≡ seq_of p → new.visit.slot ≡ None → AreLeft slots placed query (Some span) new records
+  left_at_front new s before p rest over whole ahead none stands slot seq fresh =
+      let parts : left.ahead ≡ all_records over ++ all_records (p ∷ rest) = ahead ∙ records_append over (p ∷ rest) in
+      record {
+        ahead = all_records (p ∷ rest);
+        are_ahead = front_ahead slots placed before p rest new s (all_records (p ∷ rest)) (behind ++ all_records over) whole stands slot seq fresh refl
+            (left.are_behind.split ∙ ap (λ (rs : List Record). behind ++ rs) parts ∙ sym (append_assoc behind (all_records over) (all_records (p ∷ rest))));
+        are = left.are ∙ found_in_rest query span left.ahead (all_records over) (all_records (p ∷ rest)) parts none;
+      }
 
-    empty : (o : Option Standing) → IsBehind slots placed o c.visit ahead → ((p : Placed) → Contains placed p → IsAbove (seq_in o) (seq_of p) → ⊥) → ahead ≡ []
-    empty None from none = from ∙ ap all_records (none_at_all placed (λ p m. none p m tt))
-    empty (Some s) from none =
-        from.are
-        ∙ ap all_records
-        (none_later from.before from.own from.later (subst AreInOrder from.split order)
-        (λ p m lt. none p (subst (λ (ps : List Placed). Contains ps p) (sym from.split) m) (subst (λ (n : ℕ). n < seq_of p) from.seq lt)))
+  pub entered_left : (new : CursorState) (s : Standing) (p : Placed) → Contains placed p → IsAbove (seq_in old.standing) (seq_of p)
+      → ((q : Placed) → Contains placed q → IsAbove (seq_in old.standing) (seq_of q) → seq_of q < s.seq → HasNoneSelected query span q) → new.standing ≡ Some s → s.slot ≡ p.slot → s.seq ≡ seq_of p
+      → new.visit.slot ≡ None → AreLeft slots placed query (Some span) new records
+  entered_left new s p there above none stands slot seq fresh = go old.standing left.are_behind.from above none
+    where
+      go : (o : Option Standing) → IsBehind slots placed o old.visit left.ahead → IsAbove (seq_in o) (seq_of p)
+          → ((q : Placed) → Contains placed q → IsAbove (seq_in o) (seq_of q) → seq_of q < s.seq → HasNoneSelected query span q) → AreLeft slots placed query (Some span) new records
+      go None from above none =
+          let a = among placed p there in
+          let in_order = subst AreInOrder a.split order in
+          let over : found query (Some span) (all_records a.before) ≡ [] = none_of_segments query span a.before (λ q m.
+          let lt = below_own None a.before p a.rest in_order q m in
+          none q (subst (λ (ps : List Placed). Contains ps q) (sym a.split) (Contains-append_left a.before (p ∷ a.rest) q m)) tt (omega (arith, lt, seq))) in
+          left_at_front new s a.before p a.rest a.before a.split (from ∙ ap all_records a.split) over stands slot seq fresh
+      go (Some t) from above none =
+          let in_order = subst AreInOrder from.split order in
+          let later : Contains from.later p = in_later from.before from.own from.later in_order p (subst (λ (ps : List Placed). Contains ps p) from.split there) (subst (λ (n : ℕ). n < seq_of p) (sym from.seq) above) in
+          let a = among from.later p later in
+          let behind_own = subst (AreInPlace (Some from.own)) a.split (in_place_behind None from.before from.own from.later in_order) in
+          let over : found query (Some span) (all_records a.before) ≡ [] = none_of_segments query span a.before (λ q m.
+          let lt = below_own (Some from.own) a.before p a.rest behind_own q m in
+          let in_rest : Contains (a.before ++ p ∷ a.rest) q = Contains-append_left a.before (p ∷ a.rest) q m in
+          let own_lt = rises_behind from.own (a.before ++ p ∷ a.rest) behind_own q in_rest in
+          none q
+          (subst (λ (ps : List Placed). Contains ps q) (sym from.split)
+          (Contains-append_right from.before (from.own ∷ from.later) q (contains_there from.own from.later q (subst (λ (ps : List Placed). Contains ps q) (sym a.split) in_rest))))
+          (subst (λ (n : ℕ). n < seq_of q) from.seq own_lt) (omega (arith, lt, seq))) in
+          left_at_front new s (from.before ++ from.own ∷ a.before) p a.rest a.before
+          (from.split ∙ ap (λ (ps : List Placed). from.before ++ from.own ∷ ps) a.split ∙ sym (append_assoc from.before (from.own ∷ a.before) (p ∷ a.rest)))
+          (from.are ∙ ap all_records a.split) over stands slot seq fresh
+
+  -- no segment above meets
+  pub none_left : ((q : Placed) → Contains placed q → IsAbove (seq_in old.standing) (seq_of q) → HasNoneSelected query span q) → AreLeft slots placed query (Some span) old records × (records ≡ [])
+  none_left none = (
+    record { ahead = left.ahead; are_ahead = record { passed = behind; split = left.are_behind.split; from = still old.standing left.are_behind.from }; are = left.are },
+    left.are ∙ empty old.standing left.are_behind.from none,
+  )
+    where
+      still : (o : Option Standing) → IsBehind slots placed o old.visit left.ahead → IsBefore slots placed o old.visit left.ahead
+      still None from = from
+      still (Some s) from = ([], from)
+
+      empty : (o : Option Standing) → IsBehind slots placed o old.visit left.ahead → ((q : Placed) → Contains placed q → IsAbove (seq_in o) (seq_of q) → HasNoneSelected query span q)
+          → found query (Some span) left.ahead ≡ []
+      empty None from none = ap (found query (Some span)) from ∙ none_of_segments query span placed (λ q m. none q m tt)
+      empty (Some t) from none =
+          let behind_own = in_place_behind None from.before from.own from.later (subst AreInOrder from.split order) in
+          ap (found query (Some span)) from.are
+          ∙ none_of_segments query span from.later (λ q m.
+          none q (subst (λ (ps : List Placed). Contains ps q) (sym from.split) (Contains-append_right from.before (from.own ∷ from.later) q (contains_there from.own from.later q m)))
+          (subst (λ (n : ℕ). n < seq_of q) from.seq (rises_behind from.own from.later behind_own q m)))

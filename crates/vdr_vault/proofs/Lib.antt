@@ -3,9 +3,9 @@ pub mod ShownPlaces
 pub mod ShownImages
 pub mod ShownHistory
 pub mod CommitPins
+pub mod CommitStages
 pub mod Entering
 pub mod Walking
-pub mod CommitStages
 pub mod ShownFronts
 pub mod CommitReady
 pub mod OpenCauses

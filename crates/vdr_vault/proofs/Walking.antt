@@ -5,8 +5,9 @@ use Rattle.std.proofs.lemmas.Bool.{cond-true, cond-false}
 use Rattle.std.proofs.lemmas.List.Elements.{All-head, All-tail}
 use Rattle.vdr_terms.specs.Records.{Record}
 use Rattle.vdr_entry.specs.Queries.{asked}
+use Rattle.vdr_index.specs.Indexes.{span_as}
 use Rattle.vdr_survey.specs.declared.selection.Selection.{Selection}
-use Rattle.vdr_survey.specs.Selections.{is_selected, span_as}
+use Rattle.vdr_survey.specs.Selections.{is_selected}
 use Rattle.vdr_ring.specs.Sequence.{Placed, all_records}
 use Rattle.vdr_ring.specs.Cursors.{Visits}
 use Rattle.vdr_ring.specs.Cursors as visits

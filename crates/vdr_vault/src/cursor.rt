@@ -1,15 +1,15 @@
-ghost use Rattle.std.specs.Prelude.{◌≡◌, ◌≢◌, ◌↔◌, ◌<◌, ◌++◌, ℕ, List, [], IfNone, IfSome, IsTrue, true, false, Some, None, Ok, Err, get_or, option_map};
+ghost use Rattle.std.specs.Prelude.{◌≡◌, ◌≢◌, ◌↔◌, ◌<◌, ◌++◌, ℕ, List, [], IfNone, IfSome, true, false, Some, None, Ok, Err, get_or, option_map};
 ghost use Rattle.vdr_terms.specs.Records.{Record as Entry};
 ghost use Rattle.vdr_outside.specs.Causes.{Rose};
 ghost use Rattle.vdr_ring.specs.Sequence.{Placed, all_records, records_of};
 ghost use Rattle.vdr_ring.specs.Order.{AreInOrder};
 ghost use Rattle.vdr_ring.specs.Rings.{HasMedium, Reads, Tells};
-ghost use Rattle.vdr_ring.specs.Lookup.{AreEarlier, IsAbove, IsFirstSince};
+ghost use Rattle.vdr_ring.specs.Lookup.{AreEarlier, IsFirstSince};
 ghost use Rattle.vdr_ring.specs.Cursors.{IsLoaded};
 ghost use Rattle.vdr_ring.specs.declared.refused.ReadRefused.TheVariants.{Fault as AFault, Damaged};
 ghost use Rattle.vdr_entry.specs.Queries.{asked};
-ghost use Rattle.vdr_survey.specs.Selections.{span_as};
-ghost use Rattle.vdr_vault.specs.Walks.{AreAhead, AreBehind, AreLeft, AreLeftBehind, CountsOn, GivesHere, GivesNext, HasRead, MayStep, Slots, segments_left, seq_in, slots_read};
+ghost use Rattle.vdr_index.specs.Indexes.{span_as};
+ghost use Rattle.vdr_vault.specs.Walks.{AreAhead, AreLeft, AreLeftBehind, CountsOn, GivesHere, GivesNext, HasRead, MayStep, Slots, segments_left, seq_in, slots_read};
 
 use std::marker::Model;
 use vdr_entry::Record;
@@ -118,39 +118,28 @@ impl Cursor {
         }
     }
 
-    // Whether it stands in no segment of this sequence number or a greater one.
-    fn is_below(&self, seq: u64) -> bool
-        ensures { IsTrue result ↔ IsAbove (seq_in self.now.standing) seq }
-    {
-        match self.standing {
-            Some(standing) => standing.seq < seq,
-            None => true,
-        }
-    }
-
-    // Goes to the front of the segment after the one in which it stands. False where none is there.
-    fn enter_next(&mut self, ring: &Ring) -> bool
+    // Goes to the front of the next segment, after the one in which it stands, that may have a record that is selected. False where
+    // none is there.
+    fn enter_next(&mut self, ring: &Ring, selection: &Selection) -> bool
         requires may { MayStep ring.now self.old }
         requires item { self.old.visit.item ≡ None }
         ensures may { MayStep ring.now self.new }
         ensures item { self.new.visit.item ≡ None }
         ensures entered { result ≡ true → segments_left self.new.standing < segments_left self.old.standing }
-        ensures enters { (slots : Slots) (placed : List Placed) (ahead : List Entry) → Tells ring.now.slots placed ring.now.table → AreInOrder placed
-            → AreBehind slots placed self.old ahead → AreAhead slots placed self.new ahead × (result ≡ false → ahead ≡ []) }
+        ensures enters { (slots : Slots) (placed : List Placed) (records : List Entry) → Tells ring.now.slots placed ring.now.table → AreInOrder placed
+            → AreLeftBehind slots placed (asked selection.now.query) (Some (span_as selection.now.span)) self.old records
+            → AreLeft slots placed (asked selection.now.query) (Some (span_as selection.now.span)) self.new records × (result ≡ false → records ≡ []) }
     {
-        let Some((slot, seq)) = ring.next_slot(self.seq()) else {
+        let Some((slot, seq)) = ring.next_candidate(&selection.query, &selection.span, self.seq())
+        else {
             return false;
         };
-        // The loop over segments ends by this, and it holds of each ring that was opened.
-        if !self.is_below(seq) {
-            return false;
-        }
         self.standing = Some(Standing { slot, seq });
         self.visit = Visit::new();
         true
     }
 
-    /// Steps to the next record of the medium that is selected, of whatever segment. False where no further one is there.
+    /// Steps to the next record of the medium that is selected, in whatever segment may have one. False where no further one is there.
     pub(crate) fn step<M: Media>(
         &mut self,
         ring: &mut Ring,
@@ -171,7 +160,7 @@ impl Cursor {
         ensures cause { result ≡ Err AFault → Rose (get_or (M.faults media.old) ring.old.medium 0) (get_or (M.faults media.new) ring.old.medium 0) }
     {
         while !self.step_in(ring, media, selection)? {
-            if !self.enter_next(ring) {
+            if !self.enter_next(ring, selection) {
                 return Ok(false);
             }
         }

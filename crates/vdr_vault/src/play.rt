@@ -1,4 +1,4 @@
-ghost use Rattle.std.specs.Prelude.{◌≡◌, ◌≢◌, ◌↔◌, ◌≤◌, ℕ, List, true, None, Some, Ok, Err, All, option_map, get_or};
+ghost use Rattle.std.specs.Prelude.{◌≡◌, ◌≢◌, ◌↔◌, ℕ, List, true, None, Some, Ok, Err, All, option_map, get_or};
 ghost use Rattle.vdr_terms.specs.Records.{Record as Entry, last, second};
 ghost use Rattle.vdr_terms.specs.Queries.Span.{Window};
 ghost use Rattle.vdr_history.specs.Histories.{Event, Opening};
@@ -12,27 +12,27 @@ ghost use Rattle.vdr_ring.specs.Cursors.{IsLoaded};
 ghost use Rattle.vdr_ring.specs.declared.refused.ReadRefused.TheVariants.{Fault as AFault, Damaged};
 ghost use Rattle.vdr_opening.specs.Media.{both};
 ghost use Rattle.vdr_vault.specs.Vaults.{AreRings, IsReadable, Stands, ring_of};
-ghost use Rattle.vdr_survey.specs.Selections.{span_as};
+ghost use Rattle.vdr_index.specs.Indexes.{span_as};
 ghost use Rattle.vdr_vault.specs.Walks.{AreLeft, CountsOn, GivesNext, HasRead, MayStep, slots_read};
 ghost use Rattle.vdr_vault.specs.Plays.{AreToCome, HasReadCause, ReadsNoOther, ReadsOn, ring_for, span_in};
 
 use crate::{Cursor, Members};
 use vdr_entry::{Medium, Query};
+use vdr_index::Span;
 use vdr_outside::Media;
 use vdr_playback::law_of_playback;
 use vdr_ring::{ReadRefused, Ring};
-use vdr_survey::{Selection, Span};
+use vdr_survey::Selection;
 
 // The window that ends with the second of a medium's last record. None where it has no record.
 fn window_of(ring: &Ring, seconds: u64) -> Option<Span>
-    requires { seconds ≤ 31_536_000 }
     ensures { (placed : List Placed) → Tells ring.now.slots placed ring.now.table
         → option_map span_as result ≡ option_map (λ r. Window (second r.tick) seconds) (last (all_records placed)) }
 {
     let (_, tick, _) = ring.last()?;
     Some(Span::Window {
         last: tick / 1000,
-        seconds: seconds as u32,
+        seconds,
     })
 }
 
@@ -48,8 +48,8 @@ impl Members {
             Medium::Incident(id) => {
                 let save = self.table.live(id)?;
                 Some(Span::Places {
-                    first: save.a,
-                    last: save.b,
+                    a: save.a,
+                    b: save.b,
                 })
             }
         }

@@ -24,8 +24,9 @@ use crate::cursor::Cursor;
 use crate::{Members, SaveRefused};
 use vdr_entry::{Medium, Query};
 use vdr_incident::{ReleaseRefused, Save, is_label};
+use vdr_index::Span;
 use vdr_outside::Media;
-use vdr_survey::{Selection, Span};
+use vdr_survey::Selection;
 
 // The records of a medium, whatever their channels and stamps.
 const ALL: Query = Query {
@@ -103,7 +104,7 @@ impl Members {
         let selection = Selection {
             span: Span::Window {
                 last: last_second,
-                seconds: seconds as u32,
+                seconds,
             },
             query: ALL,
         };

@@ -7,10 +7,11 @@ use std::process::Abort;
 use std::test::Fail;
 use vdr_config::{fits, read_config};
 use vdr_entry::{Medium, Query, Record};
+use vdr_index::Span;
 use vdr_memory::{MemoryMedia, RamMedia, Torn};
 use vdr_outside::{Fault, Media};
 use vdr_ring::{Cursor, Pins, Ring};
-use vdr_survey::{Selection, Span};
+use vdr_survey::Selection;
 use vdr_terms::{Verdict, recordable};
 
 // The bench configuration: a window of 60 seconds, for which the capsule has 11 slots.
@@ -161,9 +162,9 @@ fn opening_reads_each_header_and_each_segment_once(rt: HostRuntime) -> Result<()
 }
 
 // The records of these places, whatever their channels and stamps.
-fn places(first: u64, last: u64) -> Selection {
+fn places(a: u64, b: u64) -> Selection {
     Selection {
-        span: Span::Places { first, last },
+        span: Span::Places { a, b },
         query: Query {
             medium: Medium::Capsule,
             channel: None,

@@ -17,7 +17,7 @@ use vdr_terms::{Verdict, recordable};
 use vdr_vault::{Cursor, Members};
 
 // The bench configuration: windows of 60 and 600 seconds, for which the media need 11 and 83 slots.
-const BENCH: &[u8] =
+pub(super) const BENCH: &[u8] =
     b"{\"profile\":\"bench\",\"capsule_seconds\":60,\"long_seconds\":600,\"incident_seconds\":30,\"incident_slots\":2,\"segment\":8192,\"batch\":2048,\"queue\":16,\"groups\":[{\"name\":\"NAVD\",\"datagrams\":2,\"bytes\":200}],\"channels\":[]}";
 
 fn formatted(rt: &impl Abort, alloc: Global) -> Result<RamMedia, Fail> {
@@ -29,7 +29,7 @@ fn formatted(rt: &impl Abort, alloc: Global) -> Result<RamMedia, Fail> {
     Ok(media)
 }
 
-fn open<M: Media>(rt: &impl Abort, alloc: Global, media: &mut M) -> Result<Members, Fail>
+pub(super) fn open<M: Media>(rt: &impl Abort, alloc: Global, media: &mut M) -> Result<Members, Fail>
     ensures rings { IfOk result (λ members. AreRings members (M.disk media.new).sizes) }
 {
     assert!(rt; media.count() == 2);
@@ -40,7 +40,7 @@ fn open<M: Media>(rt: &impl Abort, alloc: Global, media: &mut M) -> Result<Membe
 }
 
 // A datagram of the most bytes, of which five fill a segment, at this place, tick and stamp, with these channels.
-fn datagram(rt: &impl Abort, place: u64, tick: u64, utc: i64, bits: u64) -> Record
+pub(super) fn datagram(rt: &impl Abort, place: u64, tick: u64, utc: i64, bits: u64) -> Record
     ensures { record_size result ≡ 1_516 }
 {
     let mut bytes = [b'x'; 1_472];

@@ -87,3 +87,6 @@ returns-clause-cause g c =
     part_done _ _ _
     (none_falls_join _ _ _ (none_falls_join _ _ _ c.open_capsule.ensures.cause.later c.open_long_term.ensures.cause.later) (none_falls_join _ _ _ c.read_incidents.ensures.cause.later c.missing_batch.ensures.cause.later))
     (λ is. let none : ⊥ = cc in none)
+
+pub returns-in_err-table-clause-unchanged : goal.returns-in_err-table-clause-unchanged
+returns-in_err-table-clause-unchanged g c = unchanged_join _ _ _ (unchanged_join _ _ _ c.open_capsule.ensures.unchanged c.open_long_term.ensures.unchanged) c.read_incidents.ensures.unchanged

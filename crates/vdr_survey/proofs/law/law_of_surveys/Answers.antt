@@ -1,5 +1,6 @@
 use Rattle.vdr_segment.proofs.BatchListLemmas.{one_batches}
 use Rattle.vdr_survey.proofs.SpanLemmas.{one_break, never_both}
+use Rattle.vdr_survey.proofs.SurveyLemmas.{one_survey}
 use Rattle.vdr_survey.proofs.law.law_of_surveys.Goals as goal
 
 pub returns-clause-batches : goal.returns-clause-batches
@@ -10,3 +11,6 @@ returns-clause-offset c = one_break
 
 pub returns-clause-either : goal.returns-clause-either
 returns-clause-either c = never_both
+
+pub returns-clause-survey : goal.returns-clause-survey
+returns-clause-survey c = one_survey

@@ -27,7 +27,7 @@ returns-in_err-append_batch-clause-appended g c = rw (sym c.self.view_is) (λ pl
 
 pub invariant_of-self-2 : goal.invariant_of-self-2
 invariant_of-self-2 g c =
-    let k = set_count _ _ _ _ (rw (sym c.self-2.view_is) at c.newest-newest.ensures.newest) c.set_newest.ensures.opened c.set_newest.ensures.closed in
+    let k = set_count c.self-2.inside.table c.set_newest.new.self _ _ (rw (sym c.self-2.view_is) at c.newest-newest.ensures.newest) c.set_newest.ensures.opened c.set_newest.ensures.closed in
     let i = c.self-2.invariant in
     (k ∙ i.0, i.1, i.2, i.3, i.4)
 
@@ -45,7 +45,7 @@ returns-clause-appended g c = rw (sym c.self.view_is) (λ placed first told read
       made.0,
       made.1,
       appended_moments _ _ placed made.0 _ _ _ _ _ _ told same ready is written c.write_batch-size.ensures.legal made.2 c.append_batch.ensures.moments,
-      appended_reads _ _ placed made.0 _ _ _ (g.M.Media.disk c.args.media.now) _ _ told same ready is written c.write_batch-size.ensures.legal _ c.extended.result refl refl refl loaded c.extended.ensures.survey c.set_newest.ensures.opened c.set_newest.ensures.closed
+      appended_reads _ _ placed made.0 _ _ _ (g.M.Media.disk c.args.media.now) _ _ told same ready is written c.write_batch-size.ensures.legal _ c.extended.result (search rules) refl refl refl loaded c.extended.ensures.survey c.set_newest.ensures.opened c.set_newest.ensures.closed c.set_newest.ensures.told
           c.in_ok-append_batch.ensures.settled,
     ))
 

@@ -30,7 +30,7 @@ returns-in_err-begin_segment-clause-begun g c placed records told reads may no_r
 
 pub invariant_of-self : goal.invariant_of-self
 invariant_of-self g c =
-    let k = begun_count _ _ _ _ (rw (sym c.self.view_is) at c.in_ok-free_slot.ensures.closed) c.begin.ensures in
+    let k = begun_count c.self.inside.table c.begin.new.self _ _ (rw (sym c.self.view_is) at c.in_ok-free_slot.ensures.closed) c.begin.ensures.begun in
     let i = c.self.invariant in
     (k.0 ∙ i.0, i.1, i.2, i.3, i.4)
 
@@ -44,7 +44,7 @@ returns-clause-begun g c placed records told reads may no_room =
     let s : c.self.inside.area.segment ≡ c.args.self.now.segment = same.segment in
     let i = c.self.invariant in
     let seq_is = c.next_seq-seq.ensures placed reads.table.opened reads.order in
-    let stands = begun_stands _ _ _ _ _ placed f.0 _ c.args.first f.1 _ (g.M.Media.disk c.args.media.now) _ _ told k.0 k.1 k.2 f.2 reads.order seq_is _ c.begin.ensures (rw (m, s, slot_is) at c.in_ok-begin_segment.ensures.settled) in (
+    let stands = begun_stands _ _ _ _ _ placed f.0 _ c.args.first f.1 _ (g.M.Media.disk c.args.media.now) _ _ told k.0 k.1 k.2 f.2 reads.order seq_is _ c.begin.ensures.begun c.begin.ensures.index (rw (m, s, slot_is) at c.in_ok-begin_segment.ensures.settled) in (
       stages_begun f.1 (next_segment placed f.0 c.args.first) records,
       begins _ _ _ _ placed c.args.first records f.0 f.1 f.2 no_room,
       begun_moments _ _ _ _ _ placed f.0 _ c.args.first f.1 _ _ _ _ told k.0 k.1 k.2 f.2 reads.order seq_is f.3 (rw (m, s, slot_is) at c.begin_segment.ensures.moments),
@@ -54,7 +54,7 @@ returns-clause-begun g c placed records told reads may no_room =
 
 pub returns-clause-newest : goal.returns-clause-newest
 returns-clause-newest g c =
-    let k = begun_count _ _ _ _ (rw (sym c.self.view_is) at c.in_ok-free_slot.ensures.closed) c.begin.ensures in
+    let k = begun_count c.self.inside.table c.begin.new.self _ _ (rw (sym c.self.view_is) at c.in_ok-free_slot.ensures.closed) c.begin.ensures.begun in
     (k.1, k.2, k.3)
 
 pub returns-in_err-begin_segment-clause-front : goal.returns-in_err-begin_segment-clause-front

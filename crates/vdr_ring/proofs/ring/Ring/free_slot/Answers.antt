@@ -22,7 +22,7 @@ returns-in_err-close_slot-clause-freed g c = rw (sym c.self.view_is) (λ placed 
 
 pub invariant_of-self : goal.invariant_of-self
 invariant_of-self g c =
-    let k = closed_count _ _ _ (c.is_full.ensures.0 c.if-not-is_full.false) (rw (sym c.self.view_is) at c.victim_index-index.ensures.within) c.close.ensures.opened c.close.ensures.closed in
+    let k = closed_count c.self.inside.table c.close.new.self _ (c.is_full.ensures.0 c.if-not-is_full.false) (rw (sym c.self.view_is) at c.victim_index-index.ensures.within) c.close.ensures.opened c.close.ensures.closed in
     let i = c.self.invariant in
     (k.0 ∙ i.0, i.1, i.2, i.3, i.4)
 
@@ -31,7 +31,7 @@ returns-clause-freed g c = rw (sym c.self.view_is) (λ placed told reads.
     let full = c.is_full.ensures.0 c.if-not-is_full.false in
     let v = rw (sym c.self.view_is) at c.victim_index-index.ensures.victim placed reads.table.opened reads.order in
     let at = entry_read _ _ _ _ c.opened.ensures.opened (rw (sym c.self.view_is) at c.victim_index-index.ensures.within) in
-    let s = freed_stands _ _ _ _ _ placed _ _ _ v _ _ _ told reads.settled reads.table full at refl _ c.close.ensures.opened c.close.ensures.closed c.in_ok-close_slot.ensures.settled in (
+    let s = freed_stands _ _ _ _ _ placed _ _ _ v _ _ _ told reads.settled reads.table full at refl _ c.close.ensures.opened c.close.ensures.closed c.close.ensures.cleared c.in_ok-close_slot.ensures.settled in (
       v.1.slot,
       v.0 ++ v.2,
       frees _ _ _ placed _ _ v reads.table full,
@@ -41,4 +41,4 @@ returns-clause-freed g c = rw (sym c.self.view_is) (λ placed told reads.
 
 pub returns-clause-closed : goal.returns-clause-closed
 returns-clause-closed g c =
-    (closed_count _ _ _ (c.is_full.ensures.0 c.if-not-is_full.false) (rw (sym c.self.view_is) at c.victim_index-index.ensures.within) c.close.ensures.opened c.close.ensures.closed).1
+    (closed_count c.self.inside.table c.close.new.self _ (c.is_full.ensures.0 c.if-not-is_full.false) (rw (sym c.self.view_is) at c.victim_index-index.ensures.within) c.close.ensures.opened c.close.ensures.closed).1

@@ -1,4 +1,4 @@
-use Rattle.std.proofs.Common.{◌≡◌, ◌≢◌, ◌≤◌, ◌+◌, ℕ, List, [], drop, IfOk, ap, subst}
+use Rattle.std.proofs.Common.{◌≡◌, ◌≢◌, ◌≤◌, ◌+◌, ℕ, List, [], drop, IfOk, sym, ap, ◌∙◌, subst}
 use Rattle.std.proofs.lemmas.Result.{IfOk-weaker}
 use Rattle.vdr_terms.specs.Records.{Record, last}
 use Rattle.vdr_terms.specs.Sizes.{batch_size}
@@ -31,3 +31,7 @@ returns-clause-damaged g c told placed reads m offset is =
 
 pub returns-clause-fits : goal.returns-clause-fits
 returns-clause-fits g c = subst (λ (n : ℕ). IfOk c.last_loaded.result (λ records. records.items ≢ [] → 64 + batch_size records.items + 1 ≤ n)) (ap (λ (r : RingState). r.segment) c.load.ensures.ring) c.last_loaded.ensures.fits
+
+pub returns-in_default-clause-batch : goal.returns-in_default-clause-batch
+returns-in_default-clause-batch g c told placed reads =
+    ap batch_or_none c.new.ensures.items ∙ sym (c.in_default.ensures.found placed reads.table (legal_batches _ _ placed _ (reads.settled.reads told)))

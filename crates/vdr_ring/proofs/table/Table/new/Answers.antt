@@ -6,7 +6,7 @@ pub loop-slot-init : goal.loop-slot-init
 loop-slot-init c = filled_none _
 
 pub invariant_of-result : goal.invariant_of-result
-invariant_of-result c = filled_entries _ _ _ _ (omega (arith, c.len-count.ensures, c.args.opened.ok.0)) (filled_all _ _ _ _ (omega arith) c.loop-slot.invariant) c.requires.opened c.requires.closed
+invariant_of-result c = filled_entries _ _ _ _ (omega (arith, c.len-count.ensures, c.args.opened.ok.0)) (filled_all _ _ _ _ (omega arith) c.loop-slot.invariant) c.requires.opened c.requires.closed _ c.requires.index
 
 pub returns-clause-opened : goal.returns-clause-opened
 returns-clause-opened c = filled_opened _ _ _ _ (omega (arith, c.len-count.ensures, c.args.opened.ok.0)) (filled_all _ _ _ _ (omega arith) c.loop-slot.invariant)

@@ -1,23 +1,29 @@
 use Rattle.std.proofs.Common.{◌≡◌, ℕ, true, false, Option, Some, refl, sym, subst}
 use Rattle.std.proofs.lemmas.Bool.{false≢true}
+use Rattle.vdr_entry.specs.Queries.{asked}
+use Rattle.vdr_index.specs.Indexes.{span_as}
 use Rattle.vdr_ring.specs.Sequence.{seq_of}
-use Rattle.vdr_ring.specs.Lookup.{IsAbove, IsNext}
+use Rattle.vdr_ring.specs.Lookup.{IsAbove}
 use Rattle.vdr_vault.specs.declared.cursor.Standing.{Standing}
 use Rattle.vdr_vault.specs.contracts.cursor.Cursor.{the_view}
-use Rattle.vdr_vault.proofs.Entering.{entered_ahead, none_ahead}
+use Rattle.vdr_vault.proofs.Entering.{entered_left, none_left}
 use Rattle.vdr_vault.proofs.cursor.Cursor.enter_next.Goals as goal
 
 pub returns-in_default-clause-enters : goal.returns-in_default-clause-enters
-returns-in_default-clause-enters c slots placed ahead tells order behind =
-    let none = none_ahead slots placed c.args.self.now ahead order behind
-    (λ p m above. c.in_default.ensures.none placed tells order p m (subst (λ (o : Option ℕ). IsAbove o (seq_of p)) (sym c.seq.ensures) above)) in
+returns-in_default-clause-enters c slots placed records tells order left =
+    let selection = c.args.selection.now in
+    let none = none_left (asked selection.query) (span_as selection.span) slots placed c.args.self.now records order left
+    (λ q m above. c.in_default.ensures.passed_over placed tells order q m (subst (λ (o : Option ℕ). IsAbove o (seq_of q)) (sym c.seq.ensures) above) tt) in
     (none.0, λ _. none.1)
 
 pub returns-clause-enters : goal.returns-clause-enters
-returns-clause-enters c slots placed ahead tells order behind =
-    let next = c.in-Some.ensures.some placed tells order in
+returns-clause-enters c slots placed records tells order left =
+    let selection = c.args.selection.now in
+    let next = c.in-Some.ensures.some placed tells in
     let s : Standing = record { slot = c.in-Some.slot; seq = c.in-Some.seq } in (
-      entered_ahead slots placed c.args.self.now (the_view (record { standing = Some s; visit = c.new-self-inside.result })) s next.0 ahead order behind
-          (subst (λ (o : Option ℕ). IsNext o placed next.0) c.seq.ensures next.1) refl next.2 next.3 c.new-self-inside.ensures.slot,
+      entered_left (asked selection.query) (span_as selection.span) slots placed c.args.self.now records order left (the_view (record { standing = Some s; visit = c.new-self-inside.result })) s next.0 next.1.there
+          (subst (λ (o : Option ℕ). IsAbove o (seq_of next.0)) c.seq.ensures next.1.above)
+          (λ q m above lt. c.in-Some.ensures.passed_over placed tells order q m (subst (λ (o : Option ℕ). IsAbove o (seq_of q)) (sym c.seq.ensures) above) lt)
+          refl next.2 next.3 c.new-self-inside.ensures.slot,
       λ (e : true ≡ false). absurd (false≢true (sym e)),
     )

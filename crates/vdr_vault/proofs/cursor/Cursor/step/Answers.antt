@@ -1,11 +1,10 @@
-use Rattle.std.proofs.Common.{◌≡◌, List, [], Some, Err, ◌∙◌, ap, refl, subst}
+use Rattle.std.proofs.Common.{◌≡◌, List, [], Some, Err, ◌∙◌, ap, subst}
 use Rattle.vdr_entry.specs.Queries.{asked}
-use Rattle.vdr_playback.specs.Playback.{found}
-use Rattle.vdr_survey.specs.Selections.{span_as}
+use Rattle.vdr_index.specs.Indexes.{span_as}
 use Rattle.std.proofs.lemmas.Result.{err_from_is_err_and}
 use Rattle.vdr_terms.specs.Records.{Record}
 use Rattle.vdr_ring.specs.declared.refused.ReadRefused.{ReadRefused}
-use Rattle.vdr_vault.specs.Walks.{AreAhead, slots_read}
+use Rattle.vdr_vault.specs.Walks.{AreLeft, slots_read}
 use Rattle.vdr_vault.proofs.Passing.{read_join}
 use Rattle.vdr_vault.proofs.Stepping.{counts_since, found_next, is_behind, refused_next}
 use Rattle.vdr_vault.proofs.cursor.Cursor.step.Goals as goal
@@ -27,11 +26,11 @@ returns-then-not-enter_next-clause-plays g c told placed records reads left =
     let later = c.step_in.ensures.read.reads placed (c.loop-self.invariant.read.reads placed reads) in
     let behind = is_behind c.loop-self.invariant c.step_in.new.self told placed records reads left c.in_ok-step_in.field-0 c.step_in.result c.in_ok-step_in.was c.if-not-branch.true
     c.step_in.ensures.steps in
-    let entered = c.enter_next.ensures.enters slots placed behind.ahead later.table later.order behind.are_behind in
-    let none : behind.ahead ≡ [] = entered.1 c.if-not-enter_next.true in (
-      behind.are ∙ ap (found (asked c.args.selection.now.query) (Some (span_as c.args.selection.now.span))) none,
+    let entered = c.enter_next.ensures.enters slots placed records later.table later.order behind in
+    let none : records ≡ [] = entered.1 c.if-not-enter_next.true in (
+      none,
       c.enter_next.ensures.item,
-      record { ahead = []; are_ahead = subst (λ (rs : List Record). AreAhead slots placed c.enter_next.new.self rs) none entered.0; are = refl },
+      subst (λ (rs : List Record). AreLeft slots placed (asked c.args.selection.now.query) (Some (span_as c.args.selection.now.span)) c.enter_next.new.self rs) none entered.0,
     )
 
 pub loop-self-preserved : goal.loop-self-preserved
@@ -44,8 +43,7 @@ loop-self-preserved g c = record {
       let later = c.step_in.ensures.read.reads placed (c.loop-self.invariant.read.reads placed reads) in
       let behind = is_behind c.loop-self.invariant c.step_in.new.self told placed records reads left c.in_ok-step_in.field-0 c.step_in.result c.in_ok-step_in.was c.if-not-branch.true
       c.step_in.ensures.steps in
-      let entered = c.enter_next.ensures.enters (slots_read c.args.ring.now (g.M.Media.disk c.args.media.now)) placed behind.ahead later.table later.order behind.are_behind in
-      record { ahead = behind.ahead; are_ahead = entered.0; are = behind.are };
+      (c.enter_next.ensures.enters (slots_read c.args.ring.now (g.M.Media.disk c.args.media.now)) placed records later.table later.order behind).0;
 }
 
 pub returns-clause-plays : goal.returns-clause-plays

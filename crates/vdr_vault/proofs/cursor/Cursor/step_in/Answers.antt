@@ -1,6 +1,6 @@
 use Rattle.std.proofs.Common.{Option, Some, sym, subst}
 use Rattle.vdr_entry.specs.Queries.{asked}
-use Rattle.vdr_survey.specs.Selections.{span_as}
+use Rattle.vdr_index.specs.Indexes.{span_as}
 use Rattle.vdr_vault.specs.declared.cursor.Standing.{Standing}
 use Rattle.vdr_vault.specs.contracts.cursor.Cursor.{the_view}
 use Rattle.vdr_vault.specs.Walks.{CursorState, IsBefore, AreLeft, slots_read}

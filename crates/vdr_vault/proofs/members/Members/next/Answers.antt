@@ -5,7 +5,7 @@ use Rattle.vdr_playback.specs.Playback.{medium_of}
 use Rattle.vdr_outside.proofs.Counts.{sum_rose}
 use Rattle.vdr_entry.specs.Queries.{asked, asked_medium}
 use Rattle.vdr_vault.specs.Vaults.{MembersState}
-use Rattle.vdr_survey.specs.Selections.{span_as}
+use Rattle.vdr_index.specs.Indexes.{span_as}
 use Rattle.vdr_vault.specs.Walks.{AreLeft, slots_read}
 use Rattle.vdr_vault.specs.Plays.{ring_for}
 use Rattle.vdr_vault.proofs.Coming.{asked_two, gives_to_come, holds_on, none_to_come}
