@@ -3,6 +3,7 @@ use Rattle.std.proofs.Common.{◌≡◌, ℕ, zero, suc, ◌+◌, ◌*◌, ◌/�
 use Rattle.std.specs.Prelude.{bit_or}
 use mir.Val.{bool_byte}
 use Rattle.std.specs.Int.{bit_at}
+use Rattle.std.specs.List.{list_any}
 use Rattle.std.proofs.lemmas.Option.{none-some, same_Some}
 use Rattle.std.proofs.lemmas.Nat.{or_block}
 use Rattle.std.proofs.lemmas.Nat.Bits.{bit_at_lowest, bit_at-suc}
@@ -97,3 +98,17 @@ each_bit n group bytes channels is k c here =
 
 pub no_other_bit : (n group : ℕ) (bytes : List ℕ) (channels : List Selector) → n ≡ channel_bits channels group bytes → n < 2 ^ length channels
 no_other_bit n group bytes channels is = omega (arith, is, bits_lt (λ s. (s.group == group) && selects s.kind bytes) channels)
+
+never : true ≡ false → ⊥
+never bad = cc
+
+-- where no channel passes the first of two tests, none passes both
+pub no_bits : (p q : Selector → Bool) (xs : List Selector) → list_any p xs ≡ false → bits_where (λ c. p c && q c) xs ≡ 0
+no_bits p q [] none = refl
+no_bits p q (c ∷ xs) none = go (p c) refl (no_bits p q xs)
+  where
+    go : (b : Bool) → p c ≡ b → (list_any p xs ≡ false → bits_where (λ c. p c && q c) xs ≡ 0) → bits_where (λ c. p c && q c) (c ∷ xs) ≡ 0
+    go true is rest = absurd (never (sym (ap (λ (b : Bool). b || list_any p xs) is) ∙ none))
+    go false is rest =
+        ap (λ (b : Bool). flag (b && q c) + 2 * bits_where (λ c. p c && q c) xs) is
+        ∙ ap (λ (n : ℕ). 0 + 2 * n) (rest (sym (ap (λ (b : Bool). b || list_any p xs) is) ∙ none))

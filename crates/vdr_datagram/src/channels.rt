@@ -45,11 +45,22 @@ fn bits_of_line(channels: &[Channel], group: u8, line: &LineVerdict<'_>) -> u64
     }
 }
 
-// Bit k for each channel k of the group that selects the datagram for one of its lines.
+// Whether some channel is of the group.
+fn has_channel(channels: &[Channel], group: u8) -> bool
+    ensures { result ≡ list_any (λ c. c.group == group) channels.now }
+{
+    channels.iter().any(|channel| channel.group == group)
+}
+
+// Bit k for each channel k of the group that selects the datagram for one of its lines. Where the group has no channel, no line is
+// looked for.
 fn bits_of_lines(channels: &[Channel], group: u8, bytes: &[u8]) -> u64
     requires { length channels.now ≤ 64 }
     ensures { result ≡ bits_where (λ c. (c.group == group) && list_any (λ line. takes_line line.verdict c.kind) (line_spans bytes.now)) channels.now }
 {
+    if !has_channel(channels, group) {
+        return 0;
+    }
     let mut bits = 0;
     for line in lines(bytes) {
         bits |= bits_of_line(channels, group, &line.verdict);
