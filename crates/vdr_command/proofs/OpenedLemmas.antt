@@ -6,7 +6,7 @@ use Rattle.vdr_terms.specs.Records.{Record}
 use Rattle.vdr_history.specs.Histories.{Act, Event, recorded, records_of_act}
 use Rattle.vdr_history.specs.Histories.Act.{Look}
 use Rattle.vdr_durability.specs.Keeping.{ShowsPrefix}
-use Rattle.vdr_durability.specs.Readings.{AreLevel, EndsMeet}
+use Rattle.vdr_durability.specs.Readings.{EndsMeet}
 use Rattle.vdr_outside.specs.Disk.{Disk, Image, SameBut, Unchanged}
 use Rattle.vdr_outside.proofs.Moments.{moments_and_reads}
 use Rattle.vdr_config.specs.Grammar.{configuration}
@@ -17,11 +17,11 @@ use Rattle.vdr_opening.specs.Refusals.{IsRefused}
 use Rattle.vdr_opening.specs.declared.refused.OpenRefused.{OpenRefused}
 use Rattle.vdr_opening.specs.declared.refused.OpenRefused.TheVariants as openings
 use Rattle.vdr_recorder.specs.Recordings.{HasDone, RecordingState}
-use Rattle.vdr_vault.specs.Openings.{GoesOnSynced, LeavesAll, OpensAtEachMoment}
+use Rattle.vdr_vault.specs.Openings.{EndsWithin, GoesOnSynced, LeavesAll, OpensAtEachMoment}
 use Rattle.vdr_vault.proofs.OpenMoments.{never_both}
 use Rattle.vdr_vault.specs.Vaults.{MembersState, ShowsHistory}
 use Rattle.vdr_command.specs.Endings.{IsWorkDone}
-use Rattle.vdr_command.specs.Opened.{AreLooks, IsLegibleWith, IsUnbegun, IsUnopened, KeepsContents, MayLeave, MediaEnds, WasRecorded, WritesNothing, newest_of}
+use Rattle.vdr_command.specs.Opened.{AddsMissing, AreLooks, IsLegibleWith, IsUnbegun, IsUnopened, KeepsContents, MayLeave, MediaEnds, WasRecorded, newest_of}
 use Rattle.vdr_command.specs.Statuses.{status_of_opening}
 use Rattle.vdr_command.specs.Outside.{MediaSeen}
 use Rattle.vdr_command.specs.declared.status.Status.{Status}
@@ -109,20 +109,17 @@ module _ {tells tells_images : Type 0} where
   kept_opened x reads sound MayBe status old new result r is may rests (inl ends) = let clash : Ok r ≡ Err openings.Fault = sym is ∙ ends.failed in let none : ⊥ = cc in absurd none
   kept_opened x reads sound MayBe status old new result r is may rests (inr goes) = keeps_opened x reads sound MayBe status may old new rests goes
 
-  -- What opening leaves where nothing is missing, and calls that read, or that touch nothing, after it.
-  abbrev pub OpensLevel : (old new : Disk tells tells_images) → Type 0
-  OpensLevel old new = (x : Contents) → tells → HoldsContents old.reads x → AreLevel both (reading_of x) → LeavesAll old new × (new.reads ≡ old.reads)
+  -- What opening wrote stays all that is written over calls that read, or that touch nothing.
+  pub missing_looked : (old mid new : Disk tells tells_images) → AddsMissing old mid → Unchanged mid new → AddsMissing old new
+  missing_looked old mid new h same x t holds =
+      let k = h x t holds in
+      record {
+        level = λ level. (moments_and_reads old mid new (λ i. old.now i) (k.level level).0 same, same.reads t ∙ (k.level level).1);
+        missing = λ meet. moments_and_reads old mid new (λ i. old.now i ⊎ EndsWithin x i) (k.missing meet) same;
+      }
 
-  pub level_opened : (old new : Disk tells tells_images) → OpensLevel old new → WritesNothing old new
-  level_opened old new h x t holds level = let k = h x t holds level in record { leaves = k.0; reads = λ _. k.1 }
-
-  pub level_looked : (old mid new : Disk tells tells_images) → OpensLevel old mid → Unchanged mid new → WritesNothing old new
-  level_looked old mid new h same x t holds level =
-      let k = h x t holds level in
-      record { leaves = moments_and_reads old mid new (λ i. old.now i) k.0 same; reads = λ told. same.reads told ∙ k.1 }
-
-  pub level_still : {A : Type 0} (disk : A → Disk tells tells_images) (old : Disk tells tells_images) (mid new : A) → OpensLevel old (disk mid) → new ≡ mid → WritesNothing old (disk new)
-  level_still disk old mid new h same = level_opened old (disk new) (subst (λ a. OpensLevel old (disk a)) (sym same) h)
+  pub missing_still : {A : Type 0} (disk : A → Disk tells tells_images) (old : Disk tells tells_images) (mid new : A) → AddsMissing old (disk mid) → new ≡ mid → AddsMissing old (disk new)
+  missing_still disk old mid new h same = subst (λ a. AddsMissing old (disk a)) (sym same) h
 
   -- The media were not opened.
   pub refused_ends : {T : Type 0} (Can : Contents → Type 0) (Met : Type 0) (MayBe : List Event → Type 0) (old new : MediaSeen tells tells_images)

@@ -3,12 +3,12 @@ use Rattle.std.specs.Prelude.{◌≡◌, ◌≤◌, ◌⊎◌, ◌∷◌, ℕ, �
 use Rattle.vdr_history.specs.Histories.{Act, Event, IsHistory}
 use Rattle.vdr_history.specs.Histories.Act.{Look}
 use Rattle.vdr_durability.specs.Keeping.{Keeps, ShowsPrefix}
-use Rattle.vdr_durability.specs.Readings.{AreLevel, EndsMeet}
+use Rattle.vdr_durability.specs.Readings.{EndsMeet}
 use Rattle.vdr_outside.specs.Disk.{Disk, Image, SameBut}
 use Rattle.vdr_media.specs.Formatted.{IsFormatted, IsUnformatted}
 use Rattle.vdr_opening.specs.Media.{both, Contents, HoldsContents, opening_of, reading_of}
 use Rattle.vdr_opening.specs.Refusals.{IsRefused}
-use Rattle.vdr_vault.specs.Openings.{LeavesAll}
+use Rattle.vdr_vault.specs.Openings.{LeavesAll, WritesMissing}
 use Rattle.vdr_vault.specs.Regularity.{AreSound}
 use Rattle.vdr_vault.specs.Vaults.{of_stamp}
 use Rattle.vdr_replay.specs.Headline.{PlaysBack}
@@ -93,9 +93,10 @@ module _ {tells tells_images : Type 0} where
   abbrev pub MetUnsound : Disk tells tells_images → (Can : Contents → Type 0) → Type 0
   MetUnsound old Can = tells → IsLegibleWith old.reads Can × ((x : Contents) → HoldsContents old.reads x → WasRecorded x → ⊥)
 
-  -- Where both media end with the last batch nothing is written, whether they are sound or not.
-  abbrev pub WritesNothing : (old new : Disk tells tells_images) → Type 0
-  WritesNothing old new = (x : Contents) → tells → HoldsContents old.reads x → AreLevel both (reading_of x) → IsUntouched old new
+  -- At most the batch that the long-term medium lacks is written, and where both media end with the last one nothing is, whether
+  -- they are sound or not.
+  abbrev pub AddsMissing : (old new : Disk tells tells_images) → Type 0
+  AddsMissing old new = (x : Contents) → tells → HoldsContents old.reads x → WritesMissing x old new
 
   -- Media that held these contents keep them by some events: since entry a stop left what it might have left at entry, or media that
   -- play back what was held or what the events make of it; and from the moment at which opening's syncs had succeeded the media keep

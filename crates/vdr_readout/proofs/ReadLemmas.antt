@@ -31,7 +31,7 @@ use Rattle.vdr_vault.proofs.OpenMoments.{never_both}
 use Rattle.vdr_vault.proofs.Playing.{stands_to_read}
 use Rattle.vdr_vault.proofs.ShownHistory.{stands_silent, stands_still}
 use Rattle.vdr_vault.specs.Vaults.{IsReadable, MembersState, ShowsHistory, Stands}
-use Rattle.vdr_command.specs.Opened.{AreLooks, IfDamaged, IfNoIncident, IsLegibleWith, KeepsContents, MediaEnds, WasRecorded, WritesNothing}
+use Rattle.vdr_command.specs.Opened.{AddsMissing, AreLooks, IfDamaged, IfNoIncident, IsLegibleWith, KeepsContents, MediaEnds, WasRecorded}
 use Rattle.vdr_command.specs.Endings.{IsWorkDone}
 use Rattle.vdr_command.specs.Statuses.{status_of_opening}
 use Rattle.vdr_command.specs.Outside.{MediaSeen, Outside, OutputFailed, OutputSeen, Prints, PrintsFront, Writes}
@@ -182,12 +182,12 @@ module _ {tells tells_images : Type 0} where
   pub opening_reads : {R : Type 0} (asked : AskedPlay) (Has : List Record → Type 0) (Stops : List Record → R → Type 0) (status_of : R → Status) (line : List Record → Record → List ℕ) (last : List Record → List ℕ)
       (old new : Outside tells tells_images) (refused : OpenRefused) → new.output ≡ old.output
       → MediaEnds (λ x. CanPlay x asked.medium asked.channel) (MetUnreadable old.media.disk (λ x. CanPlay x asked.medium asked.channel)) AreLooks old.media new.media (status_of_opening refused)
-      → WritesNothing old.media.disk new.media.disk → ReadsOut asked Has Stops status_of line last old new (status_of_opening refused)
-  opening_reads asked Has Stops status_of line last old new refused same media level = record {
+      → AddsMissing old.media.disk new.media.disk → ReadsOut asked Has Stops status_of line last old new (status_of_opening refused)
+  opening_reads asked Has Stops status_of line last old new refused same media missing = record {
     shown = subst (λ (o : OutputSeen). ShowsReading asked old.media.disk Has Stops status_of line last old.output o (status_of_opening refused)) (sym same)
         (opening_shown asked old.media.disk Has Stops status_of line last old.output refused);
     media = with_media asked.medium asked.channel old.media new.media refused media;
-    level = level;
+    missing = missing;
   }
 
   pub channel_reads : {T R : Type 0} (asked : AskedPlay) (Has : List Record → Type 0) (Stops : List Record → R → Type 0) (status_of : R → Status) (line : List Record → Record → List ℕ) (last : List Record → List ℕ)
@@ -195,11 +195,11 @@ module _ {tells tells_images : Type 0} where
       → (members : MembersState) → LacksChannel members.config asked.channel → OpenedOn old.media.disk members
       → (tells → SameBut 1 old.media.disk.reads new.media.disk.reads)
       → ((x : Contents) → tells → HoldsContents old.media.disk.reads x → EndsMeet both (reading_of x) → WasRecorded x → OpensAtEachMoment old.media.disk new.media.disk result (ShowsHistory (opening_of x) []))
-      → Writes (channel_line asked.channel) old.output new.output → WritesNothing old.media.disk new.media.disk → ReadsOut asked Has Stops status_of line last old new NoChannel
-  channel_reads asked Has Stops status_of line last old new result r is members lacks contents others moments wrote level = record {
+      → Writes (channel_line asked.channel) old.output new.output → AddsMissing old.media.disk new.media.disk → ReadsOut asked Has Stops status_of line last old new NoChannel
+  channel_reads asked Has Stops status_of line last old new result r is members lacks contents others moments wrote missing = record {
     shown = (wrote, lacks.0);
     media = channel_ends asked.medium asked.channel old.media new.media result r is members lacks contents others moments;
-    level = level;
+    missing = missing;
   }
 
 -- A visit of media that can be read never meets damage.

@@ -147,7 +147,7 @@ module _ {tells tells_images R : Type 0} {asked : AskedPlay} {Has : List Record 
         output = output;
         silent = table_silent asked plain text old.media.disk Has Stops last last_is old.output new.output status told.shown;
         media = told.media;
-        level = told.level;
+        missing = told.missing;
         complete = λ none t. plays_all asked.medium asked.channel old.media new.media t law status (λ is. none.output (output is)) (λ is. none.media (told.media.media.fault is)) own told.media;
       }
 

@@ -17,7 +17,7 @@ use Rattle.vdr_opening.specs.Media.{both, Contents, HoldsContents, reading_of}
 use Rattle.vdr_control.specs.Orders.PlainOrder.{Play as PlayOrder}
 use Rattle.vdr_control.specs.Plays.{SpellsPlay}
 use Rattle.vdr_command.specs.Endings.{IsDone}
-use Rattle.vdr_command.specs.Opened.{IfDamaged, IsLegibleWith, IsRefusedAt, PrintsText, RefusesAll, WritesNothing}
+use Rattle.vdr_command.specs.Opened.{AddsMissing, IfDamaged, IsLegibleWith, IsRefusedAt, PrintsText, RefusesAll}
 use Rattle.vdr_command.specs.Outside.{NothingFailed, OutputFailed, OutputSeen, Outside, PrintsFront, Writes}
 use Rattle.vdr_command.specs.Promises.{Promise}
 use Rattle.vdr_command.specs.StatusLine.{IsNoChannel, channel_line}
@@ -150,7 +150,7 @@ module _ {tells tells_images : Type 0} where
     pub silent : MayWrite wish status ⊎ (IsNoChannel status ⊎ (new.output ≡ old.output))
     -- the media, and what is said of them, are as for a play
     pub media : PlayEnds asked.medium asked.channel old.media new.media status
-    pub level : WritesNothing old.media.disk new.media.disk
+    pub missing : AddsMissing old.media.disk new.media.disk
 
 -- What can be made is made, and what can't is refused by its own refusal, or there was no memory.
 pub record ExportsAll (wish : Wish) (asked : AskedPlay) (image : Image) (status : Status) : Type 0 where

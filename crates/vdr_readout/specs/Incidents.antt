@@ -6,7 +6,7 @@ use Rattle.vdr_outside.specs.Disk.{Image}
 use Rattle.vdr_entry.specs.Utc.{utc_text}
 use Rattle.vdr_opening.specs.Media.{both, Contents, HoldsContents, reading_of}
 use Rattle.vdr_command.specs.Endings.{IsDone, IsWorkDone}
-use Rattle.vdr_command.specs.Opened.{AreLooks, MediaEnds, PrintsText, RefusesAll, WritesNothing}
+use Rattle.vdr_command.specs.Opened.{AddsMissing, AreLooks, MediaEnds, PrintsText, RefusesAll}
 use Rattle.vdr_command.specs.Outside.{NothingFailed, OutputFailed, Outside}
 use Rattle.vdr_command.specs.Promises.{Promise}
 use Rattle.vdr_command.specs.declared.status.Status.{Status}
@@ -71,7 +71,7 @@ pub record Lists {tells tells_images : Type 0} (old new : Outside tells tells_im
   pub silent : IsWorkDone status ⊎ (new.output ≡ old.output)
   -- the media, and what is said of them
   pub media : MediaEnds CanList ⊥ AreLooks old.media new.media status
-  pub level : WritesNothing old.media.disk new.media.disk
+  pub missing : AddsMissing old.media.disk new.media.disk
   -- nothing else comes in the place of the list, or of a refusal, but want of memory
   pub complete : NothingFailed old new → tells → ListsAll old.media.disk.reads status
 

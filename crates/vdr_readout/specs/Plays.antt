@@ -7,7 +7,7 @@ use Rattle.vdr_play.specs.Texts.{records_text}
 use Rattle.vdr_control.specs.Orders.PlainOrder.{Play as PlayOrder}
 use Rattle.vdr_control.specs.Plays.{SpellsPlay}
 use Rattle.vdr_command.specs.Endings.{IsWorkDone}
-use Rattle.vdr_command.specs.Opened.{PrintsText, WritesNothing}
+use Rattle.vdr_command.specs.Opened.{AddsMissing, PrintsText}
 use Rattle.vdr_command.specs.Outside.{NothingFailed, OutputFailed, Outside, Prints, Writes}
 use Rattle.vdr_command.specs.Promises.{Promise}
 use Rattle.vdr_command.specs.StatusLine.{IsNoChannel, channel_line}
@@ -60,7 +60,7 @@ pub record Plays {tells tells_images : Type 0} (asked : AskedPlay) (old new : Ou
   pub silent : IsWorkDone status ⊎ (IsNoChannel status ⊎ (IsCut status ⊎ (new.output ≡ old.output)))
   -- the media, and what is said of them
   pub media : PlayEnds asked.medium asked.channel old.media new.media status
-  pub level : WritesNothing old.media.disk new.media.disk
+  pub missing : AddsMissing old.media.disk new.media.disk
   -- nothing else comes in the place of a play, or of a refusal, but want of memory
   pub complete : NothingFailed old new → tells → PlaysAll asked.medium asked.channel old.media.disk.reads status
 

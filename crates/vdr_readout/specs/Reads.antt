@@ -16,7 +16,7 @@ use Rattle.vdr_visit.specs.Prints.{text_of, whole_text}
 use Rattle.vdr_visit.specs.declared.stop.VisitStop.{VisitStop}
 use Rattle.vdr_visit.specs.declared.stop.VisitStop.TheVariants as stops
 use Rattle.vdr_command.specs.Endings.{IsDone}
-use Rattle.vdr_command.specs.Opened.{AreLooks, IfNoIncident, IsLegibleWith, MediaEnds, RefusesAll, WasRecorded, WritesNothing}
+use Rattle.vdr_command.specs.Opened.{AddsMissing, AreLooks, IfNoIncident, IsLegibleWith, MediaEnds, RefusesAll, WasRecorded}
 use Rattle.vdr_command.specs.Outside.{MediaSeen, OutputFailed, OutputSeen, Outside, Prints, PrintsFront, Writes}
 use Rattle.vdr_command.specs.StatusLine.{channel_line}
 use Rattle.vdr_command.specs.declared.status.Status.{Status}
@@ -162,7 +162,7 @@ module _ {tells tells_images : Type 0} where
       (old new : Outside tells tells_images) (status : Status) : Type 0 where
     pub shown : ShowsReading asked old.media.disk Has Stops status_of line last old.output new.output status
     pub media : PlayEnds asked.medium asked.channel old.media new.media status
-    pub level : WritesNothing old.media.disk new.media.disk
+    pub missing : AddsMissing old.media.disk new.media.disk
 
 -- What may be read out is, and what may not is refused by its own refusal, or there was no memory.
 pub record PlaysAll (medium : Medium) (name : List ℕ) (image : Image) (status : Status) : Type 0 where

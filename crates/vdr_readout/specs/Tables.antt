@@ -3,7 +3,7 @@ use Rattle.std.specs.Prelude.{◌≡◌, ◌⊎◌, ℕ, List, []}
 use Rattle.vdr_terms.specs.Records.{Record}
 use Rattle.vdr_opening.specs.Media.{Contents, HoldsContents}
 use Rattle.vdr_command.specs.Endings.{IsWorkDone}
-use Rattle.vdr_command.specs.Opened.{PrintsText, WritesNothing}
+use Rattle.vdr_command.specs.Opened.{AddsMissing, PrintsText}
 use Rattle.vdr_command.specs.Outside.{NothingFailed, OutputFailed, Outside, Prints}
 use Rattle.vdr_command.specs.declared.status.Status.{Status}
 use Rattle.vdr_command.specs.declared.status.Status.TheVariants.{NoChannel, OutputFault}
@@ -22,6 +22,6 @@ pub record TellsTable {tells tells_images : Type 0} (asked : AskedPlay) (text : 
   pub silent : IsWorkDone status ⊎ Prints [] old.output new.output
   -- the media, and what is said of them, are as for a play of these records
   pub media : PlayEnds asked.medium asked.channel old.media new.media status
-  pub level : WritesNothing old.media.disk new.media.disk
+  pub missing : AddsMissing old.media.disk new.media.disk
   -- nothing else comes in the place of the table, or of a refusal, but want of memory
   pub complete : NothingFailed old new → tells → PlaysAll asked.medium asked.channel old.media.disk.reads status

@@ -6,7 +6,7 @@ use Rattle.vdr_control.specs.Plays.{IsMedium, medium_word}
 use Rattle.vdr_opening.specs.Media.{Contents, HoldsContents}
 use Rattle.vdr_watch.specs.Texts.{records_text, watch_text}
 use Rattle.vdr_command.specs.Endings.{IsWorkDone}
-use Rattle.vdr_command.specs.Opened.{PrintsText, WritesNothing}
+use Rattle.vdr_command.specs.Opened.{AddsMissing, PrintsText}
 use Rattle.vdr_command.specs.Outside.{NothingFailed, OutputFailed, Outside, Prints}
 use Rattle.vdr_command.specs.Promises.{Promise}
 use Rattle.vdr_command.specs.declared.status.Status.{Status}
@@ -40,7 +40,7 @@ pub record TellsWatch {tells tells_images : Type 0} (medium : Medium) (old new :
   pub silent : IsWorkDone status ⊎ (IsCutShort status ⊎ Prints [] old.output new.output)
   -- the media, and what is said of them, are as for a play of all records
   pub media : PlayEnds medium all_records old.media new.media status
-  pub level : WritesNothing old.media.disk new.media.disk
+  pub missing : AddsMissing old.media.disk new.media.disk
   -- nothing else comes in the place of the text, or of a refusal, but want of memory
   pub complete : NothingFailed old new → tells → PlaysAll medium all_records old.media.disk.reads status
 

@@ -9,7 +9,7 @@ ghost use Rattle.vdr_entry.specs.Utc.{utc_text};
 ghost use Rattle.vdr_opening.specs.Media.{Contents, HoldsContents};
 ghost use Rattle.vdr_command.specs.Endings.{IsWorkDone, ending};
 ghost use Rattle.vdr_readout.specs.Incidents.{CanList, IsListStatus, Lists, incident_row, incidents_text, row_if};
-ghost use Rattle.vdr_command.specs.Opened.{AreLooks, MediaEnds, PrintsText, WritesNothing};
+ghost use Rattle.vdr_command.specs.Opened.{AddsMissing, AreLooks, MediaEnds, PrintsText};
 ghost use Rattle.vdr_command.specs.declared.status.Status.TheVariants.{OutputFault, Words};
 
 use arrayvec::ArrayVec;
@@ -94,7 +94,7 @@ fn list<I: Source + Drop, O: Sink + Drop, M: Media + Drop>(
     requires two { 2 ≤ length (M.disk world.old.media).sizes }
     requires three { length (M.disk world.old.media).sizes ≤ 3 }
     ensures statuses { IsListStatus (ending result) }
-    ensures level { WritesNothing (M.disk world.old.media) (M.disk world.new.media) }
+    ensures missing { AddsMissing (M.disk world.old.media) (M.disk world.new.media) }
     ensures media { let at = ⟦<World<I, O, M> as Outer>⟧.outside in MediaEnds CanList ⊥ AreLooks (at world.old).media (at world.new).media (ending result) }
     ensures printed { let at = ⟦<World<I, O, M> as Outer>⟧.outside in (x : Contents) → M.tells → HoldsContents (M.disk world.old.media).reads x
         → PrintsText (incidents_text x.table) (ending result) (at world.old).output (at world.new).output }

@@ -7,10 +7,10 @@ ghost use Rattle.vdr_history.specs.RunStates.{state_left};
 ghost use Rattle.vdr_history.specs.Runs.{RunStart};
 ghost use Rattle.vdr_history.specs.Sums.{counted_by, recorded_in};
 ghost use Rattle.vdr_history.specs.Taken.{Captured as CapturedTold};
-ghost use Rattle.vdr_durability.specs.Readings.{AreLevel, EndsMeet};
+ghost use Rattle.vdr_durability.specs.Readings.{EndsMeet};
 ghost use Rattle.vdr_opening.specs.Media.{Contents, HoldsContents, both, opening_of, reading_of};
 ghost use Rattle.vdr_opening.specs.declared.refused.OpenRefused.TheVariants.{Damaged, NotFormatted};
-ghost use Rattle.vdr_vault.specs.Openings.{LeavesAll, OpensAtEachMoment, ReachesLongTerm, RefusesMedia};
+ghost use Rattle.vdr_vault.specs.Openings.{OpensAtEachMoment, ReachesLongTerm, RefusesMedia, WritesMissing};
 ghost use Rattle.vdr_vault.specs.Regularity.{AreSound};
 ghost use Rattle.vdr_vault.specs.Vaults.{ShowsHistory};
 ghost use Rattle.vdr_recorder.specs.Calls.{OpensRecording};
@@ -66,8 +66,7 @@ impl Recording {
         requires two { 2 ≤ length (M.disk media.old).sizes }
         requires three { length (M.disk media.old).sizes ≤ 3 }
         ensures opened { OpensRecording result (M.disk media.old) (M.disk media.new) }
-        ensures level { (x : Contents) → M.tells → HoldsContents (M.disk media.old).reads x → AreLevel both (reading_of x)
-            → LeavesAll (M.disk media.old) (M.disk media.new) × ((M.disk media.new).reads ≡ (M.disk media.old).reads) }
+        ensures missing { (x : Contents) → M.tells → HoldsContents (M.disk media.old).reads x → WritesMissing x (M.disk media.old) (M.disk media.new) }
         ensures moments { (x : Contents) → M.tells → HoldsContents (M.disk media.old).reads x → EndsMeet both (reading_of x) → AreSound x
             → OpensAtEachMoment (M.disk media.old) (M.disk media.new) result (ShowsHistory (opening_of x) []) }
         ensures refused { RefusesMedia result (M.disk media.old) (M.disk media.new) }

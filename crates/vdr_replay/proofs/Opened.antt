@@ -14,7 +14,7 @@ use Rattle.vdr_config.specs.Sizes.{limits_in}
 use Rattle.vdr_opening.specs.Media.{both, Contents, opening_of, reading_of}
 use Rattle.vdr_opening.specs.declared.refused.OpenRefused.{OpenRefused}
 use Rattle.vdr_opening.specs.declared.refused.OpenRefused.TheVariants as refusals
-use Rattle.vdr_vault.specs.Openings.{LeavesAll, OpensAtEachMoment}
+use Rattle.vdr_vault.specs.Openings.{LeavesAll, OpensAtEachMoment, WritesMissing}
 use Rattle.vdr_vault.specs.Regularity.{AreSound}
 use Rattle.vdr_vault.specs.Vaults.{ShowsHistory}
 use Rattle.vdr_feed.specs.Feed.{feed_header}
@@ -94,9 +94,9 @@ no_run_of_feed faults.Fault refuses = absurd refuses
 no_run_of_feed (faults.Refused number offset) refuses = absurd refuses
 
 -- What opening leaves as it was stays so over a call that touches nothing.
-pub level_still : {tells tells_images A : Type 0} (disk : A → Disk tells tells_images) (old : Disk tells tells_images) (mid new : A) → new ≡ mid
-    → LeavesAll old (disk mid) × ((disk mid).reads ≡ old.reads) → LeavesAll old (disk new) × ((disk new).reads ≡ old.reads)
-level_still disk old mid new same still = subst (λ a. LeavesAll old (disk a) × ((disk a).reads ≡ old.reads)) (sym same) still
+pub missing_still : {tells tells_images A : Type 0} (disk : A → Disk tells tells_images) (x : Contents) (old : Disk tells tells_images) (mid new : A) → new ≡ mid
+    → WritesMissing x old (disk mid) → WritesMissing x old (disk new)
+missing_still disk x old mid new same still = subst (λ a. WritesMissing x old (disk a)) (sym same) still
 
 pub beside_still : {tells tells_images A : Type 0} (disk : A → Disk tells tells_images) (old : Image) (mid new : A) → new ≡ mid → SameBut 1 old (disk mid).reads → SameBut 1 old (disk new).reads
 beside_still disk old mid new same still = subst (λ a. SameBut 1 old (disk a).reads) (sym same) still

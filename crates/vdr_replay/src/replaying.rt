@@ -1,14 +1,14 @@
 // A feed is recorded on the media.
 ghost use Rattle.std.specs.Prelude.{◌≡◌, ◌≤◌, ℕ, List, length, sum, Some, Err, IfOk, IsErrOf};
 ghost use Rattle.std.specs.Io.KnownBytes.{IsAtEnd};
-ghost use Rattle.vdr_durability.specs.Readings.{AreLevel, EndsMeet};
+ghost use Rattle.vdr_durability.specs.Readings.{EndsMeet};
 ghost use Rattle.vdr_outside.specs.Causes.{Rose};
 ghost use Rattle.vdr_outside.specs.Disk.{SameBut};
 ghost use Rattle.vdr_media.specs.Formatted.{IsFormatted, IsUnformatted};
 ghost use Rattle.vdr_opening.specs.Media.{Contents, HoldsContents, both, reading_of};
 ghost use Rattle.vdr_opening.specs.Refusals.{IsRefused};
 ghost use Rattle.vdr_vault.specs.Calls.{SameElsewhere};
-ghost use Rattle.vdr_vault.specs.Openings.{LeavesAll};
+ghost use Rattle.vdr_vault.specs.Openings.{LeavesAll, WritesMissing};
 ghost use Rattle.vdr_vault.specs.Regularity.{AreSound};
 ghost use Rattle.vdr_replay.specs.Answers.{Answers, Decides, EndsAtHeader, HasReplayCause, IfOpened, IsLegible, RefusesMedia, RefusesRun, TellsHeader};
 ghost use Rattle.vdr_replay.specs.Headline.{LeavesHistory};
@@ -52,8 +52,7 @@ pub fn replay<I: Source, M: Media>(
     ensures unopened { EndsAtHeader result → media.new ≡ media.old }
     ensures untouched { RefusesMedia result → LeavesAll (M.disk media.old) (M.disk media.new) × (M.tells → (M.disk media.new).reads ≡ (M.disk media.old).reads) }
     ensures legible { M.tells → IfOpened result (IsLegible (M.disk media.old).reads (λ x. Decides x (I.left input.old) (I.left input.new) result)) }
-    ensures level { RefusesRun result → (x : Contents) → M.tells → HoldsContents (M.disk media.old).reads x → AreLevel both (reading_of x)
-        → LeavesAll (M.disk media.old) (M.disk media.new) × ((M.disk media.new).reads ≡ (M.disk media.old).reads) }
+    ensures missing { RefusesRun result → (x : Contents) → M.tells → HoldsContents (M.disk media.old).reads x → WritesMissing x (M.disk media.old) (M.disk media.new) }
     ensures beside { RefusesRun result → M.tells → SameBut 1 (M.disk media.old).reads (M.disk media.new).reads }
     ensures whole { IfOk result (λ r. r.end ≡ Whole → IsAtEnd (I.left input.new)) }
     ensures input_ends { IfOk result (λ r. r.end ≡ InputEnds → Rose (I.faults input.old) (I.faults input.new)) }

@@ -23,7 +23,7 @@ use Rattle.vdr_vault.specs.Vaults.{MembersState, ShowsHistory, Stands}
 use Rattle.vdr_vault.specs.declared.refused.SaveRefused.{SaveRefused as Refused}
 use Rattle.vdr_vault.specs.declared.refused.SaveRefused.TheVariants as saves
 use Rattle.vdr_command.specs.Endings.{IsWorkDone}
-use Rattle.vdr_command.specs.Opened.{AreLooks, IfNoIncident, IsLegibleWith, IsOneEvent, IsUnbegun, KeepsContents, MayLeave, MediaEnds, MetUnsound, PrintsText, WasRecorded, WritesNothing}
+use Rattle.vdr_command.specs.Opened.{AddsMissing, AreLooks, IfNoIncident, IsLegibleWith, IsOneEvent, IsUnbegun, KeepsContents, MayLeave, MediaEnds, MetUnsound, PrintsText, WasRecorded}
 use Rattle.vdr_command.specs.Statuses.{status_of_opening}
 use Rattle.vdr_command.specs.Outside.{MediaSeen, OutputSeen, Prints, PrintsFront}
 use Rattle.vdr_tool.specs.Releases.{CanRelease, ReleasesId, status_of_release}
@@ -34,7 +34,7 @@ use Rattle.vdr_command.specs.declared.status.SaveCause.TheVariants.{Label, Nothi
 use Rattle.vdr_command.specs.declared.status.Status.{Status}
 use Rattle.vdr_command.specs.declared.status.Status.TheVariants.{Done, MediaFault, OutputFault, SaveRefused}
 use Rattle.vdr_replay.proofs.Playing.{config_read}
-use Rattle.vdr_command.proofs.OpenedLemmas.{OpenedOn, OpensLevel, done_either, kept_by_call, legible_so, level_looked, level_still, one_look, reads_done, worked_ends}
+use Rattle.vdr_command.proofs.OpenedLemmas.{OpenedOn, done_either, kept_by_call, legible_so, missing_looked, missing_still, one_look, reads_done, worked_ends}
 
 -- Of a refused opening nothing is printed.
 pub prints_nothing : (text : List ℕ) (refused : OpenRefused) (old new : OutputSeen) → PrintsText text (status_of_opening refused) old new
@@ -300,23 +300,23 @@ unsaved_prints text saves.Fault old new = tt
 
 -- A refused save, and a refused release, write nothing where opening wrote nothing.
 module _ {tells tells_images A : Type 0} (disk : A → Disk tells tells_images) (old : Disk tells tells_images) (mid new : A) (members : MembersState) where
-  pub unsaved_level : (label : List ℕ) (saved : Result ℕ Refused) (refused : Refused) → saved ≡ Err refused → OpensLevel old (disk mid)
+  pub unsaved_adds : (label : List ℕ) (saved : Result ℕ Refused) (refused : Refused) → saved ≡ Err refused → AddsMissing old (disk mid)
       → ((refused : Refused) → saved ≡ Err refused → (refused ≡ saves.Label) ⊎ ((refused ≡ saves.Nothing) ⊎ (refused ≡ saves.TableFull)) → (members.failed ≡ false) × (save_refusal label members ≡ Some refused))
       → ((refused : Refused) → members.failed ≡ false → save_refusal label members ≡ Some refused → new ≡ mid)
       → ((m offset : ℕ) → saved ≡ Err (saves.Damaged m offset) → Unchanged (disk mid) (disk new))
-      → IsUnbegun (status_of_save refused) → WritesNothing old (disk new)
-  unsaved_level label saved saves.Label is level reason refused damaged unbegun =
-      let why = reason saves.Label is (inl refl) in level_still disk old mid new level (refused saves.Label why.0 why.1)
-  unsaved_level label saved saves.Nothing is level reason refused damaged unbegun =
-      let why = reason saves.Nothing is (inr (inl refl)) in level_still disk old mid new level (refused saves.Nothing why.0 why.1)
-  unsaved_level label saved saves.TableFull is level reason refused damaged unbegun =
-      let why = reason saves.TableFull is (inr (inr refl)) in level_still disk old mid new level (refused saves.TableFull why.0 why.1)
-  unsaved_level label saved (saves.Damaged m offset) is level reason refused damaged unbegun = level_looked old (disk mid) (disk new) level (damaged m offset is)
-  unsaved_level label saved saves.Fault is level reason refused damaged unbegun = absurd unbegun
+      → IsUnbegun (status_of_save refused) → AddsMissing old (disk new)
+  unsaved_adds label saved saves.Label is adds reason refused damaged unbegun =
+      let why = reason saves.Label is (inl refl) in missing_still disk old mid new adds (refused saves.Label why.0 why.1)
+  unsaved_adds label saved saves.Nothing is adds reason refused damaged unbegun =
+      let why = reason saves.Nothing is (inr (inl refl)) in missing_still disk old mid new adds (refused saves.Nothing why.0 why.1)
+  unsaved_adds label saved saves.TableFull is adds reason refused damaged unbegun =
+      let why = reason saves.TableFull is (inr (inr refl)) in missing_still disk old mid new adds (refused saves.TableFull why.0 why.1)
+  unsaved_adds label saved (saves.Damaged m offset) is adds reason refused damaged unbegun = missing_looked old (disk mid) (disk new) adds (damaged m offset is)
+  unsaved_adds label saved saves.Fault is adds reason refused damaged unbegun = absurd unbegun
 
-  pub unreleased_level : (id : ℕ) {released : Result ⊤ ReleaseRefused} (p : Result ⊤ ReleaseRefused) → released ≡ p → OpensLevel old (disk mid)
+  pub unreleased_adds : (id : ℕ) {released : Result ⊤ ReleaseRefused} (p : Result ⊤ ReleaseRefused) → released ≡ p → AddsMissing old (disk mid)
       → (released ≡ Err releases.NoSuch → (members.failed ≡ false) × (live members.table id ≡ None)) → (members.failed ≡ false → live members.table id ≡ None → new ≡ mid)
-      → IsUnbegun (status_of_release p id) → WritesNothing old (disk new)
-  unreleased_level id (Ok u) is level reason refused unbegun = absurd unbegun
-  unreleased_level id (Err releases.NoSuch) is level reason refused unbegun = let why = reason is in level_still disk old mid new level (refused why.0 why.1)
-  unreleased_level id (Err releases.Fault) is level reason refused unbegun = absurd unbegun
+      → IsUnbegun (status_of_release p id) → AddsMissing old (disk new)
+  unreleased_adds id (Ok u) is adds reason refused unbegun = absurd unbegun
+  unreleased_adds id (Err releases.NoSuch) is adds reason refused unbegun = let why = reason is in missing_still disk old mid new adds (refused why.0 why.1)
+  unreleased_adds id (Err releases.Fault) is adds reason refused unbegun = absurd unbegun

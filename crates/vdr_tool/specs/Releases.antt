@@ -8,7 +8,7 @@ use Rattle.vdr_incident.specs.declared.refused.ReleaseRefused.{ReleaseRefused}
 use Rattle.vdr_incident.specs.declared.refused.ReleaseRefused.TheVariants as releases
 use Rattle.vdr_opening.specs.Media.{both, Contents, HoldsContents, reading_of}
 use Rattle.vdr_command.specs.Endings.{IsDone}
-use Rattle.vdr_command.specs.Opened.{IfNoIncident, IsLegibleWith, IsUnbegun, MayLeave, MediaEnds, RefusesAll, WritesNothing}
+use Rattle.vdr_command.specs.Opened.{AddsMissing, IfNoIncident, IsLegibleWith, IsUnbegun, MayLeave, MediaEnds, RefusesAll}
 use Rattle.vdr_command.specs.Outside.{NothingFailed, Outside}
 use Rattle.vdr_command.specs.Promises.{Promise}
 use Rattle.vdr_command.specs.declared.status.Status.{Status}
@@ -53,7 +53,7 @@ pub record Releases {tells tells_images : Type 0} (id : ℕ) (old new : Outside 
   pub silent : new.output ≡ old.output
   -- the media, and what is said of them
   pub media : MediaEnds (CanRelease id) ⊥ (MayLeave (ReleasesId id) new.media.disk.clock status) old.media new.media status
-  pub level : IsUnbegun status → WritesNothing old.media.disk new.media.disk
+  pub missing : IsUnbegun status → AddsMissing old.media.disk new.media.disk
   -- nothing else comes in the place of the release, or of a refusal, but want of memory
   pub complete : NothingFailed old new → tells → ReleasesAll id old.media.disk.reads status
 

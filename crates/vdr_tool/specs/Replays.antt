@@ -21,7 +21,7 @@ use Rattle.vdr_replay.specs.declared.ended.Replayed.{Replayed}
 use Rattle.vdr_replay.specs.declared.ended.ReplayStop.{ReplayStop}
 use Rattle.vdr_replay.specs.declared.ended.ReplayStop.TheVariants as stops
 use Rattle.vdr_command.specs.Endings.{IsDone, IsRefusal}
-use Rattle.vdr_command.specs.Opened.{IsLegibleWith, IsUntouched, WasRecorded, WritesNothing}
+use Rattle.vdr_command.specs.Opened.{AddsMissing, IsLegibleWith, IsUntouched, WasRecorded}
 use Rattle.vdr_command.specs.Outside.{AreLeftAlone, InputFailed, MediaFailed, MediaSeen, NothingFailed, OutputFailed, OutputSeen, Outside, Prints, PrintsFront, Writes}
 use Rattle.vdr_command.specs.Promises.{Promise}
 use Rattle.vdr_tool.specs.Summaries.{summary_text}
@@ -55,7 +55,7 @@ pub record ReplayEnds {tells tells_images : Type 0} (input now : Option (List �
   pub untouched : RefusesMedia answer → IsUntouched old.disk new.disk
   -- nor does a run that is refused write more than the batch that the long-term medium lacks
   pub beside : RefusesRun answer → tells → SameBut 1 old.disk.reads new.disk.reads
-  pub level : RefusesRun answer → WritesNothing old.disk new.disk
+  pub missing : RefusesRun answer → AddsMissing old.disk new.disk
   -- each refusal comes only in its case
   pub header : TellsHeader input now answer
   pub legible : tells → IfOpened answer (IsLegibleWith old.disk.reads (λ x. Decides x input now answer))

@@ -11,7 +11,7 @@ use Rattle.vdr_vault.specs.Saves.{refusal_from}
 use Rattle.vdr_vault.specs.declared.refused.SaveRefused.{SaveRefused as Refused}
 use Rattle.vdr_vault.specs.declared.refused.SaveRefused.TheVariants as saves
 use Rattle.vdr_command.specs.Endings.{IsDone, IsWorkDone}
-use Rattle.vdr_command.specs.Opened.{IsLegibleWith, IsUnbegun, MayLeave, MediaEnds, MetUnsound, PrintsText, RefusesAll, WasRecorded, WritesNothing, newest_of}
+use Rattle.vdr_command.specs.Opened.{AddsMissing, IsLegibleWith, IsUnbegun, MayLeave, MediaEnds, MetUnsound, PrintsText, RefusesAll, WasRecorded, newest_of}
 use Rattle.vdr_command.specs.Outside.{NothingFailed, OutputFailed, Outside}
 use Rattle.vdr_command.specs.Promises.{Promise}
 use Rattle.vdr_command.specs.declared.status.SaveCause.{SaveCause}
@@ -90,7 +90,7 @@ pub record Saves {tells tells_images : Type 0} (label : List ℕ) (old new : Out
   pub silent : IsWorkDone status ⊎ (new.output ≡ old.output)
   -- the media, and what is said of them
   pub media : MediaEnds (CanSave label) (MetUnsound old.media.disk (CanSave label)) (MayLeave (SavesAs label) new.media.disk.clock status) old.media new.media status
-  pub level : IsUnbegun status → WritesNothing old.media.disk new.media.disk
+  pub missing : IsUnbegun status → AddsMissing old.media.disk new.media.disk
   -- nothing else comes in the place of the save, or of a refusal, but want of memory
   pub complete : NothingFailed old new → tells → SavesAll label old.media.disk.reads status
 

@@ -3,7 +3,7 @@ ghost use Rattle.std.specs.Prelude.{◌≡◌, ◌≤◌, ◌⊎◌, ◌++◌, c
 ghost use Rattle.vdr_outside.specs.Causes.{Rose};
 ghost use Rattle.vdr_opening.specs.Media.{Contents, HoldsContents};
 ghost use Rattle.vdr_command.specs.Endings.{IsWorkDone, ending};
-ghost use Rattle.vdr_command.specs.Opened.{IsLegibleWith, IsUnbegun, MayLeave, MediaEnds, MetUnsound, PrintsText, WritesNothing};
+ghost use Rattle.vdr_command.specs.Opened.{AddsMissing, IsLegibleWith, IsUnbegun, MayLeave, MediaEnds, MetUnsound, PrintsText};
 ghost use Rattle.vdr_tool.specs.Saves.{CanSave, IfSaveRefused, IsJudged, IsSaveStatus, Saves, SavesAs, id_line, save_text};
 ghost use Rattle.vdr_command.specs.declared.status.Status.TheVariants.{OutputFault, Words};
 
@@ -48,7 +48,7 @@ fn save<I: Source + Drop, O: Sink + Drop, M: Media + Drop>(
     requires two { 2 ≤ length (M.disk world.old.media).sizes }
     requires three { length (M.disk world.old.media).sizes ≤ 3 }
     ensures statuses { IsSaveStatus (ending result) }
-    ensures level { IsUnbegun (ending result) → WritesNothing (M.disk world.old.media) (M.disk world.new.media) }
+    ensures missing { IsUnbegun (ending result) → AddsMissing (M.disk world.old.media) (M.disk world.new.media) }
     ensures media { let at = ⟦<World<I, O, M> as Outer>⟧.outside in MediaEnds (CanSave label.now) (MetUnsound (M.disk world.old.media) (CanSave label.now))
         (MayLeave (SavesAs label.now) (M.disk world.new.media).clock (ending result)) (at world.old).media (at world.new).media (ending result) }
     ensures refused { IfSaveRefused (ending result) (λ cause. M.tells → IsLegibleWith (M.disk world.old.media).reads (IsJudged label.now (Some cause))) }

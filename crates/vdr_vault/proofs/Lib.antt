@@ -13,6 +13,7 @@ pub mod OpenContents
 pub mod ReconcileBatch
 pub mod ReconcileLayouts
 pub mod ReconcileShown
+pub mod ReconcileWithin
 pub mod ReconcileStages
 pub mod ReconcileStands
 pub mod ReconcileDone

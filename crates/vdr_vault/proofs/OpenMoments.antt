@@ -1,5 +1,5 @@
 -- What holds at every moment of an opening, call by call.
-use Rattle.std.proofs.Common.{◌≡◌, inl, inr, ℕ, List, [], None, option_map, false, All, Contains, sym, ap, ◌∙◌, subst, arith, append-nil}
+use Rattle.std.proofs.Common.{◌≡◌, ◌⊎◌, inl, inr, ℕ, List, [], None, option_map, false, All, Contains, sym, ap, ◌∙◌, subst, arith, append-nil}
 use Rattle.vdr_terms.specs.Order.{AreInOrder as RecordsAreInOrder}
 use Rattle.vdr_terms.specs.Records.{Record, last}
 use Rattle.vdr_history.specs.Histories.{incidents}
@@ -25,7 +25,8 @@ use Rattle.vdr_opening.specs.Answers.{IsOpened, OpenedState}
 use Rattle.vdr_vault.specs.Regularity.{AreSound}
 use Rattle.vdr_vault.specs.Vaults.{IsReadable, IsReadableAt, MembersState, ShowsHistory, ring_of, tick_utc}
 use Rattle.vdr_vault.proofs.ShownImages.{has_capsule, has_long_term, records_are}
-use Rattle.vdr_vault.specs.Openings.{GoesOnBehind, GoesOnSynced, LeavesAll, opened_with}
+use Rattle.vdr_vault.specs.Openings.{EndsWithin, GoesOnBehind, GoesOnSynced, LeavesAll, opened_with}
+use Rattle.vdr_vault.proofs.ReconcileWithin.{held_within}
 use Rattle.vdr_vault.proofs.OpenContents.{held_durable, level_lacks_none, opened_on, restored_shown}
 
 -- A vault that is made of what was opened, wherever it goes on.
@@ -50,6 +51,13 @@ module _ {tells tells_images : Type 0} where
   -- Calls that only read durable media.
   pub reading_shown : (x : Contents) (old new : Disk tells tells_images) → Unchanged old new → All (λ m. Durable m old) both → HoldsContents old.reads x → EndsMeet both (reading_of x) → AreSound x → AtEachMoment old new (ShowsHistory (opening_of x) [])
   reading_shown x old new same durable h meet sound = moments_and_reads old old new _ (moments_none old _ (λ i now. restored_shown x i (held_durable x old durable h i now) meet sound)) same
+
+  pub reading_within : (x : Contents) (old new : Disk tells tells_images) → Unchanged old new → All (λ m. Durable m old) both → HoldsContents old.reads x → EndsMeet both (reading_of x) → AtEachMoment old new (EndsWithin x)
+  reading_within x old new same durable h meet = moments_and_reads old old new _ (moments_none old _ (λ i now. held_within x i meet (held_durable x old durable h i now))) same
+
+  -- Before the syncs a stop leaves what it might have left, and after them whole batches.
+  pub within_synced : (x : Contents) (old mid new : Disk tells tells_images) → LeavesAll old mid → AtEachMoment mid new (EndsWithin x) → AtEachMoment old new (λ i. old.now i ⊎ EndsWithin x i)
+  within_synced x old mid new first second = moments_join old mid new _ (moments_weaken old mid _ _ first (λ i now. inl now)) (moments_weaken mid new _ _ second (λ i s. inr s))
 
   -- Once the syncs have succeeded.
   pub goes_on_synced : (shows : Image → Type 0) (old mid new : Disk tells tells_images) → LeavesAll old mid → AtEachMoment mid new shows → GoesOnSynced old new shows

@@ -1,5 +1,5 @@
 -- The appended batch, or none: what each moment shows, and how the vault stands.
-use Rattle.std.proofs.Common.{◌≡◌, ◌≢◌, inl, inr, ℕ, ◌+◌, ◌<◌, ◌≤◌, List, [], ◌∷◌, length, get_or, ◌==◌, true, false, All, Result, Ok, OnOk, refl, sym, ap, ◌∙◌, subst, arith}
+use Rattle.std.proofs.Common.{◌≡◌, ◌≢◌, inl, inr, ℕ, ◌+◌, ◌<◌, ◌≤◌, List, [], ◌∷◌, ◌++◌, length, get_or, ◌==◌, true, false, All, Result, Ok, OnOk, refl, sym, ap, ◌∙◌, subst, arith}
 use Rattle.std.specs.Prelude.{⊤}
 use Rattle.std.proofs.lemmas.Bool.{eqb-true, true≢false}
 use Rattle.std.proofs.lemmas.List.{nil_from_length}
@@ -11,7 +11,7 @@ use Rattle.vdr_retention.specs.Retention.{Pin}
 use Rattle.vdr_durability.specs.Readings.{AreLevel, IsPassedOn, Reading}
 use Rattle.vdr_durability.specs.Shown.{pins_of}
 use Rattle.vdr_outside.specs.Disk.{Disk, Durable, SameBut, content}
-use Rattle.vdr_outside.specs.Moments.{ChangesOnly}
+use Rattle.vdr_outside.specs.Moments.{AtEachMoment, ChangesOnly}
 use Rattle.vdr_outside.specs.declared.fault.Fault.{Fault}
 use Rattle.vdr_outside.proofs.Moments.{moments_none}
 use Rattle.vdr_terms.specs.Needs.{slots_in}
@@ -19,21 +19,23 @@ use Rattle.vdr_config.specs.Sizes.{sizes_of}
 use Rattle.vdr_config.specs.Configuration.{Configuration, IsConfiguration}
 use Rattle.vdr_media.proofs.Two.{all_two}
 use Rattle.vdr_slots.specs.Slots.{SameFront}
-use Rattle.vdr_ring.specs.Sequence.{Placed}
+use Rattle.vdr_ring.specs.Sequence.{Placed, batches_in}
 use Rattle.vdr_ring.specs.Order.{AreInOrder}
 use Rattle.vdr_ring.specs.Rings.{HasMedium, HoldsAny, HoldsPlaced, IsSameRing, RingState}
 use Rattle.vdr_ring.specs.Rings as rings
 use Rattle.vdr_ring.specs.Stages.{AreStages, Continues, Stages}
+use Rattle.vdr_ring.specs.Regularity.{MissOneAtMost}
 use Rattle.vdr_opening.specs.Media.{both, Contents, HasFront, opening_of, reading_of}
 use Rattle.vdr_opening.specs.Answers.{IsMissing, IsOpened, IsRingOf}
 use Rattle.vdr_vault.specs.Vaults.{AreRings, MembersState, Stands, ring_of}
 use Rattle.vdr_vault.specs.Regularity.{AreSound}
-use Rattle.vdr_vault.specs.Openings.{GoesOnBehind, Reconciles, opened_with}
+use Rattle.vdr_vault.specs.Openings.{EndsWithin, GoesOnBehind, Reconciles, opened_with}
 use Rattle.vdr_vault.proofs.ShownFronts.{front_stays, table_stays}
 use Rattle.vdr_vault.proofs.CommitMoments.{zero_one}
 use Rattle.vdr_vault.proofs.OpenContents.{held_durable}
 use Rattle.vdr_vault.proofs.ReconcileShown.{level_opened, opened_shown, with_long_term}
-use Rattle.vdr_vault.proofs.ReconcileStages.{Lacks, appending_shown, done_opened, first_place, lacked_goes_on}
+use Rattle.vdr_vault.proofs.ReconcileWithin.{Lacks, appending_within, first_place, held_within, lacked_goes_on}
+use Rattle.vdr_vault.proofs.ReconcileStages.{appending_shown, done_opened}
 use Rattle.vdr_vault.proofs.ReconcileStands.{ReadsVault, opened_stands, reads_beside}
 
 pub none_of_length : (records : List Record) → (length records == 0) ≡ true → records ≡ []
@@ -59,7 +61,7 @@ with_ring members ring = record members { long_term = ring }
 
 module _ {tells tells_images : Type 0} where
   module _ (x : Contents) (members : MembersState) (missing : List Record) (disk : Disk tells tells_images) (told : tells) (working : members.failed ≡ false) (are : AreRings members disk.sizes)
-      (o : IsOpened (opened_with members missing) x disk) (sound : AreSound x) (behind : GoesOnBehind x members) where
+      (o : IsOpened (opened_with members missing) x disk) where
     its : (m : ℕ) → IsRingOf members.config disk.sizes m (ring_of members m) → IsRingOf x.config disk.sizes m (ring_of members m)
     its m h = subst (λ (c : Configuration). IsRingOf c disk.sizes m (ring_of members m)) o.config h
 
@@ -69,9 +71,12 @@ module _ {tells tells_images : Type 0} where
     long_term_durable : Durable 1 disk
     long_term_durable = subst (λ (k : ℕ). Durable k disk) (its 1 (are 1 1 (omega arith))).medium o.long_term.settled.durable
 
-    -- No batch is missing.
-    pub reconciled_level : missing ≡ [] → Reconciles x members disk disk (Ok tt)
-    reconciled_level none =
+    -- No batch is missing
+    pub within_level : AtEachMoment disk disk (EndsWithin x)
+    within_level = moments_none disk _ (λ i now. held_within x i o.meet (held_durable x disk (all_two (λ m. Durable m disk) capsule_durable long_term_durable) o.holds i now))
+
+    pub reconciled_level : AreSound x → GoesOnBehind x members → missing ≡ [] → Reconciles x members disk disk (Ok tt)
+    reconciled_level sound behind none =
         let opened = level_opened x sound.regular (all_two (λ m. AreInOrder (x.placed m)) (o.holds.media 0 0 (omega arith)).segments.order (o.holds.media 1 1 (omega arith)).segments.order) o.holds.there
         (none_missing x missing none o.missing) in
         record {
@@ -100,7 +105,6 @@ module _ {tells tells_images : Type 0} where
       lacks = record {
         told = told;
         holds = o.holds;
-        sound = sound;
         passed = some_missing x missing some o.missing;
         capsule = capsule_durable;
         is_its = its 1 (are 1 1 (omega arith));
@@ -120,43 +124,45 @@ module _ {tells tells_images : Type 0} where
             room = room;
           })
 
-      pub reconciled_append :
-          ((placed : List Placed) (first : ℕ) → tells → rings.Reads members.long_term placed disk → Continues placed first missing
+      -- What the append says of its stages and of what stands before the slots.
+      module _
+          (appended : (placed : List Placed) (first : ℕ) → tells → rings.Reads members.long_term placed disk → Continues placed first missing
           → (stages : Stages) × AreStages members.long_term.segment members.long_term.slots members.long_term.seconds pins placed first missing stages
           × ChangesOnly members.long_term.medium (HoldsAny members.long_term.segment members.long_term.slots (placed ∷ stages.closed ∷ stages.begun ∷ stages.done ∷ [])) disk new
           × OnOk result (rings.Reads ring stages.done new))
-          → (Durable members.long_term.medium disk → ChangesOnly members.long_term.medium (SameFront (content disk.reads members.long_term.medium)) disk new)
-          → (tells → SameFront (content disk.reads members.long_term.medium) (content new.reads members.long_term.medium))
-          → (tells → SameBut members.long_term.medium disk.reads new.reads)
-          → Reconciles x (with_ring members ring) disk new result
-      reconciled_append appended front front_reads others = record {
-        moments = appending_shown x missing members.long_term disk lacks stages are_stages new changed fronts;
-        done = on_ok_weaker result (λ reads. (with_long_term x.placed stages.done, stands reads)) made.3;
-      }
-        where
-          medium : members.long_term.medium ≡ 1
-          medium = (are 1 1 (omega arith)).medium
+          (front : Durable members.long_term.medium disk → ChangesOnly members.long_term.medium (SameFront (content disk.reads members.long_term.medium)) disk new) where
+        medium : members.long_term.medium ≡ 1
+        medium = (are 1 1 (omega arith)).medium
 
-          beside : members.capsule.medium ≢ 1
-          beside = λ e. let is = (are 0 0 (omega arith)).medium in absurd (omega (arith, e, is))
+        beside : members.capsule.medium ≢ 1
+        beside = λ e. let is = (are 0 0 (omega arith)).medium in absurd (omega (arith, e, is))
 
-          made : (stages : Stages) × AreStages members.long_term.segment members.long_term.slots members.long_term.seconds pins (x.placed 1) (first_place x) missing stages
-              × ChangesOnly members.long_term.medium (HoldsAny members.long_term.segment members.long_term.slots (x.placed 1 ∷ stages.closed ∷ stages.begun ∷ stages.done ∷ [])) disk new
-              × OnOk result (rings.Reads ring stages.done new)
-          made = appended (x.placed 1) (first_place x) told o.long_term (lacked_goes_on x missing members.long_term disk lacks)
+        made : (stages : Stages) × AreStages members.long_term.segment members.long_term.slots members.long_term.seconds pins (x.placed 1) (first_place x) missing stages
+            × ChangesOnly members.long_term.medium (HoldsAny members.long_term.segment members.long_term.slots (x.placed 1 ∷ stages.closed ∷ stages.begun ∷ stages.done ∷ [])) disk new
+            × OnOk result (rings.Reads ring stages.done new)
+        made = appended (x.placed 1) (first_place x) told o.long_term (lacked_goes_on x missing members.long_term disk lacks)
 
-          stages : Stages
-          stages = made.0
+        stages : Stages
+        stages = made.0
 
-          are_stages : AreStages members.long_term.segment members.long_term.slots members.long_term.seconds (pins_of x.table) (x.placed 1) (first_place x) missing stages
-          are_stages = subst (λ (ps : List Pin). AreStages members.long_term.segment members.long_term.slots members.long_term.seconds ps (x.placed 1) (first_place x) missing stages) (pins_are ∙ ap pins_of o.table) made.1
+        are_stages : AreStages members.long_term.segment members.long_term.slots members.long_term.seconds (pins_of x.table) (x.placed 1) (first_place x) missing stages
+        are_stages = subst (λ (ps : List Pin). AreStages members.long_term.segment members.long_term.slots members.long_term.seconds ps (x.placed 1) (first_place x) missing stages) (pins_are ∙ ap pins_of o.table) made.1
 
-          changed : ChangesOnly 1 (HoldsAny members.long_term.segment members.long_term.slots (x.placed 1 ∷ stages.closed ∷ stages.begun ∷ stages.done ∷ [])) disk new
-          changed = subst (λ (m : ℕ). ChangesOnly m (HoldsAny members.long_term.segment members.long_term.slots (x.placed 1 ∷ stages.closed ∷ stages.begun ∷ stages.done ∷ [])) disk new) medium made.2
+        changed : ChangesOnly 1 (HoldsAny members.long_term.segment members.long_term.slots (x.placed 1 ∷ stages.closed ∷ stages.begun ∷ stages.done ∷ [])) disk new
+        changed = subst (λ (m : ℕ). ChangesOnly m (HoldsAny members.long_term.segment members.long_term.slots (x.placed 1 ∷ stages.closed ∷ stages.begun ∷ stages.done ∷ [])) disk new) medium made.2
 
-          fronts : ChangesOnly 1 (SameFront (content disk.reads 1)) disk new
-          fronts = subst (λ (m : ℕ). ChangesOnly m (SameFront (content disk.reads m)) disk new) medium (front o.long_term.settled.durable)
+        fronts : ChangesOnly 1 (SameFront (content disk.reads 1)) disk new
+        fronts = subst (λ (m : ℕ). ChangesOnly m (SameFront (content disk.reads m)) disk new) medium (front o.long_term.settled.durable)
 
+        -- Whole batches stand on the long-term medium at every moment, sound or not.
+        pub within_append :
+            ((size count seconds : ℕ) (pins : List Pin) (placed : List Placed) (first : ℕ) (records : List Record) (stages : Stages) → AreStages size count seconds pins placed first records stages
+            → MissOneAtMost stages.closed placed × (batches_in stages.begun ≡ batches_in stages.closed) × (batches_in stages.done ≡ batches_in stages.closed ++ records ∷ []))
+            → AtEachMoment disk new (EndsWithin x)
+        within_append batches = appending_within x missing members.long_term disk lacks stages are_stages (batches _ _ _ _ _ _ _ stages are_stages) new changed fronts
+
+        module _ (sound : AreSound x) (behind : GoesOnBehind x members) (front_reads : tells → SameFront (content disk.reads members.long_term.medium) (content new.reads members.long_term.medium))
+            (others : tells → SameBut members.long_term.medium disk.reads new.reads) where
           front_now : tells → SameFront (content disk.reads 1) (content new.reads 1)
           front_now t = subst (λ (m : ℕ). SameFront (content disk.reads m) (content new.reads m)) medium (front_reads t)
 
@@ -164,7 +170,7 @@ module _ {tells tells_images : Type 0} where
           others_now t = subst (λ (m : ℕ). SameBut m disk.reads new.reads) medium (others t)
 
           stands : rings.Reads ring stages.done new → Stands (opening_of x) [] (with_ring members ring) (with_long_term x.placed stages.done) new
-          stands reads = opened_stands x (with_ring members ring) (with_long_term x.placed stages.done) new sound (done_opened x missing members.long_term disk lacks stages are_stages) (record {
+          stands reads = opened_stands x (with_ring members ring) (with_long_term x.placed stages.done) new sound (done_opened x missing members.long_term disk lacks sound stages are_stages) (record {
             working = working;
             config = o.config;
             table = o.table;
@@ -178,3 +184,9 @@ module _ {tells tells_images : Type 0} where
             next = behind.place;
             last_is = behind.newest;
           })
+
+          pub reconciled_append : Reconciles x (with_ring members ring) disk new result
+          reconciled_append = record {
+            moments = appending_shown x missing members.long_term disk lacks sound stages are_stages new changed fronts;
+            done = on_ok_weaker result (λ reads. (with_long_term x.placed stages.done, stands reads)) made.3;
+          }

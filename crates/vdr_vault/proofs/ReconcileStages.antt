@@ -24,7 +24,6 @@ use Rattle.vdr_ring.specs.Order.{AreInOrder}
 use Rattle.vdr_ring.specs.Rings.{RingState, HoldsAny, HoldsPlaced}
 use Rattle.vdr_ring.specs.Regularity.{AreRegular}
 use Rattle.vdr_ring.specs.Stages.{AreStages, Continues, Stages}
-use Rattle.vdr_ring.proofs.Keeping.{orders_of}
 use Rattle.vdr_opening.specs.Media.{both, Contents, HasFront, HoldsContents, IsMedium, opening_of, reading_of}
 use Rattle.vdr_opening.specs.Answers.{IsRingOf}
 use Rattle.vdr_vault.specs.Vaults.{ShowsHistory}
@@ -37,44 +36,15 @@ use Rattle.vdr_durability.proofs.Unbroken.{unbroken_held}
 use Rattle.vdr_vault.proofs.ShownFronts.{front_stays, table_stays}
 use Rattle.vdr_vault.proofs.ShownImages.{placed_there, records_are}
 use Rattle.vdr_vault.proofs.CommitPins.{HoldPins}
-use Rattle.vdr_vault.proofs.CommitReady.{are_there, begins_first, continues, pins_there}
+use Rattle.vdr_vault.proofs.CommitReady.{are_there, pins_there}
 use Rattle.vdr_vault.proofs.CommitStages.{IsAfter, IsBefore, IsReady, StaysRegular, begun_before, begun_stays, closed_before, closed_stays, done_after, placed_before, placed_stays}
 use Rattle.vdr_vault.proofs.CommitMoments.{changes_both, one, zero_one}
-use Rattle.vdr_vault.proofs.ReconcileBatch.{last_is_legal, last_runs_on, runs_from}
+use Rattle.vdr_vault.proofs.ReconcileBatch.{last_runs_on}
 use Rattle.vdr_vault.proofs.ReconcileLayouts.{missing_is_paced, pins_read, segments_read}
-use Rattle.vdr_vault.proofs.ReconcileShown.{AreOpened, capsule_restored, leads, long_term_restored, opened_shown, still_waits, waiting_shown, waits, with_long_term, with_placed}
+use Rattle.vdr_vault.proofs.ReconcileWithin.{Lacks, any_of_four, first_place, lacked_follows, lacked_orders, windowed}
+use Rattle.vdr_vault.proofs.ReconcileShown.{AreOpened, capsule_restored, leads, long_term_restored, opened_shown, still_waits, waiting_shown, with_long_term, with_placed}
 
--- The place after the last record of the long-term medium.
-abbrev pub first_place : Contents → ℕ
-first_place x = next_after (last (all_records (x.placed 1)))
-
--- One of four stages.
-any_of_four : {X : Type 0} (P : X → Type 0) (R : Type 0) (a b c d : X) → (P a → R) → (P b → R) → (P c → R) → (P d → R) → Any P (a ∷ b ∷ c ∷ d ∷ []) → R
-any_of_four P R a b c d p q r s (zero, y, lt, is, h) = p (subst P (sym is) h)
-any_of_four P R a b c d p q r s (suc zero, y, lt, is, h) = q (subst P (sym is) h)
-any_of_four P R a b c d p q r s (suc (suc zero), y, lt, is, h) = r (subst P (sym is) h)
-any_of_four P R a b c d p q r s (suc (suc (suc zero)), y, lt, is, h) = s (subst P (sym is) h)
-any_of_four P R a b c d p q r s (suc (suc (suc (suc k))), y, lt, is, h) = absurd (omega (arith, lt))
-
-windowed : (c : Configuration) (m : ℕ) → IsConfiguration c → 0 < window_of c m
-windowed c m is =
-    let a = is.capsule_low in
-    let b = is.long_low in
-    cond_both (m == 0) c.capsule_seconds c.long_seconds (λ (n : ℕ). 0 < n) (λ _. omega (arith, a)) (λ _. omega (arith, b))
-
--- What is known of the media before it: they hold these contents, the capsule is durable, and this is the long-term medium's ring.
-pub record Lacks {tells tells_images : Type 0} (x : Contents) (batch : List Record) (ring : RingState) (disk : Disk tells tells_images) : Type 0 where
-  pub told : tells
-  pub holds : HoldsContents disk.reads x
-  pub sound : AreSound x
-  pub passed : IsPassedOn both (0 ∷ []) (1 ∷ []) batch (reading_of x)
-  pub capsule : Durable 0 disk
-  pub is_its : IsRingOf x.config disk.sizes 1 ring
-  pub reads : HoldsPlaced ring.segment ring.slots (x.placed 1) (content disk.reads 1)
-  pub ranges : IsConfiguration x.config
-  pub fits : 64 + batch_size batch + 1 ≤ ring.segment
-
-module _ {tells tells_images : Type 0} (x : Contents) (batch : List Record) (ring : RingState) (disk : Disk tells tells_images) (h : Lacks x batch ring disk) where
+module _ {tells tells_images : Type 0} (x : Contents) (batch : List Record) (ring : RingState) (disk : Disk tells tells_images) (h : Lacks x batch ring disk) (sound : AreSound x) where
   order_at : All (λ m. AreInOrder (x.placed m)) both
   order_at = all_two (λ m. AreInOrder (x.placed m)) (h.holds.media 0 0 (omega arith)).segments.order (h.holds.media 1 1 (omega arith)).segments.order
 
@@ -87,9 +57,9 @@ module _ {tells tells_images : Type 0} (x : Contents) (batch : List Record) (rin
   ready : IsReady (sizes_of x.config) 1 ring.segment ring.slots ring.seconds (pins_of x.table) (all_records (x.placed 1)) batch (x.placed 1)
   ready = record {
     allowed = record {
-      regular = segments_read x h.sound.regular 1 1 (omega arith);
-      paced = missing_is_paced x h.sound.regular batch runs.0 (h.passed.given_end 0 0 (omega arith)) (h.passed.waiting_end 0 1 (omega arith)) runs.1;
-      saves = pins_read x h.sound.regular 1 1 (omega arith);
+      regular = segments_read x sound.regular 1 1 (omega arith);
+      paced = missing_is_paced x sound.regular batch runs.0 (h.passed.given_end 0 0 (omega arith)) (h.passed.waiting_end 0 1 (omega arith)) runs.1;
+      saves = pins_read x sound.regular 1 1 (omega arith);
       slots = subst (λ (n : ℕ). needed_slots (sizes_of x.config) 1 ≤ n) (sym (h.is_its.slots ∙ ap (λ (n : ℕ). slots_in (sizes_of x.config) n) (sym (size_read disk 1 h.told)))) (h.holds.media 1 1 (omega arith)).front.configured.fits;
       segment = sym h.is_its.segment;
       room = let low = h.ranges.segment_low in let four = h.ranges.four_batches in omega (arith, low, four);
@@ -102,18 +72,18 @@ module _ {tells tells_images : Type 0} (x : Contents) (batch : List Record) (rin
   }
 
   follow : FollowOn (last (all_records (x.placed 1))) batch
-  follow = ready.allowed.paced.order
+  follow = lacked_follows x batch ring disk h
 
   -- Each medium is sound by itself: the capsule as it is, the long-term medium with the batch.
   capsule_sound : IsSoundAlone x.config 0 (x.placed 0) x.table (all_records (x.placed 0))
   capsule_sound = record {
-    regular = segments_read x h.sound.regular 0 0 (omega arith);
+    regular = segments_read x sound.regular 0 0 (omega arith);
     pins = no_pins x.config (all_records (x.placed 0));
-    unbroken = subst (IsUnbroken (window_of x.config 0)) (capsule_restored x batch h.passed follow) (h.sound.unbroken 0 0 (omega arith));
+    unbroken = subst (IsUnbroken (window_of x.config 0)) (capsule_restored x batch h.passed follow) (sound.unbroken 0 0 (omega arith));
   }
 
   unbroken_with : IsUnbroken (window_of x.config 1) (all_records (x.placed 1) ++ batch)
-  unbroken_with = subst (IsUnbroken (window_of x.config 1)) (long_term_restored x batch h.passed follow) (h.sound.unbroken 1 1 (omega arith))
+  unbroken_with = subst (IsUnbroken (window_of x.config 1)) (long_term_restored x batch h.passed follow) (sound.unbroken 1 1 (omega arith))
 
   waiting_sound : (now : List Placed) → AreInOrder now → Retains (window_of x.config 1) (pins_on 1 x.table) (all_records (x.placed 1)) (all_records now) → StaysRegular (sizes_of x.config) 1 (pins_of x.table) batch now
       → AreSound (with_placed x (with_long_term x.placed now))
@@ -132,15 +102,9 @@ module _ {tells tells_images : Type 0} (x : Contents) (batch : List Record) (rin
             (pins_on 1 x.table) retains unbroken_with;
       })
 
-  -- The batch goes on where the medium ends.
-  pub lacked_goes_on : Continues (x.placed 1) (first_place x) batch
-  lacked_goes_on = continues (x.placed 1) batch (first_place x) ready.order refl
-      (runs_from batch (first_place x) runs.0 runs.1 (and_parts _ _ (ap (λ (rs : List Record). comes_next (last rs) batch) (sym (records_are (x.placed 1))) ∙ waits x batch h.passed follow)).0) ready.allowed.paced.some follow
-
   module _ (stages : Stages) (are : AreStages ring.segment ring.slots ring.seconds (pins_of x.table) (x.placed 1) (first_place x) batch stages) where
     orders : AreInOrder stages.closed × AreInOrder stages.begun × AreInOrder stages.done
-    orders = orders_of (sizes_of x.config) 1 ring.segment ring.slots ring.seconds (pins_of x.table) (x.placed 1) (first_place x) batch stages (content disk.reads 1) h.reads ready.order lacked_goes_on
-        (last_is_legal _ _ (x.placed 0) _ batch (h.holds.media 0 0 (omega arith)).segments.holds ends) h.fits ready.allowed are (begins_first (x.placed 1) (first_place x) refl)
+    orders = lacked_orders x batch ring disk h stages are
 
     done : IsAfter (sizes_of x.config) 1 ring.seconds (pins_of x.table) (all_records (x.placed 1)) batch (x.placed 1) stages.done
     done = done_after (sizes_of x.config) 1 ring.segment ring.slots ring.seconds (pins_of x.table) (all_records (x.placed 1)) batch (x.placed 1) (first_place x) ready stages are
@@ -156,8 +120,8 @@ module _ {tells tells_images : Type 0} (x : Contents) (batch : List Record) (rin
           (retains_itself (window_of x.config 0) (pins_on 0 x.table) (all_records (x.placed 0))))
           (subst (λ (rs : List Record). Retains (window_of x.config 1) (pins_of x.table) rs (all_records stages.done)) (sym (long_term_restored x batch h.passed follow))
           (subst (λ (n : ℕ). Retains n (pins_of x.table) (all_records (x.placed 1) ++ batch) (all_records stages.done)) h.is_its.seconds done.retains));
-      regular = all_two (λ m. AreRegular (cost (sizes_of x.config)) (usable (sizes_of x.config)) x.config.batch (with_long_term x.placed stages.done m)) (segments_read x h.sound.regular 0 0 (omega arith)) done.regular;
-      pins = all_two (λ m. ArePinsOf (sizes_of x.config) m (all_records (with_long_term x.placed stages.done m)) (pins_on m x.table)) (pins_read x h.sound.regular 0 0 (omega arith)) done.pins_are;
+      regular = all_two (λ m. AreRegular (cost (sizes_of x.config)) (usable (sizes_of x.config)) x.config.batch (with_long_term x.placed stages.done m)) (segments_read x sound.regular 0 0 (omega arith)) done.regular;
+      pins = all_two (λ m. ArePinsOf (sizes_of x.config) m (all_records (with_long_term x.placed stages.done m)) (pins_on m x.table)) (pins_read x sound.regular 0 0 (omega arith)) done.pins_are;
       there = are_there x.table stages.done done.pinned;
     }
 

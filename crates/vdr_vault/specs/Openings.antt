@@ -3,17 +3,19 @@ use Rattle.std.specs.Prelude.{◌≡◌, ◌⊎◌, ◌≤◌, ℕ, List, [], ge
 use Rattle.vdr_terms.specs.Records.{Record, last}
 use Rattle.vdr_durability.specs.Readings.{AreLevel, EndsMeet, next_after}
 use Rattle.vdr_outside.specs.Causes.{NoneFalls, Rose}
-use Rattle.vdr_outside.specs.Disk.{Disk, Image, SameBut}
+use Rattle.vdr_outside.specs.Disk.{Disk, Image, SameBut, content}
 use Rattle.vdr_outside.specs.Moments.{AtEachMoment}
 use Rattle.vdr_outside.specs.declared.fault.Fault.{Fault}
 use Rattle.vdr_outside.specs.declared.media.Media.{Ghosts as MediaTells}
 use Rattle.vdr_media.specs.Formatted.{IsFormatted, IsUnformatted}
 use Rattle.vdr_ring.specs.Sequence.{Placed, all_records}
+use Rattle.vdr_ring.specs.Keeping.{AreWhole}
+use Rattle.vdr_incident.specs.Tables.{HoldsTable}
 use Rattle.vdr_opening.specs.declared.refused.OpenRefused.{OpenRefused}
 use Rattle.vdr_opening.specs.declared.refused.OpenRefused.TheVariants.{Damaged, Fault as a_fault, NotFormatted}
-use Rattle.vdr_opening.specs.Media.{both, Contents, HoldsContents, opening_of, reading_of}
+use Rattle.vdr_opening.specs.Media.{both, Contents, HoldsContents, IsMedium, opening_of, reading_of}
 use Rattle.vdr_opening.specs.Refusals.{IsRefused}
-use Rattle.vdr_opening.specs.Answers.{HasOpenCause, OpenedState}
+use Rattle.vdr_opening.specs.Answers.{HasOpenCause, IsMissing, OpenedState}
 use Rattle.vdr_vault.specs.Vaults.{AreRings, IsReadable, MembersState, ShowsHistory, Stands, of_stamp, tick_utc}
 use Rattle.vdr_vault.specs.Regularity.{AreSound}
 
@@ -31,6 +33,17 @@ pub record HasCauseOnBoth {T E : Type 0} (before now : List ℕ) (result : Resul
 pub record GoesOnBehind (x : Contents) (members : MembersState) : Type 0 where
   pub place : members.next_place ≡ next_after (last (all_records (x.placed 0)))
   pub newest : members.last ≡ option_map tick_utc (last (all_records (x.placed 0)))
+
+-- Of media with these contents, sound or not, nothing else was written than the batch that the long-term medium lacks: that has whole
+-- batches of before, all but those of one segment at the most, with the missing one behind them or without.
+pub record EndsWithin (x : Contents) (image : Image) : Type 0 where
+  pub capsule : IsMedium 0 x.config x.text (x.placed 0) (content image 0)
+  pub now : List Placed
+  pub long_term : IsMedium 1 x.config x.text now (content image 1)
+  pub table : HoldsTable x.config.incident_slots x.table (content image 1)
+  pub missing : List Record
+  pub lacks : IsMissing missing (reading_of x)
+  pub whole : AreWhole (x.placed 1) now missing
 
 module _ {tells tells_images : Type 0} where
   -- Nothing was written: a stop left what a stop before the call might have left.
@@ -53,6 +66,12 @@ module _ {tells tells_images : Type 0} where
 
   abbrev pub OpensAtEachMoment : {T : Type 0} → Disk tells tells_images → Disk tells tells_images → Result T OpenRefused → (Image → Type 0) → Type 0
   OpensAtEachMoment old new result shows = EndsBeforeSync old new result ⊎ GoesOnSynced old new shows
+
+  -- What opening writes of media with these contents, sound or not: nothing where both end with the last batch, and else at most the
+  -- batch that the long-term medium lacks.
+  pub record WritesMissing (x : Contents) (old new : Disk tells tells_images) : Type 0 where
+    pub level : AreLevel both (reading_of x) → LeavesAll old new × (new.reads ≡ old.reads)
+    pub missing : EndsMeet both (reading_of x) → AtEachMoment old new (λ i. old.now i ⊎ EndsWithin x i)
 
   -- While the missing batch is appended a stop leaves media that show what was opened, and then the vault stands over it.
   pub record Reconciles (x : Contents) (members : MembersState) (old new : Disk tells tells_images) (result : Result ⊤ Fault) : Type 0 where

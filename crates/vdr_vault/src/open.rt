@@ -12,7 +12,7 @@ ghost use Rattle.vdr_opening.specs.Answers.{HasOpenCause, IsOpened};
 ghost use Rattle.vdr_opening.specs.declared.refused.OpenRefused.TheVariants.{Damaged, NotFormatted};
 ghost use Rattle.vdr_vault.specs.Vaults.{AreRings, IsReadable, ShowsHistory, Stands, of_stamp};
 ghost use Rattle.vdr_vault.specs.Regularity.{AreSound};
-ghost use Rattle.vdr_vault.specs.Openings.{GoesOnBehind, HasCauseOnBoth, LeavesAll, OpensAtEachMoment, OpensMembers, ReachesLongTerm, Reconciles, RefusesMedia, opened_with};
+ghost use Rattle.vdr_vault.specs.Openings.{EndsWithin, GoesOnBehind, HasCauseOnBoth, LeavesAll, OpensAtEachMoment, OpensMembers, ReachesLongTerm, Reconciles, RefusesMedia, WritesMissing, opened_with};
 
 use crate::Members;
 use crate::members::ending;
@@ -20,6 +20,7 @@ use std::alloc::Global;
 use vdr_entry::Record;
 use vdr_opening::{OpenRefused, Opened, read_media};
 use vdr_outside::{Failed, Fault, Media};
+use vdr_ring::law_of_stages;
 
 // Syncs both media.
 fn sync_both<M: Media>(media: &mut M) -> Result<(), Failed>
@@ -42,6 +43,8 @@ impl Members {
         requires fits { missing.now ≢ [] → 64 + batch_size missing.now + 1 ≤ self.old.config.segment }
         ensures reconciled { (x : Contents) → M.tells → IsOpened (opened_with self.old missing.now) x (M.disk media.old) → AreSound x
             → GoesOnBehind x self.old → Reconciles x self.new (M.disk media.old) (M.disk media.new) result }
+        ensures within { (x : Contents) → M.tells → IsOpened (opened_with self.old missing.now) x (M.disk media.old)
+            → AtEachMoment (M.disk media.old) (M.disk media.new) (EndsWithin x) }
         ensures config { self.new.config ≡ self.old.config }
         ensures table { self.new.table ≡ self.old.table }
         ensures last { self.new.last ≡ self.old.last }
@@ -56,6 +59,7 @@ impl Members {
         if missing.is_empty() {
             return Ok(());
         }
+        law_of_stages();
         let pins = self.pins();
         self.long_term.append(media, missing, &pins)
     }
@@ -76,6 +80,8 @@ impl Members {
             → IsReadable (opening_of x) [] members x.placed (M.disk media.new)) }
         ensures level { (x : Contents) → M.tells → All (λ m. Durable m (M.disk media.old)) both → HoldsContents (M.disk media.old).reads x → AreLevel both (reading_of x)
             → Unchanged (M.disk media.old) (M.disk media.new) }
+        ensures within { (x : Contents) → M.tells → All (λ m. Durable m (M.disk media.old)) both → HoldsContents (M.disk media.old).reads x → EndsMeet both (reading_of x)
+            → AtEachMoment (M.disk media.old) (M.disk media.new) (EndsWithin x) }
         ensures works { IfOk result (λ members. members.failed ≡ false) }
         ensures rings { IfOk result (λ members. AreRings members (M.disk media.new).sizes) }
         ensures moments { (x : Contents) → M.tells → All (λ m. Durable m (M.disk media.old)) both → HoldsContents (M.disk media.old).reads x → EndsMeet both (reading_of x) → AreSound x
@@ -119,15 +125,15 @@ impl Members {
     /// `NotFormatted` and `Damaged` come exactly as `vdr_opening::read_media` says, and nothing was written. `Fault`: a call failed, and
     /// the count of faults of that medium rose.
     ///
-    /// Nothing but the long-term medium is written, and where both end with the last batch nothing is. Where the media are sound, a stop at each moment leaves what a stop before the call might have left, until the syncs have
-    /// succeeded; from then on media that show what was opened, with the batch that the long-term medium lacks. Of media that are not formatted it leaves what a stop before the call
-    /// might have left, whatever is answered.
+    /// Nothing but the long-term medium is written, of legible media at most the batch that it lacks, and where both end with the last
+    /// batch nothing is. Where the media are sound, a stop at each moment leaves what a stop before the call might have left, until the
+    /// syncs have succeeded; from then on media that show what was opened, with the batch that the long-term medium lacks. Of media that
+    /// are not formatted it leaves what a stop before the call might have left, whatever is answered.
     pub fn open<M: Media>(alloc: Global, media: &mut M) -> Result<Members, OpenRefused>
         requires two { 2 ≤ length (M.disk media.old).sizes }
         requires three { length (M.disk media.old).sizes ≤ 3 }
         ensures opened { OpensMembers result (M.disk media.old) (M.disk media.new) }
-        ensures level { (x : Contents) → M.tells → HoldsContents (M.disk media.old).reads x → AreLevel both (reading_of x)
-            → LeavesAll (M.disk media.old) (M.disk media.new) × ((M.disk media.new).reads ≡ (M.disk media.old).reads) }
+        ensures missing { (x : Contents) → M.tells → HoldsContents (M.disk media.old).reads x → WritesMissing x (M.disk media.old) (M.disk media.new) }
         ensures moments { (x : Contents) → M.tells → HoldsContents (M.disk media.old).reads x → EndsMeet both (reading_of x) → AreSound x
             → OpensAtEachMoment (M.disk media.old) (M.disk media.new) result (ShowsHistory (opening_of x) []) }
         ensures refused { RefusesMedia result (M.disk media.old) (M.disk media.new) }

@@ -5,7 +5,7 @@ use Rattle.vdr_opening.specs.declared.refused.OpenRefused.{OpenRefused}
 use Rattle.vdr_export.proofs.Refusing.{looked_nothing}
 use Rattle.vdr_command.specs.Opened.{AreLooks}
 use Rattle.vdr_command.specs.Outside.{Outside, MediaSeen}
-use Rattle.vdr_command.proofs.OpenedLemmas.{level_looked, level_opened, no_looks, refused_ends}
+use Rattle.vdr_command.proofs.OpenedLemmas.{missing_looked, no_looks, refused_ends}
 use Rattle.vdr_config.specs.Configuration.{Configuration}
 use Rattle.vdr_readout.specs.Exports.{kind_at, wished}
 use Rattle.vdr_readout.specs.Reads.{plain_play}
@@ -23,14 +23,14 @@ returns-in_err-recording-clause-ends g c =
     refl
     (refused_ends _ _ AreLooks _ _ c.open.result c.in_err-recording.field-0.0 no_looks c.in_err-recording.was
     told.refused.unformatted told.refused.damaged told.refused.untouched told.refused.blank told.writes.others told.writes.cause told.moments)
-    (level_opened (g.M.Media.disk c.args.world.now.media) (g.M.Media.disk c.open.new.media) told.level))
+    told.missing)
 
 pub returns-in_default-clause-ends : goal.returns-in_default-clause-ends
 returns-in_default-clause-ends g c =
     let told = c.open.ensures in
     channel_exports _ _ _ _ c.open.result c.in_ok-recording.recording c.in_ok-recording.was c.in_ok-recording.recording.members c.in_default.ensures.none c.in_ok-recording.ensures.opened.contents
     told.writes.others told.moments (λ a b h k. (c.law_of_contents.ensures.config (g.M.Media.disk c.args.world.now.media).reads a b h k).0)
-    c.report_channel.ensures (level_opened (g.M.Media.disk c.args.world.now.media) (g.M.Media.disk c.open.new.media) told.level)
+    c.report_channel.ensures told.missing
 
 pub returns-in_default-accept-clause-ends : goal.returns-in_default-accept-clause-ends
 returns-in_default-accept-clause-ends g c =
@@ -48,7 +48,7 @@ returns-in_default-accept-clause-ends g c =
     let wants = wanted_so _ _ _ _ _ (asked c.in-Some.query) c.in-Some.ensures.found.0 c.in-Some.ensures.found.1 in
     rw (c.id_of.ensures)
     (incident_exports c.args.wish (plain_play c.args.wanted) old mid mid.media c.in_ok-recording.recording c.in_ok-recording.recording (asked c.in-Some.query) wants told.opened.works told.opened.contents told.opened.opened told.opened.readable
-    c.open.ensures.writes.cause.later c.open.ensures.writes.others (level_opened (g.M.Media.disk c.args.world.now.media) (g.M.Media.disk c.open.new.media) c.open.ensures.level) c.open.result c.open.ensures.moments
+    c.open.ensures.writes.cause.later c.open.ensures.writes.others c.open.ensures.missing c.open.result c.open.ensures.moments
     c.accept.result _ c.accept.ensures c.in_default-accept.is
     (looked_nothing (asked c.in-Some.query) c.in_ok-recording.recording (g.M.Media.disk c.open.new.media) (g.M.Media.bytes_read c.open.new.media) (g.M.Media.faults c.open.new.media) ⊥ (λ never. never) told.opened.rings) refl)
 
@@ -68,7 +68,7 @@ returns-in_default-file_of-clause-ends g c =
     let wants = wanted_so _ _ _ _ _ (asked c.in-Some.query) c.in-Some.ensures.found.0 c.in-Some.ensures.found.1 in
     let there = both_there _ _ c.accept.result c.accept.ensures c.in-Ok.is in
     kind_exports c.args.wish (plain_play c.args.wanted) old mid mid.media c.in_ok-recording.recording c.in_ok-recording.recording (asked c.in-Some.query) wants told.opened.works told.opened.contents told.opened.opened told.opened.readable
-    c.open.ensures.writes.cause.later c.open.ensures.writes.others (level_opened (g.M.Media.disk c.args.world.now.media) (g.M.Media.disk c.open.new.media) c.open.ensures.level) c.open.result c.open.ensures.moments
+    c.open.ensures.writes.cause.later c.open.ensures.writes.others c.open.ensures.missing c.open.result c.open.ensures.moments
     there.0 there.1 c.file_of.result (c.file_of.ensures ∙ ap (λ (d : Configuration). wished c.args.wish (kind_at d.channels c.in-Some.query.channel)) c.config.ensures) c.in_default-file_of.is
     (λ a b h k. (c.law_of_contents.ensures.config (g.M.Media.disk c.args.world.now.media).reads a b h k).0)
     (looked_nothing (asked c.in-Some.query) c.in_ok-recording.recording (g.M.Media.disk c.open.new.media) (g.M.Media.bytes_read c.open.new.media) (g.M.Media.faults c.open.new.media) ⊥ (λ never. never) told.opened.rings) refl
@@ -97,7 +97,7 @@ returns-clause-ends g c =
     rw c.exported.ensures
     (made_exports c.args.wish (plain_play c.args.wanted) old new mid.media c.in_ok-recording.recording c.export_file-written.new.recording (asked c.in-Some.query) wants told.opened.works told.opened.contents told.opened.opened told.opened.readable
     c.open.ensures.writes.cause.later c.open.ensures.writes.others
-    (level_looked (g.M.Media.disk c.args.world.now.media) (g.M.Media.disk c.open.new.media) (g.M.Media.disk c.export_file-written.new.media) c.open.ensures.level made.looked.read.unchanged) c.open.result c.open.ensures.moments
+    (missing_looked (g.M.Media.disk c.args.world.now.media) (g.M.Media.disk c.open.new.media) (g.M.Media.disk c.export_file-written.new.media) c.open.ensures.missing made.looked.read.unchanged) c.open.result c.open.ensures.moments
     there.0 there.1 c.file_of.result (c.file_of.ensures ∙ ap (λ (d : Configuration). wished c.args.wish (kind_at d.channels c.in-Some.query.channel)) c.config.ensures) c.in-Some-file_of.file c.in-Some-file_of.is
     (λ a b h k. (c.law_of_contents.ensures.config (g.M.Media.disk c.args.world.now.media).reads a b h k).0) c.export_file-written.result made.file made.looked made.own
     (still_output c.args.world.now.output c.export_file-written.new.out c.export_file-written.result _ (λ (o : g.row.O.Denot). record { taken = g.O.Sink.taken o; faults = g.O.Sink.faults o }) made.silent) made.output)

@@ -2,7 +2,7 @@ use Rattle.std.proofs.lemmas.Result.{err_from_is_err_and}
 use Rattle.vdr_readout.specs.Incidents.{CanList}
 use Rattle.vdr_command.specs.Opened.{AreLooks}
 use Rattle.vdr_command.specs.declared.status.Status.TheVariants.{Done, OutputFault}
-use Rattle.vdr_command.proofs.OpenedLemmas.{level_opened, no_looks, refused_ends}
+use Rattle.vdr_command.proofs.OpenedLemmas.{no_looks, refused_ends}
 use Rattle.vdr_readout.proofs.ListLemmas.{listed_ends}
 use Rattle.vdr_readout.proofs.listing.list.Goals as goal
 
@@ -25,11 +25,11 @@ returns-clause-media g c =
     listed_ends _ _ c.open.result c.in_ok-recording.recording c.in_ok-recording.was c.in_ok-recording.recording.members c.in_ok-recording.ensures.opened.contents
     (λ x t holds sound. let w = (c.in_ok-recording.ensures.opened.opened x t holds sound).3.works c.in_ok-recording.ensures.opened.works in (w.placed, w.stands)) told.writes.others told.moments OutputFault tt
 
-pub returns-in_err-recording-clause-level : goal.returns-in_err-recording-clause-level
-returns-in_err-recording-clause-level g c = level_opened (g.M.Media.disk c.args.world.now.media) (g.M.Media.disk c.open.new.media) c.open.ensures.level
+pub returns-in_err-recording-clause-missing : goal.returns-in_err-recording-clause-missing
+returns-in_err-recording-clause-missing g c = c.open.ensures.missing
 
-pub returns-in-Ok-clause-level : goal.returns-in-Ok-clause-level
-returns-in-Ok-clause-level g c = level_opened (g.M.Media.disk c.args.world.now.media) (g.M.Media.disk c.open.new.media) c.open.ensures.level
+pub returns-in-Ok-clause-missing : goal.returns-in-Ok-clause-missing
+returns-in-Ok-clause-missing g c = c.open.ensures.missing
 
-pub returns-clause-level : goal.returns-clause-level
-returns-clause-level g c = level_opened (g.M.Media.disk c.args.world.now.media) (g.M.Media.disk c.open.new.media) c.open.ensures.level
+pub returns-clause-missing : goal.returns-clause-missing
+returns-clause-missing g c = c.open.ensures.missing

@@ -3,7 +3,7 @@ use Rattle.std.proofs.lemmas.Result.{err_from_is_err_and}
 use Rattle.vdr_entry.specs.Queries.{asked}
 use Rattle.vdr_command.specs.Opened.{AreLooks}
 use Rattle.vdr_command.specs.Outside.{Outside, OutputSeen}
-use Rattle.vdr_command.proofs.OpenedLemmas.{level_looked, level_opened, no_looks, refused_ends}
+use Rattle.vdr_command.proofs.OpenedLemmas.{missing_looked, no_looks, refused_ends}
 use Rattle.vdr_readout.specs.Reads.{AskedPlay, plain_play}
 use Rattle.vdr_readout.proofs.ReadLemmas.{channel_reads, never_damaged, opening_reads, read_ends, read_shows, wanted_so}
 use Rattle.vdr_readout.proofs.reading.read_out.Goals as goal
@@ -16,13 +16,13 @@ returns-in_err-recording-clause-reads g c first had =
     (opening_reads _ _ _ _ _ _ _ _ c.in_err-recording.field-0.0 refl
     (refused_ends _ _ AreLooks _ _ c.open.result c.in_err-recording.field-0.0 no_looks c.in_err-recording.was
     told.refused.unformatted told.refused.damaged told.refused.untouched told.refused.blank told.writes.others told.writes.cause told.moments)
-    (level_opened (g.M.Media.disk c.args.world.now.media) (g.M.Media.disk c.open.new.media) told.level))
+    told.missing)
 
 pub returns-in_default-clause-reads : goal.returns-in_default-clause-reads
 returns-in_default-clause-reads g c first had =
     let told = c.open.ensures in
     channel_reads _ _ _ _ _ _ _ _ c.open.result c.in_ok-recording.recording c.in_ok-recording.was c.in_ok-recording.recording.members c.in_default.ensures.none c.in_ok-recording.ensures.opened.contents
-    told.writes.others told.moments c.report_channel.ensures (level_opened (g.M.Media.disk c.args.world.now.media) (g.M.Media.disk c.open.new.media) told.level)
+    told.writes.others told.moments c.report_channel.ensures told.missing
 
 pub returns-clause-reads : goal.returns-clause-reads
 returns-clause-reads g c first had =
@@ -58,5 +58,5 @@ returns-clause-reads g c first had =
       media =
           read_ends wanted old.media mid.media new.media c.in_ok-recording.recording c.visit-ended.new.self (asked c.in-Some.query) c.visit-ended.result wants told.opened.works told.opened.contents told.opened.opened told.opened.readable
           visit.accepted undamaged visit.looked c.open.ensures.writes.cause.later c.open.ensures.writes.others _ c.ended_by.ensures.own c.open.result c.open.ensures.moments;
-      level = level_looked (g.M.Media.disk c.args.world.now.media) (g.M.Media.disk c.open.new.media) (g.M.Media.disk c.visit-ended.new.media) c.open.ensures.level visit.looked.read.unchanged;
+      missing = missing_looked (g.M.Media.disk c.args.world.now.media) (g.M.Media.disk c.open.new.media) (g.M.Media.disk c.visit-ended.new.media) c.open.ensures.missing visit.looked.read.unchanged;
     })

@@ -17,7 +17,7 @@ use Rattle.vdr_replay.specs.declared.ended.Replayed.{Replayed}
 use Rattle.vdr_replay.specs.declared.ended.ReplayStop.{ReplayStop}
 use Rattle.vdr_replay.proofs.Causes.{replay_after, rose_joined, sum_of_rose}
 use Rattle.vdr_replay.proofs.Headlines.{answers, begun_nothing, leaves, opened_leaves, passes_opened}
-use Rattle.vdr_replay.proofs.Opened.{admits_all, begun_header, begun_media, begun_tells, beside_still, damaged_by, header_of_feed, header_says, level_still, no_run_of_feed, not_at_header, open_stops, opened_says, opening_says, refused_media}
+use Rattle.vdr_replay.proofs.Opened.{admits_all, begun_header, begun_media, begun_tells, beside_still, damaged_by, header_of_feed, header_says, missing_still, no_run_of_feed, not_at_header, open_stops, opened_says, opening_says, refused_media}
 use Rattle.vdr_replay.proofs.Passing.{passes_first}
 use Rattle.vdr_replay.proofs.Playing.{config_read}
 use Rattle.vdr_feed.proofs.Progress.{read_first}
@@ -165,14 +165,14 @@ returns-clause-unopened g c = λ ends. begun_header c.record_run.result c.record
 pub returns-clause-untouched : goal.returns-clause-untouched
 returns-clause-untouched g c = λ refuses. begun_media c.record_run.result c.record_run.ensures.stops refuses
 
-pub returns-in_err-header-clause-level : goal.returns-in_err-header-clause-level
-returns-in_err-header-clause-level g c = λ refuses.
+pub returns-in_err-header-clause-missing : goal.returns-in_err-header-clause-missing
+returns-in_err-header-clause-missing g c = λ refuses.
     let p = err_from_is_err_and c.from_residual.result c.from_residual.ensures.1 in
     no_run_of_feed c.in_err-header.field-0.0 (subst RefusesRun (p.1 ∙ ap (λ (stop : ReplayStop). Err stop) p.2) refuses)
 
-pub returns-clause-level : goal.returns-clause-level
-returns-clause-level g c = λ refuses x told holds level.
-    level_still (λ m. g.M.Media.disk m) (g.M.Media.disk c.args.media.now) c.open.new.media c.record_run.new.media (c.record_run.ensures.unbegun refuses) (c.open.ensures.level x told holds level)
+pub returns-clause-missing : goal.returns-clause-missing
+returns-clause-missing g c = λ refuses x told holds.
+    missing_still (λ m. g.M.Media.disk m) x (g.M.Media.disk c.args.media.now) c.open.new.media c.record_run.new.media (c.record_run.ensures.unbegun refuses) (c.open.ensures.missing x told holds)
 
 pub returns-clause-header : goal.returns-clause-header
 returns-clause-header g c = begun_tells _ _ c.record_run.result c.record_run.ensures.stops (begins_so _ _ c.in_ok-header.ensures.bytes)

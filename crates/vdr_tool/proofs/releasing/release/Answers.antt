@@ -2,8 +2,8 @@ use Rattle.std.proofs.Common.{refl}
 use Rattle.std.proofs.lemmas.Result.{err_from_is_err_and}
 use Rattle.vdr_command.specs.Outside.{MediaSeen}
 use Rattle.vdr_tool.specs.Releases.{CanRelease, ReleasesId}
-use Rattle.vdr_command.proofs.OpenedLemmas.{level_opened, no_act, refused_ends}
-use Rattle.vdr_tool.proofs.SaveLemmas.{released_ends, released_missing, unreleased_level}
+use Rattle.vdr_command.proofs.OpenedLemmas.{no_act, refused_ends}
+use Rattle.vdr_tool.proofs.SaveLemmas.{released_ends, released_missing, unreleased_adds}
 use Rattle.vdr_tool.proofs.releasing.release.Goals as goal
 
 pub returns-in_err-recording-clause-media : goal.returns-in_err-recording-clause-media
@@ -39,12 +39,12 @@ returns-clause-no_incident g c =
     told.opened.works told.opened.contents told.opened.opened c.open.ensures.writes.cause.later c.open.ensures.writes.others release.writes.others c.args.id c.release-released.result release.event.released release.event.looked (λ works none. (release.refuses.refused works none).0)
     release.refuses.reason release.failing.fails release.failing.works release.writes.cause c.release-released.result refl)
 
-pub returns-in_err-recording-clause-level : goal.returns-in_err-recording-clause-level
-returns-in_err-recording-clause-level g c = λ _. level_opened (g.M.Media.disk c.args.world.now.media) (g.M.Media.disk c.open.new.media) c.open.ensures.level
+pub returns-in_err-recording-clause-missing : goal.returns-in_err-recording-clause-missing
+returns-in_err-recording-clause-missing g c = λ _. c.open.ensures.missing
 
-pub returns-clause-level : goal.returns-clause-level
-returns-clause-level g c =
+pub returns-clause-missing : goal.returns-clause-missing
+returns-clause-missing g c =
     let release = c.release-released.ensures in
     rw c.ended_by.ensures
-    (unreleased_level (λ m. g.M.Media.disk m) (g.M.Media.disk c.args.world.now.media) c.open.new.media c.release-released.new.media c.in_ok-recording.recording.members c.args.id c.release-released.result refl
-    c.open.ensures.level release.refuses.reason (λ works none. (release.refuses.refused works none).2))
+    (unreleased_adds (λ m. g.M.Media.disk m) (g.M.Media.disk c.args.world.now.media) c.open.new.media c.release-released.new.media c.in_ok-recording.recording.members c.args.id c.release-released.result refl
+    c.open.ensures.missing release.refuses.reason (λ works none. (release.refuses.refused works none).2))

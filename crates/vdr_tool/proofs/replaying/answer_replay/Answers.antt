@@ -19,7 +19,7 @@ returns-in_err-run-clause-owed g c =
       blank = told.blank;
       unopened = λ ends. left_alone (λ m. record { disk = g.M.Media.disk m; faults = g.M.Media.faults m; bytes_read = g.M.Media.bytes_read m }) _ _ (told.unopened ends);
       untouched = λ refuses. let same = told.untouched refuses in record { leaves = same.0; reads = same.1 };
-      level = λ refuses x t holds level. let same = told.level refuses x t holds level in record { leaves = same.0; reads = λ _. same.1 };
+      missing = told.missing;
       header = told.header;
       legible = told.legible;
       unformatted = told.unformatted;
@@ -43,7 +43,7 @@ returns-clause-owed g c =
       blank = told.blank;
       unopened = λ ends. left_alone (λ m. record { disk = g.M.Media.disk m; faults = g.M.Media.faults m; bytes_read = g.M.Media.bytes_read m }) _ _ (told.unopened ends);
       untouched = λ refuses. let same = told.untouched refuses in record { leaves = same.0; reads = same.1 };
-      level = λ refuses x t holds level. let same = told.level refuses x t holds level in record { leaves = same.0; reads = λ _. same.1 };
+      missing = told.missing;
       header = told.header;
       legible = told.legible;
       unformatted = told.unformatted;

@@ -6,8 +6,8 @@ use Rattle.vdr_command.specs.Opened.{MetUnsound}
 use Rattle.vdr_command.specs.Endings.{ending}
 use Rattle.vdr_command.specs.Outside.{MediaSeen, OutputSeen}
 use Rattle.vdr_tool.specs.Saves.{CanSave, SavesAs, id_line, save_text}
-use Rattle.vdr_command.proofs.OpenedLemmas.{done_is_begun, level_opened, no_act, refused_ends}
-use Rattle.vdr_tool.proofs.SaveLemmas.{prints_as, saved_ends, unsaved_ends, unsaved_level, unsaved_refused}
+use Rattle.vdr_command.proofs.OpenedLemmas.{done_is_begun, no_act, refused_ends}
+use Rattle.vdr_tool.proofs.SaveLemmas.{prints_as, saved_ends, unsaved_ends, unsaved_adds, unsaved_refused}
 use Rattle.vdr_tool.proofs.saving.save.Goals as goal
 
 pub returns-in_err-recording-clause-media : goal.returns-in_err-recording-clause-media
@@ -67,16 +67,16 @@ returns-clause-printed g c = λ x t holds.
     prints_as (ending c.print_id.result) (id_line (Some c.in_ok-id.id)) (save_text x.table) was next
     (ap id_line (sym c.in_ok-id.ensures.incident.id ∙ ap (λ (slots : List (Option Incident)). option_map suc (position is_none slots)) table)) c.print_id.ensures.printed
 
-pub returns-in_err-recording-clause-level : goal.returns-in_err-recording-clause-level
-returns-in_err-recording-clause-level g c = λ _. level_opened (g.M.Media.disk c.args.world.now.media) (g.M.Media.disk c.open.new.media) c.open.ensures.level
+pub returns-in_err-recording-clause-missing : goal.returns-in_err-recording-clause-missing
+returns-in_err-recording-clause-missing g c = λ _. c.open.ensures.missing
 
-pub returns-in_err-id-clause-level : goal.returns-in_err-id-clause-level
-returns-in_err-id-clause-level g c =
+pub returns-in_err-id-clause-missing : goal.returns-in_err-id-clause-missing
+returns-in_err-id-clause-missing g c =
     let save = c.save.ensures in
     let p = err_from_is_err_and c.from_residual-in_err-id.result c.from_residual-in_err-id.ensures.1 in
     rw (p.1, p.2)
-    (unsaved_level (λ m. g.M.Media.disk m) (g.M.Media.disk c.args.world.now.media) c.open.new.media c.save.new.media c.in_ok-recording.recording.members c.args.label.now c.save.result c.in_err-id.field-0.0 c.in_err-id.was
-    c.open.ensures.level save.refuses.reason (λ refused works is. (save.refuses.refused refused works is).2) (λ m offset is. (save.damage.damaged m offset is).0))
+    (unsaved_adds (λ m. g.M.Media.disk m) (g.M.Media.disk c.args.world.now.media) c.open.new.media c.save.new.media c.in_ok-recording.recording.members c.args.label.now c.save.result c.in_err-id.field-0.0 c.in_err-id.was
+    c.open.ensures.missing save.refuses.reason (λ refused works is. (save.refuses.refused refused works is).2) (λ m offset is. (save.damage.damaged m offset is).0))
 
-pub returns-clause-level : goal.returns-clause-level
-returns-clause-level g c = λ unbegun. done_is_begun (ending c.print_id.result) c.print_id.ensures.done unbegun
+pub returns-clause-missing : goal.returns-clause-missing
+returns-clause-missing g c = λ unbegun. done_is_begun (ending c.print_id.result) c.print_id.ensures.done unbegun

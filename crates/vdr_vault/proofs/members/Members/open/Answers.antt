@@ -1,9 +1,9 @@
-use Rattle.std.proofs.Common.{rules, ◌≡◌, ℕ, List, [], All, inr, sym, subst, ◌∙◌}
+use Rattle.std.proofs.Common.{rules, ◌≡◌, ℕ, List, [], All, inl, inr, sym, subst, ◌∙◌}
 use Rattle.std.proofs.lemmas.Result.{IfOk-weaker}
 use Rattle.std.specs.Prelude.{option_map}
 use Rattle.vdr_durability.specs.Readings.{AreLevel, EndsMeet}
 use Rattle.vdr_outside.specs.Disk.{Durable, Image}
-use Rattle.vdr_outside.proofs.Moments.{moments_and_reads}
+use Rattle.vdr_outside.proofs.Moments.{moments_and_reads, moments_weaken}
 use Rattle.vdr_media.specs.Formatted.{IsFormatted, IsUnformatted}
 use Rattle.vdr_ring.specs.Sequence.{Placed}
 use Rattle.vdr_opening.specs.Media.{both, Contents, HoldsContents, opening_of, reading_of}
@@ -11,7 +11,7 @@ use Rattle.vdr_opening.specs.Refusals.{IsRefused}
 use Rattle.vdr_vault.specs.Vaults.{IsReadable, MembersState, ShowsHistory, Stands, of_stamp}
 use Rattle.vdr_vault.specs.Regularity.{AreSound}
 use Rattle.vdr_vault.proofs.OpenCauses.{cause_after}
-use Rattle.vdr_vault.proofs.OpenMoments.{goes_on_synced}
+use Rattle.vdr_vault.proofs.OpenMoments.{goes_on_synced, within_synced}
 use Rattle.vdr_vault.proofs.members.Members.open.Goals as goal
 
 -- what the media with this image hold, and the vault tells of it
@@ -23,12 +23,24 @@ pub returns-clause-moments : goal.returns-clause-moments
 returns-clause-moments g c x told holds meet regular = inr (goes_on_synced (ShowsHistory (opening_of x) []) (g.M.Media.disk c.args.media.now) (g.M.Media.disk c.sync_both.new.media) (g.M.Media.disk c.open_synced.new.media)
     c.sync_both.ensures.moments (c.open_synced.ensures.moments x told c.in-Ok.ensures.durable (subst (λ (i : Image). HoldsContents i x) (sym (c.sync_both.ensures.reads told)) holds) meet regular))
 
-pub returns-clause-level : goal.returns-clause-level
-returns-clause-level g c x told holds level =
-    let same = c.open_synced.ensures.level x told c.in-Ok.ensures.durable (subst (λ (i : Image). HoldsContents i x) (sym (c.sync_both.ensures.reads told)) holds) level in (
-      moments_and_reads (g.M.Media.disk c.args.media.now) (g.M.Media.disk c.sync_both.new.media) (g.M.Media.disk c.open_synced.new.media) (λ i. (g.M.Media.disk c.args.media.now).now i) c.sync_both.ensures.moments same,
-      same.reads told ∙ c.sync_both.ensures.reads told,
-    )
+pub returns-clause-missing : goal.returns-clause-missing
+returns-clause-missing g c x told holds =
+    let mid = subst (λ (i : Image). HoldsContents i x) (sym (c.sync_both.ensures.reads told)) holds in
+    record {
+      level = λ level.
+          let same = c.open_synced.ensures.level x told c.in-Ok.ensures.durable mid level in (
+            moments_and_reads (g.M.Media.disk c.args.media.now) (g.M.Media.disk c.sync_both.new.media) (g.M.Media.disk c.open_synced.new.media) (λ i. (g.M.Media.disk c.args.media.now).now i) c.sync_both.ensures.moments same,
+            same.reads told ∙ c.sync_both.ensures.reads told,
+          );
+      missing = λ meet. within_synced x (g.M.Media.disk c.args.media.now) (g.M.Media.disk c.sync_both.new.media) (g.M.Media.disk c.open_synced.new.media) c.sync_both.ensures.moments
+          (c.open_synced.ensures.within x told c.in-Ok.ensures.durable mid meet);
+    }
+
+pub returns-in_default-clause-missing : goal.returns-in_default-clause-missing
+returns-in_default-clause-missing g c x told holds = record {
+  level = λ level. (c.sync_both.ensures.moments, c.sync_both.ensures.reads told);
+  missing = λ meet. moments_weaken (g.M.Media.disk c.args.media.now) (g.M.Media.disk c.sync_both.new.media) _ _ c.sync_both.ensures.moments (λ i now. inl now);
+}
 
 pub returns-clause-opened : goal.returns-clause-opened
 returns-clause-opened g c = record {

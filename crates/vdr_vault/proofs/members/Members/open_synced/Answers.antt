@@ -3,7 +3,7 @@ use Rattle.std.proofs.lemmas.Result.{err_from_is_err_and}
 use Rattle.vdr_outside.proofs.Moments.{moments_after_reads}
 use Rattle.vdr_vault.proofs.OpenCauses.{fault_unless_ok, no_fault}
 use Rattle.vdr_vault.proofs.OpenContents.{newest_opened, place_opened}
-use Rattle.vdr_vault.proofs.OpenMoments.{goes_on, level_missing, never_both, read_on, reading_shown, opened_to_read, readable_as, same_beside, unchanged_still}
+use Rattle.vdr_vault.proofs.OpenMoments.{goes_on, level_missing, never_both, read_on, reading_shown, reading_within, opened_to_read, readable_as, same_beside, unchanged_still}
 use Rattle.vdr_ring.proofs.Faults.{same_err}
 use Rattle.vdr_media.proofs.Two.{second_of}
 use Rattle.vdr_outside.proofs.Counts.{none_falls_join}
@@ -86,3 +86,18 @@ returns-clause-readable g c = λ x told durable holds level.
     let still = c.reconcile.ensures.level none in
     readable_as (λ m. g.M.Media.disk m) x _ c.reconcile.new.self c.read_media.new.media c.reconcile.new.media still.0 still.1
     (opened_to_read x _ _ (g.M.Media.disk c.read_media.new.media) o level refl)
+
+pub returns-in_err-config-clause-within : goal.returns-in_err-config-clause-within
+returns-in_err-config-clause-within g c x told durable holds meet = reading_within x (g.M.Media.disk c.args.media.now) (g.M.Media.disk c.read_media.new.media) c.read_media.ensures.unchanged durable holds meet
+
+pub returns-in_default-clause-within : goal.returns-in_default-clause-within
+returns-in_default-clause-within g c x told durable holds meet =
+    let was = rw (sym c.config.view_is) at c.in_ok-config.ensures.opened told durable in
+    let o = read_on _ c.deref.result.now x was.0 (g.M.Media.disk c.args.media.now) (g.M.Media.disk c.read_media.new.media) told c.read_media.ensures.unchanged c.deref.ensures.value holds was.1 in
+    moments_after_reads _ (g.M.Media.disk c.read_media.new.media) (g.M.Media.disk c.reconcile.new.media) _ c.read_media.ensures.unchanged (c.reconcile.ensures.within x told o)
+
+pub returns-clause-within : goal.returns-clause-within
+returns-clause-within g c x told durable holds meet =
+    let was = rw (sym c.config.view_is) at c.in_ok-config.ensures.opened told durable in
+    let o = read_on _ c.deref.result.now x was.0 (g.M.Media.disk c.args.media.now) (g.M.Media.disk c.read_media.new.media) told c.read_media.ensures.unchanged c.deref.ensures.value holds was.1 in
+    moments_after_reads _ (g.M.Media.disk c.read_media.new.media) (g.M.Media.disk c.reconcile.new.media) _ c.read_media.ensures.unchanged (c.reconcile.ensures.within x told o)

@@ -1,0 +1,217 @@
+-- What the long-term medium holds while the batch that it lacks is appended to it, whether the media are sound or not.
+use Rattle.std.proofs.Common.{◌≡◌, inl, inr, ⊎_elim, ℕ, zero, suc, ◌+◌, ◌<◌, ◌≤◌, List, [], ◌∷◌, ◌++◌, length, true, All, Contains, Option, Some, None, ◌==◌, refl, sym, ap, ◌∙◌, subst, arith}
+use Rattle.std.specs.Prelude.{Any}
+use Rattle.std.proofs.lemmas.Bool.{and_parts, cond_both, leb-true, true≢false}
+use Rattle.std.proofs.lemmas.List.Elements.{Contains-append_cases}
+use Rattle.vdr_terms.specs.Records.{Record, last}
+use Rattle.vdr_terms.specs.Needs.{needed_slots, slots_in}
+use Rattle.vdr_terms.specs.Order.{NeverFalls, RunOn}
+use Rattle.vdr_terms.specs.Sizes.{batch_size}
+use Rattle.vdr_retention.specs.Layout.{Batches, segment_records}
+use Rattle.vdr_retention.specs.Regular.{FollowOn}
+use Rattle.vdr_retention.proofs.Lists.{contains_cases, last_contained, none_contained}
+use Rattle.vdr_durability.specs.Readings.{EndsMeet, IsPassedOn, begins_at, begins_since, comes_next, ends_before, next_after}
+use Rattle.vdr_durability.specs.Shown.{pins_of}
+use Rattle.vdr_outside.specs.Disk.{Disk, Durable, Image, content}
+use Rattle.vdr_outside.specs.Moments.{AtEachMoment, Changed, ChangesOnly}
+use Rattle.vdr_outside.proofs.Moments.{moments_weaken, size_read}
+use Rattle.vdr_config.specs.Configuration.{Configuration, IsConfiguration}
+use Rattle.vdr_config.specs.Sizes.{sizes_of, window_of}
+use Rattle.vdr_media.proofs.Two.{all_two}
+use Rattle.vdr_slots.specs.Slots.{SameFront}
+use Rattle.vdr_ring.specs.Sequence.{Placed, all_records, batches_in, batches_of}
+use Rattle.vdr_ring.specs.Order.{AreInOrder, AreInPlace}
+use Rattle.vdr_ring.specs.Rings.{RingState, HoldsAny, HoldsPlaced}
+use Rattle.vdr_ring.specs.Stages.{AreStages, Continues, Stages}
+use Rattle.vdr_ring.specs.Regularity.{MissOneAtMost}
+use Rattle.vdr_ring.specs.Keeping.{AreWhole}
+use Rattle.vdr_ring.proofs.Beginning.{legal_batches}
+use Rattle.vdr_ring.proofs.Staging.{stages_in_order}
+use Rattle.vdr_opening.specs.Media.{both, Contents, HoldsContents, IsMedium, reading_of}
+use Rattle.vdr_opening.specs.Answers.{IsMissing, IsRingOf}
+use Rattle.vdr_vault.specs.Openings.{EndsWithin}
+use Rattle.vdr_vault.proofs.ShownFronts.{front_stays, table_stays}
+use Rattle.vdr_vault.proofs.ShownImages.{placed_there, records_are}
+use Rattle.vdr_vault.proofs.CommitReady.{begins_first, continues}
+use Rattle.vdr_vault.proofs.CommitMoments.{changes_both, one, zero_one}
+use Rattle.vdr_vault.proofs.ReconcileBatch.{last_is_legal, last_runs_on, runs_from}
+
+-- The ticks of a legal medium's last batch never fall
+
+falls_front : (from : ℕ) (xs ys : List Record) → NeverFalls from (xs ++ ys) → NeverFalls from xs
+falls_front from [] ys h = tt
+falls_front from (x ∷ xs) ys h = (h.0, falls_front x.tick xs ys h.1)
+
+tick_behind : ℕ → List Record → ℕ
+tick_behind from [] = from
+tick_behind from (x ∷ xs) = tick_behind x.tick xs
+
+falls_behind : (from : ℕ) (xs ys : List Record) → NeverFalls from (xs ++ ys) → NeverFalls (tick_behind from xs) ys
+falls_behind from [] ys h = h
+falls_behind from (x ∷ xs) ys h = falls_behind x.tick xs ys h.1
+
+batch_never_falls : (from : ℕ) (bs : Batches) (batch : List Record) → NeverFalls from (segment_records bs) → Contains bs batch → (t : ℕ) × NeverFalls t batch
+batch_never_falls from [] batch falls there = absurd (none_contained batch there)
+batch_never_falls from (b ∷ bs) batch falls there =
+    ⊎_elim
+    (λ (e : b ≡ batch). (from, subst (NeverFalls from) e (falls_front from b (segment_records bs) falls)))
+    (λ (k : Contains bs batch). batch_never_falls (tick_behind from b) bs batch (falls_behind from b (segment_records bs) falls) k)
+    (contains_cases b bs batch there)
+
+placed_never_falls : (o : Option Placed) (placed : List Placed) (batch : List Record) → AreInPlace o placed → Contains (batches_in placed) batch → (t : ℕ) × NeverFalls t batch
+placed_never_falls o [] batch order there = absurd (none_contained batch there)
+placed_never_falls o (p ∷ placed) batch order there =
+    ⊎_elim
+    (λ (k : Contains (batches_of p) batch). batch_never_falls 0 (batches_of p) batch order.0.runs_on.ticks k)
+    (λ (k : Contains (batches_in placed) batch). placed_never_falls (Some p) placed batch order.1 k)
+    (Contains-append_cases (batches_of p) (batches_in placed) batch there)
+
+from_zero : (batch : List Record) (t : ℕ) → NeverFalls t batch → NeverFalls 0 batch
+from_zero [] t falls = tt
+from_zero (r ∷ rs) t falls = (omega arith, falls.1)
+
+-- A batch whose first record may come next follows
+follows : (newest : Option Record) (batch : List Record) (t : ℕ) → NeverFalls t batch → RunOn (next_after newest) batch → begins_since newest batch ≡ true → FollowOn newest batch
+follows None batch t falls run since = (0, run, from_zero batch t falls)
+follows (Some r) [] t falls run since = (run, tt)
+follows (Some r) (x ∷ xs) t falls run since = (run, leb-true r.tick x.tick since, falls.1)
+
+begun : (place : ℕ) (batch : List Record) → begins_at place batch ≡ true → 0 < length batch
+begun place [] h = absurd (true≢false (sym h))
+begun place (r ∷ rs) h = omega arith
+
+-- The place after the last record of the long-term medium.
+abbrev pub first_place : Contents → ℕ
+first_place x = next_after (last (all_records (x.placed 1)))
+
+-- One of four stages.
+pub any_of_four : {X : Type 0} (P : X → Type 0) (R : Type 0) (a b c d : X) → (P a → R) → (P b → R) → (P c → R) → (P d → R) → Any P (a ∷ b ∷ c ∷ d ∷ []) → R
+any_of_four P R a b c d p q r s (zero, y, lt, is, h) = p (subst P (sym is) h)
+any_of_four P R a b c d p q r s (suc zero, y, lt, is, h) = q (subst P (sym is) h)
+any_of_four P R a b c d p q r s (suc (suc zero), y, lt, is, h) = r (subst P (sym is) h)
+any_of_four P R a b c d p q r s (suc (suc (suc zero)), y, lt, is, h) = s (subst P (sym is) h)
+any_of_four P R a b c d p q r s (suc (suc (suc (suc k))), y, lt, is, h) = absurd (omega (arith, lt))
+
+pub windowed : (c : Configuration) (m : ℕ) → IsConfiguration c → 0 < window_of c m
+windowed c m is =
+    let a = is.capsule_low in
+    let b = is.long_low in
+    cond_both (m == 0) c.capsule_seconds c.long_seconds (λ (n : ℕ). 0 < n) (λ _. omega (arith, a)) (λ _. omega (arith, b))
+
+-- What media whose ends meet lack
+module _ (x : Contents) where
+  waiting : (o : Option (List Record)) → last (batches_in (x.placed 0)) ≡ o → ends_before o (batches_in (x.placed 1)) ≡ true → (missing : List Record) × IsMissing missing (reading_of x)
+  waiting None is waits = absurd (true≢false (sym waits))
+  waiting (Some batch) is waits = (
+    batch,
+    inr (record {
+      split = refl;
+      some = omega arith;
+      given_end = one (λ m. last (batches_in (x.placed m)) ≡ Some batch) 0 is;
+      waiting_end = one (λ m. ends_before (Some batch) (batches_in (x.placed m)) ≡ true) 1 waits;
+    }),
+  )
+
+  pub lacked : EndsMeet both (reading_of x) → (missing : List Record) × IsMissing missing (reading_of x)
+  lacked (inl (same, inl (level, end))) = ([], inl (refl, all_two (λ m. last (batches_in (x.placed m)) ≡ last (batches_in (x.placed 0))) refl level))
+  lacked (inl (same, inr waits)) = waiting (last (batches_in (x.placed 0))) refl (waits 0 1 (omega arith))
+  lacked (inr waits) = waiting (last (batches_in (x.placed 0))) refl (waits 1 1 (omega arith))
+
+-- Media that hold these contents lack no more than that.
+pub held_within : (x : Contents) (image : Image) → EndsMeet both (reading_of x) → HoldsContents image x → EndsWithin x image
+held_within x image meet h =
+    let lacks = lacked x meet in
+    record {
+      capsule = h.media 0 0 (omega arith);
+      now = x.placed 1;
+      long_term = h.media 1 1 (omega arith);
+      table = h.table;
+      missing = lacks.0;
+      lacks = lacks.1;
+      whole = record { kept = x.placed 1; missing = inl refl; batches = inl refl };
+    }
+
+-- What is known of the media before it: they hold these contents, the capsule is durable, and this is the long-term medium's ring.
+pub record Lacks {tells tells_images : Type 0} (x : Contents) (batch : List Record) (ring : RingState) (disk : Disk tells tells_images) : Type 0 where
+  pub told : tells
+  pub holds : HoldsContents disk.reads x
+  pub passed : IsPassedOn both (0 ∷ []) (1 ∷ []) batch (reading_of x)
+  pub capsule : Durable 0 disk
+  pub is_its : IsRingOf x.config disk.sizes 1 ring
+  pub reads : HoldsPlaced ring.segment ring.slots (x.placed 1) (content disk.reads 1)
+  pub ranges : IsConfiguration x.config
+  pub fits : 64 + batch_size batch + 1 ≤ ring.segment
+
+module _ {tells tells_images : Type 0} (x : Contents) (batch : List Record) (ring : RingState) (disk : Disk tells tells_images) (h : Lacks x batch ring disk) where
+  order : AreInOrder (x.placed 1)
+  order = (h.holds.media 1 1 (omega arith)).segments.order
+
+  capsule_order : AreInOrder (x.placed 0)
+  capsule_order = (h.holds.media 0 0 (omega arith)).segments.order
+
+  ends : last (batches_in (x.placed 0)) ≡ Some batch
+  ends = h.passed.given_end 0 0 (omega arith)
+
+  comes : comes_next (last (all_records (x.placed 1))) batch ≡ true
+  comes = ap (λ (rs : List Record). comes_next (last rs) batch) (sym (records_are (x.placed 1))) ∙ h.passed.waiting_end 0 1 (omega arith)
+
+  begins : begins_at (first_place x) batch ≡ true
+  begins = (and_parts _ _ comes).0
+
+  runs : RunOn (first_place x) batch
+  runs = let run = last_runs_on (x.placed 0) batch capsule_order ends in runs_from batch (first_place x) run.0 run.1 begins
+
+  pub lacked_follows : FollowOn (last (all_records (x.placed 1))) batch
+  lacked_follows =
+      let falls = placed_never_falls None (x.placed 0) batch capsule_order (last_contained (batches_in (x.placed 0)) batch ends) in
+      follows (last (all_records (x.placed 1))) batch falls.0 falls.1 runs (and_parts _ _ comes).1
+
+  -- The batch goes on where the medium ends.
+  pub lacked_goes_on : Continues (x.placed 1) (first_place x) batch
+  lacked_goes_on = continues (x.placed 1) batch (first_place x) order refl runs (begun (first_place x) batch begins) lacked_follows
+
+  module _ (stages : Stages) (are : AreStages ring.segment ring.slots ring.seconds (pins_of x.table) (x.placed 1) (first_place x) batch stages) where
+    pub lacked_orders : AreInOrder stages.closed × AreInOrder stages.begun × AreInOrder stages.done
+    lacked_orders =
+        let enough = subst (λ (n : ℕ). needed_slots (sizes_of x.config) 1 ≤ n) (sym (h.is_its.slots ∙ ap (λ (n : ℕ). slots_in (sizes_of x.config) n) (sym (size_read disk 1 h.told)))) (h.holds.media 1 1 (omega arith)).front.configured.fits in
+        let found = stages_in_order ring.segment ring.slots ring.seconds (pins_of x.table) h.reads.slots (x.placed 1) (first_place x) batch stages (record {
+          sequence = h.reads.sequence;
+          every = h.reads.all_slots;
+          order = order;
+          batches = legal_batches ring.segment ring.slots (x.placed 1) (content disk.reads 1) h.reads;
+          goes_on = lacked_goes_on;
+          legal = last_is_legal _ _ (x.placed 0) _ batch (h.holds.media 0 0 (omega arith)).segments.holds ends;
+          fits = h.fits;
+          some = subst (λ (n : ℕ). 0 < n) (sym h.is_its.seconds) (windowed x.config 1 h.ranges);
+          two = omega (arith, enough);
+        }) are in
+        (found.0, found.1 (begins_first (x.placed 1) (first_place x) refl), found.2)
+
+    -- What an image of a stage holds
+    stage_within : (now : List Placed) → AreInOrder now → AreWhole (x.placed 1) now batch → (i : Image)
+        → Changed 1 (λ b. HoldsAny ring.segment ring.slots (x.placed 1 ∷ stages.closed ∷ stages.begun ∷ stages.done ∷ []) b × SameFront (content disk.reads 1) b) disk.now i
+        → HoldsPlaced ring.segment ring.slots now (content i 1) → EndsWithin x i
+    stage_within now in_order whole i c held = record {
+      capsule = subst (IsMedium 0 x.config x.text (x.placed 0)) (sym (c.others 0 zero_one ∙ h.capsule.each c.image c.was)) (h.holds.media 0 0 (omega arith));
+      now = now;
+      long_term = record {
+        front = front_stays (content disk.reads 1) (content i 1) c.has.1 1 x.config x.text (h.holds.media 1 1 (omega arith)).front;
+        segments = record { holds = placed_there x.config disk.sizes 1 ring now (content i 1) h.is_its (c.has.1.size ∙ size_read disk 1 h.told) held; order = in_order };
+      };
+      table = table_stays (content disk.reads 1) (content i 1) c.has.1 x.config.incident_slots x.table h.ranges.slots_high h.holds.table;
+      missing = batch;
+      lacks = inr h.passed;
+      whole = whole;
+    }
+
+    -- Whole batches stand there at every moment.
+    pub appending_within : (batches : MissOneAtMost stages.closed (x.placed 1) × (batches_in stages.begun ≡ batches_in stages.closed) × (batches_in stages.done ≡ batches_in stages.closed ++ batch ∷ []))
+        → (new : Disk tells tells_images) → ChangesOnly 1 (HoldsAny ring.segment ring.slots (x.placed 1 ∷ stages.closed ∷ stages.begun ∷ stages.done ∷ [])) disk new
+        → ChangesOnly 1 (SameFront (content disk.reads 1)) disk new → AtEachMoment disk new (EndsWithin x)
+    appending_within batches new slots front = moments_weaken disk new _ _ (changes_both 1 _ _ disk new slots front) (λ i c.
+        any_of_four (λ ps. HoldsPlaced ring.segment ring.slots ps (content i 1)) (EndsWithin x i) (x.placed 1) stages.closed stages.begun stages.done
+        (stage_within (x.placed 1) order (record { kept = x.placed 1; missing = inl refl; batches = inl refl }) i c)
+        (stage_within stages.closed lacked_orders.0 (record { kept = stages.closed; missing = batches.0; batches = inl refl }) i c)
+        (stage_within stages.begun lacked_orders.1 (record { kept = stages.closed; missing = batches.0; batches = inl batches.1 }) i c)
+        (stage_within stages.done lacked_orders.2 (record { kept = stages.closed; missing = batches.0; batches = inr batches.2 }) i c)
+        c.has.0)
