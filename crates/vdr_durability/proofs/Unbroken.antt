@@ -4,7 +4,7 @@ use Rattle.std.proofs.lemmas.Bool.{cases_Bool, cond-true, cond-false, eq-eqb, lt
 use Rattle.std.proofs.lemmas.List.Elements.{All-contains, All-head, All-tail}
 use Rattle.vdr_terms.specs.Records.{Record, second, last_after, last}
 use Rattle.vdr_terms.specs.Order.{AreInOrder, RunOn}
-use Rattle.vdr_terms.specs.Windows.{in_window, window, window_before}
+use Rattle.vdr_terms.specs.Windows.{in_window, window_before}
 use Rattle.vdr_history.specs.Histories.{Event, MayFollow, Opening, all_records, recorded}
 use Rattle.vdr_retention.specs.Regular.{FollowOn}
 use Rattle.vdr_retention.specs.Retention.{Holds}

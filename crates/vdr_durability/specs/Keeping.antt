@@ -2,7 +2,8 @@
 use Rattle.std.specs.Prelude.{ℕ, zero, suc, ◌≤◌, ◌≡◌, ◌≢◌, ◌⊎◌, Bool, true, false, List, [], ◌∷◌, ◌++◌, length, All, nat_le, if◌then◌else◌, Option, Some, None}
 use Rattle.std.specs.List.{filter_map}
 use Rattle.vdr_history.specs.Histories.{Event, PendingEnds}
-use Rattle.vdr_outside.specs.Disk.{Disk, Image}
+use Rattle.vdr_history.specs.Histories.Act.{Look}
+use Rattle.vdr_outside.specs.Disk.{Disk, Image, Unchanged}
 use Rattle.vdr_outside.specs.Moments.{AtEachMoment}
 
 -- The moment of a call's event: the media's clock as the call returned, none where the recorder had failed by then.
@@ -66,3 +67,29 @@ module _ {tells tells_images : Type 0} where
   -- At every moment of a call that is no event the media show the same.
   abbrev pub ShowsOn : (List Event → Image → Type 0) → List Event → Disk tells tells_images → Disk tells tells_images → Type 0
   ShowsOn shows events old new = AtEachMoment old new (λ image. old.now image ⊎ shows events image)
+
+  -- From the first of these disks to the second, the media keep a history, or go on keeping it.
+  pub record GoesOnKeeping (shows : List Event → Image → Type 0) (old new : Disk tells tells_images) : Type 0 where
+    -- media that show no event keep none from then on
+    pub opened : ((image : Image) → new.now image → shows [] image) → Keeps shows [] new.clock new
+    -- what is kept since some moment is kept since each later one
+    pub since : (events : List Event) (t0 later : ℕ) → t0 ≤ later → Keeps shows events t0 new → Keeps shows events later new
+    -- after a call that is done its event is kept too
+    pub done : (events : List Event) (t0 : ℕ) (e : Event) → Keeps shows events t0 old → IsWhole events → Extends shows events e old new → e.moment ≡ Some new.clock
+        → ((image : Image) → new.now image → shows (events ++ e ∷ []) image) → Keeps shows (events ++ e ∷ []) t0 new
+    -- after one that failed its event is pending
+    pub faulted : (events : List Event) (t0 : ℕ) (e : Event) → Keeps shows events t0 old → IsWhole events → Extends shows events e old new → e.act ≢ Look → e.moment ≡ None
+        → Keeps shows (events ++ e ∷ []) t0 new
+    -- both, by whether it failed
+    pub call : (events : List Event) (t0 : ℕ) (e : Event) (failed : Bool) → Keeps shows events t0 old → IsWhole events → Extends shows events e old new → e.act ≢ Look
+        → e.moment ≡ moment_of failed new.clock → (failed ≡ false → (image : Image) → new.now image → shows (events ++ e ∷ []) image) → Keeps shows (events ++ e ∷ []) t0 new
+    -- an event that shows at once is kept where nothing was written
+    pub silent : (events : List Event) (t0 : ℕ) (e : Event) → Keeps shows events t0 old → IsWhole events → Unchanged old new → e.moment ≡ Some new.clock
+        → ((image : Image) → shows events image → shows (events ++ e ∷ []) image) → Keeps shows (events ++ e ∷ []) t0 new
+    -- so is a look behind a pending event
+    pub after_fault : (events : List Event) (t0 : ℕ) (e : Event) → Keeps shows events t0 old → (IsWhole events → ⊥) → Unchanged old new → e.act ≡ Look → e.moment ≡ None
+        → Keeps shows (events ++ e ∷ []) t0 new
+    -- a call that writes nothing changes nothing of it
+    pub still : (events : List Event) (t0 : ℕ) → Unchanged old new → Keeps shows events t0 old → Keeps shows events t0 new
+    -- nor does a call at whose every moment the media show the events
+    pub on : (events : List Event) (t0 : ℕ) → IsWhole events → ShowsOn shows events old new → Keeps shows events t0 old → Keeps shows events t0 new

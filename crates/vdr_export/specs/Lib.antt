@@ -3,6 +3,7 @@ pub mod Numbers
 pub mod Sounds
 pub mod Waves
 pub mod Pictures
+pub mod Asked
 pub mod Answers
 pub mod Stops
 pub mod Tails

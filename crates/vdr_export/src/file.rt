@@ -1,12 +1,13 @@
 // A file out of what a query selects.
-ghost use Rattle.std.specs.Prelude.{◌≡◌, ◌⊎◌, ℕ, List, length, true, false, Err, IfErr};
+ghost use Rattle.std.specs.Prelude.{◌≡◌, ◌⊎◌, ℕ, List, true, Err, IfErr};
 ghost use Rattle.vdr_history.specs.Histories.{Event, Opening};
 ghost use Rattle.vdr_playback.specs.Playback.{selected};
 ghost use Rattle.vdr_entry.specs.Queries.{asked};
 ghost use Rattle.vdr_ring.specs.Sequence.{Placed};
-ghost use Rattle.vdr_vault.specs.Vaults.{AreRings, IsReadable};
-ghost use Rattle.vdr_visit.specs.Stops.{HasOutputCause, lacks_channel, lacks_incident};
+ghost use Rattle.vdr_vault.specs.Vaults.{IsReadable};
+ghost use Rattle.vdr_visit.specs.Stops.{HasOutputCause};
 ghost use Rattle.vdr_recorder.specs.Looks.{HasLooked};
+ghost use Rattle.vdr_export.specs.Asked.{MayBeAsked};
 ghost use Rattle.vdr_export.specs.Answers.{FileEnds, IsFileRefusal, IsWaveRefusal, IsWriteRefusal, MayBeBegun, file_of, wave_of};
 ghost use Rattle.vdr_export.specs.Sounds.{heard};
 ghost use Rattle.vdr_export.specs.declared.refused.ExportRefused.TheVariants.{Fault as AFault, Output};
@@ -37,9 +38,7 @@ fn export_wave<M: Media, O: Sink>(
     microphone: u8,
     out: &mut O,
 ) -> Result<(), ExportRefused>
-    requires rings { AreRings recording.old.members (M.disk media.old).sizes }
-    requires channel { lacks_channel (length recording.old.members.config.channels) query.now.channel ≡ false }
-    requires incident { lacks_incident recording.old.members.table (asked query.now).medium ≡ false }
+    requires asked { MayBeAsked query.now recording.old (M.disk media.old).sizes }
     ensures wave { (opening : Opening) (events : List Event) (placed : ℕ → List Placed) → M.tells → IsReadable opening events recording.old.members placed (M.disk media.old)
         → FileEnds (wave_of (heard microphone (selected opening events (asked query.now)))) (O.taken out.old) (O.taken out.new) result }
     ensures silent { IfErr result (λ why. IsWriteRefusal why ⊎ (out.new ≡ out.old)) }
@@ -64,9 +63,7 @@ pub fn export_file<M: Media, O: Sink>(
     file: &File,
     out: &mut O,
 ) -> Result<(), ExportRefused>
-    requires rings { AreRings recording.old.members (M.disk media.old).sizes }
-    requires channel { lacks_channel (length recording.old.members.config.channels) query.now.channel ≡ false }
-    requires incident { lacks_incident recording.old.members.table (asked query.now).medium ≡ false }
+    requires asked { MayBeAsked query.now recording.old (M.disk media.old).sizes }
     ensures file { (opening : Opening) (events : List Event) (placed : ℕ → List Placed) → M.tells → IsReadable opening events recording.old.members placed (M.disk media.old)
         → FileEnds (file_of file.now (selected opening events (asked query.now))) (O.taken out.old) (O.taken out.new) result }
     ensures silent { IfErr result (λ why. MayBeBegun file.now why ⊎ (out.new ≡ out.old)) }

@@ -1,12 +1,13 @@
 // The image of a block out of what a query selects.
-ghost use Rattle.std.specs.Prelude.{◌≡◌, ◌⊎◌, ℕ, List, length, true, false, Err, IfErr, OnErr};
+ghost use Rattle.std.specs.Prelude.{◌≡◌, ◌⊎◌, ℕ, List, true, Err, IfErr, OnErr};
 ghost use Rattle.vdr_history.specs.Histories.{Event, Opening};
 ghost use Rattle.vdr_playback.specs.Playback.{selected};
 ghost use Rattle.vdr_entry.specs.Queries.{asked};
 ghost use Rattle.vdr_ring.specs.Sequence.{Placed};
-ghost use Rattle.vdr_vault.specs.Vaults.{AreRings, IsReadable};
-ghost use Rattle.vdr_visit.specs.Stops.{HasOutputCause, lacks_channel, lacks_incident};
+ghost use Rattle.vdr_vault.specs.Vaults.{IsReadable};
+ghost use Rattle.vdr_visit.specs.Stops.{HasOutputCause};
 ghost use Rattle.vdr_recorder.specs.Looks.{HasLooked};
+ghost use Rattle.vdr_export.specs.Asked.{MayBeAsked};
 ghost use Rattle.vdr_export.specs.Answers.{FileEnds, IsPictureRefusal, picture_of};
 ghost use Rattle.vdr_export.specs.Pictures.{shown};
 ghost use Rattle.vdr_export.specs.declared.refused.ExportRefused.TheVariants.{Fault as AFault, Output};
@@ -34,9 +35,7 @@ pub fn write_picture<M: Media, O: Sink>(
     block: &Block,
     out: &mut O,
 ) -> Result<(), ExportRefused>
-    requires rings { AreRings recording.old.members (M.disk media.old).sizes }
-    requires channel { lacks_channel (length recording.old.members.config.channels) query.now.channel ≡ false }
-    requires incident { lacks_incident recording.old.members.table (asked query.now).medium ≡ false }
+    requires asked { MayBeAsked query.now recording.old (M.disk media.old).sizes }
     ensures picture { (opening : Opening) (events : List Event) (placed : ℕ → List Placed) → M.tells → IsReadable opening events recording.old.members placed (M.disk media.old)
         → FileEnds (picture_of (shown block.now (selected opening events (asked query.now)))) (O.taken out.old) (O.taken out.new) result }
     ensures silent { OnErr result ((result ≡ Err Output) ⊎ (out.new ≡ out.old)) }

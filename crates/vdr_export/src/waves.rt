@@ -1,14 +1,15 @@
 // A sound out of what a query selects, in two passes: its size, and then its samples.
-ghost use Rattle.std.specs.Prelude.{◌≡◌, ℕ, List, length, true, false, Err, IfErr, IfOk, OnOk};
+ghost use Rattle.std.specs.Prelude.{◌≡◌, ℕ, List, true, Err, IfErr, IfOk, OnOk};
 ghost use Rattle.std.specs.Io.KnownBytes.{Appends};
 ghost use Rattle.vdr_history.specs.Histories.{Event, Opening};
 ghost use Rattle.vdr_playback.specs.Playback.{selected};
 ghost use Rattle.vdr_outside.specs.Writes.{AppendsFront};
 ghost use Rattle.vdr_entry.specs.Queries.{asked};
 ghost use Rattle.vdr_ring.specs.Sequence.{Placed};
-ghost use Rattle.vdr_vault.specs.Vaults.{AreRings, IsReadable};
-ghost use Rattle.vdr_visit.specs.Stops.{HasOutputCause, lacks_channel, lacks_incident};
+ghost use Rattle.vdr_vault.specs.Vaults.{IsReadable};
+ghost use Rattle.vdr_visit.specs.Stops.{HasOutputCause};
 ghost use Rattle.vdr_recorder.specs.Looks.{HasLooked};
+ghost use Rattle.vdr_export.specs.Asked.{MayBeAsked};
 ghost use Rattle.vdr_export.specs.Answers.{AnswersOrFails, IsSizeRefusal, IsWriteRefusal, OkOrFails, size_of};
 ghost use Rattle.vdr_export.specs.Sounds.{frames_of, heard};
 ghost use Rattle.vdr_export.specs.Waves.{IsWaveSize, wave_file};
@@ -36,9 +37,7 @@ pub fn wave_size<M: Media>(
     query: &Query,
     microphone: u8,
 ) -> Result<WaveSize, ExportRefused>
-    requires rings { AreRings recording.old.members (M.disk media.old).sizes }
-    requires channel { lacks_channel (length recording.old.members.config.channels) query.now.channel ≡ false }
-    requires incident { lacks_incident recording.old.members.table (asked query.now).medium ≡ false }
+    requires asked { MayBeAsked query.now recording.old (M.disk media.old).sizes }
     ensures size { (opening : Opening) (events : List Event) (placed : ℕ → List Placed) → M.tells → IsReadable opening events recording.old.members placed (M.disk media.old)
         → AnswersOrFails (size_of (heard microphone (selected opening events (asked query.now)))) result }
     ensures legal { IfOk result IsWaveSize }
@@ -66,9 +65,7 @@ pub fn write_wave<M: Media, O: Sink>(
     size: &WaveSize,
     out: &mut O,
 ) -> Result<(), ExportRefused>
-    requires rings { AreRings recording.old.members (M.disk media.old).sizes }
-    requires channel { lacks_channel (length recording.old.members.config.channels) query.now.channel ≡ false }
-    requires incident { lacks_incident recording.old.members.table (asked query.now).medium ≡ false }
+    requires asked { MayBeAsked query.now recording.old (M.disk media.old).sizes }
     requires size { IsWaveSize size.now }
     ensures written { (opening : Opening) (events : List Event) (placed : ℕ → List Placed) → M.tells → IsReadable opening events recording.old.members placed (M.disk media.old)
         → OnOk result (Appends (O.taken out.old) (O.taken out.new) (wave_file size.now (frames_of (heard microphone (selected opening events (asked query.now)))))) }

@@ -1,8 +1,11 @@
--- How far an input was read as its source failed.
-use Rattle.std.specs.Prelude.{◌≡◌, ◌⊎◌, ◌≤◌, ◌<◌, ◌++◌, ℕ, List, [], length, Option, Some}
+-- How far an input was read as its source failed, and when a call may answer that it did.
+use Rattle.std.specs.Prelude.{◌≡◌, ◌⊎◌, ◌≤◌, ◌<◌, ◌++◌, ℕ, List, [], length, Option, None, Some, Result, IsErrOf}
 use Rattle.std.specs.Io.KnownBytes.{Consumes}
 use Rattle.vdr_terms.specs.Records.{FeedItem}
+use Rattle.vdr_outside.specs.Causes.{Rose}
 use Rattle.vdr_feed.specs.Feed.{AreItems, fault_of, feed, received_after}
+use Rattle.vdr_feed.specs.declared.fault.FeedFault.{FeedFault}
+use Rattle.vdr_feed.specs.declared.fault.FeedFault.TheVariants.{Fault}
 
 -- Fewer than so many of the bytes left were read.
 abbrev pub ReadsFewer : ℕ → (left now : Option (List ℕ)) → Type 0
@@ -23,3 +26,10 @@ pub record FailsAfter (limit : ℕ) (bytes : List ℕ) (now : Option (List ℕ))
   pub legal : AreItems 0 items
   pub few : length items ≤ limit
   pub inside : IsPartOfItem limit (length items) (received_after 0 items) part
+
+-- The source's count of faults never falls, and a reader that had not stopped before answers a fault only where it rose.
+pub record HasReadCause {T : Type 0} (stopped : Option FeedFault) (before now : ℕ) (result : Result T FeedFault) : Type 0 where
+  -- the count does not fall
+  pub later : before ≤ now
+  -- a fault comes only where it rose
+  pub rose : stopped ≡ None → IsErrOf result Fault → Rose before now

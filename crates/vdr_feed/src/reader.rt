@@ -1,7 +1,6 @@
 ghost use Rattle.std.specs.Prelude.{◌≡◌, ◌≢◌, ◌≤◌, ◌<◌, ◌^◌, true, false, None, Some, Err, ℕ, List, length, take, IfOk, IfErr, OnOk, IsErrOf};
 ghost use Rattle.std.specs.Io.KnownBytes.{Consumes};
-ghost use Rattle.vdr_outside.specs.Causes.{Rose};
-ghost use Rattle.vdr_feed.specs.Failing.{ReadsFewer, ReadsPart};
+ghost use Rattle.vdr_feed.specs.Failing.{HasReadCause, ReadsFewer, ReadsPart};
 ghost use Rattle.vdr_feed.specs.Feed.{feed_header, fault_of};
 ghost use Rattle.vdr_feed.specs.declared.fault.FeedFault.{FeedFault as Stopped};
 ghost use Rattle.vdr_feed.specs.declared.fault.FeedFault.TheVariants.{Fault};
@@ -78,8 +77,7 @@ impl FeedReader {
         ensures front { IfRefused result (λ _ _. (front : List ℕ) × (length front ≤ 8) × Consumes (I.left input.old) (I.left input.new) front) }
         ensures stays { IfErr result (λ e. self.new ≡ stopped_by self.old e) }
         ensures short { IsErrOf result Fault → ReadsFewer 8 (I.left input.old) (I.left input.new) }
-        ensures failed { IsErrOf result Fault → Rose (I.faults input.old) (I.faults input.new) }
-        ensures later { I.faults input.old ≤ I.faults input.new }
+        ensures cause { HasReadCause None (I.faults input.old) (I.faults input.new) result }
     {
         self.begun = true;
         match read_header(input) {
@@ -119,8 +117,7 @@ impl FeedReader {
         ensures stays { IfErr result (λ e. self.new ≡ stopped_by self.old e) }
         ensures again { (e : Stopped) → self.old.stopped ≡ Some e → (result ≡ Err e) × (input.new ≡ input.old) × (into.new ≡ into.old) }
         ensures part { self.old.stopped ≡ None → IsErrOf result Fault → ReadsPart self.old.limit self.old.count self.old.floor (I.left input.old) (I.left input.new) }
-        ensures failed { self.old.stopped ≡ None → IsErrOf result Fault → Rose (I.faults input.old) (I.faults input.new) }
-        ensures later { I.faults input.old ≤ I.faults input.new }
+        ensures cause { HasReadCause self.old.stopped (I.faults input.old) (I.faults input.new) result }
     {
         if let Some(stopped) = self.stopped {
             return Err(stopped);

@@ -1,5 +1,5 @@
 -- What contracts see of a queue and of its two ends.
-use Rattle.std.specs.Prelude.{◌≤◌, ◌<◌, ℕ, List, Option, Some, None}
+use Rattle.std.specs.Prelude.{◌≡◌, ◌≤◌, ◌<◌, ◌+◌, ℕ, List, length, Option, Some, None}
 use Rattle.atomic_table.specs.Seated.{TableId}
 use Rattle.vdr_history.specs.Taken.{Captured}
 
@@ -20,6 +20,15 @@ pub record Feeding : Type 0 where
   pub queue : QueueId
   pub pushed : List Captured
   pub full : ℕ
+
+-- A push found the queue full: nothing was pushed, one full step more is counted, and at least as many items as the capacity were pushed before.
+pub record FindsFull (queue : QueueId) (old new : Feeding) : Type 0 where
+  -- nothing was pushed
+  pub pushed : new.pushed ≡ old.pushed
+  -- one full step more is counted
+  pub full : new.full ≡ old.full + 1
+  -- so many were pushed before as it has room for
+  pub at_capacity : queue.capacity ≤ length old.pushed
 
 -- The consumer's end: the items that it popped, and the producer's end, once that was joined to it.
 pub record Taking : Type 0 where

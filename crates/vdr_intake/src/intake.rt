@@ -1,7 +1,7 @@
 ghost use Rattle.std.specs.Prelude.{◌≡◌, ℕ, ◌+◌, ◌<◌, ◌≤◌, ◌^◌, List, [], ◌∷◌, ◌++◌, length, Some, None, IfOk, IfErr, OnOk, OnErr, IfSome, IfNone};
 ghost use Rattle.crossbeam_queue.specs.Passes.{view, IsPassOf, ruled_capacity};
 ghost use Rattle.vdr_history.specs.Taken.{Captured as CapturedTold};
-ghost use Rattle.vdr_intake.specs.Ends.{HasLimits};
+ghost use Rattle.vdr_intake.specs.Ends.{FindsFull, HasLimits};
 ghost use Rattle.vdr_intake.specs.Items.{Follows, most_items};
 
 use crate::ends::{Feeder, Taker};
@@ -104,8 +104,7 @@ impl Intake {
         ensures queue { feeder.new.queue ≡ feeder.old.queue }
         ensures taken { OnOk result ((feeder.new.pushed ≡ feeder.old.pushed ++ item ∷ []) × (feeder.new.full ≡ feeder.old.full)) }
         ensures back { IfErr result (λ back. back ≡ item) }
-        ensures full { OnErr result ((feeder.new.pushed ≡ feeder.old.pushed) × (feeder.new.full ≡ feeder.old.full + 1)) }
-        ensures at_capacity { OnErr result (self.now.capacity ≤ length feeder.old.pushed) }
+        ensures full { OnErr result (FindsFull self.now feeder.old feeder.new) }
     {
         match self.queue.push_as::<Push, R>(rt, &mut feeder.pass, item) {
             Ok(()) => Ok(()),

@@ -1,9 +1,10 @@
-ghost use Rattle.std.specs.Prelude.{◌≡◌, ◌≤◌, ◌<◌, ◌^◌, ◌⊎◌, ℕ, List, length, slice_index_or};
+ghost use Rattle.std.specs.Prelude.{◌≡◌, ◌≤◌, ◌<◌, ◌^◌, ◌⊎◌, ℕ, List, length};
 ghost use Rattle.vdr_history.specs.Histories.{Event};
 ghost use Rattle.vdr_outside.specs.Disk.{Image};
 ghost use Rattle.vdr_config.specs.Configuration.{Configuration};
 ghost use Rattle.vdr_life.specs.Lives.{Life, LivesOn};
 ghost use Rattle.vdr_life.specs.Ours.{AreOurs, RestAs, StayOurs};
+ghost use Rattle.vdr_session.specs.Calls.{AreByGroup};
 ghost use Rattle.vdr_tool.specs.Commands.{Asked};
 ghost use Rattle.vdr_tool.specs.Lives.{FormatsNothing, StartsSynced};
 ghost use Rattle.vdr_tool.specs.Runs.{Asks, page};
@@ -52,8 +53,7 @@ pub fn run<
 ) -> Status
     requires two { 2 ≤ length (M.disk world.old.media).sizes }
     requires three { length (M.disk world.old.media).sizes ≤ 3 }
-    requires lanes { length lanes.old ≡ 16 }
-    requires groups { (g : ℕ) (d : _) → g < 16 → (slice_index_or lanes.old g d).group ≡ g }
+    requires lanes { AreByGroup lanes.old }
     requires desks { length desks.old < 2 ^ 32 }
 
     // `record` does what its page in `specs/` says, and then the line of its status is written; all other words are those of `run_alone`.

@@ -1,5 +1,6 @@
 // The command `record TURNS`.
-ghost use Rattle.std.specs.Prelude.{◌≡◌, ◌≤◌, ◌<◌, ◌^◌, ℕ, length, slice_index_or};
+ghost use Rattle.std.specs.Prelude.{◌≡◌, ◌≤◌, ◌<◌, ◌^◌, length};
+ghost use Rattle.vdr_session.specs.Calls.{AreByGroup};
 ghost use Rattle.vdr_command.specs.Endings.{ending};
 ghost use Rattle.vdr_tool.specs.Summaries.{summary_text};
 ghost use Rattle.vdr_command.specs.declared.status.Status.TheVariants.{Words};
@@ -69,8 +70,7 @@ pub(crate) fn answer_record<
 ) -> Result<(), Status>
     requires two { 2 ≤ length (M.disk world.old.media).sizes }
     requires three { length (M.disk world.old.media).sizes ≤ 3 }
-    requires lanes { length lanes.old ≡ 16 }
-    requires groups { (g : ℕ) (d : _) → g < 16 → (slice_index_or lanes.old g d).group ≡ g }
+    requires lanes { AreByGroup lanes.old }
     requires desks { length desks.old < 2 ^ 32 }
     requires turns { turns ≤ most_turns }
     ensures owed { let at = ⟦<World<I, O, M> as Outer>⟧.outside in Records turns (record { alone = at world.old; ports = seen_ports P.Port lanes.old; links = seen_links L.Link desks.old })

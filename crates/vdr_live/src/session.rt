@@ -1,5 +1,6 @@
 // Media are opened, what the ports give is recorded on them, and the orders of the links are answered.
-ghost use Rattle.std.specs.Prelude.{◌≡◌, ◌≤◌, ◌<◌, ◌^◌, ℕ, length, slice_index_or};
+ghost use Rattle.std.specs.Prelude.{◌≡◌, ◌≤◌, ◌<◌, ◌^◌, length};
+ghost use Rattle.vdr_session.specs.Calls.{AreByGroup};
 ghost use Rattle.vdr_live.specs.Links.{seen_links};
 ghost use Rattle.vdr_live.specs.Ports.{seen_ports};
 ghost use Rattle.vdr_live.specs.Recordings.{RecordingEnds, most_turns};
@@ -30,8 +31,7 @@ pub(crate) fn record_ports<
 ) -> Result<SessionEnd, OpenRefused>
     requires two { 2 ≤ length (M.disk media.old).sizes }
     requires three { length (M.disk media.old).sizes ≤ 3 }
-    requires lanes { length lanes.old ≡ 16 }
-    requires groups { (g : ℕ) (d : _) → g < 16 → (slice_index_or lanes.old g d).group ≡ g }
+    requires lanes { AreByGroup lanes.old }
     requires desks { length desks.old < 2 ^ 32 }
     requires turns { turns ≤ most_turns }
     ensures ends { RecordingEnds turns (seen_ports P.Port lanes.old) (seen_ports P.Port lanes.new) (seen_links L.Link desks.old) (seen_links L.Link desks.new)

@@ -93,7 +93,7 @@ module _ {tells tells_images : Type 0} (wish : Wish) (asked : AskedPlay) (old ne
       → (status ≡ ends.ExportKind → ⊥) → (status ≡ ends.OutputFault → ⊥) → (status ≡ ends.NoChannel → ⊥) → (status ≡ ends.Done → ⊥) → ((P : ExportRefused → Type 0) → IfRefusal status P)
       → (IsJudged status → ⊥) → IfDamaged status (λ m offset. IsRefusedAt old.media.disk new.media.disk m offset ⊎ MetUnreadable old.media.disk (CanExport wish asked))
       → ((bytes : List ℕ) → PrintsText bytes status old.output new.output) → ExportEnds wish asked old new status
-  still_ends status own same media missing kind output channel done refusals unjudged damage prints = record {
+  still_ends status own same media adds kind output channel done refusals unjudged damage prints = record {
     own = own;
     written = λ x file t holds can is. record {
       written = λ bytes made. prints bytes;
@@ -108,23 +108,23 @@ module _ {tells tells_images : Type 0} (wish : Wish) (asked : AskedPlay) (old ne
     line = λ c. absurd (channel c);
     silent = inr (inr same);
     media = media;
-    missing = missing;
+    missing = adds;
   }
 
   pub opening_exports : (refused : OpenRefused) → ((m offset : ℕ) → refused ≡ openings.Damaged m offset → IsRefusedAt old.media.disk new.media.disk m offset) → new.output ≡ old.output
       → MediaEnds (λ x. CanPlay x asked.medium asked.channel) (MetUnreadable old.media.disk (λ x. CanPlay x asked.medium asked.channel)) AreLooks old.media new.media (status_of_opening refused)
       → AddsMissing old.media.disk new.media.disk → ExportEnds wish asked old new (status_of_opening refused)
-  opening_exports openings.NoMemory at same media missing =
-      still_ends ends.NoMemory tt same (with_media asked.medium asked.channel old.media new.media openings.NoMemory media) missing (λ e. let none : ⊥ = cc in none) (λ e. let none : ⊥ = cc in none)
+  opening_exports openings.NoMemory at same media adds =
+      still_ends ends.NoMemory tt same (with_media asked.medium asked.channel old.media new.media openings.NoMemory media) adds (λ e. let none : ⊥ = cc in none) (λ e. let none : ⊥ = cc in none)
       (λ e. let none : ⊥ = cc in none) (λ e. let none : ⊥ = cc in none) (λ P. tt) (λ judged. judged) tt (λ bytes. tt)
-  opening_exports openings.NotFormatted at same media missing =
-      still_ends ends.Unformatted tt same (with_media asked.medium asked.channel old.media new.media openings.NotFormatted media) missing (λ e. let none : ⊥ = cc in none) (λ e. let none : ⊥ = cc in none)
+  opening_exports openings.NotFormatted at same media adds =
+      still_ends ends.Unformatted tt same (with_media asked.medium asked.channel old.media new.media openings.NotFormatted media) adds (λ e. let none : ⊥ = cc in none) (λ e. let none : ⊥ = cc in none)
       (λ e. let none : ⊥ = cc in none) (λ e. let none : ⊥ = cc in none) (λ P. tt) (λ judged. judged) tt (λ bytes. tt)
-  opening_exports (openings.Damaged m offset) at same media missing =
-      still_ends (ends.Damaged m offset) tt same (with_media asked.medium asked.channel old.media new.media (openings.Damaged m offset) media) missing (λ e. let none : ⊥ = cc in none) (λ e. let none : ⊥ = cc in none)
+  opening_exports (openings.Damaged m offset) at same media adds =
+      still_ends (ends.Damaged m offset) tt same (with_media asked.medium asked.channel old.media new.media (openings.Damaged m offset) media) adds (λ e. let none : ⊥ = cc in none) (λ e. let none : ⊥ = cc in none)
       (λ e. let none : ⊥ = cc in none) (λ e. let none : ⊥ = cc in none) (λ P. tt) (λ judged. judged) (inl (at m offset refl)) (λ bytes. tt)
-  opening_exports openings.Fault at same media missing =
-      still_ends ends.MediaFault tt same (with_media asked.medium asked.channel old.media new.media openings.Fault media) missing (λ e. let none : ⊥ = cc in none) (λ e. let none : ⊥ = cc in none)
+  opening_exports openings.Fault at same media adds =
+      still_ends ends.MediaFault tt same (with_media asked.medium asked.channel old.media new.media openings.Fault media) adds (λ e. let none : ⊥ = cc in none) (λ e. let none : ⊥ = cc in none)
       (λ e. let none : ⊥ = cc in none) (λ e. let none : ⊥ = cc in none) (λ P. tt) (λ judged. judged) tt (λ bytes. tt)
 
   -- No such channel is configured.
@@ -134,7 +134,7 @@ module _ {tells tells_images : Type 0} (wish : Wish) (asked : AskedPlay) (old ne
       → ((x : Contents) → tells → HoldsContents old.media.disk.reads x → EndsMeet both (reading_of x) → WasRecorded x → OpensAtEachMoment old.media.disk new.media.disk result (ShowsHistory (opening_of x) []))
       → ((x y : Contents) → HoldsContents old.media.disk.reads x → HoldsContents old.media.disk.reads y → x.config ≡ y.config)
       → Writes (channel_line asked.channel) old.output new.output → AddsMissing old.media.disk new.media.disk → ExportEnds wish asked old new ends.NoChannel
-  channel_exports result r is members lacks contents others moments same wrote missing = record {
+  channel_exports result r is members lacks contents others moments same wrote adds = record {
     own = tt;
     written = λ x file t holds can of.
         let c = contents t in
@@ -148,7 +148,7 @@ module _ {tells tells_images : Type 0} (wish : Wish) (asked : AskedPlay) (old ne
     line = λ e. wrote;
     silent = inr (inl tt);
     media = channel_ends asked.medium asked.channel old.media new.media result r is members lacks contents others moments;
-    missing = missing;
+    missing = adds;
   }
 
   module _ (mid : MediaSeen tells tells_images) (r after : RecordingState) (query : Query) (wants : Wants r.members.config asked.medium asked.channel asked.from asked.to query)
@@ -157,7 +157,7 @@ module _ {tells tells_images : Type 0} (wish : Wish) (asked : AskedPlay) (old ne
       (opened : (x : Contents) → tells → HoldsContents old.media.disk.reads x → WasRecorded x
       → (t0 : ℕ) × (old.media.disk.clock ≤ t0) × (t0 ≤ mid.disk.clock) × HasRecorded (opening_of x) [] t0 r mid.disk)
       (readable : (x : Contents) → tells → HoldsContents old.media.disk.reads x → AreLevel both (reading_of x) → IsReadable (opening_of x) [] r.members x.placed mid.disk)
-      (later : NoneFalls old.media.faults mid.faults) (others : tells → SameBut 1 old.media.disk.reads mid.disk.reads) (missing : AddsMissing old.media.disk new.media.disk) where
+      (later : NoneFalls old.media.faults mid.faults) (others : tells → SameBut 1 old.media.disk.reads mid.disk.reads) (adds : AddsMissing old.media.disk new.media.disk) where
     -- What can be read can be read by the vault.
     to_read : (x : Contents) → tells → HoldsContents old.media.disk.reads x → CanBeRead x → (placed : ℕ → List Placed) × IsReadable (opening_of x) [] r.members placed mid.disk
     to_read x t holds (inl sound) =
@@ -192,7 +192,7 @@ module _ {tells tells_images : Type 0} (wish : Wish) (asked : AskedPlay) (old ne
             incident = ((λ e. (channel_there, misses)), (λ lacks. refl));
           })
           (λ opening events placed m offset t h e. let no : ⊥ = cc in no) (looked_as _ _ _ _ _ _ _ _ _ _ _ (λ e. let no : ⊥ = cc in no) looked) tt)
-          missing (λ e. let no : ⊥ = cc in no) (λ e. let no : ⊥ = cc in no) (λ e. let no : ⊥ = cc in no) (λ e. let no : ⊥ = cc in no) (λ P. tt) (λ judged. judged) tt (λ bytes. tt)
+          adds (λ e. let no : ⊥ = cc in no) (λ e. let no : ⊥ = cc in no) (λ e. let no : ⊥ = cc in no) (λ e. let no : ⊥ = cc in no) (λ P. tt) (λ judged. judged) tt (λ bytes. tt)
 
       -- Channel and incident are there.
       module _ (there : lacks_channel (length r.members.config.channels) query.channel ≡ false) (lives : lacks_incident r.members.table query.medium ≡ false) where
@@ -233,7 +233,7 @@ module _ {tells tells_images : Type 0} (wish : Wish) (asked : AskedPlay) (old ne
           silent = inr (inr still);
           media = media_so (Err (stops.Own ends.ExportKind)) (is_accepted _ (λ e. let no : ⊥ = cc in no) (λ e. let no : ⊥ = cc in no))
               (λ opening events placed m offset t h e. let no : ⊥ = cc in no) (looked_as _ _ _ _ _ _ _ _ _ _ _ (λ e. let no : ⊥ = cc in no) looked) tt;
-          missing = missing;
+          missing = adds;
         }
 
         -- The file was to be written.
@@ -283,7 +283,7 @@ module _ {tells tells_images : Type 0} (wish : Wish) (asked : AskedPlay) (old ne
                 (media_so (as_visit out) (is_accepted (as_visit out) (not_asked out).0 (not_asked out).1)
                 (λ opening events placed m offset t h e. undamaged old.output.taken new.output.taken out file (selected opening events query) m offset (made opening events placed t h) (damage_as out m offset e))
                 (looked_as _ _ _ _ _ _ _ _ _ _ _ (fault_as out) looked) (own_visit out));
-            missing = missing;
+            missing = adds;
           }
             where
               same_status : (o : Result ⊤ ExportRefused) → status_by (λ (s : Status). s) (as_visit o) asked.medium ≡ status_of_export o

@@ -1,11 +1,16 @@
 -- What each call of a recorder on its media is, what it refuses, and what it keeps.
-use Rattle.std.specs.Prelude.{◌≡◌, ◌≤◌, ◌<◌, ◌⊎◌, ◌↔◌, ◌+◌, ◌*◌, ◌^◌, ℕ, List, [], Bool, true, false, length, Option, Some, None, option_map, Result, Err, IfOk, OnErr, OnOk, ⊤}
+use Rattle.std.specs.Prelude.{◌≡◌, ◌≤◌, ◌<◌, ◌⊎◌, ◌↔◌, ◌+◌, ◌*◌, ◌^◌, ℕ, List, [], Bool, true, false, length, All, Option, Some, None, option_map, Result, Err, IfOk, OnErr, OnOk, ⊤}
+use Rattle.vdr_terms.specs.declared.counts.Counts.{Counts}
 use Rattle.vdr_terms.specs.Counting.{next_number}
+use Rattle.vdr_terms.specs.Rates.{is_configured}
+use Rattle.vdr_terms.specs.Records.{total}
 use Rattle.vdr_history.specs.Histories.{Event, Incident, Opening, live}
 use Rattle.vdr_history.specs.Histories.Act.{Look, Release, Save}
 use Rattle.vdr_history.specs.Runs.{base_after}
 use Rattle.vdr_history.specs.Taken.{Captured}
 use Rattle.vdr_durability.specs.Readings.{AreLevel, EndsMeet}
+use Rattle.vdr_pace.specs.Commits.{items_size}
+use Rattle.vdr_config.specs.Sizes.{limits_in}
 use Rattle.vdr_outside.specs.declared.media.Media.{Ghosts as MediaTells}
 use Rattle.vdr_outside.specs.Disk.{Disk}
 use Rattle.vdr_media.specs.Formatted.{IsFormatted}
@@ -97,6 +102,26 @@ pub record WritesStart {M : Type 0} (media : MediaTells M) (failed : Bool) (old 
   pub counts : media.bytes_read new ≡ media.bytes_read old
   -- no count of faults falls, and a fault has its cause
   pub cause : HasStartCause failed (media.faults old) (media.faults new) result
+
+-- One batch may take these items: they fit it, and they are of configured groups. The run's numbers stay below 2^63.
+pub record FitBatch (items : List Captured) (old : RecordingState) : Type 0 where
+  -- their records are no longer than the configured batch
+  pub short : items_size items ≤ old.members.config.batch
+  -- each one's group is configured
+  pub configured : All (λ c. is_configured (limits_in old.members.config.groups c.group) ≡ true) items
+  -- the places of their records are below 2^63
+  pub places : old.maker.place + 2 * length items < 2 ^ 63
+  -- and so are the numbers of each group's items
+  pub numbers : NumbersFit old.maker items
+
+-- The run may be closed by these counts: a group that is not configured missed nothing. The run's numbers stay below 2^63.
+pub record FitClose (rest : ℕ → Counts) (old : RecordingState) : Type 0 where
+  -- a group that is not configured missed nothing
+  pub quiet : (g : ℕ) → is_configured (limits_in old.members.config.groups g) ≡ false → total (rest g) ≡ 0
+  -- the places of the closing Gaps and of the Stop are below 2^63
+  pub place : old.maker.place + 17 < 2 ^ 63
+  -- and so are the numbers of each group's items
+  pub numbers : (g : ℕ) → g < 16 → next_number (counted_of old.maker g).pending + total (rest g) < 2 ^ 63
 
 -- The run goes on, with two records an item at most.
 pub record GoesOnWith (items : List Captured) (old new : RecordingState) (sizes : List ℕ) : Type 0 where

@@ -1,21 +1,17 @@
 // A run: its Start, its batches, and its close.
-ghost use Rattle.std.specs.Prelude.{◌≡◌, ◌≤◌, ◌<◌, ◌+◌, ◌*◌, ◌/◌, ◌^◌, ◌++◌, ℕ, List, [], true, false, length, All, Err};
-ghost use Rattle.vdr_terms.specs.Counting.{next_number};
+ghost use Rattle.std.specs.Prelude.{◌≡◌, ◌≤◌, ◌++◌, ℕ, List, [], true, false, length, All, Err};
 ghost use Rattle.vdr_terms.specs.Datagrams.{largest};
-ghost use Rattle.vdr_terms.specs.Rates.{is_configured};
-ghost use Rattle.vdr_terms.specs.Records.{Record as Entry, total};
+ghost use Rattle.vdr_terms.specs.Records.{Record as Entry};
 ghost use Rattle.vdr_history.specs.Histories.{Event, Opening};
 ghost use Rattle.vdr_history.specs.Histories.Act.{Commit};
 ghost use Rattle.vdr_history.specs.Recorder.{begun, closing, recorder_after};
 ghost use Rattle.vdr_history.specs.RunStates.{next_start, recorder_in, state_left};
 ghost use Rattle.vdr_history.specs.Runs.{RunStart};
 ghost use Rattle.vdr_history.specs.Taken.{Captured as CapturedTold};
-ghost use Rattle.vdr_config.specs.Sizes.{limits_in};
-ghost use Rattle.vdr_pace.specs.Commits.{items_size};
 ghost use Rattle.vdr_vault.specs.Keeps.{StopsAtFault, WritesToBoth};
 ghost use Rattle.vdr_vault.specs.Vaults.{AreRings};
-ghost use Rattle.vdr_recorder.specs.Calls.{BeginsRun, EndsRun, GoesOnWith, RefusesStart, StaysBelowLimits, WritesStart};
-ghost use Rattle.vdr_recorder.specs.Making.{CountsItems, Makes, NumbersFit, counted_of, rest_of};
+ghost use Rattle.vdr_recorder.specs.Calls.{BeginsRun, EndsRun, FitBatch, FitClose, GoesOnWith, RefusesStart, StaysBelowLimits, WritesStart};
+ghost use Rattle.vdr_recorder.specs.Making.{CountsItems, Makes, rest_of};
 ghost use Rattle.vdr_recorder.specs.Recordings.{HasDone, HasRecorded};
 ghost use Rattle.vdr_recorder.specs.declared.run.StartRefused.TheVariants.{Place, Tick};
 
@@ -101,10 +97,7 @@ impl Recording {
     pub fn take_batch<M: Media>(&mut self, media: &mut M, items: &[Captured]) -> Result<(), Fault>
         requires rings { AreRings self.old.members (M.disk media.old).sizes }
         requires open { self.old.is_open ≡ true }
-        requires short { items_size items.now ≤ self.old.members.config.batch }
-        requires configured { All (λ c. is_configured (limits_in self.old.members.config.groups c.group) ≡ true) items.now }
-        requires places { self.old.maker.place + 2 * length items.now < 2 ^ 63 }
-        requires numbers { NumbersFit self.old.maker items.now }
+        requires fits { FitBatch items.now self.old }
         ensures taken { (opening : Opening) (events : List Event) (t0 : ℕ) → M.tells → self.old.members.failed ≡ false → HasRecorded opening events t0 self.old (M.disk media.old)
             → (records : List Entry)
             × ((recorder_after (state_left opening events).start ((state_left opening events).popped ++ items.now)).made ≡ (recorder_in (state_left opening events)).made ++ records)
@@ -131,9 +124,7 @@ impl Recording {
     pub fn stop<M: Media>(&mut self, media: &mut M, rest: &[Counts; 16]) -> Result<(), Fault>
         requires rings { AreRings self.old.members (M.disk media.old).sizes }
         requires open { self.old.is_open ≡ true }
-        requires quiet { (g : ℕ) → is_configured (limits_in self.old.members.config.groups g) ≡ false → total (rest_of rest.now g) ≡ 0 }
-        requires place { self.old.maker.place + 17 < 2 ^ 63 }
-        requires numbers { (g : ℕ) → g < 16 → next_number (counted_of self.old.maker g).pending + total (rest_of rest.now g) < 2 ^ 63 }
+        requires fits { FitClose (rest_of rest.now) self.old }
         ensures stopped { (opening : Opening) (events : List Event) (t0 : ℕ) → M.tells → self.old.members.failed ≡ false → HasRecorded opening events t0 self.old (M.disk media.old)
             → HasDone opening events t0 (Commit (closing (state_left opening events).start (recorder_in (state_left opening events)) (rest_of rest.now)) []) self.new (M.disk media.old) (M.disk media.new) }
         ensures counted { (start : RunStart) (popped : List CapturedTold) → CountsItems start popped self.old.maker → CountsItems start popped self.new.maker }

@@ -8,3 +8,4 @@ pub mod Given
 pub mod Taking
 pub mod Stops
 pub mod Ran
+pub mod Replays

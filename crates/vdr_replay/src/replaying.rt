@@ -12,6 +12,7 @@ ghost use Rattle.vdr_vault.specs.Openings.{LeavesAll, WritesMissing};
 ghost use Rattle.vdr_vault.specs.Regularity.{AreSound};
 ghost use Rattle.vdr_replay.specs.Answers.{Answers, Decides, EndsAtHeader, HasReplayCause, IfOpened, IsLegible, RefusesMedia, RefusesRun, TellsHeader};
 ghost use Rattle.vdr_replay.specs.Headline.{LeavesHistory};
+ghost use Rattle.vdr_replay.specs.Replays.{ReplaysFeed};
 ghost use Rattle.vdr_replay.specs.declared.ended.FeedEnd.TheVariants.{Whole, Input as InputEnds};
 ghost use Rattle.vdr_replay.specs.declared.ended.ReplayStop.TheVariants.{Damaged, Input, NotFormatted};
 
@@ -24,19 +25,8 @@ use vdr_opening::law_of_contents;
 use vdr_outside::{Media, Source};
 use vdr_recorder::Recording;
 
-/// Records the feed of the input on the media, in the feed's order, as one run (this project's profile): its header is read; the
-/// media are opened, and all memory is taken; the run is begun; each recordable item is recorded as it is read, by the rate of its
-/// group; and the run is closed.
-///
-/// The feed ends with the input, or where an item is refused: as `vdr_feed::FeedReader::item` says, or by 4 where its group is not
-/// configured. What was read before is recorded. An item that is refused counts for nothing. Where the header is refused, or can't be
-/// read, the media are not touched, and where the media are refused nothing is written, nor where the run is, but the batch that the
-/// long-term medium lacks. Faults and refusals of the input and of
-/// the media are told by `FeedEnd` and `ReplayStop`.
-///
-/// At every moment a stop leaves the media as before opening, or as media that play back the first of the run's events on what was
-/// recorded before, all that were acknowledged among them.
-pub fn replay<I: Source, M: Media>(
+// Records the feed as `replay` does. Each clause is proved on each way out, and is a member of `ReplaysFeed` by its name.
+fn record_feed<I: Source, M: Media>(
     alloc: Global,
     media: &mut M,
     input: &mut I,
@@ -70,4 +60,28 @@ pub fn replay<I: Source, M: Media>(
     let mut recording = Recording::open(alloc, media)?;
     let mut lanes = Lanes::new(alloc, recording.config())?;
     record_run(&mut recording, media, &mut lanes, &mut reader, input)
+}
+
+/// Records the feed of the input on the media, in the feed's order, as one run (this project's profile): its header is read; the
+/// media are opened, and all memory is taken; the run is begun; each recordable item is recorded as it is read, by the rate of its
+/// group; and the run is closed.
+///
+/// The feed ends with the input, or where an item is refused: as `vdr_feed::FeedReader::item` says, or by 4 where its group is not
+/// configured. What was read before is recorded. An item that is refused counts for nothing. Where the header is refused, or can't be
+/// read, the media are not touched, and where the media are refused nothing is written, nor where the run is, but the batch that the
+/// long-term medium lacks. Faults and refusals of the input and of
+/// the media are told by `FeedEnd` and `ReplayStop`.
+///
+/// At every moment a stop leaves the media as before opening, or as media that play back the first of the run's events on what was
+/// recorded before, all that were acknowledged among them.
+pub fn replay<I: Source, M: Media>(
+    alloc: Global,
+    media: &mut M,
+    input: &mut I,
+) -> Result<Replayed, ReplayStop>
+    requires two { 2 ≤ length (M.disk media.old).sizes }
+    requires three { length (M.disk media.old).sizes ≤ 3 }
+    ensures replays { ReplaysFeed M.Media I.Source media.old media.new input.old input.new result }
+{
+    record_feed(alloc, media, input)
 }

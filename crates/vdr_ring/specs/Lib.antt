@@ -15,3 +15,4 @@ pub mod Opening
 pub mod Fronts
 pub mod Cursors
 pub mod Lasts
+pub mod Calls

@@ -3,18 +3,16 @@ ghost use Rattle.std.specs.Prelude.{◌≡◌, ◌≢◌, ◌⊎◌, ◌≤◌, 
 ghost use Rattle.vdr_terms.specs.Records.{Record as Entry, last};
 ghost use Rattle.vdr_terms.specs.Sizes.{batch_size, records_size};
 ghost use Rattle.vdr_outside.specs.Causes.{counted};
-ghost use Rattle.vdr_outside.specs.Disk.{Unchanged, content};
 ghost use Rattle.vdr_outside.specs.declared.fault.PartRefused.TheVariants.{Damaged, Fault};
 ghost use Rattle.vdr_segment.specs.Batches.{AreRecords, IsBatch};
 ghost use Rattle.vdr_segment.specs.Segments.{AreBatches};
 ghost use Rattle.vdr_survey.specs.Surveys.{BreaksAt};
 ghost use Rattle.vdr_slots.specs.Slots.{place_of};
-ghost use Rattle.vdr_ring.specs.Sequence.{Placed, batches_in};
-ghost use Rattle.vdr_ring.specs.Rings.{HasMedium, Reads, Tells};
-ghost use Rattle.vdr_ring.specs.Cursors.{IsLoaded};
+ghost use Rattle.vdr_ring.specs.Sequence.{Placed};
+ghost use Rattle.vdr_ring.specs.Rings.{HasMedium, Tells};
 ghost use Rattle.vdr_ring.specs.Opening.{HasFaultCause};
-ghost use Rattle.vdr_ring.specs.Fronts.{BreaksIn};
 ghost use Rattle.vdr_ring.specs.Lasts.{batch_or_none, AreOfBatch, IsLastSlot};
+ghost use Rattle.vdr_ring.specs.Calls.{GivesLastBatch, OnlyReads};
 
 use crate::Ring;
 use crate::choice::last_with_records;
@@ -107,19 +105,8 @@ impl Ring {
         media: &mut M,
     ) -> Result<Vec<Record>, PartRefused>
         requires room { HasMedium self.old (M.disk media.old).sizes }
-        ensures ring { self.new ≡ record self.old { buffer = self.new.buffer; loaded = self.new.loaded } }
-        ensures room { HasMedium self.new (M.disk media.new).sizes }
-        ensures bytes { IsLoaded self.old (M.disk media.old) → IsLoaded self.new (M.disk media.new) }
-        ensures reads { (placed : List Placed) → Reads self.old placed (M.disk media.old) → Reads self.new placed (M.disk media.new) }
-        ensures batch { IfOk result (λ records. M.tells → (placed : List Placed) → Reads self.old placed (M.disk media.old)
-            → batch_or_none records.items ≡ last (batches_in placed)) }
-        ensures fits { IfOk result (λ records. records.items ≢ [] → 64 + batch_size records.items + 1 ≤ self.old.segment) }
-        ensures damaged { M.tells → (placed : List Placed) → Reads self.old placed (M.disk media.old)
-            → (m offset : ℕ) → result ≡ Err (Damaged m offset) → ⊥ }
-        ensures medium { (m offset : ℕ) → result ≡ Err (Damaged m offset) → m ≡ self.old.medium }
-        ensures offset { M.tells → IsLoaded self.old (M.disk media.old) → (m offset : ℕ) → result ≡ Err (Damaged m offset)
-            → (slot : ℕ) × (slot < self.old.slots) × BreaksIn self.old.segment slot (content (M.disk media.old).reads self.old.medium) offset }
-        ensures unchanged { Unchanged (M.disk media.old) (M.disk media.new) }
+        ensures keeps { OnlyReads M.Media self.old self.new media.old media.new }
+        ensures batch { GivesLastBatch M.Media self.old media.old result }
         ensures counts { (M.bytes_read media.new ≡ M.bytes_read media.old)
             ⊎ (M.bytes_read media.new ≡ counted (M.bytes_read media.old) self.old.medium self.old.segment) }
         ensures cause { HasFaultCause self.old.medium (M.faults media.old) (M.faults media.new) result }

@@ -1,13 +1,12 @@
-ghost use Rattle.std.specs.Prelude.{◌≡◌, ◌≢◌, ◌⊎◌, ◌↔◌, ◌<◌, ◌≤◌, ◌+◌, true, List, get_or, IsTrue, IfOk, IfSome, IfNone, OnOk, OnErr, Option, Some, None, Ok, Err, ℕ};
-ghost use Rattle.vdr_terms.specs.Records.{Record as Entry};
-ghost use Rattle.vdr_outside.specs.Causes.{Rose, NoneFalls, HasCauseOn, counted};
+ghost use Rattle.std.specs.Prelude.{◌≡◌, ◌≢◌, ◌⊎◌, ◌↔◌, ◌<◌, ◌≤◌, ◌+◌, true, IsTrue, IfOk, IfSome, IfNone, OnOk, OnErr, Option, Some, None, Ok, Err};
+ghost use Rattle.vdr_outside.specs.Causes.{HasCauseOn, counted};
 ghost use Rattle.vdr_outside.specs.Disk.{Unchanged};
 ghost use Rattle.vdr_segment.specs.Gates.{IsOpenAt};
 ghost use Rattle.vdr_slots.specs.Slots.{place_of};
 ghost use Rattle.vdr_survey.specs.Positions.{IsAt};
-ghost use Rattle.vdr_ring.specs.Sequence.{Placed};
-ghost use Rattle.vdr_ring.specs.Rings.{HasMedium, Reads};
-ghost use Rattle.vdr_ring.specs.Cursors.{StandsIn, slot_read, IsLoaded, position_in, Steps, AreAhead, Visits};
+ghost use Rattle.vdr_ring.specs.Rings.{HasMedium};
+ghost use Rattle.vdr_ring.specs.Cursors.{StandsIn, IsLoaded, position_in, Steps};
+ghost use Rattle.vdr_ring.specs.Calls.{OnlyReads, ReadsUnlessLoaded, StepsInSlot};
 ghost use Rattle.vdr_ring.specs.declared.refused.ReadRefused.TheVariants.{Fault as AFault, Damaged};
 
 use crate::cursor::stands_in;
@@ -126,24 +125,9 @@ impl Ring {
         requires room { HasMedium self.old (M.disk media.old).sizes }
         requires within { slot < self.old.slots }
         requires stands { StandsIn self.old visit.old }
-        ensures ring { self.new ≡ record self.old { buffer = self.new.buffer; loaded = self.new.loaded } }
-        ensures room { HasMedium self.new (M.disk media.new).sizes }
-        ensures stands { StandsIn self.new visit.new }
-        ensures loaded { OnOk result (self.new.loaded ≡ Some slot) }
-        ensures bytes { IsLoaded self.old (M.disk media.old) → IsLoaded self.new (M.disk media.new) }
-        ensures reads { (placed : List Placed) → Reads self.old placed (M.disk media.old) → Reads self.new placed (M.disk media.new) }
-        ensures item { visit.new.item ≢ None ↔ (result ≡ Ok true) }
-        ensures steps { M.tells → IsLoaded self.old (M.disk media.old)
-            → Steps selection.now self.old.medium slot (place_of self.old.segment slot) (slot_read self.old slot (M.disk media.old)) visit.old result visit.new }
-        ensures visits { M.tells → (placed : List Placed) (records : List Entry) → Reads self.old placed (M.disk media.old)
-            → AreAhead (slot_read self.old slot (M.disk media.old)) placed slot visit.old records
-            → Visits selection.now (slot_read self.old slot (M.disk media.old)) placed slot records result visit.new }
-        ensures medium { (m offset : ℕ) → result ≡ Err (Damaged m offset) → m ≡ self.old.medium }
-        ensures unchanged { Unchanged (M.disk media.old) (M.disk media.new) }
-        ensures again { self.old.loaded ≡ Some slot → M.bytes_read media.new ≡ M.bytes_read media.old }
-        ensures once { self.old.loaded ≢ Some slot → M.bytes_read media.new ≡ counted (M.bytes_read media.old) self.old.medium self.old.segment }
-        ensures later { NoneFalls (M.faults media.old) (M.faults media.new) }
-        ensures cause { result ≡ Err AFault → Rose (get_or (M.faults media.old) self.old.medium 0) (get_or (M.faults media.new) self.old.medium 0) }
+        ensures keeps { OnlyReads M.Media self.old self.new media.old media.new }
+        ensures steps { StepsInSlot M.Media selection.now slot self.old self.new visit.old visit.new media.old result }
+        ensures counts { ReadsUnlessLoaded M.Media slot self.old media.old media.new (result ≡ Err AFault) }
     {
         visit.clear_item();
         let held = self.load(media, slot)?;

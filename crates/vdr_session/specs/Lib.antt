@@ -13,3 +13,4 @@ pub mod Summing
 pub mod Ended
 pub mod Sessions
 pub mod Desks
+pub mod Calls

@@ -1,10 +1,8 @@
 // A recording session over ports alone.
-ghost use Rattle.std.specs.Prelude.{◌≡◌, ◌≤◌, ◌<◌, ℕ, false, length, slice_index_or};
+ghost use Rattle.std.specs.Prelude.{◌≤◌};
 ghost use Rattle.vdr_intake.specs.Items.{most_items};
-ghost use Rattle.vdr_vault.specs.Calls.{SameElsewhere};
-ghost use Rattle.vdr_vault.specs.Vaults.{AreRings};
-ghost use Rattle.vdr_capture.specs.declared.sums.Outcome.TheVariants.{NoMemory};
-ghost use Rattle.vdr_session.specs.Sessions.{HasGroups, HasSessionCause, PortsTold, Session};
+ghost use Rattle.vdr_session.specs.Calls.{AreByGroup, EndsSession, MayRecord};
+ghost use Rattle.vdr_session.specs.Sessions.{PortsTold, Session};
 
 use crate::SessionEnd;
 use crate::mark::Mark;
@@ -56,18 +54,12 @@ pub fn record<M: Media + Send, P: Port + Send, R: Threads + Wait + Sync>(
     lanes: &mut [Lane<P>],
     turns: u64,
 ) -> SessionEnd
-    requires rings { AreRings recording.members (M.disk media.old).sizes }
-    requires new { (recording.is_open ≡ false) × (recording.members.failed ≡ false) }
-    requires lanes { length lanes.old ≡ 16 }
-    requires groups { (g : ℕ) (d : _) → g < 16 → (slice_index_or lanes.old g d).group ≡ g }
+    requires recorder { MayRecord recording (M.disk media.old).sizes }
+    requires lanes { AreByGroup lanes.old }
     requires turns { turns ≤ most_items }
     ensures session { Session P.Port turns recording.members.config.queue recording.members.config.groups lanes.old lanes.new recording (M.disk media.old) (M.disk media.new) result }
     ensures ports { PortsTold result.outcome lanes.new }
-    ensures groups { HasGroups recording.members.config.groups result }
-    ensures memory { result.outcome ≡ NoMemory → (media.new ≡ media.old) × ((g : ℕ) (d : _) → g < 16 → (slice_index_or lanes.new g d).port ≡ (slice_index_or lanes.old g d).port) }
-    ensures others { M.tells → SameElsewhere (M.disk media.old).reads (M.disk media.new).reads }
-    ensures sizes { (M.disk media.new).sizes ≡ (M.disk media.old).sizes }
-    ensures cause { HasSessionCause (M.faults media.old) (M.faults media.new) result.outcome }
+    ensures ends { EndsSession M.Media recording.members.config.groups lanes.old lanes.new media.old media.new result }
 {
     let mut none: [Desk<NoLine, Mark>; 0] = [];
     record_at_desks(rt, alloc, recording, media, lanes, &mut none, turns)

@@ -6,6 +6,7 @@ ghost use Rattle.vdr_vault.specs.Calls.{SameElsewhere};
 ghost use Rattle.vdr_vault.specs.Vaults.{AreRings};
 ghost use Rattle.vdr_capture.specs.declared.sums.Outcome.TheVariants.{NoMemory};
 ghost use Rattle.vdr_session.specs.declared.records.Began.{Began as HowBegun};
+ghost use Rattle.vdr_session.specs.Calls.{AreByGroup, EndsSession, MayRecord};
 ghost use Rattle.vdr_session.specs.Desks.{DesksReplied, DesksTold, FailureTold};
 ghost use Rattle.vdr_session.specs.Ended.{IsToldAs, IsWithFailures};
 ghost use Rattle.vdr_session.specs.Sessions.{HasGroups, HasSessionCause, SessionWith};
@@ -68,20 +69,8 @@ fn reset<L>(desks: &mut [Desk<L, Mark>])
     }
 }
 
-/// Records what the ports of the lanes give, as one run, with at most `turns` takes of each port, and has the orders of the desks answered, with
-/// at most `turns` calls of each link for a line.
-///
-/// It takes all its memory, sets lanes and desks anew, and begins the run. Each lane of a configured group is captured in a thread of its own,
-/// and each desk is served in one, beside the loop that takes what is queued into the run, in batches that are committed one by one. An
-/// order of a desk takes a turn between two batches: it is one event of the history, and its reply is a function of the history before
-/// that. A play takes memory for its page, and is answered `FAULT 9` where there is none. Once all captures and desks have ended and all
-/// queues are empty the run is closed by its closing Gaps and Stop.
-///
-/// `NoMemory`: nothing was called. `Place`, `Tick`: the next place, or the tick of the Start, is at least 2^62, and nothing is recorded. `MediaFault`: the
-/// count of faults of a medium rose; the recording ends there, the captures and the desks go on to their ends, and what was recorded before
-/// stays. `PortFault`: the run was closed, and the port of this group failed, the least where several did. `LinkFault`: the run was closed, no
-/// port failed, and the link of this desk did, the least where several did.
-pub fn record_at_desks<M: Media + Send, P: Port + Send, L: Link + Send, R: Threads + Wait + Sync>(
+// Records as `record_at_desks` does. Each clause is proved on each way out.
+fn record_and_reply<M: Media + Send, P: Port + Send, L: Link + Send, R: Threads + Wait + Sync>(
     rt: &R,
     alloc: Global,
     recording: Recording,
@@ -133,4 +122,39 @@ pub fn record_at_desks<M: Media + Send, P: Port + Send, L: Link + Send, R: Threa
         records: recording.status().records.saturating_sub(first),
         intakes: intakes_of(memory.queues, memory.takers),
     }
+}
+
+/// Records what the ports of the lanes give, as one run, with at most `turns` takes of each port, and has the orders of the desks answered, with
+/// at most `turns` calls of each link for a line.
+///
+/// It takes all its memory, sets lanes and desks anew, and begins the run. Each lane of a configured group is captured in a thread of its own,
+/// and each desk is served in one, beside the loop that takes what is queued into the run, in batches that are committed one by one. An
+/// order of a desk takes a turn between two batches: it is one event of the history, and its reply is a function of the history before
+/// that. A play takes memory for its page, and is answered `FAULT 9` where there is none. Once all captures and desks have ended and all
+/// queues are empty the run is closed by its closing Gaps and Stop.
+///
+/// `NoMemory`: nothing was called. `Place`, `Tick`: the next place, or the tick of the Start, is at least 2^62, and nothing is recorded. `MediaFault`: the
+/// count of faults of a medium rose; the recording ends there, the captures and the desks go on to their ends, and what was recorded before
+/// stays. `PortFault`: the run was closed, and the port of this group failed, the least where several did. `LinkFault`: the run was closed, no
+/// port failed, and the link of this desk did, the least where several did.
+pub fn record_at_desks<M: Media + Send, P: Port + Send, L: Link + Send, R: Threads + Wait + Sync>(
+    rt: &R,
+    alloc: Global,
+    recording: Recording,
+    media: &mut M,
+    lanes: &mut [Lane<P>],
+    desks: &mut [Desk<L, Mark>],
+    turns: u64,
+) -> SessionEnd
+    requires recorder { MayRecord recording (M.disk media.old).sizes }
+    requires lanes { AreByGroup lanes.old }
+    requires desks { length desks.old < 2 ^ 32 }
+    requires turns { turns ≤ most_items }
+    ensures session { SessionWith P.Port turns recording.members.config.queue recording.members.config.groups lanes.old lanes.new recording (M.disk media.old) (M.disk media.new) result
+        (DesksReplied L.Link turns recording.members.config.channels (Rose (sum (M.faults media.old)) (sum (M.faults media.new))) result.outcome desks.old desks.new) }
+    ensures desks { DesksTold L.Link turns result.outcome desks.old desks.new }
+    ensures failures { FailureTold result.outcome lanes.new desks.new }
+    ensures ends { EndsSession M.Media recording.members.config.groups lanes.old lanes.new media.old media.new result }
+{
+    record_and_reply(rt, alloc, recording, media, lanes, desks, turns)
 }

@@ -1,6 +1,9 @@
 -- How `replay` ends, by what the recording answers and by what is printed of it.
 use Rattle.std.specs.Io.KnownBytes.{IsAtEnd}
 use Rattle.std.proofs.Common.{◌≡◌, inl, inr, ℕ, List, Result, Ok, Err, refl, sym, subst, ◌∙◌}
+use Rattle.vdr_outside.specs.declared.media.Media.{Ghosts as MediaTells}
+use Rattle.vdr_outside.specs.declared.source.Source.{Ghosts as SourceTells}
+use Rattle.vdr_replay.specs.Replays.{ReplaysFeed}
 use Rattle.vdr_replay.specs.declared.ended.FeedEnd.{FeedEnd}
 use Rattle.vdr_replay.specs.declared.ended.FeedEnd.TheVariants as ends
 use Rattle.vdr_replay.specs.declared.ended.Replayed.{Replayed}
@@ -82,6 +85,29 @@ left_alone see old new same = subst (λ a. AreLeftAlone (see old) (see a)) (sym 
   faults = refl;
   bytes_read = refl;
 })
+
+-- What is seen of media.
+abbrev pub seen_media : {M : Type 0} (media : MediaTells M) → M → MediaSeen media.tells media.tells_images
+seen_media media m = record { disk = media.disk m; faults = media.faults m; bytes_read = media.bytes_read m }
+
+-- What the recording ensures is what is owed of the media.
+pub replay_ends : {M I : Type 0} (media : MediaTells M) (source : SourceTells I) (old new : M) (before after : I) (answer : Result Replayed ReplayStop)
+    → ReplaysFeed media source old new before after answer → ReplayEnds (source.left before) (source.left after) (seen_media media old) (seen_media media new) answer
+replay_ends media source old new before after answer told = record {
+  recorded = told.replayed;
+  left = told.left;
+  blank = told.blank;
+  unopened = λ ends. left_alone (seen_media media) old new (told.unopened ends);
+  untouched = λ refuses. let same = told.untouched refuses in record { leaves = same.0; reads = same.1 };
+  missing = told.missing;
+  header = told.header;
+  legible = told.legible;
+  unformatted = told.unformatted;
+  damaged = told.damaged;
+  others = told.others;
+  beside = told.beside;
+  cause = told.cause;
+}
 
 pub replays_so : {tells tells_images : Type 0} (old new : Outside tells tells_images) (status : Status) (answer : Result Replayed ReplayStop) → OneAnswer old.media.disk.reads
     → (status ≡ Done → IsAtEnd new.input.left) → TellsRun answer status old.output new.output → (status ≡ InputFault → InputFailed old.input new.input)

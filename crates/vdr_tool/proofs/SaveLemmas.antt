@@ -26,7 +26,7 @@ use Rattle.vdr_command.specs.Endings.{IsWorkDone}
 use Rattle.vdr_command.specs.Opened.{AddsMissing, AreLooks, IfNoIncident, IsLegibleWith, IsOneEvent, IsUnbegun, KeepsContents, MayLeave, MediaEnds, MetUnsound, PrintsText, WasRecorded}
 use Rattle.vdr_command.specs.Statuses.{status_of_opening}
 use Rattle.vdr_command.specs.Outside.{MediaSeen, OutputSeen, Prints, PrintsFront}
-use Rattle.vdr_tool.specs.Releases.{CanRelease, ReleasesId, status_of_release}
+use Rattle.vdr_tool.specs.Releases.{CanRelease, IsReleaseStatus, ReleasesId, status_of_release}
 use Rattle.vdr_tool.specs.Saves.{CanSave, IfSaveRefused, IsJudged, SavesAs, cause_if, save_cause}
 use Rattle.vdr_command.specs.Statuses.{status_of_save}
 use Rattle.vdr_command.specs.declared.status.SaveCause.{SaveCause}
@@ -298,7 +298,13 @@ unsaved_prints text saves.TableFull old new = tt
 unsaved_prints text (saves.Damaged m offset) old new = tt
 unsaved_prints text saves.Fault old new = tt
 
--- A refused save, and a refused release, write nothing where opening wrote nothing.
+-- A release has a status of its own.
+pub release_status : (released : Result ⊤ ReleaseRefused) (id : ℕ) → IsReleaseStatus (status_of_release released id)
+release_status (Ok x) id = tt
+release_status (Err releases.NoSuch) id = tt
+release_status (Err releases.Fault) id = tt
+
+-- A refused save, and a refused release, write no more than opening did.
 module _ {tells tells_images A : Type 0} (disk : A → Disk tells tells_images) (old : Disk tells tells_images) (mid new : A) (members : MembersState) where
   pub unsaved_adds : (label : List ℕ) (saved : Result ℕ Refused) (refused : Refused) → saved ≡ Err refused → AddsMissing old (disk mid)
       → ((refused : Refused) → saved ≡ Err refused → (refused ≡ saves.Label) ⊎ ((refused ≡ saves.Nothing) ⊎ (refused ≡ saves.TableFull)) → (members.failed ≡ false) × (save_refusal label members ≡ Some refused))

@@ -137,12 +137,12 @@ module _ {tells tells_images : Type 0} where
         beside : members.capsule.medium ≢ 1
         beside = λ e. let is = (are 0 0 (omega arith)).medium in absurd (omega (arith, e, is))
 
-        made : (stages : Stages) × AreStages members.long_term.segment members.long_term.slots members.long_term.seconds pins (x.placed 1) (first_place x) missing stages
+        abbrev made : (stages : Stages) × AreStages members.long_term.segment members.long_term.slots members.long_term.seconds pins (x.placed 1) (first_place x) missing stages
             × ChangesOnly members.long_term.medium (HoldsAny members.long_term.segment members.long_term.slots (x.placed 1 ∷ stages.closed ∷ stages.begun ∷ stages.done ∷ [])) disk new
             × OnOk result (rings.Reads ring stages.done new)
         made = appended (x.placed 1) (first_place x) told o.long_term (lacked_goes_on x missing members.long_term disk lacks)
 
-        stages : Stages
+        abbrev stages : Stages
         stages = made.0
 
         are_stages : AreStages members.long_term.segment members.long_term.slots members.long_term.seconds (pins_of x.table) (x.placed 1) (first_place x) missing stages

@@ -42,7 +42,7 @@ falls_front : (from : ℕ) (xs ys : List Record) → NeverFalls from (xs ++ ys) 
 falls_front from [] ys h = tt
 falls_front from (x ∷ xs) ys h = (h.0, falls_front x.tick xs ys h.1)
 
-tick_behind : ℕ → List Record → ℕ
+abbrev tick_behind : ℕ → List Record → ℕ
 tick_behind from [] = from
 tick_behind from (x ∷ xs) = tick_behind x.tick xs
 
@@ -74,7 +74,7 @@ from_zero (r ∷ rs) t falls = (omega arith, falls.1)
 follows : (newest : Option Record) (batch : List Record) (t : ℕ) → NeverFalls t batch → RunOn (next_after newest) batch → begins_since newest batch ≡ true → FollowOn newest batch
 follows None batch t falls run since = (0, run, from_zero batch t falls)
 follows (Some r) [] t falls run since = (run, tt)
-follows (Some r) (x ∷ xs) t falls run since = (run, leb-true r.tick x.tick since, falls.1)
+follows (Some r) (x ∷ xs) t falls run since = (run, (leb-true r.tick x.tick since, falls.1))
 
 begun : (place : ℕ) (batch : List Record) → begins_at place batch ≡ true → 0 < length batch
 begun place [] h = absurd (true≢false (sym h))

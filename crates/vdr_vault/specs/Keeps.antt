@@ -1,19 +1,24 @@
 -- What each call of a vault keeps, and what it answers, whatever becomes of it.
-use Rattle.std.specs.Prelude.{◌≡◌, ◌⊎◌, ◌-◌, ℕ, suc, Bool, true, false, List, is_none, position, Option, Some, None, option_map, Result, Err, IfOk, IsErr, OnErr, OnOk}
+use Rattle.std.specs.Prelude.{◌≡◌, ◌≢◌, ◌⊎◌, ◌↔◌, ◌-◌, ℕ, suc, Bool, true, false, List, is_none, position, Option, Some, None, option_map, Result, Ok, Err, IfOk, IsErr, OnErr, OnOk}
 use Rattle.vdr_terms.specs.Records.{Record, last}
 use Rattle.vdr_history.specs.Histories.{Event, Incident, Opening, live, with_slot}
 use Rattle.vdr_durability.specs.Readings.{next_after}
 use Rattle.vdr_outside.specs.declared.media.Media.{Ghosts as MediaTells}
 use Rattle.vdr_outside.specs.Disk.{Disk, SameBut, Unchanged}
 use Rattle.vdr_ring.specs.Cursors.{IsLoaded}
+use Rattle.vdr_ring.specs.Rings.{RingState}
 use Rattle.vdr_ring.specs.Sequence.{Placed}
+use Rattle.vdr_ring.specs.declared.refused.ReadRefused.{ReadRefused}
+use Rattle.vdr_ring.specs.declared.refused.ReadRefused.TheVariants.{Damaged as damage_read, Fault as a_read_fault}
 use Rattle.vdr_incident.specs.declared.refused.ReleaseRefused.{ReleaseRefused}
 use Rattle.vdr_incident.specs.declared.refused.ReleaseRefused.TheVariants.{Fault as a_release_fault, NoSuch}
 use Rattle.vdr_vault.specs.declared.refused.SaveRefused.{SaveRefused}
 use Rattle.vdr_vault.specs.declared.refused.SaveRefused.TheVariants.{Damaged, Fault, Label, Nothing, TableFull}
-use Rattle.vdr_vault.specs.Vaults.{AreRings, MembersState, Stands, of_stamp, tick_utc}
+use Rattle.vdr_vault.specs.Vaults.{AreRings, IsReadable, MembersState, Stands, of_stamp, ring_of, tick_utc}
 use Rattle.vdr_vault.specs.Calls.{HasVaultCause, SameElsewhere}
 use Rattle.vdr_vault.specs.Saves.{HasFaultOn, save_refusal}
+use Rattle.vdr_vault.specs.Walks.{CursorState, MayStep}
+use Rattle.vdr_vault.specs.Plays.{HasReadCause, ReadsNoOther, ReadsOn}
 
 -- Where a write had failed before, the call does nothing; and where it fails, the next one does nothing.
 pub record StopsAtFault {S M T E : Type 0} (had_failed has_failed : Bool) (old new : S) (before after : M) (result : Result T E) : Type 0 where
@@ -118,6 +123,37 @@ pub record FreesSlot {T E : Type 0} (id : ℕ) (old new : List (Option Incident)
   pub table : OnOk result (new ≡ with_slot old id None)
   -- after an error the table is as before
   pub kept : OnErr result (new ≡ old)
+
+-- A cursor of a play after a step.
+pub record StandsAfter (ring : RingState) (cursor : CursorState) (result : Result Bool ReadRefused) : Type 0 where
+  -- it has a record exactly where one was found
+  pub item : cursor.visit.item ≢ None ↔ (result ≡ Ok true)
+  -- it may step on
+  pub may : MayStep ring cursor
+
+-- A step of a play on medium m keeps the vault over its media, whatever it answers.
+pub record KeepsPlayed {M : Type 0} (media : MediaTells M) (m : ℕ) (old new : MembersState) (before after : M) : Type 0 where
+  -- only the buffer of the ring on medium m may have changed
+  pub members : ReadsOn m old new
+  -- each ring is its medium's
+  pub rings : AreRings new (media.disk after).sizes
+  -- a vault that stood over its media still does
+  pub stands : (opening : Opening) (events : List Event) (placed : ℕ → List Placed) → Stands opening events old placed (media.disk before) → Stands opening events new placed (media.disk after)
+  -- and media that were readable still are
+  pub readable : (opening : Opening) (events : List Event) (placed : ℕ → List Placed) → IsReadable opening events old placed (media.disk before) → IsReadable opening events new placed (media.disk after)
+  -- nothing was written
+  pub unchanged : Unchanged (media.disk before) (media.disk after)
+
+-- It reads medium m alone, and an error has its cause.
+pub record ReadsForPlay {M : Type 0} (media : MediaTells M) (m : ℕ) (old new : MembersState) (before after : M) (result : Result Bool ReadRefused) : Type 0 where
+  -- where a write had failed, a fault is answered and nothing is called
+  pub failed : old.failed ≡ true → (result ≡ Err a_read_fault) × (new ≡ old) × (after ≡ before)
+  -- no byte of another medium was read
+  pub counts : ReadsNoOther m (media.bytes_read before) (media.bytes_read after)
+  -- damage is on medium m
+  pub damaged : (k offset : ℕ) → media.tells → IsLoaded (ring_of old m) (media.disk before) → result ≡ Err (damage_read k offset) → k ≡ m
+  -- no count of faults falls, and a fault has its cause
+  pub cause : HasReadCause m old.failed (media.faults before) (media.faults after) result
 
 module _ {tells tells_images : Type 0} where
   -- Damage that a save meets: media that hold what was recorded have none, and of others nothing was written.

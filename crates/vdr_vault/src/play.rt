@@ -4,17 +4,17 @@ ghost use Rattle.vdr_terms.specs.Queries.Span.{Window};
 ghost use Rattle.vdr_history.specs.Histories.{Event, Opening};
 ghost use Rattle.vdr_playback.specs.Playback.{medium_of, selected};
 ghost use Rattle.vdr_outside.specs.Causes.{Rose};
-ghost use Rattle.vdr_outside.specs.Disk.{Unchanged};
 ghost use Rattle.vdr_entry.specs.Queries.{asked, asked_medium};
 ghost use Rattle.vdr_ring.specs.Sequence.{Placed, all_records};
-ghost use Rattle.vdr_ring.specs.Rings.{HasMedium, Reads, Tells};
+ghost use Rattle.vdr_ring.specs.Rings.{Reads, Tells};
 ghost use Rattle.vdr_ring.specs.Cursors.{IsLoaded};
 ghost use Rattle.vdr_ring.specs.declared.refused.ReadRefused.TheVariants.{Fault as AFault, Damaged};
 ghost use Rattle.vdr_opening.specs.Media.{both};
-ghost use Rattle.vdr_vault.specs.Vaults.{AreRings, IsReadable, Stands, ring_of};
+ghost use Rattle.vdr_vault.specs.Vaults.{AreRings, IsReadable, ring_of};
 ghost use Rattle.vdr_index.specs.Indexes.{span_as};
 ghost use Rattle.vdr_vault.specs.Walks.{AreLeft, CountsOn, GivesNext, HasRead, MayStep, slots_read};
-ghost use Rattle.vdr_vault.specs.Plays.{AreToCome, HasReadCause, ReadsNoOther, ReadsOn, ring_for, span_in};
+ghost use Rattle.vdr_vault.specs.Keeps.{KeepsPlayed, ReadsForPlay, StandsAfter};
+ghost use Rattle.vdr_vault.specs.Plays.{AreToCome, ReadsOn, ring_for, span_in};
 
 use crate::{Cursor, Members};
 use vdr_entry::{Medium, Query};
@@ -106,20 +106,9 @@ impl Members {
         requires rings { AreRings self.old (M.disk media.old).sizes }
         ensures plays { (opening : Opening) (events : List Event) (placed : ℕ → List Placed) → M.tells → IsReadable opening events self.old placed (M.disk media.old)
             → GivesNext (selected opening events (asked query.now)) result cursor.new.visit.item (AreToCome (asked query.now) self.new placed (M.disk media.new) cursor.new) }
-        ensures stands { (opening : Opening) (events : List Event) (placed : ℕ → List Placed) → Stands opening events self.old placed (M.disk media.old)
-            → Stands opening events self.new placed (M.disk media.new) }
-        ensures readable { (opening : Opening) (events : List Event) (placed : ℕ → List Placed) → IsReadable opening events self.old placed (M.disk media.old)
-            → IsReadable opening events self.new placed (M.disk media.new) }
-        ensures item { cursor.new.visit.item ≢ None ↔ (result ≡ Ok true) }
-        ensures may { MayStep (ring_for self.new (asked query.now)) cursor.new }
-        ensures failed { self.old.failed ≡ true → (result ≡ Err AFault) × (self.new ≡ self.old) × (media.new ≡ media.old) }
-        ensures members { ReadsOn (medium_of (asked query.now).medium) self.old self.new }
-        ensures rings { AreRings self.new (M.disk media.new).sizes }
-        ensures unchanged { Unchanged (M.disk media.old) (M.disk media.new) }
-        ensures counts { ReadsNoOther (medium_of (asked query.now).medium) (M.bytes_read media.old) (M.bytes_read media.new) }
-        ensures damaged { (m offset : ℕ) → M.tells → IsLoaded (ring_for self.old (asked query.now)) (M.disk media.old) → result ≡ Err (Damaged m offset)
-            → m ≡ medium_of (asked query.now).medium }
-        ensures cause { HasReadCause (medium_of (asked query.now).medium) self.old.failed (M.faults media.old) (M.faults media.new) result }
+        ensures cursor { StandsAfter (ring_for self.new (asked query.now)) cursor.new result }
+        ensures keeps { KeepsPlayed M.Media (medium_of (asked query.now).medium) self.old self.new media.old media.new }
+        ensures reads { ReadsForPlay M.Media (medium_of (asked query.now).medium) self.old self.new media.old media.new result }
     {
         law_of_playback();
         *cursor = Cursor::new();
@@ -144,20 +133,9 @@ impl Members {
         ensures plays { (opening : Opening) (events : List Event) (placed : ℕ → List Placed) (records : List Entry) → M.tells → IsReadable opening events self.old placed (M.disk media.old)
             → AreToCome (asked query.now) self.old placed (M.disk media.old) cursor.old records
             → GivesNext records result cursor.new.visit.item (AreToCome (asked query.now) self.new placed (M.disk media.new) cursor.new) }
-        ensures stands { (opening : Opening) (events : List Event) (placed : ℕ → List Placed) → Stands opening events self.old placed (M.disk media.old)
-            → Stands opening events self.new placed (M.disk media.new) }
-        ensures readable { (opening : Opening) (events : List Event) (placed : ℕ → List Placed) → IsReadable opening events self.old placed (M.disk media.old)
-            → IsReadable opening events self.new placed (M.disk media.new) }
-        ensures item { cursor.new.visit.item ≢ None ↔ (result ≡ Ok true) }
-        ensures may { MayStep (ring_for self.new (asked query.now)) cursor.new }
-        ensures failed { self.old.failed ≡ true → (result ≡ Err AFault) × (self.new ≡ self.old) × (media.new ≡ media.old) }
-        ensures members { ReadsOn (medium_of (asked query.now).medium) self.old self.new }
-        ensures rings { AreRings self.new (M.disk media.new).sizes }
-        ensures unchanged { Unchanged (M.disk media.old) (M.disk media.new) }
-        ensures counts { ReadsNoOther (medium_of (asked query.now).medium) (M.bytes_read media.old) (M.bytes_read media.new) }
-        ensures damaged { (m offset : ℕ) → M.tells → IsLoaded (ring_for self.old (asked query.now)) (M.disk media.old) → result ≡ Err (Damaged m offset)
-            → m ≡ medium_of (asked query.now).medium }
-        ensures cause { HasReadCause (medium_of (asked query.now).medium) self.old.failed (M.faults media.old) (M.faults media.new) result }
+        ensures cursor { StandsAfter (ring_for self.new (asked query.now)) cursor.new result }
+        ensures keeps { KeepsPlayed M.Media (medium_of (asked query.now).medium) self.old self.new media.old media.new }
+        ensures reads { ReadsForPlay M.Media (medium_of (asked query.now).medium) self.old self.new media.old media.new result }
     {
         if self.failed {
             *cursor = Cursor::new();

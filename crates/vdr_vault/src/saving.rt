@@ -66,7 +66,6 @@ impl Members {
     fn incident_seconds(&self) -> u64
         ensures seconds { result ≡ self.now.config.incident_seconds }
         ensures some { 1 ≤ result }
-        ensures few { result ≤ 31_536_000 }
     {
         self.config.incident_seconds
     }

@@ -1,12 +1,12 @@
 use Rattle.std.proofs.Common.{◌∙◌, Err, inr, ap}
 use Rattle.std.proofs.lemmas.Result.{err_from_is_err_and}
-use Rattle.vdr_playback.specs.Playback.{selected}
+use Rattle.vdr_playback.specs.Playback.{medium_of, selected}
 use Rattle.vdr_entry.specs.Queries.{asked}
 use Rattle.vdr_recorder.proofs.Looking.{looks_join}
 use Rattle.vdr_export.specs.Sounds.{heard}
 use Rattle.vdr_export.specs.declared.refused.ExportRefused.{ExportRefused}
 use Rattle.vdr_export.proofs.Refusing.{looked_as}
-use Rattle.vdr_export.proofs.TwoPasses.{no_wave, passed_on, the_wave}
+use Rattle.vdr_export.proofs.TwoPasses.{asked_again, no_wave, passed_on, the_wave}
 use Rattle.vdr_export.proofs.file.export_wave.Goals as goal
 
 pub returns-in_err-size-clause-wave : goal.returns-in_err-size-clause-wave
@@ -19,6 +19,11 @@ pub returns-in_err-size-clause-looked : goal.returns-in_err-size-clause-looked
 returns-in_err-size-clause-looked g c =
     let p = err_from_is_err_and c.from_residual.result c.from_residual.ensures.1 in
     looked_as _ _ _ _ _ _ _ _ _ _ _ (passed_on c.wave_size.result c.in_err-size.field-0.0 p.0 c.from_residual.result c.in_err-size.was p.2 p.1) c.wave_size.ensures.looked
+
+pub write_wave-requires-clause-asked : goal.write_wave-requires-clause-asked
+write_wave-requires-clause-asked g c =
+    let read = c.wave_size.ensures.looked.read in
+    asked_again c.args.query.now (medium_of (asked c.args.query.now).medium) c.args.recording.now c.wave_size.new.recording _ _ read.members read.rings c.requires.asked
 
 pub returns-clause-wave : goal.returns-clause-wave
 returns-clause-wave g c opening events placed told readable =

@@ -18,7 +18,7 @@ returns-in_default-clause-front g c opening events placed told readable =
     (subst (λ (l : List ℕ). AppendsFront (g.O.Sink.taken c.args.out.now) (g.O.Sink.taken c.write_all.new.sink) l) (c.as_slice.ensures.value ∙ c.header_of.ensures) c.write_all.ensures.front)
 
 pub returns-in_default-clause-looked : goal.returns-in_default-clause-looked
-returns-in_default-clause-looked g c = looked_nothing _ _ _ _ _ _ (λ is. let none : ⊥ = cc in none) c.requires.rings
+returns-in_default-clause-looked g c = looked_nothing _ _ _ _ _ _ (λ is. let none : ⊥ = cc in none) c.requires.asked.rings
 
 pub returns-in-Err-clause-front : goal.returns-in-Err-clause-front
 returns-in-Err-clause-front g c opening events placed told readable =

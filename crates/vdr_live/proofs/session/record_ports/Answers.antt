@@ -21,11 +21,12 @@ returns-in_err-recording-clause-ends g c =
 pub returns-clause-ends : goal.returns-clause-ends
 returns-clause-ends g c =
     let begun = c.in_ok-recording.ensures in
+    let session = c.record_at_desks.ensures in
     let old : MediaSeen g.M.Media.tells g.M.Media.tells_images = record { disk = g.M.Media.disk c.args.media.now; faults = g.M.Media.faults c.args.media.now; bytes_read = g.M.Media.bytes_read c.args.media.now } in
     let mid : MediaSeen g.M.Media.tells g.M.Media.tells_images = record { disk = g.M.Media.disk c.open.new.media; faults = g.M.Media.faults c.open.new.media; bytes_read = g.M.Media.bytes_read c.open.new.media } in
     let new : MediaSeen g.M.Media.tells g.M.Media.tells_images = record { disk = g.M.Media.disk c.record_at_desks.new.media; faults = g.M.Media.faults c.record_at_desks.new.media; bytes_read = g.M.Media.bytes_read c.record_at_desks.new.media } in
-    recorded_ends g.P.Port g.L.Link c.args.turns c.args.lanes.now c.record_at_desks.new.lanes c.args.desks.now c.record_at_desks.new.desks old mid new c.in_ok-recording.recording c.record_at_desks.result c.requires.lanes (c.record_at_desks.auto.lanes ∙ c.requires.lanes)
+    recorded_ends g.P.Port g.L.Link c.args.turns c.args.lanes.now c.record_at_desks.new.lanes c.args.desks.now c.record_at_desks.new.desks old mid new c.in_ok-recording.recording c.record_at_desks.result c.requires.lanes.sixteen (c.record_at_desks.auto.lanes ∙ c.requires.lanes.sixteen)
     (λ t. let w = begun.opened.contents t in (w.0, w.1, w.2, w.3, w.4))
     (λ x y h k. ((c.law_of_contents.ensures.config _ x y h k).0, meet_as x y (c.law_of_contents.ensures.placed _ x y h k)))
     begun.opened.opened begun.moments (λ t k first second. c.open.ensures.writes.others t k second) c.open.ensures.writes.cause.later
-    c.record_at_desks.ensures.session c.record_at_desks.ensures.desks c.record_at_desks.ensures.failures c.record_at_desks.ensures.groups (λ is. (c.record_at_desks.ensures.memory is).1) c.record_at_desks.ensures.others c.record_at_desks.ensures.cause
+    session.session session.desks session.failures session.ends.groups (λ is. (session.ends.memory is).1) session.ends.others session.ends.cause

@@ -73,6 +73,11 @@ returns-in_default-file_of-clause-ends g c =
     (λ a b h k. (c.law_of_contents.ensures.config (g.M.Media.disk c.args.world.now.media).reads a b h k).0)
     (looked_nothing (asked c.in-Some.query) c.in_ok-recording.recording (g.M.Media.disk c.open.new.media) (g.M.Media.bytes_read c.open.new.media) (g.M.Media.faults c.open.new.media) ⊥ (λ never. never) told.opened.rings) refl
 
+pub export_file-written-requires : goal.export_file-written-requires
+export_file-written-requires g c =
+    let there = both_there _ _ c.accept.result c.accept.ensures c.in-Ok.is in
+    record { asked = record { rings = c.in_ok-recording.ensures.opened.rings; channel = there.0; incident = there.1 } }
+
 pub returns-clause-ends : goal.returns-clause-ends
 returns-clause-ends g c =
     let told = c.in_ok-recording.ensures in

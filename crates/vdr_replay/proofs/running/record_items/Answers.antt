@@ -1,4 +1,4 @@
-use Rattle.std.proofs.Common.{[], ◌++◌, ℕ, ap, ◌∙◌, subst, arith}
+use Rattle.std.proofs.Common.{◌≤◌, [], ◌++◌, ℕ, length, ap, ◌∙◌, subst, arith}
 use Rattle.vdr_terms.specs.declared.counts.Counts.{Counts}
 use Rattle.vdr_terms.specs.Records.{total}
 use Rattle.vdr_history.specs.RunStates.{state_left}
@@ -31,20 +31,19 @@ returns-in_err-record-clause-broken g c =
 pub returns-in_err-record-clause-cause : goal.returns-in_err-record-clause-cause
 returns-in_err-record-clause-cause g c = cause_joined _ _ _ _ c.from_residual-in_err-record.result c.take_all.ensures.cause.later c.in_err-record.ensures.cause
 
-pub stop-requires-clause-quiet : goal.stop-requires-clause-quiet
-stop-requires-clause-quiet g c = λ n off.
+pub stop-requires-clause-fits : goal.stop-requires-clause-fits
+stop-requires-clause-fits g c =
     let t = c.in_ok-end.ensures.taken in
     let held = c.in_ok-record.ensures.held t.feed t.held in
-    ap (λ (f : ℕ → Counts). total (f n)) (rests t.feed c.record.new.self c.rest.result held.counts held.low c.rest.ensures.sixteen c.rest.ensures.each)
-    ∙ quiet_group c.record.new.recording.members.config.groups t.feed n held.known off
-
-pub stop-requires-clause-numbers : goal.stop-requires-clause-numbers
-stop-requires-clause-numbers g c = λ n low.
-    let t = c.in_ok-end.ensures.taken in
-    let held = c.in_ok-record.ensures.held t.feed t.held in
-    let same = ap (λ (f : ℕ → Counts). total (f n)) (rests t.feed c.record.new.self c.rest.result held.counts held.low c.rest.ensures.sixteen c.rest.ensures.each) in
-    let fits = numbers_fit t.feed c.record.new.self.batch.items c.record.new.recording.maker held.fits held.few n low in
-    omega (arith, same, fits)
+    let same = rests t.feed c.record.new.self c.rest.result held.counts held.low c.rest.ensures.sixteen c.rest.ensures.each in
+    record {
+      quiet = λ n off. ap (λ (f : ℕ → Counts). total (f n)) same ∙ quiet_group c.record.new.recording.members.config.groups t.feed n held.known off;
+      place = let place = held.fits.place in let few : length t.feed ≤ 4_294_967_295 = held.few in omega (arith, place, few);
+      numbers = λ n low.
+          let missed = ap (λ (f : ℕ → Counts). total (f n)) same in
+          let fits = numbers_fit t.feed c.record.new.self.batch.items c.record.new.recording.maker held.fits held.few n low in
+          omega (arith, missed, fits);
+    }
 
 pub returns-in_err-stop-clause-broken : goal.returns-in_err-stop-clause-broken
 returns-in_err-stop-clause-broken g c =

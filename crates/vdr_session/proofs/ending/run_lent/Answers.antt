@@ -20,7 +20,8 @@ use Rattle.vdr_session.proofs.ending.run_lent.Goals.{in-Ok, in-Err}
 if_some : {T : Type 0} (P : T → Type 0) (o : Option T) (x : T) → o ≡ Some x → IfSome o P → P x
 if_some {T} P o x is h = subst (λ (o : Option T). IfSome o P) is h
 
-abbrev beside_of : {L : Type 0} (tells : LinkTells L) (answers : List Mark → Mark → PlainOrder → List ℕ → Type 0) (turns : ℕ) (old new : List (Desk L Mark)) → Began → List Mark → Type 0
+abbrev beside_of : {L : Type 0} (tells : LinkTells L) (answers : List Mark → Mark → PlainOrder → List ℕ → Type 0) (turns : ℕ) (old new : List (Desk L Mark))
+    → Began → List Mark → Type 0
 beside_of tells answers turns old new began marks = DesksRan tells answers turns old new began marks
 
 pub returns-in_default-began : goal.returns-in_default-began
@@ -28,9 +29,13 @@ returns-in_default-began g c =
     let p = if_some _ c.record_lent-media.result.1 c.in-Some.field-0 c.in-Some.is c.record_lent-media.ensures.closed in
     record {
       same = c.record_lent-media.ensures.same;
-      ended = not_begun_ends g.P.Port c.args.turns c.args.memory.now.queues c.args.memory.now.takers c.record_lent-media.new.takers c.args.lanes.now c.record_lent-media.new.lanes
-          (record { clock = g.O.Lent.clock; now = g.O.Lent.now; since = g.O.Lent.since; reads = g.O.Lent.reads; channels = g.O.Lent.channels }) g.O.Lent.began g.O.Lent.rates g.O.Lent.room g.O.Lent.sizes g.O.Lent.faults p.0 c.in-Some.field-0.began c.in-Some.field-0.recording
-          (g.M.Media.disk c.record_lent-media.result.0.now) (g.M.Media.faults c.record_lent-media.result.0.now) p.1 p.2 p.4 (beside_of g.L.Link (AnswersMark g.M.Media.tells g.O.Lent.began g.O.Lent.channels) c.args.turns c.args.desks.now c.record_lent-media.new.desks) p.3
+      ended = not_begun_ends g.P.Port c.args.turns c.args.memory.now.queues c.args.memory.now.takers c.record_lent-media.new.takers c.args.lanes.now
+          c.record_lent-media.new.lanes
+          (record { clock = g.O.Lent.clock; now = g.O.Lent.now; since = g.O.Lent.since; reads = g.O.Lent.reads; channels = g.O.Lent.channels }) g.O.Lent.began
+          g.O.Lent.rates g.O.Lent.room g.O.Lent.sizes g.O.Lent.faults p.0 c.in-Some.field-0.began c.in-Some.field-0.recording
+          (g.M.Media.disk c.record_lent-media.result.0.now) (g.M.Media.faults c.record_lent-media.result.0.now) p.1 p.2 p.4
+          (beside_of g.L.Link (AnswersMark g.M.Media.tells g.O.Lent.began g.O.Lent.channels) c.args.turns c.args.desks.now c.record_lent-media.new.desks)
+          p.3
           c.refused-outcome.result c.in_default-began.not-Begun c.refused-outcome.ensures;
       queues = refl;
       refused = λ e. absurd (never e);
@@ -39,53 +44,68 @@ returns-in_default-began g c =
     never : {T : Type 0} {x : T} → Some x ≡ None → ⊥
     never e = cc
 
-pub stop-requires-clause-quiet : goal.stop-requires-clause-quiet
-stop-requires-clause-quiet g c =
+pub stop-requires-clause-fits : goal.stop-requires-clause-fits
+stop-requires-clause-fits g c =
     let p = if_some _ c.record_lent-media.result.1 c.in-Some.field-0 c.in-Some.is c.record_lent-media.ensures.closed in
     let is : c.in-Some.field-0.began ≡ starts.Begun = c.in-Begun.is in
     let sixteen : length c.record_lent-media.new.lanes ≡ 16 = search rules in
-    stop_quiet g.P.Port c.args.turns c.args.memory.now.queues c.args.memory.now.takers c.record_lent-media.new.takers c.args.lanes.now c.record_lent-media.new.lanes
-    (record { clock = g.O.Lent.clock; now = g.O.Lent.now; since = g.O.Lent.since; reads = g.O.Lent.reads; channels = g.O.Lent.channels }) g.O.Lent.began g.O.Lent.rates g.O.Lent.room g.O.Lent.sizes g.O.Lent.faults p.0 c.in-Some.field-0.began c.in-Some.field-0.recording
-    (g.M.Media.disk c.record_lent-media.result.0.now) (g.M.Media.faults c.record_lent-media.result.0.now) p.1 p.2 p.4 (beside_of g.L.Link (AnswersMark g.M.Media.tells g.O.Lent.began g.O.Lent.channels) c.args.turns c.args.desks.now c.record_lent-media.new.desks) p.3 is (rest_of c.rest_of.result) c.rest_of.ensures sixteen c.requires.turns
-
-pub stop-requires-clause-place : goal.stop-requires-clause-place
-stop-requires-clause-place g c =
-    let p = if_some _ c.record_lent-media.result.1 c.in-Some.field-0 c.in-Some.is c.record_lent-media.ensures.closed in
-    let is : c.in-Some.field-0.began ≡ starts.Begun = c.in-Begun.is in
-    let sixteen : length c.record_lent-media.new.lanes ≡ 16 = search rules in
-    stop_place g.P.Port c.args.turns c.args.memory.now.queues c.args.memory.now.takers c.record_lent-media.new.takers c.args.lanes.now c.record_lent-media.new.lanes
-    (record { clock = g.O.Lent.clock; now = g.O.Lent.now; since = g.O.Lent.since; reads = g.O.Lent.reads; channels = g.O.Lent.channels }) g.O.Lent.began g.O.Lent.rates g.O.Lent.room g.O.Lent.sizes g.O.Lent.faults p.0 c.in-Some.field-0.began c.in-Some.field-0.recording
-    (g.M.Media.disk c.record_lent-media.result.0.now) (g.M.Media.faults c.record_lent-media.result.0.now) p.1 p.2 p.4 (beside_of g.L.Link (AnswersMark g.M.Media.tells g.O.Lent.began g.O.Lent.channels) c.args.turns c.args.desks.now c.record_lent-media.new.desks) p.3 is (rest_of c.rest_of.result) c.rest_of.ensures sixteen c.requires.turns
-
-pub stop-requires-clause-numbers : goal.stop-requires-clause-numbers
-stop-requires-clause-numbers g c =
-    let p = if_some _ c.record_lent-media.result.1 c.in-Some.field-0 c.in-Some.is c.record_lent-media.ensures.closed in
-    let is : c.in-Some.field-0.began ≡ starts.Begun = c.in-Begun.is in
-    let sixteen : length c.record_lent-media.new.lanes ≡ 16 = search rules in
-    stop_numbers g.P.Port c.args.turns c.args.memory.now.queues c.args.memory.now.takers c.record_lent-media.new.takers c.args.lanes.now c.record_lent-media.new.lanes
-    (record { clock = g.O.Lent.clock; now = g.O.Lent.now; since = g.O.Lent.since; reads = g.O.Lent.reads; channels = g.O.Lent.channels }) g.O.Lent.began g.O.Lent.rates g.O.Lent.room g.O.Lent.sizes g.O.Lent.faults p.0 c.in-Some.field-0.began c.in-Some.field-0.recording
-    (g.M.Media.disk c.record_lent-media.result.0.now) (g.M.Media.faults c.record_lent-media.result.0.now) p.1 p.2 p.4 (beside_of g.L.Link (AnswersMark g.M.Media.tells g.O.Lent.began g.O.Lent.channels) c.args.turns c.args.desks.now c.record_lent-media.new.desks) p.3 is (rest_of c.rest_of.result) c.rest_of.ensures sixteen c.requires.turns
+    let beside = beside_of g.L.Link (AnswersMark g.M.Media.tells g.O.Lent.began g.O.Lent.channels) c.args.turns c.args.desks.now c.record_lent-media.new.desks
+    in
+    record {
+      quiet = stop_quiet g.P.Port c.args.turns c.args.memory.now.queues c.args.memory.now.takers c.record_lent-media.new.takers c.args.lanes.now
+          c.record_lent-media.new.lanes
+          (record { clock = g.O.Lent.clock; now = g.O.Lent.now; since = g.O.Lent.since; reads = g.O.Lent.reads; channels = g.O.Lent.channels })
+          g.O.Lent.began g.O.Lent.rates g.O.Lent.room g.O.Lent.sizes g.O.Lent.faults p.0 c.in-Some.field-0.began c.in-Some.field-0.recording
+          (g.M.Media.disk c.record_lent-media.result.0.now) (g.M.Media.faults c.record_lent-media.result.0.now) p.1 p.2 p.4
+          beside p.3 is (rest_of c.rest_of.result) c.rest_of.ensures sixteen c.requires.turns;
+      place = stop_place g.P.Port c.args.turns c.args.memory.now.queues c.args.memory.now.takers c.record_lent-media.new.takers c.args.lanes.now
+          c.record_lent-media.new.lanes
+          (record { clock = g.O.Lent.clock; now = g.O.Lent.now; since = g.O.Lent.since; reads = g.O.Lent.reads; channels = g.O.Lent.channels })
+          g.O.Lent.began g.O.Lent.rates g.O.Lent.room g.O.Lent.sizes g.O.Lent.faults p.0 c.in-Some.field-0.began c.in-Some.field-0.recording
+          (g.M.Media.disk c.record_lent-media.result.0.now) (g.M.Media.faults c.record_lent-media.result.0.now) p.1 p.2 p.4
+          beside p.3 is (rest_of c.rest_of.result) c.rest_of.ensures sixteen c.requires.turns;
+      numbers = stop_numbers g.P.Port c.args.turns c.args.memory.now.queues c.args.memory.now.takers c.record_lent-media.new.takers c.args.lanes.now
+          c.record_lent-media.new.lanes
+          (record { clock = g.O.Lent.clock; now = g.O.Lent.now; since = g.O.Lent.since; reads = g.O.Lent.reads; channels = g.O.Lent.channels })
+          g.O.Lent.began g.O.Lent.rates g.O.Lent.room g.O.Lent.sizes g.O.Lent.faults p.0 c.in-Some.field-0.began c.in-Some.field-0.recording
+          (g.M.Media.disk c.record_lent-media.result.0.now) (g.M.Media.faults c.record_lent-media.result.0.now) p.1 p.2 p.4
+          beside p.3 is (rest_of c.rest_of.result) c.rest_of.ensures sixteen c.requires.turns;
+    }
 
 pub returns-clause-ended : goal.returns-clause-ended
 returns-clause-ended g c =
     let p = if_some _ c.record_lent-media.result.1 c.in-Some.field-0 c.in-Some.is c.record_lent-media.ensures.closed in
     let is : c.in-Some.field-0.began ≡ starts.Begun = c.in-Begun.is in
     let sixteen : length c.record_lent-media.new.lanes ≡ 16 = search rules in
-    let ends : Outcome → Type 0 = λ outcome. HasEnded g.P.Port c.args.turns (λ n. is_configured (limits_in g.O.Lent.rates n)) c.args.memory.now.queues c.args.memory.now.takers c.record_lent-media.new.takers c.args.lanes.now c.record_lent-media.new.lanes
-    (record { clock = g.O.Lent.clock; now = g.O.Lent.now; since = g.O.Lent.since; reads = g.O.Lent.reads; channels = g.O.Lent.channels }) g.O.Lent.began g.O.Lent.sizes g.O.Lent.faults (beside_of g.L.Link (AnswersMark g.M.Media.tells g.O.Lent.began g.O.Lent.channels) c.args.turns c.args.desks.now c.record_lent-media.new.desks) outcome c.stop.new.self (g.M.Media.disk c.stop.new.media) (g.M.Media.faults c.stop.new.media) in
+    let ends : Outcome → Type 0 = λ outcome. HasEnded g.P.Port c.args.turns (λ n. is_configured (limits_in g.O.Lent.rates n)) c.args.memory.now.queues
+    c.args.memory.now.takers c.record_lent-media.new.takers c.args.lanes.now c.record_lent-media.new.lanes
+    (record { clock = g.O.Lent.clock; now = g.O.Lent.now; since = g.O.Lent.since; reads = g.O.Lent.reads; channels = g.O.Lent.channels }) g.O.Lent.began
+    g.O.Lent.sizes g.O.Lent.faults (beside_of g.L.Link (AnswersMark g.M.Media.tells g.O.Lent.began g.O.Lent.channels) c.args.turns c.args.desks.now
+    c.record_lent-media.new.desks) outcome c.stop.new.self (g.M.Media.disk c.stop.new.media) (g.M.Media.faults c.stop.new.media) in
     elim c.match-stop.branch [
       | in-Ok w ↦
           (let e = w.in-Ok.ensures in
           subst ends (sym w.outcome-is)
-          (done_ends g.P.Port c.args.turns c.args.memory.now.queues c.args.memory.now.takers c.record_lent-media.new.takers c.args.lanes.now c.record_lent-media.new.lanes
-          (record { clock = g.O.Lent.clock; now = g.O.Lent.now; since = g.O.Lent.since; reads = g.O.Lent.reads; channels = g.O.Lent.channels }) g.O.Lent.began g.O.Lent.rates g.O.Lent.room g.O.Lent.sizes g.O.Lent.faults p.0 c.in-Some.field-0.began c.in-Some.field-0.recording
-          (g.M.Media.disk c.record_lent-media.result.0.now) (g.M.Media.faults c.record_lent-media.result.0.now) p.1 p.2 p.4 (beside_of g.L.Link (AnswersMark g.M.Media.tells g.O.Lent.began g.O.Lent.channels) c.args.turns c.args.desks.now c.record_lent-media.new.desks) p.3 is (rest_of c.rest_of.result) c.rest_of.ensures sixteen c.requires.turns c.stop.new.self (g.M.Media.disk c.stop.new.media) (g.M.Media.faults c.stop.new.media) e.writes.sizes e.writes.others e.writes.cause.later e.stopped e.counted
-          (⊎_elim (λ (fails : c.in-Some.field-0.recording.members.failed ≡ true). absurd (true≢false (sym (e.failing.failed fails).0))) (λ (works : c.in-Some.field-0.recording.members.failed ≡ false). works) (cases_Bool c.in-Some.field-0.recording.members.failed)) e.failing.works))
+          (done_ends g.P.Port c.args.turns c.args.memory.now.queues c.args.memory.now.takers c.record_lent-media.new.takers c.args.lanes.now
+          c.record_lent-media.new.lanes
+          (record { clock = g.O.Lent.clock; now = g.O.Lent.now; since = g.O.Lent.since; reads = g.O.Lent.reads; channels = g.O.Lent.channels }) g.O.Lent.began
+          g.O.Lent.rates g.O.Lent.room g.O.Lent.sizes g.O.Lent.faults p.0 c.in-Some.field-0.began c.in-Some.field-0.recording
+          (g.M.Media.disk c.record_lent-media.result.0.now) (g.M.Media.faults c.record_lent-media.result.0.now) p.1 p.2 p.4
+          (beside_of g.L.Link (AnswersMark g.M.Media.tells g.O.Lent.began g.O.Lent.channels) c.args.turns c.args.desks.now c.record_lent-media.new.desks)
+          p.3 is (rest_of c.rest_of.result) c.rest_of.ensures sixteen c.requires.turns c.stop.new.self (g.M.Media.disk c.stop.new.media)
+          (g.M.Media.faults c.stop.new.media) e.writes.sizes e.writes.others e.writes.cause.later e.stopped e.counted
+          (⊎_elim (λ (fails : c.in-Some.field-0.recording.members.failed ≡ true). absurd (true≢false (sym (e.failing.failed fails).0)))
+          (λ (works : c.in-Some.field-0.recording.members.failed ≡ false). works) (cases_Bool c.in-Some.field-0.recording.members.failed)) e.failing.works))
       | in-Err w ↦
           (let e = w.in-Err.ensures in
           subst ends (sym w.outcome-is)
-          (fault_ends g.P.Port c.args.turns c.args.memory.now.queues c.args.memory.now.takers c.record_lent-media.new.takers c.args.lanes.now c.record_lent-media.new.lanes
-          (record { clock = g.O.Lent.clock; now = g.O.Lent.now; since = g.O.Lent.since; reads = g.O.Lent.reads; channels = g.O.Lent.channels }) g.O.Lent.began g.O.Lent.rates g.O.Lent.room g.O.Lent.sizes g.O.Lent.faults p.0 c.in-Some.field-0.began c.in-Some.field-0.recording
-          (g.M.Media.disk c.record_lent-media.result.0.now) (g.M.Media.faults c.record_lent-media.result.0.now) p.1 p.2 p.4 (beside_of g.L.Link (AnswersMark g.M.Media.tells g.O.Lent.began g.O.Lent.channels) c.args.turns c.args.desks.now c.record_lent-media.new.desks) p.3 is (rest_of c.rest_of.result) c.rest_of.ensures sixteen c.requires.turns c.stop.new.self (g.M.Media.disk c.stop.new.media) (g.M.Media.faults c.stop.new.media) e.writes.sizes e.writes.others e.writes.cause.later e.stopped e.counted
+          (fault_ends g.P.Port c.args.turns c.args.memory.now.queues c.args.memory.now.takers c.record_lent-media.new.takers c.args.lanes.now
+          c.record_lent-media.new.lanes
+          (record { clock = g.O.Lent.clock; now = g.O.Lent.now; since = g.O.Lent.since; reads = g.O.Lent.reads; channels = g.O.Lent.channels }) g.O.Lent.began
+          g.O.Lent.rates g.O.Lent.room g.O.Lent.sizes g.O.Lent.faults p.0 c.in-Some.field-0.began c.in-Some.field-0.recording
+          (g.M.Media.disk c.record_lent-media.result.0.now) (g.M.Media.faults c.record_lent-media.result.0.now) p.1 p.2 p.4
+          (beside_of g.L.Link (AnswersMark g.M.Media.tells g.O.Lent.began g.O.Lent.channels) c.args.turns c.args.desks.now c.record_lent-media.new.desks)
+          p.3 is (rest_of c.rest_of.result) c.rest_of.ensures sixteen c.requires.turns c.stop.new.self (g.M.Media.disk c.stop.new.media)
+          (g.M.Media.faults c.stop.new.media) e.writes.sizes e.writes.others e.writes.cause.later e.stopped e.counted
           (λ fails. let q = e.failing.failed fails in (q.1, ap g.M.Media.disk q.2)) e.writes.cause.in_all))
     ]

@@ -22,7 +22,8 @@ loop-number-preserved g c =
           record { queue = c.offer.ensures.queue ∙ i.queue; next = omega arith; counted = omega arith })
       | in-Err w ↦
           (let t = w.in-Err.ensures.full in
-          let next = ap (λ l. number_after (last l)) t.0 in
-          let count = ap length t.0 in
+          let next = ap (λ l. number_after (last l)) t.pushed in
+          let count = ap length t.pushed in
+          let full = t.full in
           record { queue = c.offer.ensures.queue ∙ i.queue; next = omega arith; counted = omega arith })
     ]

@@ -3,7 +3,7 @@ use Rattle.std.proofs.lemmas.Result.{err_from_is_err_and}
 use Rattle.vdr_command.specs.Outside.{MediaSeen}
 use Rattle.vdr_tool.specs.Releases.{CanRelease, ReleasesId}
 use Rattle.vdr_command.proofs.OpenedLemmas.{no_act, refused_ends}
-use Rattle.vdr_tool.proofs.SaveLemmas.{released_ends, released_missing, unreleased_adds}
+use Rattle.vdr_tool.proofs.SaveLemmas.{release_status, released_ends, released_missing, unreleased_adds}
 use Rattle.vdr_tool.proofs.releasing.release.Goals as goal
 
 pub returns-in_err-recording-clause-media : goal.returns-in_err-recording-clause-media
@@ -48,3 +48,6 @@ returns-clause-missing g c =
     rw c.ended_by.ensures
     (unreleased_adds (λ m. g.M.Media.disk m) (g.M.Media.disk c.args.world.now.media) c.open.new.media c.release-released.new.media c.in_ok-recording.recording.members c.args.id c.release-released.result refl
     c.open.ensures.missing release.refuses.reason (λ works none. (release.refuses.refused works none).2))
+
+pub returns-clause-statuses : goal.returns-clause-statuses
+returns-clause-statuses g c = rw c.ended_by.ensures (release_status c.release-released.result c.args.id)

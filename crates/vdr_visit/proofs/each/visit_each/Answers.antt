@@ -31,17 +31,17 @@ returns-in_err-found-clause-visited g c first had =
 
 pub loop-found-init : goal.loop-found-init
 loop-found-init g c = record {
-  rings = c.first.ensures.rings;
-  reads = c.first.ensures.members;
-  unchanged = c.first.ensures.unchanged;
-  counts = c.first.ensures.counts;
-  later = c.first.ensures.cause.later;
+  rings = c.first.ensures.keeps.rings;
+  reads = c.first.ensures.keeps.members;
+  unchanged = c.first.ensures.keeps.unchanged;
+  counts = c.first.ensures.reads.counts;
+  later = c.first.ensures.reads.cause.later;
   output = omega arith;
-  may = c.first.ensures.may;
-  item = λ some. c.first.ensures.item.1 (c.in_ok-found.was ∙ ap (λ (b : Bool). Ok b) some);
+  may = c.first.ensures.cursor.may;
+  item = λ some. c.first.ensures.cursor.item.1 (c.in_ok-found.was ∙ ap (λ (b : Bool). Ok b) some);
   low = omega arith;
-  stands = c.first.ensures.stands;
-  readable = c.first.ensures.readable;
+  stands = c.first.ensures.keeps.stands;
+  readable = c.first.ensures.keeps.readable;
   visits = λ first had. (
     [],
     had,
@@ -99,12 +99,12 @@ pub returns-in_err-found-2-clause-read : goal.returns-in_err-found-2-clause-read
 returns-in_err-found-2-clause-read g c =
     let i = c.loop-found.invariant in
     record {
-      members = reads_join (medium_of (asked_medium c.args.query.now.medium)) c.args.members.now c.loop-found.members c.next.new.self i.reads c.next.ensures.members;
-      rings = c.next.ensures.rings;
-      unchanged = unchanged_join (g.M.Media.disk c.args.media.now) (g.M.Media.disk c.loop-found.media) (g.M.Media.disk c.next.new.media) i.unchanged c.next.ensures.unchanged;
-      counts = λ k other. c.next.ensures.counts k other ∙ i.counts k other;
-      stands = λ opening events placed stands. c.next.ensures.stands opening events placed (i.stands opening events placed stands);
-      readable = λ opening events placed h. c.next.ensures.readable opening events placed (i.readable opening events placed h);
+      members = reads_join (medium_of (asked_medium c.args.query.now.medium)) c.args.members.now c.loop-found.members c.next.new.self i.reads c.next.ensures.keeps.members;
+      rings = c.next.ensures.keeps.rings;
+      unchanged = unchanged_join (g.M.Media.disk c.args.media.now) (g.M.Media.disk c.loop-found.media) (g.M.Media.disk c.next.new.media) i.unchanged c.next.ensures.keeps.unchanged;
+      counts = λ k other. c.next.ensures.reads.counts k other ∙ i.counts k other;
+      stands = λ opening events placed stands. c.next.ensures.keeps.stands opening events placed (i.stands opening events placed stands);
+      readable = λ opening events placed h. c.next.ensures.keeps.readable opening events placed (i.readable opening events placed h);
     }
 
 pub returns-in_err-found-2-clause-visited : goal.returns-in_err-found-2-clause-visited
@@ -136,24 +136,24 @@ returns-in_err-found-2-clause-cause g c =
     visit_cause c.in_err-found-2.field-0.0 c.next.result c.from_residual-in_err-found-2.result c.in_err-found-2.was
     (answered c.in_err-found-2.field-0.0 p.0 c.from_residual-in_err-found-2.result p.1 p.2) m c.args.members.now.failed
     (g.M.Media.faults c.args.media.now) (g.M.Media.faults c.loop-found.media) (g.M.Media.faults c.next.new.media) c.loop-found.invariant.later
-    (subst (λ (b : Bool). HasReadCause m b (g.M.Media.faults c.loop-found.media) (g.M.Media.faults c.next.new.media) c.next.result) kept c.next.ensures.cause)
+    (subst (λ (b : Bool). HasReadCause m b (g.M.Media.faults c.loop-found.media) (g.M.Media.faults c.next.new.media) c.next.result) kept c.next.ensures.reads.cause)
 
 pub loop-found-preserved : goal.loop-found-preserved
 loop-found-preserved g c =
     let m = medium_of (asked_medium c.args.query.now.medium) in
     let i = c.loop-found.invariant in
     record {
-      rings = c.next.ensures.rings;
-      reads = reads_join m c.args.members.now c.loop-found.members c.next.new.self i.reads c.next.ensures.members;
-      unchanged = unchanged_join (g.M.Media.disk c.args.media.now) (g.M.Media.disk c.loop-found.media) (g.M.Media.disk c.next.new.media) i.unchanged c.next.ensures.unchanged;
-      counts = λ k other. c.next.ensures.counts k other ∙ i.counts k other;
-      later = none_falls_join (g.M.Media.faults c.args.media.now) (g.M.Media.faults c.loop-found.media) (g.M.Media.faults c.next.new.media) i.later c.next.ensures.cause.later;
+      rings = c.next.ensures.keeps.rings;
+      reads = reads_join m c.args.members.now c.loop-found.members c.next.new.self i.reads c.next.ensures.keeps.members;
+      unchanged = unchanged_join (g.M.Media.disk c.args.media.now) (g.M.Media.disk c.loop-found.media) (g.M.Media.disk c.next.new.media) i.unchanged c.next.ensures.keeps.unchanged;
+      counts = λ k other. c.next.ensures.reads.counts k other ∙ i.counts k other;
+      later = none_falls_join (g.M.Media.faults c.args.media.now) (g.M.Media.faults c.loop-found.media) (g.M.Media.faults c.next.new.media) i.later c.next.ensures.reads.cause.later;
       output = let before = i.output in let now = c.visit.ensures.cause.later in omega (arith, before, now);
-      may = c.next.ensures.may;
-      item = λ some. c.next.ensures.item.1 (c.in_ok-found-2.was ∙ ap (λ (b : Bool). Ok b) some);
+      may = c.next.ensures.cursor.may;
+      item = λ some. c.next.ensures.cursor.item.1 (c.in_ok-found-2.was ∙ ap (λ (b : Bool). Ok b) some);
       low = c.in_ok-least.ensures.rises.1;
-      stands = λ opening events placed stands. c.next.ensures.stands opening events placed (i.stands opening events placed stands);
-      readable = λ opening events placed h. c.next.ensures.readable opening events placed (i.readable opening events placed h);
+      stands = λ opening events placed stands. c.next.ensures.keeps.stands opening events placed (i.stands opening events placed stands);
+      readable = λ opening events placed h. c.next.ensures.keeps.readable opening events placed (i.readable opening events placed h);
       visits = λ first had.
           let v = i.visits first had in (
             v.0 ++ c.in-Some.item.now ∷ [],

@@ -26,7 +26,7 @@ returns-clause-stopped g c = rw (sym c.self.view_is) (λ opening events t0 told 
     let are = closing_is (state_left opening events).start (state_left opening events).popped c.args.rest.now c.records.result.now c.close.new.self.records.items c.records.ensures
     (c.close.ensures.records (state_left opening events).start (state_left opening events).popped makes) in
     let done = close_goes_on opening events t0 _ _ h works opened (rest_of c.args.rest.now)
-    (subst (λ (s : RecordingState). (g : ℕ) → is_configured (limits_in s.members.config.groups g) ≡ false → total (rest_of c.args.rest.now g) ≡ 0) (sym c.self.view_is) c.requires.quiet) in
+    (subst (λ (s : RecordingState). (g : ℕ) → is_configured (limits_in s.members.config.groups g) ≡ false → total (rest_of c.args.rest.now g) ≡ 0) (sym c.self.view_is) c.requires.fits.quiet) in
     let k = c.commit.ensures.event opening events t0 [] told (kept_of opening events t0 _ _ h) (omega (arith, c.self.invariant.legal.batch_low))
     (subst (λ (rs : List Record). IsDoneIn opening.settings.limits c.self.inside.members.config.batch (state_left opening events) (Commit rs [])) (sym are) done) in
     close_done opening events t0 _ _ h works opened (rest_of c.args.rest.now) _ _

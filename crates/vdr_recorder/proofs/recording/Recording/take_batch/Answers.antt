@@ -17,7 +17,7 @@ commit-requires-clause-short g c =
     let m = c.self.invariant.makes opened in
     let makes = subst (λ (config : Configuration). Makes config m.0 m.1 c.self.inside.maker) (sym c.config.ensures) m.2 in
     batch_is_short c.self.inside.members.config.batch c.args.items.now c.records.result.now m.0 m.1
-    (subst (λ (s : RecordingState). items_size c.args.items.now ≤ s.members.config.batch) (sym c.self.view_is) c.requires.short)
+    (subst (λ (s : RecordingState). items_size c.args.items.now ≤ s.members.config.batch) (sym c.self.view_is) c.requires.fits.short)
     (c.make.ensures.records m.0 m.1 makes ∙ ap (λ (rs : List Record). (recorder_after m.0 m.1).made ++ rs) (sym c.records.ensures))
 
 pub returns-clause-taken : goal.returns-clause-taken
@@ -28,8 +28,8 @@ returns-clause-taken g c = rw (sym c.self.view_is) (λ opening events t0 told wo
     let made = c.make.ensures.records (state_left opening events).start (state_left opening events).popped makes
     ∙ ap (λ (rs : List Record). (recorder_in (state_left opening events)).made ++ rs) (sym c.records.ensures) in
     let done = batch_goes_on opening events t0 _ _ h works opened c.args.items.now c.records.result.now made
-    (subst (λ (s : RecordingState). items_size c.args.items.now ≤ s.members.config.batch) (sym c.self.view_is) c.requires.short)
-    (subst (λ (s : RecordingState). All (λ c. is_configured (limits_in s.members.config.groups c.group) ≡ true) c.args.items.now) (sym c.self.view_is) c.requires.configured)
+    (subst (λ (s : RecordingState). items_size c.args.items.now ≤ s.members.config.batch) (sym c.self.view_is) c.requires.fits.short)
+    (subst (λ (s : RecordingState). All (λ c. is_configured (limits_in s.members.config.groups c.group) ≡ true) c.args.items.now) (sym c.self.view_is) c.requires.fits.configured)
     c.note_lengths.ensures in
     let k = c.commit.ensures.event opening events t0 c.args.items.now told (kept_of opening events t0 _ _ h) (omega (arith, c.self.invariant.legal.batch_low)) done in (
       c.records.result.now,

@@ -1,15 +1,21 @@
-use Rattle.std.proofs.Common.{subst, sym, arith}
+use Rattle.std.proofs.Common.{◌≤◌, List, length, subst, sym, arith}
 use Rattle.vdr_outside.proofs.Counts.{on_err}
-use Rattle.vdr_recorder.specs.Making.{NumbersFit}
+use Rattle.vdr_history.specs.Taken.{Captured}
+use Rattle.vdr_recorder.specs.Calls.{FitBatch}
 use Rattle.vdr_replay.proofs.Calls.{breaks_batch, takes_batch}
 use Rattle.vdr_replay.proofs.Fitting.{numbers_fit}
 use Rattle.vdr_replay.proofs.lanes.Lanes.record.Goals as goal
 
-pub take_batch-requires-clause-numbers : goal.take_batch-requires-clause-numbers
-take_batch-requires-clause-numbers g c =
-    let held = c.requires.held in
-    subst (NumbersFit c.args.recording.now.maker) (sym c.as_slice.ensures)
-    (λ n low. let a = numbers_fit held.0 c.args.self.now.batch.items c.args.recording.now.maker held.1.fits held.1.few n low in omega (arith, a))
+pub take_batch-requires-clause-fits : goal.take_batch-requires-clause-fits
+take_batch-requires-clause-fits g c =
+    let feed = c.requires.held.0 in
+    let held = c.requires.held.1 in
+    subst (λ (items : List Captured). FitBatch items c.args.recording.now) (sym c.as_slice.ensures) (record {
+      short = let size = held.batch.sized.size in let fits = held.batch.sized.fits in let room = held.batch.room in omega (arith, size, fits, room);
+      configured = held.batch.configured;
+      places = let place = held.fits.place in let few : length feed ≤ 4_294_967_295 = held.few in omega (arith, place, few);
+      numbers = λ n low. let fit = numbers_fit feed c.args.self.now.batch.items c.args.recording.now.maker held.fits held.few n low in omega (arith, fit);
+    })
 
 pub returns-in_err-take_batch-clause-broken : goal.returns-in_err-take_batch-clause-broken
 returns-in_err-take_batch-clause-broken g c = λ opening feed events t0 told h.

@@ -14,27 +14,24 @@ use Rattle.vdr_session.specs.declared.mark.Mark.{Mark}
 use Rattle.vdr_session.proofs.Steps.{batch_kept, batch_look_kept, mark_is, rose_of}
 use Rattle.vdr_session.proofs.kept.KeptRecords.take_batch.Goals as goal
 
-pub take_batch-requires-clause-configured : goal.take_batch-requires-clause-configured
-take_batch-requires-clause-configured g c =
+pub take_batch-requires-clause-fits : goal.take_batch-requires-clause-fits
+take_batch-requires-clause-fits g c =
     let popped = c.requires.0 in
-    subst (λ (rates : List (Option Rate)). All (λ (x : Captured). is_configured (limits_in rates x.group) ≡ true) c.args.items.now) (sym c.requires.1.rates_are)
-    (all_behind (λ (x : Captured). is_configured (limits_in g.O.Lent.rates x.group) ≡ true) popped c.args.items.now c.requires.2.known)
-
-pub take_batch-requires-clause-places : goal.take_batch-requires-clause-places
-take_batch-requires-clause-places g c =
-    let popped = c.requires.0 in
-    let place = c.requires.1.place in
-    let few = items_few g.O.Lent.rates (popped ++ c.args.items.now) c.requires.1.sixteen c.requires.2.known c.requires.2.runs in
-    let l = length-append popped c.args.items.now in
-    omega (arith, place, few, l)
-
-pub take_batch-requires-clause-numbers : goal.take_batch-requires-clause-numbers
-take_batch-requires-clause-numbers g c = λ n small.
-    let popped = c.requires.0 in
-    let number = c.requires.1.numbers n small in
-    let few = numbers_small n (popped ++ c.args.items.now) (c.requires.2.runs n) in
-    let a = numbers_append n popped c.args.items.now in
-    omega (arith, number, few, a)
+    record {
+      short = let short = c.requires.2.short in let room = c.requires.1.room_is in omega (arith, short, room);
+      configured = subst (λ (rates : List (Option Rate)). All (λ (x : Captured). is_configured (limits_in rates x.group) ≡ true) c.args.items.now) (sym c.requires.1.rates_are)
+          (all_behind (λ (x : Captured). is_configured (limits_in g.O.Lent.rates x.group) ≡ true) popped c.args.items.now c.requires.2.known);
+      places =
+          let place = c.requires.1.place in
+          let few = items_few g.O.Lent.rates (popped ++ c.args.items.now) c.requires.1.sixteen c.requires.2.known c.requires.2.runs in
+          let l = length-append popped c.args.items.now in
+          omega (arith, place, few, l);
+      numbers = λ n small.
+          let number = c.requires.1.numbers n small in
+          let few = numbers_small n (popped ++ c.args.items.now) (c.requires.2.runs n) in
+          let a = numbers_append n popped c.args.items.now in
+          omega (arith, number, few, a);
+    }
 
 pub returns-clause-leaves : goal.returns-clause-leaves
 returns-clause-leaves g c = λ history h. (by_failed history h.0 (cases_Bool c.args.self.now.recording.members.failed), h.1)

@@ -16,4 +16,4 @@ returns-in-Some-clause-steps g c told placed records reads left =
     let from = subst (λ (o : Option Standing). IsBefore slots placed o c.self.inside.visit here.ahead) c.in-Some.is inside.from in
     gives_here selection slots placed c.in-Some.standing c.self.inside.visit (the_view (record { standing = c.self.inside.standing; visit = c.read_span.new.visit })) from.0 here.ahead inside.passed records from.1
     inside.split here.are c.in-Some.is c.read_span.result
-    (c.read_span.ensures.visits told placed from.0 reads from.1.in_slot)
+    (c.read_span.ensures.steps.visits told placed from.0 reads from.1.in_slot)

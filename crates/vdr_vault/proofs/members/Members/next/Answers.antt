@@ -1,4 +1,4 @@
-use Rattle.std.proofs.Common.{inr, Option, Some, sym, ap, ◌∙◌, subst}
+use Rattle.std.proofs.Common.{rules, inr, Option, Some, sym, ap, ◌∙◌, subst}
 use Rattle.std.proofs.lemmas.Bool.{false≢true}
 use Rattle.vdr_terms.specs.Queries.{Span}
 use Rattle.vdr_playback.specs.Playback.{medium_of}
@@ -34,29 +34,32 @@ returns-in_default-clause-plays g c opening events placed records told stands le
     none_to_come (asked c.args.query.now) c.args.self.now (g.M.Media.disk c.args.media.now) placed c.args.cursor.now c.new-in_default.result records
     (sym (c.in_default.ensures placed (λ k d within. (stands.media k d within).reads.table))) c.new-in_default.ensures.standing c.new-in_default.ensures.item left
 
-pub returns-clause-stands : goal.returns-clause-stands
-returns-clause-stands g c opening events placed stands =
+pub returns-clause-keeps : goal.returns-clause-keeps
+returns-clause-keeps g c =
     let before = g.M.Media.disk c.args.media.now in
     let now = g.M.Media.disk c.seek.new.media in
     let m = medium_of (asked_medium c.args.query.now.medium) in
     let both = both_read m c.args.self.now c.seek.new.self before now (asked_two c.args.query.now.medium) c.seek.ensures.members c.seek.ensures.read in
-    stands_still opening events placed c.args.self.now c.seek.new.self before now both stands
+    record {
+      members = search rules;
+      rings = search rules;
+      stands = λ opening events placed stands. stands_still opening events placed c.args.self.now c.seek.new.self before now both stands;
+      readable = λ opening events placed readable. readable_still opening events placed c.args.self.now c.seek.new.self before now both readable;
+      unchanged = search rules;
+    }
 
-pub returns-clause-readable : goal.returns-clause-readable
-returns-clause-readable g c opening events placed stands =
-    let before = g.M.Media.disk c.args.media.now in
-    let now = g.M.Media.disk c.seek.new.media in
-    let m = medium_of (asked_medium c.args.query.now.medium) in
-    let both = both_read m c.args.self.now c.seek.new.self before now (asked_two c.args.query.now.medium) c.seek.ensures.members c.seek.ensures.read in
-    readable_still opening events placed c.args.self.now c.seek.new.self before now both stands
-
-pub returns-clause-cause : goal.returns-clause-cause
-returns-clause-cause g c =
+pub returns-clause-reads : goal.returns-clause-reads
+returns-clause-reads g c =
     let later = c.seek.ensures.counts.later in
     record {
-      later = later;
-      on_medium = λ e. inr (c.seek.ensures.cause e);
-      in_all = λ e.
-          inr
-          (sum_rose (g.M.Media.faults c.args.media.now) (g.M.Media.faults c.seek.new.media) (medium_of (asked_medium c.args.query.now.medium)) later.same_media later.none_falls (c.seek.ensures.cause e));
+      failed = search rules;
+      counts = search rules;
+      damaged = search rules;
+      cause = record {
+        later = later;
+        on_medium = λ e. inr (c.seek.ensures.cause e);
+        in_all = λ e.
+            inr
+            (sum_rose (g.M.Media.faults c.args.media.now) (g.M.Media.faults c.seek.new.media) (medium_of (asked_medium c.args.query.now.medium)) later.same_media later.none_falls (c.seek.ensures.cause e));
+      };
     }

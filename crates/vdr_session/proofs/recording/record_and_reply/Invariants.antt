@@ -1,6 +1,6 @@
 use Rattle.std.proofs.Common.{[]}
 use Rattle.vdr_recorder.specs.Recordings.{HasRecorded}
-use Rattle.vdr_session.proofs.recording.record_at_desks.Given as goal
+use Rattle.vdr_session.proofs.recording.record_and_reply.Given as goal
 
 abbrev pub ghosts-run_lent : goal.ghosts-run_lent
 ghosts-run_lent g a = record {

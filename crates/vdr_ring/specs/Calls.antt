@@ -1,0 +1,75 @@
+-- What the calls that read a ring's slots keep, and what they answer.
+use Rattle.std.specs.Prelude.{◌≡◌, ◌≢◌, ◌↔◌, ◌<◌, ◌≤◌, ◌+◌, ℕ, Bool, true, List, [], get_or, IfOk, OnOk, Some, None, Result, Ok, Err}
+use Rattle.std.specs.declared.alloc.Global.{Global}
+use Rattle.std.specs.declared.vec.Vec.{Vec}
+use Rattle.vdr_terms.specs.Records.{Record, last}
+use Rattle.vdr_terms.specs.Sizes.{batch_size}
+use Rattle.vdr_outside.specs.declared.fault.PartRefused.{PartRefused}
+use Rattle.vdr_outside.specs.declared.fault.PartRefused.TheVariants.{Damaged as APartDamaged}
+use Rattle.vdr_outside.specs.declared.media.Media.{Ghosts as MediaTells}
+use Rattle.vdr_outside.specs.Causes.{NoneFalls, Rose, counted}
+use Rattle.vdr_outside.specs.Disk.{Unchanged, content}
+use Rattle.vdr_slots.specs.Slots.{place_of}
+use Rattle.vdr_survey.specs.declared.selection.Selection.{Selection}
+use Rattle.vdr_ring.specs.Sequence.{Placed, batches_in}
+use Rattle.vdr_ring.specs.Rings.{HasMedium, Reads, RingState}
+use Rattle.vdr_ring.specs.Cursors.{AreAhead, CursorState, IsLoaded, StandsIn, Steps, Visits, slot_read}
+use Rattle.vdr_ring.specs.Fronts.{BreaksIn}
+use Rattle.vdr_ring.specs.Lasts.{batch_or_none}
+use Rattle.vdr_ring.specs.declared.refused.ReadRefused.{ReadRefused}
+use Rattle.vdr_ring.specs.declared.refused.ReadRefused.TheVariants.{Damaged}
+
+-- The ring has read of its medium: only its buffer may have changed, and nothing was written.
+pub record OnlyReads {M : Type 0} (media : MediaTells M) (old new : RingState) (before after : M) : Type 0 where
+  -- all but its buffer is as before
+  pub ring : new ≡ record old { buffer = new.buffer; loaded = new.loaded }
+  -- its medium is among the media
+  pub room : HasMedium new (media.disk after).sizes
+  -- a buffer that held what its slot reads as still does
+  pub bytes : IsLoaded old (media.disk before) → IsLoaded new (media.disk after)
+  -- what the medium read as it still does
+  pub reads : (placed : List Placed) → Reads old placed (media.disk before) → Reads new placed (media.disk after)
+  -- nothing was written
+  pub unchanged : Unchanged (media.disk before) (media.disk after)
+
+-- A step of a cursor to the next record of a slot that is selected.
+pub record StepsInSlot {M : Type 0} (media : MediaTells M) (selection : Selection) (slot : ℕ) (old new : RingState) (from to : CursorState) (before : M) (result : Result Bool ReadRefused) : Type 0 where
+  -- the cursor may go on from there
+  pub stands : StandsIn new to
+  -- it has a record exactly where one was found
+  pub item : to.item ≢ None ↔ (result ≡ Ok true)
+  -- after Ok the slot is the one that is loaded
+  pub loaded : OnOk result (new.loaded ≡ Some slot)
+  -- what was found, by the bytes of the slot
+  pub steps : media.tells → IsLoaded old (media.disk before) → Steps selection old.medium slot (place_of old.segment slot) (slot_read old slot (media.disk before)) from result to
+  -- what was found, by the records that were ahead
+  pub visits : media.tells → (placed : List Placed) (records : List Record) → Reads old placed (media.disk before)
+      → AreAhead (slot_read old slot (media.disk before)) placed slot from records
+      → Visits selection (slot_read old slot (media.disk before)) placed slot records result to
+  -- damage is on the ring's medium
+  pub medium : (m offset : ℕ) → result ≡ Err (Damaged m offset) → m ≡ old.medium
+
+-- The slot was read whole where it was not loaded, and else nothing. A fault has its cause.
+pub record ReadsUnlessLoaded {M : Type 0} (media : MediaTells M) (slot : ℕ) (ring : RingState) (before after : M) (faulted : Type 0) : Type 0 where
+  -- nothing is read of a slot that is loaded
+  pub again : ring.loaded ≡ Some slot → media.bytes_read after ≡ media.bytes_read before
+  -- any other is read once
+  pub once : ring.loaded ≢ Some slot → media.bytes_read after ≡ counted (media.bytes_read before) ring.medium ring.segment
+  -- no count of faults falls
+  pub later : NoneFalls (media.faults before) (media.faults after)
+  -- a fault comes only where that of the ring's medium rose
+  pub rose : faulted → Rose (get_or (media.faults before) ring.medium 0) (get_or (media.faults after) ring.medium 0)
+
+-- The records of the medium's last batch, or the first batch of its slot that is not legal.
+pub record GivesLastBatch {M : Type 0} (media : MediaTells M) (ring : RingState) (before : M) (result : Result (Vec Record Global) PartRefused) : Type 0 where
+  -- they are those of the last batch, none where there is none
+  pub batch : IfOk result (λ records. media.tells → (placed : List Placed) → Reads ring placed (media.disk before) → batch_or_none records.items ≡ last (batches_in placed))
+  -- a segment that has no other batch has room for them
+  pub fits : IfOk result (λ records. records.items ≢ [] → 64 + batch_size records.items + 1 ≤ ring.segment)
+  -- a medium that reads as segments has no damage
+  pub undamaged : media.tells → (placed : List Placed) → Reads ring placed (media.disk before) → (m offset : ℕ) → result ≡ Err (APartDamaged m offset) → ⊥
+  -- damage is on the ring's medium
+  pub medium : (m offset : ℕ) → result ≡ Err (APartDamaged m offset) → m ≡ ring.medium
+  -- and where a batch of one of its slots is not legal
+  pub offset : media.tells → IsLoaded ring (media.disk before) → (m offset : ℕ) → result ≡ Err (APartDamaged m offset)
+      → (slot : ℕ) × (slot < ring.slots) × BreaksIn ring.segment slot (content (media.disk before).reads ring.medium) offset

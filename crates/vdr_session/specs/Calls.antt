@@ -1,0 +1,41 @@
+-- What a session asks of its recorder and of its lanes, and what it tells and keeps whatever it records.
+use Rattle.std.specs.Prelude.{◌≡◌, ◌<◌, ℕ, false, List, length, Option, slice_index_or}
+use Rattle.vdr_terms.specs.declared.rate.Rate.{Rate}
+use Rattle.vdr_outside.specs.declared.media.Media.{Ghosts as MediaTells}
+use Rattle.vdr_vault.specs.Calls.{SameElsewhere}
+use Rattle.vdr_vault.specs.Vaults.{AreRings}
+use Rattle.vdr_capture.specs.declared.lane.Lane.{Lane}
+use Rattle.vdr_capture.specs.declared.sums.Outcome.TheVariants.{NoMemory}
+use Rattle.vdr_recorder.specs.Recordings.{RecordingState}
+use Rattle.vdr_session.specs.declared.session.SessionEnd.{SessionEnd}
+use Rattle.vdr_session.specs.Sessions.{HasGroups, HasSessionCause}
+
+-- The recorder is over these media, no run is open, and no write has failed.
+pub record MayRecord (recording : RecordingState) (sizes : List ℕ) : Type 0 where
+  -- each ring is its medium's
+  pub rings : AreRings recording.members sizes
+  -- no run is open
+  pub closed : recording.is_open ≡ false
+  -- no write has failed
+  pub works : recording.members.failed ≡ false
+
+-- There is a lane for each of the sixteen groups, at the group's number.
+pub record AreByGroup {P : Type 0} (lanes : List (Lane P)) : Type 0 where
+  -- there are sixteen
+  pub sixteen : length lanes ≡ 16
+  -- each one is at the number of its group
+  pub own : (g : ℕ) (d : Lane P) → g < 16 → (slice_index_or lanes g d).group ≡ g
+
+-- What a session tells of its groups, and what it keeps of its ports and media.
+pub record EndsSession {M P : Type 0} (media : MediaTells M) (rates : List (Option Rate)) (before after : List (Lane P)) (old new : M)
+    (end : SessionEnd) : Type 0 where
+  -- there are sums and queues of the configured groups, unless there was no memory for them
+  pub groups : HasGroups rates end
+  -- where there was no memory nothing was called
+  pub memory : end.outcome ≡ NoMemory → (new ≡ old) × ((g : ℕ) (d : Lane P) → g < 16 → (slice_index_or after g d).port ≡ (slice_index_or before g d).port)
+  -- media but the capsule and the long-term one read as before
+  pub others : media.tells → SameElsewhere (media.disk old).reads (media.disk new).reads
+  -- no medium changes its size
+  pub sizes : (media.disk new).sizes ≡ (media.disk old).sizes
+  -- no count of faults falls, and a fault of the media has its cause
+  pub cause : HasSessionCause (media.faults old) (media.faults new) end.outcome
