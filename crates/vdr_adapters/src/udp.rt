@@ -10,6 +10,7 @@ use std::io::ErrorKind;
 use std::net::{Ipv4Addr, Net, SocketAddr, UdpSocket};
 use std::time::{Clock, Duration};
 use vdr_outside::{Port, Taken};
+use vdr_terms::LAST_STAMP;
 
 /// The port of the first transmission group (IEC 61162-450). That of group g is g higher.
 const FIRST_PORT: u16 = 60_001;
@@ -22,9 +23,6 @@ const LONGEST: usize = 1473;
 
 /// The greatest `received`.
 const LAST_RECEIVED: u64 = (1 << 48) - 1;
-
-/// The last millisecond of the year 9999.
-const LAST_STAMP: u64 = 253_402_300_799_999;
 
 // What came to a port.
 #[derive(Clone, Copy, PartialEq, Eq, Drop)]
@@ -147,7 +145,7 @@ impl<'a, R: Net + Clock + Eprint + Drop> UdpPort<'a, R> {
         ensures { IsStamp result }
     {
         let since = self.rt.since_1970().unwrap_or(Duration::ZERO);
-        milliseconds(since, LAST_STAMP) as i64
+        milliseconds(since, LAST_STAMP as u64) as i64
     }
 }
 

@@ -5,6 +5,7 @@ use Rattle.std.proofs.lemmas.List.{append-nil, length-append}
 use Rattle.std.proofs.lemmas.List.Elements.{All-nil, All-push}
 use Rattle.std.proofs.lemmas.Int.{ints}
 use Rattle.vdr_terms.specs.Stamps.{IsStamp}
+use Rattle.vdr_terms.proofs.Stamping.{stamp_fits}
 use Rattle.vdr_tag.specs.Values.{TagValues}
 use Rattle.vdr_sentence.specs.Refusals.{SentenceText}
 use Rattle.vdr_values.specs.Readings.{Reading, reading}
@@ -97,7 +98,3 @@ way_more utc before now new all rest next line is step way seen h =
 pub way_end : (utc : ℤ) (before now : Table) (all rest : List Line) → rest ≡ [] → IsOnWay utc before now all rest → (seen : Seen) → Shows seen before → Shows (fold (with_line utc) seen all) now
 way_end utc before now all rest none way seen h =
     let w = way seen h in subst (λ (s : Seen). Shows s now) (sym (ap (fold (with_line utc) w.0) none) ∙ w.2) w.1
-
--- A stamp is a number of 64 bits.
-pub stamp_fits : (utc : ℤ) → IsStamp utc → FitsSigned w64 utc
-stamp_fits utc s = omega (arith, ints, s.whole, s.in_time)

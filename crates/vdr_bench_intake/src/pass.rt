@@ -8,7 +8,8 @@ use std::alloc::Global;
 use std::sync::Wait;
 use std::thread;
 use std::thread::Threads;
-use vdr_intake::{Captured, Counts, Feeder, Intake, Taker};
+use vdr_intake::{Captured, Feeder, Intake, Taker};
+use vdr_terms::Counts;
 
 /// How many datagrams the queue has room for.
 const CAPACITY: u32 = 256;

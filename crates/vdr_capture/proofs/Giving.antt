@@ -10,7 +10,7 @@ gains_none : {A : Type 0} (a : Option (List A)) → GainsAll a a []
 gains_none None = tt
 gains_none (Some xs) = sym (append-nil xs)
 
-loses_none : {A : Type 0} (a : Option (List A)) → LosesAll a a []
+pub loses_none : {A : Type 0} (a : Option (List A)) → LosesAll a a []
 loses_none None = tt
 loses_none (Some xs) = refl
 
@@ -20,7 +20,7 @@ gains_more (Some a) None c xs x p q = absurd p
 gains_more (Some a) (Some b) None xs x p q = absurd q
 gains_more (Some a) (Some b) (Some c) xs x p q = q ∙ ap (λ l. l ++ x ∷ []) p ∙ append_assoc a xs (x ∷ [])
 
-loses_more : {A : Type 0} (a b c : Option (List A)) (xs : List A) (x : A) → LosesAll a b xs → Loses b c x → LosesAll a c (xs ++ x ∷ [])
+pub loses_more : {A : Type 0} (a b c : Option (List A)) (xs : List A) (x : A) → LosesAll a b xs → Loses b c x → LosesAll a c (xs ++ x ∷ [])
 loses_more None b c xs x p q = tt
 loses_more (Some a) None c xs x p q = absurd p
 loses_more (Some a) (Some b) None xs x p q = absurd q
@@ -32,7 +32,7 @@ gains_stays (Some a) None c xs p q = absurd p
 gains_stays (Some a) (Some b) None xs p q = absurd q
 gains_stays (Some a) (Some b) (Some c) xs p q = q ∙ p
 
-loses_stays : {A : Type 0} (a b c : Option (List A)) (xs : List A) → LosesAll a b xs → Stays b c → LosesAll a c xs
+pub loses_stays : {A : Type 0} (a b c : Option (List A)) (xs : List A) → LosesAll a b xs → Stays b c → LosesAll a c xs
 loses_stays None b c xs p q = tt
 loses_stays (Some a) None c xs p q = absurd p
 loses_stays (Some a) (Some b) None xs p q = absurd q

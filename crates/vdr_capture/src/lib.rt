@@ -10,5 +10,4 @@ mod work;
 pub use lane::{Cause, Lane};
 pub use lanes::capture_all;
 pub use sums::{GroupSums, Outcome};
-pub use vdr_terms::Counts;
 pub use work::capture;

@@ -2,4 +2,3 @@ pub mod GroupNames
 pub mod Lines
 pub mod OpenedCompleteness
 pub mod OpenedLemmas
-pub mod PlayedBack

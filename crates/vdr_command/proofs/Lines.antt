@@ -5,6 +5,7 @@ use Rattle.std.specs.Io.KnownBytes.{Appends}
 use Rattle.std.proofs.KnownBytes.{Appends-trans}
 use Rattle.vdr_outside.specs.Writes.{AppendsFront}
 use Rattle.vdr_config.specs.declared.bad.ConfigBad.{ConfigBad}
+use Rattle.vdr_play.proofs.Fronts.{front-first}
 use Rattle.vdr_command.specs.Refusals.{number_of, key_of, refusal_line}
 use Rattle.vdr_command.specs.StatusLine.{escaped_line}
 
@@ -13,11 +14,6 @@ pub refusal_is : (bad : ConfigBad) (front key : List ℕ) (n : ℕ) → n ≡ nu
     → escaped_line front key ≡ refusal_line bad
 unfolding refusal_line
 refusal_is bad front key n number is path = rw (is, number, path) refl
-
--- a front of the text's first piece
-pub front_first : (old new : Option (List ℕ)) (piece rest text : List ℕ) → text ≡ piece ++ rest → AppendsFront old new piece → AppendsFront old new text
-front_first old new piece rest text is f =
-    (f.0, f.1 ++ rest, is ∙ ap (λ (xs : List ℕ). xs ++ rest) f.2 ∙ append_assoc f.0 f.1 rest, f.3)
 
 -- a front of a later piece, once those before it were written
 pub front_later : (old now new : Option (List ℕ)) (before piece rest text : List ℕ) → text ≡ before ++ (piece ++ rest) → Appends old now before → AppendsFront now new piece → AppendsFront old new text

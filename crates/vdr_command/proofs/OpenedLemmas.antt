@@ -1,13 +1,12 @@
 -- What commands on recorded media answer, from what opening them and one call of the recorder ensure.
-use Rattle.std.specs.Prelude.{IsErrOf}
+use Rattle.std.specs.Prelude.{IsErrOf, ⊤}
 use Rattle.std.proofs.Common.{◌≡◌, ◌≤◌, ◌⊎◌, ◌∷◌, ◌++◌, ap, inl, inr, ⊎_elim, ℕ, false, List, [], Result, Ok, Err, refl, sym, subst, arith, ◌∙◌}
 use Rattle.std.proofs.lemmas.List.Elements.{All-cons, All-nil}
 use Rattle.vdr_terms.specs.Records.{Record}
 use Rattle.vdr_history.specs.Histories.{Act, Event, recorded, records_of_act}
 use Rattle.vdr_history.specs.Histories.Act.{Look}
-use Rattle.vdr_durability.specs.Keeping.{ShowsPrefix}
 use Rattle.vdr_durability.specs.Readings.{EndsMeet}
-use Rattle.vdr_outside.specs.Disk.{Disk, Image, SameBut, Unchanged}
+use Rattle.vdr_outside.specs.Disk.{Disk, SameBut, Unchanged}
 use Rattle.vdr_outside.proofs.Moments.{moments_and_reads}
 use Rattle.vdr_config.specs.Grammar.{configuration}
 use Rattle.vdr_media.specs.Formatted.{IsFormatted, IsUnformatted}
@@ -16,23 +15,20 @@ use Rattle.vdr_opening.specs.Media.{both, Contents, HoldsContents, opening_of, r
 use Rattle.vdr_opening.specs.Refusals.{IsRefused}
 use Rattle.vdr_opening.specs.declared.refused.OpenRefused.{OpenRefused}
 use Rattle.vdr_opening.specs.declared.refused.OpenRefused.TheVariants as openings
-use Rattle.vdr_recorder.specs.Recordings.{HasDone, RecordingState}
+use Rattle.vdr_recorder.specs.Recordings.{HasDone, RecorderState}
 use Rattle.vdr_vault.specs.Openings.{EndsWithin, GoesOnSynced, LeavesAll, OpensAtEachMoment}
 use Rattle.vdr_vault.proofs.OpenMoments.{never_both}
-use Rattle.vdr_vault.specs.Vaults.{MembersState, ShowsHistory}
+use Rattle.vdr_vault.specs.Vaults.{VaultState, ShowsHistory}
 use Rattle.vdr_command.specs.Endings.{IsWorkDone}
-use Rattle.vdr_command.specs.Opened.{AddsMissing, AreLooks, IsLegibleWith, IsUnbegun, IsUnopened, KeepsContents, MayLeave, MediaEnds, WasRecorded, newest_of}
+use Rattle.vdr_command.specs.Opened.{AddsMissing, AreLooks, ContentsKept, IsLegibleWith, IsUnbegun, IsUnopened, KeepsContents, MayLeave, MediaEnds, WasRecorded, newest_of}
 use Rattle.vdr_command.specs.Statuses.{status_of_opening}
 use Rattle.vdr_command.specs.Outside.{MediaSeen}
 use Rattle.vdr_command.specs.declared.status.Status.{Status}
 use Rattle.vdr_command.specs.declared.status.Status.TheVariants.{Done, Words, Config, Small, Unformatted, Formatted, Damaged, MediaFault, PortFault, LinkFault, InputFault, OutputFault, NoMemory, Feed, NoChannel, NoIncident, SaveRefused, Place, Tick, ExportKind, ExportNothing, ExportMixed, ExportLong, ExportPart}
-use Rattle.vdr_replay.proofs.Playing.{config_read}
-use Rattle.vdr_replay.proofs.Resting.{stand_reads}
-use Rattle.vdr_command.proofs.PlayedBack.{keeps_played, played_as, prefix_played}
-
--- What was opened stays, where nothing is recorded.
-first_of_all : (x : Contents) (events : List Event) (image : Image) → ShowsHistory (opening_of x) [] image → ShowsPrefix (ShowsHistory (opening_of x)) events 0 image
-first_of_all x events image shows = record { first = []; rest = events; split = refl; enough = omega arith; shown = shows }
+use Rattle.vdr_headline.proofs.Headlines.{after_opening, only_opened, order_quiet}
+use Rattle.vdr_headline.proofs.Passing.{passes_opened}
+use Rattle.vdr_headline.proofs.Playing.{config_read, plays}
+use Rattle.vdr_headline.proofs.Resting.{stand_reads}
 
 pub no_looks : AreLooks []
 no_looks = record { few = omega arith; looks = All-nil (λ (e : Event). e.act ≡ Look) }
@@ -80,22 +76,10 @@ done_is_begun status done unbegun = ⊎_elim (λ (is : status ≡ Done). absurd 
 module _ {tells tells_images : Type 0} where
   keeps_opened : (x : Contents) → configuration x.text ≡ Ok x.config → WasRecorded x → (MayBe : List Event → Type 0) (status : Status) → MayBe [] → (old new : Disk tells tells_images)
       → (IsWorkDone status → tells → ShowsHistory (opening_of x) [] new.reads) → GoesOnSynced old new (ShowsHistory (opening_of x) []) → KeepsContents x MayBe status old new
-  keeps_opened x reads sound MayBe status may old new rests goes = record {
-    events = [];
+  keeps_opened x reads sound MayBe status may old new rests goes = only_opened x reads (ContentsKept x MayBe status new) ⊤ old sound new goes (record {
     may_be = may;
-    history = record { follow = tt; pending = tt };
-    since_entry = λ image s. ⊎_elim (λ was. inl was) (λ shows. inr (prefix_played x reads sound [] refl 0 image (first_of_all x [] image shows))) (goes.moments.each image s);
-    synced = goes.synced;
-    after_entry = goes.after_entry;
-    before_exit = goes.before_exit;
-    kept = keeps_played x reads sound [] refl goes.synced new (record {
-      rising = omega arith;
-      pending = tt;
-      prefixes = λ t image from upto s. first_of_all x [] image (goes.since image (new.earlier goes.synced t image from s));
-      now = λ whole image n. goes.since image (new.counts_now goes.synced image goes.before_exit n);
-    });
-    reads = λ done t. played_as x reads sound [] refl new.reads (rests done t);
-  }
+    reads = λ done t. plays x reads [] (order_quiet x sound [] refl) new.reads (rests done t);
+  })
 
   kept_by_opening : {T : Type 0} (x : Contents) → configuration x.text ≡ Ok x.config → WasRecorded x → (MayBe : List Event → Type 0) (status : Status) (old new : Disk tells tells_images) (result : Result T OpenRefused) → MayBe []
       → (IsWorkDone status → tells → ShowsHistory (opening_of x) [] new.reads) → (IsErrOf result openings.Fault → IsUnopened status) → OpensAtEachMoment old new result (ShowsHistory (opening_of x) [])
@@ -202,51 +186,27 @@ module _ {tells tells_images : Type 0} where
       (done_either status done)
 
   -- The contents whose configuration, incidents and last record the vault has.
-  abbrev pub OpenedOn : Disk tells tells_images → MembersState → Type 0
-  OpenedOn old members = tells → IsFormatted old.reads × (x : Contents) × HoldsContents old.reads x × EndsMeet both (reading_of x)
-      × (members.config ≡ x.config) × (members.table ≡ x.table) × (members.last ≡ newest_of x)
+  abbrev pub OpenedOn : Disk tells tells_images → VaultState → Type 0
+  OpenedOn old vault = tells → IsFormatted old.reads × (x : Contents) × HoldsContents old.reads x × EndsMeet both (reading_of x)
+      × (vault.config ≡ x.config) × (vault.table ≡ x.table) × (vault.last ≡ newest_of x)
 
   -- What was opened is legible.
-  pub legible_so : (Can : Contents → Type 0) (old : Disk tells tells_images) (members : MembersState) → OpenedOn old members
-      → ((x : Contents) → tells → HoldsContents old.reads x → members.config ≡ x.config → members.table ≡ x.table → members.last ≡ newest_of x → Can x)
+  pub legible_so : (Can : Contents → Type 0) (old : Disk tells tells_images) (vault : VaultState) → OpenedOn old vault
+      → ((x : Contents) → tells → HoldsContents old.reads x → vault.config ≡ x.config → vault.table ≡ x.table → vault.last ≡ newest_of x → Can x)
       → tells → IsLegibleWith old.reads Can
-  legible_so Can old members contents can t = let c = contents t in (c.0, c.1, c.2, c.3, can c.1 t c.2 c.4 c.5 c.6)
-
-  -- At every moment up to the call, with its events.
-  since_opening : {T : Type 0} (x : Contents) (events : List Event) (old mid : Disk tells tells_images) (result : Result T OpenRefused) → OpensAtEachMoment old mid result (ShowsHistory (opening_of x) [])
-      → (image : Image) → mid.since old.clock image → old.now image ⊎ ShowsPrefix (ShowsHistory (opening_of x)) events 0 image
-  since_opening x events old mid result (inl ends) image s = inl (ends.moments.each image s)
-  since_opening x events old mid result (inr goes) image s = ⊎_elim (λ was. inl was) (λ shows. inr (first_of_all x events image shows)) (goes.moments.each image s)
+  legible_so Can old vault contents can t = let c = contents t in (c.0, c.1, c.2, c.3, can c.1 t c.2 c.4 c.5 c.6)
 
   -- What the media read as after a call that was one event, where the vault goes on.
-  pub reads_done : (x : Contents) (act : Act) (after : RecordingState) (t0 : ℕ) (mid new : Disk tells tells_images) (done : HasDone (opening_of x) [] t0 act after mid new) → after.members.failed ≡ false → tells
+  pub reads_done : (x : Contents) (act : Act) (after : RecorderState) (t0 : ℕ) (mid new : Disk tells tells_images) (done : HasDone (opening_of x) [] t0 act after mid new) → after.vault.failed ≡ false → tells
       → ShowsHistory (opening_of x) (done.event ∷ []) new.reads
-  reads_done x act after t0 mid new done works t = let w = done.has.works works in stand_reads (opening_of x) (done.event ∷ []) after.members w.placed new w.stands t
+  reads_done x act after t0 mid new done works t = let w = done.has.works works in stand_reads (opening_of x) (done.event ∷ []) after.vault w.placed new w.stands t
 
   -- A call of the recorder was one event on the media that were opened.
-  pub kept_by_call : {T : Type 0} (x : Contents) → configuration x.text ≡ Ok x.config → WasRecorded x → (MayBe : List Event → Type 0) (status : Status) (old mid new : Disk tells tells_images) (result : Result T OpenRefused) (act : Act) → records_of_act act ≡ [] → (r after : RecordingState) (t0 : ℕ)
+  pub kept_by_call : {T : Type 0} (x : Contents) → configuration x.text ≡ Ok x.config → WasRecorded x → (MayBe : List Event → Type 0) (status : Status) (old mid new : Disk tells tells_images) (result : Result T OpenRefused) (act : Act) → records_of_act act ≡ [] → (r after : RecorderState) (t0 : ℕ)
       → OpensAtEachMoment old mid result (ShowsHistory (opening_of x) []) → old.clock ≤ t0 → t0 ≤ mid.clock → (done : HasDone (opening_of x) [] t0 act after mid new)
       → (IsWorkDone status → tells → ShowsHistory (opening_of x) (done.event ∷ []) new.reads) → MayBe (done.event ∷ []) → KeepsContents x MayBe status old new
   kept_by_call x reads sound MayBe status old mid new result act none r after t0 moments from upto done rests may =
       let silent : recorded (done.event ∷ []) ≡ [] = ap (λ (a : Act). records_of_act a ++ []) done.act_is ∙ ap (λ (rs : List Record). rs ++ []) none in
-      let entry : old.clock ≤ mid.clock = omega (arith, from, upto) in
-      record {
-        events = done.event ∷ [];
-        may_be = may;
-        history = done.has.history;
-        since_entry = λ image s. ⊎_elim
-            (λ was. inl was)
-            (λ shows. inr (prefix_played x reads sound (done.event ∷ []) silent 0 image shows))
-            (⊎_elim
-            (λ earlier. since_opening x (done.event ∷ []) old mid result moments image earlier)
-            (λ here. ⊎_elim
-            (λ now. since_opening x (done.event ∷ []) old mid result moments image (mid.counts_now old.clock image entry now))
-            (λ shows. inr shows)
-            here)
-            (done.passes.before old.clock image entry s));
-        synced = t0;
-        after_entry = from;
-        before_exit = omega (arith, upto, done.passes.later);
-        kept = keeps_played x reads sound (done.event ∷ []) silent t0 new done.has.kept;
-        reads = λ worked t. played_as x reads sound (done.event ∷ []) silent new.reads (rests worked t);
-      }
+      after_opening x reads (ContentsKept x MayBe status new) ⊤ old t0 mid new (passes_opened (opening_of x) old mid result moments) from upto (done.event ∷ []) (order_quiet x sound (done.event ∷ []) silent)
+      done.has.history done.has.kept done.passes (inr tt)
+      (record { may_be = may; reads = λ worked t. plays x reads (done.event ∷ []) (order_quiet x sound (done.event ∷ []) silent) new.reads (rests worked t) })

@@ -1,8 +1,7 @@
 -- What is said of every command that opens recorded media: how opening is refused, and what the media keep (this project's profile).
 use Rattle.std.specs.Prelude.{◌≡◌, ◌≤◌, ◌⊎◌, ◌∷◌, ℕ, ℤ, List, [], length, All, option_map, Option, Some, None, ⊤}
-use Rattle.vdr_history.specs.Histories.{Act, Event, IsHistory}
+use Rattle.vdr_history.specs.Histories.{Act, Event}
 use Rattle.vdr_history.specs.Histories.Act.{Look}
-use Rattle.vdr_durability.specs.Keeping.{Keeps, ShowsPrefix}
 use Rattle.vdr_durability.specs.Readings.{EndsMeet}
 use Rattle.vdr_outside.specs.Disk.{Disk, Image, SameBut}
 use Rattle.vdr_media.specs.Formatted.{IsFormatted, IsUnformatted}
@@ -11,7 +10,7 @@ use Rattle.vdr_opening.specs.Refusals.{IsRefused}
 use Rattle.vdr_vault.specs.Openings.{LeavesAll, WritesMissing}
 use Rattle.vdr_vault.specs.Regularity.{AreSound}
 use Rattle.vdr_vault.specs.Vaults.{of_stamp}
-use Rattle.vdr_replay.specs.Headline.{PlaysBack}
+use Rattle.vdr_headline.specs.Headline.{PlaysBack, RecordingHeadline}
 use Rattle.vdr_command.specs.Endings.{IsWorkDone}
 use Rattle.vdr_command.specs.Outside.{MediaFailed, MediaSeen, OutputSeen, Prints, PrintsFront}
 use Rattle.vdr_command.specs.declared.status.Status.{Status}
@@ -98,19 +97,17 @@ module _ {tells tells_images : Type 0} where
   abbrev pub AddsMissing : (old new : Disk tells tells_images) → Type 0
   AddsMissing old new = (x : Contents) → tells → HoldsContents old.reads x → WritesMissing x old new
 
+  -- What is said of the events that a command leaves: they are such ones, and where the work was done, what the media then read as plays
+  -- back all of it.
+  pub record ContentsKept (x : Contents) (MayBe : List Event → Type 0) (status : Status) (after : Disk tells tells_images) (events : List Event) : Type 0 where
+    pub may_be : MayBe events
+    pub reads : IsWorkDone status → tells → PlaysBack (opening_of x) events after.reads
+
   -- Media that held these contents keep them by some events: since entry a stop left what it might have left at entry, or media that
   -- play back what was held or what the events make of it; and from the moment at which opening's syncs had succeeded the media keep
-  -- the events. Where the work was done, what the media then read as plays back all of it.
-  pub record KeepsContents (x : Contents) (MayBe : List Event → Type 0) (status : Status) (before after : Disk tells tells_images) : Type 0 where
-    pub events : List Event
-    pub may_be : MayBe events
-    pub history : IsHistory (opening_of x) events
-    pub since_entry : (image : Image) → after.since before.clock image → before.now image ⊎ ShowsPrefix (PlaysBack (opening_of x)) events 0 image
-    pub synced : ℕ
-    pub after_entry : before.clock ≤ synced
-    pub before_exit : synced ≤ after.clock
-    pub kept : Keeps (PlaysBack (opening_of x)) events synced after
-    pub reads : IsWorkDone status → tells → PlaysBack (opening_of x) events after.reads
+  -- the events. Which of them may be pending, `MayBe` says.
+  abbrev pub KeepsContents : (x : Contents) (MayBe : List Event → Type 0) → Status → (before after : Disk tells tells_images) → Type 0
+  KeepsContents x MayBe status before after = RecordingHeadline x (ContentsKept x MayBe status after) ⊤ before after
 
   -- What is said where media are opened for work that can be done on contents of which Can holds, by what they read as at entry.
   -- Met is what else may be answered as damage.

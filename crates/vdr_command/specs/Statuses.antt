@@ -3,10 +3,10 @@ use Rattle.vdr_vault.specs.declared.refused.SaveRefused.{SaveRefused as Refused}
 use Rattle.vdr_vault.specs.declared.refused.SaveRefused.TheVariants as saves
 use Rattle.vdr_opening.specs.declared.refused.OpenRefused.{OpenRefused}
 use Rattle.vdr_opening.specs.declared.refused.OpenRefused.TheVariants as openings
-use Rattle.vdr_review.specs.declared.reading.Stop.{Stop}
-use Rattle.vdr_review.specs.declared.reading.Stop.TheVariants as reviews
-use Rattle.vdr_replay.specs.declared.ended.ReplayStop.{ReplayStop}
-use Rattle.vdr_replay.specs.declared.ended.ReplayStop.TheVariants as stops
+use Rattle.vdr_review.specs.declared.reading.ReviewRefused.{ReviewRefused}
+use Rattle.vdr_review.specs.declared.reading.ReviewRefused.TheVariants as reviews
+use Rattle.vdr_replay.specs.declared.ended.ReplayRefused.{ReplayRefused}
+use Rattle.vdr_replay.specs.declared.ended.ReplayRefused.TheVariants as stops
 use Rattle.vdr_command.specs.declared.status.SaveCause.TheVariants.{Label, Nothing, TableFull}
 use Rattle.vdr_command.specs.declared.status.Status.{Status}
 use Rattle.vdr_command.specs.declared.status.Status.TheVariants.{Unformatted, Damaged, MediaFault, InputFault, NoMemory, Feed, SaveRefused, Place, Tick}
@@ -19,21 +19,21 @@ status_of_opening (openings.Damaged m offset) = Damaged m offset
 status_of_opening openings.Fault = MediaFault
 
 -- How the command ends where there is no review.
-abbrev pub status_of_review : Stop → Status
+abbrev pub status_of_review : ReviewRefused → Status
 status_of_review reviews.Input = InputFault
 status_of_review reviews.Memory = NoMemory
 status_of_review (reviews.Refused number offset) = Feed number offset
 
 -- How the command ends where no run was closed.
-abbrev pub status_of_stop : ReplayStop → Status
-status_of_stop stops.NoMemory = NoMemory
-status_of_stop stops.Input = InputFault
-status_of_stop (stops.Refused number offset) = Feed number offset
-status_of_stop stops.NotFormatted = Unformatted
-status_of_stop (stops.Damaged m offset) = Damaged m offset
-status_of_stop stops.Place = Place
-status_of_stop stops.Tick = Tick
-status_of_stop stops.Media = MediaFault
+abbrev pub status_of_replay : ReplayRefused → Status
+status_of_replay stops.NoMemory = NoMemory
+status_of_replay stops.Input = InputFault
+status_of_replay (stops.Refused number offset) = Feed number offset
+status_of_replay stops.NotFormatted = Unformatted
+status_of_replay (stops.Damaged m offset) = Damaged m offset
+status_of_replay stops.Place = Place
+status_of_replay stops.Tick = Tick
+status_of_replay stops.Media = MediaFault
 
 -- How a refusal of a save ends the command.
 abbrev pub status_of_save : Refused → Status

@@ -3,8 +3,8 @@ ghost use Rattle.std.specs.Prelude.{◌≡◌};
 use vdr_config::TooSmall;
 use vdr_opening::OpenRefused;
 use vdr_recorder::SaveRefused;
-use vdr_replay::ReplayStop;
-use vdr_review::Stop;
+use vdr_replay::ReplayRefused;
+use vdr_review::ReviewRefused;
 
 /// Why an incident is not saved. The cases stand in the order in which they are tested.
 #[derive(Clone, Copy, Debug, PartialEq, Eq, Drop)]
@@ -102,16 +102,16 @@ impl Status {
     }
 }
 
-impl From<Stop> for Status {
+impl From<ReviewRefused> for Status {
     ghost use Rattle.vdr_command.specs.Statuses.{status_of_review};
 
     ghost from_gives = { λ stop status. status ≡ status_of_review stop };
 
-    fn from(stop: Stop) -> Status {
+    fn from(stop: ReviewRefused) -> Status {
         match stop {
-            Stop::Input => Status::InputFault,
-            Stop::Memory => Status::NoMemory,
-            Stop::Refused { number, offset } => Status::Feed { number, offset },
+            ReviewRefused::Input => Status::InputFault,
+            ReviewRefused::Memory => Status::NoMemory,
+            ReviewRefused::Refused { number, offset } => Status::Feed { number, offset },
         }
     }
 }
@@ -131,21 +131,21 @@ impl From<OpenRefused> for Status {
     }
 }
 
-impl From<ReplayStop> for Status {
-    ghost use Rattle.vdr_command.specs.Statuses.{status_of_stop};
+impl From<ReplayRefused> for Status {
+    ghost use Rattle.vdr_command.specs.Statuses.{status_of_replay};
 
-    ghost from_gives = { λ stop status. status ≡ status_of_stop stop };
+    ghost from_gives = { λ stop status. status ≡ status_of_replay stop };
 
-    fn from(stop: ReplayStop) -> Status {
+    fn from(stop: ReplayRefused) -> Status {
         match stop {
-            ReplayStop::NoMemory => Status::NoMemory,
-            ReplayStop::Input => Status::InputFault,
-            ReplayStop::Refused { number, offset } => Status::Feed { number, offset },
-            ReplayStop::NotFormatted => Status::Unformatted,
-            ReplayStop::Damaged { medium, offset } => Status::Damaged { medium, offset },
-            ReplayStop::Place => Status::Place,
-            ReplayStop::Tick => Status::Tick,
-            ReplayStop::Media => Status::MediaFault,
+            ReplayRefused::NoMemory => Status::NoMemory,
+            ReplayRefused::Input => Status::InputFault,
+            ReplayRefused::Refused { number, offset } => Status::Feed { number, offset },
+            ReplayRefused::NotFormatted => Status::Unformatted,
+            ReplayRefused::Damaged { medium, offset } => Status::Damaged { medium, offset },
+            ReplayRefused::Place => Status::Place,
+            ReplayRefused::Tick => Status::Tick,
+            ReplayRefused::Media => Status::MediaFault,
         }
     }
 }

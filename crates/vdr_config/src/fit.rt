@@ -5,13 +5,7 @@ ghost use Rattle.vdr_config.specs.Sizes.{sizes_of, fitting};
 
 use crate::config::Config;
 use crate::media::{Needs, TooSmall};
-use vdr_terms::Rate;
-
-// The superblock and the table of incident saves stand before the first slot.
-const FRONT: u64 = 32_768;
-
-// No more slots than these are used.
-const MOST_SLOTS: u64 = 1_000_000;
+use vdr_terms::{Rate, slot_count};
 
 fn cost_of_group(rate: &Option<Rate>) -> u64
     requires { IfSome rate.now IsRate }
@@ -72,7 +66,7 @@ pub fn needs(config: &Config) -> Needs
 fn slots(config: &Config, size: u64) -> u64
     ensures { result ≡ slots_in (sizes_of config.now) size }
 {
-    (size.saturating_sub(FRONT) / config.segment as u64).min(MOST_SLOTS)
+    slot_count(config.segment, size) as u64
 }
 
 /// Whether media of these sizes, in bytes, have the slots that the configuration needs. `TooSmall` names the first that

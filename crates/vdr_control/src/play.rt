@@ -7,15 +7,13 @@ ghost use Rattle.vdr_control.specs.Plays.{IsMedium, SpellsBound, SpellsPlay, med
 use crate::Order;
 use vdr_digits::number;
 use vdr_entry::{Medium, read_utc};
+use vdr_terms::{LAST_STAMP, MOST_INCIDENTS};
 
 /// The first stamp: the start of the year 1970.
 const FIRST_STAMP: i64 = 0;
 
-/// The last stamp: the last millisecond of the year 9999.
-const LAST_STAMP: i64 = 253_402_300_799_999;
-
-/// The greatest id of an incident.
-const LAST_ID: u64 = 32;
+// The greatest id of an incident.
+const LAST_ID: u64 = MOST_INCIDENTS as u64;
 
 /// The play that these words ask for (this project's profile), None exactly where they ask for none:
 ///

@@ -19,7 +19,7 @@ use Rattle.vdr_core.proofs.Taking.{more_taken}
 use Rattle.vdr_core.proofs.Ticking.{lower, gap_ticks, closing_ticks, rising_new}
 use Rattle.vdr_core.proofs.Shapes.{inside_append, gap_inside}
 
-continues_back : (channels : Channels) (place : ℕ) (xs ys : List Record) → Continues channels place (xs ++ ys) → Continues channels (place + length xs) ys
+pub continues_back : (channels : Channels) (place : ℕ) (xs ys : List Record) → Continues channels place (xs ++ ys) → Continues channels (place + length xs) ys
 continues_back channels place [] ys h = subst (λ (n : ℕ). Continues channels n ys) (omega arith) h
 continues_back channels place (x ∷ xs) ys (p, b, more) = subst (λ (n : ℕ). Continues channels n ys) (omega arith) (continues_back channels (suc place) xs ys more)
 

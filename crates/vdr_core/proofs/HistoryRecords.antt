@@ -4,6 +4,7 @@ use Rattle.std.proofs.lemmas.Bool.{cond_both}
 use Rattle.std.proofs.lemmas.List.Elements.{All-head, All-tail, All-nil, All-append}
 use Rattle.vdr_terms.specs.Records.{Record, last, last_after}
 use Rattle.vdr_terms.specs.Order.{NeverFalls}
+use Rattle.vdr_terms.proofs.Running.{never_falls_behind}
 use Rattle.vdr_history.specs.Runs.{Stamp, RunStart, base_after, base_of}
 use Rattle.vdr_history.specs.Histories.{Continues, stamp_of}
 use Rattle.vdr_history.specs.Shapes.{SaysMissed, NoEmptyGap}
@@ -20,13 +21,9 @@ pub base_is_later : (stamp : Option Stamp) → last_tick stamp ≤ base_after st
 base_is_later None = omega arith
 base_is_later (Some s) = omega arith
 
-falls_from : (x : Record) (xs ys : List Record) → NeverFalls x.tick xs → NeverFalls (last_after x xs).tick ys → NeverFalls x.tick (xs ++ ys)
-falls_from x [] ys h k = k
-falls_from x (y ∷ xs) ys h k = (h.0, falls_from y xs ys h.1 k)
-
 pub falls_append : (stamp : Option Stamp) (xs ys : List Record) → NeverFalls (last_tick stamp) xs → NeverFalls (last_tick (stamp_of (last xs) stamp)) ys → NeverFalls (last_tick stamp) (xs ++ ys)
 falls_append stamp [] ys h k = k
-falls_append stamp (x ∷ xs) ys h k = (h.0, falls_from x xs ys h.1 k)
+falls_append stamp (x ∷ xs) ys h k = (h.0, never_falls_behind x xs ys h.1 k)
 
 abbrev records_of_runs : List Ended → List Record
 records_of_runs runs = flat_map (λ run. run.records) runs

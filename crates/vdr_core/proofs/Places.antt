@@ -10,6 +10,7 @@ use Rattle.vdr_core.specs.Law.{FrontsOfRuns}
 use Rattle.vdr_history.specs.Histories.{Continues}
 use Rattle.vdr_history.specs.Taken.{Captured}
 use Rattle.vdr_terms.specs.Counting.{Pending, merged, with_missed}
+use Rattle.vdr_terms.proofs.Running.{never_falls_front}
 use Rattle.vdr_history.specs.Recorder.{Recorder, begun, next_in, tick_of, tick_with, gap_unless_none, gap_of, datagram_of, passed, admits, took, taken_all, recorder_after, gaps_below, stop_of, closing}
 
 pub continues_append : (channels : Channels) (place : ℕ) (xs ys : List Record) → Continues channels place xs → Continues channels (place + length xs) ys → Continues channels place (xs ++ ys)
@@ -62,10 +63,6 @@ continues_front : (channels : Channels) (place : ℕ) (xs ys : List Record) → 
 continues_front channels place [] ys h = tt
 continues_front channels place (x ∷ xs) ys (p, b, more) = (p, b, continues_front channels (suc place) xs ys more)
 
-falls_front : (from : ℕ) (xs ys : List Record) → NeverFalls from (xs ++ ys) → NeverFalls from xs
-falls_front from [] ys h = tt
-falls_front from (x ∷ xs) ys h = (h.0, falls_front x.tick xs ys h.1)
-
 each_front : (P : Record → Type 0) (xs ys : List Record) → AllByRecursion P (xs ++ ys) → AllByRecursion P xs
 each_front P [] ys h = tt
 each_front P (x ∷ xs) ys h = (h.0, each_front P xs ys h.1)
@@ -73,6 +70,6 @@ each_front P (x ∷ xs) ys h = (h.0, each_front P xs ys h.1)
 pub fronts : (start : RunStart) → FrontsOfRuns start
 fronts start given front back h = record {
   places = continues_front start.channels start.place front back h.places;
-  rising = falls_front (base_of start) front back h.ticks.rising;
+  rising = never_falls_front (base_of start) front back h.ticks.rising;
   each = each_front (λ r. TickOf (base_of start) given r r.content) front back h.ticks.each;
 }

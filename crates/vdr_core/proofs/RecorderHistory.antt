@@ -38,7 +38,7 @@ pub inside_ends_none : (xs : List Record) → AreInside xs → end_run xs ≡ fa
 inside_ends_none [] h = refl
 inside_ends_none (x ∷ xs) h = last_is_inside x xs h
 
-stamp_append : (xs ys : List Record) (before : Option Stamp) → stamp_of (last (xs ++ ys)) before ≡ stamp_of (last ys) (stamp_of (last xs) before)
+pub stamp_append : (xs ys : List Record) (before : Option Stamp) → stamp_of (last (xs ++ ys)) before ≡ stamp_of (last ys) (stamp_of (last xs) before)
 stamp_append [] ys before = refl
 stamp_append (x ∷ xs) ys before = from x xs ys
   where
@@ -47,7 +47,7 @@ stamp_append (x ∷ xs) ys before = from x xs ys
     from x [] (y ∷ ys) = refl
     from x (z ∷ xs) ys = from z xs ys
 
-made_snoc : (s : RunState) (acts : List Act) (act : Act) → AreMadeFrom s acts → IsMadeIn (state_along s acts) act → AreMadeFrom s (acts ++ act ∷ [])
+pub made_snoc : (s : RunState) (acts : List Act) (act : Act) → AreMadeFrom s acts → IsMadeIn (state_along s acts) act → AreMadeFrom s (acts ++ act ∷ [])
 made_snoc s [] act h k = (k, tt)
 made_snoc s (x ∷ acts) act h k = (h.0, made_snoc (after_act s x) acts act h.1 k)
 

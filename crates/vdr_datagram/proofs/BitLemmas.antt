@@ -7,6 +7,7 @@ use Rattle.std.specs.List.{list_any}
 use Rattle.std.proofs.lemmas.Option.{none-some, same_Some}
 use Rattle.std.proofs.lemmas.Nat.{or_block}
 use Rattle.std.proofs.lemmas.Nat.Bits.{bit_at_lowest, bit_at-suc}
+use Rattle.std.proofs.lemmas.Bool.{and_parts}
 use Rattle.vdr_config.specs.Configuration.{Selector}
 use Rattle.vdr_datagram.specs.Channels.{bits_where, channel_bits, selects}
 
@@ -78,14 +79,10 @@ set_true : (b : Bool) → flag b ≡ 1 → b ≡ true
 set_true true set = refl
 set_true false set = let no : ⊥ = omega (arith, set) in absurd no
 
-both : (a b : Bool) → (a && b) ≡ true → (a ≡ true) × (b ≡ true)
-both true b h = (refl, h)
-both false b h = let no : ⊥ = grind (arith, h) in absurd no
-
 -- the bit is set exactly where the channel is of the group and passes
 pub own_bit_set : (of group : ℕ) (passes : Bool) (bit : ℕ) → bit ≡ flag ((of == group) && passes) → (bit ≡ 1) ↔ ((of ≡ group) × (passes ≡ true))
 own_bit_set of group passes bit is = (
-  (λ set. let parts = both (of == group) passes (set_true _ (sym is ∙ set)) in (eqb-true of group parts.0, parts.1)),
+  (λ set. let parts = and_parts (of == group) passes (set_true _ (sym is ∙ set)) in (eqb-true of group parts.0, parts.1)),
   (λ parts. is ∙ ap flag (ap₂ (λ (a b : Bool). a && b) (eq-eqb of group parts.0) parts.1)),
 )
 

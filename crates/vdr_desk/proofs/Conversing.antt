@@ -9,28 +9,13 @@ use Rattle.vdr_outside.specs.Hears.{Passes, HearsNone, bare}
 use Rattle.vdr_outside.specs.Told.{Stays, Loses, NoneLeft}
 use Rattle.vdr_outside.specs.Writes.{AppendsFront}
 use Rattle.vdr_capture.specs.Gives.{LosesAll, NothingLeft}
+use Rattle.vdr_capture.proofs.Giving.{loses_none, loses_more, loses_stays}
 use mathlib.Core.List.{IsPrefix}
 use Rattle.vdr_control.specs.Orders.{PlainOrder}
 use Rattle.vdr_desk.specs.Exchanges.{AreExchanged, Exchange, IsExchanged, no_order_line, texts_of}
 use Rattle.vdr_desk.specs.Links.{HeardAll, as_heard}
 use Rattle.vdr_desk.proofs.Exchanged.{exchanged_more, refused_at}
 use Rattle.vdr_latch.proofs.Prefixes.{prefix_self}
-
-loses_none : {A : Type 0} (a : Option (List A)) → LosesAll a a []
-loses_none None = tt
-loses_none (Some xs) = refl
-
-loses_more : {A : Type 0} (a b c : Option (List A)) (xs : List A) (x : A) → LosesAll a b xs → Loses b c x → LosesAll a c (xs ++ x ∷ [])
-loses_more None b c xs x p q = tt
-loses_more (Some a) None c xs x p q = absurd p
-loses_more (Some a) (Some b) None xs x p q = absurd q
-loses_more (Some a) (Some b) (Some c) xs x p q = p ∙ ap (λ l. xs ++ l) q ∙ sym (append_assoc xs (x ∷ []) c)
-
-loses_stays : {A : Type 0} (a b c : Option (List A)) (xs : List A) → LosesAll a b xs → Stays b c → LosesAll a c xs
-loses_stays None b c xs p q = tt
-loses_stays (Some a) None c xs p q = absurd p
-loses_stays (Some a) (Some b) None xs p q = absurd q
-loses_stays (Some a) (Some b) (Some c) xs p q = p ∙ ap (λ l. xs ++ l) (sym q)
 
 pub heard_none : (a : Option (List (List ℕ))) → HeardAll a a []
 heard_none a = record { whole = []; are_heard = refl; left = loses_none a }

@@ -16,7 +16,7 @@ use Rattle.vdr_retention.proofs.Retained.{append_keeps, append_keeps_places}
 use Rattle.vdr_durability.specs.Readings.{Reading, records_on, restored}
 use Rattle.vdr_durability.specs.Shown.{Shows, opened, pins_of, pins_on}
 use Rattle.vdr_durability.proofs.Reopened.{reopened_goes_on}
-use Rattle.vdr_durability.proofs.Shows.{OnSlot, all_records_with, incidents_with, pins_hold, recorded_with, slots_hold}
+use Rattle.vdr_durability.proofs.Shows.{OnSlot, all_records_with, incidents_with, pins_hold, recorded_with, slots_hold, saved_slot, slot_written}
 use Rattle.vdr_durability.specs.FurtherRuns.{IsTwoRuns}
 
 -- What is held of what is held is held.
@@ -56,15 +56,6 @@ window_places inc seconds all held a b le order order' h w = record {
   first = ap (λ (rs : List Record). option_map (λ r. r.place) (slice_get rs 0)) (sym (same_window inc all held order order' (holds_less inc seconds all held le h))) ∙ w.first;
   newest = ap (λ (o : Option Record). option_map (λ r. r.place) o) (sym h.newest) ∙ w.newest;
 }
-
--- One slot of a table.
-saved_slot : (P : Pin → Type 0) (label : List ℕ) (a b : ℕ) (o : Option Record) → P (record { a = a; b = b }) → OnSlot P (incident_of label a b o)
-saved_slot P label a b None h = tt
-saved_slot P label a b (Some r) h = h
-
-slot_written : (P : Pin → Type 0) (table : List (Option Incident)) (id : ℕ) (slot : Option Incident) → OnSlot P slot → All P (pins_of table) → All P (pins_of (with_slot table id slot))
-slot_written P table zero slot here h = h
-slot_written P table (suc i) slot here h = pins_hold P (set table i slot) (All-set (OnSlot P) table i slot here (slots_hold P table h))
 
 abbrev HeldPins : (all held : List Record) → List (Option Incident) → Type 0
 HeldPins all held table = All (λ pin. HoldsPlaces all held pin.a pin.b) (pins_of table)

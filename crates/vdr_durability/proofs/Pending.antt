@@ -3,28 +3,16 @@ use Rattle.std.proofs.Common.{ℕ, List, [], ◌∷◌, ◌++◌, Option, Some, 
 use Rattle.std.proofs.lemmas.List.Elements.{All-nil, All-cons, All-head, All-tail}
 use Rattle.vdr_history.specs.Histories.{Act, Event, EndsBy, OnlyLooks, PendingEnds}
 use Rattle.vdr_history.specs.Histories.Act.{Look}
+use Rattle.vdr_history.proofs.Growing.{ends_whole, looks_with, ends_look}
 use Rattle.vdr_durability.specs.Keeping.{IsWhole}
 
 abbrev pub Has : Event → Type 0
 Has e = e.moment ≢ None
 
-ends_whole : (o : Option ℕ) (act : Act) (later : List Event) (Rest : Type 0) → o ≢ None → Rest → EndsBy o act later Rest
-ends_whole None act later Rest some h = absurd (some refl)
-ends_whole (Some m) act later Rest some h = h
-
 -- One more after events that all have a moment: it has one, or it is pending and no look.
 pub pending_with : (events : List Event) (e : Event) → IsWhole events → EndsBy e.moment e.act [] (Unit {0}) → PendingEnds (events ++ e ∷ [])
 pending_with [] e whole h = h
 pending_with (x ∷ xs) e whole h = ends_whole x.moment x.act (xs ++ e ∷ []) (PendingEnds (xs ++ e ∷ [])) (All-head Has x xs whole) (pending_with xs e (All-tail Has x xs whole) h)
-
-looks_with : (events : List Event) (e : Event) → OnlyLooks events → e.act ≡ Look → e.moment ≡ None → OnlyLooks (events ++ e ∷ [])
-looks_with [] e h act moment = (act, moment, tt)
-looks_with (x ∷ xs) e (a, b, more) act moment = (a, b, looks_with xs e more act moment)
-
-ends_look : (o : Option ℕ) (act : Act) (later : List Event) (e : Event) (Before After : Type 0) → ((m : ℕ) → o ≡ Some m → Before → After) → e.act ≡ Look → e.moment ≡ None
-    → EndsBy o act later Before → EndsBy o act (later ++ e ∷ []) After
-ends_look None act later e Before After f looks none (distinct, only) = (distinct, looks_with later e only looks none)
-ends_look (Some m) act later e Before After f looks none h = f m refl h
 
 -- One more look, where some event has no moment.
 pub pending_looks : (events : List Event) (e : Event) → PendingEnds events → (IsWhole events → ⊥) → e.act ≡ Look → e.moment ≡ None → PendingEnds (events ++ e ∷ [])

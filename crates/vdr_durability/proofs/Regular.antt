@@ -8,23 +8,18 @@ use Rattle.vdr_terms.specs.Records.{Record, last}
 use Rattle.vdr_terms.specs.Sizes.{records_size}
 use Rattle.vdr_terms.specs.Order.{AreInOrder, NeverFalls, RunOn}
 use Rattle.vdr_terms.specs.Needs.{Sizes, cost, usable, needed_slots}
-use Rattle.vdr_retention.specs.Layout.{Batches, batch_size_at, batches_size_at, records_in, segment_records}
+use Rattle.vdr_retention.specs.Layout.{Batches, batch_size_at, batches_size_at, records_in, segment_records, batches_in}
 use Rattle.vdr_retention.specs.Regular.{FollowOn, IsPaced}
 use Rattle.vdr_retention.specs.Retention.{at_places, within}
 use Rattle.vdr_retention.specs.Victims.{ArePinsOf, HasVictim}
-use Rattle.vdr_retention.proofs.Lists.{all_from, contains_filter, filter_test, filter_was, last_contained}
+use Rattle.vdr_retention.proofs.Lists.{all_from, contains_filter, filter_test, filter_was, last_contained, records_of_batches}
 use Rattle.vdr_retention.proofs.Ordered.{parts_in_order}
 use Rattle.vdr_retention.proofs.Following.{follow_in_order}
 use Rattle.vdr_retention.proofs.Victims.{medium_has_victim}
 use Rattle.vdr_durability.specs.Readings.{Reading, AreLevel, IsPassedOn, begins_at, ends_before, lead, leading_batch, next_after, records_on, restored, with_next}
 use Rattle.vdr_durability.specs.Shown.{pins_on}
-use Rattle.vdr_durability.specs.Regularity.{AreRegular, IsRegularAsRead, IsRegularMember, Layout, batches_in, segments_of}
+use Rattle.vdr_durability.specs.Regularity.{AreRegular, IsRegularAsRead, IsRegularMember, Layout, segments_of}
 use Rattle.vdr_durability.proofs.Restored.{all_with, ends_in, ends_not_before, last_in_order, next_added, next_kept, passed_leads}
-
--- Segments and their batches: the same records, and the same bytes in each second.
-pub records_of_batches : (segments : List Batches) → segment_records (batches_in segments) ≡ records_in segments
-records_of_batches [] = refl
-records_of_batches (s ∷ segments) = flat_map-append (λ (b : List Record). b) s (batches_in segments) ∙ ap (λ (xs : List Record). segment_records s ++ xs) (records_of_batches segments)
 
 size_of_batches : (t : ℕ) (segments : List Batches) → batches_size_at t (batches_in segments) ≡ sum_by (batches_size_at t) segments
 size_of_batches t [] = refl

@@ -5,9 +5,11 @@ use Rattle.vdr_terms.specs.Records.{Record, last_after, last}
 use Rattle.vdr_terms.specs.Order.{AreInOrder, RunOn}
 use Rattle.vdr_terms.specs.Windows.{window}
 use Rattle.vdr_terms.specs.Channels.{Channels}
+use Rattle.vdr_terms.proofs.Running.{run_on_join, last_of_run}
 use Rattle.vdr_history.specs.Histories.{Act, Event, Incident, IsOpening, MayCome, MayFollow, Opening, Settings, Continues, all_records, incidents, last_stamp, next_place, recorded, records_of_act, stamp_of, table_after, table_along}
 use Rattle.vdr_history.specs.Histories.Act.{Commit, Save, Release, Look}
 use Rattle.vdr_history.specs.Runs.{Stamp}
+use Rattle.vdr_history.proofs.Growing.{continues_run}
 use Rattle.vdr_retention.specs.Retention.{HoldsPlaces, Pin, Retains, at_places}
 use Rattle.vdr_retention.proofs.Lists.{last_behind}
 use Rattle.vdr_retention.proofs.Ordered.{same_window, same_places}
@@ -37,18 +39,6 @@ module _ (members : List ℕ) (opening : Opening) (events : List Event) (reading
       Held : Pin → Type 0
       Held pin = HoldsPlaces (all_records opening 1 events) (records_on (restored members reading) 1) pin.a pin.b
 
--- Places run on along a history.
-continues_run : (channels : Channels) (place : ℕ) (rs : List Record) → Continues channels place rs → RunOn place rs
-continues_run channels place [] h = tt
-continues_run channels place (r ∷ rs) (e, bits, more) = (e, continues_run channels (suc place) rs more)
-
-pub run_append : (place : ℕ) (xs ys : List Record) → RunOn place xs → RunOn (place + length xs) ys → RunOn place (xs ++ ys)
-run_append place [] ys h k = subst (λ (n : ℕ). RunOn n ys) (add-zero place) k
-run_append place (x ∷ xs) ys (e, more) k = (e, run_append (suc place) xs ys more (subst (λ (n : ℕ). RunOn n ys) (further place (length xs)) k))
-  where
-    further : (place n : ℕ) → place + suc n ≡ suc place + n
-    further place n = omega arith
-
 act_runs : (opening : Opening) (before : List Event) (act : Act) → MayCome opening before act → RunOn (next_place opening before) (records_of_act act)
 act_runs opening before (Commit records taken) may = continues_run opening.settings.channels (next_place opening before) records may
 act_runs opening before (Save id label a b) may = tt
@@ -63,12 +53,8 @@ next_with opening before e =
 
 pub events_run : (opening : Opening) (before events : List Event) → MayFollow opening before events → RunOn (next_place opening before) (recorded events)
 events_run opening before [] h = tt
-events_run opening before (e ∷ es) (may, more) = run_append (next_place opening before) (records_of_act e.act) (recorded es) (act_runs opening before e.act may)
+events_run opening before (e ∷ es) (may, more) = run_on_join (next_place opening before) (records_of_act e.act) (recorded es) (act_runs opening before e.act may)
     (subst (λ (n : ℕ). RunOn n (recorded es)) (next_with opening before e) (events_run opening (before ++ e ∷ []) es more))
-
-pub last_of_run : (place : ℕ) (r : Record) (rs : List Record) → RunOn place (r ∷ rs) → suc (last_after r rs).place ≡ place + length (r ∷ rs)
-last_of_run place r [] (e, more) = omega (arith, e)
-last_of_run place r (x ∷ xs) (e, more) = let k = last_of_run (suc place) x xs more in omega (arith, k)
 
 next_after_run : (held rs : List Record) (place : ℕ) → place ≡ next_after (last held) → RunOn place rs → next_after (last (held ++ rs)) ≡ place + length rs
 next_after_run held [] place e run = let a = ap (λ (xs : List Record). next_after (last xs)) (append-nil held) in omega (arith, a, e)

@@ -134,12 +134,12 @@ pins_hold P [] h = All-nil P
 pins_hold P (None ∷ table) h = pins_hold P table (All-tail (OnSlot P) None table h)
 pins_hold P (Some i ∷ table) h = All-cons P (record { a = i.a; b = i.b }) (pins_of table) (All-head (OnSlot P) (Some i) table h) (pins_hold P table (All-tail (OnSlot P) (Some i) table h))
 
--- With one slot of the table written anew the pins hold as before, and that of the slot.
-slot_written : (P : Pin → Type 0) (table : List (Option Incident)) (id : ℕ) (slot : Option Incident) → OnSlot P slot → All P (pins_of table) → All P (pins_of (with_slot table id slot))
+-- One slot of a table.
+pub slot_written : (P : Pin → Type 0) (table : List (Option Incident)) (id : ℕ) (slot : Option Incident) → OnSlot P slot → All P (pins_of table) → All P (pins_of (with_slot table id slot))
 slot_written P table zero slot here h = h
 slot_written P table (suc i) slot here h = pins_hold P (set table i slot) (All-set (OnSlot P) table i slot here (slots_hold P table h))
 
-saved_slot : (P : Pin → Type 0) (label : List ℕ) (a b : ℕ) (o : Option Record) → P (record { a = a; b = b }) → OnSlot P (incident_of label a b o)
+pub saved_slot : (P : Pin → Type 0) (label : List ℕ) (a b : ℕ) (o : Option Record) → P (record { a = a; b = b }) → OnSlot P (incident_of label a b o)
 saved_slot P label a b None h = tt
 saved_slot P label a b (Some r) h = h
 

@@ -5,18 +5,20 @@ use Rattle.std.proofs.lemmas.List.Elements.{All-contains, All-head, All-tail}
 use Rattle.vdr_terms.specs.Records.{Record, second, last_after, last}
 use Rattle.vdr_terms.specs.Order.{AreInOrder, RunOn}
 use Rattle.vdr_terms.specs.Windows.{in_window, window_before}
+use Rattle.vdr_terms.proofs.Running.{run_on_join, last_of_run}
 use Rattle.vdr_history.specs.Histories.{Event, MayFollow, Opening, all_records, recorded}
 use Rattle.vdr_retention.specs.Regular.{FollowOn}
 use Rattle.vdr_retention.specs.Retention.{Holds}
 use Rattle.vdr_retention.proofs.Lists.{all_from, last_behind, last_contained}
 use Rattle.vdr_retention.proofs.Ordered.{IsBefore, filter_in_order, parts_in_order, run_on_in_order, same_window}
 use Rattle.vdr_retention.proofs.Following.{follow_in_order}
+use Rattle.vdr_retention.proofs.Retained.{second_rises}
 use Rattle.vdr_durability.specs.Readings.{Reading, next_after, records_on, restored}
 use Rattle.vdr_durability.specs.Shown.{Shows}
 use Rattle.vdr_durability.specs.Soundness.{IsUnbroken}
 use Rattle.vdr_durability.proofs.Restored.{EndsIn, ends_in}
 use Rattle.vdr_durability.proofs.Regular.{follows_end}
-use Rattle.vdr_durability.proofs.Reopened.{events_run, last_of_run, retained, run_append}
+use Rattle.vdr_durability.proofs.Reopened.{events_run, retained}
 
 -- What a filter leaves
 
@@ -55,9 +57,6 @@ filter_twice p q wider (x ∷ xs) =
         (cases_Bool (q x))
 
 -- The window behind a second
-
-second_rises : (a b : ℕ) → a ≤ b → second a ≤ second b
-second_rises a b h = omega arith
 
 abbrev is_recent : ℕ → ℕ → Record → Bool
 is_recent newest seconds r = in_window (second r.tick) newest seconds
@@ -181,7 +180,7 @@ unbroken_follows seconds (x ∷ xs) (y ∷ ys) some order (run, rises) h =
     ordered = follow_in_order held (y ∷ ys) in_held follows
 
     longer : RunOn h.0 (held ++ y ∷ ys)
-    longer = run_append h.0 held (y ∷ ys) h.1 (subst (λ (n : ℕ). RunOn n (y ∷ ys)) (sym (run_ends h.0 held before h.1 ends)) run)
+    longer = run_on_join h.0 held (y ∷ ys) h.1 (subst (λ (n : ℕ). RunOn n (y ∷ ys)) (sym (run_ends h.0 held before h.1 ends)) run)
 
     later : before.tick ≤ newest.tick
     later = no_later_than (follow_in_order (x ∷ xs) (y ∷ ys) order (run, rises))

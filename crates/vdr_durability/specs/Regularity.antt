@@ -1,8 +1,8 @@
 -- Regular media: each by itself, as it is and restored, and how far the live incidents span (this project's profile).
-use Rattle.std.specs.Prelude.{ℕ, ◌≤◌, ◌≡◌, List, [], ◌∷◌, ◌++◌, flat_map, All}
+use Rattle.std.specs.Prelude.{ℕ, ◌≤◌, ◌≡◌, List, [], ◌∷◌, ◌++◌, All}
 use Rattle.vdr_terms.specs.Order.{AreInOrder}
 use Rattle.vdr_terms.specs.Needs.{Sizes, cost, usable}
-use Rattle.vdr_retention.specs.Layout.{Batches, batches_size_at}
+use Rattle.vdr_retention.specs.Layout.{Batches, batches_size_at, batches_in}
 use Rattle.vdr_retention.specs.Regular.{IsRegular}
 use Rattle.vdr_retention.specs.Victims.{ArePinsOf}
 use Rattle.vdr_durability.specs.Readings.{Reading, records_on, restored}
@@ -15,10 +15,6 @@ pub record Layout : Type 0 where
 
 abbrev pub segments_of : Layout → List Batches
 segments_of layout = layout.older ++ layout.newest ∷ []
-
--- All batches of these segments.
-abbrev pub batches_in : List Batches → Batches
-batches_in segments = flat_map (λ segment. segment) segments
 
 -- Medium m has the batches of these segments, and is regular as it is.
 pub record IsRegularAsRead (sizes : Sizes) (reading : Reading) (m : ℕ) (layout : Layout) : Type 0 where

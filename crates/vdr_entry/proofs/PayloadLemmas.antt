@@ -12,6 +12,7 @@ use Rattle.vdr_entry.specs.declared.kind.Kind.{Kind}
 use Rattle.vdr_entry.specs.declared.kind.Kind.TheVariants.{Start as KindStart, Datagram as KindDatagram, Gap as KindGap, Stop as KindStop}
 use Rattle.vdr_terms.specs.Records.{Record, total}
 use Rattle.vdr_terms.specs.Records.Content.{Gap}
+use Rattle.vdr_terms.proofs.Stamping.{stamp_kept}
 use Rattle.vdr_entry.specs.Fields.{Carries, code_of, content_of, missed_in}
 use Rattle.vdr_entry.specs.Spelling.{kind_code, gap_payload, payload}
 use Rattle.vdr_entry.proofs.SpellingLemmas.{length-gap_payload}
@@ -63,12 +64,6 @@ missed_kept bytes are_bytes some = record {
   large = u64_at-fits 32 bytes are_bytes;
   some = some;
 }
-
--- a stamp is the number of its bits
-pub stamp_kept : (utc : ℤ) → IsStamp utc → to_z w64 (of_z w64 utc) ≡ utc
-stamp_kept utc stamp =
-    let small : unsigned_abs utc < 2 ^ 63 = omega (arith, stamp.in_time) in
-    ap (λ (z : ℤ). to_z w64 (of_z w64 z)) stamp.whole ∙ to_z_pos w64 (unsigned_abs utc) small ∙ sym stamp.whole
 
 -- A Gap that is made of its first missed number and its counts
 

@@ -22,5 +22,4 @@ pub use read::{one_spelling, read_record, record_at};
 pub use record::Record;
 pub use summary::Summary;
 pub use utc::{law_of_stamps, read_utc, write_utc};
-pub use vdr_terms::Counts;
 pub use write::{put_record, write_record};

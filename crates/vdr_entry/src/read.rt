@@ -11,10 +11,7 @@ ghost use Rattle.vdr_entry.specs.Spelling.{gap_payload, record_bytes};
 use crate::payload::{GAP_SIZE, missed_in, refill};
 use crate::{Kind, Record};
 use vdr_bytes::{u16_at, u64_at};
-use vdr_terms::{Counts, Verdict, recordable};
-
-/// The last millisecond of the year 9999, since 1970.
-const LAST_STAMP: u64 = 253_402_300_799_999;
+use vdr_terms::{Counts, LAST_STAMP, Verdict, recordable};
 
 fn kind_of(code: u8) -> Option<Kind>
     ensures found { IfSome result (λ kind. code ≡ code_of kind) }
@@ -61,7 +58,7 @@ fn suits(kind: Kind, group: u8, number: u64, payload: &[u8]) -> bool
 fn are_in_range(place: u64, tick: u64, utc: u64) -> bool
     ensures { IsTrue result ↔ AreInRange place tick utc }
 {
-    place < 1 << 63 && tick < 1 << 63 && utc <= LAST_STAMP
+    place < 1 << 63 && tick < 1 << 63 && utc <= LAST_STAMP as u64
 }
 
 // The kind and the payload of the record at the front.

@@ -10,14 +10,14 @@ use Rattle.std.proofs.lemmas.List.Elements.{filter_map-append}
 use Rattle.vdr_terms.specs.Records.{Record}
 use Rattle.vdr_outside.specs.Writes.{AppendsFront}
 use Rattle.vdr_visit.specs.Visits.{AreVisited, HasMade}
-use Rattle.vdr_visit.specs.declared.stop.VisitStop.{VisitStop}
-use Rattle.vdr_visit.specs.declared.stop.VisitStop.TheVariants as stops
+use Rattle.vdr_visit.specs.declared.refused.VisitRefused.{VisitRefused}
+use Rattle.vdr_visit.specs.declared.refused.VisitRefused.TheVariants as stops
 use Rattle.vdr_export.specs.Answers.{FileEnds, IsFailure, IsPictureRefusal, data_of, first_missing, joined, picture_of, unless_missing, unless_mixed, unless_part}
 use Rattle.vdr_export.specs.Collected.{IsCollected, StopsAt}
 use Rattle.vdr_export.specs.Numbers.{mixed_at}
 use Rattle.vdr_export.specs.Pictures.{Shown, bodies, greatest_of, shown, shown_in}
 use Rattle.vdr_export.specs.declared.block.Block.{Block}
-use Rattle.vdr_export.specs.Stops.{refusal_by}
+use Rattle.vdr_export.specs.Refusals.{refusal_by}
 use Rattle.vdr_export.specs.declared.refused.ExportRefused.{ExportRefused}
 use Rattle.vdr_export.specs.declared.refused.ExportRefused.TheVariants.{Fault, Damaged, Mixed, NoMemory, Output}
 use Rattle.vdr_export.proofs.Fronts.{front_whole}
@@ -83,7 +83,7 @@ greatest_of_all block front rest = ap greatest_of (filter_map-append (shown_in b
 
 -- The visit stopped. A visit that writes nothing does not stop for its output.
 module _ (block : Block) (records seen : List Record) (Has : Type 0) (line : List Record → Record → List ℕ) (whole : List ℕ) (was now : Option (List ℕ)) (refused : ExportRefused) where
-  pub picture_stopped : (stop : VisitStop ExportRefused) (a : Option (List ℕ)) (out : Result ⊤ ExportRefused) → out ≡ Err refused → Some refused ≡ refusal_by stop → (stop ≡ stops.Output → ⊥)
+  pub picture_stopped : (stop : VisitRefused ExportRefused) (a : Option (List ℕ)) (out : Result ⊤ ExportRefused) → out ≡ Err refused → Some refused ≡ refusal_by stop → (stop ≡ stops.Output → ⊥)
       → HasMade Has (λ e. StopsAt (shown block seen) e) line whole seen was now (Err stop) → AreVisited seen records (Err stop) → FileEnds (picture_of (shown block records)) a a out
   picture_stopped stops.NoChannel a out is from silent made are = absurd (none_from refused from)
   picture_stopped stops.NoIncident a out is from silent made are = absurd (none_from refused from)
@@ -98,7 +98,7 @@ module _ (block : Block) (records seen : List Record) (Has : Type 0) (line : Lis
       (λ memory. failed_ends _ a out refused is (inr (inr (is_refused out refused e is from ∙ ap (λ (x : ExportRefused). Err x) memory))))
       made.0
 
-  pub picture_own : (stop : VisitStop ExportRefused) → Some refused ≡ refusal_by stop → (stop ≡ stops.Output → ⊥)
+  pub picture_own : (stop : VisitRefused ExportRefused) → Some refused ≡ refusal_by stop → (stop ≡ stops.Output → ⊥)
       → HasMade Has (λ e. StopsAt (shown block seen) e) line whole seen was now (Err stop) → IsPictureRefusal refused
   picture_own stops.NoChannel from silent made = absurd (none_from refused from)
   picture_own stops.NoIncident from silent made = absurd (none_from refused from)

@@ -1,11 +1,8 @@
 -- Fronts of a text in two parts.
-use Rattle.std.proofs.Common.{◌++◌, ℕ, List, [], Option, sym, ap, ◌∙◌, append_assoc, append-nil}
+use Rattle.std.proofs.Common.{◌++◌, ℕ, List, [], Option, sym, ap, append-nil}
 use Rattle.std.specs.Io.KnownBytes.{Appends}
 use Rattle.vdr_outside.specs.Writes.{AppendsFront}
 use Rattle.vdr_outside.proofs.Known.{front-more}
-
-pub front_first : (a b : Option (List ℕ)) (x y : List ℕ) → AppendsFront a b x → AppendsFront a b (x ++ y)
-front_first a b x y f = (f.0, f.1 ++ y, ap (λ (l : List ℕ). l ++ y) f.2 ∙ append_assoc f.0 f.1 y, f.3)
 
 pub front_second : (a b c : Option (List ℕ)) (x y : List ℕ) → Appends a b x → AppendsFront b c y → AppendsFront a c (x ++ y)
 front_second a b c x y p f = front-more a b c x y [] (x ++ y) (ap (λ (l : List ℕ). x ++ l) (sym (append-nil y))) p f

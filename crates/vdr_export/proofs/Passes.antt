@@ -9,13 +9,13 @@ use Rattle.vdr_outside.specs.Writes.{AppendsFront}
 use Rattle.vdr_pcm.specs.Frames.{Frame}
 use Rattle.vdr_visit.specs.Prints.{lines_behind, text_of, whole_text}
 use Rattle.vdr_visit.specs.Visits.{AreVisited, HasMade}
-use Rattle.vdr_visit.specs.declared.stop.VisitStop.{VisitStop}
-use Rattle.vdr_visit.specs.declared.stop.VisitStop.TheVariants as stops
+use Rattle.vdr_visit.specs.declared.refused.VisitRefused.{VisitRefused}
+use Rattle.vdr_visit.specs.declared.refused.VisitRefused.TheVariants as stops
 use Rattle.vdr_export.specs.Answers.{AnswersOrFails, IsSizeRefusal, IsWriteRefusal, OkOrFails, size_of, unless_long, unless_mixed}
 use Rattle.vdr_export.specs.Heard.{IsMixed, added, added_by}
 use Rattle.vdr_export.specs.Numbers.{mixed_at}
 use Rattle.vdr_export.specs.Sounds.{Heard, frames_of, heard, heard_in, piece, rates_of, sound, sound_after}
-use Rattle.vdr_export.specs.Stops.{refusal_by}
+use Rattle.vdr_export.specs.Refusals.{refusal_by}
 use Rattle.vdr_export.specs.declared.refused.ExportRefused.{ExportRefused}
 use Rattle.vdr_export.specs.declared.refused.ExportRefused.TheVariants.{Fault, Damaged, Mixed, Output}
 use Rattle.vdr_export.specs.declared.wave.WaveSize.{WaveSize}
@@ -29,7 +29,7 @@ mixed_answer (h ∷ hs) place is = ap (λ (o : Option ℕ). unless_mixed o (unle
 
 -- A size is refused where the visit stops. A visit that writes nothing does not stop for its output.
 module _ (microphone : ℕ) (records seen : List Record) (Has : Type 0) (line : List Record → Record → List ℕ) (whole : List ℕ) (was now : Option (List ℕ)) (refused : ExportRefused) where
-  pub size_stopped : (stop : VisitStop ExportRefused) (out : Result WaveSize ExportRefused) → out ≡ Err refused → Some refused ≡ refusal_by stop → (stop ≡ stops.Output → ⊥)
+  pub size_stopped : (stop : VisitRefused ExportRefused) (out : Result WaveSize ExportRefused) → out ≡ Err refused → Some refused ≡ refusal_by stop → (stop ≡ stops.Output → ⊥)
       → HasMade Has (λ e. IsMixed (heard microphone seen) e) line whole seen was now (Err stop) → AreVisited seen records (Err stop) → AnswersOrFails (size_of (heard microphone records)) out
   size_stopped stops.NoChannel out is from silent made are = absurd (none_from refused from)
   size_stopped stops.NoIncident out is from silent made are = absurd (none_from refused from)
@@ -43,7 +43,7 @@ module _ (microphone : ℕ) (records seen : List Record) (Has : Type 0) (line : 
       ∙ mixed_stays (rates_of (heard microphone seen)) (rates_of (heard microphone are.0)) mixed.0 mixed.2 in
       inl (is_refused out refused e is from ∙ ap (λ (x : ExportRefused). Err x) mixed.1 ∙ sym (mixed_answer (heard microphone records) mixed.0 all))
 
-  pub size_own : (stop : VisitStop ExportRefused) → Some refused ≡ refusal_by stop → (stop ≡ stops.Output → ⊥)
+  pub size_own : (stop : VisitRefused ExportRefused) → Some refused ≡ refusal_by stop → (stop ≡ stops.Output → ⊥)
       → HasMade Has (λ e. IsMixed (heard microphone seen) e) line whole seen was now (Err stop) → IsSizeRefusal refused
   size_own stops.NoChannel from silent made = absurd (none_from refused from)
   size_own stops.NoIncident from silent made = absurd (none_from refused from)
@@ -64,7 +64,7 @@ module _ (microphone : ℕ) (a b c : Option (List ℕ)) (header : List ℕ) (beg
   wave_written records p = Appends-trans a b c header (sound (frames_of (heard microphone records))) begun p
 
 -- On media that can be read only a fault of the media or of the output stops it.
-pub wave_undamaged : (Has : Type 0) (line : List Record → Record → List ℕ) (whole : List ℕ) (was now : Option (List ℕ)) (seen records : List Record) (stop : VisitStop ExportRefused) (refused : ExportRefused)
+pub wave_undamaged : (Has : Type 0) (line : List Record → Record → List ℕ) (whole : List ℕ) (was now : Option (List ℕ)) (seen records : List Record) (stop : VisitRefused ExportRefused) (refused : ExportRefused)
     (out : Result ⊤ ExportRefused) → out ≡ Err refused → Some refused ≡ refusal_by stop → HasMade Has (λ _. ⊥) line whole seen was now (Err stop) → AreVisited seen records (Err stop) → OkOrFails out
 wave_undamaged Has line whole was now seen records stops.NoChannel refused out is from made are = absurd (none_from refused from)
 wave_undamaged Has line whole was now seen records stops.NoIncident refused out is from made are = absurd (none_from refused from)
@@ -73,7 +73,7 @@ wave_undamaged Has line whole was now seen records (stops.Damaged m offset) refu
 wave_undamaged Has line whole was now seen records stops.Output refused out is from made are = inr (inr (is_refused out refused Output is from))
 wave_undamaged Has line whole was now seen records (stops.Own e) refused out is from made are = absurd made.0
 
-pub write_own : (Has : Type 0) (line : List Record → Record → List ℕ) (whole : List ℕ) (was now : Option (List ℕ)) (seen : List Record) (stop : VisitStop ExportRefused) (refused : ExportRefused)
+pub write_own : (Has : Type 0) (line : List Record → Record → List ℕ) (whole : List ℕ) (was now : Option (List ℕ)) (seen : List Record) (stop : VisitRefused ExportRefused) (refused : ExportRefused)
     → Some refused ≡ refusal_by stop → HasMade Has (λ _. ⊥) line whole seen was now (Err stop) → IsWriteRefusal refused
 write_own Has line whole was now seen stops.NoChannel refused from made = absurd (none_from refused from)
 write_own Has line whole was now seen stops.NoIncident refused from made = absurd (none_from refused from)

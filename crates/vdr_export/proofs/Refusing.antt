@@ -6,15 +6,15 @@ use Rattle.vdr_playback.specs.Playback.{medium_of}
 use Rattle.vdr_outside.specs.Causes.{Rose}
 use Rattle.vdr_outside.proofs.Counts.{none_fell, rose_after}
 use Rattle.vdr_outside.specs.Disk.{Disk}
-use Rattle.vdr_vault.specs.Vaults.{AreRings, MembersState}
+use Rattle.vdr_vault.specs.Vaults.{AreRings, VaultState}
 use Rattle.vdr_recorder.proofs.Looking.{looked}
 use Rattle.vdr_recorder.specs.Looks.{HasLooked}
-use Rattle.vdr_recorder.specs.Recordings.{RecordingState}
-use Rattle.vdr_visit.specs.Stops.{HasOutputCause}
+use Rattle.vdr_recorder.specs.Recordings.{RecorderState}
+use Rattle.vdr_visit.specs.Refusals.{HasOutputCause}
 use Rattle.vdr_visit.specs.Visits.{HasMade}
-use Rattle.vdr_visit.specs.declared.stop.VisitStop.{VisitStop}
-use Rattle.vdr_visit.specs.declared.stop.VisitStop.TheVariants as stops
-use Rattle.vdr_export.specs.Stops.{refusal_by}
+use Rattle.vdr_visit.specs.declared.refused.VisitRefused.{VisitRefused}
+use Rattle.vdr_visit.specs.declared.refused.VisitRefused.TheVariants as stops
+use Rattle.vdr_export.specs.Refusals.{refusal_by}
 use Rattle.vdr_export.specs.declared.refused.ExportRefused.{ExportRefused}
 use Rattle.vdr_export.specs.declared.refused.ExportRefused.TheVariants.{Fault, Output}
 
@@ -32,7 +32,7 @@ same_refusal out x y a b = cc
 
 -- A refusal of the media, or of the output, is that of the visit, unless the visitor stopped so.
 module _ (refused : ExportRefused) (Has : Type 0) (Stops : ExportRefused → Type 0) (line : List Record → Record → List ℕ) (whole : List ℕ) (seen : List Record) (was now : Option (List ℕ)) where
-  pub fault_of : (stop : VisitStop ExportRefused) → Some refused ≡ refusal_by stop → HasMade Has Stops line whole seen was now (Err stop) → (Stops Fault → ⊥) → refused ≡ Fault → stop ≡ stops.Fault
+  pub fault_of : (stop : VisitRefused ExportRefused) → Some refused ≡ refusal_by stop → HasMade Has Stops line whole seen was now (Err stop) → (Stops Fault → ⊥) → refused ≡ Fault → stop ≡ stops.Fault
   fault_of stops.NoChannel from made never is = absurd (none_from refused from)
   fault_of stops.NoIncident from made never is = absurd (none_from refused from)
   fault_of stops.Fault from made never is = refl
@@ -40,7 +40,7 @@ module _ (refused : ExportRefused) (Has : Type 0) (Stops : ExportRefused → Typ
   fault_of stops.Output from made never is = let none : ⊥ = cc in absurd none
   fault_of (stops.Own e) from made never is = absurd (never (subst Stops (sym (some_is refused e from) ∙ is) made.0))
 
-  pub output_of : (stop : VisitStop ExportRefused) → Some refused ≡ refusal_by stop → HasMade Has Stops line whole seen was now (Err stop) → (Stops Output → ⊥) → refused ≡ Output → stop ≡ stops.Output
+  pub output_of : (stop : VisitRefused ExportRefused) → Some refused ≡ refusal_by stop → HasMade Has Stops line whole seen was now (Err stop) → (Stops Output → ⊥) → refused ≡ Output → stop ≡ stops.Output
   output_of stops.NoChannel from made never is = absurd (none_from refused from)
   output_of stops.NoIncident from made never is = absurd (none_from refused from)
   output_of stops.Fault from made never is = let none : ⊥ = cc in absurd none
@@ -49,7 +49,7 @@ module _ (refused : ExportRefused) (Has : Type 0) (Stops : ExportRefused → Typ
   output_of (stops.Own e) from made never is = absurd (never (subst Stops (sym (some_is refused e from) ∙ is) made.0))
 
 -- A look is one by any other answer that comes only with the first.
-pub looked_as : {tells tells_images : Type 0} (query : Query) (r t : RecordingState) (old new : Disk tells tells_images) (read_before read_now faults_before faults_now : List ℕ) (first second : Type 0) → (second → first)
+pub looked_as : {tells tells_images : Type 0} (query : Query) (r t : RecorderState) (old new : Disk tells tells_images) (read_before read_now faults_before faults_now : List ℕ) (first second : Type 0) → (second → first)
     → HasLooked query r t old new read_before read_now faults_before faults_now first → HasLooked query r t old new read_before read_now faults_before faults_now second
 looked_as query r t old new read_before read_now faults_before faults_now first second of h = record {
   read = h.read;
@@ -76,17 +76,17 @@ pub never_blamed : {blamed : Type 0} → HasOutputCause 0 0 blamed → blamed �
 never_blamed h is = let more : Rose 0 0 = h.rose is in omega (arith, more)
 
 -- Where nothing was called, nothing was done.
-reads_nothing : (b : Bool) (x : MembersState)
+reads_nothing : (b : Bool) (x : VaultState)
     → x ≡ (if b then record x { capsule = record (if b then x.capsule else x.long_term) { buffer = (if b then x.capsule else x.long_term).buffer; loaded = (if b then x.capsule else x.long_term).loaded } }
     else record x { long_term = record (if b then x.capsule else x.long_term) { buffer = (if b then x.capsule else x.long_term).buffer; loaded = (if b then x.capsule else x.long_term).loaded } })
 reads_nothing true x = refl
 reads_nothing false x = refl
 
-pub looked_nothing : {tells tells_images : Type 0} (query : Query) (r : RecordingState) (disk : Disk tells tells_images) (read faults : List ℕ) (answered : Type 0) → (answered → ⊥) → AreRings r.members disk.sizes
+pub looked_nothing : {tells tells_images : Type 0} (query : Query) (r : RecorderState) (disk : Disk tells tells_images) (read faults : List ℕ) (answered : Type 0) → (answered → ⊥) → AreRings r.vault disk.sizes
     → HasLooked query r r disk disk read read faults faults answered
-looked_nothing query r disk read faults answered never rings = looked query r r.members disk disk read read faults faults answered
+looked_nothing query r disk read faults answered never rings = looked query r r.vault disk disk read read faults faults answered
     (record {
-      members = reads_nothing (medium_of query.medium == 0) r.members;
+      vault = reads_nothing (medium_of query.medium == 0) r.vault;
       rings = rings;
       unchanged = record { sizes = refl; reads = λ told. refl; clock = refl; since = λ t i. (λ h. h, λ h. h) };
       counts = λ k other. refl;

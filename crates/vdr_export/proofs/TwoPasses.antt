@@ -10,9 +10,9 @@ use Rattle.vdr_entry.specs.Queries.{asked}
 use Rattle.vdr_entry.specs.declared.query.Query.{Query}
 use Rattle.vdr_ring.specs.Rings.{RingState}
 use Rattle.vdr_vault.specs.Plays.{ReadsOn}
-use Rattle.vdr_vault.specs.Vaults.{AreRings, MembersState, ring_of}
-use Rattle.vdr_visit.specs.Stops.{lacks_channel, lacks_incident}
-use Rattle.vdr_recorder.specs.Recordings.{RecordingState}
+use Rattle.vdr_vault.specs.Vaults.{AreRings, VaultState, ring_of}
+use Rattle.vdr_visit.specs.Refusals.{lacks_channel, lacks_incident}
+use Rattle.vdr_recorder.specs.Recordings.{RecorderState}
 use Rattle.vdr_export.specs.Asked.{MayBeAsked}
 use Rattle.vdr_export.specs.Answers.{AnswersOrFails, FileEnds, OkOrFails, size_of, wave_of, wave_with}
 use Rattle.vdr_export.specs.Sounds.{Heard, frames_of}
@@ -55,16 +55,16 @@ pub was_ok : (result : Result WaveSize ExportRefused) (size : WaveSize) (e : Exp
 was_ok result size e ok err = cc
 
 -- What was read of a ring changes neither configuration nor incidents.
-same_settings : (first : Bool) (ring : RingState) (old : MembersState) (s : MembersState) → s ≡ (if first then record old { capsule = ring } else record old { long_term = ring })
+same_settings : (first : Bool) (ring : RingState) (old : VaultState) (s : VaultState) → s ≡ (if first then record old { capsule = ring } else record old { long_term = ring })
     → (s.config ≡ old.config) × (s.table ≡ old.table)
-same_settings true ring old s is = (ap (λ (t : MembersState). t.config) is, ap (λ (t : MembersState). t.table) is)
-same_settings false ring old s is = (ap (λ (t : MembersState). t.config) is, ap (λ (t : MembersState). t.table) is)
+same_settings true ring old s is = (ap (λ (t : VaultState). t.config) is, ap (λ (t : VaultState). t.table) is)
+same_settings false ring old s is = (ap (λ (t : VaultState). t.config) is, ap (λ (t : VaultState). t.table) is)
 
 -- So the same may be asked after a look.
-pub asked_again : (query : Query) (m : ℕ) (old new : RecordingState) (before after : List ℕ) → ReadsOn m old.members new.members → AreRings new.members after
+pub asked_again : (query : Query) (m : ℕ) (old new : RecorderState) (before after : List ℕ) → ReadsOn m old.vault new.vault → AreRings new.vault after
     → MayBeAsked query old before → MayBeAsked query new after
 asked_again query m old new before after reads rings may =
-    let same = same_settings (m == 0) (record (ring_of old.members m) { buffer = (ring_of new.members m).buffer; loaded = (ring_of new.members m).loaded }) old.members new.members reads in
+    let same = same_settings (m == 0) (record (ring_of old.vault m) { buffer = (ring_of new.vault m).buffer; loaded = (ring_of new.vault m).loaded }) old.vault new.vault reads in
     record {
       rings = rings;
       channel = subst (λ (config : Configuration). lacks_channel (length config.channels) query.channel ≡ false) (sym same.0) may.channel;

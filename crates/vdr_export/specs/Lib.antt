@@ -5,7 +5,7 @@ pub mod Waves
 pub mod Pictures
 pub mod Asked
 pub mod Answers
-pub mod Stops
+pub mod Refusals
 pub mod Tails
 pub mod Heard
 pub mod Collected

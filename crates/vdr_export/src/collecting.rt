@@ -12,7 +12,7 @@ use std::alloc::Global;
 use vdr_entry::{Content, Record};
 use vdr_image::{ImageHeader, read_image};
 use vdr_outside::Sink;
-use vdr_visit::{Visitor, VisitorStop};
+use vdr_visit::{Visitor, VisitorRefused};
 
 fn header_in(item: &Record) -> Option<ImageHeader<'_>>
     ensures { option_map header_of result ≡ header_in item.now.content }
@@ -74,17 +74,17 @@ impl Visitor for Collecting {
         &mut self,
         item: &Record,
         _out: &mut O,
-    ) -> Result<(), VisitorStop<ExportRefused>> {
+    ) -> Result<(), VisitorRefused<ExportRefused>> {
         let Some(header) = shown_in(item, &self.block) else {
             return Ok(());
         };
         match self.parts.meet(item.place, &header) {
             Ok(()) => Ok(()),
-            Err(refused) => Err(VisitorStop::Own(refused)),
+            Err(refused) => Err(VisitorRefused::Own(refused)),
         }
     }
 
-    fn finish<O: Sink>(&mut self, _out: &mut O) -> Result<(), VisitorStop<ExportRefused>> {
+    fn finish<O: Sink>(&mut self, _out: &mut O) -> Result<(), VisitorRefused<ExportRefused>> {
         Ok(())
     }
 }

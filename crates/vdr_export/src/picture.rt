@@ -5,7 +5,7 @@ ghost use Rattle.vdr_playback.specs.Playback.{selected};
 ghost use Rattle.vdr_entry.specs.Queries.{asked};
 ghost use Rattle.vdr_ring.specs.Sequence.{Placed};
 ghost use Rattle.vdr_vault.specs.Vaults.{IsReadable};
-ghost use Rattle.vdr_visit.specs.Stops.{HasOutputCause};
+ghost use Rattle.vdr_visit.specs.Refusals.{HasOutputCause};
 ghost use Rattle.vdr_recorder.specs.Looks.{HasLooked};
 ghost use Rattle.vdr_export.specs.Asked.{MayBeAsked};
 ghost use Rattle.vdr_export.specs.Answers.{FileEnds, IsPictureRefusal, picture_of};
@@ -19,7 +19,7 @@ use crate::refused::{ExportRefused, refusal_of};
 use std::alloc::Global;
 use vdr_entry::Query;
 use vdr_outside::{Media, Sink};
-use vdr_recorder::Recording;
+use vdr_recorder::Recorder;
 
 /// Writes the image of a block that a query selects (IEC 61162-450 sends images in blocks; the header of a part is this project's
 /// profile): the data of the block's parts, in the order of their sequence numbers, of each the first that was recorded. Takes memory for the
@@ -29,23 +29,23 @@ use vdr_recorder::Recording;
 /// hold what was recorded. Where a write fails, a front of the image is written.
 pub fn write_picture<M: Media, O: Sink>(
     alloc: Global,
-    recording: &mut Recording,
+    recorder: &mut Recorder,
     media: &mut M,
     query: &Query,
     block: &Block,
     out: &mut O,
 ) -> Result<(), ExportRefused>
-    requires asked { MayBeAsked query.now recording.old (M.disk media.old).sizes }
-    ensures picture { (opening : Opening) (events : List Event) (placed : ℕ → List Placed) → M.tells → IsReadable opening events recording.old.members placed (M.disk media.old)
+    requires asked { MayBeAsked query.now recorder.old (M.disk media.old).sizes }
+    ensures picture { (opening : Opening) (events : List Event) (placed : ℕ → List Placed) → M.tells → IsReadable opening events recorder.old.vault placed (M.disk media.old)
         → FileEnds (picture_of (shown block.now (selected opening events (asked query.now)))) (O.taken out.old) (O.taken out.new) result }
     ensures silent { OnErr result ((result ≡ Err Output) ⊎ (out.new ≡ out.old)) }
     ensures own { IfErr result IsPictureRefusal }
-    ensures failed { recording.old.members.failed ≡ true → (result ≡ Err AFault) × (recording.new ≡ recording.old) × (media.new ≡ media.old) × (out.new ≡ out.old) }
-    ensures looked { HasLooked (asked query.now) recording.old recording.new (M.disk media.old) (M.disk media.new) (M.bytes_read media.old) (M.bytes_read media.new) (M.faults media.old) (M.faults media.new) (result ≡ Err AFault) }
+    ensures failed { recorder.old.vault.failed ≡ true → (result ≡ Err AFault) × (recorder.new ≡ recorder.old) × (media.new ≡ media.old) × (out.new ≡ out.old) }
+    ensures looked { HasLooked (asked query.now) recorder.old recorder.new (M.disk media.old) (M.disk media.new) (M.bytes_read media.old) (M.bytes_read media.new) (M.faults media.old) (M.faults media.new) (result ≡ Err AFault) }
     ensures output { HasOutputCause (O.faults out.old) (O.faults out.new) (result ≡ Err Output) }
 {
     let mut collecting = Collecting::new(alloc, *block);
-    if let Err(stop) = recording.visit(media, query, &mut collecting, &mut Nowhere) {
+    if let Err(stop) = recorder.visit(media, query, &mut collecting, &mut Nowhere) {
         return Err(refusal_of(stop));
     }
     collecting.parts.complete()?;

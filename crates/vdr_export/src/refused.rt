@@ -1,8 +1,8 @@
 ghost use Rattle.std.specs.Prelude.{◌≡◌, ◌⊎◌, Some};
-ghost use Rattle.vdr_visit.specs.declared.stop.VisitStop.TheVariants.{NoChannel, NoIncident};
-ghost use Rattle.vdr_export.specs.Stops.{refusal_by};
+ghost use Rattle.vdr_visit.specs.declared.refused.VisitRefused.TheVariants.{NoChannel, NoIncident};
+ghost use Rattle.vdr_export.specs.Refusals.{refusal_by};
 
-use vdr_visit::VisitStop;
+use vdr_visit::VisitRefused;
 
 /// Why no file is made of what a query selects.
 #[derive(Clone, Copy, Debug, PartialEq, Eq, Drop)]
@@ -26,15 +26,15 @@ pub enum ExportRefused {
 }
 
 /// The refusal of a visit whose channel and incident are there.
-pub(crate) fn refusal_of(stop: VisitStop<ExportRefused>) -> ExportRefused
+pub(crate) fn refusal_of(stop: VisitRefused<ExportRefused>) -> ExportRefused
     requires accepted { (stop ≡ NoChannel) ⊎ (stop ≡ NoIncident) → ⊥ }
     ensures { Some result ≡ refusal_by stop }
 {
     match stop {
-        VisitStop::NoChannel | VisitStop::NoIncident => unreachable!(),
-        VisitStop::Fault => ExportRefused::Fault,
-        VisitStop::Damaged { medium, offset } => ExportRefused::Damaged { medium, offset },
-        VisitStop::Output => ExportRefused::Output,
-        VisitStop::Own(refused) => refused,
+        VisitRefused::NoChannel | VisitRefused::NoIncident => unreachable!(),
+        VisitRefused::Fault => ExportRefused::Fault,
+        VisitRefused::Damaged { medium, offset } => ExportRefused::Damaged { medium, offset },
+        VisitRefused::Output => ExportRefused::Output,
+        VisitRefused::Own(refused) => refused,
     }
 }

@@ -14,7 +14,7 @@ use crate::wave::WaveSize;
 use vdr_entry::Record;
 use vdr_outside::Sink;
 use vdr_pcm::PcmFrame;
-use vdr_visit::{Visitor, VisitorStop};
+use vdr_visit::{Visitor, VisitorRefused};
 
 /// The most bytes of sound that a file has.
 const MOST_BYTES: u64 = 4_294_967_258;
@@ -119,17 +119,17 @@ impl Visitor for Hearing {
         &mut self,
         item: &Record,
         _out: &mut O,
-    ) -> Result<(), VisitorStop<ExportRefused>> {
+    ) -> Result<(), VisitorRefused<ExportRefused>> {
         let Some(frame) = heard_in(item, self.microphone) else {
             return Ok(());
         };
         match self.sizing.hear(item.place, &frame) {
             Ok(()) => Ok(()),
-            Err(refused) => Err(VisitorStop::Own(refused)),
+            Err(refused) => Err(VisitorRefused::Own(refused)),
         }
     }
 
-    fn finish<O: Sink>(&mut self, _out: &mut O) -> Result<(), VisitorStop<ExportRefused>> {
+    fn finish<O: Sink>(&mut self, _out: &mut O) -> Result<(), VisitorRefused<ExportRefused>> {
         Ok(())
     }
 }

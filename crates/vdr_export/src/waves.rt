@@ -7,7 +7,7 @@ ghost use Rattle.vdr_outside.specs.Writes.{AppendsFront};
 ghost use Rattle.vdr_entry.specs.Queries.{asked};
 ghost use Rattle.vdr_ring.specs.Sequence.{Placed};
 ghost use Rattle.vdr_vault.specs.Vaults.{IsReadable};
-ghost use Rattle.vdr_visit.specs.Stops.{HasOutputCause};
+ghost use Rattle.vdr_visit.specs.Refusals.{HasOutputCause};
 ghost use Rattle.vdr_recorder.specs.Looks.{HasLooked};
 ghost use Rattle.vdr_export.specs.Asked.{MayBeAsked};
 ghost use Rattle.vdr_export.specs.Answers.{AnswersOrFails, IsSizeRefusal, IsWriteRefusal, OkOrFails, size_of};
@@ -22,7 +22,7 @@ use crate::wave::{WaveSize, header_of};
 use crate::writing::Writing;
 use vdr_entry::Query;
 use vdr_outside::{Media, Sink, write_all};
-use vdr_recorder::Recording;
+use vdr_recorder::Recorder;
 
 /// The rate and the size of the sound that a query selects of a microphone (IEC 61996-1 asks that bridge audio be recorded; its frames are
 /// this project's profile). Takes no memory. The query's channel is configured, and its incident is live, where it asks for one.
@@ -32,21 +32,21 @@ use vdr_recorder::Recording;
 ///
 /// `Nothing`, `Mixed` and `Long` come exactly in their cases, in this order. `Damaged` never comes of media that hold what was recorded.
 pub fn wave_size<M: Media>(
-    recording: &mut Recording,
+    recorder: &mut Recorder,
     media: &mut M,
     query: &Query,
     microphone: u8,
 ) -> Result<WaveSize, ExportRefused>
-    requires asked { MayBeAsked query.now recording.old (M.disk media.old).sizes }
-    ensures size { (opening : Opening) (events : List Event) (placed : ℕ → List Placed) → M.tells → IsReadable opening events recording.old.members placed (M.disk media.old)
+    requires asked { MayBeAsked query.now recorder.old (M.disk media.old).sizes }
+    ensures size { (opening : Opening) (events : List Event) (placed : ℕ → List Placed) → M.tells → IsReadable opening events recorder.old.vault placed (M.disk media.old)
         → AnswersOrFails (size_of (heard microphone (selected opening events (asked query.now)))) result }
     ensures legal { IfOk result IsWaveSize }
     ensures own { IfErr result IsSizeRefusal }
-    ensures failed { recording.old.members.failed ≡ true → (result ≡ Err AFault) × (recording.new ≡ recording.old) × (media.new ≡ media.old) }
-    ensures looked { HasLooked (asked query.now) recording.old recording.new (M.disk media.old) (M.disk media.new) (M.bytes_read media.old) (M.bytes_read media.new) (M.faults media.old) (M.faults media.new) (result ≡ Err AFault) }
+    ensures failed { recorder.old.vault.failed ≡ true → (result ≡ Err AFault) × (recorder.new ≡ recorder.old) × (media.new ≡ media.old) }
+    ensures looked { HasLooked (asked query.now) recorder.old recorder.new (M.disk media.old) (M.disk media.new) (M.bytes_read media.old) (M.bytes_read media.new) (M.faults media.old) (M.faults media.new) (result ≡ Err AFault) }
 {
     let mut hearing = Hearing::new(microphone);
-    if let Err(stop) = recording.visit(media, query, &mut hearing, &mut Nowhere) {
+    if let Err(stop) = recorder.visit(media, query, &mut hearing, &mut Nowhere) {
         return Err(refusal_of(stop));
     }
     hearing.sizing.size()
@@ -58,29 +58,29 @@ pub fn wave_size<M: Media>(
 ///
 /// Where a read or a write fails, a front of the file is written.
 pub fn write_wave<M: Media, O: Sink>(
-    recording: &mut Recording,
+    recorder: &mut Recorder,
     media: &mut M,
     query: &Query,
     microphone: u8,
     size: &WaveSize,
     out: &mut O,
 ) -> Result<(), ExportRefused>
-    requires asked { MayBeAsked query.now recording.old (M.disk media.old).sizes }
+    requires asked { MayBeAsked query.now recorder.old (M.disk media.old).sizes }
     requires size { IsWaveSize size.now }
-    ensures written { (opening : Opening) (events : List Event) (placed : ℕ → List Placed) → M.tells → IsReadable opening events recording.old.members placed (M.disk media.old)
+    ensures written { (opening : Opening) (events : List Event) (placed : ℕ → List Placed) → M.tells → IsReadable opening events recorder.old.vault placed (M.disk media.old)
         → OnOk result (Appends (O.taken out.old) (O.taken out.new) (wave_file size.now (frames_of (heard microphone (selected opening events (asked query.now)))))) }
-    ensures front { (opening : Opening) (events : List Event) (placed : ℕ → List Placed) → M.tells → IsReadable opening events recording.old.members placed (M.disk media.old)
+    ensures front { (opening : Opening) (events : List Event) (placed : ℕ → List Placed) → M.tells → IsReadable opening events recorder.old.vault placed (M.disk media.old)
         → AppendsFront (O.taken out.old) (O.taken out.new) (wave_file size.now (frames_of (heard microphone (selected opening events (asked query.now))))) }
-    ensures undamaged { (opening : Opening) (events : List Event) (placed : ℕ → List Placed) → M.tells → IsReadable opening events recording.old.members placed (M.disk media.old) → OkOrFails result }
+    ensures undamaged { (opening : Opening) (events : List Event) (placed : ℕ → List Placed) → M.tells → IsReadable opening events recorder.old.vault placed (M.disk media.old) → OkOrFails result }
     ensures own { IfErr result IsWriteRefusal }
-    ensures looked { HasLooked (asked query.now) recording.old recording.new (M.disk media.old) (M.disk media.new) (M.bytes_read media.old) (M.bytes_read media.new) (M.faults media.old) (M.faults media.new) (result ≡ Err AFault) }
+    ensures looked { HasLooked (asked query.now) recorder.old recorder.new (M.disk media.old) (M.disk media.new) (M.bytes_read media.old) (M.bytes_read media.new) (M.faults media.old) (M.faults media.new) (result ≡ Err AFault) }
     ensures output { HasOutputCause (O.faults out.old) (O.faults out.new) (result ≡ Err Output) }
 {
     let Ok(()) = write_all(out, header_of(size).as_slice()) else {
         return Err(ExportRefused::Output);
     };
     let mut writing = Writing::new(microphone);
-    if let Err(stop) = recording.visit(media, query, &mut writing, out) {
+    if let Err(stop) = recorder.visit(media, query, &mut writing, out) {
         return Err(refusal_of(stop));
     }
     Ok(())

@@ -15,7 +15,7 @@ use crate::silence::write_silence;
 use vdr_entry::Record;
 use vdr_outside::{Failed, Sink, write_all};
 use vdr_pcm::PcmFrame;
-use vdr_visit::{Visitor, VisitorStop};
+use vdr_visit::{Visitor, VisitorRefused};
 
 // Writes a frame's samples, and before them silence where samples are missing.
 fn write_frame<O: Sink>(
@@ -69,7 +69,7 @@ impl Visitor for Writing {
         &mut self,
         item: &Record,
         out: &mut O,
-    ) -> Result<(), VisitorStop<ExportRefused>> {
+    ) -> Result<(), VisitorRefused<ExportRefused>> {
         let Some(frame) = heard_in(item, self.microphone) else {
             return Ok(());
         };
@@ -78,7 +78,7 @@ impl Visitor for Writing {
         Ok(())
     }
 
-    fn finish<O: Sink>(&mut self, _out: &mut O) -> Result<(), VisitorStop<ExportRefused>> {
+    fn finish<O: Sink>(&mut self, _out: &mut O) -> Result<(), VisitorRefused<ExportRefused>> {
         Ok(())
     }
 }

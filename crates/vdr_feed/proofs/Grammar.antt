@@ -3,7 +3,7 @@ use Rattle.std.proofs.Common.{◌≡◌, ◌≤◌, ◌<◌, ◌+◌, ◌^◌, �
 use Rattle.std.specs.Prelude.{nat_le, nat_lt}
 use Rattle.std.specs.Int.{to_le_bytes, from_le_bytes}
 use Rattle.std.specs.Io.KnownBytes.{Consumes, IsAtEnd}
-use Rattle.std.proofs.lemmas.Bool.{le-leb, lt-leb, leb-false, ltb-false}
+use Rattle.std.proofs.lemmas.Bool.{le-leb, lt-leb, leb-false, ltb-false, or_parts}
 use Rattle.std.proofs.lemmas.List.{drop-append-le, take-append-le, take-append-drop, length-drop, length-take-le, length-append, append_assoc, drop-drop, take_all}
 use Rattle.std.proofs.lemmas.Nat.{le_bytes_8, le_bytes_2}
 use Rattle.vdr_terms.specs.Records.{FeedItem}
@@ -65,17 +65,11 @@ cond_none true n o e = absurd (some_is e) where
   some_is h = cc
 cond_none false n o e = (refl, e)
 
-or_false : (a b : Bool) → (a || b) ≡ false → (a ≡ false) × (b ≡ false)
-or_false true b e = absurd (true_is e) where
-  true_is : true ≡ false → ⊥
-  true_is h = cc
-or_false false b e = (refl, e)
-
 pub number_legal : (floor group received utc : ℕ) → number_fault floor group received utc ≡ None
     → (group ≤ 15) × (floor ≤ received) × (received < 2 ^ 48) × (utc ≤ last_stamp)
 number_legal floor group received utc e =
     let range = cond_none (nat_le (2 ^ 48) received || nat_lt last_stamp utc) 3 _ e in
-    let parts = or_false (nat_le (2 ^ 48) received) (nat_lt last_stamp utc) range.0 in
+    let parts = or_parts (nat_le (2 ^ 48) received) (nat_lt last_stamp utc) range.0 in
     let known = cond_none (nat_lt 15 group) 4 _ range.1 in
     let order = cond_none (nat_lt received floor) 5 None known.1 in
     (ltb-false 15 group known.0, ltb-false received floor order.0, leb-false (2 ^ 48) received parts.0, ltb-false last_stamp utc parts.1)

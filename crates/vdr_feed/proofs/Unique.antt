@@ -41,10 +41,10 @@ unique limit count floor (i ∷ is) (j ∷ js) rest more a b l m p q e =
     ((λ k. here.0 k ∷ later.0 k), later.1)
 
 -- what is reached behind the header
-behind : (limit : ℕ) (bytes : List ℕ) (items : List FeedItem) (rest : List ℕ) → Reaches limit bytes items rest → drop 8 bytes ≡ flat_map spelling items ++ rest
+pub behind : (limit : ℕ) (bytes : List ℕ) (items : List FeedItem) (rest : List ℕ) → Reaches limit bytes items rest → drop 8 bytes ≡ flat_map spelling items ++ rest
 behind limit bytes items rest r = ap (λ (xs : List ℕ). drop 8 xs) (r.spelled ∙ append_assoc feed_header (flat_map spelling items) rest)
 
-begins : (limit : ℕ) (bytes : List ℕ) (items : List FeedItem) (rest : List ℕ) → Reaches limit bytes items rest → take 8 bytes ≡ feed_header
+pub begins : (limit : ℕ) (bytes : List ℕ) (items : List FeedItem) (rest : List ℕ) → Reaches limit bytes items rest → take 8 bytes ≡ feed_header
 begins limit bytes items rest r = ap (λ (xs : List ℕ). take 8 xs) (r.spelled ∙ append_assoc feed_header (flat_map spelling items) rest)
 
 both : (limit : ℕ) (bytes : List ℕ) (items others : List FeedItem) (rest more : List ℕ) → Reaches limit bytes items rest → Reaches limit bytes others more

@@ -7,10 +7,6 @@ use Rattle.vdr_feed.specs.Feed.{AreItems, fault_of, feed, received_after}
 use Rattle.vdr_feed.specs.declared.fault.FeedFault.{FeedFault}
 use Rattle.vdr_feed.specs.declared.fault.FeedFault.TheVariants.{Fault}
 
--- Fewer than so many of the bytes left were read.
-abbrev pub ReadsFewer : ℕ → (left now : Option (List ℕ)) → Type 0
-ReadsFewer n left now = (part : List ℕ) × (length part < n) × Consumes left now part
-
 -- The bytes are none, or so few of an item that may stand here that it goes on behind them.
 abbrev pub IsPartOfItem : (limit count floor : ℕ) → List ℕ → Type 0
 IsPartOfItem limit count floor part = (part ≡ []) ⊎ (fault_of limit count floor part ≡ Some 2)

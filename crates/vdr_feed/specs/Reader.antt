@@ -4,8 +4,8 @@ use Rattle.std.specs.Io.KnownBytes.{Consumes, IsAtEnd}
 use Rattle.vdr_terms.specs.Records.{FeedItem}
 use Rattle.vdr_feed.specs.declared.fault.FeedFault.{FeedFault}
 use Rattle.vdr_feed.specs.declared.fault.FeedFault.TheVariants.{Fault, Refused}
-use Rattle.vdr_feed.specs.declared.fault.Stop.{Stop}
-use Rattle.vdr_feed.specs.declared.fault.Stop.TheVariants.{Failed as StopFailed, Refused as StopRefused}
+use Rattle.vdr_feed.specs.declared.fault.ItemRefused.{ItemRefused}
+use Rattle.vdr_feed.specs.declared.fault.ItemRefused.TheVariants.{Failed as ReadFailed, Illegal}
 use Rattle.vdr_feed.specs.declared.item.Item.{Item}
 use Rattle.vdr_feed.specs.Feed.{spelling, IsItem}
 use Rattle.vdr_feed.specs.Kept.{Holds}
@@ -66,8 +66,8 @@ IfRefused (Ok x) P = ⊤
 IfRefused (Err Fault) P = ⊤
 IfRefused (Err (Refused number offset)) P = P number offset
 
--- the same of a stop that has no offset yet
-abbrev pub IfStopped : {T : Type 0} → Result T Stop → (ℕ → Type 0) → Type 0
-IfStopped (Ok x) P = ⊤
-IfStopped (Err StopFailed) P = ⊤
-IfStopped (Err (StopRefused number)) P = P number
+-- the same of an item, before it has its offset
+abbrev pub IfIllegal : {T : Type 0} → Result T ItemRefused → (ℕ → Type 0) → Type 0
+IfIllegal (Ok x) P = ⊤
+IfIllegal (Err ReadFailed) P = ⊤
+IfIllegal (Err (Illegal number)) P = P number

@@ -3,11 +3,10 @@ ghost use Rattle.std.specs.Prelude.{◌≡◌, ◌≤◌, ◌<◌, ℕ, List, []
 ghost use Rattle.std.specs.Io.KnownBytes.{Consumes, IsAtEnd};
 ghost use Rattle.vdr_outside.specs.Causes.{HasCause};
 ghost use Rattle.vdr_feed.specs.Body.{ReadsBody};
-ghost use Rattle.vdr_feed.specs.Failing.{ReadsFewer};
+ghost use Rattle.vdr_outside.specs.Filling.{ReadsFewer};
 
-use crate::filling::fill;
 use arrayvec::ArrayVec;
-use vdr_outside::{Failed, Source};
+use vdr_outside::{Failed, Source, fill};
 
 /// The most bytes of a body that are kept.
 pub(crate) const KEPT: usize = 1473;

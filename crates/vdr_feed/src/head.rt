@@ -2,17 +2,14 @@
 ghost use Rattle.std.specs.Prelude.{◌≡◌, ◌≤◌, ◌<◌, ◌^◌, ◌≢◌, true, false, ℕ, List, take, length, IfOk, OnErr};
 ghost use Rattle.std.specs.Io.KnownBytes.{Consumes};
 ghost use Rattle.vdr_outside.specs.Causes.{HasCause};
-ghost use Rattle.vdr_feed.specs.Failing.{ReadsFewer};
+ghost use Rattle.vdr_outside.specs.Filling.{ReadsFewer};
 ghost use Rattle.vdr_feed.specs.Reader.{IfKnown};
 ghost use Rattle.std.specs.Int.{w16, w64, from_le_bytes};
 ghost use Rattle.vdr_terms.specs.Legality.{IsBytes};
 ghost use Rattle.vdr_feed.specs.Feed.{group_in, received_in, utc_in, length_in, head_fault, feed_header};
 
-use crate::filling::fill;
-use vdr_outside::{Failed, Source};
-
-/// The last millisecond of the year 9999.
-const LAST_STAMP: u64 = 253_402_300_799_999;
+use vdr_outside::{Failed, Source, fill};
+use vdr_terms::LAST_STAMP;
 
 const RECEIVED_END: u64 = 1 << 48;
 
@@ -57,7 +54,7 @@ pub(crate) fn fault_of_head(head: &[u8], floor: u64) -> Option<u8>
     ensures bytes { IsBytes head.now }
 {
     let received = received_of(head);
-    if received >= RECEIVED_END || utc_of(head) > LAST_STAMP {
+    if received >= RECEIVED_END || utc_of(head) > LAST_STAMP as u64 {
         return Some(3);
     }
     if head[0] > 15 {

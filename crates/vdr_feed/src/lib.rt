@@ -5,7 +5,6 @@
 
 mod body;
 mod fault;
-mod filling;
 mod head;
 mod item;
 mod law;
@@ -14,7 +13,6 @@ mod reader;
 mod trial;
 
 pub use fault::FeedFault;
-pub use filling::fill;
 pub use item::Item;
 pub use law::law_of_feeds;
 pub use reader::{FeedReader, LONGEST_FEED};

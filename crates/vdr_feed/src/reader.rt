@@ -1,12 +1,13 @@
 ghost use Rattle.std.specs.Prelude.{◌≡◌, ◌≢◌, ◌≤◌, ◌<◌, ◌^◌, true, false, None, Some, Err, ℕ, List, length, take, IfOk, IfErr, OnOk, IsErrOf};
 ghost use Rattle.std.specs.Io.KnownBytes.{Consumes};
-ghost use Rattle.vdr_feed.specs.Failing.{HasReadCause, ReadsFewer, ReadsPart};
+ghost use Rattle.vdr_feed.specs.Failing.{HasReadCause, ReadsPart};
+ghost use Rattle.vdr_outside.specs.Filling.{ReadsFewer};
 ghost use Rattle.vdr_feed.specs.Feed.{feed_header, fault_of};
 ghost use Rattle.vdr_feed.specs.declared.fault.FeedFault.{FeedFault as Stopped};
 ghost use Rattle.vdr_feed.specs.declared.fault.FeedFault.TheVariants.{Fault};
 
 use crate::body::KEPT;
-use crate::fault::Stop;
+use crate::fault::ItemRefused;
 use crate::head::read_header;
 use crate::next::read_item;
 use crate::{FeedFault, Item};
@@ -137,7 +138,7 @@ impl FeedReader {
                 Ok(true)
             }
             Ok(None) => Ok(false),
-            Err(Stop::Refused(number)) => {
+            Err(ItemRefused::Illegal(number)) => {
                 let refused = FeedFault::Refused {
                     number,
                     offset: self.offset,
@@ -145,7 +146,7 @@ impl FeedReader {
                 self.stopped = Some(refused);
                 Err(refused)
             }
-            Err(Stop::Failed) => {
+            Err(ItemRefused::Failed) => {
                 self.stopped = Some(FeedFault::Fault);
                 Err(FeedFault::Fault)
             }

@@ -1,7 +1,8 @@
 ghost use Rattle.std.specs.Prelude.{◌≡◌};
 
 use std::test::Fail;
-use vdr_gap::{Counts, Pending, Tally};
+use vdr_gap::{Pending, Tally};
+use vdr_terms::Counts;
 
 fn counts(full: u64, rate: u64, bad: u64, large: u64) -> Counts
     ensures { result ≡ record { full = full; rate = rate; bad = bad; large = large } }

@@ -4,10 +4,10 @@ use arrayvec::ArrayVec;
 use std::process::Abort;
 use std::test::Fail;
 use vdr_entry::{
-    Content, Counts, Kind, Record, RecordBuffer, law_of_stamps, one_spelling, put_record,
-    read_record, read_utc, record_at, write_record, write_utc,
+    Content, Kind, Record, RecordBuffer, law_of_stamps, one_spelling, put_record, read_record,
+    read_utc, record_at, write_record, write_utc,
 };
-use vdr_terms::{Verdict, recordable};
+use vdr_terms::{Counts, Verdict, recordable};
 
 /// Seconds since 1970 and their texts, as `date -u` of GNU coreutils prints them.
 const UTC: [(i64, &str); 8] = [

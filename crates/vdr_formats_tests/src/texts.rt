@@ -4,9 +4,10 @@ ghost use Rattle.vdr_terms.specs.Datagrams.{verdict};
 ghost use Rattle.vdr_terms.specs.Stamps.{IsStamp};
 
 use arrayvec::ArrayVec;
-use vdr_entry::{Counts, Record};
+use vdr_entry::Record;
 use vdr_outside::{Failed, Sink};
 use vdr_play::{Tracks, print_escaped, print_record};
+use vdr_terms::Counts;
 
 /// A sink that takes one byte a call, and fails from the call on that `room` says.
 #[derive(Drop)]

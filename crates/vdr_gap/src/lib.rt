@@ -6,4 +6,3 @@ mod tally;
 
 pub use pending::Pending;
 pub use tally::Tally;
-pub use vdr_terms::Counts;

@@ -1,6 +1,6 @@
 -- The header of an image datagram (this project's profile; it is not the binary header of IEC 61162-450).
-use Rattle.std.specs.Prelude.{◌≡◌, ◌<◌, ◌≤◌, ◌^◌, ◌&&◌, ◌==◌, ℕ, Bool, true, List, length, nat_le}
-use Rattle.std.specs.List.{list_all}
+use Rattle.std.specs.Prelude.{◌≡◌, ◌<◌, ◌≤◌, ◌^◌, ◌&&◌, ◌==◌, ℕ, Bool, true, List, length}
+use Rattle.vdr_terms.specs.Texts.{are_graphic}
 
 -- A part of an image: who sends it to whom, the number of its block, its own sequence number and the greatest of the block, and its data.
 pub record Header : Type 0 where
@@ -13,7 +13,7 @@ pub record Header : Type 0 where
 
 -- Six bytes of 0x21 to 0x7E, as the system function identifier `EI0001` of IEC 61162-450.
 abbrev pub is_identifier : List ℕ → Bool
-is_identifier text = (length text == 6) && list_all (λ b. nat_le 0x21 b && nat_le b 0x7E) text
+is_identifier text = (length text == 6) && are_graphic text
 
 -- A header of the profile.
 pub record IsHeader (h : Header) : Type 0 where

@@ -1,11 +1,11 @@
 ghost use Rattle.std.specs.Prelude.{◌≡◌, ◌≤◌, ◌&&◌, option_map, length, nat_le, IfSome, IfNone};
-ghost use Rattle.std.specs.List.{list_all};
 ghost use Rattle.vdr_image.specs.Headers.{Header, is_identifier};
 ghost use Rattle.vdr_image.specs.Images.{IsImage, has_image_token, header_at, image_in, is_header, is_image, is_numbered};
 ghost use Rattle.vdr_image.specs.Views.{header_of};
 
 use crate::header::ImageHeader;
 use vdr_bytes::{u16_at, u32_at};
+use vdr_terms::are_graphic;
 
 /// The size of a header with its token, in bytes.
 const HEADER_SIZE: usize = 32;
@@ -23,16 +23,10 @@ fn has_image_token(bytes: &[u8]) -> bool
     bytes.starts_with(b"RaUdP\0") || bytes.starts_with(b"RrUdP\0")
 }
 
-fn are_printable(text: &[u8]) -> bool
-    ensures { result ≡ list_all (λ b. nat_le 0x21 b && nat_le b 0x7E) text.now }
-{
-    text.iter().all(|byte| *byte >= 0x21 && *byte <= 0x7E)
-}
-
 fn is_identifier(text: &[u8]) -> bool
     ensures { result ≡ is_identifier text.now }
 {
-    text.len() == 6 && are_printable(text)
+    text.len() == 6 && are_graphic(text)
 }
 
 fn is_numbered(sequence: u32, greatest: u32) -> bool

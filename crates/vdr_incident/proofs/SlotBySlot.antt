@@ -5,13 +5,10 @@ use Rattle.vdr_outside.specs.Causes.{counted}
 use Rattle.vdr_outside.specs.Disk.{Disk, content}
 use Rattle.vdr_outside.specs.Parts.{part}
 use Rattle.vdr_outside.proofs.Moments.{size_read}
+use Rattle.vdr_terms.proofs.Results.{same_err}
 use Rattle.vdr_incident.specs.Saves.{IsIncidentSlot}
 use Rattle.vdr_incident.specs.Tables.{HasIncidents, HoldsTable, ReadsSlots, counted_slots, place_of}
 use Rattle.vdr_incident.proofs.Holding.{holds_none, holds_more}
-
--- one error of two results
-pub same_err : {T U E : Type 0} (e f : E) → ◌≡◌ {A = Result T E} (Err e) (Err f) → ◌≡◌ {A = Result U E} (Err e) (Err f)
-same_err e f is = cc
 
 pub counted_more : (before mid now : List ℕ) (n : ℕ) → mid ≡ counted_slots before n → now ≡ counted mid 1 256 → now ≡ counted_slots before (n + 1)
 counted_more before mid now n is more =

@@ -12,7 +12,9 @@ use Rattle.vdr_bytes.specs.Numbers.{le_u64s, u64_at, Puts}
 use Rattle.vdr_bytes.proofs.NumberLemmas.{cut, take-front, part_long}
 use Rattle.vdr_bytes.proofs.PutsLemmas.{length-le_u64s, puts-more}
 use Rattle.vdr_segment.proofs.NumberListLemmas.{u64s_at, spelled_u64s, read_u64s}
-use Rattle.vdr_incident.specs.Saves.{is_label, IsSave, SpellsSave, save_bytes}
+use Rattle.vdr_terms.specs.Texts.{is_label}
+use Rattle.vdr_terms.proofs.Stamping.{stamp_kept}
+use Rattle.vdr_incident.specs.Saves.{IsSave, SpellsSave, save_bytes}
 use Rattle.vdr_incident.specs.Fields.{AreInRange, HasLabel, label_in, label_size}
 
 -- The fields that the bytes of a slot have, where a save stands behind the gate.
@@ -95,11 +97,6 @@ save_read bytes label a b tick utc z are_bytes long p q r t fits is_z is has ran
     same_four a b c d a' b' c' d' p q r t = cc
 
 -- A save that is written
-
-pub stamp_kept : (utc : ℤ) → IsStamp utc → to_z w64 (of_z w64 utc) ≡ utc
-stamp_kept utc stamp =
-    let small : unsigned_abs utc < 2 ^ 63 = omega (arith, stamp.in_time) in
-    ap (λ (z : ℤ). to_z w64 (of_z w64 z)) stamp.whole ∙ to_z_pos w64 (unsigned_abs utc) small ∙ sym stamp.whole
 
 -- the three writes of its bytes
 pub save_put : (x : Incident) (stamp size : ℕ) (label z b1 b2 b3 : List ℕ) → IsSave x → stamp ≡ unsigned_abs x.stamp.utc → label ≡ x.label → size ≡ length label → length z ≡ 97

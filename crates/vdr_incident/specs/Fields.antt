@@ -1,7 +1,7 @@
 -- The fields of an incident slot, as a reader meets them. No public clause cites them.
 use Rattle.std.specs.Prelude.{◌≡◌, ◌<◌, ◌≤◌, ◌^◌, ℕ, true, List, slice_index, take, drop}
 use Rattle.vdr_terms.specs.Stamps.{last_stamp}
-use Rattle.vdr_incident.specs.Saves.{is_label}
+use Rattle.vdr_terms.specs.Texts.{is_label}
 
 abbrev pub label_size : List ℕ → ℕ
 label_size bytes = slice_index bytes 33

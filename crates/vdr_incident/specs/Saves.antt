@@ -4,16 +4,12 @@
 --   17 to 32  its stamp: the tick, and UTC in milliseconds since 1970
 --   33        the length of its label
 --   34 on     the label; what stands behind it is unread
-use Rattle.std.specs.Prelude.{◌≡◌, ◌<◌, ◌≤◌, ◌^◌, ◌&&◌, nat_le, ℕ, Bool, true, List, [], ◌∷◌, ◌++◌, length, drop, unsigned_abs, Option, Some, None}
-use Rattle.std.specs.List.{list_all}
+use Rattle.std.specs.Prelude.{◌≡◌, ◌<◌, ◌≤◌, ◌^◌, ℕ, Bool, true, List, [], ◌∷◌, ◌++◌, length, drop, unsigned_abs, Option, Some, None}
+use Rattle.vdr_terms.specs.Texts.{is_label}
 use Rattle.vdr_terms.specs.Stamps.{IsStamp}
 use Rattle.vdr_history.specs.Histories.{Incident}
 use Rattle.vdr_bytes.specs.Numbers.{le_u64s}
 use Rattle.vdr_segment.specs.Gates.{IsOpenAt}
-
--- A label has 1 to 64 bytes from 0x20 to 0x7E.
-abbrev pub is_label : List ℕ → Bool
-is_label label = nat_le 1 (length label) && (nat_le (length label) 64 && list_all (λ b. nat_le 32 b && nat_le b 126) label)
 
 -- What a save may be.
 pub record IsSave (x : Incident) : Type 0 where

@@ -1,13 +1,14 @@
 ghost use Rattle.std.specs.Prelude.{◌≡◌, ◌≤◌, ◌↔◌, ◌&&◌, nat_le, Option, length, drop, IsTrue, IfSome, IfNone};
-ghost use Rattle.std.specs.List.{list_all};
 ghost use Rattle.vdr_history.specs.Histories.{Incident};
-ghost use Rattle.vdr_incident.specs.Saves.{is_label, IsIncidentSlot, IsSave, SpellsSave};
+ghost use Rattle.vdr_terms.specs.Texts.{is_label};
+ghost use Rattle.vdr_incident.specs.Saves.{IsIncidentSlot, IsSave, SpellsSave};
 ghost use Rattle.vdr_incident.specs.Fields.{AreInRange, HasLabel, label_in};
 
 use arrayvec::ArrayVec;
 use std::marker::Model;
 use vdr_bytes::{put, put_u64s, u64_at};
 use vdr_segment::OPEN_GATE;
+use vdr_terms::{LAST_STAMP, are_printable};
 
 /// How many bytes an incident slot takes.
 pub(crate) const SLOT_SIZE: usize = 256;
@@ -17,9 +18,6 @@ pub(crate) const BODY_SIZE: usize = 97;
 
 // The longest label.
 const LABEL_MAX: usize = 64;
-
-// The last millisecond of the year 9999.
-const LAST_STAMP: u64 = 253_402_300_799_999;
 
 /// An incident save (this project's profile). Its type keeps that the label is legal, that `a` is at most `b`, and that tick
 /// and utc are a stamp of a record.
@@ -109,12 +107,6 @@ impl Save {
     }
 }
 
-fn are_printable(label: &[u8]) -> bool
-    ensures { result ≡ list_all (λ b. nat_le 0x20 b && nat_le b 0x7E) label.now }
-{
-    label.iter().all(|byte| *byte >= 0x20 && *byte <= 0x7E)
-}
-
 /// Whether a label is legal: 1 to 64 bytes of 0x20 to 0x7E.
 pub fn is_label(label: &[u8]) -> bool
     ensures { result ≡ is_label label.now }
@@ -125,7 +117,7 @@ pub fn is_label(label: &[u8]) -> bool
 fn are_in_range(a: u64, b: u64, tick: u64, utc: u64) -> bool
     ensures { IsTrue result ↔ AreInRange a b tick utc }
 {
-    a <= b && tick < 1 << 63 && utc <= LAST_STAMP
+    a <= b && tick < 1 << 63 && utc <= LAST_STAMP as u64
 }
 
 // The label in a slot's bytes, where it is legal.

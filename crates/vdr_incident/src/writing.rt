@@ -6,21 +6,18 @@ ghost use Rattle.vdr_outside.specs.Moments.{ChangesOnly, Settled};
 ghost use Rattle.vdr_incident.specs.Tables.{HasIncidents, HoldsTable, HoldsBeside, HoldsEither, place_of};
 
 use crate::Save;
-use crate::save::SLOT_SIZE;
 use vdr_outside::{Fault, Media, write_through};
 use vdr_segment::{CLOSED_GATE, OPEN_GATE};
+use vdr_terms::{INCIDENT_SIZE, INCIDENTS_FROM};
 
 /// The number of the long-term medium.
 pub(crate) const LONG_TERM: u8 = 1;
-
-// Where the first incident slot begins.
-const SLOTS_FROM: u64 = 4_096;
 
 /// Where an incident slot begins on its medium, in bytes.
 pub(crate) fn place_of(slot: u8) -> u64
     ensures { result ≡ place_of slot }
 {
-    SLOTS_FROM + slot as u64 * SLOT_SIZE as u64
+    INCIDENTS_FROM + slot as u64 * INCIDENT_SIZE
 }
 
 /// Writes a save into a closed slot: what stands behind the gate, and syncs; then the open gate, and syncs.

@@ -13,4 +13,3 @@ pub use buffer::CapturedBuffer;
 pub use ends::{Feeder, Taker};
 pub use intake::{Intake, NoMemory};
 pub use item::Captured;
-pub use vdr_terms::Counts;

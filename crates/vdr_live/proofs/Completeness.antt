@@ -101,7 +101,7 @@ module _ {tells tells_images : Type 0} (turns : ℕ) (ports_old ports_new : List
     -- By exclusion
     module _ (told : tells) (law : OneAnswer old.disk.reads) (output : OutputFailed was next → ⊥) (media : MediaFailed old new → ⊥) (ports : NoPortFailed ports_old ports_new) (links : NoLinkFailed links_old links_new) where
       means : (o : Outcome) → end.outcome ≡ o → (x : Contents) → HoldsContents old.disk.reads x → WasRecorded x → OutcomeMeans (opening_of x) o
-      means o is x holds sound = subst (λ (o : Outcome). OutcomeMeans (opening_of x) o) is (ends.recorded x told holds sound).means
+      means o is x holds sound = subst (λ (o : Outcome). OutcomeMeans (opening_of x) o) is (ends.recorded x told holds sound).told.means
 
       too_high : (n : ℕ) → 2 ^ 62 ≤ n → n < 2 ^ 62 → ⊥
       too_high n high low = omega (arith, high, low)

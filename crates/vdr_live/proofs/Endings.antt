@@ -13,7 +13,7 @@ use Rattle.vdr_opening.specs.Media.{both, Contents, HoldsContents, opening_of, r
 use Rattle.vdr_vault.specs.Calls.{SameElsewhere}
 use Rattle.vdr_vault.specs.Openings.{OpensAtEachMoment}
 use Rattle.vdr_vault.specs.Vaults.{ShowsHistory}
-use Rattle.vdr_recorder.specs.Recordings.{HasRecorded, RecordingState, start_of_opening}
+use Rattle.vdr_recorder.specs.Recordings.{HasRecorded, RecorderState, start_of_opening}
 use Rattle.vdr_capture.specs.declared.lane.Lane.{Lane}
 use Rattle.vdr_capture.specs.declared.sums.Outcome.TheVariants.{MediaFault, NoMemory}
 use Rattle.vdr_outside.specs.declared.link.Link.{Ghosts as LinkTells}
@@ -22,8 +22,8 @@ use Rattle.vdr_session.specs.declared.mark.Mark.{Mark}
 use Rattle.vdr_session.specs.Desks.{DesksReplied, DesksTold, FailureTold}
 use Rattle.vdr_session.specs.Sessions.{HasGroups, HasSessionCause, RecordsSession, SessionWith}
 use Rattle.vdr_session.specs.declared.session.SessionEnd.{SessionEnd}
-use Rattle.vdr_replay.proofs.Headlines.{passes_opened}
-use Rattle.vdr_replay.proofs.Playing.{config_read}
+use Rattle.vdr_headline.proofs.Passing.{passes_opened}
+use Rattle.vdr_headline.proofs.Playing.{config_read}
 use Rattle.vdr_command.specs.Opened.{WasRecorded}
 use Rattle.vdr_command.specs.Outside.{MediaSeen}
 use Rattle.vdr_live.specs.Links.{AreReplied, seen_links}
@@ -37,17 +37,17 @@ use Rattle.vdr_live.proofs.PortLemmas.{asks_ports, unasked}
 pub same_twice : (old mid new : Image) → SameElsewhere old mid → SameElsewhere mid new → SameElsewhere old new
 same_twice old mid new first then = λ k a b. then k a b ∙ first k a b
 
-module _ {P L tells tells_images : Type 0} (port_tells : PortTells P) (link_tells : LinkTells L) (turns : ℕ) (lanes_old lanes_new : List (Lane P)) (desks_old desks_new : List (Desk L Mark)) (old mid new : MediaSeen tells tells_images) (r : RecordingState) (end : SessionEnd)
+module _ {P L tells tells_images : Type 0} (port_tells : PortTells P) (link_tells : LinkTells L) (turns : ℕ) (lanes_old lanes_new : List (Lane P)) (desks_old desks_new : List (Desk L Mark)) (old mid new : MediaSeen tells tells_images) (r : RecorderState) (end : SessionEnd)
     (olds : length lanes_old ≡ 16) (news : length lanes_new ≡ 16)
-    (contents : tells → IsFormatted old.disk.reads × (x : Contents) × HoldsContents old.disk.reads x × EndsMeet both (reading_of x) × (r.members.config ≡ x.config))
+    (contents : tells → IsFormatted old.disk.reads × (x : Contents) × HoldsContents old.disk.reads x × EndsMeet both (reading_of x) × (r.vault.config ≡ x.config))
     (one : (x y : Contents) → HoldsContents old.disk.reads x → HoldsContents old.disk.reads y → (x.config ≡ y.config) × (EndsMeet both (reading_of x) → EndsMeet both (reading_of y)))
     (opened : (x : Contents) → tells → HoldsContents old.disk.reads x → WasRecorded x → (t0 : ℕ) × (old.disk.clock ≤ t0) × (t0 ≤ mid.disk.clock) × HasRecorded (opening_of x) [] t0 r mid.disk)
     (moments : (x : Contents) → tells → HoldsContents old.disk.reads x → EndsMeet both (reading_of x) → WasRecorded x
-    → OpensAtEachMoment {T = RecordingState} old.disk mid.disk (Ok r) (ShowsHistory (opening_of x) []))
+    → OpensAtEachMoment {T = RecorderState} old.disk mid.disk (Ok r) (ShowsHistory (opening_of x) []))
     (first_others : tells → SameElsewhere old.disk.reads mid.disk.reads) (first_later : NoneFalls old.faults mid.faults)
-    (session : SessionWith port_tells turns r.members.config.queue r.members.config.groups lanes_old lanes_new r mid.disk new.disk end
-    (DesksReplied link_tells turns r.members.config.channels (Rose (sum mid.faults) (sum new.faults)) end.outcome desks_old desks_new))
-    (desks : DesksTold link_tells turns end.outcome desks_old desks_new) (told : FailureTold end.outcome lanes_new desks_new) (groups : HasGroups r.members.config.groups end)
+    (session : SessionWith port_tells turns r.vault.config.queue r.vault.config.groups lanes_old lanes_new r mid.disk new.disk end
+    (DesksReplied link_tells turns r.vault.config.channels (Rose (sum mid.faults) (sum new.faults)) end.outcome desks_old desks_new))
+    (desks : DesksTold link_tells turns end.outcome desks_old desks_new) (told : FailureTold end.outcome lanes_new desks_new) (groups : HasGroups r.vault.config.groups end)
     (memory : end.outcome ≡ NoMemory → (g : ℕ) (d : Lane P) → g < 16 → (get_or lanes_new g d).port ≡ (get_or lanes_old g d).port)
     (others : tells → SameElsewhere mid.disk.reads new.disk.reads) (cause : HasSessionCause mid.faults new.faults end.outcome) where
   abbrev rose : Type 0
@@ -55,11 +55,11 @@ module _ {P L tells tells_images : Type 0} (port_tells : PortTells P) (link_tell
 
   pub recorded_ends : IsRecorded turns (seen_ports port_tells lanes_old) (seen_ports port_tells lanes_new) (seen_links link_tells desks_old) (seen_links link_tells desks_new) old new end
   recorded_ends = record {
-    rates = r.members.config.groups;
+    rates = r.vault.config.groups;
     began = session.began;
     given = session.given;
     runs = session.runs;
-    ports = λ memory. asks_ports port_tells turns r.members.config.queue session.began r.members.config.groups end.intakes lanes_old lanes_new end.outcome session.given session.rest olds news (session.lanes memory) desks_new told;
+    ports = λ memory. asks_ports port_tells turns r.vault.config.queue session.began r.vault.config.groups end.intakes lanes_old lanes_new end.outcome session.given session.rest olds news (session.lanes memory) desks_new told;
     unasked = λ is. unasked port_tells lanes_old lanes_new olds news (memory is);
     links = asks_links link_tells turns end.outcome lanes_new desks_old desks_new desks told;
     groups = groups;
@@ -71,13 +71,13 @@ module _ {P L tells tells_images : Type 0} (port_tells : PortTells P) (link_tell
         let reads = config_read old.disk.reads x holds in
         let made = session.told t (opening_of x) begun.0 begun.3 in
         headline x reads sound rose begun.0 r old.disk mid.disk new.disk begun.3
-        (passes_opened x [] rose reads sound old.disk mid.disk r (moments x t holds meet sound)) begun.1 begun.2
+        (passes_opened (opening_of x) old.disk mid.disk (Ok r) (moments x t holds meet sound)) begun.1 begun.2
         session.given session.rest session.items session.lost session.feed end made.0 made.1
         (subst (λ (c : Configuration). RecordsSession (start_of_opening (opening_of x)) c.groups c.queue session.given session.rest session.items session.lost end (recorded made.0)) same made.2)
         (subst (λ (c : Configuration). HasGroups c.groups end) same groups) risen
         turns (seen_links link_tells desks_old) (seen_links link_tells desks_new)
         (subst (λ (c : Configuration). AreReplied turns c.channels rose end.outcome (opening_of x) made.0 (seen_links link_tells desks_old) (seen_links link_tells desks_new)) same
-        (are_replied link_tells turns r.members.config.channels (Rose (sum mid.faults) (sum new.faults)) rose end.outcome (opening_of x) made.0 desks_old desks_new desks.as_many since made.3));
+        (are_replied link_tells turns r.vault.config.channels (Rose (sum mid.faults) (sum new.faults)) rose end.outcome (opening_of x) made.0 desks_old desks_new desks.as_many since made.3));
     legible = λ t. let was = contents t in (was.0, was.1, was.2, was.3, ap (λ (c : Configuration). c.groups) (sym was.4));
     others = λ t. same_twice old.disk.reads mid.disk.reads new.disk.reads (first_others t) (others t);
     fault = risen;

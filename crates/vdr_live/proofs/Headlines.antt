@@ -1,28 +1,24 @@
 -- A session on media that were opened, in the words of the headline.
-use Rattle.std.proofs.Common.{◌≡◌, ◌≤◌, ◌<◌, ◌+◌, ◌++◌, ◌&&◌, inl, inr, ⊎_elim, ℕ, true, true≢false, List, [], Contains, get_or, is_some, Option, Some, None, Ok, refl, sym, ap, ◌∙◌, subst, arith}
-use Rattle.vdr_terms.specs.Order.{AreInOrder}
+use Rattle.std.proofs.Common.{◌≡◌, ◌≤◌, ◌<◌, ◌+◌, ◌++◌, ◌&&◌, inl, inr, ⊎_elim, ℕ, true, true≢false, List, [], get_or, is_some, Option, Some, None, Ok, refl, sym, ap, ◌∙◌, subst}
 use Rattle.vdr_terms.specs.declared.counts.Counts.{Counts}
 use Rattle.vdr_terms.specs.declared.rate.Rate.{Rate}
 use Rattle.vdr_terms.specs.Records.{Item, Record}
-use Rattle.vdr_history.specs.Histories.{Event, all_records, recorded}
+use Rattle.vdr_history.specs.Histories.{Event, recorded}
 use Rattle.vdr_history.specs.Runs.{RunStart}
 use Rattle.vdr_history.specs.Sums.{missed_in, recorded_in}
 use Rattle.vdr_history.specs.Taken.{AllFeed, Captured}
 use Rattle.vdr_outside.specs.Disk.{Disk}
 use Rattle.vdr_config.specs.Grammar.{configuration}
 use Rattle.vdr_intake.specs.Ends.{QueueId, Taking}
-use Rattle.vdr_opening.specs.Media.{both, Contents, opening_of}
+use Rattle.vdr_opening.specs.Media.{Contents, opening_of}
 use Rattle.vdr_vault.specs.Regularity.{AreSound}
-use Rattle.vdr_vault.specs.Vaults.{ShowsHistory}
-use Rattle.vdr_recorder.specs.Recordings.{HasRecorded, Passes, RecordingState, start_of_opening}
+use Rattle.vdr_recorder.specs.Recordings.{HasRecorded, Passes, RecorderState, start_of_opening}
 use Rattle.vdr_capture.specs.declared.sums.Outcome.{Outcome}
 use Rattle.vdr_capture.specs.declared.sums.Outcome.TheVariants.{Done, NoMemory, Place, Tick, MediaFault, PortFault, LinkFault}
 use Rattle.vdr_session.specs.Sessions.{HasGroups, KeepsSession, RecordsSession, has_groups, is_closed}
 use Rattle.vdr_session.specs.declared.session.SessionEnd.{SessionEnd}
-use Rattle.vdr_replay.specs.Headline.{PlaysBack}
-use Rattle.vdr_replay.proofs.Headlines.{back, keeps_told, order_after, prefix_told}
-use Rattle.vdr_replay.proofs.Passing.{passes_join}
-use Rattle.vdr_live.specs.Headline.{Headline}
+use Rattle.vdr_headline.proofs.Headlines.{after_opening, order_after}
+use Rattle.vdr_live.specs.Headline.{AccountsForSession, SessionHeadline}
 use Rattle.vdr_live.specs.Links.{AreReplied, LinkSeen}
 
 -- Of a run that was closed there are sums and queues.
@@ -47,35 +43,23 @@ full_held start rates capacity given rest items lost end run s groups closed g s
         let f = s.full closed g intake small is in
         f.held (subst (λ (n : ℕ). 0 < n) f.full some)
 
-module _ {tells tells_images : Type 0} (x : Contents) (reads : configuration x.text ≡ Ok x.config) (sound : AreSound x) (rose : Type 0) (t0 : ℕ) (r : RecordingState)
+module _ {tells tells_images : Type 0} (x : Contents) (reads : configuration x.text ≡ Ok x.config) (sound : AreSound x) (rose : Type 0) (t0 : ℕ) (r : RecorderState)
     (old mid new : Disk tells tells_images) (opened : HasRecorded (opening_of x) [] t0 r mid) (passes : Passes (opening_of x) [] old mid) (entry : old.clock ≤ t0) (exit : t0 ≤ mid.clock) where
   pub headline : (given : ℕ → List Item) (rest : ℕ → Counts) (items lost : List Captured) → AllFeed (items ++ lost) rest given → (end : SessionEnd) (events : List Event)
       → KeepsSession (opening_of x) t0 end.outcome mid new events
       → RecordsSession (start_of_opening (opening_of x)) x.config.groups x.config.queue given rest items lost end (recorded events) → HasGroups x.config.groups end
       → (end.outcome ≡ MediaFault → rose) → (turns : ℕ) (links_old links_new : List LinkSeen) → AreReplied turns x.config.channels rose end.outcome (opening_of x) events links_old links_new
-      → Headline x rose old new given turns links_old links_new end
-  headline given rest items lost feed end events k s groups risen turns links_old links_new replies = record {
-    events = events;
-    history = k.history;
-    order = order;
-    pending = ⊎_elim (λ whole. inl whole) (λ is. inr (is, risen is)) k.pending;
-    means = k.means;
-    items = items;
-    lost = lost;
-    rest = rest;
-    feed = feed;
-    records = s;
-    full = full_held (start_of_opening (opening_of x)) x.config.groups x.config.queue given rest items lost end (recorded events) s groups;
-    replies = replies;
-    since_entry = λ image left. ⊎_elim (λ now. inl now) (λ shown. inr (prefix_told (ShowsHistory (opening_of x)) (PlaysBack (opening_of x)) events (back x reads events order) 0 image shown)) (all.each image left);
-    synced = t0;
-    after_entry = entry;
-    before_exit = omega (arith, exit, k.passes.later);
-    kept = keeps_told (ShowsHistory (opening_of x)) (PlaysBack (opening_of x)) events (back x reads events order) t0 new k.kept;
-  }
-    where
-      order : (m : ℕ) → Contains both m → AreInOrder (all_records (opening_of x) m events)
-      order = order_after x sound t0 r mid opened events k.made
-
-      all : Passes (opening_of x) events old new
-      all = passes_join (opening_of x) [] events old mid new passes k.passes
+      → SessionHeadline x rose given turns links_old links_new end old new
+  headline given rest items lost feed end events k s groups risen turns links_old links_new replies =
+      after_opening x reads (AccountsForSession x rose given turns links_old links_new end) ((end.outcome ≡ MediaFault) × rose) old t0 mid new passes entry exit events
+      (order_after x sound t0 r mid opened events k.made) k.history k.kept k.passes (⊎_elim (λ whole. inl whole) (λ is. inr (is, risen is)) k.pending)
+      (record {
+        means = k.means;
+        items = items;
+        lost = lost;
+        rest = rest;
+        feed = feed;
+        records = s;
+        full = full_held (start_of_opening (opening_of x)) x.config.groups x.config.queue given rest items lost end (recorded events) s groups;
+        replies = replies;
+      })

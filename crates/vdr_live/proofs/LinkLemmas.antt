@@ -2,11 +2,8 @@
 use Rattle.std.proofs.Common.{◌≡◌, ◌≢◌, ◌⊎◌, inl, inr, ◌<◌, ◌++◌, ◌∷◌, ℕ, Bool, true, false, List, [], length, map, get_or, Option, Some, None, refl, sym, ap, ◌∙◌, subst, arith}
 use Rattle.std.proofs.lemmas.List.{get_or-map, length-map}
 use Rattle.vdr_history.specs.Histories.{Event, Opening}
-use Rattle.vdr_playback.specs.Replies.{Reply}
 use Rattle.vdr_outside.specs.declared.link.Link.{Ghosts as LinkTells}
 use Rattle.vdr_config.specs.Configuration.{Selector}
-use Rattle.vdr_control.specs.Orders.{PlainOrder}
-use Rattle.vdr_control.specs.Orders.PlainOrder.{Status, Save, Release, Play}
 use Rattle.vdr_capture.specs.declared.lane.Cause.{Cause}
 use Rattle.vdr_capture.specs.declared.lane.Lane.{Lane}
 use Rattle.vdr_capture.specs.declared.sums.Outcome.{Outcome}
@@ -15,7 +12,8 @@ use Rattle.vdr_desk.specs.declared.desk.Desk.{Desk}
 use Rattle.vdr_desk.specs.Exchanges.{AreExchanged, Exchange}
 use Rattle.vdr_desk.specs.Links.{Converses}
 use Rattle.vdr_desk.proofs.Exchanged.{all_so}
-use Rattle.vdr_reply.specs.Answers.{IsAnswer, Spells}
+use Rattle.vdr_reply.specs.Answers.{IsAnswer}
+use Rattle.vdr_session.proofs.Replied.{answer_so}
 use Rattle.vdr_session.specs.declared.mark.Mark.{Mark}
 use Rattle.vdr_session.specs.Desks.{DesksReplied, DesksTold, FailureTold, HasSpoken}
 use Rattle.vdr_session.specs.Sessions.{is_closed}
@@ -23,18 +21,6 @@ use Rattle.vdr_live.specs.Links.{AreReplied, AsksLinks, LinkIn, LinkSeen, TellsL
 use Rattle.vdr_live.proofs.PortLemmas.{first_of}
 
 -- A reply, with another cause of a fault
-
-spelled_so : (A B : Type 0) (order : PlainOrder) (reply : Reply) (text : List ℕ) → (A → B) → Spells A order reply text → Spells B order reply text
-spelled_so A B Status reply text so h = h
-spelled_so A B (Save label) reply text so h = h
-spelled_so A B (Release id) reply text so h = h
-spelled_so A B (Play medium name from to) reply text so (inl h) = inl h
-spelled_so A B (Play medium name from to) reply text so (inr (inl h)) = inr (inl (h.0, so h.1))
-spelled_so A B (Play medium name from to) reply text so (inr (inr h)) = inr (inr h)
-
-answer_so : {channels : List Selector} {A B : Type 0} {opening : Opening} {before : List Event} {own : Event} {order : PlainOrder} {text : List ℕ} → (A → B)
-    → IsAnswer channels A opening before own order text → IsAnswer channels B opening before own order text
-answer_so {A = A} {B = B} {order = order} {text = text} so a = record { act_is = a.act_is; text_is = spelled_so A B order _ text so a.text_is }
 
 pub answers_so : (channels : List Selector) (A B : Type 0) (opening : Opening) (events : List Event) (to : ℕ) (exchanges : List Exchange) → (A → B)
     → AreExchanged (IsAnswer channels A opening) events 0 exchanges to → AreExchanged (IsAnswer channels B opening) events 0 exchanges to

@@ -2,47 +2,39 @@
 -- queue and that the rate admits is once, in its port's order, and each other one is counted in a Gap; each reply to an operator's order is a
 -- function of the history before that; and media that play it back after a stop at any moment, with all that was acknowledged (this
 -- project's profile; IEC 61996-1 and IMO MSC.333(90) for the windows that the media keep).
-use Rattle.std.specs.Prelude.{◌≡◌, ◌≤◌, ◌<◌, ◌+◌, ◌⊎◌, ◌++◌, ℕ, true, List, Contains, get_or, is_some, None}
-use Rattle.vdr_terms.specs.Order.{AreInOrder}
+use Rattle.std.specs.Prelude.{◌≡◌, ◌≤◌, ◌<◌, ◌+◌, ◌++◌, ℕ, true, List, get_or, is_some, None}
 use Rattle.vdr_terms.specs.declared.counts.Counts.{Counts}
 use Rattle.vdr_terms.specs.Records.{Item}
-use Rattle.vdr_history.specs.Histories.{Event, IsHistory, all_records, recorded}
+use Rattle.vdr_history.specs.Histories.{Event, recorded}
 use Rattle.vdr_history.specs.Sums.{missed_in, recorded_in}
 use Rattle.vdr_history.specs.Taken.{AllFeed, Captured}
-use Rattle.vdr_durability.specs.Keeping.{IsWhole, Keeps, ShowsPrefix}
-use Rattle.vdr_outside.specs.Disk.{Disk, Image}
-use Rattle.vdr_opening.specs.Media.{both, Contents, opening_of}
+use Rattle.vdr_outside.specs.Disk.{Disk}
+use Rattle.vdr_opening.specs.Media.{Contents, opening_of}
 use Rattle.vdr_recorder.specs.Recordings.{start_of_opening}
+use Rattle.vdr_headline.specs.Headline.{RecordingHeadline}
 use Rattle.vdr_capture.specs.declared.sums.Outcome.TheVariants.{MediaFault}
 use Rattle.vdr_session.specs.Sessions.{OutcomeMeans, RecordsSession, is_closed}
 use Rattle.vdr_session.specs.declared.session.SessionEnd.{SessionEnd}
-use Rattle.vdr_replay.specs.Headline.{PlaysBack}
 use Rattle.vdr_live.specs.Links.{AreReplied, LinkSeen}
 
--- The media at entry, which held these contents, and at the return; what each port gave; the links, of which each was asked for a line at most so
--- often, before and after; and how the session ended. `rose`: the media's count of faults rose in between.
-pub record Headline {tells tells_images : Type 0} (x : Contents) (rose : Type 0) (before after : Disk tells tells_images) (given : ℕ → List Item) (turns : ℕ) (links_old links_new : List LinkSeen) (end : SessionEnd) : Type 0 where
-  pub events : List Event
-  pub history : IsHistory (opening_of x) events
-  pub order : (m : ℕ) → Contains both m → AreInOrder (all_records (opening_of x) m events)
-  pub pending : IsWhole events ⊎ ((end.outcome ≡ MediaFault) × rose)
-  pub means : OutcomeMeans (opening_of x) end.outcome
-  -- what was taken from the queues, what was lost as the media failed, and what each port missed at the end, come to what the ports gave
-  pub items : List Captured
-  pub lost : List Captured
-  pub rest : ℕ → Counts
-  pub feed : AllFeed (items ++ lost) rest given
-  -- the records are those of the run; they account for what each port gave, and the sums are theirs
-  pub records : RecordsSession (start_of_opening (opening_of x)) x.config.groups x.config.queue given rest items lost end (recorded events)
-  -- a queue is full only where it holds as many items as it has room for, and each of these was recorded or refused by the rate
-  pub full : is_closed end.outcome ≡ true → (g : ℕ) → g < 16 → is_some (get_or x.config.groups g None) ≡ true
-      → 0 < (missed_in g (recorded events)).full → x.config.queue ≤ recorded_in g (recorded events) + (missed_in g (recorded events)).rate
-  -- each order of a link is one event, and its reply is a function of the events before that
-  pub replies : AreReplied turns x.config.channels rose end.outcome (opening_of x) events links_old links_new
-  -- since entry a stop left what it might have left at entry, or what plays back the first of these events
-  pub since_entry : (image : Image) → after.since before.clock image → before.now image ⊎ ShowsPrefix (PlaysBack (opening_of x)) events 0 image
-  -- the clock as opening's syncs had succeeded: from then on the media keep the history
-  pub synced : ℕ
-  pub after_entry : before.clock ≤ synced
-  pub before_exit : synced ≤ after.clock
-  pub kept : Keeps (PlaysBack (opening_of x)) events synced after
+-- The media held these contents at entry. What each port gave; the links, of which each was asked for a line at most so often, before and after;
+-- and how the session ended. `rose`: the media's count of faults rose in between.
+module _ (x : Contents) (rose : Type 0) (given : ℕ → List Item) (turns : ℕ) (links_old links_new : List LinkSeen) (end : SessionEnd) where
+  -- What the events record of it.
+  pub record AccountsForSession (events : List Event) : Type 0 where
+    pub means : OutcomeMeans (opening_of x) end.outcome
+    -- what was taken from the queues, what was lost as the media failed, and what each port missed at the end, come to what the ports gave
+    pub items : List Captured
+    pub lost : List Captured
+    pub rest : ℕ → Counts
+    pub feed : AllFeed (items ++ lost) rest given
+    -- the records are those of the run; they account for what each port gave, and the sums are theirs
+    pub records : RecordsSession (start_of_opening (opening_of x)) x.config.groups x.config.queue given rest items lost end (recorded events)
+    -- a queue is full only where it holds as many items as it has room for, and each of these was recorded or refused by the rate
+    pub full : is_closed end.outcome ≡ true → (g : ℕ) → g < 16 → is_some (get_or x.config.groups g None) ≡ true
+        → 0 < (missed_in g (recorded events)).full → x.config.queue ≤ recorded_in g (recorded events) + (missed_in g (recorded events)).rate
+    -- each order of a link is one event, and its reply is a function of the events before that
+    pub replies : AreReplied turns x.config.channels rose end.outcome (opening_of x) events links_old links_new
+
+  abbrev pub SessionHeadline : {tells tells_images : Type 0} → (before after : Disk tells tells_images) → Type 0
+  SessionHeadline before after = RecordingHeadline x AccountsForSession ((end.outcome ≡ MediaFault) × rose) before after

@@ -24,7 +24,7 @@ use Rattle.vdr_command.specs.Outside.{MediaFailed, MediaSeen, NothingFailed, Out
 use Rattle.vdr_tool.specs.Summaries.{summary_text}
 use Rattle.vdr_command.specs.declared.status.Status.{Status}
 use Rattle.vdr_command.specs.declared.status.Status.TheVariants.{Done, Unformatted, Damaged, MediaFault, PortFault, LinkFault, OutputFault, NoMemory, Place, Tick}
-use Rattle.vdr_live.specs.Headline.{Headline}
+use Rattle.vdr_live.specs.Headline.{SessionHeadline}
 use Rattle.vdr_live.specs.Links.{AsksLinks, LinkSeen, NoLinkFailed}
 use Rattle.vdr_live.specs.Ports.{AsksPorts, NoPortFailed, PortSeen}
 
@@ -79,7 +79,8 @@ module _ {tells tells_images : Type 0} (turns : ℕ) (ports_old ports_new : List
     -- what was answered over each link, and its failure
     pub links : AsksLinks turns links_old links_new end.outcome
     -- one history of what the ports gave, whole and at every moment, and in it the orders of the links
-    pub recorded : (x : Contents) → tells → HoldsContents old.disk.reads x → WasRecorded x → Headline x (MediaFailed old new) old.disk new.disk given turns links_old links_new end
+    pub recorded : (x : Contents) → tells → HoldsContents old.disk.reads x → WasRecorded x
+        → SessionHeadline x (MediaFailed old new) given turns links_old links_new end old.disk new.disk
     pub legible : tells → IsLegibleWith old.disk.reads (λ x. x.config.groups ≡ rates)
     pub others : tells → SameElsewhere old.disk.reads new.disk.reads
     pub fault : end.outcome ≡ outcomes.MediaFault → MediaFailed old new

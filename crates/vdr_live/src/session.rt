@@ -11,7 +11,7 @@ use std::thread::Threads;
 use vdr_capture::Lane;
 use vdr_opening::{OpenRefused, law_of_contents};
 use vdr_outside::{Link, Media, Port};
-use vdr_recorder::Recording;
+use vdr_recorder::Recorder;
 use vdr_session::{Desk, Mark, SessionEnd, record_at_desks};
 
 /// Opens the media, and records what the ports of the lanes give as one run, with at most so many takes of each. The orders of the desks are
@@ -40,6 +40,6 @@ pub(crate) fn record_ports<
     ensures sizes { (M.disk media.new).sizes ≡ (M.disk media.old).sizes }
 {
     law_of_contents();
-    let recording = Recording::open(alloc, media)?;
-    Ok(record_at_desks(rt, alloc, recording, media, lanes, desks, turns))
+    let recorder = Recorder::open(alloc, media)?;
+    Ok(record_at_desks(rt, alloc, recorder, media, lanes, desks, turns))
 }

@@ -3,6 +3,7 @@ use Rattle.std.proofs.Common.{ℕ, List, get_or, Result, Ok, Err, OnOk}
 use Rattle.std.specs.Prelude.{Any}
 use Rattle.vdr_outside.specs.Causes.{NoneFalls, HasCauseOn, Rose}
 use Rattle.vdr_outside.proofs.Counts.{rose_after, sum_rose, none_falls_join, on_err}
+use Rattle.vdr_terms.proofs.Results.{on_ok_both}
 use Rattle.vdr_media.specs.Answers.{Answer, HasFaultCause}
 use Rattle.vdr_media.specs.Writing.{HasCauseAmong}
 
@@ -13,11 +14,6 @@ cause_after m a b c (Err e) earlier last = record {
   later = none_falls_join a b c earlier last.later;
   failed = rose_after (get_or a m 0) (get_or b m 0) (get_or c m 0) (earlier.none_falls m) last.failed;
 }
-
--- two facts of a success make a third
-pub on_ok_both : {T E P Q R : Type 0} (r : Result T E) → (P → Q → R) → OnOk r P → OnOk r Q → OnOk r R
-on_ok_both (Ok x) f p q = f p q
-on_ok_both (Err e) f p q = tt
 
 -- the cause of a call on one of these media, after calls that succeeded
 pub cause_among : {T E : Type 0} (members : List ℕ) (m : ℕ) (a b c : List ℕ) (r : Result T E) → ((P : ℕ → Type 0) → P m → Any P members) → NoneFalls a b → HasCauseOn m b c r → HasCauseAmong members a c r

@@ -11,7 +11,8 @@ use Rattle.vdr_outside.proofs.Parts.{part_other}
 use Rattle.vdr_config.specs.Configuration.{Configuration}
 use Rattle.vdr_config.specs.Sizes.{sizes_of}
 use Rattle.vdr_config.specs.Grammar.{configuration}
-use Rattle.vdr_media.specs.Layout.{IsClosedAt, slot_count, superblock_bytes}
+use Rattle.vdr_terms.specs.Slots.{slot_count}
+use Rattle.vdr_media.specs.Layout.{IsClosedAt, superblock_bytes}
 use Rattle.vdr_media.specs.Medium.{IsSuperblock, HoldsText, AreClosed}
 use Rattle.vdr_media.specs.Writing.{HasClosedGates, IsLaidOut}
 use Rattle.vdr_media.proofs.Positions.{at_other, at_one, part_written}

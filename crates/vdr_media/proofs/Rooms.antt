@@ -7,9 +7,9 @@ use Rattle.vdr_terms.specs.Needs.{Sizes, Fits}
 use Rattle.vdr_config.specs.declared.bad.ConfigBad.TheVariants.{TooLong}
 use Rattle.vdr_config.specs.Configuration.{Configuration}
 use Rattle.vdr_config.specs.Grammar.{configuration}
-use Rattle.vdr_media.specs.Layout.{slot_count}
+use Rattle.vdr_terms.specs.Slots.{slot_count}
 
-too_long : (text : List ℕ) → 16380 < length text → configuration text ≡ Err TooLong
+pub too_long : (text : List ℕ) → 16380 < length text → configuration text ≡ Err TooLong
 unfolding configuration
 too_long text long = cond-true _ (Err TooLong) _ (lt-ltb 16380 (length text) long)
 

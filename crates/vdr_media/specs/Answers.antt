@@ -9,7 +9,7 @@ use Rattle.vdr_config.specs.Configuration.{Configuration}
 use Rattle.vdr_config.specs.Sizes.{sizes_of, fitting}
 use Rattle.vdr_media.specs.declared.refused.FormatRefused.{FormatRefused}
 use Rattle.vdr_media.specs.declared.refused.FormatRefused.TheVariants.{NoMemory, Config, AlreadyFormatted, TooSmall, Fault}
-use Rattle.vdr_media.specs.Layout.{segments_from}
+use Rattle.vdr_terms.specs.Slots.{slots_from}
 use Rattle.vdr_media.specs.Formatted.{IsFormatted, IsUnformatted}
 
 abbrev pub Answer : Type 0
@@ -73,7 +73,7 @@ IfTextRefused (Ok x) P = ⊤
 module _ {tells tells_images : Type 0} where
   -- What is known of media that are formatted, and of such that are not.
   abbrev pub KnownFormatted : Disk tells tells_images → Type 0
-  KnownFormatted disk = (segments_from ≤ get_or disk.sizes 0 0) × (tells → IsFormatted disk.reads)
+  KnownFormatted disk = (slots_from ≤ get_or disk.sizes 0 0) × (tells → IsFormatted disk.reads)
 
   abbrev pub KnownUnformatted : Disk tells tells_images → Type 0
   KnownUnformatted disk = tells → IsUnformatted disk.reads

@@ -3,7 +3,8 @@ use Rattle.std.specs.Prelude.{◌≡◌, ◌≢◌, ◌⊎◌, ℕ, ◌<◌, ◌
 use Rattle.vdr_segment.specs.Gates.{IsOpenAt}
 use Rattle.vdr_outside.specs.Disk.{Image, content}
 use Rattle.vdr_config.specs.Configuration.{Configuration}
-use Rattle.vdr_media.specs.Layout.{IsClosedAt, segments_from}
+use Rattle.vdr_terms.specs.Slots.{slots_from}
+use Rattle.vdr_media.specs.Layout.{IsClosedAt}
 use Rattle.vdr_media.specs.Medium.{IsEmptyMedium}
 
 -- Of media of these sizes those that are formatted: the capsule and the long-term medium, whatever else there is.
@@ -12,11 +13,11 @@ members sizes = 0 ∷ 1 ∷ []
 
 -- Medium 0 decides: the media are formatted exactly where it has room for all that stands before the segments and its gate is open.
 pub record IsFormatted (image : Image) : Type 0 where
-  pub room : segments_from ≤ length (content image 0)
+  pub room : slots_from ≤ length (content image 0)
   pub gate : IsOpenAt (content image 0) 0
 
 abbrev pub IsUnformatted : Image → Type 0
-IsUnformatted image = (length (content image 0) < segments_from) ⊎ IsClosedAt (content image 0) 0
+IsUnformatted image = (length (content image 0) < slots_from) ⊎ IsClosedAt (content image 0) 0
 
 -- Each of these media is formatted with this configuration and holds nothing.
 pub record IsEmptyHistory (members : List ℕ) (c : Configuration) (text : List ℕ) (image : Image) : Type 0 where

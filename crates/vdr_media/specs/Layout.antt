@@ -1,5 +1,5 @@
 -- Where things stand on a medium, version 1 (this project's profile).
-use Rattle.std.specs.Prelude.{ℕ, ◌-◌, ◌/◌, min, List, ◌∷◌, ◌++◌, codes}
+use Rattle.std.specs.Prelude.{ℕ, List, ◌∷◌, ◌++◌, codes}
 use Rattle.vdr_bytes.specs.Numbers.{le_u32, le_u64}
 use Rattle.vdr_segment.specs.Gates.{IsOpenAt}
 
@@ -22,13 +22,7 @@ incident_count = 32
 abbrev pub text_from : ℕ
 text_from = 12288
 
--- Then segments, in slots of one size. Each has its gate first.
-abbrev pub segments_from : ℕ
-segments_from = 32768
-
--- The slots of a medium of so many bytes.
-abbrev pub slot_count : (segment size : ℕ) → ℕ
-slot_count segment size = min 1000000 ((size - segments_from) / segment)
+-- Then segments, in slots of one size, from `slots_from` on. Each has its gate first.
 
 -- The bytes 1 to 22 of a superblock: the mark, the version, the kind of medium (0 is the capsule, 1 the long-term medium), and
 -- the sizes of the medium and of a segment, and the number of slots. What stands behind them is unread.

@@ -7,11 +7,12 @@ use Rattle.vdr_outside.specs.Parts.{part}
 use Rattle.vdr_config.specs.Configuration.{Configuration}
 use Rattle.vdr_config.specs.Sizes.{sizes_of}
 use Rattle.vdr_config.specs.Grammar.{configuration}
-use Rattle.vdr_media.specs.Layout.{IsClosedAt, incidents_from, incident_size, incident_count, text_from, segments_from, slot_count, superblock_bytes}
+use Rattle.vdr_terms.specs.Slots.{slot_count, slots_from}
+use Rattle.vdr_media.specs.Layout.{IsClosedAt, incidents_from, incident_size, incident_count, text_from, superblock_bytes}
 
 -- A legal superblock of a medium of this kind, with segments of this size.
 pub record IsSuperblock (kind segment : ℕ) (bytes : List ℕ) : Type 0 where
-  pub room : segments_from ≤ length bytes
+  pub room : slots_from ≤ length bytes
   pub gate : IsOpenAt bytes 0
   pub fields : part bytes 1 22 ≡ superblock_bytes kind (length bytes) segment (slot_count segment (length bytes))
   pub segment_low : 8192 ≤ segment
@@ -36,5 +37,5 @@ pub record AreClosed (from step count : ℕ) (bytes : List ℕ) : Type 0 where
 pub record IsEmptyMedium (m : ℕ) (c : Configuration) (text bytes : List ℕ) : Type 0 where
   pub superblock : IsSuperblock m c.segment bytes
   pub holds : HoldsConfiguration m c text bytes
-  pub segments : AreClosed segments_from c.segment (slot_count c.segment (length bytes)) bytes
+  pub segments : AreClosed slots_from c.segment (slot_count c.segment (length bytes)) bytes
   pub incidents : AreClosed incidents_from incident_size incident_count bytes

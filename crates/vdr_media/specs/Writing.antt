@@ -5,7 +5,8 @@ use Rattle.vdr_outside.specs.Causes.{Rose, NoneFalls}
 use Rattle.vdr_outside.specs.Disk.{Disk, Image, SameBut, content, over}
 use Rattle.vdr_outside.specs.Moments.{AtEachMoment}
 use Rattle.vdr_config.specs.Configuration.{Configuration}
-use Rattle.vdr_media.specs.Layout.{IsClosedAt, segments_from, incidents_from, incident_size, incident_count}
+use Rattle.vdr_terms.specs.Slots.{slots_from}
+use Rattle.vdr_media.specs.Layout.{IsClosedAt, incidents_from, incident_size, incident_count}
 use Rattle.vdr_media.specs.Medium.{AreClosed, IsEmptyMedium}
 
 -- One of these images, but for what stands behind byte 0 of medium m.
@@ -29,7 +30,7 @@ pub record ClosesGates (from step count : ℕ) (old new : List ℕ) : Type 0 whe
 
 -- No slot and no incident slot has an open gate.
 pub record HasClosedGates (segment slots : ℕ) (bytes : List ℕ) : Type 0 where
-  pub segments : AreClosed segments_from segment slots bytes
+  pub segments : AreClosed slots_from segment slots bytes
   pub incidents : AreClosed incidents_from incident_size incident_count bytes
 
 -- All is laid out but the gate of the superblock, which may be closed: with an open one this is an empty medium.

@@ -5,7 +5,7 @@ ghost use Rattle.vdr_outside.specs.Disk.{Durable, Overwritten, SameBut, content}
 ghost use Rattle.vdr_outside.specs.Moments.{AtEachMoment, Settled};
 ghost use Rattle.vdr_config.specs.Sizes.{sizes_of};
 ghost use Rattle.vdr_config.specs.Grammar.{configuration};
-ghost use Rattle.vdr_media.specs.Layout.{segments_from};
+ghost use Rattle.vdr_terms.specs.Slots.{slots_from};
 ghost use Rattle.vdr_media.specs.Medium.{IsEmptyMedium};
 ghost use Rattle.vdr_media.specs.Formatted.{members, IsEmptyHistoryOf, SameBeside};
 ghost use Rattle.vdr_media.specs.Answers.{KnownFormatted, KnownUnformatted};
@@ -46,7 +46,7 @@ pub(crate) fn make_all_empty<M: Media>(
     requires two { 2 ≤ length (M.disk media.old).sizes }
     requires formatted { formatted ≡ true → KnownFormatted (M.disk media.old) }
     requires unformatted { formatted ≡ false → KnownUnformatted (M.disk media.old) }
-    requires room { segments_from ≤ get_or (M.disk media.old).sizes 0 0 }
+    requires room { slots_from ≤ get_or (M.disk media.old).sizes 0 0 }
     requires reads { configuration text.now ≡ Ok config.now }
     requires capsule { Fits (sizes_of config.now) 0 (get_or (M.disk media.old).sizes 0 0) }
     requires long { Fits (sizes_of config.now) 1 (get_or (M.disk media.old).sizes 1 0) }

@@ -10,12 +10,12 @@ ghost use Rattle.vdr_media.specs.Calls.{IsTested, LeavesRefused, WritesToMembers
 ghost use Rattle.vdr_media.specs.Formatting.{FormatsAtEachMoment};
 
 use crate::emptying::make_all_empty;
-use crate::layout::SEGMENTS_FROM;
 use crate::refused::FormatRefused;
 use std::alloc::Global;
 use vdr_config::{fits, read_config};
 use vdr_outside::{Failed, Media};
 use vdr_segment::OPEN_GATE;
+use vdr_terms::SLOTS_FROM;
 
 /// Whether the media are formatted: medium 0 has 32,768 bytes at least, and the gate at its byte 0 is open (this project's profile).
 /// It reads that byte, or none where the medium is smaller. `Failed`: the read failed, and the count of faults of medium 0 rose.
@@ -27,7 +27,7 @@ pub fn are_formatted<M: Media>(media: &mut M) -> Result<bool, Failed>
     ensures counts { ReadsOneByte (M.bytes_read media.old) (M.bytes_read media.new) }
     ensures cause { HasCauseOn 0 (M.faults media.old) (M.faults media.new) result }
 {
-    if media.size(0) < SEGMENTS_FROM {
+    if media.size(0) < SLOTS_FROM {
         return Ok(false);
     }
     let mut gate = [0];

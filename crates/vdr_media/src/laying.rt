@@ -6,39 +6,45 @@ ghost use Rattle.vdr_outside.specs.Disk.{SameBut, content, over};
 ghost use Rattle.vdr_outside.specs.Moments.{ChangesOnly, Settled};
 ghost use Rattle.vdr_config.specs.Sizes.{sizes_of};
 ghost use Rattle.vdr_config.specs.Grammar.{configuration};
-ghost use Rattle.vdr_media.specs.Layout.{segments_from, text_from};
+ghost use Rattle.vdr_terms.specs.Slots.{slots_from};
+ghost use Rattle.vdr_media.specs.Layout.{text_from};
 ghost use Rattle.vdr_media.specs.Medium.{IsEmptyMedium};
 ghost use Rattle.vdr_media.specs.Writing.{WritesBehindGate, HasClosedGates, IsLaidOut, ClosedOrEmpty, HasClosedGate};
 
 use crate::gates::close_gates;
-use crate::layout::{
-    INCIDENT_COUNT, INCIDENT_SIZE, INCIDENTS_FROM, SEGMENTS_FROM, TEXT_FROM, slot_count,
-};
+use crate::layout::TEXT_FROM;
 use crate::superblock::superblock_bytes;
 use vdr_bytes::put_u32;
 use vdr_config::Config;
 use vdr_outside::{Failed, Fault, Media, write_through};
 use vdr_segment::OPEN_GATE;
+use vdr_terms::{INCIDENT_SIZE, INCIDENTS_FROM, MOST_INCIDENTS, SLOTS_FROM, slot_count};
 
 // Closes the gates of all slots and incident slots of medium m.
 fn close_all_gates<M: Media>(media: &mut M, m: u8, segment: u32, slots: u32) -> Result<(), Failed>
     requires there { m < length (M.disk media.old).sizes }
-    requires room { segments_from + slots * segment ≤ get_or (M.disk media.old).sizes m 0 }
-    requires fits { segments_from + slots * segment < 2 ^ 64 }
+    requires room { slots_from + slots * segment ≤ get_or (M.disk media.old).sizes m 0 }
+    requires fits { slots_from + slots * segment < 2 ^ 64 }
     requires apart { 1 ≤ segment }
     ensures writes { WritesBehindGate m (M.disk media.old) (M.disk media.new) }
     ensures closed { OnOk result (M.tells → HasClosedGates segment slots (content (M.disk media.new).reads m)) }
     ensures counts { M.bytes_read media.new ≡ M.bytes_read media.old }
     ensures cause { HasCauseOn m (M.faults media.old) (M.faults media.new) result }
 {
-    close_gates(media, m, SEGMENTS_FROM, segment as u64, slots as u64)?;
-    close_gates(media, m, INCIDENTS_FROM, INCIDENT_SIZE, INCIDENT_COUNT)
+    close_gates(media, m, SLOTS_FROM, segment as u64, slots as u64)?;
+    close_gates(
+        media,
+        m,
+        INCIDENTS_FROM,
+        INCIDENT_SIZE,
+        MOST_INCIDENTS as u64,
+    )
 }
 
 // Writes the configuration's text to medium m, behind its length.
 fn write_text<M: Media>(media: &mut M, m: u8, text: &[u8]) -> Result<(), Failed>
     requires there { m < length (M.disk media.old).sizes }
-    requires room { segments_from ≤ get_or (M.disk media.old).sizes m 0 }
+    requires room { slots_from ≤ get_or (M.disk media.old).sizes m 0 }
     requires short { length text.now ≤ 16_380 }
     ensures writes { WritesBehindGate m (M.disk media.old) (M.disk media.new) }
     ensures reads { OnOk result (M.tells → content (M.disk media.new).reads m

@@ -12,6 +12,6 @@ mod refused;
 mod superblock;
 
 pub use formatting::{are_formatted, format};
-pub use layout::{INCIDENT_SIZE, INCIDENTS_FROM, SEGMENTS_FROM, TEXT_FROM, slot_count};
+pub use layout::TEXT_FROM;
 pub use refused::FormatRefused;
 pub use superblock::superblock_bytes;

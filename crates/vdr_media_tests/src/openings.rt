@@ -21,27 +21,16 @@ const CAPSULE_SIZE: usize = 65_536;
 const LONG_TERM_SIZE: usize = 98_304;
 
 // A segment with one record: its medium, its slot and its sequence number, and the place and tick of a Start.
-struct Written {
-    medium: u8,
-    slot: u32,
-    seq: u64,
-    place: u64,
-    tick: u64,
-}
+type Written = (u8, u32, u64, u64, u64);
 
 // Bytes of a medium that are written over: the medium, where, and the bytes.
-struct Change {
-    medium: u8,
-    at: u64,
-    bytes: &'static [u8],
-}
+type Change = (u8, u64, &'static [u8]);
 
-// Formatted media with these segments and changes, and how many records the long-term medium lacks, or why they are refused.
-struct Case {
-    segments: &'static [Written],
-    changes: &'static [Change],
-    want: Result<usize, OpenRefused>,
-}
+// How many records the long-term medium lacks, or the medium that is damaged and where, None where the media are not formatted.
+type Answer = Result<usize, Option<(u8, u64)>>;
+
+// Formatted media with these segments and changes, and how they open.
+type Case = (&'static [Written], &'static [Change], Answer);
 
 fn formatted(rt: &impl Abort, alloc: Global) -> Result<RamMedia, Fail> {
     let mut media = Vec::new(alloc);
@@ -69,13 +58,7 @@ fn area_on<M: Media>(rt: &impl Abort, media: &M, m: u8) -> Area
 }
 
 fn put_segment<M: Media>(rt: &impl Abort, media: &mut M, segment: &Written) -> Result<(), Fail> {
-    let Written {
-        medium,
-        slot,
-        seq,
-        place,
-        tick,
-    } = *segment;
+    let (medium, slot, seq, place, tick) = *segment;
     assert!(rt; slot < 4 && place < 1_000 && tick < 1_000);
     let area = area_on(rt, media, medium);
     begin_segment(media, area, slot, seq, place)?;
@@ -88,28 +71,28 @@ fn put_segment<M: Media>(rt: &impl Abort, media: &mut M, segment: &Written) -> R
 }
 
 fn put_change<M: Media>(rt: &impl Abort, media: &mut M, change: &Change) -> Result<(), Fail> {
-    assert!(rt; change.medium < media.count() && change.at < 65_000 && change.bytes.len() < 256);
-    assert!(rt; media.size(change.medium) >= 65_536);
-    media.write(change.medium, change.at, change.bytes)?;
+    let (medium, at, bytes) = *change;
+    assert!(rt; medium < media.count() && at < 65_000 && bytes.len() < 256);
+    assert!(rt; media.size(medium) >= 65_536);
+    media.write(medium, at, bytes)?;
     Ok(())
 }
 
-fn try_case(
-    rt: &impl Abort,
-    alloc: Global,
-    case: &Case,
-) -> Result<Result<usize, OpenRefused>, Fail> {
+fn try_case(rt: &impl Abort, alloc: Global, case: &Case) -> Result<Answer, Fail> {
+    let (segments, changes, _) = *case;
     let mut media = formatted(rt, alloc)?;
-    for segment in case.segments {
+    for segment in segments {
         put_segment(rt, &mut media, segment)?;
     }
-    for change in case.changes {
+    for change in changes {
         put_change(rt, &mut media, change)?;
     }
     assert!(rt; media.count() == 2);
     match read_media(alloc, &mut media) {
         Ok(opened) => Ok(Ok(opened.missing.len())),
-        Err(refused) => Ok(Err(refused)),
+        Err(OpenRefused::NotFormatted) => Ok(Err(None)),
+        Err(OpenRefused::Damaged { medium, offset }) => Ok(Err(Some((medium, offset)))),
+        Err(_) => Err("neither unformatted nor damaged".into()),
     }
 }
 
@@ -119,189 +102,57 @@ const SAVE: [u8; 35] = [
     0, 0, 1, b'A',
 ];
 
-const FIRST_ON_CAPSULE: Written = Written {
-    medium: 0,
-    slot: 0,
-    seq: 0,
-    place: 0,
-    tick: 5,
-};
+const FIRST_ON_CAPSULE: Written = (0, 0, 0, 0, 5);
 
-const FIRST_ON_LONG_TERM: Written = Written {
-    medium: 1,
-    slot: 0,
-    seq: 0,
-    place: 0,
-    tick: 5,
-};
+const FIRST_ON_LONG_TERM: Written = (1, 0, 0, 0, 5);
 
 const CASES: [Case; 13] = [
-    Case {
-        segments: &[],
-        changes: &[],
-        want: Ok(0),
-    },
-    Case {
-        segments: &[],
-        changes: &[Change {
-            medium: 0,
-            at: 0,
-            bytes: &[0],
-        }],
-        want: Err(OpenRefused::NotFormatted),
-    },
+    (&[], &[], Ok(0)),
+    (&[], &[(0, 0, &[0])], Err(None)),
     // no mark
-    Case {
-        segments: &[],
-        changes: &[Change {
-            medium: 0,
-            at: 1,
-            bytes: &[0],
-        }],
-        want: Err(OpenRefused::Damaged {
-            medium: 0,
-            offset: 0,
-        }),
-    },
+    (&[], &[(0, 1, &[0])], Err(Some((0, 0)))),
     // the kind of the capsule
-    Case {
-        segments: &[],
-        changes: &[Change {
-            medium: 1,
-            at: 6,
-            bytes: &[0],
-        }],
-        want: Err(OpenRefused::Damaged {
-            medium: 1,
-            offset: 0,
-        }),
-    },
+    (&[], &[(1, 6, &[0])], Err(Some((1, 0)))),
     // a text that is longer than its place
-    Case {
-        segments: &[],
-        changes: &[Change {
-            medium: 0,
-            at: 12_288,
-            bytes: &[0xfd, 0x3f, 0, 0],
-        }],
-        want: Err(OpenRefused::Damaged {
-            medium: 0,
-            offset: 12_288,
-        }),
-    },
+    (
+        &[],
+        &[(0, 12_288, &[0xfd, 0x3f, 0, 0])],
+        Err(Some((0, 12_288))),
+    ),
     // another configuration: a queue of 17
-    Case {
-        segments: &[],
-        changes: &[Change {
-            medium: 1,
-            at: 12_425,
-            bytes: b"7",
-        }],
-        want: Err(OpenRefused::Damaged {
-            medium: 1,
-            offset: 12_288,
-        }),
-    },
+    (&[], &[(1, 12_425, b"7")], Err(Some((1, 12_288)))),
     // an incident without a label
-    Case {
-        segments: &[],
-        changes: &[
-            Change {
-                medium: 1,
-                at: 4_352,
-                bytes: &[0xa5],
-            },
-            Change {
-                medium: 1,
-                at: 4_096,
-                bytes: &SAVE,
-            },
-        ],
-        want: Err(OpenRefused::Damaged {
-            medium: 1,
-            offset: 4_352,
-        }),
-    },
+    (
+        &[],
+        &[(1, 4_352, &[0xa5]), (1, 4_096, &SAVE)],
+        Err(Some((1, 4_352))),
+    ),
     // an incident whose place is not there
-    Case {
-        segments: &[],
-        changes: &[Change {
-            medium: 1,
-            at: 4_352,
-            bytes: &SAVE,
-        }],
-        want: Err(OpenRefused::Damaged {
-            medium: 1,
-            offset: 4_352,
-        }),
-    },
+    (&[], &[(1, 4_352, &SAVE)], Err(Some((1, 4_352)))),
     // one whose place is
-    Case {
-        segments: &[FIRST_ON_CAPSULE, FIRST_ON_LONG_TERM],
-        changes: &[Change {
-            medium: 1,
-            at: 4_352,
-            bytes: &SAVE,
-        }],
-        want: Ok(0),
-    },
+    (
+        &[FIRST_ON_CAPSULE, FIRST_ON_LONG_TERM],
+        &[(1, 4_352, &SAVE)],
+        Ok(0),
+    ),
     // one batch more on the capsule
-    Case {
-        segments: &[FIRST_ON_CAPSULE],
-        changes: &[],
-        want: Ok(1),
-    },
+    (&[FIRST_ON_CAPSULE], &[], Ok(1)),
     // the long-term medium ahead
-    Case {
-        segments: &[FIRST_ON_LONG_TERM],
-        changes: &[],
-        want: Err(OpenRefused::Damaged {
-            medium: 1,
-            offset: 0,
-        }),
-    },
+    (&[FIRST_ON_LONG_TERM], &[], Err(Some((1, 0)))),
     // a segment out of its order
-    Case {
-        segments: &[
-            FIRST_ON_CAPSULE,
-            Written {
-                medium: 0,
-                slot: 1,
-                seq: 1,
-                place: 7,
-                tick: 5,
-            },
-        ],
-        changes: &[],
-        want: Err(OpenRefused::Damaged {
-            medium: 0,
-            offset: 40_960,
-        }),
-    },
+    (
+        &[FIRST_ON_CAPSULE, (0, 1, 1, 7, 5)],
+        &[],
+        Err(Some((0, 40_960))),
+    ),
     // batches at one place that are not the same
-    Case {
-        segments: &[
-            FIRST_ON_CAPSULE,
-            Written {
-                medium: 1,
-                slot: 0,
-                seq: 0,
-                place: 0,
-                tick: 6,
-            },
-        ],
-        changes: &[],
-        want: Err(OpenRefused::Damaged {
-            medium: 1,
-            offset: 0,
-        }),
-    },
+    (&[FIRST_ON_CAPSULE, (1, 0, 0, 0, 6)], &[], Err(Some((1, 0)))),
 ];
 
 #[test]
 fn media_are_opened_or_refused_at_their_first_illegal_part(rt: HostRuntime) -> Result<(), Fail> {
     for case in &CASES {
-        assert!(&rt; try_case(&rt, rt.alloc(), case)? == case.want);
+        assert!(&rt; try_case(&rt, rt.alloc(), case)? == case.2);
     }
     law_of_contents();
     law_of_refusals();

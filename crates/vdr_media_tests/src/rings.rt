@@ -1,3 +1,4 @@
+mod capsule;
 mod choice;
 mod opening;
 mod wrapping;

@@ -14,7 +14,8 @@ use Rattle.vdr_incident.specs.Tables.{HoldsTable}
 use Rattle.vdr_incident.proofs.Holding.{one_table}
 use Rattle.vdr_config.specs.Configuration.{Configuration}
 use Rattle.vdr_config.specs.Grammar.{configuration}
-use Rattle.vdr_media.specs.Layout.{slot_count, text_from}
+use Rattle.vdr_terms.specs.Slots.{slot_count}
+use Rattle.vdr_media.specs.Layout.{text_from}
 use Rattle.vdr_media.specs.Medium.{HoldsText}
 use Rattle.vdr_media.specs.Formatted.{IsUnformatted}
 use Rattle.vdr_media.proofs.Rooms.{text_fits}
@@ -23,7 +24,7 @@ use Rattle.vdr_opening.specs.Refusals.{AreLegal}
 
 -- One medium
 
-number_read : (n : ℕ) → n < 2 ^ 32 → u32_at 0 (le_u32 n) ≡ n
+pub number_read : (n : ℕ) → n < 2 ^ 32 → u32_at 0 (le_u32 n) ≡ n
 number_read n small = (read_u32 0 n (le_u32 n) [] (sym (append-nil (le_u32 n))) small).0
 
 one_number : (m n : ℕ) → m < 2 ^ 32 → n < 2 ^ 32 → le_u32 m ≡ le_u32 n → m ≡ n

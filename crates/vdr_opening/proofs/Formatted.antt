@@ -18,7 +18,7 @@ use Rattle.vdr_ring.specs.Sequence.{Placed}
 use Rattle.vdr_incident.specs.Saves.{IsIncidentSlot}
 use Rattle.vdr_incident.specs.Tables.{HoldsTable}
 use Rattle.vdr_media.specs.Formatted.{IsEmptyHistory}
-use Rattle.vdr_media.specs.Layout.{slot_count}
+use Rattle.vdr_terms.specs.Slots.{slot_count}
 use Rattle.vdr_media.specs.Medium.{IsEmptyMedium}
 use Rattle.vdr_media.proofs.Rooms.{slots_fit, some_slot}
 use Rattle.vdr_media.proofs.Two.{all_two}

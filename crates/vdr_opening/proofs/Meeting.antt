@@ -12,7 +12,7 @@ use Rattle.vdr_media.proofs.Two.{all_two}
 use Rattle.vdr_opening.specs.Media.{both}
 use Rattle.vdr_opening.specs.Answers.{IsMissing}
 
-all_one : (P : ℕ → Type 0) (m : ℕ) → P m → All P (m ∷ [])
+pub all_one : (P : ℕ → Type 0) (m : ℕ) → P m → All P (m ∷ [])
 all_one P m p zero d lt = p
 all_one P m p (suc k) d lt = absurd (omega (arith, lt))
 

@@ -6,7 +6,7 @@ use Rattle.vdr_ring.specs.Sequence.{Placed}
 use Rattle.vdr_ring.specs.Opening.{Refuses}
 use Rattle.vdr_ring.proofs.OneAnswer.{never_refused, one_refusal}
 use Rattle.vdr_config.specs.Configuration.{Configuration}
-use Rattle.vdr_media.specs.Layout.{slot_count}
+use Rattle.vdr_terms.specs.Slots.{slot_count}
 use Rattle.vdr_opening.specs.Media.{both, HasFront, IsMedium}
 use Rattle.vdr_opening.specs.Refusals.{IsSameText, RefusesSegments, RefusesMedium, RefusesFrom, AreLegal}
 use Rattle.vdr_opening.proofs.ContentsHeld.{one_front}

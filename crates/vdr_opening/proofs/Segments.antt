@@ -9,7 +9,7 @@ use Rattle.vdr_ring.specs.Opening.{Refuses}
 use Rattle.vdr_ring.specs.Rings.{HoldsPlaced, RingState}
 use Rattle.vdr_ring.specs.Rings as rings
 use Rattle.vdr_ring.specs.Sequence.{Placed}
-use Rattle.vdr_media.specs.Layout.{slot_count}
+use Rattle.vdr_terms.specs.Slots.{slot_count}
 use Rattle.vdr_opening.specs.Media.{HasFront}
 use Rattle.vdr_opening.specs.Refusals.{IsSameText, RefusesSegments}
 use Rattle.vdr_opening.specs.Parts.{ReadsMedium}

@@ -6,7 +6,8 @@ use Rattle.std.proofs.lemmas.Option.{get_or_from_slice_get, slice_get-get_or}
 use Rattle.vdr_bytes.specs.Numbers.{le_u32, le_u64, u32_at}
 use Rattle.vdr_bytes.proofs.NumberLemmas.{drop-front, length-le_u64, read_u32}
 use Rattle.vdr_segment.specs.Gates.{IsOpenAt}
-use Rattle.vdr_media.specs.Layout.{slot_count, superblock_bytes}
+use Rattle.vdr_terms.specs.Slots.{slot_count}
+use Rattle.vdr_media.specs.Layout.{superblock_bytes}
 use Rattle.vdr_media.specs.Medium.{IsSuperblock}
 use Rattle.vdr_opening.specs.Refusals.{RefusesSuperblock}
 use Rattle.vdr_opening.specs.Parts.{SaysSegment}

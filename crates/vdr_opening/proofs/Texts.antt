@@ -6,17 +6,15 @@ use Rattle.vdr_bytes.specs.Numbers.{le_u32, u32_at}
 use Rattle.vdr_bytes.proofs.NumberLemmas.{read_u32, spelled_u32, take-front}
 use Rattle.vdr_outside.specs.Parts.{part}
 use Rattle.vdr_media.specs.Medium.{HoldsText}
+use Rattle.vdr_opening.proofs.ContentsHeld.{number_read}
 
 -- four bytes are those of the number that they are read as
 pub spelled : (bytes : List ℕ) → IsBytes bytes → length bytes ≡ 4 → bytes ≡ le_u32 (u32_at 0 bytes)
 spelled bytes are_bytes long =
     spelled_u32 0 bytes are_bytes (omega (arith, long)) ∙ ap (λ (l : List ℕ). le_u32 (u32_at 0 bytes) ++ l) (drop_all 4 bytes (omega (arith, long))) ∙ append-nil (le_u32 (u32_at 0 bytes))
 
-read_again : (n : ℕ) → n < 2 ^ 32 → u32_at 0 (le_u32 n) ≡ n
-read_again n small = (read_u32 0 n (le_u32 n) [] (sym (append-nil (le_u32 n))) small).0
-
 one_number : (n k : ℕ) → n < 2 ^ 32 → k < 2 ^ 32 → le_u32 n ≡ le_u32 k → n ≡ k
-one_number n k n_small k_small same = sym (read_again n n_small) ∙ ap (λ (l : List ℕ). u32_at 0 l) same ∙ read_again k k_small
+one_number n k n_small k_small same = sym (number_read n n_small) ∙ ap (λ (l : List ℕ). u32_at 0 l) same ∙ number_read k k_small
 
 -- the medium holds one text of these
 pub one_text : (x y b : List ℕ) → length x ≤ 16380 → length y ≤ 16380 → HoldsText x b → HoldsText y b → x ≡ y

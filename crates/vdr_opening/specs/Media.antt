@@ -5,7 +5,7 @@ use Rattle.vdr_durability.specs.Readings.{Reading}
 use Rattle.vdr_durability.specs.Shown.{opened}
 use Rattle.vdr_outside.specs.Disk.{Image, content}
 use Rattle.vdr_config.specs.Configuration.{Configuration}
-use Rattle.vdr_media.specs.Layout.{slot_count}
+use Rattle.vdr_terms.specs.Slots.{slot_count}
 use Rattle.vdr_media.specs.Medium.{IsSuperblock, HoldsConfiguration}
 use Rattle.vdr_ring.specs.Sequence.{Placed, batches_in}
 use Rattle.vdr_ring.specs.Order.{AreInOrder}

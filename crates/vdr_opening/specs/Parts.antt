@@ -12,7 +12,8 @@ use Rattle.vdr_ring.specs.Rings.{RingState}
 use Rattle.vdr_ring.specs.Rings as rings
 use Rattle.vdr_ring.specs.Sequence.{Placed}
 use Rattle.vdr_incident.specs.Tables.{HoldsTable, place_of}
-use Rattle.vdr_media.specs.Layout.{slot_count, superblock_bytes}
+use Rattle.vdr_terms.specs.Slots.{slot_count}
+use Rattle.vdr_media.specs.Layout.{superblock_bytes}
 use Rattle.vdr_opening.specs.declared.refused.OpenRefused.{OpenRefused}
 use Rattle.vdr_opening.specs.declared.refused.OpenRefused.TheVariants.{NoMemory, Damaged, Fault}
 use Rattle.vdr_opening.specs.Media.{both, AreThere, IsMedium}

@@ -6,7 +6,8 @@ use Rattle.vdr_history.specs.Histories.{Incident}
 use Rattle.vdr_durability.specs.Readings.{EndsOff}
 use Rattle.vdr_outside.specs.Disk.{Image, content}
 use Rattle.vdr_config.specs.Configuration.{Configuration}
-use Rattle.vdr_media.specs.Layout.{slot_count, text_from}
+use Rattle.vdr_terms.specs.Slots.{slot_count}
+use Rattle.vdr_media.specs.Layout.{text_from}
 use Rattle.vdr_media.specs.Medium.{IsSuperblock}
 use Rattle.vdr_ring.specs.Sequence.{Placed}
 use Rattle.vdr_ring.specs.Lookup.{HoldAll}

@@ -13,9 +13,9 @@ ghost use Rattle.vdr_opening.specs.Parts.{IsThere, LacksPlaces, LacksPlacesAt};
 
 use vdr_config::Config;
 use vdr_incident::Table;
-use vdr_media::{INCIDENT_SIZE, INCIDENTS_FROM};
 use vdr_outside::{Media, PartRefused};
 use vdr_ring::Ring;
+use vdr_terms::{INCIDENT_SIZE, INCIDENTS_FROM};
 
 // Whether an incident slot is free, or all places of its incident stand in segments of the ring.
 fn is_there(table: &Table, slot: u8, long_term: &Ring) -> bool

@@ -8,9 +8,10 @@ ghost use Rattle.vdr_opening.specs.Refusals.{RefusesSuperblock};
 ghost use Rattle.vdr_opening.specs.Parts.{SaysSegment};
 
 use vdr_bytes::u32_at;
-use vdr_media::{SEGMENTS_FROM, slot_count, superblock_bytes};
+use vdr_media::superblock_bytes;
 use vdr_outside::{Media, PartRefused};
 use vdr_segment::OPEN_GATE;
+use vdr_terms::{SLOTS_FROM, slot_count};
 
 // The gate and the fields; what stands behind them is unread.
 const SUPERBLOCK_SIZE: usize = 23;
@@ -51,7 +52,7 @@ pub(crate) fn read_superblock<M: Media>(media: &mut M, m: u8) -> Result<u32, Par
     ensures cause { HasFaultCause m (M.faults media.old) (M.faults media.new) result }
 {
     let size = media.size(m);
-    if size < SEGMENTS_FROM {
+    if size < SLOTS_FROM {
         return Err(PartRefused::Damaged {
             medium: m,
             offset: 0,

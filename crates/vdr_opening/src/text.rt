@@ -18,8 +18,9 @@ ghost use Rattle.vdr_opening.specs.Parts.{HasRoomBefore};
 use std::alloc::Global;
 use vdr_bytes::u32_at;
 use vdr_config::{Config, ConfigBad, needs, read_config};
-use vdr_media::{TEXT_FROM, slot_count};
+use vdr_media::TEXT_FROM;
 use vdr_outside::{Media, PartRefused};
+use vdr_terms::slot_count;
 
 // The longest text, in bytes: behind its length it ends where the next part begins.
 const LONGEST: u32 = 16_380;

@@ -4,6 +4,7 @@
 
 mod buffered;
 mod fault;
+mod filling;
 mod link;
 mod media;
 mod port;
@@ -14,6 +15,7 @@ mod through;
 
 pub use buffered::{BufferedSink, Lent, Opening};
 pub use fault::{Failed, Fault, PartRefused};
+pub use filling::fill;
 pub use link::{Heard, Link};
 pub use media::Media;
 pub use port::{Port, Taken};

@@ -5,21 +5,18 @@ use Rattle.vdr_terms.specs.Channels.{Channels}
 use Rattle.vdr_terms.specs.Order.{NeverFalls, RunOn}
 use Rattle.vdr_history.specs.Runs.{RunStart, Stamp}
 use Rattle.vdr_history.specs.Histories.{Continues, stamp_of}
+use Rattle.vdr_history.proofs.Growing.{continues_run}
 use Rattle.vdr_core.specs.Ended.{last_tick}
 use Rattle.vdr_core.proofs.Ticking.{lower}
 use Rattle.vdr_retention.specs.Regular.{FollowOn}
 use Rattle.vdr_retention.proofs.Lists.{last_behind}
 use Rattle.vdr_pace.specs.Media.{EndsBefore}
 
-run_on : (channels : Channels) (place : ℕ) (rs : List Record) → Continues channels place rs → RunOn place rs
-run_on channels place [] h = tt
-run_on channels place (r ∷ rs) h = (h.0, run_on channels (suc place) rs h.2)
-
 -- What a recorder makes from its beginning on follows what was there.
 follow_first : (start : RunStart) (o : Option Record) (rs : List Record) → EndsBefore start o → Continues start.channels start.place rs → NeverFalls (last_tick start.last) rs → FollowOn o rs
-follow_first start None rs ends places ticks = (start.place, run_on start.channels start.place rs places, lower 0 (last_tick start.last) rs (omega arith) ticks)
+follow_first start None rs ends places ticks = (start.place, continues_run start.channels start.place rs places, lower 0 (last_tick start.last) rs (omega arith) ticks)
 follow_first start (Some r) rs ends places ticks = (
-  subst (λ (n : ℕ). RunOn n rs) (sym ends.0) (run_on start.channels start.place rs places),
+  subst (λ (n : ℕ). RunOn n rs) (sym ends.0) (continues_run start.channels start.place rs places),
   subst (λ (s : Option Stamp). NeverFalls (last_tick s) rs) ends.1 ticks,
 )
 

@@ -18,15 +18,15 @@ use Rattle.vdr_history.specs.Histories.Act.{Commit, Save, Release, Look}
 use Rattle.vdr_history.specs.RunStates.{RunState, after_act, between_runs, state_along, BeginsWith, IsMadeIn, AreMadeFrom}
 use Rattle.vdr_core.specs.Ended.{last_tick}
 use Rattle.vdr_core.proofs.MadeHistory.{made_runs_on}
-use Rattle.vdr_retention.specs.Layout.{Batches, batch_size_at, records_in, segment_records}
+use Rattle.vdr_retention.specs.Layout.{Batches, batch_size_at, records_in, segment_records, batches_in}
 use Rattle.vdr_retention.specs.Regular.{FollowOn, IsPaced}
-use Rattle.vdr_retention.proofs.Lists.{all_from}
+use Rattle.vdr_retention.proofs.Lists.{all_from, records_of_batches}
 use Rattle.vdr_retention.proofs.Ordered.{no_later}
 use Rattle.vdr_pace.specs.Commits.{TakesItems, ClosesRun, IsDoneIn, AreDoneFrom, closing_size}
-use Rattle.vdr_pace.specs.Media.{AreLimitsOf, EndsBefore, IsAppended, IsMediumOf, IsOpened, batches_in, state_after}
+use Rattle.vdr_pace.specs.Media.{AreLimitsOf, EndsBefore, IsAppended, IsMediumOf, IsOpened, state_after}
 use Rattle.vdr_pace.proofs.Follow.{follow_last}
 use Rattle.vdr_pace.proofs.ItemSizes.{made_size, closes_size}
-use Rattle.vdr_pace.proofs.Parts.{all_records, part_has_less, same_last, sum_of_all}
+use Rattle.vdr_pace.proofs.Parts.{part_has_less, same_last, sum_of_all}
 use Rattle.vdr_pace.proofs.Seconds.{IsNoLater, Kept, all_paced}
 
 one_made : (limits : ℕ → Limit) (batch : ℕ) (s : RunState) (act : Act) → IsDoneIn limits batch s act → IsMadeIn s act
@@ -63,7 +63,7 @@ seconds_paced sizes start opened acts of was done s =
     let kept : Kept sizes start.limits of (batches_in opened) (between_runs start) = record {
       same = refl;
       fit = λ opened. absurd (true≢false (sym opened));
-      late = subst (λ (rs : List Record). All (IsNoLater start.last) rs) (sym (all_records opened)) (opened_late start (records_in opened) was.order was.ends);
+      late = subst (λ (rs : List Record). All (IsNoLater start.last) rs) (sym (records_of_batches opened)) (opened_late start (records_in opened) was.order was.ends);
       paced = λ at. let a = sum_of_all at opened in let b = was.paced at in omega (arith, a, b);
       paid = λ opened. absurd (true≢false (sym opened));
     } in
@@ -119,7 +119,7 @@ module _ (sizes : Sizes) (start : RunStart) (opened : List Batches) (acts : List
     done = done_push start.limits sizes.batch (between_runs start) acts (Commit records taken) h.done done;
     some = subst (λ (x : Batches × Batches). Sublist x.0 x.1) (λ i. (sym k.order i, sym (more_batches (Commit records taken)) i))
         (Sublist.append (Sublist.trans k.some h.some) (Sublist.refl (records ∷ [])));
-    newest = ap last (sym (all_records after) ∙ (ap segment_records k.order ∙ (flat_map-append (λ (b : List Record). b) k.kept (records ∷ []) ∙ ap (λ (rs : List Record). segment_records k.kept ++ rs) (append-nil records))))
+    newest = ap last (sym (records_of_batches after) ∙ (ap segment_records k.order ∙ (flat_map-append (λ (b : List Record). b) k.kept (records ∷ []) ∙ ap (λ (rs : List Record). segment_records k.kept ++ rs) (append-nil records))))
         ∙ (same_last (segment_records k.kept) (records_in opened ++ flat_map records_of_act acts) records some
         ∙ ap last (append_assoc (records_in opened) (flat_map records_of_act acts) records ∙ ap (λ (rs : List Record). records_in opened ++ rs) (sym (more_records (Commit records taken)))));
   }

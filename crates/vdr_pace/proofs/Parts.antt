@@ -7,9 +7,8 @@ use Rattle.std.proofs.Common.{ℕ, ◌<◌, ◌≤◌, List, [], ◌∷◌, ◌+
 use Rattle.std.proofs.lemmas.Grind.{flat_map-append}
 use Rattle.std.proofs.lemmas.List.Sums.{sum_by-cons, sum_by-append}
 use Rattle.vdr_terms.specs.Records.{Record, last}
-use Rattle.vdr_retention.specs.Layout.{Batches, batch_size_at, batches_size_at, records_in, segment_records}
-use Rattle.vdr_retention.proofs.Lists.{last_behind}
-use Rattle.vdr_pace.specs.Media.{batches_in}
+use Rattle.vdr_retention.specs.Layout.{Batches, batch_size_at, batches_size_at, records_in, segment_records, batches_in}
+use Rattle.vdr_retention.proofs.Lists.{last_behind, records_of_batches}
 
 part_of : {X : Type 0} (f : X → ℕ) (xs ys : List X) → Sublistᴰ xs ys → sum_by f xs ≤ sum_by f ys
 part_of f xs [] d = let a = ap (sum_by f) (Sublistᴰ.eq-nil d) in omega (arith, a)
@@ -33,11 +32,6 @@ sum_of_all s (segment ∷ segments) =
     let b = sum_by-cons (batches_size_at s) segment segments in
     let c = sum_of_all s segments in
     omega (arith, a, b, c)
-
-pub all_records : (segments : List Batches) → segment_records (batches_in segments) ≡ records_in segments
-all_records [] = refl
-all_records (segment ∷ segments) =
-    flat_map-append (λ (b : List Record). b) segment (batches_in segments) ∙ ap (λ (rs : List Record). segment_records segment ++ rs) (all_records segments)
 
 -- what stands before a list does not change its last element
 pub same_last : (xs ys rs : List Record) → 0 < length rs → last (xs ++ rs) ≡ last (ys ++ rs)

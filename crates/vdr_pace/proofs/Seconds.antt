@@ -22,7 +22,7 @@ use Rattle.vdr_core.proofs.Commits.{further_items, closes}
 use Rattle.vdr_core.proofs.RecorderHistory.{inside_begins_none, ends_with}
 use Rattle.vdr_core.proofs.Ticking.{closing_ticks}
 use Rattle.vdr_retention.specs.Layout.{Batches, batch_size_at, segment_records}
-use Rattle.vdr_retention.proofs.Lists.{all_from, contains_here, contains_cases, none_contained}
+use Rattle.vdr_retention.proofs.Lists.{all_from, contains_here, contains_cases, none_contained, ticks_from}
 use Rattle.vdr_pace.specs.Commits.{IsFit, TakesItems, ClosesRun, AreDoneFrom}
 use Rattle.vdr_pace.specs.Media.{AreLimitsOf}
 use Rattle.vdr_pace.proofs.Charges.{charge_at, IsHeaded, batch_paid, none_at, inside_headed, closing_headed}
@@ -33,15 +33,6 @@ use Rattle.vdr_pace.proofs.Follow.{falls_parts}
 abbrev pub IsNoLater : Option Stamp → Record → Type 0
 IsNoLater None r = ⊥
 IsNoLater (Some stamp) r = r.tick ≤ stamp.tick
-
--- ticks that do not fall are at least the first
-pub rises : (from : ℕ) (rs : List Record) (r : Record) → NeverFalls from rs → Contains rs r → from ≤ r.tick
-rises from [] r h m = absurd (none_contained r m)
-rises from (x ∷ xs) r h m =
-    ⊎_elim
-    (λ (e : x ≡ r). let a = ap (λ (r : Record). r.tick) e in let b = h.0 in omega (arith, a, b))
-    (λ (k : Contains xs r). let a = rises x.tick xs r h.1 k in let b = h.0 in omega (arith, a, b))
-    (contains_cases x xs r m)
 
 -- and at most the last
 to_last : (x : Record) (xs : List Record) (r : Record) → NeverFalls x.tick xs → Contains (x ∷ xs) r → r.tick ≤ (last_after x xs).tick
@@ -126,7 +117,7 @@ module _ (sizes : Sizes) (limits : ℕ → Limit) (of : AreLimitsOf sizes limits
       late = late_more s.last batches records h.late falls;
       paced = one_more (cost sizes) (second (base_of s.start)) batches records h.paced
           (λ at low. let a = now at low in let b = open_paced sizes s.start (of_start s.start h.same) (s.popped ++ taken) at in omega (arith, a, b))
-          (λ r m. let a = rises (tick_of s.start (recorder_in s)) records r next.0.ticks m in omega (arith, a));
+          (λ r m. let a = ticks_from (tick_of s.start (recorder_in s)) records r next.0.ticks m in omega (arith, a));
       paid = λ _ at low. subst (λ (x : RunStart × List Captured). second (base_of x.0) ≤ at → sum_by (batch_size_at at) (batches ++ records ∷ []) ≤ sum_by (charge_at at) (recorder_after x.0 x.1).made)
           (λ i. (sym start i, sym popped i)) (λ low. let a = now at low in let b = sum_by-append (batch_size_at at) batches (records ∷ []) in omega (arith, a, b)) low;
     }
@@ -162,7 +153,7 @@ module _ (sizes : Sizes) (limits : ℕ → Limit) (of : AreLimitsOf sizes limits
       late = late_more s.last batches (begun (next_start s)).made h.late falls;
       paced = one_more (cost sizes) (second (base_of (next_start s))) batches (begun (next_start s)).made h.paced
           (λ at low. let a = now at low in let b = open_paced sizes (next_start s) (of_start (next_start s) h.same) [] at in omega (arith, a, b))
-          (λ r m. let a = rises (base_of (next_start s)) (begun (next_start s)).made r (omega arith, tt) m in omega (arith, a));
+          (λ r m. let a = ticks_from (base_of (next_start s)) (begun (next_start s)).made r (omega arith, tt) m in omega (arith, a));
       paid = λ _ at low. let a = now at low in let b = sum_by-append (batch_size_at at) batches ((begun (next_start s)).made ∷ []) in omega (arith, a, b);
     }
       where
@@ -186,7 +177,7 @@ module _ (sizes : Sizes) (limits : ℕ → Limit) (of : AreLimitsOf sizes limits
           let c = ap (sum_by (charge_at at)) made in
           let d = closed_paced sizes s.start (of_start s.start h.same) s.popped rest all_fit all_quiet at in
           omega (arith, a, b, c, d))
-          (λ r m. let a = rises (tick_of s.start (recorder_in s)) records r (subst (NeverFalls (tick_of s.start (recorder_in s))) (sym made) (closes s.start s.popped rest).ticks) m in omega (arith, a));
+          (λ r m. let a = ticks_from (tick_of s.start (recorder_in s)) records r (subst (NeverFalls (tick_of s.start (recorder_in s))) (sym made) (closes s.start s.popped rest).ticks) m in omega (arith, a));
       paid = λ opened. absurd (true≢false (sym opened ∙ none_open));
     }
       where

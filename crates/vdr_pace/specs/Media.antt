@@ -8,12 +8,8 @@ use Rattle.vdr_terms.specs.Rates.{Limit, limit_of}
 use Rattle.vdr_history.specs.Runs.{RunStart}
 use Rattle.vdr_history.specs.Histories.{Act, records_of_act, stamp_of}
 use Rattle.vdr_history.specs.RunStates.{RunState, between_runs, state_along}
-use Rattle.vdr_retention.specs.Layout.{Batches, batches_size_at, records_in}
+use Rattle.vdr_retention.specs.Layout.{Batches, batches_size_at, records_in, batches_in}
 use Rattle.vdr_pace.specs.Commits.{AreDoneFrom}
-
--- All batches of these segments, in order.
-abbrev pub batches_in : List Batches → Batches
-batches_in segments = flat_map (λ segment. segment) segments
 
 -- Each group may have what stands at its number.
 abbrev pub AreLimitsOf : Sizes → (ℕ → Limit) → Type 0

@@ -10,10 +10,10 @@ ghost use Rattle.vdr_history.specs.Recorder.{begun, closing, recorder_after};
 ghost use Rattle.vdr_history.specs.RunStates.{AreMadeFrom, RunState};
 ghost use Rattle.vdr_history.specs.Runs.{RunStart};
 ghost use Rattle.vdr_history.specs.Taken.{Captured};
-ghost use Rattle.vdr_retention.specs.Layout.{Batches, batch_size_at};
+ghost use Rattle.vdr_retention.specs.Layout.{Batches, batch_size_at, batches_in};
 ghost use Rattle.vdr_retention.specs.Regular.{IsPaced};
 ghost use Rattle.vdr_pace.specs.Commits.{AreDoneFrom, IsDoneIn, IsFit, closing_size, items_size, largest_item, least_item, start_size};
-ghost use Rattle.vdr_pace.specs.Media.{AreLimitsOf, IsAppended, IsMediumOf, IsOpened, batches_in, state_after};
+ghost use Rattle.vdr_pace.specs.Media.{AreLimitsOf, IsAppended, IsMediumOf, IsOpened, state_after};
 
 /// How many bytes the records take that a recorder commits: those of an item at most 128 and its own, and those of a close at
 /// most 1,388. So a batch has room for the records of an item for each 1,600 of its bytes, where none has more than 1,472, and

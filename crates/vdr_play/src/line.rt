@@ -13,9 +13,9 @@ use crate::escape::print_escaped;
 use crate::words::print_words;
 use arrayvec::ArrayVec;
 use itoa::Buffer;
-use vdr_entry::{Content, Counts, Record, write_utc};
+use vdr_entry::{Content, Record, write_utc};
 use vdr_outside::{Failed, Sink, write_all};
-use vdr_terms::group_name;
+use vdr_terms::{Counts, group_name};
 
 fn utc_of(stamp: i64) -> ArrayVec<u8, 24>
     requires { IsStamp stamp }

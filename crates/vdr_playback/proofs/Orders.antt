@@ -7,7 +7,8 @@ use Rattle.vdr_history.specs.Histories.{Act, Event, Opening, MayCome, all_record
 use Rattle.vdr_history.specs.Histories as histories
 use Rattle.vdr_retention.proofs.Lists.{last_contained, none_contained}
 use Rattle.vdr_retention.proofs.Retained.{in_the_window}
-use Rattle.vdr_playback.specs.Replies.{LongTermHasTheLast, Order, Reply, act_of, free_id, is_label, place_or_0, release_reply, reply, save_reply}
+use Rattle.vdr_terms.specs.Texts.{is_label}
+use Rattle.vdr_playback.specs.Replies.{LongTermHasTheLast, Order, Reply, act_of, free_id, place_or_0, release_reply, reply, save_reply}
 use Rattle.vdr_playback.specs.Replies.Order.{Status, Save, Release, Play}
 use Rattle.vdr_playback.specs.Replies.Reply.{State, Saved, Released, Played, NoLabel, NothingToSave, TableFull, NoChannel, NoMedium, NoIncident, Failed}
 

@@ -1,7 +1,8 @@
 -- What the orders of control lines are answered, and the events that they are (this project's profile). How an answer is
 -- spelled, and what a link is sent where the media fail in the middle of it, is the grammar's of control lines.
-use Rattle.std.specs.Prelude.{ℕ, suc, ◌≡◌, Bool, true, false, List, length, count_by, is_some, is_none, position, slice_get, option_map, ◌&&◌, ◌==◌, nat_le, Option, Some, None}
-use Rattle.std.specs.List.{list_all, list_any}
+use Rattle.std.specs.Prelude.{ℕ, suc, ◌≡◌, Bool, true, false, List, length, count_by, is_some, is_none, position, slice_get, option_map, ◌==◌, Option, Some, None}
+use Rattle.std.specs.List.{list_any}
+use Rattle.vdr_terms.specs.Texts.{is_label}
 use Rattle.vdr_terms.specs.Records.{Record, last}
 use Rattle.vdr_terms.specs.Windows.{window}
 use Rattle.vdr_terms.specs.Queries.{Medium, Query}
@@ -30,10 +31,6 @@ pub data Reply : Type 0 where
   NoMedium : Reply
   NoIncident : Reply
   Failed : Reply  -- the media have failed
-
--- A label has 1 to 64 bytes from 0x20 to 0x7E.
-abbrev pub is_label : List ℕ → Bool
-is_label label = nat_le 1 (length label) && (nat_le (length label) 64 && list_all (λ b. nat_le 32 b && nat_le b 126) label)
 
 -- The id of the next save, None where each slot is live.
 abbrev pub free_id : Opening → List Event → Option ℕ

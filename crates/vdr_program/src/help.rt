@@ -20,7 +20,7 @@ Commands:
             datagram what its lines are: good, or refused by a TAG block or as a sentence.
   review D B
             The same, where each transmission group has at most D datagrams (1 to
-            10,000) and B bytes of them (6 to 10,000,000) in a second of recording
+            10,000) and B bytes of them (6 to 10,000,000) in a second of recorder
             time. What the rate refuses stands in a Gap record.
   check     Reads a configuration from standard input and prints what it needs: the
             number of groups, the cost of a second and the usable bytes of a segment,
@@ -89,11 +89,11 @@ Commands:
             a channel of kind `image`, to standard output, once all its parts are there.
   save LABEL
             Saves an incident: keeps the records of the long-term medium, from the first one
-            of the last `incident_seconds` of recording time to the last one, until the
+            of the last `incident_seconds` of recorder time to the last one, until the
             incident is released. LABEL has 1 to 64 bytes of 0x20 to 0x7E. Prints the ID of
             the incident, the least that is free.
   incidents Prints the saved incidents, by their IDs, each as a line
-            `ID TICK UTC A B LABEL`: recording time in milliseconds and stamp of its last
+            `ID TICK UTC A B LABEL`: recorder time in milliseconds and stamp of its last
             record, the places of its first and of its last record, and its label.
   release ID
             Releases the incident with this ID, 1 to 32. What it kept goes as other records
@@ -122,7 +122,7 @@ room for one of them, and the gap counts the two others. `sources longterm` tell
 with the break that they left. With the Start, the gap and the
 Stop these are 94 records, which `play longterm all - -` prints; `play capsule all - -`
 prints the last minute, from place 31 on. A second `replay` is a run of its own, which goes
-on at place 94 and in the next second of recording time, whatever the stamps say.
+on at place 94 and in the next second of recorder time, whatever the stamps say.
 
 After an incident on that voyage:
   vdr voyage save grounding

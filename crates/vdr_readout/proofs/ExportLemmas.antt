@@ -1,7 +1,7 @@
 -- What `wav` and `picture` answer, from what the calls on the media ensure.
 use Rattle.std.proofs.Common.{◌≡◌, ◌≤◌, ◌↔◌, ◌⊎◌, inl, inr, ⊎_elim, ℕ, ℤ, List, [], Bool, true, false, if◌then◌else◌, length, Option, Some, None, Result, Ok, Err, refl, sym, ap, ◌∙◌, subst}
 use Rattle.std.specs.Bool.{⊤}
-use Rattle.std.specs.Prelude.{IfErr, bytes_eq, is_none}
+use Rattle.std.specs.Prelude.{IfErr, bytes_eq}
 use Rattle.std.proofs.KnownBytes.{Appends-nil}
 use Rattle.vdr_terms.specs.Queries.{Query}
 use Rattle.vdr_history.specs.Histories.{Event, Opening, live}
@@ -11,21 +11,18 @@ use Rattle.vdr_playback.specs.Playback.{selected}
 use Rattle.vdr_outside.specs.Causes.{NoneFalls}
 use Rattle.vdr_outside.specs.Disk.{SameBut}
 use Rattle.vdr_config.specs.Configuration.{Configuration}
-use Rattle.vdr_entry.specs.Queries.{asked_medium}
-use Rattle.vdr_entry.specs.declared.query.Medium.{Medium as Played}
-use Rattle.vdr_entry.specs.declared.query.Medium.TheVariants.{Capsule, LongTerm, Incident}
 use Rattle.vdr_ring.specs.Sequence.{Placed}
 use Rattle.vdr_opening.specs.Media.{both, Contents, HoldsContents, opening_of, reading_of}
 use Rattle.vdr_opening.specs.declared.refused.OpenRefused.{OpenRefused}
 use Rattle.vdr_opening.specs.declared.refused.OpenRefused.TheVariants as openings
 use Rattle.vdr_recorder.specs.Looks.{HasLooked}
-use Rattle.vdr_recorder.specs.Recordings.{HasRecorded, RecordingState}
+use Rattle.vdr_recorder.specs.Recordings.{HasRecorded, RecorderState}
 use Rattle.vdr_vault.proofs.Playing.{stands_to_read}
 use Rattle.vdr_vault.specs.Openings.{OpensAtEachMoment}
-use Rattle.vdr_vault.specs.Vaults.{AreRings, IsReadable, MembersState, ShowsHistory}
-use Rattle.vdr_visit.specs.Stops.{HasOutputCause, IsAccepted, lacks_channel, lacks_incident, unanswered}
-use Rattle.vdr_visit.specs.declared.stop.VisitStop.{VisitStop}
-use Rattle.vdr_visit.specs.declared.stop.VisitStop.TheVariants as stops
+use Rattle.vdr_vault.specs.Vaults.{AreRings, IsReadable, VaultState, ShowsHistory}
+use Rattle.vdr_visit.specs.Refusals.{HasOutputCause, IsAccepted, lacks_channel, lacks_incident, unanswered}
+use Rattle.vdr_visit.specs.declared.refused.VisitRefused.{VisitRefused}
+use Rattle.vdr_visit.specs.declared.refused.VisitRefused.TheVariants as stops
 use Rattle.vdr_export.specs.Answers.{FileEnds, IsFileRefusal, MayBeBegun, file_of}
 use Rattle.vdr_export.specs.declared.file.File.{File}
 use Rattle.vdr_export.specs.declared.refused.ExportRefused.{ExportRefused}
@@ -44,7 +41,7 @@ use Rattle.vdr_readout.specs.Reads.{AskedPlay, CanBeRead, CanPlay, IfItself, IsO
 use Rattle.vdr_readout.specs.declared.exporting.Wish.{Wish}
 use Rattle.vdr_readout.specs.declared.exporting.Wish.TheVariants.{Sound, Picture}
 use Rattle.vdr_readout.proofs.FileLemmas.{as_visit, damage_as, fault_as, may_write, not_asked, of_damage, output_as, own_status, undamaged, writes_so}
-use Rattle.vdr_readout.proofs.ReadLemmas.{Wants, asked_within, channel_ends, read_ends, with_media}
+use Rattle.vdr_readout.proofs.ReadLemmas.{Wants, asked_within, channel_ends, lacks_from, read_ends, with_media}
 
 -- A channel that is not there has no file.
 no_file : (wish : Wish) → wished wish None ≡ None
@@ -58,11 +55,6 @@ lacks_no_file wish c name lacks = ap (λ (k : Option ℕ). wished wish (kind_at 
     none_asked true = refl
     none_asked false = lacks.1
 
-lacks_so : (table : List (Option histories.Incident)) (medium : Played) → LacksIncident table medium → lacks_incident table (asked_medium medium) ≡ true
-lacks_so table Capsule lacks = absurd lacks
-lacks_so table LongTerm lacks = absurd lacks
-lacks_so table (Incident id) lacks = ap (λ (o : Option histories.Incident). is_none o) lacks
-
 true_false : (b : Bool) → b ≡ true → b ≡ false → ⊥
 true_false b t f = cc
 
@@ -73,7 +65,7 @@ still_output old new (Ok u) Begun seen silent = tt
 still_output old new (Err why) Begun seen silent = ⊎_elim (λ begun. inl begun) (λ same. inr (ap seen same)) silent
 
 -- Only the incident is missing.
-missing : {R : Type 0} (no_channel no_incident : Bool) (result : Result ⊤ (VisitStop R)) (stop : VisitStop R) → result ≡ unanswered no_channel no_incident → result ≡ Err stop → no_channel ≡ false → no_incident ≡ true
+missing : {R : Type 0} (no_channel no_incident : Bool) (result : Result ⊤ (VisitRefused R)) (stop : VisitRefused R) → result ≡ unanswered no_channel no_incident → result ≡ Err stop → no_channel ≡ false → no_incident ≡ true
 missing true no_incident result stop is err there = let none : ⊥ = cc in absurd none
 missing false true result stop is err there = refl
 missing false false result stop is err there = let clash : Ok tt ≡ Err stop = sym is ∙ err in let none : ⊥ = cc in absurd none
@@ -84,7 +76,7 @@ answered true no_incident is = let none : ⊥ = cc in absurd none
 answered false true is = let none : ⊥ = cc in absurd none
 answered false false is = (refl, refl)
 
-pub both_there : {R : Type 0} (no_channel no_incident : Bool) (result : Result ⊤ (VisitStop R)) → result ≡ unanswered no_channel no_incident → result ≡ Ok tt → (no_channel ≡ false) × (no_incident ≡ false)
+pub both_there : {R : Type 0} (no_channel no_incident : Bool) (result : Result ⊤ (VisitRefused R)) → result ≡ unanswered no_channel no_incident → result ≡ Ok tt → (no_channel ≡ false) × (no_incident ≡ false)
 both_there no_channel no_incident result is ok = answered no_channel no_incident (sym is ∙ ok)
 
 module _ {tells tells_images : Type 0} (wish : Wish) (asked : AskedPlay) (old new : Outside tells tells_images) where
@@ -129,16 +121,16 @@ module _ {tells tells_images : Type 0} (wish : Wish) (asked : AskedPlay) (old ne
 
   -- No such channel is configured.
   pub channel_exports : {T : Type 0} (result : Result T OpenRefused) (r : T) → result ≡ Ok r
-      → (members : MembersState) → LacksChannel members.config asked.channel → OpenedOn old.media.disk members
+      → (vault : VaultState) → LacksChannel vault.config asked.channel → OpenedOn old.media.disk vault
       → (tells → SameBut 1 old.media.disk.reads new.media.disk.reads)
       → ((x : Contents) → tells → HoldsContents old.media.disk.reads x → EndsMeet both (reading_of x) → WasRecorded x → OpensAtEachMoment old.media.disk new.media.disk result (ShowsHistory (opening_of x) []))
       → ((x y : Contents) → HoldsContents old.media.disk.reads x → HoldsContents old.media.disk.reads y → x.config ≡ y.config)
       → Writes (channel_line asked.channel) old.output new.output → AddsMissing old.media.disk new.media.disk → ExportEnds wish asked old new ends.NoChannel
-  channel_exports result r is members lacks contents others moments same wrote adds = record {
+  channel_exports result r is vault lacks contents others moments same wrote adds = record {
     own = tt;
     written = λ x file t holds can of.
         let c = contents t in
-        let config : members.config ≡ x.config = c.4 ∙ same c.1 x c.2 holds in
+        let config : vault.config ≡ x.config = c.4 ∙ same c.1 x c.2 holds in
         let none : file_in wish x.config asked.channel ≡ None = lacks_no_file wish x.config asked.channel (subst (λ (d : Configuration). LacksChannel d asked.channel) config lacks) in
         let clash : Some file ≡ None = sym of ∙ none in let no : ⊥ = cc in absurd no;
     kind = λ e. let none : ⊥ = cc in absurd none;
@@ -147,44 +139,44 @@ module _ {tells tells_images : Type 0} (wish : Wish) (asked : AskedPlay) (old ne
     output = λ e. let none : ⊥ = cc in absurd none;
     line = λ e. wrote;
     silent = inr (inl tt);
-    media = channel_ends asked.medium asked.channel old.media new.media result r is members lacks contents others moments;
+    media = channel_ends asked.medium asked.channel old.media new.media result r is vault lacks contents others moments;
     missing = adds;
   }
 
-  module _ (mid : MediaSeen tells tells_images) (r after : RecordingState) (query : Query) (wants : Wants r.members.config asked.medium asked.channel asked.from asked.to query)
-      (works : r.members.failed ≡ false)
-      (contents : OpenedOn old.media.disk r.members)
+  module _ (mid : MediaSeen tells tells_images) (r after : RecorderState) (query : Query) (wants : Wants r.vault.config asked.medium asked.channel asked.from asked.to query)
+      (works : r.vault.failed ≡ false)
+      (contents : OpenedOn old.media.disk r.vault)
       (opened : (x : Contents) → tells → HoldsContents old.media.disk.reads x → WasRecorded x
       → (t0 : ℕ) × (old.media.disk.clock ≤ t0) × (t0 ≤ mid.disk.clock) × HasRecorded (opening_of x) [] t0 r mid.disk)
-      (readable : (x : Contents) → tells → HoldsContents old.media.disk.reads x → AreLevel both (reading_of x) → IsReadable (opening_of x) [] r.members x.placed mid.disk)
+      (readable : (x : Contents) → tells → HoldsContents old.media.disk.reads x → AreLevel both (reading_of x) → IsReadable (opening_of x) [] r.vault x.placed mid.disk)
       (later : NoneFalls old.media.faults mid.faults) (others : tells → SameBut 1 old.media.disk.reads mid.disk.reads) (adds : AddsMissing old.media.disk new.media.disk) where
     -- What can be read can be read by the vault.
-    to_read : (x : Contents) → tells → HoldsContents old.media.disk.reads x → CanBeRead x → (placed : ℕ → List Placed) × IsReadable (opening_of x) [] r.members placed mid.disk
+    to_read : (x : Contents) → tells → HoldsContents old.media.disk.reads x → CanBeRead x → (placed : ℕ → List Placed) × IsReadable (opening_of x) [] r.vault placed mid.disk
     to_read x t holds (inl sound) =
         let has = opened x t holds sound in
         let work = has.3.works works in
-        (work.placed, stands_to_read (opening_of x) [] r.members work.placed mid.disk work.stands)
+        (work.placed, stands_to_read (opening_of x) [] r.vault work.placed mid.disk work.stands)
     to_read x t holds (inr level) = (x.placed, readable x t holds level)
 
     module _ {T : Type 0} (result : Result T OpenRefused)
         (moments : (x : Contents) → tells → HoldsContents old.media.disk.reads x → EndsMeet both (reading_of x) → WasRecorded x → OpensAtEachMoment old.media.disk mid.disk result (ShowsHistory (opening_of x) [])) where
       -- How the media ended, by the end of a visit that stands for it.
-      media_so : (ended : Result ⊤ (VisitStop Status)) → IsAccepted (lacks_channel (length r.members.config.channels) query.channel) (lacks_incident r.members.table query.medium) ended
-          → ((opening : Opening) (events : List Event) (placed : ℕ → List Placed) (m offset : ℕ) → tells → IsReadable opening events r.members placed mid.disk → ended ≡ Err (stops.Damaged m offset) → ⊥)
+      media_so : (ended : Result ⊤ (VisitRefused Status)) → IsAccepted (lacks_channel (length r.vault.config.channels) query.channel) (lacks_incident r.vault.table query.medium) ended
+          → ((opening : Opening) (events : List Event) (placed : ℕ → List Placed) (m offset : ℕ) → tells → IsReadable opening events r.vault placed mid.disk → ended ≡ Err (stops.Damaged m offset) → ⊥)
           → HasLooked query r after mid.disk new.media.disk mid.bytes_read new.media.bytes_read mid.faults new.media.faults (ended ≡ Err stops.Fault)
           → IfItself ended IsOwnStatus → PlayEnds asked.medium asked.channel old.media new.media (status_by (λ (s : Status). s) ended asked.medium)
       media_so ended accepted never looked own =
           read_ends asked old.media mid new.media r after query ended wants works contents opened readable accepted never looked later others (λ (s : Status). s) own result moments
 
-      channel_there : lacks_channel (length r.members.config.channels) query.channel ≡ false
-      channel_there = ap (λ (q : Query). lacks_channel (length r.members.config.channels) q.channel) wants.is ∙ asked_within r.members.config asked.channel
+      channel_there : lacks_channel (length r.vault.config.channels) query.channel ≡ false
+      channel_there = ap (λ (q : Query). lacks_channel (length r.vault.config.channels) q.channel) wants.is ∙ asked_within r.vault.config asked.channel
 
       -- The incident is not live.
-      pub incident_exports : {R : Type 0} (accepted : Result ⊤ (VisitStop R)) (stop : VisitStop R) → accepted ≡ unanswered (lacks_channel (length r.members.config.channels) query.channel) (lacks_incident r.members.table query.medium)
+      pub incident_exports : {R : Type 0} (accepted : Result ⊤ (VisitRefused R)) (stop : VisitRefused R) → accepted ≡ unanswered (lacks_channel (length r.vault.config.channels) query.channel) (lacks_incident r.vault.table query.medium)
           → accepted ≡ Err stop → HasLooked query r after mid.disk new.media.disk mid.bytes_read new.media.bytes_read mid.faults new.media.faults ⊥ → new.output ≡ old.output
           → ExportEnds wish asked old new (ends.NoIncident (id_of asked.medium))
       incident_exports accepted stop is refused looked same =
-          let misses = missing (lacks_channel (length r.members.config.channels) query.channel) (lacks_incident r.members.table query.medium) accepted stop is refused channel_there in
+          let misses = missing (lacks_channel (length r.vault.config.channels) query.channel) (lacks_incident r.vault.table query.medium) accepted stop is refused channel_there in
           still_ends (ends.NoIncident (id_of asked.medium)) tt same
           (media_so (Err stops.NoIncident)
           (record {
@@ -195,36 +187,36 @@ module _ {tells tells_images : Type 0} (wish : Wish) (asked : AskedPlay) (old ne
           adds (λ e. let no : ⊥ = cc in no) (λ e. let no : ⊥ = cc in no) (λ e. let no : ⊥ = cc in no) (λ e. let no : ⊥ = cc in no) (λ P. tt) (λ judged. judged) tt (λ bytes. tt)
 
       -- Channel and incident are there.
-      module _ (there : lacks_channel (length r.members.config.channels) query.channel ≡ false) (lives : lacks_incident r.members.table query.medium ≡ false) where
-        is_accepted : (ended : Result ⊤ (VisitStop Status)) → (ended ≡ Err stops.NoChannel → ⊥) → (ended ≡ Err stops.NoIncident → ⊥)
-            → IsAccepted (lacks_channel (length r.members.config.channels) query.channel) (lacks_incident r.members.table query.medium) ended
+      module _ (there : lacks_channel (length r.vault.config.channels) query.channel ≡ false) (lives : lacks_incident r.vault.table query.medium ≡ false) where
+        is_accepted : (ended : Result ⊤ (VisitRefused Status)) → (ended ≡ Err stops.NoChannel → ⊥) → (ended ≡ Err stops.NoIncident → ⊥)
+            → IsAccepted (lacks_channel (length r.vault.config.channels) query.channel) (lacks_incident r.vault.table query.medium) ended
         is_accepted ended channel incident = record {
           channel = (λ e. absurd (channel e), λ lacks. absurd (true_false _ lacks there));
           incident = (λ e. absurd (incident e), λ lacks. absurd (true_false _ lacks.1 lives));
         }
 
-        can_play : (x : Contents) → r.members.config ≡ x.config → r.members.table ≡ x.table → CanPlay x asked.medium asked.channel
+        can_play : (x : Contents) → r.vault.config ≡ x.config → r.vault.table ≡ x.table → CanPlay x asked.medium asked.channel
         can_play x config table = record {
           channel = λ lacks. wants.there (subst (λ (d : Configuration). LacksChannel d asked.channel) (sym config) lacks);
-          incident = λ lacks. true_false (lacks_incident r.members.table query.medium)
-              (ap (λ (q : Query). lacks_incident r.members.table q.medium) wants.is
-              ∙ lacks_so r.members.table asked.medium (subst (λ (t : List (Option histories.Incident)). LacksIncident t asked.medium) (sym table) lacks)) lives;
+          incident = λ lacks. true_false (lacks_incident r.vault.table query.medium)
+              (ap (λ (q : Query). lacks_incident r.vault.table q.medium) wants.is
+              ∙ lacks_from r.vault.table asked.medium (subst (λ (t : List (Option histories.Incident)). LacksIncident t asked.medium) (sym table) lacks)) lives;
         }
 
-        file_is : (found : Option File) → found ≡ wished wish (kind_at r.members.config.channels query.channel) → file_in wish r.members.config asked.channel ≡ found
-        file_is found is = sym (ap (λ (q : Query). wished wish (kind_at r.members.config.channels q.channel)) wants.is) ∙ sym is
+        file_is : (found : Option File) → found ≡ wished wish (kind_at r.vault.config.channels query.channel) → file_in wish r.vault.config asked.channel ≡ found
+        file_is found is = sym (ap (λ (q : Query). wished wish (kind_at r.vault.config.channels q.channel)) wants.is) ∙ sym is
 
         -- The channel is of another kind.
-        pub kind_exports : (found : Option File) → found ≡ wished wish (kind_at r.members.config.channels query.channel) → found ≡ None
+        pub kind_exports : (found : Option File) → found ≡ wished wish (kind_at r.vault.config.channels query.channel) → found ≡ None
             → ((x y : Contents) → HoldsContents old.media.disk.reads x → HoldsContents old.media.disk.reads y → x.config ≡ y.config)
             → HasLooked query r after mid.disk new.media.disk mid.bytes_read new.media.bytes_read mid.faults new.media.faults ⊥ → new.output ≡ old.output → ExportEnds wish asked old new ends.ExportKind
         kind_exports found is none same looked still = record {
           own = tt;
           written = λ x file t holds can of.
               let c = contents t in
-              let config : r.members.config ≡ x.config = c.4 ∙ same c.1 x c.2 holds in
+              let config : r.vault.config ≡ x.config = c.4 ∙ same c.1 x c.2 holds in
               let clash : Some file ≡ None = sym of ∙ ap (λ (d : Configuration). file_in wish d asked.channel) (sym config) ∙ file_is found is ∙ none in let no : ⊥ = cc in absurd no;
-          kind = λ e. legible_so (λ x. CanPlay x asked.medium asked.channel × (file_in wish x.config asked.channel ≡ None)) old.media.disk r.members contents
+          kind = λ e. legible_so (λ x. CanPlay x asked.medium asked.channel × (file_in wish x.config asked.channel ≡ None)) old.media.disk r.vault contents
               (λ x t holds c k l. (can_play x c k, ap (λ (d : Configuration). file_in wish d asked.channel) (sym c) ∙ file_is found is ∙ none));
           legible = λ judged. absurd judged;
           damaged = tt;
@@ -237,26 +229,26 @@ module _ {tells tells_images : Type 0} (wish : Wish) (asked : AskedPlay) (old ne
         }
 
         -- The file was to be written.
-        module _ (found : Option File) (is : found ≡ wished wish (kind_at r.members.config.channels query.channel)) (file : File) (some : found ≡ Some file)
+        module _ (found : Option File) (is : found ≡ wished wish (kind_at r.vault.config.channels query.channel)) (file : File) (some : found ≡ Some file)
             (same : (x y : Contents) → HoldsContents old.media.disk.reads x → HoldsContents old.media.disk.reads y → x.config ≡ y.config) (out : Result ⊤ ExportRefused)
-            (made : (opening : Opening) (events : List Event) (placed : ℕ → List Placed) → tells → IsReadable opening events r.members placed mid.disk
+            (made : (opening : Opening) (events : List Event) (placed : ℕ → List Placed) → tells → IsReadable opening events r.vault placed mid.disk
             → FileEnds (file_of file (selected opening events query)) old.output.taken new.output.taken out)
             (looked : HasLooked query r after mid.disk new.media.disk mid.bytes_read new.media.bytes_read mid.faults new.media.faults (out ≡ Err exports.Fault)) where
           made_is : (x : Contents) → tells → HoldsContents old.media.disk.reads x → file_of file (selected (opening_of x) [] query) ≡ made_of x asked file
           unfolding made_of records_asked
           made_is x t holds =
               let c = contents t in
-              let config : r.members.config ≡ x.config = c.4 ∙ same c.1 x c.2 holds in
+              let config : r.vault.config ≡ x.config = c.4 ∙ same c.1 x c.2 holds in
               ap (λ (q : Query). file_of file (selected (opening_of x) [] q)) (wants.is ∙ ap (λ (d : Configuration). query_of d asked.medium asked.channel asked.from asked.to) config)
 
           one_file : (x : Contents) → tells → HoldsContents old.media.disk.reads x → (other : File) → file_in wish x.config asked.channel ≡ Some other → other ≡ file
           one_file x t holds other of =
               let c = contents t in
-              let config : r.members.config ≡ x.config = c.4 ∙ same c.1 x c.2 holds in
+              let config : r.vault.config ≡ x.config = c.4 ∙ same c.1 x c.2 holds in
               let both_are : Some other ≡ Some file = sym of ∙ ap (λ (d : Configuration). file_in wish d asked.channel) (sym config) ∙ file_is found is ∙ some in cc
 
           exportable : tells → IsLegibleWith old.media.disk.reads (CanExport wish asked)
-          exportable = legible_so (CanExport wish asked) old.media.disk r.members contents
+          exportable = legible_so (CanExport wish asked) old.media.disk r.vault contents
               (λ x t holds c k l. (can_play x c k, (file, ap (λ (d : Configuration). file_in wish d asked.channel) (sym c) ∙ file_is found is ∙ some)))
 
           pub made_exports : IfErr out (IsFileRefusal file) → IfErr out (λ why. MayBeBegun file why ⊎ (new.output ≡ old.output)) → HasOutputCause old.output.faults new.output.faults (out ≡ Err exports.Output)

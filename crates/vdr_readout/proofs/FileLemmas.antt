@@ -6,8 +6,8 @@ use Rattle.std.specs.List.{flat_map}
 use Rattle.vdr_terms.specs.Records.{Record}
 use Rattle.vdr_config.specs.Configuration.{Selection}
 use Rattle.vdr_config.specs.Configuration.Selection.{Sentence, Image as Images, Pcm, Opaque}
-use Rattle.vdr_visit.specs.declared.stop.VisitStop.{VisitStop}
-use Rattle.vdr_visit.specs.declared.stop.VisitStop.TheVariants as stops
+use Rattle.vdr_visit.specs.declared.refused.VisitRefused.{VisitRefused}
+use Rattle.vdr_visit.specs.declared.refused.VisitRefused.TheVariants as stops
 use Rattle.vdr_export.specs.Answers.{FileEnds, IsFailure, IsFileRefusal, MayBeBegun, data_of, file_of, first_missing, joined, picture_of, size_of, unless_long, unless_mixed, unless_part, wave_of, wave_with}
 use Rattle.vdr_export.specs.Numbers.{mixed_at}
 use Rattle.vdr_export.specs.Pictures.{Shown, bodies, greatest_of, shown}
@@ -27,7 +27,7 @@ use Rattle.vdr_readout.specs.declared.exporting.Wish.{Wish}
 use Rattle.vdr_readout.specs.declared.exporting.Wish.TheVariants.{Sound, Picture}
 
 -- The same as the end of a visit, whose own reason is a status.
-abbrev pub as_visit : Result ⊤ ExportRefused → Result ⊤ (VisitStop Status)
+abbrev pub as_visit : Result ⊤ ExportRefused → Result ⊤ (VisitRefused Status)
 as_visit (Ok u) = Ok tt
 as_visit (Err Nothing) = Err (stops.Own ends.ExportNothing)
 as_visit (Err (Mixed place)) = Err (stops.Own (ends.ExportMixed place))

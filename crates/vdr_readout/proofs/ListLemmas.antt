@@ -7,9 +7,9 @@ use Rattle.vdr_ring.specs.Sequence.{Placed}
 use Rattle.vdr_opening.specs.Media.{both, Contents, HoldsContents, opening_of, reading_of}
 use Rattle.vdr_opening.specs.declared.refused.OpenRefused.{OpenRefused}
 use Rattle.vdr_vault.specs.Openings.{OpensAtEachMoment}
-use Rattle.vdr_vault.specs.Vaults.{MembersState, ShowsHistory, Stands}
-use Rattle.vdr_replay.proofs.Playing.{config_read}
-use Rattle.vdr_replay.proofs.Resting.{stand_reads}
+use Rattle.vdr_vault.specs.Vaults.{VaultState, ShowsHistory, Stands}
+use Rattle.vdr_headline.proofs.Playing.{config_read}
+use Rattle.vdr_headline.proofs.Resting.{stand_reads}
 use Rattle.vdr_command.specs.Endings.{IsWorkDone}
 use Rattle.vdr_readout.specs.Incidents.{CanList, IsListStatus, ListsAll}
 use Rattle.vdr_command.specs.Opened.{AreLooks, MediaEnds, OneAnswer, WasRecorded}
@@ -22,15 +22,15 @@ use Rattle.vdr_command.proofs.OpenedLemmas.{OpenedOn, kept_opened, legible_so, n
 module _ {tells tells_images : Type 0} where
   -- What was opened is listed.
   pub listed_ends : {T : Type 0} (old new : MediaSeen tells tells_images) (result : Result T OpenRefused) (r : T) → result ≡ Ok r
-      → (members : MembersState) → OpenedOn old.disk members
-      → ((x : Contents) → tells → HoldsContents old.disk.reads x → WasRecorded x → (placed : ℕ → List Placed) × Stands (opening_of x) [] members placed new.disk)
+      → (vault : VaultState) → OpenedOn old.disk vault
+      → ((x : Contents) → tells → HoldsContents old.disk.reads x → WasRecorded x → (placed : ℕ → List Placed) × Stands (opening_of x) [] vault placed new.disk)
       → (tells → SameBut 1 old.disk.reads new.disk.reads)
       → ((x : Contents) → tells → HoldsContents old.disk.reads x → EndsMeet both (reading_of x) → WasRecorded x → OpensAtEachMoment old.disk new.disk result (ShowsHistory (opening_of x) []))
       → (status : Status) → IsWorkDone status → MediaEnds CanList ⊥ AreLooks old new status
-  listed_ends old new result r is members contents stands others moments status done =
-      worked_ends CanList ⊥ AreLooks old new status done (legible_so CanList old.disk members contents (λ x t holds c k l. tt)) others
+  listed_ends old new result r is vault contents stands others moments status done =
+      worked_ends CanList ⊥ AreLooks old new status done (legible_so CanList old.disk vault contents (λ x t holds c k l. tt)) others
       (λ x t holds meet regular. kept_opened x (config_read old.disk.reads x holds) regular AreLooks status old.disk new.disk result r is no_looks
-      (λ worked told. let s = stands x t holds regular in stand_reads (opening_of x) [] members s.0 new.disk s.1 told) (moments x t holds meet regular))
+      (λ worked told. let s = stands x t holds regular in stand_reads (opening_of x) [] vault s.0 new.disk s.1 told) (moments x t holds meet regular))
 
 module _ {tells tells_images : Type 0} (old new : MediaSeen tells tells_images) (told : tells) (law : OneAnswer old.disk.reads) (MayBe : List Event → Type 0) where
   pub lists_all : (status : Status) → (status ≡ OutputFault → ⊥) → (status ≡ MediaFault → ⊥) → IsListStatus status → MediaEnds CanList ⊥ MayBe old new status → ListsAll old.disk.reads status

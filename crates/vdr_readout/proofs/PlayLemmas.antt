@@ -1,39 +1,21 @@
 -- What `play` owes, from what reading out ensures.
-use Rattle.std.proofs.Common.{◌≡◌, ◌⊎◌, inl, inr, ⊎_elim, ◌++◌, ◌∷◌, ℕ, List, [], refl, sym, ap, subst, ◌∙◌, append-nil}
+use Rattle.std.proofs.Common.{◌≡◌, ◌⊎◌, inl, inr, ⊎_elim, ℕ, List, [], refl, sym, ap, subst, ◌∙◌}
 use Rattle.vdr_terms.specs.Records.{Record}
 use Rattle.vdr_outside.specs.Disk.{Disk}
 use Rattle.vdr_opening.specs.Media.{Contents, HoldsContents}
-use Rattle.vdr_play.specs.Streams.{Seen, nothing_seen, seen_after}
-use Rattle.vdr_play.specs.Texts.{record_text, records_text, seen_by}
-use Rattle.vdr_visit.specs.Prints.{lines_behind, text_of, whole_text}
+use Rattle.vdr_play.specs.Streams.{Seen, nothing_seen}
+use Rattle.vdr_play.specs.Texts.{records_text}
+use Rattle.vdr_visit.specs.Prints.{whole_text}
 use Rattle.vdr_command.specs.Endings.{IsWorkDone}
 use Rattle.vdr_command.specs.Opened.{OneAnswer, PrintsText}
 use Rattle.vdr_command.specs.Outside.{Outside, OutputFailed, OutputSeen, Prints, PrintsFront, Writes}
 use Rattle.vdr_command.specs.StatusLine.{IsNoChannel, channel_line}
 use Rattle.vdr_command.specs.declared.status.Status.{Status}
 use Rattle.vdr_command.specs.declared.status.Status.TheVariants.{Done, Words, Config, Small, Unformatted, Formatted, Damaged, MediaFault, PortFault, LinkFault, InputFault, OutputFault, NoMemory, Feed, NoChannel, NoIncident, SaveRefused, Place, Tick, ExportKind, ExportNothing, ExportMixed, ExportLong, ExportPart}
+use Rattle.vdr_recorder.proofs.Printing.{line_after, lines_are, whole_is}
 use Rattle.vdr_readout.specs.Plays.{IsCut, IsPlayStatus, Plays, play_text}
 use Rattle.vdr_readout.specs.Reads.{AreFirst, AskedPlay, CanBeRead, ReadsOut, ShowsReading, StoppedItself, records_asked}
 use Rattle.vdr_readout.proofs.PlayCompleteness.{plays_all}
-
--- What a player prints of a record, from these tracks on.
-abbrev pub line_after : Seen → List Record → Record → List ℕ
-line_after first seen r = record_text (seen_by first seen) r
-
-seen_with : (first : Seen) (seen : List Record) (r : Record) → seen_by first (seen ++ r ∷ []) ≡ seen_after (seen_by first seen) r.content
-seen_with first [] r = refl
-seen_with first (x ∷ xs) r = seen_with (seen_after first x.content) xs r
-
-behind : (first : Seen) (seen records : List Record) → lines_behind (line_after first) seen records ≡ records_text (seen_by first seen) records
-behind first seen [] = refl
-behind first seen (r ∷ rs) =
-    ap (λ (l : List ℕ). record_text (seen_by first seen) r ++ l) (behind first (seen ++ r ∷ []) rs ∙ ap (λ (s : Seen). records_text s rs) (seen_with first seen r))
-
-lines_are : (first : Seen) (records : List Record) → first ≡ nothing_seen → text_of (line_after first) records ≡ records_text nothing_seen records
-lines_are first records new = behind first [] records ∙ ap (λ (s : Seen). records_text s records) new
-
-whole_is : (first : Seen) (records : List Record) → first ≡ nothing_seen → whole_text (line_after first) (λ all. []) records ≡ records_text nothing_seen records
-whole_is first records new = append-nil (text_of (line_after first) records) ∙ lines_are first records new
 
 module _ {tells tells_images R : Type 0} (asked : AskedPlay) (disk : Disk tells tells_images) (Has : List Record → Type 0) (status_of : R → Status) (first : Seen) (new : first ≡ nothing_seen) (was next : OutputSeen) where
   abbrev Shows : Status → Type 0

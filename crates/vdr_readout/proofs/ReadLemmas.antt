@@ -1,8 +1,6 @@
 -- What a command that reads records out answers, from what the calls on the media ensure.
-use Rattle.std.specs.Prelude.{sum, Bool, true, false, ⊤, position, bytes_eq, length, nat_le, is_none, if◌then◌else◌}
-use Rattle.std.proofs.Common.{◌≡◌, ◌≤◌, ◌<◌, ◌↔◌, ◌∷◌, inl, inr, ⊎_elim, ℕ, ℤ, List, [], Option, Some, None, Result, Ok, Err, refl, sym, ap, subst, arith, ◌∙◌}
-use Rattle.std.proofs.lemmas.Bool.{false_from_ne_true, leb-true}
-use Rattle.std.proofs.lemmas.List.Quantifiers.{position-Some}
+use Rattle.std.specs.Prelude.{sum, true, false, ⊤, bytes_eq, length, is_none}
+use Rattle.std.proofs.Common.{◌≡◌, ◌≤◌, ◌↔◌, ◌∷◌, inl, inr, ⊎_elim, ℕ, ℤ, List, [], Option, Some, None, Result, Ok, Err, refl, sym, ap, subst, ◌∙◌}
 use Rattle.std.proofs.KnownBytes.{Appends-nil}
 use Rattle.vdr_terms.specs.Queries.{Query}
 use Rattle.vdr_history.specs.Histories.{Act, Event, Opening, incidents, live, records_of_act, table_after}
@@ -16,7 +14,7 @@ use Rattle.vdr_outside.specs.Disk.{Disk, Image, SameBut}
 use Rattle.vdr_outside.specs.Writes.{AppendsFront}
 use Rattle.vdr_terms.specs.Records.{Record}
 use Rattle.vdr_outside.proofs.Counts.{rose_after, sum_not_less}
-use Rattle.vdr_config.specs.Configuration.{Configuration, Selector}
+use Rattle.vdr_config.specs.Configuration.{Configuration}
 use Rattle.vdr_entry.specs.Queries.{asked_medium}
 use Rattle.vdr_entry.specs.declared.query.Medium.{Medium as Played}
 use Rattle.vdr_entry.specs.declared.query.Medium.TheVariants.{Capsule, LongTerm, Incident}
@@ -24,28 +22,29 @@ use Rattle.vdr_ring.specs.Sequence.{Placed}
 use Rattle.vdr_opening.specs.Media.{both, Contents, HoldsContents, opening_of, reading_of}
 use Rattle.vdr_opening.specs.declared.refused.OpenRefused.{OpenRefused}
 use Rattle.vdr_opening.specs.declared.refused.OpenRefused.TheVariants as openings
-use Rattle.vdr_recorder.specs.Recordings.{HasRecorded, RecordingState}
+use Rattle.vdr_recorder.specs.Recordings.{HasRecorded, RecorderState}
 use Rattle.vdr_recorder.specs.Looks.{HasLooked}
 use Rattle.vdr_vault.specs.Openings.{OpensAtEachMoment}
 use Rattle.vdr_vault.proofs.OpenMoments.{never_both}
 use Rattle.vdr_vault.proofs.Playing.{stands_to_read}
 use Rattle.vdr_vault.proofs.ShownHistory.{stands_silent, stands_still}
-use Rattle.vdr_vault.specs.Vaults.{IsReadable, MembersState, ShowsHistory, Stands}
+use Rattle.vdr_vault.specs.Vaults.{IsReadable, VaultState, ShowsHistory, Stands}
 use Rattle.vdr_command.specs.Opened.{AddsMissing, AreLooks, IfDamaged, IfNoIncident, IsLegibleWith, KeepsContents, MediaEnds, WasRecorded}
 use Rattle.vdr_command.specs.Endings.{IsWorkDone}
 use Rattle.vdr_command.specs.Statuses.{status_of_opening}
 use Rattle.vdr_command.specs.Outside.{MediaSeen, Outside, OutputFailed, OutputSeen, Prints, PrintsFront, Writes}
 use Rattle.vdr_command.specs.StatusLine.{channel_line}
+use Rattle.vdr_visit.proofs.Channels.{has_number, number_if, position_within}
 use Rattle.vdr_visit.specs.Prints.{text_of, whole_text}
-use Rattle.vdr_visit.specs.Stops.{IsAccepted, lacks_channel, lacks_incident}
+use Rattle.vdr_visit.specs.Refusals.{IsAccepted, lacks_channel, lacks_incident}
 use Rattle.vdr_visit.specs.Visits.{AreVisited, HasMade, HasVisited}
-use Rattle.vdr_visit.specs.declared.stop.VisitStop.{VisitStop}
-use Rattle.vdr_visit.specs.declared.stop.VisitStop.TheVariants as stops
+use Rattle.vdr_visit.specs.declared.refused.VisitRefused.{VisitRefused}
+use Rattle.vdr_visit.specs.declared.refused.VisitRefused.TheVariants as stops
 use Rattle.vdr_readout.specs.Reads.{AreAsked, AreFirst, AskedPlay, CanBeRead, CanPlay, IfItself, IsCutOff, IsOwnStatus, LacksChannel, LacksIncident, MetUnreadable, PlayEnds, ReadsOut, ShowsReading, StoppedItself, channel_asked, channel_in, all_records, id_of, query_of, records_asked, status_by}
 use Rattle.vdr_command.specs.declared.status.Status.{Status}
 use Rattle.vdr_command.specs.declared.status.Status.TheVariants.{Done, Words, Config, Small, Unformatted, Formatted, Damaged, MediaFault, PortFault, LinkFault, InputFault, OutputFault, NoMemory, Feed, NoChannel, NoIncident, SaveRefused, Place, Tick, ExportKind, ExportNothing, ExportMixed, ExportLong, ExportPart}
-use Rattle.vdr_replay.proofs.Playing.{config_read}
-use Rattle.vdr_replay.proofs.Resting.{stand_reads}
+use Rattle.vdr_headline.proofs.Playing.{config_read}
+use Rattle.vdr_headline.proofs.Resting.{stand_reads}
 use Rattle.vdr_command.proofs.OpenedLemmas.{OpenedOn, kept_by_call, kept_opened, legible_so, no_looks, one_look, worked_ends}
 
 none_of : {A : Type 0} (o : Option A) → is_none o ≡ true → o ≡ None
@@ -58,7 +57,7 @@ lacks_is table Capsule e = let none : ⊥ = cc in absurd none
 lacks_is table LongTerm e = let none : ⊥ = cc in absurd none
 lacks_is table (Incident id) e = none_of (live table id) e
 
-lacks_from : (table : List (Option histories.Incident)) (medium : Played) → LacksIncident table medium → lacks_incident table (asked_medium medium) ≡ true
+pub lacks_from : (table : List (Option histories.Incident)) (medium : Played) → LacksIncident table medium → lacks_incident table (asked_medium medium) ≡ true
 lacks_from table Capsule lacks = absurd lacks
 lacks_from table LongTerm lacks = absurd lacks
 lacks_from table (Incident id) lacks = ap (λ (o : Option histories.Incident). is_none o) lacks
@@ -67,18 +66,6 @@ medium_is : (table : List (Option histories.Incident)) (medium : Played) → lac
 medium_is table Capsule e = let none : ⊥ = cc in absurd none
 medium_is table LongTerm e = let none : ⊥ = cc in absurd none
 medium_is table (Incident id) e = refl
-
-has_number : (count : ℕ) (number : Option ℕ) → ((k : ℕ) → number ≡ Some k → k < count) → lacks_channel count number ≡ false
-has_number count None within = refl
-has_number count (Some k) within = false_from_ne_true (nat_le count k) (λ past. let few = within k refl in let low : count ≤ k = leb-true count k past in let none : ⊥ = omega (arith, few, low) in none)
-
-position_within : (test : Selector → Bool) (channels : List Selector) (k : ℕ) → position test channels ≡ Some k → k < length channels
-position_within test [] k e = let none : ⊥ = cc in absurd none
-position_within test (c ∷ channels) k e = (position-Some test (c ∷ channels) k c e).0
-
-number_if : (b : Bool) (found : Option ℕ) (k : ℕ) → (if b then None else found) ≡ Some k → found ≡ Some k
-number_if true found k e = let none : ⊥ = cc in absurd none
-number_if false found k e = e
 
 -- A channel that is asked for by its name is configured.
 pub asked_within : (c : Configuration) (name : List ℕ) → lacks_channel (length c.channels) (channel_asked c name) ≡ false
@@ -124,11 +111,11 @@ module _ {tells tells_images : Type 0} where
 
   -- No such channel is configured.
   pub channel_ends : {T : Type 0} (medium : Played) (name : List ℕ) (old new : MediaSeen tells tells_images) (result : Result T OpenRefused) (r : T) → result ≡ Ok r
-      → (members : MembersState) → LacksChannel members.config name → OpenedOn old.disk members
+      → (vault : VaultState) → LacksChannel vault.config name → OpenedOn old.disk vault
       → (tells → SameBut 1 old.disk.reads new.disk.reads)
       → ((x : Contents) → tells → HoldsContents old.disk.reads x → EndsMeet both (reading_of x) → WasRecorded x → OpensAtEachMoment old.disk new.disk result (ShowsHistory (opening_of x) []))
       → PlayEnds medium name old new NoChannel
-  channel_ends medium name old new result r is members lacks contents others moments = record {
+  channel_ends medium name old new result r is vault lacks contents others moments = record {
     media = record {
       unformatted = λ e. let none : ⊥ = cc in absurd none;
       damaged = tt;
@@ -138,7 +125,7 @@ module _ {tells tells_images : Type 0} where
       blank = λ t un. absurd (never_both old.disk.reads (contents t).0 un);
       kept = λ x t holds meet regular. inr (kept_opened x (config_read old.disk.reads x holds) regular AreLooks NoChannel old.disk new.disk result r is no_looks (λ worked. absurd worked) (moments x t holds meet regular));
     };
-    no_channel = λ e. legible_so (λ x. LacksChannel x.config name) old.disk members contents (λ x t holds c k l. subst (λ (d : Configuration). LacksChannel d name) c lacks);
+    no_channel = λ e. legible_so (λ x. LacksChannel x.config name) old.disk vault contents (λ x t holds c k l. subst (λ (d : Configuration). LacksChannel d name) c lacks);
     no_incident = tt;
   }
 
@@ -192,22 +179,22 @@ module _ {tells tells_images : Type 0} where
 
   pub channel_reads : {T R : Type 0} (asked : AskedPlay) (Has : List Record → Type 0) (Stops : List Record → R → Type 0) (status_of : R → Status) (line : List Record → Record → List ℕ) (last : List Record → List ℕ)
       (old new : Outside tells tells_images) (result : Result T OpenRefused) (r : T) → result ≡ Ok r
-      → (members : MembersState) → LacksChannel members.config asked.channel → OpenedOn old.media.disk members
+      → (vault : VaultState) → LacksChannel vault.config asked.channel → OpenedOn old.media.disk vault
       → (tells → SameBut 1 old.media.disk.reads new.media.disk.reads)
       → ((x : Contents) → tells → HoldsContents old.media.disk.reads x → EndsMeet both (reading_of x) → WasRecorded x → OpensAtEachMoment old.media.disk new.media.disk result (ShowsHistory (opening_of x) []))
       → Writes (channel_line asked.channel) old.output new.output → AddsMissing old.media.disk new.media.disk → ReadsOut asked Has Stops status_of line last old new NoChannel
-  channel_reads asked Has Stops status_of line last old new result r is members lacks contents others moments wrote missing = record {
+  channel_reads asked Has Stops status_of line last old new result r is vault lacks contents others moments wrote missing = record {
     shown = (wrote, lacks.0);
-    media = channel_ends asked.medium asked.channel old.media new.media result r is members lacks contents others moments;
+    media = channel_ends asked.medium asked.channel old.media new.media result r is vault lacks contents others moments;
     missing = missing;
   }
 
 -- A visit of media that can be read never meets damage.
-pub never_damaged : {tells tells_images R : Type 0} {query : Query} {members : MembersState} {disk : Disk tells tells_images} {Has : List Record → Type 0} {Stops : List Record → R → Type 0}
-    {line : List Record → Record → List ℕ} {whole : List Record → List ℕ} {was now : Option (List ℕ)} {ended : Result ⊤ (VisitStop R)} → HasVisited query members disk Has Stops line whole was now ended
-    → (opening : Opening) (events : List Event) (placed : ℕ → List Placed) (m offset : ℕ) → tells → IsReadable opening events members placed disk → ended ≡ Err (stops.Damaged m offset) → ⊥
+pub never_damaged : {tells tells_images R : Type 0} {query : Query} {vault : VaultState} {disk : Disk tells tells_images} {Has : List Record → Type 0} {Stops : List Record → R → Type 0}
+    {line : List Record → Record → List ℕ} {whole : List Record → List ℕ} {was now : Option (List ℕ)} {ended : Result ⊤ (VisitRefused R)} → HasVisited query vault disk Has Stops line whole was now ended
+    → (opening : Opening) (events : List Event) (placed : ℕ → List Placed) (m offset : ℕ) → tells → IsReadable opening events vault placed disk → ended ≡ Err (stops.Damaged m offset) → ⊥
 never_damaged {R = R} {query = query} v opening events placed m offset t readable is =
-    subst (λ (o : Result ⊤ (VisitStop R)). AreVisited v.seen (selected opening events query) o) is (v.are opening events placed t readable)
+    subst (λ (o : Result ⊤ (VisitRefused R)). AreVisited v.seen (selected opening events query) o) is (v.are opening events placed t readable)
 
 -- Over one vault, which was opened on media that held some contents, a query is asked that stands for these words.
 pub record Wants (config : Configuration) (medium : Played) (name : List ℕ) (from to : ℤ) (query : Query) : Type 0 where
@@ -219,40 +206,40 @@ pub wanted_so : (config : Configuration) (medium : Played) (name : List ℕ) (fr
 wanted_so config medium name from to query is there = record { is = is; there = there }
 
 module _ {tells tells_images R : Type 0} (asked : AskedPlay) (old mid new : MediaSeen tells tells_images)
-    (r after : RecordingState) (query : Query) (ended : Result ⊤ (VisitStop R))
-    (wants : Wants r.members.config asked.medium asked.channel asked.from asked.to query)
-    (works : r.members.failed ≡ false)
-    (contents : OpenedOn old.disk r.members)
+    (r after : RecorderState) (query : Query) (ended : Result ⊤ (VisitRefused R))
+    (wants : Wants r.vault.config asked.medium asked.channel asked.from asked.to query)
+    (works : r.vault.failed ≡ false)
+    (contents : OpenedOn old.disk r.vault)
     (opened : (x : Contents) → tells → HoldsContents old.disk.reads x → WasRecorded x
     → (t0 : ℕ) × (old.disk.clock ≤ t0) × (t0 ≤ mid.disk.clock) × HasRecorded (opening_of x) [] t0 r mid.disk)
-    (readable : (x : Contents) → tells → HoldsContents old.disk.reads x → AreLevel both (reading_of x) → IsReadable (opening_of x) [] r.members x.placed mid.disk) where
+    (readable : (x : Contents) → tells → HoldsContents old.disk.reads x → AreLevel both (reading_of x) → IsReadable (opening_of x) [] r.vault x.placed mid.disk) where
   -- The query's channel is there, so that only its incident may be missing.
-  channel_is_there : lacks_channel (length r.members.config.channels) query.channel ≡ false
-  channel_is_there = subst (λ (q : Query). lacks_channel (length r.members.config.channels) q.channel ≡ false) (sym wants.is) (asked_within r.members.config asked.channel)
+  channel_is_there : lacks_channel (length r.vault.config.channels) query.channel ≡ false
+  channel_is_there = subst (λ (q : Query). lacks_channel (length r.vault.config.channels) q.channel ≡ false) (sym wants.is) (asked_within r.vault.config asked.channel)
 
   abbrev Misses : Type 0
-  Misses = lacks_incident r.members.table query.medium ≡ true
+  Misses = lacks_incident r.vault.table query.medium ≡ true
 
-  misses_is : Misses → lacks_incident r.members.table (asked_medium asked.medium) ≡ true
-  misses_is e = subst (λ (q : Query). lacks_incident r.members.table q.medium ≡ true) wants.is e
+  misses_is : Misses → lacks_incident r.vault.table (asked_medium asked.medium) ≡ true
+  misses_is e = subst (λ (q : Query). lacks_incident r.vault.table q.medium ≡ true) wants.is e
 
-  misses_from : lacks_incident r.members.table (asked_medium asked.medium) ≡ true → Misses
-  misses_from e = subst (λ (q : Query). lacks_incident r.members.table q.medium ≡ true) (sym wants.is) e
+  misses_from : lacks_incident r.vault.table (asked_medium asked.medium) ≡ true → Misses
+  misses_from e = subst (λ (q : Query). lacks_incident r.vault.table q.medium ≡ true) (sym wants.is) e
 
   -- Where the media are regular, the vault stands on them.
-  standing : (x : Contents) → tells → HoldsContents old.disk.reads x → WasRecorded x → (placed : ℕ → List Placed) × Stands (opening_of x) [] r.members placed mid.disk
+  standing : (x : Contents) → tells → HoldsContents old.disk.reads x → WasRecorded x → (placed : ℕ → List Placed) × Stands (opening_of x) [] r.vault placed mid.disk
   standing x t holds regular =
       let has = opened x t holds regular in
       let work = has.3.works works in
       (work.placed, work.stands)
 
   -- What can be read can be read by the vault.
-  to_read : (x : Contents) → tells → HoldsContents old.disk.reads x → CanBeRead x → (placed : ℕ → List Placed) × IsReadable (opening_of x) [] r.members placed mid.disk
-  to_read x t holds (inl sound) = let stands = standing x t holds sound in (stands.0, stands_to_read (opening_of x) [] r.members stands.0 mid.disk stands.1)
+  to_read : (x : Contents) → tells → HoldsContents old.disk.reads x → CanBeRead x → (placed : ℕ → List Placed) × IsReadable (opening_of x) [] r.vault placed mid.disk
+  to_read x t holds (inl sound) = let stands = standing x t holds sound in (stands.0, stands_to_read (opening_of x) [] r.vault stands.0 mid.disk stands.1)
   to_read x t holds (inr level) = (x.placed, readable x t holds level)
 
-  module _ (accepted : IsAccepted (lacks_channel (length r.members.config.channels) query.channel) (lacks_incident r.members.table query.medium) ended)
-      (undamaged : (opening : Opening) (events : List Event) (placed : ℕ → List Placed) (m offset : ℕ) → tells → IsReadable opening events r.members placed mid.disk → ended ≡ Err (stops.Damaged m offset) → ⊥)
+  module _ (accepted : IsAccepted (lacks_channel (length r.vault.config.channels) query.channel) (lacks_incident r.vault.table query.medium) ended)
+      (undamaged : (opening : Opening) (events : List Event) (placed : ℕ → List Placed) (m offset : ℕ) → tells → IsReadable opening events r.vault placed mid.disk → ended ≡ Err (stops.Damaged m offset) → ⊥)
       (looked : HasLooked query r after mid.disk new.disk mid.bytes_read new.bytes_read mid.faults new.faults (ended ≡ Err stops.Fault)) (later : NoneFalls old.faults mid.faults)
       (others : tells → SameBut 1 old.disk.reads mid.disk.reads) (status_of : R → Status) (own : IfItself ended (λ reason. IsOwnStatus (status_of reason))) where
     module _ {T : Type 0} (result : Result T OpenRefused)
@@ -261,9 +248,9 @@ module _ {tells tells_images R : Type 0} (asked : AskedPlay) (old mid new : Medi
       looked_at : (x : Contents) → tells → HoldsContents old.disk.reads x → WasRecorded x → (event : Event) → event.act ≡ Look → ShowsHistory (opening_of x) (event ∷ []) new.disk.reads
       looked_at x t holds regular event is =
           let stands = standing x t holds regular in
-          stand_reads (opening_of x) (event ∷ []) r.members stands.0 new.disk
+          stand_reads (opening_of x) (event ∷ []) r.vault stands.0 new.disk
           (stands_silent (opening_of x) [] event (ap (λ (a : Act). records_of_act a) is) (ap (λ (a : Act). table_after (given (opening_of x) 1 []) (incidents (opening_of x) []) a) is)
-          r.members stands.0 new.disk (stands_still (opening_of x) [] r.members stands.0 mid.disk new.disk looked.read.unchanged stands.1)) t
+          r.vault stands.0 new.disk (stands_still (opening_of x) [] r.vault stands.0 mid.disk new.disk looked.read.unchanged stands.1)) t
 
       kept_with_look : (status : Status) (x : Contents) → tells → HoldsContents old.disk.reads x → EndsMeet both (reading_of x) → WasRecorded x → KeepsContents x AreLooks status old.disk new.disk
       kept_with_look status x t holds meet regular =
@@ -276,20 +263,20 @@ module _ {tells tells_images R : Type 0} (asked : AskedPlay) (old mid new : Medi
       others_too t = subst (λ (image : Image). SameBut 1 old.disk.reads image) (sym (looked.read.unchanged.reads t)) (others t)
 
       playable : (ended ≡ Err stops.NoIncident → ⊥) → tells → IsLegibleWith old.disk.reads (λ x. CanPlay x asked.medium asked.channel)
-      playable found = legible_so (λ x. CanPlay x asked.medium asked.channel) old.disk r.members contents (λ x t holds c k l. record {
+      playable found = legible_so (λ x. CanPlay x asked.medium asked.channel) old.disk r.vault contents (λ x t holds c k l. record {
         channel = λ lacks. wants.there (subst (λ (d : Configuration). LacksChannel d asked.channel) (sym c) lacks);
-        incident = λ lacks. found (accepted.incident.1 (channel_is_there, misses_from (lacks_from r.members.table asked.medium (subst (λ (table : List (Option histories.Incident)). LacksIncident table asked.medium) (sym k) lacks))));
+        incident = λ lacks. found (accepted.incident.1 (channel_is_there, misses_from (lacks_from r.vault.table asked.medium (subst (λ (table : List (Option histories.Incident)). LacksIncident table asked.medium) (sym k) lacks))));
       })
 
       irregular : (k offset : ℕ) → ended ≡ Err (stops.Damaged k offset) → tells → (x : Contents) → HoldsContents old.disk.reads x → CanBeRead x → ⊥
       irregular k offset is t x holds fit = let read = to_read x t holds fit in undamaged (opening_of x) [] read.0 k offset t read.1 is
 
       rose : ended ≡ Err stops.Fault → Rose (sum old.faults) (sum new.faults)
-      rose is = ⊎_elim (λ (failed : r.members.failed ≡ true). let clash : true ≡ false = sym failed ∙ works in let none : ⊥ = cc in absurd none)
+      rose is = ⊎_elim (λ (failed : r.vault.failed ≡ true). let clash : true ≡ false = sym failed ∙ works in let none : ⊥ = cc in absurd none)
           (λ (more : Rose (sum mid.faults) (sum new.faults)). rose_after (sum old.faults) (sum mid.faults) (sum new.faults) (sum_not_less old.faults mid.faults later.same_media later.none_falls) more)
           (looked.cause.in_all is)
 
-      ends_so : (p : Result ⊤ (VisitStop R)) → ended ≡ p → PlayEnds asked.medium asked.channel old new (status_by status_of p asked.medium)
+      ends_so : (p : Result ⊤ (VisitRefused R)) → ended ≡ p → PlayEnds asked.medium asked.channel old new (status_by status_of p asked.medium)
       ends_so (Ok x) is = record {
         media = worked_ends _ _ AreLooks old new Done tt (playable (λ e. let clash : Ok x ≡ Err stops.NoIncident = sym is ∙ e in let none : ⊥ = cc in absurd none)) others_too (kept_with_look Done);
         no_channel = λ e. let none : ⊥ = cc in absurd none;
@@ -308,10 +295,10 @@ module _ {tells tells_images R : Type 0} (asked : AskedPlay) (old mid new : Medi
         };
         no_channel = λ e. let none : ⊥ = cc in absurd none;
         no_incident = (
-          medium_is r.members.table asked.medium misses,
-          legible_so (λ x. (LacksChannel x.config asked.channel → ⊥) × LacksIncident x.table asked.medium) old.disk r.members contents (λ x t holds c k l. (
+          medium_is r.vault.table asked.medium misses,
+          legible_so (λ x. (LacksChannel x.config asked.channel → ⊥) × LacksIncident x.table asked.medium) old.disk r.vault contents (λ x t holds c k l. (
             (λ lacks. wants.there (subst (λ (d : Configuration). LacksChannel d asked.channel) (sym c) lacks)),
-            subst (λ (table : List (Option histories.Incident)). LacksIncident table asked.medium) k (lacks_is r.members.table asked.medium misses),
+            subst (λ (table : List (Option histories.Incident)). LacksIncident table asked.medium) k (lacks_is r.vault.table asked.medium misses),
           )),
         );
       }
@@ -348,7 +335,7 @@ module _ {tells tells_images R : Type 0} (asked : AskedPlay) (old mid new : Medi
       }
       ends_so (Err (stops.Own reason)) is =
           let s = status_of reason in
-          let mine : IsOwnStatus s = subst (λ (o : Result ⊤ (VisitStop R)). IfItself o (λ why. IsOwnStatus (status_of why))) is own in
+          let mine : IsOwnStatus s = subst (λ (o : Result ⊤ (VisitRefused R)). IfItself o (λ why. IsOwnStatus (status_of why))) is own in
           let parts = own_status s _ _ mine in
           record {
             media = record {
@@ -370,13 +357,13 @@ module _ {tells tells_images R : Type 0} (asked : AskedPlay) (old mid new : Medi
       -- What stands in the output.
       module _ (same : (x y : Contents) → HoldsContents old.disk.reads x → HoldsContents old.disk.reads y → x.config ≡ y.config) (Has : List Record → Type 0) (Stops : List Record → R → Type 0)
           (line : List Record → Record → List ℕ) (last : List Record → List ℕ) (was next : OutputSeen)
-          (visited : HasVisited query r.members mid.disk Has Stops line (whole_text line last) was.taken next.taken ended) (unread : ended ≡ Err stops.NoIncident → next ≡ was)
+          (visited : HasVisited query r.vault mid.disk Has Stops line (whole_text line last) was.taken next.taken ended) (unread : ended ≡ Err stops.NoIncident → next ≡ was)
           (blamed : ended ≡ Err stops.Output → OutputFailed was next) where
         selected_is : (x : Contents) → tells → HoldsContents old.disk.reads x → selected (opening_of x) [] query ≡ records_asked x asked
         unfolding records_asked
         selected_is x t holds =
             let c = contents t in
-            let config : r.members.config ≡ x.config = c.4 ∙ same c.1 x c.2 holds in
+            let config : r.vault.config ≡ x.config = c.4 ∙ same c.1 x c.2 holds in
             ap (λ (q : Query). selected (opening_of x) [] q) (wants.is ∙ ap (λ (d : Configuration). query_of d asked.medium asked.channel asked.from asked.to) config)
 
         are_visited : (x : Contents) → tells → HoldsContents old.disk.reads x → CanBeRead x → AreVisited visited.seen (records_asked x asked) ended
@@ -389,7 +376,7 @@ module _ {tells tells_images R : Type 0} (asked : AskedPlay) (old mid new : Medi
             let read = to_read x t holds can in
             subst (λ (rs : List Record). AppendsFront was.taken next.taken (whole_text line last rs)) (selected_is x t holds) (visited.front (opening_of x) [] read.0 t read.1)
 
-        shown_so : (p : Result ⊤ (VisitStop R)) → ended ≡ p → HasMade (Has visited.seen) (Stops visited.seen) line (whole_text line last visited.seen) visited.seen was.taken next.taken p
+        shown_so : (p : Result ⊤ (VisitRefused R)) → ended ≡ p → HasMade (Has visited.seen) (Stops visited.seen) line (whole_text line last visited.seen) visited.seen was.taken next.taken p
             → ((x : Contents) → tells → HoldsContents old.disk.reads x → CanBeRead x → AreVisited visited.seen (records_asked x asked) p)
             → ShowsReading asked old.disk Has Stops status_of line last was next (status_by status_of p asked.medium)
         shown_so (Ok all) is made are = (visited.seen, made.0, made.1, are)
@@ -399,7 +386,7 @@ module _ {tells tells_images R : Type 0} (asked : AskedPlay) (old mid new : Medi
         shown_so (Err (stops.Damaged m offset)) is made are = (visited.seen, made.1, λ x t holds can. absurd (are x t holds can))
         shown_so (Err stops.Output) is made are = (blamed is, front_is)
         shown_so (Err (stops.Own reason)) is made are =
-            own_shown asked old.disk Has Stops status_of line last was next (status_of reason) (subst (λ (o : Result ⊤ (VisitStop R)). IfItself o (λ why. IsOwnStatus (status_of why))) is own)
+            own_shown asked old.disk Has Stops status_of line last was next (status_of reason) (subst (λ (o : Result ⊤ (VisitRefused R)). IfItself o (λ why. IsOwnStatus (status_of why))) is own)
             (record {
               reason = reason;
               is = refl;

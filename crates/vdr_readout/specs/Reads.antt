@@ -13,8 +13,8 @@ use Rattle.vdr_entry.specs.declared.query.Medium.{Medium}
 use Rattle.vdr_entry.specs.declared.query.Medium.TheVariants.{Capsule, LongTerm, Incident}
 use Rattle.vdr_opening.specs.Media.{both, Contents, HoldsContents, opening_of, reading_of}
 use Rattle.vdr_visit.specs.Prints.{text_of, whole_text}
-use Rattle.vdr_visit.specs.declared.stop.VisitStop.{VisitStop}
-use Rattle.vdr_visit.specs.declared.stop.VisitStop.TheVariants as stops
+use Rattle.vdr_visit.specs.declared.refused.VisitRefused.{VisitRefused}
+use Rattle.vdr_visit.specs.declared.refused.VisitRefused.TheVariants as stops
 use Rattle.vdr_command.specs.Endings.{IsDone}
 use Rattle.vdr_command.specs.Opened.{AddsMissing, AreLooks, IfNoIncident, IsLegibleWith, MediaEnds, RefusesAll, WasRecorded}
 use Rattle.vdr_command.specs.Outside.{MediaSeen, OutputFailed, OutputSeen, Outside, Prints, PrintsFront, Writes}
@@ -78,7 +78,7 @@ id_of LongTerm = 0
 id_of (Incident id) = id
 
 -- How a visit of this medium ends the command, by what stands for a visitor's own reason.
-abbrev pub status_by : {R : Type 0} → (R → Status) → Result ⊤ (VisitStop R) → Medium → Status
+abbrev pub status_by : {R : Type 0} → (R → Status) → Result ⊤ (VisitRefused R) → Medium → Status
 status_by status_of (Ok all) medium = Done
 status_by status_of (Err stops.NoChannel) medium = NoChannel
 status_by status_of (Err stops.NoIncident) medium = NoIncident (id_of medium)
@@ -100,7 +100,7 @@ IsOwnStatus (NoIncident id) = ⊥
 IsOwnStatus status = ⊤
 
 -- P holds of the visitor's own reason.
-abbrev pub IfItself : {R : Type 0} → Result ⊤ (VisitStop R) → (R → Type 0) → Type 0
+abbrev pub IfItself : {R : Type 0} → Result ⊤ (VisitRefused R) → (R → Type 0) → Type 0
 IfItself (Ok all) P = ⊤
 IfItself (Err stops.NoChannel) P = ⊤
 IfItself (Err stops.NoIncident) P = ⊤

@@ -13,7 +13,7 @@ use vdr_config::{ChannelKind, Config};
 use vdr_export::{Block, ExportRefused, File, export_file};
 use vdr_opening::law_of_contents;
 use vdr_outside::{Media, Sink, Source};
-use vdr_recorder::Recording;
+use vdr_recorder::Recorder;
 
 /// What file is asked for.
 #[derive(Clone, Copy, Debug, PartialEq, Eq, Drop)]
@@ -75,21 +75,21 @@ fn export<I: Source + Drop, O: Sink + Drop, M: Media + Drop>(
     ensures unread { world.new.input ≡ world.old.input }
 {
     law_of_contents();
-    let mut recording = Recording::open(alloc, &mut world.media)?;
-    let Some(query) = query_of(&recording, wanted) else {
+    let mut recorder = Recorder::open(alloc, &mut world.media)?;
+    let Some(query) = query_of(&recorder, wanted) else {
         report_channel(wanted.channel, &mut world.output);
         return Err(Status::NoChannel);
     };
-    let Ok(()) = recording.accept::<Infallible>(&query) else {
+    let Ok(()) = recorder.accept::<Infallible>(&query) else {
         return Err(Status::NoIncident(id_of(wanted.medium)));
     };
-    let Some(file) = file_of(recording.config(), query.channel, wish) else {
+    let Some(file) = file_of(recorder.config(), query.channel, wish) else {
         return Err(Status::ExportKind);
     };
     let media = &mut world.media;
     let written = export_file(
         alloc,
-        &mut recording,
+        &mut recorder,
         media,
         &query,
         &file,

@@ -20,10 +20,8 @@ use vdr_entry::write_utc;
 use vdr_incident::Save;
 use vdr_opening::law_of_contents;
 use vdr_outside::{Failed, Media, Sink, Source, write_all};
-use vdr_recorder::Recording;
-
-// How many ids there are, of which the first is 1.
-const IDS: u32 = 32;
+use vdr_recorder::Recorder;
+use vdr_terms::MOST_INCIDENTS;
 
 // A number and the space behind it.
 fn push_number(row: &mut ArrayVec<u8, ROOM>, number: u64)
@@ -63,25 +61,25 @@ fn row_of(id: u32, saved: &Save) -> ArrayVec<u8, ROOM>
 }
 
 // Prints the row of an id, if a save is live under it.
-fn print_row<O: Sink>(recording: &Recording, id: u32, out: &mut O) -> Result<(), Failed>
-    ensures all { OnOk result (Appends (O.taken out.old) (O.taken out.new) (row_if id (live recording.now.members.table id))) }
-    ensures front { AppendsFront (O.taken out.old) (O.taken out.new) (row_if id (live recording.now.members.table id)) }
+fn print_row<O: Sink>(recorder: &Recorder, id: u32, out: &mut O) -> Result<(), Failed>
+    ensures all { OnOk result (Appends (O.taken out.old) (O.taken out.new) (row_if id (live recorder.now.vault.table id))) }
+    ensures front { AppendsFront (O.taken out.old) (O.taken out.new) (row_if id (live recorder.now.vault.table id)) }
     ensures cause { HasCause (O.faults out.old) (O.faults out.new) result }
 {
-    match recording.live(id) {
+    match recorder.live(id) {
         Some(saved) => write_all(out, row_of(id, saved).as_slice()),
         None => Ok(()),
     }
 }
 
 // Prints the live saves in the order of their ids, each by one write.
-fn print_incidents<O: Sink>(recording: &Recording, out: &mut O) -> Result<(), Failed>
-    ensures all { OnOk result (Appends (O.taken out.old) (O.taken out.new) (incidents_text recording.now.members.table)) }
-    ensures front { AppendsFront (O.taken out.old) (O.taken out.new) (incidents_text recording.now.members.table) }
+fn print_incidents<O: Sink>(recorder: &Recorder, out: &mut O) -> Result<(), Failed>
+    ensures all { OnOk result (Appends (O.taken out.old) (O.taken out.new) (incidents_text recorder.now.vault.table)) }
+    ensures front { AppendsFront (O.taken out.old) (O.taken out.new) (incidents_text recorder.now.vault.table) }
     ensures cause { HasCause (O.faults out.old) (O.faults out.new) result }
 {
-    for before in 0..IDS {
-        print_row(recording, before + 1, out)?;
+    for before in 0..MOST_INCIDENTS {
+        print_row(recorder, before + 1, out)?;
     }
     Ok(())
 }
@@ -105,8 +103,8 @@ fn list<I: Source + Drop, O: Sink + Drop, M: Media + Drop>(
     ensures unread { world.new.input ≡ world.old.input }
 {
     law_of_contents();
-    let recording = Recording::open(alloc, &mut world.media)?;
-    match print_incidents(&recording, &mut world.output) {
+    let recorder = Recorder::open(alloc, &mut world.media)?;
+    match print_incidents(&recorder, &mut world.output) {
         Ok(()) => Ok(()),
         Err(_) => Err(Status::OutputFault),
     }

@@ -12,7 +12,7 @@ use vdr_command::{Outer, Status, World, law_of_openings};
 use vdr_entry::Record;
 use vdr_outside::{Media, Sink, Source};
 use vdr_recorder::Player;
-use vdr_visit::{Visitor, VisitorStop};
+use vdr_visit::{Visitor, VisitorRefused};
 
 // A player as a command has it: with a reason to stop that has a status, though it never stops by itself.
 #[derive(Drop)]
@@ -48,15 +48,15 @@ impl Visitor for Printer {
         &mut self,
         item: &Record,
         out: &mut O,
-    ) -> Result<(), VisitorStop<AllocError>> {
+    ) -> Result<(), VisitorRefused<AllocError>> {
         match self.player.visit(item, out) {
             Ok(()) => Ok(()),
-            Err(VisitorStop::Output) => Err(VisitorStop::Output),
-            Err(VisitorStop::Own(never)) => match never {},
+            Err(VisitorRefused::Output) => Err(VisitorRefused::Output),
+            Err(VisitorRefused::Own(never)) => match never {},
         }
     }
 
-    fn finish<O: Sink>(&mut self, _out: &mut O) -> Result<(), VisitorStop<AllocError>> {
+    fn finish<O: Sink>(&mut self, _out: &mut O) -> Result<(), VisitorRefused<AllocError>> {
         Ok(())
     }
 }

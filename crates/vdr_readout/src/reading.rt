@@ -10,14 +10,11 @@ use vdr_command::{Outer, Status, World, report_channel};
 use vdr_entry::{Medium, Query};
 use vdr_opening::law_of_contents;
 use vdr_outside::{Media, Sink, Source};
-use vdr_recorder::Recording;
-use vdr_visit::{VisitStop, Visitor};
+use vdr_recorder::Recorder;
+use vdr_visit::{VisitRefused, Visitor};
 
 /// The channel's name that stands for all records.
 pub(crate) const ALL: &[u8] = b"all";
-
-/// The last stamp: the last millisecond of the year 9999.
-pub(crate) const LAST_STAMP: i64 = 253_402_300_799_999;
 
 /// What is to be read out: the records of a channel, or all where it is `all`, whose UTC stamps are from `from` to `to`, both included,
 /// in milliseconds since 1970.
@@ -67,7 +64,7 @@ pub(crate) fn id_of(medium: Medium) -> u32
 
 /// How a visit of this medium ends the command. Only an incident's id is asked for in vain.
 pub(crate) fn ended_by<R: EndsCommand>(
-    ended: Result<(), VisitStop<R>>,
+    ended: Result<(), VisitRefused<R>>,
     medium: Medium,
 ) -> Result<(), Status>
     ensures is { ending result ≡ status_by R.ends_as ended medium }
@@ -75,20 +72,20 @@ pub(crate) fn ended_by<R: EndsCommand>(
 {
     match ended {
         Ok(()) => Ok(()),
-        Err(VisitStop::NoChannel) => Err(Status::NoChannel),
-        Err(VisitStop::NoIncident) => Err(Status::NoIncident(id_of(medium))),
-        Err(VisitStop::Fault) => Err(Status::MediaFault),
-        Err(VisitStop::Damaged { medium, offset }) => Err(Status::Damaged { medium, offset }),
-        Err(VisitStop::Output) => Err(Status::OutputFault),
-        Err(VisitStop::Own(reason)) => Err(reason.status()),
+        Err(VisitRefused::NoChannel) => Err(Status::NoChannel),
+        Err(VisitRefused::NoIncident) => Err(Status::NoIncident(id_of(medium))),
+        Err(VisitRefused::Fault) => Err(Status::MediaFault),
+        Err(VisitRefused::Damaged { medium, offset }) => Err(Status::Damaged { medium, offset }),
+        Err(VisitRefused::Output) => Err(Status::OutputFault),
+        Err(VisitRefused::Own(reason)) => Err(reason.status()),
     }
 }
 
 /// The query of what is wanted, None where no such channel is configured.
-pub(crate) fn query_of(recording: &Recording, wanted: Wanted<'_>) -> Option<Query>
-    ensures found { IfSome result (λ query. (asked query ≡ query_of recording.now.members.config wanted.entry.medium wanted.entry.channel.now wanted.entry.from wanted.entry.to)
-        × (LacksChannel recording.now.members.config wanted.entry.channel.now → ⊥)) }
-    ensures none { IfNone result (LacksChannel recording.now.members.config wanted.entry.channel.now) }
+pub(crate) fn query_of(recorder: &Recorder, wanted: Wanted<'_>) -> Option<Query>
+    ensures found { IfSome result (λ query. (asked query ≡ query_of recorder.now.vault.config wanted.entry.medium wanted.entry.channel.now wanted.entry.from wanted.entry.to)
+        × (LacksChannel recorder.now.vault.config wanted.entry.channel.now → ⊥)) }
+    ensures none { IfNone result (LacksChannel recorder.now.vault.config wanted.entry.channel.now) }
 {
     let mut query = Query {
         medium: wanted.medium,
@@ -99,7 +96,7 @@ pub(crate) fn query_of(recording: &Recording, wanted: Wanted<'_>) -> Option<Quer
     if wanted.channel == ALL {
         return Some(query);
     }
-    let Some(number) = recording.config().channel_of(wanted.channel) else {
+    let Some(number) = recorder.config().channel_of(wanted.channel) else {
         return None;
     };
     query.channel = Some(number);
@@ -128,11 +125,11 @@ where
     ensures unread { world.new.input ≡ world.old.input }
 {
     law_of_contents();
-    let mut recording = Recording::open(alloc, &mut world.media)?;
-    let Some(query) = query_of(&recording, wanted) else {
+    let mut recorder = Recorder::open(alloc, &mut world.media)?;
+    let Some(query) = query_of(&recorder, wanted) else {
         report_channel(wanted.channel, &mut world.output);
         return Err(Status::NoChannel);
     };
-    let ended = recording.visit(&mut world.media, &query, visitor, &mut world.output);
+    let ended = recorder.visit(&mut world.media, &query, visitor, &mut world.output);
     ended_by(ended, wanted.medium)
 }

@@ -4,12 +4,13 @@ ghost use Rattle.vdr_command.specs.Endings.{ending};
 ghost use Rattle.vdr_command.specs.declared.status.Status.TheVariants.{Words};
 ghost use Rattle.vdr_readout.specs.Sources.{TellsSources};
 
-use crate::reading::{ALL, LAST_STAMP, Wanted, read_out};
+use crate::reading::{ALL, Wanted, read_out};
 use std::alloc::Global;
 use vdr_command::{Outer, Status, World, law_of_openings};
 use vdr_entry::Medium;
 use vdr_outside::{Media, Sink, Source};
 use vdr_recorder::SourceCounter;
+use vdr_terms::LAST_STAMP;
 
 /// Prints the table of sources of a medium's window, or of an incident, behind the last record.
 pub fn answer_sources<I: Source + Drop, O: Sink + Drop, M: Media + Drop>(

@@ -12,7 +12,7 @@ use vdr_ais::TargetTable;
 use vdr_command::{Outer, Status, World, law_of_openings};
 use vdr_entry::{Medium, Record};
 use vdr_outside::{Media, Printable, Sink, Source};
-use vdr_visit::{Visitor, VisitorStop};
+use vdr_visit::{Visitor, VisitorRefused};
 
 /// Takes the AIS messages of records, and prints the table of the ships that they report behind the last.
 #[derive(Drop)]
@@ -51,17 +51,17 @@ impl Visitor for Lookout {
         &mut self,
         item: &Record,
         _out: &mut O,
-    ) -> Result<(), VisitorStop<AllocError>> {
+    ) -> Result<(), VisitorRefused<AllocError>> {
         match self.table.add(item) {
             Ok(()) => Ok(()),
-            Err(none) => Err(VisitorStop::Own(none)),
+            Err(none) => Err(VisitorRefused::Own(none)),
         }
     }
 
-    fn finish<O: Sink>(&mut self, out: &mut O) -> Result<(), VisitorStop<AllocError>> {
+    fn finish<O: Sink>(&mut self, out: &mut O) -> Result<(), VisitorRefused<AllocError>> {
         match self.table.print(out) {
             Ok(()) => Ok(()),
-            Err(_) => Err(VisitorStop::Output),
+            Err(_) => Err(VisitorRefused::Output),
         }
     }
 }

@@ -5,12 +5,13 @@ ghost use Rattle.vdr_command.specs.declared.status.Status.TheVariants.{Words};
 ghost use Rattle.vdr_readout.specs.Watches.{TellsWatch};
 ghost use Rattle.vdr_watch.specs.Kept.{kept_of};
 
-use crate::reading::{ALL, LAST_STAMP, Wanted, read_out};
+use crate::reading::{ALL, Wanted, read_out};
 use std::alloc::{AllocError, Global};
 use vdr_command::{Outer, Status, World, law_of_openings};
 use vdr_entry::{Medium, Record};
 use vdr_outside::{Media, Sink, Source};
-use vdr_visit::{Visitor, VisitorStop};
+use vdr_terms::LAST_STAMP;
+use vdr_visit::{Visitor, VisitorRefused};
 use vdr_watch::{Watch, WatchFault};
 
 /// Prints what records show of the equipment, and behind the last what their end shows.
@@ -51,18 +52,18 @@ impl Visitor for Watcher {
         &mut self,
         item: &Record,
         out: &mut O,
-    ) -> Result<(), VisitorStop<AllocError>> {
+    ) -> Result<(), VisitorRefused<AllocError>> {
         match self.watch.add(item, out) {
             Ok(()) => Ok(()),
-            Err(WatchFault::NoMemory) => Err(VisitorStop::Own(AllocError)),
-            Err(WatchFault::Output) => Err(VisitorStop::Output),
+            Err(WatchFault::NoMemory) => Err(VisitorRefused::Own(AllocError)),
+            Err(WatchFault::Output) => Err(VisitorRefused::Output),
         }
     }
 
-    fn finish<O: Sink>(&mut self, out: &mut O) -> Result<(), VisitorStop<AllocError>> {
+    fn finish<O: Sink>(&mut self, out: &mut O) -> Result<(), VisitorRefused<AllocError>> {
         match self.watch.finish(out) {
             Ok(()) => Ok(()),
-            Err(_) => Err(VisitorStop::Output),
+            Err(_) => Err(VisitorRefused::Output),
         }
     }
 }

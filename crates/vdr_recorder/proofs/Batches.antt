@@ -10,9 +10,10 @@ use Rattle.vdr_config.specs.Configuration.{Configuration}
 use Rattle.vdr_history.specs.Runs.{RunStart}
 use Rattle.vdr_history.specs.Taken.{Captured, of_group}
 use Rattle.vdr_history.specs.Recorder.{recorder_after}
-use Rattle.vdr_recorder.specs.declared.maker.Maker.{Maker}
-use Rattle.vdr_recorder.specs.Accounts.{Counted}
-use Rattle.vdr_recorder.specs.Making.{counted_of, numbers_of, Makes, IsMaking, TakesOne}
+use Rattle.vdr_run.specs.declared.maker.Maker.{Maker}
+use Rattle.vdr_run.specs.Accounts.{Counted}
+use Rattle.vdr_run.specs.Making.{counted_of, Makes, IsMaking, TakesOne}
+use Rattle.vdr_recorder.specs.Making.{numbers_of}
 
 -- The maker has taken k of these items since it had made nothing of them.
 pub record HasTaken (config : Configuration) (k : ℕ) (items : List Captured) (before after : Maker) : Type 0 where

@@ -8,6 +8,7 @@ use Rattle.vdr_history.specs.Histories.{Act, Event, Opening, next_place}
 use Rattle.vdr_history.specs.Histories.Act.{Commit, Look}
 use Rattle.vdr_history.specs.RunStates.{IsMadeIn, RunState, state_left}
 use Rattle.vdr_history.specs.Taken.{Captured}
+use Rattle.vdr_history.proofs.Growing.{continues_run}
 use Rattle.vdr_retention.specs.Regular.{IsPaced}
 use Rattle.vdr_durability.specs.Keeping.{Extends, IsWhole, ShowsEither, moment_of}
 use Rattle.vdr_outside.specs.Disk.{Disk}
@@ -22,10 +23,10 @@ use Rattle.vdr_media.proofs.Two.{all_two}
 use Rattle.vdr_ring.specs.Sequence.{Placed, segments_in}
 use Rattle.vdr_opening.specs.Media.{both}
 use Rattle.vdr_vault.specs.Calls.{Commits, MayCommit}
-use Rattle.vdr_vault.specs.Vaults.{MembersState, ShowsHistory, Stands}
+use Rattle.vdr_vault.specs.Vaults.{VaultState, ShowsHistory, Stands}
 use Rattle.vdr_vault.proofs.ShownHistory.{stands_silent}
 use Rattle.vdr_recorder.specs.Recordings.{HasKept, IsStanding, KeepsEvent, acts_of, start_of_opening}
-use Rattle.vdr_recorder.proofs.Continuing.{act_made, acts_with, commit_continues, continues_run, left_whole}
+use Rattle.vdr_recorder.proofs.Continuing.{act_made, acts_with, commit_continues, left_whole}
 use Rattle.vdr_recorder.proofs.Growing.{event_kept, whole_events}
 
 -- A commit is no look.
@@ -50,57 +51,57 @@ pub some_of : (rs : List Record) (b : Bool) → b ≡ (length rs == 0) → b ≡
 some_of [] b e f = absurd (true≢false (sym e ∙ f))
 some_of (r ∷ rs) b e f = omega arith
 
-module _ {tells tells_images : Type 0} (opening : Opening) (events : List Event) (t0 : ℕ) (members : MembersState) (old : Disk tells tells_images) (h : HasKept opening events t0 members old) (works : members.failed ≡ false) where
+module _ {tells tells_images : Type 0} (opening : Opening) (events : List Event) (t0 : ℕ) (vault : VaultState) (old : Disk tells tells_images) (h : HasKept opening events t0 vault old) (works : vault.failed ≡ false) where
   whole : IsWhole events
-  whole = whole_events opening events t0 members old h works
+  whole = whole_events opening events t0 vault old h works
 
-  module _ (records : List Record) (taken : List Captured) (done : IsDoneIn opening.settings.limits members.config.batch (state_left opening events) (Commit records taken)) where
-    done_after : IsDoneIn opening.settings.limits members.config.batch (state_after (start_of_opening opening) (acts_of events)) (Commit records taken)
-    done_after = subst (λ (s : RunState). IsDoneIn opening.settings.limits members.config.batch s (Commit records taken)) (left_whole opening events whole) done
+  module _ (records : List Record) (taken : List Captured) (done : IsDoneIn opening.settings.limits vault.config.batch (state_left opening events) (Commit records taken)) where
+    done_after : IsDoneIn opening.settings.limits vault.config.batch (state_after (start_of_opening opening) (acts_of events)) (Commit records taken)
+    done_after = subst (λ (s : RunState). IsDoneIn opening.settings.limits vault.config.batch s (Commit records taken)) (left_whole opening events whole) done
 
     made_now : IsMadeIn (state_left opening events) (Commit records taken)
-    made_now = act_made opening events whole h.made opening.settings.limits members.config.batch (Commit records taken) done
+    made_now = act_made opening events whole h.made opening.settings.limits vault.config.batch (Commit records taken) done
 
     -- The batch may come next.
-    pub may_commit : (v : IsStanding opening events members old) → closing_size ≤ members.config.batch → 0 < length records → MayCommit opening events members.config v.placed records
+    pub may_commit : (v : IsStanding opening events vault old) → closing_size ≤ vault.config.batch → 0 < length records → MayCommit opening events vault.config v.placed records
     may_commit v roomy some = record {
       places = continues_run opening.settings.channels (next_place opening events) records (commit_continues opening events whole h.made records taken made_now);
       paced = All-weaker
-          (λ m. IsMediumOf (sizes_of members.config) (start_of_opening opening) (segments_in (v.first m)) (acts_of events) (segments_in (v.placed m)))
-          (λ m. IsPaced (cost (sizes_of members.config)) members.config.batch (segments_in (v.placed m)) records)
-          (λ m k. is_paced (sizes_of members.config) (start_of_opening opening) (segments_in (v.first m)) (acts_of events) (segments_in (v.placed m)) records taken k roomy done_after some)
+          (λ m. IsMediumOf (sizes_of vault.config) (start_of_opening opening) (segments_in (v.first m)) (acts_of events) (segments_in (v.placed m)))
+          (λ m. IsPaced (cost (sizes_of vault.config)) vault.config.batch (segments_in (v.placed m)) records)
+          (λ m k. is_paced (sizes_of vault.config) (start_of_opening opening) (segments_in (v.first m)) (acts_of events) (segments_in (v.placed m)) records taken k roomy done_after some)
           both v.media;
     }
 
     -- The history with the commit, over media at whose every moment it or the history before was shown.
-    module _ (after : MembersState) (new : Disk tells tells_images) where
+    module _ (after : VaultState) (new : Disk tells tells_images) where
       abbrev pub event : Event
       event = record { act = Commit records taken; moment = moment_of after.failed new.clock }
 
       grown : Extends (ShowsHistory opening) events event old new → (after.failed ≡ false → IsStanding opening (events ++ event ∷ []) after new)
-          → (after.failed ≡ true → (after.next_place ≡ members.next_place) × (after.last ≡ members.last) × (after.table ≡ members.table))
+          → (after.failed ≡ true → (after.next_place ≡ vault.next_place) × (after.last ≡ vault.last) × (after.table ≡ vault.table))
           → KeepsEvent opening events t0 (Commit records taken) after old new
-      grown moments stands kept = event_kept opening events t0 members old h works (Commit records taken) after new (is_no_look records taken)
+      grown moments stands kept = event_kept opening events t0 vault old h works (Commit records taken) after new (is_no_look records taken)
           (commit_continues opening events whole h.made records taken made_now) made_now moments stands kept
 
-      medium_with : (m : ℕ) (first before now : List Placed) → after.config ≡ members.config → 0 < length records
-          → IsMediumOf (sizes_of members.config) (start_of_opening opening) (segments_in first) (acts_of events) (segments_in before) → IsAppended (segments_in before) records (segments_in now)
+      medium_with : (m : ℕ) (first before now : List Placed) → after.config ≡ vault.config → 0 < length records
+          → IsMediumOf (sizes_of vault.config) (start_of_opening opening) (segments_in first) (acts_of events) (segments_in before) → IsAppended (segments_in before) records (segments_in now)
           → IsMediumOf (sizes_of after.config) (start_of_opening opening) (segments_in first) (acts_of (events ++ event ∷ [])) (segments_in now)
       medium_with m first before now same some k put =
           subst (λ (x : Configuration × List Act). IsMediumOf (sizes_of x.0) (start_of_opening opening) (segments_in first) x.1 (segments_in now))
           (λ i. (sym same i, sym (acts_with events event) i))
-          (appended (sizes_of members.config) (start_of_opening opening) (segments_in first) (acts_of events) (segments_in before) (segments_in now) records taken k done_after some put)
+          (appended (sizes_of vault.config) (start_of_opening opening) (segments_in first) (acts_of events) (segments_in before) (segments_in now) records taken k done_after some put)
 
       -- A commit of records, as the vault answers it.
-      pub kept_commit : (result : Result (Unit {0}) Fault) (v : IsStanding opening events members old) → after.config ≡ members.config → OnErr result (after.failed ≡ true) → OnOk result (after.failed ≡ false)
-          → OnErr result ((after.next_place ≡ members.next_place) × (after.last ≡ members.last)) → after.table ≡ members.table → 0 < length records
+      pub kept_commit : (result : Result (Unit {0}) Fault) (v : IsStanding opening events vault old) → after.config ≡ vault.config → OnErr result (after.failed ≡ true) → OnOk result (after.failed ≡ false)
+          → OnErr result ((after.next_place ≡ vault.next_place) × (after.last ≡ vault.last)) → after.table ≡ vault.table → 0 < length records
           → Commits opening events event records v.placed after old new result → KeepsEvent opening events t0 (Commit records taken) after old new
       kept_commit result v same fails goes kept table some commits =
           grown commits.moments (ok_where result after.failed (IsStanding opening (events ++ event ∷ []) after new) fails (standing result commits.done))
-          (λ failed. let k = err_where result after.failed ((after.next_place ≡ members.next_place) × (after.last ≡ members.last)) goes kept failed in (k.0, k.1, table))
+          (λ failed. let k = err_where result after.failed ((after.next_place ≡ vault.next_place) × (after.last ≡ vault.last)) goes kept failed in (k.0, k.1, table))
         where
           media : (m : ℕ) → Type 0
-          media m = IsMediumOf (sizes_of members.config) (start_of_opening opening) (segments_in (v.first m)) (acts_of events) (segments_in (v.placed m))
+          media m = IsMediumOf (sizes_of vault.config) (start_of_opening opening) (segments_in (v.first m)) (acts_of events) (segments_in (v.placed m))
 
           placing : (now : ℕ → List Placed) → Stands opening (events ++ event ∷ []) after now new → All (λ m. IsAppended (segments_in (v.placed m)) records (segments_in (now m))) both
               → IsStanding opening (events ++ event ∷ []) after new
@@ -121,16 +122,16 @@ module _ {tells tells_images : Type 0} (opening : Opening) (events : List Event)
           standing (Err fault) k = tt
 
     -- A commit of no records, for which nothing was called.
-    pub kept_nothing : (v : IsStanding opening events members old) → records ≡ [] → KeepsEvent opening events t0 (Commit records taken) members old old
+    pub kept_nothing : (v : IsStanding opening events vault old) → records ≡ [] → KeepsEvent opening events t0 (Commit records taken) vault old old
     kept_nothing v none =
-        grown members old (moments_none old (ShowsEither (ShowsHistory opening) events (event members old) old.now) (λ image now. inl now)) (λ again. record {
+        grown vault old (moments_none old (ShowsEither (ShowsHistory opening) events (event vault old) old.now) (λ image now. inl now)) (λ again. record {
           placed = v.placed;
           first = v.first;
-          stands = stands_silent opening events (event members old) none refl members v.placed old v.stands;
+          stands = stands_silent opening events (event vault old) none refl vault v.placed old v.stands;
           media = All-weaker
-              (λ m. IsMediumOf (sizes_of members.config) (start_of_opening opening) (segments_in (v.first m)) (acts_of events) (segments_in (v.placed m)))
-              (λ m. IsMediumOf (sizes_of members.config) (start_of_opening opening) (segments_in (v.first m)) (acts_of (events ++ event members old ∷ [])) (segments_in (v.placed m)))
-              (λ m k. subst (λ (acts : List Act). IsMediumOf (sizes_of members.config) (start_of_opening opening) (segments_in (v.first m)) acts (segments_in (v.placed m))) (sym (acts_with events (event members old)))
-              (silent (sizes_of members.config) (start_of_opening opening) (segments_in (v.first m)) (acts_of events) (segments_in (v.placed m)) (Commit records taken) k done_after none))
+              (λ m. IsMediumOf (sizes_of vault.config) (start_of_opening opening) (segments_in (v.first m)) (acts_of events) (segments_in (v.placed m)))
+              (λ m. IsMediumOf (sizes_of vault.config) (start_of_opening opening) (segments_in (v.first m)) (acts_of (events ++ event vault old ∷ [])) (segments_in (v.placed m)))
+              (λ m k. subst (λ (acts : List Act). IsMediumOf (sizes_of vault.config) (start_of_opening opening) (segments_in (v.first m)) acts (segments_in (v.placed m))) (sym (acts_with events (event vault old)))
+              (silent (sizes_of vault.config) (start_of_opening opening) (segments_in (v.first m)) (acts_of events) (segments_in (v.placed m)) (Commit records taken) k done_after none))
               both v.media;
         }) (λ fails. absurd (true≢false (sym fails ∙ works)))

@@ -11,7 +11,10 @@ use Rattle.vdr_history.specs.Taken.{Captured}
 use Rattle.vdr_history.specs.Histories.{Act, Event, Opening, Continues, EndsBy, done, done_from, incidents, next_place, last_stamp, recorded, records_of_act, stamp_of}
 use Rattle.vdr_history.specs.Histories.Act.{Commit, Save, Release, Look}
 use Rattle.vdr_history.specs.RunStates.{RunState, AreMadeFrom, IsMadeIn, IsRecorderHistory, after_act, begin_run, has_failed, next_start, state_along, state_left, state_opened}
+use Rattle.vdr_history.proofs.Growing.{continues_run}
 use Rattle.vdr_core.proofs.MadeHistory.{made_runs_on}
+use Rattle.vdr_core.proofs.Commits.{continues_back}
+use Rattle.vdr_core.proofs.RecorderHistory.{stamp_append, made_snoc}
 use Rattle.vdr_durability.specs.Keeping.{IsWhole, moment_of}
 use Rattle.vdr_durability.proofs.Acknowledged.{whole_last}
 use Rattle.vdr_durability.proofs.Whole.{whole_has_not_failed}
@@ -20,7 +23,7 @@ use Rattle.vdr_pace.specs.Media.{state_after}
 use Rattle.vdr_pace.proofs.Media.{all_made}
 use Rattle.vdr_outside.specs.Disk.{Disk}
 use Rattle.vdr_ring.specs.Sequence.{Placed}
-use Rattle.vdr_vault.specs.Vaults.{MembersState, Stands, of_stamp}
+use Rattle.vdr_vault.specs.Vaults.{VaultState, Stands, of_stamp}
 use Rattle.vdr_recorder.specs.Recordings.{TellsLeft, acts_of, start_of_opening}
 
 -- Events that all have a moment are done.
@@ -48,7 +51,7 @@ pub acts_with : (events : List Event) (e : Event) → acts_of (events ++ e ∷ [
 acts_with [] e = refl
 acts_with (x ∷ xs) e = ap (λ (acts : List Act). x.act ∷ acts) (acts_with xs e)
 
-recorded_acts : (events : List Event) → flat_map records_of_act (acts_of events) ≡ recorded events
+pub recorded_acts : (events : List Event) → flat_map records_of_act (acts_of events) ≡ recorded events
 recorded_acts [] = refl
 recorded_acts (x ∷ xs) = ap (λ (rs : List Record). records_of_act x.act ++ rs) (recorded_acts xs)
 
@@ -56,10 +59,6 @@ recorded_acts (x ∷ xs) = ap (λ (rs : List Record). records_of_act x.act ++ rs
 along_with : (s : RunState) (acts : List Act) (act : Act) → state_along s (acts ++ act ∷ []) ≡ after_act (state_along s acts) act
 along_with s [] act = refl
 along_with s (x ∷ xs) act = along_with (after_act s x) xs act
-
-made_with : (s : RunState) (acts : List Act) (act : Act) → AreMadeFrom s acts → IsMadeIn (state_along s acts) act → AreMadeFrom s (acts ++ act ∷ [])
-made_with s [] act h k = (k, tt)
-made_with s (x ∷ acts) act h k = (h.0, made_with (after_act s x) acts act h.1 k)
 
 -- The events before a pending one leave what their acts do.
 pub left_whole : (opening : Opening) (events : List Event) → IsWhole events → state_left opening events ≡ state_after (start_of_opening opening) (acts_of events)
@@ -126,15 +125,6 @@ along_place s (act ∷ acts) =
     let c = length-append (records_of_act act) (flat_map records_of_act acts) in
     omega (arith, a, b, c)
 
-stamp_append : (xs ys : List Record) (before : Option Stamp) → stamp_of (last (xs ++ ys)) before ≡ stamp_of (last ys) (stamp_of (last xs) before)
-stamp_append [] ys before = refl
-stamp_append (x ∷ xs) ys before = from x xs ys
-  where
-    from : (x : Record) (xs ys : List Record) → stamp_of (Some (last_after x (xs ++ ys))) before ≡ stamp_of (last ys) (stamp_of (Some (last_after x xs)) before)
-    from x [] [] = refl
-    from x [] (y ∷ ys) = refl
-    from x (z ∷ xs) ys = from z xs ys
-
 along_stamp : (s : RunState) (acts : List Act) → (state_along s acts).last ≡ stamp_of (last (flat_map records_of_act acts)) s.last
 along_stamp s [] = refl
 along_stamp s (act ∷ acts) =
@@ -162,15 +152,15 @@ module _ (opening : Opening) (events : List Event) (whole : IsWhole events) wher
       ∙ ap (λ (rs : List Record). stamp_of (last rs) opening.last) (recorded_acts events)
 
   -- A vault at rest tells what they leave.
-  pub told_at_rest : {tells tells_images : Type 0} (members : MembersState) (placed : ℕ → List Placed) (disk : Disk tells tells_images) → Stands opening events members placed disk → TellsLeft opening events members
-  told_at_rest members placed disk stands = record {
+  pub told_at_rest : {tells tells_images : Type 0} (vault : VaultState) (placed : ℕ → List Placed) (disk : Disk tells tells_images) → Stands opening events vault placed disk → TellsLeft opening events vault
+  told_at_rest vault placed disk stands = record {
     place = stands.goes_on ∙ sym left_place;
     stamp = stands.newest ∙ ap (option_map of_stamp) (sym left_stamp);
     table = stands.incidents_are ∙ ap (incidents opening) (sym (done_whole events whole));
   }
 
 -- After a pending event it tells what it told before.
-pub told_without : (opening : Opening) (events : List Event) (e : Event) (before after : MembersState) → e.moment ≡ None → TellsLeft opening events before
+pub told_without : (opening : Opening) (events : List Event) (e : Event) (before after : VaultState) → e.moment ≡ None → TellsLeft opening events before
     → after.next_place ≡ before.next_place → after.last ≡ before.last → after.table ≡ before.table → TellsLeft opening (events ++ e ∷ []) after
 told_without opening events e before after none told place stamp table = record {
   place = place ∙ told.place ∙ ap (λ (s : RunState). s.place) (sym (left_without opening events e none));
@@ -178,19 +168,10 @@ told_without opening events e before after none told place stamp table = record 
   table = table ∙ told.table ∙ ap (incidents opening) (sym (done_without events e none));
 }
 
--- Places that run on over two lists run on over the second.
-continues_behind : (channels : Channels) (place : ℕ) (xs ys : List Record) → Continues channels place (xs ++ ys) → Continues channels (place + length xs) ys
-continues_behind channels place [] ys h = subst (λ (n : ℕ). Continues channels n ys) (omega arith) h
-continues_behind channels place (x ∷ xs) ys h = subst (λ (n : ℕ). Continues channels n ys) (omega arith) (continues_behind channels (suc place) xs ys h.2)
-
-pub continues_run : (channels : Channels) (place : ℕ) (rs : List Record) → Continues channels place rs → RunOn place rs
-continues_run channels place [] h = tt
-continues_run channels place (r ∷ rs) h = (h.0, continues_run channels _ rs h.2)
-
 -- A look is made in any state.
 pub made_looks : (opening : Opening) (events : List Event) (e : Event) → IsRecorderHistory opening events → e.act ≡ Look → IsRecorderHistory opening (events ++ e ∷ [])
 made_looks opening events e made looks = subst (AreMadeFrom (state_opened opening)) (sym (acts_with events e))
-    (made_with (state_opened opening) (acts_of events) e.act made (subst (IsMadeIn (state_along (state_opened opening) (acts_of events))) (sym looks) tt))
+    (made_snoc (state_opened opening) (acts_of events) e.act made (subst (IsMadeIn (state_along (state_opened opening) (acts_of events))) (sym looks) tt))
 
 -- A commit of what a recorder makes comes next.
 module _ (opening : Opening) (events : List Event) (whole : IsWhole events) (made : IsRecorderHistory opening events) where
@@ -199,15 +180,15 @@ module _ (opening : Opening) (events : List Event) (whole : IsWhole events) (mad
 
   pub made_grows : (e : Event) → IsMadeIn (state_left opening events) e.act → IsRecorderHistory opening (events ++ e ∷ [])
   made_grows e h = subst (AreMadeFrom (state_opened opening)) (sym (acts_with events e))
-      (made_with (state_opened opening) (acts_of events) e.act made (subst (λ (s : RunState). IsMadeIn s e.act) (left_whole opening events whole) h))
+      (made_snoc (state_opened opening) (acts_of events) e.act made (subst (λ (s : RunState). IsMadeIn s e.act) (left_whole opening events whole) h))
 
   pub commit_continues : (records : List Record) (taken : List Captured) → IsMadeIn (state_left opening events) (Commit records taken)
       → Continues opening.settings.channels (next_place opening events) records
   commit_continues records taken h =
-      let all = made_with (state_opened opening) (acts_of events) (Commit records taken) made (subst (λ (s : RunState). IsMadeIn s (Commit records taken)) (left_whole opening events whole) h) in
+      let all = made_snoc (state_opened opening) (acts_of events) (Commit records taken) made (subst (λ (s : RunState). IsMadeIn s (Commit records taken)) (left_whole opening events whole) h) in
       let runs = (made_runs_on (start_of_opening opening) (acts_of events ++ Commit records taken ∷ []) all).0 in
       subst (λ (rs : List Record). Continues opening.settings.channels (opening.next_place + length rs) records) (recorded_acts events)
-      (continues_behind opening.settings.channels opening.next_place (flat_map records_of_act (acts_of events)) records
+      (continues_back opening.settings.channels opening.next_place (flat_map records_of_act (acts_of events)) records
       (subst (Continues opening.settings.channels opening.next_place) (same records) runs))
     where
       same : (records : List Record) → flat_map records_of_act (acts_of events ++ Commit records taken ∷ []) ≡ flat_map records_of_act (acts_of events) ++ records

@@ -10,7 +10,7 @@ use Rattle.vdr_durability.proofs.Kept.{keeps_call}
 use Rattle.vdr_durability.proofs.Whole.{whole_has_not_failed}
 use Rattle.vdr_outside.specs.Disk.{Disk, Image}
 use Rattle.vdr_outside.proofs.Moments.{moments_weaken}
-use Rattle.vdr_vault.specs.Vaults.{MembersState, ShowsHistory}
+use Rattle.vdr_vault.specs.Vaults.{VaultState, ShowsHistory}
 use Rattle.vdr_vault.proofs.ShownHistory.{stand_shows}
 use Rattle.vdr_recorder.specs.Recordings.{HasKept, IsStanding, KeepsEvent, TellsLeft}
 use Rattle.vdr_recorder.proofs.Continuing.{ends_by, fails_with, has_moment, made_grows, told_at_rest, told_without, whole_with}
@@ -27,26 +27,26 @@ shown_prefix shows events e possible image h =
     k))
     h
 
-module _ {tells tells_images : Type 0} (opening : Opening) (events : List Event) (t0 : ℕ) (members : MembersState) (old : Disk tells tells_images) (h : HasKept opening events t0 members old) (works : members.failed ≡ false) where
+module _ {tells tells_images : Type 0} (opening : Opening) (events : List Event) (t0 : ℕ) (vault : VaultState) (old : Disk tells tells_images) (h : HasKept opening events t0 vault old) (works : vault.failed ≡ false) where
   pub whole_events : IsWhole events
   whole_events = (whole_has_not_failed events).1 (sym h.failed ∙ works)
 
   -- The history with the act, over media at whose every moment it or the history before was shown.
-  module _ (act : Act) (after : MembersState) (new : Disk tells tells_images) where
+  module _ (act : Act) (after : VaultState) (new : Disk tells tells_images) where
     abbrev pub event : Event
     event = record { act = act; moment = moment_of after.failed new.clock }
 
     told_after : (after.failed ≡ false → IsStanding opening (events ++ event ∷ []) after new)
-        → (after.failed ≡ true → (after.next_place ≡ members.next_place) × (after.last ≡ members.last) × (after.table ≡ members.table)) → (after.failed ≡ true) ⊎ (after.failed ≡ false)
+        → (after.failed ≡ true → (after.next_place ≡ vault.next_place) × (after.last ≡ vault.last) × (after.table ≡ vault.table)) → (after.failed ≡ true) ⊎ (after.failed ≡ false)
         → TellsLeft opening (events ++ event ∷ []) after
     told_after stands kept (inl fails) =
-        told_without opening events event members after (ap (λ (b : Bool). moment_of b new.clock) fails) h.told (kept fails).0 (kept fails).1 (kept fails).2
+        told_without opening events event vault after (ap (λ (b : Bool). moment_of b new.clock) fails) h.told (kept fails).0 (kept fails).1 (kept fails).2
     told_after stands kept (inr goes) =
         told_at_rest opening (events ++ event ∷ []) (whole_with events event whole_events (has_moment after.failed new.clock event.moment refl goes)) after (stands goes).placed new (stands goes).stands
 
     pub event_kept : act ≢ Look → MayCome opening events act → IsMadeIn (state_left opening events) act → Extends (ShowsHistory opening) events event old new
         → (after.failed ≡ false → IsStanding opening (events ++ event ∷ []) after new)
-        → (after.failed ≡ true → (after.next_place ≡ members.next_place) × (after.last ≡ members.last) × (after.table ≡ members.table))
+        → (after.failed ≡ true → (after.next_place ≡ vault.next_place) × (after.last ≡ vault.last) × (after.table ≡ vault.table))
         → KeepsEvent opening events t0 act after old new
     event_kept no_look may made moments stands kept = record {
       event = event;

@@ -1,10 +1,4 @@
-pub mod StampLemmas
-pub mod BitLemmas
-pub mod Gaps
-pub mod Meters
-pub mod Taking
 pub mod Batches
-pub mod Closing
 pub mod Continuing
 pub mod Growing
 pub mod Committing
@@ -15,3 +9,4 @@ pub mod QuietActs
 pub mod Opened
 pub mod Printing
 pub mod Answering
+pub mod Admitting

@@ -19,14 +19,14 @@ use Rattle.vdr_pace.specs.Media.{IsMediumOf}
 use Rattle.vdr_pace.proofs.Media.{silent}
 use Rattle.vdr_ring.specs.Sequence.{Placed, segments_in}
 use Rattle.vdr_opening.specs.Media.{both}
-use Rattle.vdr_vault.specs.Vaults.{MembersState, ShowsHistory, Stands}
+use Rattle.vdr_vault.specs.Vaults.{VaultState, ShowsHistory, Stands}
 use Rattle.vdr_vault.proofs.ShownHistory.{stand_shows, stands_silent}
-use Rattle.vdr_visit.specs.Stops.{HasVisitCause}
+use Rattle.vdr_visit.specs.Refusals.{HasVisitCause}
 use Rattle.vdr_visit.specs.Visits.{HasOnlyRead}
 use Rattle.vdr_visit.proofs.Reading.{cause_join, only_read_join, reads_keep, reads_keep_failed}
 use Rattle.vdr_recorder.specs.Looks.{HasLooked}
-use Rattle.vdr_recorder.specs.Making.{Makes}
-use Rattle.vdr_recorder.specs.Recordings.{HasDone, HasRecorded, IsWorking, RecordingState, TellsLeft, acts_of, start_of_opening}
+use Rattle.vdr_run.specs.Making.{Makes}
+use Rattle.vdr_recorder.specs.Recordings.{HasDone, HasRecorded, IsWorking, RecorderState, TellsLeft, acts_of, start_of_opening}
 use Rattle.vdr_recorder.proofs.Continuing.{acts_with, fails_with, has_moment, left_with, made_looks, told_at_rest, told_without, whole_with}
 
 -- What a stop may leave during calls that only read.
@@ -37,10 +37,10 @@ moments_still old new P same now = record {
   before = λ t i early since. inl ((same.since t i).0 since);
 }
 
-module _ {tells tells_images : Type 0} (opening : Opening) (events : List Event) (t0 : ℕ) (r : RecordingState) (old new : Disk tells tells_images) (h : HasRecorded opening events t0 r old)
-    (after : MembersState) (same : Unchanged old new) (failed_is : after.failed ≡ r.members.failed) (config_is : after.config ≡ r.members.config)
-    (place_is : after.next_place ≡ r.members.next_place) (last_is : after.last ≡ r.members.last) (table_is : after.table ≡ r.members.table)
-    (stands : (placed : ℕ → List Placed) → Stands opening events r.members placed old → Stands opening events after placed new) where
+module _ {tells tells_images : Type 0} (opening : Opening) (events : List Event) (t0 : ℕ) (r : RecorderState) (old new : Disk tells tells_images) (h : HasRecorded opening events t0 r old)
+    (after : VaultState) (same : Unchanged old new) (failed_is : after.failed ≡ r.vault.failed) (config_is : after.config ≡ r.vault.config)
+    (place_is : after.next_place ≡ r.vault.next_place) (last_is : after.last ≡ r.vault.last) (table_is : after.table ≡ r.vault.table)
+    (stands : (placed : ℕ → List Placed) → Stands opening events r.vault placed old → Stands opening events after placed new) where
   abbrev look : Event
   look = record { act = Look; moment = moment_of after.failed new.clock }
 
@@ -56,7 +56,7 @@ module _ {tells tells_images : Type 0} (opening : Opening) (events : List Event)
   a_moment : after.failed ≡ false → look.moment ≡ Some new.clock
   a_moment goes = ap (λ (b : Bool). moment_of b new.clock) goes
 
-  working : after.failed ≡ false → IsWorking opening (events ++ look ∷ []) (record r { members = after }) new
+  working : after.failed ≡ false → IsWorking opening (events ++ look ∷ []) (record r { vault = after }) new
   working goes =
       let v = h.works (sym failed_is ∙ goes) in
       let left : state_left opening (events ++ look ∷ []) ≡ state_left opening events = left_with opening events look (whole goes) (has_moment after.failed new.clock look.moment refl goes) in
@@ -65,11 +65,11 @@ module _ {tells tells_images : Type 0} (opening : Opening) (events : List Event)
         first = v.first;
         stands = stands_silent opening events look refl refl after v.placed new (stands v.placed v.stands);
         media = All-weaker
-            (λ m. IsMediumOf (sizes_of r.members.config) (start_of_opening opening) (segments_in (v.first m)) (acts_of events) (segments_in (v.placed m)))
+            (λ m. IsMediumOf (sizes_of r.vault.config) (start_of_opening opening) (segments_in (v.first m)) (acts_of events) (segments_in (v.placed m)))
             (λ m. IsMediumOf (sizes_of after.config) (start_of_opening opening) (segments_in (v.first m)) (acts_of (events ++ look ∷ [])) (segments_in (v.placed m)))
             (λ m k. subst (λ (x : Configuration × List Act). IsMediumOf (sizes_of x.0) (start_of_opening opening) (segments_in (v.first m)) x.1 (segments_in (v.placed m)))
             (λ i. (sym config_is i, sym (acts_with events look) i))
-            (silent (sizes_of r.members.config) (start_of_opening opening) (segments_in (v.first m)) (acts_of events) (segments_in (v.placed m)) Look k tt refl))
+            (silent (sizes_of r.vault.config) (start_of_opening opening) (segments_in (v.first m)) (acts_of events) (segments_in (v.placed m)) Look k tt refl))
             both v.media;
         open_is = v.open_is ∙ sym (ap (λ (s : RunState). s.is_open) left);
         makes = λ opened. subst (λ (x : Configuration × RunState). Makes x.0 x.1.start x.1.popped r.maker) (λ i. (sym config_is i, sym left i)) (v.makes opened);
@@ -87,11 +87,11 @@ module _ {tells tells_images : Type 0} (opening : Opening) (events : List Event)
   )
 
   told_after : (after.failed ≡ true) ⊎ (after.failed ≡ false) → TellsLeft opening (events ++ look ∷ []) after
-  told_after (inl fails) = told_without opening events look r.members after (no_moment fails) h.told place_is last_is table_is
+  told_after (inl fails) = told_without opening events look r.vault after (no_moment fails) h.told place_is last_is table_is
   told_after (inr goes) = told_at_rest opening (events ++ look ∷ []) (whole_with events look (whole goes) (has_moment after.failed new.clock look.moment refl goes)) after (working goes).placed new (working goes).stands
 
   -- A call that reads, or none.
-  pub look_done : HasDone opening events t0 Look (record r { members = after }) old new
+  pub look_done : HasDone opening events t0 Look (record r { vault = after }) old new
   look_done =
       let g = grows (cases_Bool after.failed) in
       record {
@@ -111,11 +111,11 @@ module _ {tells tells_images : Type 0} (opening : Opening) (events : List Event)
 
 module _ {tells tells_images : Type 0} where
   -- A call on the vault that only reads is a look of the recorder.
-  pub looked : (query : Query) (r : RecordingState) (after : MembersState) (old new : Disk tells tells_images) (read_before read_now faults_before faults_now : List ℕ) (answered : Type 0)
-      → HasOnlyRead query r.members after old new read_before read_now → HasVisitCause (medium_of query.medium) r.members.failed faults_before faults_now answered
-      → HasLooked query r (record r { members = after }) old new read_before read_now faults_before faults_now answered
+  pub looked : (query : Query) (r : RecorderState) (after : VaultState) (old new : Disk tells tells_images) (read_before read_now faults_before faults_now : List ℕ) (answered : Type 0)
+      → HasOnlyRead query r.vault after old new read_before read_now → HasVisitCause (medium_of query.medium) r.vault.failed faults_before faults_now answered
+      → HasLooked query r (record r { vault = after }) old new read_before read_now faults_before faults_now answered
   looked query r after old new read_before read_now faults_before faults_now answered read cause =
-      let kept = reads_keep (medium_of query.medium) r.members after read.members in
+      let kept = reads_keep (medium_of query.medium) r.vault after read.vault in
       record {
         read = read;
         maker = refl;
@@ -126,15 +126,15 @@ module _ {tells tells_images : Type 0} where
       }
 
   -- Two looks, one after the other, are one.
-  pub looks_join : (query : Query) (r s t : RecordingState) (old mid new : Disk tells tells_images) (read_before read_mid read_now faults_before faults_mid faults_now : List ℕ) (first second : Type 0)
+  pub looks_join : (query : Query) (r s t : RecorderState) (old mid new : Disk tells tells_images) (read_before read_mid read_now faults_before faults_mid faults_now : List ℕ) (first second : Type 0)
       → HasLooked query r s old mid read_before read_mid faults_before faults_mid first → HasLooked query s t mid new read_mid read_now faults_mid faults_now second
       → HasLooked query r t old new read_before read_now faults_before faults_now (first ⊎ second)
   looks_join query r s t old mid new read_before read_mid read_now faults_before faults_mid faults_now first second h k =
       let m = medium_of query.medium in
-      let failed = reads_keep_failed m r.members s.members h.read.members in
-      let all = looked query r t.members old new read_before read_now faults_before faults_now (first ⊎ second)
-      (only_read_join query r.members s.members t.members old mid new read_before read_mid read_now h.read k.read)
-      (cause_join m r.members.failed faults_before faults_mid faults_now first second h.cause
+      let failed = reads_keep_failed m r.vault s.vault h.read.vault in
+      let all = looked query r t.vault old new read_before read_now faults_before faults_now (first ⊎ second)
+      (only_read_join query r.vault s.vault t.vault old mid new read_before read_mid read_now h.read k.read)
+      (cause_join m r.vault.failed faults_before faults_mid faults_now first second h.cause
       (subst (λ (b : Bool). HasVisitCause m b faults_mid faults_now second) failed k.cause)) in
-      subst (λ (x : RecordingState). HasLooked query r x old new read_before read_now faults_before faults_now (first ⊎ second))
-      (λ i. record { members = t.members; maker = (sym h.maker ∙ sym k.maker) i; is_open = (sym h.is_open ∙ sym k.is_open) i }) all
+      subst (λ (x : RecorderState). HasLooked query r x old new read_before read_now faults_before faults_now (first ⊎ second))
+      (λ i. record { vault = t.vault; maker = (sym h.maker ∙ sym k.maker) i; is_open = (sym h.is_open ∙ sym k.is_open) i }) all

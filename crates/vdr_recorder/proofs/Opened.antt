@@ -9,6 +9,7 @@ use Rattle.vdr_history.specs.Histories.{Event, Opening, Settings, stamp_of}
 use Rattle.vdr_history.specs.Runs.{RunStart}
 use Rattle.vdr_retention.specs.Layout.{Batches, batches_size_at, records_in, segment_records}
 use Rattle.vdr_durability.specs.Readings.{EndBy, EndsMeet, Reading, ends_before, leading_batch, next_after}
+use Rattle.vdr_durability.specs.Keeping.{Keeps}
 use Rattle.vdr_outside.specs.Disk.{Disk, Image}
 use Rattle.vdr_config.specs.Sizes.{sizes_of}
 use Rattle.vdr_pace.specs.Media.{EndsBefore, IsMediumOf}
@@ -20,10 +21,10 @@ use Rattle.vdr_ring.specs.Regularity.{AreRegular}
 use Rattle.vdr_opening.specs.Media.{Contents, both, reading_of}
 use Rattle.vdr_opening.specs.declared.refused.OpenRefused.{OpenRefused}
 use Rattle.vdr_vault.specs.Openings.{GoesOnSynced, OpensAtEachMoment}
-use Rattle.vdr_vault.specs.Vaults.{MembersState, ShowsHistory, Stands}
+use Rattle.vdr_vault.specs.Vaults.{VaultState, ShowsHistory, Stands}
 use Rattle.vdr_vault.proofs.ShownImages.{records_are}
 use Rattle.vdr_recorder.specs.Recordings.{HasRecorded, start_of_opening}
-use Rattle.vdr_recorder.specs.declared.maker.Maker.{Maker}
+use Rattle.vdr_run.specs.declared.maker.Maker.{Maker}
 use Rattle.vdr_recorder.proofs.Continuing.{told_at_rest}
 
 -- The last record of batches that are not empty is that of the last batch.
@@ -116,8 +117,18 @@ pub opens_as : {tells tells_images T U : Type 0} (old new : Disk tells tells_ima
 opens_as old new result out was is shows e f same (inl ends) = inl (record { failed = same_refused out result is was _ f e (sym same) ends.failed; moments = ends.moments })
 opens_as old new result out was is shows e f same (inr on) = inr on
 
-module _ {tells tells_images : Type 0} (opening : Opening) (members : MembersState) (placed : ℕ → List Placed) (disk : Disk tells tells_images) (stands : Stands opening [] members placed disk) where
-  regular_on : (m : ℕ) → m < 2 → AreRegular (cost (sizes_of members.config)) (usable (sizes_of members.config)) members.config.batch (placed m)
+-- The media keep what was opened from its syncs on.
+pub keeps_synced : {tells tells_images : Type 0} (shows : List Event → Image → Type 0) (t0 : ℕ) (disk : Disk tells tells_images)
+    → t0 ≤ disk.clock → ((image : Image) → disk.since t0 image → shows [] image) → Keeps shows [] t0 disk
+keeps_synced shows t0 disk low shown = record {
+  rising = omega arith;
+  pending = tt;
+  prefixes = λ t image after end left. record { first = []; rest = []; split = refl; enough = omega arith; shown = shown image (disk.earlier t0 t image after left) };
+  now = λ whole image now. shown image (disk.counts_now t0 image low now);
+}
+
+module _ {tells tells_images : Type 0} (opening : Opening) (vault : VaultState) (placed : ℕ → List Placed) (disk : Disk tells tells_images) (stands : Stands opening [] vault placed disk) where
+  regular_on : (m : ℕ) → m < 2 → AreRegular (cost (sizes_of vault.config)) (usable (sizes_of vault.config)) vault.config.batch (placed m)
   regular_on zero l = (stands.media 0 0 (omega arith)).regular
   regular_on (suc zero) l = (stands.media 1 1 (omega arith)).regular
   regular_on (suc (suc m)) l = absurd (omega (arith, l))
@@ -129,38 +140,33 @@ module _ {tells tells_images : Type 0} (opening : Opening) (members : MembersSta
   same_end : last (all_records (placed 1)) ≡ last (all_records (placed 0))
   same_end =
       ap last (sym (records_are (placed 1)))
-      ∙ last_of_batches (batches_in (placed 1)) (regular_some (cost (sizes_of members.config)) (usable (sizes_of members.config)) members.config.batch (placed 1) (regular_on 1 (omega arith)))
+      ∙ last_of_batches (batches_in (placed 1)) (regular_some (cost (sizes_of vault.config)) (usable (sizes_of vault.config)) vault.config.batch (placed 1) (regular_on 1 (omega arith)))
       ∙ ap last_in (stands.level 1 1 (omega arith))
-      ∙ sym (last_of_batches (batches_in (placed 0)) (regular_some (cost (sizes_of members.config)) (usable (sizes_of members.config)) members.config.batch (placed 0) (regular_on 0 (omega arith))))
+      ∙ sym (last_of_batches (batches_in (placed 0)) (regular_some (cost (sizes_of vault.config)) (usable (sizes_of vault.config)) vault.config.batch (placed 0) (regular_on 0 (omega arith))))
       ∙ ap last (records_are (placed 0))
 
-  medium_opened : (m : ℕ) → AreRegular (cost (sizes_of members.config)) (usable (sizes_of members.config)) members.config.batch (placed m) → EndsBefore (start_of_opening opening) (last (all_records (placed m)))
-      → IsMediumOf (sizes_of members.config) (start_of_opening opening) (segments_in (placed m)) [] (segments_in (placed m))
+  medium_opened : (m : ℕ) → AreRegular (cost (sizes_of vault.config)) (usable (sizes_of vault.config)) vault.config.batch (placed m) → EndsBefore (start_of_opening opening) (last (all_records (placed m)))
+      → IsMediumOf (sizes_of vault.config) (start_of_opening opening) (segments_in (placed m)) [] (segments_in (placed m))
   medium_opened m regular ends =
-      at_opening (sizes_of members.config) (start_of_opening opening) (segments_in (placed m)) (λ g. ap (λ (s : Settings). s.limits g) stands.settings) (record {
-        order = regular_order (cost (sizes_of members.config)) (usable (sizes_of members.config)) members.config.batch (placed m) regular;
+      at_opening (sizes_of vault.config) (start_of_opening opening) (segments_in (placed m)) (λ g. ap (λ (s : Settings). s.limits g) stands.settings) (record {
+        order = regular_order (cost (sizes_of vault.config)) (usable (sizes_of vault.config)) vault.config.batch (placed m) regular;
         ends = ends;
-        paced = regular_paced (cost (sizes_of members.config)) (usable (sizes_of members.config)) members.config.batch (placed m) regular;
+        paced = regular_paced (cost (sizes_of vault.config)) (usable (sizes_of vault.config)) vault.config.batch (placed m) regular;
       })
 
   pub has_opened : (t0 : ℕ) (maker : Maker) → t0 ≤ disk.clock → ((image : Image) → disk.since t0 image → ShowsHistory opening [] image)
-      → HasRecorded opening [] t0 (record { members = members; maker = maker; is_open = false }) disk
+      → HasRecorded opening [] t0 (record { vault = vault; maker = maker; is_open = false }) disk
   has_opened t0 maker low shown = record {
     history = record { follow = tt; pending = tt };
     made = tt;
     failed = stands.working;
-    told = told_at_rest opening [] (All-nil (λ (e : Event). e.moment ≢ None)) members placed disk stands;
-    kept = record {
-      rising = omega arith;
-      pending = tt;
-      prefixes = λ t image after end left. record { first = []; rest = []; split = refl; enough = omega arith; shown = shown image (disk.earlier t0 t image after left) };
-      now = λ whole image now. shown image (disk.counts_now t0 image low now);
-    };
+    told = told_at_rest opening [] (All-nil (λ (e : Event). e.moment ≢ None)) vault placed disk stands;
+    kept = keeps_synced (ShowsHistory opening) t0 disk low shown;
     works = λ works. record {
       placed = placed;
       first = placed;
       stands = stands;
-      media = all_two (λ m. IsMediumOf (sizes_of members.config) (start_of_opening opening) (segments_in (placed m)) [] (segments_in (placed m)))
+      media = all_two (λ m. IsMediumOf (sizes_of vault.config) (start_of_opening opening) (segments_in (placed m)) [] (segments_in (placed m)))
           (medium_opened 0 (regular_on 0 (omega arith)) ends_first)
           (medium_opened 1 (regular_on 1 (omega arith)) (subst (EndsBefore (start_of_opening opening)) (sym same_end) ends_first));
       open_is = refl;

@@ -15,11 +15,11 @@ use Rattle.vdr_play.specs.Streams.{Seen, nothing_seen, seen_after}
 use Rattle.vdr_play.specs.Texts.{record_text, records_text, seen_by}
 use Rattle.vdr_sources.specs.Tables.{sources_of, sources_text, with_record}
 use Rattle.vdr_sources.proofs.Lines.{by_records}
-use Rattle.vdr_vault.specs.Vaults.{IsReadable, MembersState}
+use Rattle.vdr_vault.specs.Vaults.{IsReadable, VaultState}
 use Rattle.vdr_visit.specs.Prints.{lines_behind, text_of, whole_text}
 use Rattle.vdr_visit.specs.Visits.{AreVisited, HasMade, HasVisited}
-use Rattle.vdr_visit.specs.declared.stop.VisitStop.{VisitStop}
-use Rattle.vdr_visit.specs.declared.stop.VisitStop.TheVariants.{NoChannel, NoIncident, Fault, Damaged, Output, Own}
+use Rattle.vdr_visit.specs.declared.refused.VisitRefused.{VisitRefused}
+use Rattle.vdr_visit.specs.declared.refused.VisitRefused.TheVariants.{NoChannel, NoIncident, Fault, Damaged, Output, Own}
 use Rattle.vdr_recorder.specs.Playing.{HasLines, HasPlayed, HasTable, HasTold}
 
 -- What is printed of a record, from these tracks on.
@@ -40,16 +40,16 @@ pub tracks_with : (first now after : Seen) (seen : List Record) (r : Record) →
 tracks_with first now after seen r had is = is ∙ ap (λ (s : Seen). seen_after s r.content) had ∙ sym (seen_with first seen r)
 
 -- The text of a player that has printed nothing.
-lines_are : (first : Seen) (records : List Record) → first ≡ nothing_seen → text_of (line_after first) records ≡ records_text nothing_seen records
+pub lines_are : (first : Seen) (records : List Record) → first ≡ nothing_seen → text_of (line_after first) records ≡ records_text nothing_seen records
 lines_are first records new = behind first [] records ∙ ap (λ (s : Seen). records_text s records) new
 
-whole_is : (first : Seen) (records : List Record) → first ≡ nothing_seen → whole_text (line_after first) (λ all. []) records ≡ records_text nothing_seen records
+pub whole_is : (first : Seen) (records : List Record) → first ≡ nothing_seen → whole_text (line_after first) (λ all. []) records ≡ records_text nothing_seen records
 whole_is first records new = append-nil (text_of (line_after first) records) ∙ lines_are first records new
 
-module _ {tells tells_images : Type 0} {R : Type 0} (query : Query) (members : MembersState) (disk : Disk tells tells_images) (was now : Option (List ℕ)) (result : Result ⊤ (VisitStop R)) where
+module _ {tells tells_images : Type 0} {R : Type 0} (query : Query) (vault : VaultState) (disk : Disk tells tells_images) (was now : Option (List ℕ)) (result : Result ⊤ (VisitRefused R)) where
   -- What a player was handed stands in the output as text.
   pub played : (first : Seen) (Has : List Record → Type 0) → first ≡ nothing_seen
-      → HasVisited query members disk Has (λ seen reason. ⊥) (line_after first) (whole_text (line_after first) (λ all. [])) was now result → HasPlayed query members disk was now result
+      → HasVisited query vault disk Has (λ seen reason. ⊥) (line_after first) (whole_text (line_after first) (λ all. [])) was now result → HasPlayed query vault disk was now result
   played first Has new v = record {
     printed = v.seen;
     lines = lines result v.made;
@@ -61,7 +61,7 @@ module _ {tells tells_images : Type 0} {R : Type 0} (query : Query) (members : M
       told : Appends was now (text_of (line_after first) v.seen) → Appends was now (records_text nothing_seen v.seen)
       told h = subst (λ (l : List ℕ). Appends was now l) (lines_are first v.seen new) h
 
-      lines : (r : Result ⊤ (VisitStop R)) → HasMade (Has v.seen) (λ reason. ⊥) (line_after first) (whole_text (line_after first) (λ all. []) v.seen) v.seen was now r → HasLines v.seen was now r
+      lines : (r : Result ⊤ (VisitRefused R)) → HasMade (Has v.seen) (λ reason. ⊥) (line_after first) (whole_text (line_after first) (λ all. []) v.seen) v.seen was now r → HasLines v.seen was now r
       lines (Ok all) m = subst (λ (l : List ℕ). Appends was now l) (whole_is first v.seen new) m.1
       lines (Err NoChannel) m = told m.1
       lines (Err NoIncident) m = told m.1
@@ -92,10 +92,10 @@ table_is first records new =
     ap (λ (l : List ℕ). l ++ sources_text (fold with_record first records)) (no_lines [] records)
     ∙ ap (λ (rows : List Row). sources_text (fold with_record rows records)) new ∙ ap sources_text (by_records [] records)
 
-module _ {tells tells_images : Type 0} {R : Type 0} (query : Query) (members : MembersState) (disk : Disk tells tells_images) (was now : Option (List ℕ)) (result : Result ⊤ (VisitStop R)) where
+module _ {tells tells_images : Type 0} {R : Type 0} (query : Query) (vault : VaultState) (disk : Disk tells tells_images) (was now : Option (List ℕ)) (result : Result ⊤ (VisitRefused R)) where
   -- What a counter was handed stands in the output as a table, or nothing does.
   pub told : (first : List Row) (Has : List Record → Type 0) (Stops : List Record → R → Type 0) → first ≡ []
-      → HasVisited query members disk Has Stops (λ before r. []) (whole_text (λ before r. []) (λ seen. sources_text (fold with_record first seen))) was now result → HasTold query members disk was now result
+      → HasVisited query vault disk Has Stops (λ before r. []) (whole_text (λ before r. []) (λ seen. sources_text (fold with_record first seen))) was now result → HasTold query vault disk was now result
   told first Has Stops new v = record {
     counted = v.seen;
     table = table result v.made;
@@ -104,7 +104,7 @@ module _ {tells tells_images : Type 0} {R : Type 0} (query : Query) (members : M
         subst (λ (l : List ℕ). AppendsFront was now l) (table_is first (selected opening events query) new) (v.front opening events placed known readable);
   }
     where
-      table : (r : Result ⊤ (VisitStop R)) → HasMade (Has v.seen) (Stops v.seen) (λ before r. []) (whole_text (λ before r. []) (λ seen. sources_text (fold with_record first seen)) v.seen) v.seen was now r
+      table : (r : Result ⊤ (VisitRefused R)) → HasMade (Has v.seen) (Stops v.seen) (λ before r. []) (whole_text (λ before r. []) (λ seen. sources_text (fold with_record first seen)) v.seen) v.seen was now r
           → HasTable v.seen was now r
       table (Ok all) m = subst (λ (l : List ℕ). Appends was now l) (table_is first v.seen new) m.1
       table (Err NoChannel) m = nothing_printed was now _ (no_lines [] v.seen) m.1
@@ -115,37 +115,37 @@ module _ {tells tells_images : Type 0} {R : Type 0} (query : Query) (members : M
       table (Err (Own reason)) m = nothing_printed was now _ (no_lines [] m.1) m.4
 
 -- What was visited is never told as damaged where the media can be read.
-never_damaged : {R : Type 0} (seen records : List Record) (result : Result ⊤ (VisitStop R)) → AreVisited seen records result → (m offset : ℕ) → result ≡ Err (Damaged m offset) → ⊥
-never_damaged {R = R} seen records result are m offset is = subst (λ (o : Result ⊤ (VisitStop R)). AreVisited seen records o) is are
+never_damaged : {R : Type 0} (seen records : List Record) (result : Result ⊤ (VisitRefused R)) → AreVisited seen records result → (m offset : ℕ) → result ≡ Err (Damaged m offset) → ⊥
+never_damaged {R = R} seen records result are m offset is = subst (λ (o : Result ⊤ (VisitRefused R)). AreVisited seen records o) is are
 
-module _ {tells tells_images : Type 0} {R : Type 0} {query : Query} {members : MembersState} {disk : Disk tells tells_images} {was now : Option (List ℕ)} {result : Result ⊤ (VisitStop R)}
-    (opening : Opening) (events : List Event) (placed : ℕ → List Placed) (known : tells) (readable : IsReadable opening events members placed disk) where
+module _ {tells tells_images : Type 0} {R : Type 0} {query : Query} {vault : VaultState} {disk : Disk tells tells_images} {was now : Option (List ℕ)} {result : Result ⊤ (VisitRefused R)}
+    (opening : Opening) (events : List Event) (placed : ℕ → List Placed) (known : tells) (readable : IsReadable opening events vault placed disk) where
   -- A play that ended printed all.
-  pub played_all : HasPlayed query members disk was now result → OnOk result (Appends was now (records_text nothing_seen (selected opening events query)))
+  pub played_all : HasPlayed query vault disk was now result → OnOk result (Appends was now (records_text nothing_seen (selected opening events query)))
   played_all p = by result p.lines (p.are opening events placed known readable)
     where
-      by : (r : Result ⊤ (VisitStop R)) → HasLines p.printed was now r → AreVisited p.printed (selected opening events query) r → OnOk r (Appends was now (records_text nothing_seen (selected opening events query)))
+      by : (r : Result ⊤ (VisitRefused R)) → HasLines p.printed was now r → AreVisited p.printed (selected opening events query) r → OnOk r (Appends was now (records_text nothing_seen (selected opening events query)))
       by (Ok all) lines are = subst (λ (rs : List Record). Appends was now (records_text nothing_seen rs)) are lines
       by (Err stop) lines are = tt
 
-  pub played_undamaged : HasPlayed query members disk was now result → (m offset : ℕ) → result ≡ Err (Damaged m offset) → ⊥
+  pub played_undamaged : HasPlayed query vault disk was now result → (m offset : ℕ) → result ≡ Err (Damaged m offset) → ⊥
   played_undamaged p = never_damaged p.printed (selected opening events query) result (p.are opening events placed known readable)
 
   -- After a fault the lines of the first of the records stand there.
-  pub played_front : HasPlayed query members disk was now result → result ≡ Err Fault
+  pub played_front : HasPlayed query vault disk was now result → result ≡ Err Fault
       → (front : List Record) × (rest : List Record) × (selected opening events query ≡ front ++ rest) × Appends was now (records_text nothing_seen front)
   played_front p fault =
       let first : (rest : List Record) × (selected opening events query ≡ p.printed ++ rest) =
-      subst (λ (o : Result ⊤ (VisitStop R)). AreVisited p.printed (selected opening events query) o) fault (p.are opening events placed known readable) in
-      (p.printed, first.0, first.1, subst (λ (o : Result ⊤ (VisitStop R)). HasLines p.printed was now o) fault p.lines)
+      subst (λ (o : Result ⊤ (VisitRefused R)). AreVisited p.printed (selected opening events query) o) fault (p.are opening events placed known readable) in
+      (p.printed, first.0, first.1, subst (λ (o : Result ⊤ (VisitRefused R)). HasLines p.printed was now o) fault p.lines)
 
   -- A table that was printed is that of all.
-  pub told_all : HasTold query members disk was now result → OnOk result (Appends was now (sources_text (sources_of (selected opening events query))))
+  pub told_all : HasTold query vault disk was now result → OnOk result (Appends was now (sources_text (sources_of (selected opening events query))))
   told_all p = by result p.table (p.are opening events placed known readable)
     where
-      by : (r : Result ⊤ (VisitStop R)) → HasTable p.counted was now r → AreVisited p.counted (selected opening events query) r → OnOk r (Appends was now (sources_text (sources_of (selected opening events query))))
+      by : (r : Result ⊤ (VisitRefused R)) → HasTable p.counted was now r → AreVisited p.counted (selected opening events query) r → OnOk r (Appends was now (sources_text (sources_of (selected opening events query))))
       by (Ok all) table are = subst (λ (rs : List Record). Appends was now (sources_text (sources_of rs))) are table
       by (Err stop) table are = tt
 
-  pub told_undamaged : HasTold query members disk was now result → (m offset : ℕ) → result ≡ Err (Damaged m offset) → ⊥
+  pub told_undamaged : HasTold query vault disk was now result → (m offset : ℕ) → result ≡ Err (Damaged m offset) → ⊥
   told_undamaged p = never_damaged p.counted (selected opening events query) result (p.are opening events placed known readable)

@@ -17,11 +17,11 @@ use Rattle.vdr_incident.specs.declared.refused.ReleaseRefused.{ReleaseRefused}
 use Rattle.vdr_incident.specs.declared.refused.ReleaseRefused.TheVariants as releases
 use Rattle.vdr_opening.specs.Media.{both}
 use Rattle.vdr_vault.specs.Saves.{Does, Saves, save_refusal}
-use Rattle.vdr_vault.specs.Vaults.{MembersState, ShowsHistory, Stands}
+use Rattle.vdr_vault.specs.Vaults.{VaultState, ShowsHistory, Stands}
 use Rattle.vdr_vault.specs.declared.refused.SaveRefused.{SaveRefused}
 use Rattle.vdr_vault.specs.declared.refused.SaveRefused.TheVariants as saves
-use Rattle.vdr_recorder.specs.Making.{Makes}
-use Rattle.vdr_recorder.specs.Recordings.{HasDone, HasKept, HasRecorded, IsStanding, KeepsEvent, RecordingState, acts_of, start_of_opening}
+use Rattle.vdr_run.specs.Making.{Makes}
+use Rattle.vdr_recorder.specs.Recordings.{HasDone, HasKept, HasRecorded, IsStanding, KeepsEvent, RecorderState, acts_of, start_of_opening}
 use Rattle.vdr_recorder.proofs.Answering.{same_disk}
 use Rattle.vdr_recorder.proofs.Continuing.{acts_with}
 use Rattle.vdr_recorder.proofs.Growing.{event, event_kept}
@@ -82,28 +82,28 @@ where_refused failed P Q by_fault by_reason (inl fails) = by_fault fails
 where_refused true P Q by_fault by_reason (inr reason) = by_fault refl
 where_refused false P Q by_fault by_reason (inr reason) = by_reason refl reason
 
-module _ {tells tells_images : Type 0} (opening : Opening) (events : List Event) (t0 : ℕ) (r : RecordingState) where
+module _ {tells tells_images : Type 0} (opening : Opening) (events : List Event) (t0 : ℕ) (r : RecorderState) where
   -- A call that left all as it was is a look.
-  pub look_untouched : {X : Type 0} (disk : X → Disk tells tells_images) (before now : X) → HasRecorded opening events t0 r (disk before) → (after : MembersState)
-      → (after ≡ r.members) × (now ≡ before) → HasDone opening events t0 Look (record r { members = after }) (disk before) (disk now)
+  pub look_untouched : {X : Type 0} (disk : X → Disk tells tells_images) (before now : X) → HasRecorded opening events t0 r (disk before) → (after : VaultState)
+      → (after ≡ r.vault) × (now ≡ before) → HasDone opening events t0 Look (record r { vault = after }) (disk before) (disk now)
   look_untouched disk before now h after (same, still) =
       look_done opening events t0 r (disk before) (disk now) h after
       (subst (λ media. Unchanged (disk before) (disk media)) (sym still) (same_disk (disk before)))
-      (ap (λ (s : MembersState). s.failed) same) (ap (λ (s : MembersState). s.config) same) (ap (λ (s : MembersState). s.next_place) same) (ap (λ (s : MembersState). s.last) same)
-      (ap (λ (s : MembersState). s.table) same)
-      (λ placed stands. subst (λ (s : MembersState). Stands opening events s placed (disk now)) (sym same)
-      (subst (λ media. Stands opening events r.members placed (disk media)) (sym still) stands))
+      (ap (λ (s : VaultState). s.failed) same) (ap (λ (s : VaultState). s.config) same) (ap (λ (s : VaultState). s.next_place) same) (ap (λ (s : VaultState). s.last) same)
+      (ap (λ (s : VaultState). s.table) same)
+      (λ placed stands. subst (λ (s : VaultState). Stands opening events s placed (disk now)) (sym same)
+      (subst (λ media. Stands opening events r.vault placed (disk media)) (sym still) stands))
 
-  module _ (old : Disk tells tells_images) (h : HasRecorded opening events t0 r old) (works : r.members.failed ≡ false) (after : MembersState) (new : Disk tells tells_images)
-      (config_is : after.config ≡ r.members.config) (place_is : after.next_place ≡ r.members.next_place) (last_is : after.last ≡ r.members.last) where
-    kept : HasKept opening events t0 r.members old
+  module _ (old : Disk tells tells_images) (h : HasRecorded opening events t0 r old) (works : r.vault.failed ≡ false) (after : VaultState) (new : Disk tells tells_images)
+      (config_is : after.config ≡ r.vault.config) (place_is : after.next_place ≡ r.vault.next_place) (last_is : after.last ≡ r.vault.last) where
+    kept : HasKept opening events t0 r.vault old
     kept = kept_of opening events t0 r old h
 
     abbrev event_of : Act → Event
-    event_of act = event opening events t0 r.members old kept works act after new
+    event_of act = event opening events t0 r.vault old kept works act after new
 
     module _ (act : Act) (quiet : IsQuiet act) (may : MayCome opening events act) (moments : Extends (ShowsHistory opening) events (event_of act) old new)
-        (stands : after.failed ≡ false → Stands opening (events ++ event_of act ∷ []) after (h.works works).placed new) (table_is : after.failed ≡ true → after.table ≡ r.members.table) where
+        (stands : after.failed ≡ false → Stands opening (events ++ event_of act ∷ []) after (h.works works).placed new) (table_is : after.failed ≡ true → after.table ≡ r.vault.table) where
       standing : after.failed ≡ false → IsStanding opening (events ++ event_of act ∷ []) after new
       standing goes =
           let v = h.works works in
@@ -112,56 +112,56 @@ module _ {tells tells_images : Type 0} (opening : Opening) (events : List Event)
             first = v.first;
             stands = stands goes;
             media = All-weaker
-                (λ m. IsMediumOf (sizes_of r.members.config) (start_of_opening opening) (segments_in (v.first m)) (acts_of events) (segments_in (v.placed m)))
+                (λ m. IsMediumOf (sizes_of r.vault.config) (start_of_opening opening) (segments_in (v.first m)) (acts_of events) (segments_in (v.placed m)))
                 (λ m. IsMediumOf (sizes_of after.config) (start_of_opening opening) (segments_in (v.first m)) (acts_of (events ++ event_of act ∷ [])) (segments_in (v.placed m)))
                 (λ m k. subst (λ (x : Configuration × List Act). IsMediumOf (sizes_of x.0) (start_of_opening opening) (segments_in (v.first m)) x.1 (segments_in (v.placed m)))
                 (λ i. (sym config_is i, sym (acts_with events (event_of act)) i))
-                (silent (sizes_of r.members.config) (start_of_opening opening) (segments_in (v.first m)) (acts_of events) (segments_in (v.placed m)) act k
-                (quiet.done opening.settings.limits r.members.config.batch (state_after (start_of_opening opening) (acts_of events))) quiet.none))
+                (silent (sizes_of r.vault.config) (start_of_opening opening) (segments_in (v.first m)) (acts_of events) (segments_in (v.placed m)) act k
+                (quiet.done opening.settings.limits r.vault.config.batch (state_after (start_of_opening opening) (acts_of events))) quiet.none))
                 both v.media;
           }
 
       event_keeps : KeepsEvent opening events t0 act after old new
-      event_keeps = event_kept opening events t0 r.members old kept works act after new quiet.no_look may (quiet.made (state_left opening events)) moments standing
+      event_keeps = event_kept opening events t0 r.vault old kept works act after new quiet.no_look may (quiet.made (state_left opening events)) moments standing
           (λ fails. (place_is, last_is, table_is fails))
 
       -- The vault's event is one of the recorder.
-      quiet_done : HasDone opening events t0 act (record r { members = after }) old new
-      quiet_done = has_done opening events t0 r old h works act (record r { members = after }) new event_keeps (λ goes. (
+      quiet_done : HasDone opening events t0 act (record r { vault = after }) old new
+      quiet_done = has_done opening events t0 r old h works act (record r { vault = after }) new event_keeps (λ goes. (
         (h.works works).open_is ∙ ap (λ (s : RunState). s.is_open) (sym (quiet.stays (state_left opening events))),
         λ opened. subst (λ (x : Configuration × RunState). Makes x.0 x.1.start x.1.popped r.maker) (λ i. (sym config_is i, sym (quiet.stays (state_left opening events)) i)) ((h.works works).makes opened),
       ))
 
     -- A save that nothing stands in the way of.
-    pub save_done : (label : List ℕ) (result : Result ℕ SaveRefused) (s : Saves opening events label (h.works works).placed after old new result) → save_refusal label r.members ≡ None
+    pub save_done : (label : List ℕ) (result : Result ℕ SaveRefused) (s : Saves opening events label (h.works works).placed after old new result) → save_refusal label r.vault ≡ None
         → ((refused : SaveRefused) → result ≡ Err refused → (refused ≡ saves.Label) ⊎ ((refused ≡ saves.Nothing) ⊎ (refused ≡ saves.TableFull))
-        → (r.members.failed ≡ false) × (save_refusal label r.members ≡ Some refused))
+        → (r.vault.failed ≡ false) × (save_refusal label r.vault ≡ Some refused))
         → ((m offset : ℕ) → result ≡ Err (saves.Damaged m offset) → ⊥) → (result ≡ Err saves.Fault → after.failed ≡ true) → ((result ≡ Err saves.Fault → ⊥) → after.failed ≡ false)
-        → OnErr result (after.table ≡ r.members.table) → HasDone opening events t0 (Save s.id label s.a s.b) (record r { members = after }) old new
+        → OnErr result (after.table ≡ r.vault.table) → HasDone opening events t0 (Save s.id label s.a s.b) (record r { vault = after }) old new
     save_done label result s free reason undamaged fails goes table =
         let does = s.does (event_of (Save s.id label s.a s.b)) refl in
         quiet_done (Save s.id label s.a s.b) (saves_quietly s.id label s.a s.b) s.may_come does.moments
         (done_where result after.failed (Stands opening (events ++ event_of (Save s.id label s.a s.b) ∷ []) after (h.works works).placed new) does.done none)
-        (kept_where result saves.Fault after.failed (after.table ≡ r.members.table) goes table)
+        (kept_where result saves.Fault after.failed (after.table ≡ r.vault.table) goes table)
       where
         none : (refused : SaveRefused) → result ≡ Err refused → after.failed ≡ false → ⊥
-        none saves.Label e again = some_is_not_none (save_refusal label r.members) saves.Label (reason saves.Label e (inl refl)).1 free
-        none saves.Nothing e again = some_is_not_none (save_refusal label r.members) saves.Nothing (reason saves.Nothing e (inr (inl refl))).1 free
-        none saves.TableFull e again = some_is_not_none (save_refusal label r.members) saves.TableFull (reason saves.TableFull e (inr (inr refl))).1 free
+        none saves.Label e again = some_is_not_none (save_refusal label r.vault) saves.Label (reason saves.Label e (inl refl)).1 free
+        none saves.Nothing e again = some_is_not_none (save_refusal label r.vault) saves.Nothing (reason saves.Nothing e (inr (inl refl))).1 free
+        none saves.TableFull e again = some_is_not_none (save_refusal label r.vault) saves.TableFull (reason saves.TableFull e (inr (inr refl))).1 free
         none (saves.Damaged m offset) e again = undamaged m offset e
         none saves.Fault e again = true≢false (sym (fails e) ∙ again)
 
     -- A release of a live save.
-    pub release_done : (id : ℕ) (saved : Incident) (result : Result (Unit {0}) ReleaseRefused) → live r.members.table id ≡ Some saved
+    pub release_done : (id : ℕ) (saved : Incident) (result : Result (Unit {0}) ReleaseRefused) → live r.vault.table id ≡ Some saved
         → ((e : Event) → e.act ≡ Release id → Does opening events e (h.works works).placed after old new result)
-        → (result ≡ Err releases.NoSuch → (r.members.failed ≡ false) × (live r.members.table id ≡ None)) → (result ≡ Err releases.Fault → after.failed ≡ true)
-        → ((result ≡ Err releases.Fault → ⊥) → after.failed ≡ false) → OnErr result (after.table ≡ r.members.table) → HasDone opening events t0 (Release id) (record r { members = after }) old new
+        → (result ≡ Err releases.NoSuch → (r.vault.failed ≡ false) × (live r.vault.table id ≡ None)) → (result ≡ Err releases.Fault → after.failed ≡ true)
+        → ((result ≡ Err releases.Fault → ⊥) → after.failed ≡ false) → OnErr result (after.table ≡ r.vault.table) → HasDone opening events t0 (Release id) (record r { vault = after }) old new
     release_done id saved result has does reason fails goes table =
         let d = does (event_of (Release id)) refl in
         quiet_done (Release id) (releases_quietly id) (saved, subst (λ table. live table id ≡ Some saved) (h.works works).stands.incidents_are has) d.moments
         (done_where result after.failed (Stands opening (events ++ event_of (Release id) ∷ []) after (h.works works).placed new) d.done none)
-        (kept_where result releases.Fault after.failed (after.table ≡ r.members.table) goes table)
+        (kept_where result releases.Fault after.failed (after.table ≡ r.vault.table) goes table)
       where
         none : (refused : ReleaseRefused) → result ≡ Err refused → after.failed ≡ false → ⊥
-        none releases.NoSuch e again = some_is_not_none (live r.members.table id) saved has (reason e).1
+        none releases.NoSuch e again = some_is_not_none (live r.vault.table id) saved has (reason e).1
         none releases.Fault e again = true≢false (sym (fails e) ∙ again)

@@ -25,8 +25,8 @@ use Rattle.vdr_config.specs.Configuration.{Configuration}
 use Rattle.vdr_config.specs.Sizes.{limits_in}
 use Rattle.vdr_pace.specs.Commits.{IsDoneIn, IsFit, items_size}
 use Rattle.vdr_pace.proofs.ItemSizes.{closes_size, made_size}
-use Rattle.vdr_recorder.specs.Making.{Makes, closing_by, rest_of}
-use Rattle.vdr_recorder.specs.Recordings.{HasDone, HasKept, HasRecorded, KeepsEvent, RecordingState}
+use Rattle.vdr_run.specs.Making.{Makes, closing_by, rest_of}
+use Rattle.vdr_recorder.specs.Recordings.{HasDone, HasKept, HasRecorded, KeepsEvent, RecorderState}
 use Rattle.vdr_recorder.proofs.Continuing.{has_moment, left_with}
 
 -- Items of configured groups that are short enough.
@@ -80,9 +80,9 @@ going_on s records taken begins ends = (
   cond-false (begin_run records) taken (s.popped ++ taken) begins,
 )
 
-module _ {tells tells_images : Type 0} (opening : Opening) (events : List Event) (t0 : ℕ) (r : RecordingState) (old : Disk tells tells_images) (h : HasRecorded opening events t0 r old) where
+module _ {tells tells_images : Type 0} (opening : Opening) (events : List Event) (t0 : ℕ) (r : RecorderState) (old : Disk tells tells_images) (h : HasRecorded opening events t0 r old) where
   -- The vault's part.
-  pub kept_of : HasKept opening events t0 r.members old
+  pub kept_of : HasKept opening events t0 r.vault old
   kept_of = record {
     history = h.history;
     made = h.made;
@@ -92,17 +92,17 @@ module _ {tells tells_images : Type 0} (opening : Opening) (events : List Event)
     works = λ works. record { placed = (h.works works).placed; first = (h.works works).first; stands = (h.works works).stands; media = (h.works works).media };
   }
 
-  module _ (works : r.members.failed ≡ false) where
+  module _ (works : r.vault.failed ≡ false) where
     whole : IsWhole events
     whole = (whole_has_not_failed events).1 (sym h.failed ∙ works)
 
-    pub limits_are : (limits_in r.members.config.groups) ≡ opening.settings.limits
+    pub limits_are : (limits_in r.vault.config.groups) ≡ opening.settings.limits
     limits_are = sym (ap (λ (s : Settings). s.limits) (h.works works).stands.settings)
 
     -- The vault's part and the maker's make the whole.
-    pub has_done : (act : Act) (after : RecordingState) (new : Disk tells tells_images) → KeepsEvent opening events t0 act after.members old new
-        → (after.members.failed ≡ false → (after.is_open ≡ (after_act (state_left opening events) act).is_open)
-        × (after.is_open ≡ true → Makes after.members.config (after_act (state_left opening events) act).start (after_act (state_left opening events) act).popped after.maker))
+    pub has_done : (act : Act) (after : RecorderState) (new : Disk tells tells_images) → KeepsEvent opening events t0 act after.vault old new
+        → (after.vault.failed ≡ false → (after.is_open ≡ (after_act (state_left opening events) act).is_open)
+        × (after.is_open ≡ true → Makes after.vault.config (after_act (state_left opening events) act).start (after_act (state_left opening events) act).popped after.maker))
         → HasDone opening events t0 act after old new
     has_done act after new k makes = record {
       event = k.event;
@@ -120,55 +120,55 @@ module _ {tells tells_images : Type 0} (opening : Opening) (events : List Event)
           stands = (k.has.works goes).stands;
           media = (k.has.works goes).media;
           open_is = (makes goes).0 ∙ sym (ap (λ (s : RunState). s.is_open) (left goes));
-          makes = λ opened. subst (λ (s : RunState). Makes after.members.config s.start s.popped after.maker) (sym (left goes)) ((makes goes).1 opened);
+          makes = λ opened. subst (λ (s : RunState). Makes after.vault.config s.start s.popped after.maker) (sym (left goes)) ((makes goes).1 opened);
         };
       };
       passes = k.passes;
     }
       where
-        left : after.members.failed ≡ false → state_left opening (events ++ k.event ∷ []) ≡ after_act (state_left opening events) act
-        left goes = left_with opening events k.event whole (has_moment after.members.failed new.clock k.event.moment k.moment_is goes) ∙ ap (after_act (state_left opening events)) k.act_is
+        left : after.vault.failed ≡ false → state_left opening (events ++ k.event ∷ []) ≡ after_act (state_left opening events) act
+        left goes = left_with opening events k.event whole (has_moment after.vault.failed new.clock k.event.moment k.moment_is goes) ∙ ap (after_act (state_left opening events)) k.act_is
 
     -- A batch of items.
     module _ (opened : r.is_open ≡ true) where
-      pub makes_now : Makes r.members.config (state_left opening events).start (state_left opening events).popped r.maker
+      pub makes_now : Makes r.vault.config (state_left opening events).start (state_left opening events).popped r.maker
       makes_now = (h.works works).makes opened
 
       pub open_now : (state_left opening events).is_open ≡ true
       open_now = sym (h.works works).open_is ∙ opened
 
       pub batch_goes_on : (items : List Captured) (records : List Record) → (recorder_after (state_left opening events).start ((state_left opening events).popped ++ items)).made ≡ (recorder_in (state_left opening events)).made ++ records
-          → items_size items ≤ r.members.config.batch → All (λ c. is_configured (limits_in r.members.config.groups c.group) ≡ true) items → All (λ c. length c.bytes ≤ largest) items
-          → IsDoneIn opening.settings.limits r.members.config.batch (state_left opening events) (Commit records items)
+          → items_size items ≤ r.vault.config.batch → All (λ c. is_configured (limits_in r.vault.config.groups c.group) ≡ true) items → All (λ c. length c.bytes ≤ largest) items
+          → IsDoneIn opening.settings.limits r.vault.config.batch (state_left opening events) (Commit records items)
       batch_goes_on items records made fits known short = inl (record {
         made = record { is_open = open_now; made = made };
-        fit = subst (λ (limits : ℕ → Limit). All (IsFit limits) items) limits_are (fit_all (limits_in r.members.config.groups) items known short);
+        fit = subst (λ (limits : ℕ → Limit). All (IsFit limits) items) limits_are (fit_all (limits_in r.vault.config.groups) items known short);
         short = fits;
       })
 
-      pub batch_done : (items : List Captured) (after : RecordingState) (new : Disk tells tells_images) (records : List Record)
+      pub batch_done : (items : List Captured) (after : RecorderState) (new : Disk tells tells_images) (records : List Record)
           → (recorder_after (state_left opening events).start ((state_left opening events).popped ++ items)).made ≡ (recorder_in (state_left opening events)).made ++ records
-          → KeepsEvent opening events t0 (Commit records items) after.members old new → after.is_open ≡ true
-          → Makes after.members.config (state_left opening events).start ((state_left opening events).popped ++ items) after.maker
+          → KeepsEvent opening events t0 (Commit records items) after.vault old new → after.is_open ≡ true
+          → Makes after.vault.config (state_left opening events).start ((state_left opening events).popped ++ items) after.maker
           → HasDone opening events t0 (Commit records items) after old new
       batch_done items after new records made k is_open makes =
           let inside = (further_items (state_left opening events).start (state_left opening events).popped items records made).1 in
           let on = going_on (state_left opening events) records items (inside_begins_none records inside) (inside_ends_none records inside) in
           has_done (Commit records items) after new k (λ goes. (
             is_open ∙ sym open_now ∙ sym on.0,
-            λ again. subst (λ (x : RunStart × List Captured). Makes after.members.config x.0 x.1 after.maker) (λ i. (sym on.1 i, sym on.2 i)) makes,
+            λ again. subst (λ (x : RunStart × List Captured). Makes after.vault.config x.0 x.1 after.maker) (λ i. (sym on.1 i, sym on.2 i)) makes,
           ))
 
       -- The close.
-      pub close_goes_on : (rest : ℕ → Counts) → ((g : ℕ) → is_configured (limits_in r.members.config.groups g) ≡ false → total (rest g) ≡ 0)
-          → IsDoneIn opening.settings.limits r.members.config.batch (state_left opening events) (Commit (closing (state_left opening events).start (recorder_in (state_left opening events)) rest) [])
+      pub close_goes_on : (rest : ℕ → Counts) → ((g : ℕ) → is_configured (limits_in r.vault.config.groups g) ≡ false → total (rest g) ≡ 0)
+          → IsDoneIn opening.settings.limits r.vault.config.batch (state_left opening events) (Commit (closing (state_left opening events).start (recorder_in (state_left opening events)) rest) [])
       close_goes_on rest quiet = inr (inr (record {
         made = record { is_open = open_now; rest = rest; made = refl; none = refl };
         quiet = λ g out. quiet g (ap (λ (limits : ℕ → Limit). is_configured (limits g)) limits_are ∙ out);
       }))
 
-      pub close_done : (rest : ℕ → Counts) (after : RecordingState) (new : Disk tells tells_images)
-          → KeepsEvent opening events t0 (Commit (closing (state_left opening events).start (recorder_in (state_left opening events)) rest) []) after.members old new → after.is_open ≡ false
+      pub close_done : (rest : ℕ → Counts) (after : RecorderState) (new : Disk tells tells_images)
+          → KeepsEvent opening events t0 (Commit (closing (state_left opening events).start (recorder_in (state_left opening events)) rest) []) after.vault old new → after.is_open ≡ false
           → HasDone opening events t0 (Commit (closing (state_left opening events).start (recorder_in (state_left opening events)) rest) []) after old new
       close_done rest after new k is_closed =
           has_done (Commit (closing (state_left opening events).start (recorder_in (state_left opening events)) rest) []) after new k (λ goes. (

@@ -22,14 +22,14 @@ use Rattle.vdr_pace.specs.Commits.{IsDoneIn}
 use Rattle.vdr_ring.specs.Sequence.{Placed, all_records, batches_of}
 use Rattle.vdr_ring.specs.Rings.{HoldsPlaced}
 use Rattle.vdr_ring.proofs.Beginning.{legal_batches}
-use Rattle.vdr_vault.specs.Vaults.{MembersState, of_stamp, tick_utc}
+use Rattle.vdr_vault.specs.Vaults.{VaultState, of_stamp, tick_utc}
 use Rattle.vdr_vault.proofs.ShownHistory.{held_at}
-use Rattle.vdr_recorder.specs.Making.{Makes}
-use Rattle.vdr_recorder.specs.Recordings.{HasDone, HasRecorded, KeepsEvent, RecordingState}
+use Rattle.vdr_run.specs.Making.{Makes}
+use Rattle.vdr_recorder.specs.Recordings.{HasDone, HasRecorded, KeepsEvent, RecorderState}
 use Rattle.vdr_recorder.specs.declared.run.StartRefused.{StartRefused}
 use Rattle.vdr_recorder.specs.declared.run.StartRefused.TheVariants.{Place, Tick, Fault}
-use Rattle.vdr_recorder.specs.Starts.{start_with}
-use Rattle.vdr_recorder.specs.Starts as starts
+use Rattle.vdr_run.specs.Starts.{start_with}
+use Rattle.vdr_run.specs.Starts as starts
 use Rattle.vdr_recorder.proofs.Continuing.{left_channels, left_limits, left_stamp}
 use Rattle.vdr_recorder.proofs.Running.{has_done}
 
@@ -64,57 +64,57 @@ last_legal records legal = go (last records) refl
     go None e = tt
     go (Some r) e = (All-contains IsRecord records r legal (last_contained records r e)).utc
 
-module _ {tells tells_images : Type 0} (opening : Opening) (events : List Event) (t0 : ℕ) (r : RecordingState) (old : Disk tells tells_images) (h : HasRecorded opening events t0 r old) (works : r.members.failed ≡ false) where
-  held : tells → HoldsPlaced r.members.capsule.segment r.members.capsule.slots ((h.works works).placed 0) (content old.reads 0)
-  held told = held_at opening events r.members.config 0 r.members.capsule ((h.works works).placed 0) old ((h.works works).stands.media 0 0 (omega arith)) told
+module _ {tells tells_images : Type 0} (opening : Opening) (events : List Event) (t0 : ℕ) (r : RecorderState) (old : Disk tells tells_images) (h : HasRecorded opening events t0 r old) (works : r.vault.failed ≡ false) where
+  held : tells → HoldsPlaced r.vault.capsule.segment r.vault.capsule.slots ((h.works works).placed 0) (content old.reads 0)
+  held told = held_at opening events r.vault.config 0 r.vault.capsule ((h.works works).placed 0) old ((h.works works).stands.media 0 0 (omega arith)) told
 
   -- The vault tells the last stamp of the history.
-  pub stamp_is : option_map starts.stamp_of r.members.last ≡ last_stamp opening events
+  pub stamp_is : option_map starts.stamp_of r.vault.last ≡ last_stamp opening events
   stamp_is = ap (option_map starts.stamp_of) (h.works works).stands.newest ∙ back (last_stamp opening events)
 
-  newest_is : r.members.last ≡ told_of (last (all_records ((h.works works).placed 0)))
+  newest_is : r.vault.last ≡ told_of (last (all_records ((h.works works).placed 0)))
   newest_is = (h.works works).stands.newest ∙ ap (option_map of_stamp) (h.works works).stands.stamp ∙ told_stamp (last (all_records ((h.works works).placed 0)))
 
-  stamp_legal : tells → IfSome r.members.last (λ told. IsStamp told.1)
+  stamp_legal : tells → IfSome r.vault.last (λ told. IsStamp told.1)
   stamp_legal tells = subst (λ (o : Option (ℕ × ℤ)). IfSome o (λ told. IsStamp told.1)) (sym newest_is)
-      (last_legal (all_records ((h.works works).placed 0)) (all_legal ((h.works works).placed 0) (legal_batches r.members.capsule.segment r.members.capsule.slots ((h.works works).placed 0) (content old.reads 0) (held tells))))
+      (last_legal (all_records ((h.works works).placed 0)) (all_legal ((h.works works).placed 0) (legal_batches r.vault.capsule.segment r.vault.capsule.slots ((h.works works).placed 0) (content old.reads 0) (held tells))))
 
   whole : IsWhole events
   whole = (whole_has_not_failed events).1 (sym h.failed ∙ works)
 
   -- So the maker begins the run that comes next.
-  begins_next : start_with r.members.config r.members.next_place r.members.last ≡ next_start (state_left opening events)
+  begins_next : start_with r.vault.config r.vault.next_place r.vault.last ≡ next_start (state_left opening events)
   begins_next =
       let settings = (h.works works).stands.settings in
-      let limits : limits_in r.members.config.groups ≡ (state_left opening events).start.limits = sym (ap (λ (s : Settings). s.limits) settings) ∙ sym (left_limits opening events whole) in
-      let channels : channels_of r.members.config ≡ (state_left opening events).start.channels = sym (ap (λ (s : Settings). s.channels) settings) ∙ sym (left_channels opening events whole) in
-      let here : r.members.next_place ≡ (state_left opening events).place = h.told.place in
-      let latest : option_map starts.stamp_of r.members.last ≡ (state_left opening events).last = stamp_is ∙ sym (left_stamp opening events whole) in
+      let limits : limits_in r.vault.config.groups ≡ (state_left opening events).start.limits = sym (ap (λ (s : Settings). s.limits) settings) ∙ sym (left_limits opening events whole) in
+      let channels : channels_of r.vault.config ≡ (state_left opening events).start.channels = sym (ap (λ (s : Settings). s.channels) settings) ∙ sym (left_channels opening events whole) in
+      let here : r.vault.next_place ≡ (state_left opening events).place = h.told.place in
+      let latest : option_map starts.stamp_of r.vault.last ≡ (state_left opening events).last = stamp_is ∙ sym (left_stamp opening events whole) in
       λ i. record { limits = limits i; channels = channels i; place = here i; last = latest i }
 
   -- And by what the vault tells, its stamp brought into the range.
-  pub starts_next : tells → (config : Configuration) → config ≡ r.members.config → (place : ℕ) → place ≡ r.members.next_place
-      → (told near : Option (ℕ × ℤ)) → told ≡ r.members.last → (IfSome told (λ told. IsStamp told.1) → near ≡ told) → start_with config place near ≡ next_start (state_left opening events)
+  pub starts_next : tells → (config : Configuration) → config ≡ r.vault.config → (place : ℕ) → place ≡ r.vault.next_place
+      → (told near : Option (ℕ × ℤ)) → told ≡ r.vault.last → (IfSome told (λ told. IsStamp told.1) → near ≡ told) → start_with config place near ≡ next_start (state_left opening events)
   starts_next tells config same place at told near is keeps =
       let nearest = keeps (subst (λ (o : Option (ℕ × ℤ)). IfSome o (λ told. IsStamp told.1)) (sym is) (stamp_legal tells)) ∙ is in
       (λ i. start_with (same i) (at i) (nearest i)) ∙ begins_next
 
-  pub start_goes_on : r.is_open ≡ false → IsDoneIn opening.settings.limits r.members.config.batch (state_left opening events) (Commit (begun (next_start (state_left opening events))).made [])
+  pub start_goes_on : r.is_open ≡ false → IsDoneIn opening.settings.limits r.vault.config.batch (state_left opening events) (Commit (begun (next_start (state_left opening events))).made [])
   start_goes_on is_closed = inr (inl (record { is_closed = sym (h.works works).open_is ∙ is_closed; made = refl; none = refl }))
 
   -- The Start that it makes is committed.
   pub start_event : r.is_open ≡ false → (start : RunStart) → start ≡ next_start (state_left opening events) → (records : List Record) → records ≡ (begun start).made
-      → (after : MembersState) (new : Disk tells tells_images)
-      → (IsDoneIn opening.settings.limits r.members.config.batch (state_left opening events) (Commit records []) → KeepsEvent opening events t0 (Commit records []) after old new)
+      → (after : VaultState) (new : Disk tells tells_images)
+      → (IsDoneIn opening.settings.limits r.vault.config.batch (state_left opening events) (Commit records []) → KeepsEvent opening events t0 (Commit records []) after old new)
       → KeepsEvent opening events t0 (Commit (begun (next_start (state_left opening events))).made []) after old new
   start_event is_closed start begins records are after new kept =
       let is : records ≡ (begun (next_start (state_left opening events))).made = are ∙ ap (λ (start : RunStart). (begun start).made) begins in
       subst (λ (rs : List Record). KeepsEvent opening events t0 (Commit rs []) after old new) is
-      (kept (subst (λ (rs : List Record). IsDoneIn opening.settings.limits r.members.config.batch (state_left opening events) (Commit rs [])) (sym is) (start_goes_on is_closed)))
+      (kept (subst (λ (rs : List Record). IsDoneIn opening.settings.limits r.vault.config.batch (state_left opening events) (Commit rs [])) (sym is) (start_goes_on is_closed)))
 
-  pub start_done : (after : RecordingState) (new : Disk tells tells_images)
-      → KeepsEvent opening events t0 (Commit (begun (next_start (state_left opening events))).made []) after.members old new
-      → (after.members.failed ≡ false → (after.is_open ≡ true) × Makes after.members.config (next_start (state_left opening events)) [] after.maker)
+  pub start_done : (after : RecorderState) (new : Disk tells tells_images)
+      → KeepsEvent opening events t0 (Commit (begun (next_start (state_left opening events))).made []) after.vault old new
+      → (after.vault.failed ≡ false → (after.is_open ≡ true) × Makes after.vault.config (next_start (state_left opening events)) [] after.maker)
       → HasDone opening events t0 (Commit (begun (next_start (state_left opening events))).made []) after old new
   start_done after new k begins = has_done opening events t0 r old h works (Commit (begun (next_start (state_left opening events))).made []) after new k (λ goes. ((begins goes).0, λ again. (begins goes).1))
 

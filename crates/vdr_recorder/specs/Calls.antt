@@ -22,65 +22,66 @@ use Rattle.vdr_vault.specs.Calls.{SameElsewhere}
 use Rattle.vdr_vault.specs.Keeps.{KeepsHistory}
 use Rattle.vdr_vault.specs.Regularity.{AreSound}
 use Rattle.vdr_vault.specs.Saves.{save_refusal}
-use Rattle.vdr_vault.specs.Vaults.{AreRings, IsReadable, MembersState, of_stamp}
+use Rattle.vdr_vault.specs.Vaults.{AreRings, IsReadable, VaultState, of_stamp}
 use Rattle.vdr_recorder.specs.declared.run.StartRefused.{StartRefused}
 use Rattle.vdr_recorder.specs.declared.run.StartRefused.TheVariants.{Place, Tick, Fault}
-use Rattle.vdr_recorder.specs.Making.{NumbersFit, counted_of, numbers_of}
-use Rattle.vdr_recorder.specs.Recordings.{HasDone, HasRecorded, RecordingState}
+use Rattle.vdr_run.specs.Making.{counted_of}
+use Rattle.vdr_recorder.specs.Making.{NumbersFit, numbers_of}
+use Rattle.vdr_recorder.specs.Recordings.{HasDone, HasRecorded, RecorderState}
 use Rattle.vdr_recorder.specs.Refusals.{HasStartCause}
-use Rattle.vdr_recorder.specs.Starts.{stamp_of}
+use Rattle.vdr_run.specs.Starts.{stamp_of}
 
 -- A save is an event of this id and these places; one that is refused is a look.
-pub record SavesAsEvent {M : Type 0} (media : MediaTells M) (label : List ℕ) (old new : RecordingState) (before after : M) (result : Result ℕ SaveRefused) : Type 0 where
+pub record SavesAsEvent {M : Type 0} (media : MediaTells M) (label : List ℕ) (old new : RecorderState) (before after : M) (result : Result ℕ SaveRefused) : Type 0 where
   -- a save that was not refused is an event of this id and these places
-  pub saved : (opening : Opening) (events : List Event) (t0 : ℕ) → media.tells → old.members.failed ≡ false → save_refusal label old.members ≡ None
+  pub saved : (opening : Opening) (events : List Event) (t0 : ℕ) → media.tells → old.vault.failed ≡ false → save_refusal label old.vault ≡ None
       → ((m offset : ℕ) → result ≡ Err (Damaged m offset) → ⊥) → HasRecorded opening events t0 old (media.disk before)
       → (id : ℕ) × (a : ℕ) × (b : ℕ) × IfOk result (λ told. told ≡ id) × HasDone opening events t0 (Save id label a b) new (media.disk before) (media.disk after)
   -- one that was refused is a look
-  pub looked : (opening : Opening) (events : List Event) (t0 : ℕ) (refused : SaveRefused) → (old.members.failed ≡ true) ⊎ (save_refusal label old.members ≡ Some refused)
+  pub looked : (opening : Opening) (events : List Event) (t0 : ℕ) (refused : SaveRefused) → (old.vault.failed ≡ true) ⊎ (save_refusal label old.vault ≡ Some refused)
       → HasRecorded opening events t0 old (media.disk before) → HasDone opening events t0 Look new (media.disk before) (media.disk after)
   -- and so is one that met damage
   pub met_damage : (opening : Opening) (events : List Event) (t0 m offset : ℕ) → media.tells → result ≡ Err (Damaged m offset)
       → HasRecorded opening events t0 old (media.disk before) → HasDone opening events t0 Look new (media.disk before) (media.disk after)
 
 -- A release is an event of this id; one that is refused is a look.
-pub record ReleasesAsEvent {M : Type 0} (media : MediaTells M) (id : ℕ) (old new : RecordingState) (before after : M) : Type 0 where
+pub record ReleasesAsEvent {M : Type 0} (media : MediaTells M) (id : ℕ) (old new : RecorderState) (before after : M) : Type 0 where
   -- the release of a live save is an event
-  pub released : (opening : Opening) (events : List Event) (t0 : ℕ) (saved : Incident) → media.tells → old.members.failed ≡ false → live old.members.table id ≡ Some saved
+  pub released : (opening : Opening) (events : List Event) (t0 : ℕ) (saved : Incident) → media.tells → old.vault.failed ≡ false → live old.vault.table id ≡ Some saved
       → HasRecorded opening events t0 old (media.disk before) → HasDone opening events t0 (Release id) new (media.disk before) (media.disk after)
   -- one that was refused is a look
-  pub looked : (opening : Opening) (events : List Event) (t0 : ℕ) → (old.members.failed ≡ true) ⊎ (live old.members.table id ≡ None)
+  pub looked : (opening : Opening) (events : List Event) (t0 : ℕ) → (old.vault.failed ≡ true) ⊎ (live old.vault.table id ≡ None)
       → HasRecorded opening events t0 old (media.disk before) → HasDone opening events t0 Look new (media.disk before) (media.disk after)
 
 -- All that tells what was recorded stays, and so does the run.
-pub record KeepsRecording (old new : RecordingState) (sizes : List ℕ) : Type 0 where
+pub record KeepsRecorder (old new : RecorderState) (sizes : List ℕ) : Type 0 where
   -- what the vault tells of the history is as before
-  pub members : KeepsHistory old.members new.members sizes
+  pub vault : KeepsHistory old.vault new.vault sizes
   -- what the run has counted is as before
   pub maker : new.maker ≡ old.maker
   -- a run is open as before
   pub is_open : new.is_open ≡ old.is_open
 
 -- A start is refused exactly where the next place, or the tick of the Start, is 2^62 or more.
-pub record StaysBelowLimits {T : Type 0} (members : MembersState) (result : Result T StartRefused) : Type 0 where
+pub record StaysBelowLimits {T : Type 0} (vault : VaultState) (result : Result T StartRefused) : Type 0 where
   -- Place exactly where the next place is 2^62 or more
-  pub place : members.failed ≡ false → (result ≡ Err Place) ↔ (2 ^ 62 ≤ members.next_place)
+  pub place : vault.failed ≡ false → (result ≡ Err Place) ↔ (2 ^ 62 ≤ vault.next_place)
   -- Tick exactly where the place is below it, and the tick of the Start is not
-  pub tick : members.failed ≡ false → (result ≡ Err Tick) ↔ ((members.next_place < 2 ^ 62) × (2 ^ 62 ≤ base_after (option_map stamp_of members.last)))
+  pub tick : vault.failed ≡ false → (result ≡ Err Tick) ↔ ((vault.next_place < 2 ^ 62) × (2 ^ 62 ≤ base_after (option_map stamp_of vault.last)))
 
 -- A start that is refused leaves all as it is, and so does a vault that a write had failed.
-pub record RefusesStart {T M : Type 0} (old new : RecordingState) (before after : M) (result : Result T StartRefused) : Type 0 where
+pub record RefusesStart {T M : Type 0} (old new : RecorderState) (before after : M) (result : Result T StartRefused) : Type 0 where
   -- after either nothing was called
   pub refused : (result ≡ Err Place) ⊎ (result ≡ Err Tick) → (new ≡ old) × (after ≡ before)
   -- where a write had failed, a fault is answered and nothing is called
-  pub failed : old.members.failed ≡ true → (result ≡ Err Fault) × (new ≡ old) × (after ≡ before)
+  pub failed : old.vault.failed ≡ true → (result ≡ Err Fault) × (new ≡ old) × (after ≡ before)
 
 -- After Ok a run is open, which has counted nothing but its Start.
-pub record BeginsRun {T : Type 0} (old new : RecordingState) (sizes : List ℕ) (result : Result T StartRefused) : Type 0 where
+pub record BeginsRun {T : Type 0} (old new : RecorderState) (sizes : List ℕ) (result : Result T StartRefused) : Type 0 where
   -- after a fault a write has failed
-  pub fails : result ≡ Err Fault → new.members.failed ≡ true
+  pub fails : result ≡ Err Fault → new.vault.failed ≡ true
   -- after Ok none has
-  pub works : OnOk result (new.members.failed ≡ false)
+  pub works : OnOk result (new.vault.failed ≡ false)
   -- after Ok a run is open
   pub opens : OnOk result (new.is_open ≡ true)
   -- after an error none is
@@ -88,9 +89,9 @@ pub record BeginsRun {T : Type 0} (old new : RecordingState) (sizes : List ℕ) 
   -- after Ok the place is small, and nothing was counted
   pub numbers : OnOk result ((new.maker.place ≤ 2 ^ 62) × ((g : ℕ) → g < 16 → next_number (counted_of new.maker g).pending ≡ 0))
   -- the configuration is as before
-  pub config : new.members.config ≡ old.members.config
+  pub config : new.vault.config ≡ old.vault.config
   -- each ring is its medium's
-  pub rings : AreRings new.members sizes
+  pub rings : AreRings new.vault sizes
 
 -- The call wrote to the capsule and the long-term medium alone and read nothing. A fault has its cause.
 pub record WritesStart {M : Type 0} (media : MediaTells M) (failed : Bool) (old new : M) (result : Result ⊤ StartRefused) : Type 0 where
@@ -104,27 +105,27 @@ pub record WritesStart {M : Type 0} (media : MediaTells M) (failed : Bool) (old 
   pub cause : HasStartCause failed (media.faults old) (media.faults new) result
 
 -- One batch may take these items: they fit it, and they are of configured groups. The run's numbers stay below 2^63.
-pub record FitBatch (items : List Captured) (old : RecordingState) : Type 0 where
+pub record FitBatch (items : List Captured) (old : RecorderState) : Type 0 where
   -- their records are no longer than the configured batch
-  pub short : items_size items ≤ old.members.config.batch
+  pub short : items_size items ≤ old.vault.config.batch
   -- each one's group is configured
-  pub configured : All (λ c. is_configured (limits_in old.members.config.groups c.group) ≡ true) items
+  pub configured : All (λ c. is_configured (limits_in old.vault.config.groups c.group) ≡ true) items
   -- the places of their records are below 2^63
   pub places : old.maker.place + 2 * length items < 2 ^ 63
   -- and so are the numbers of each group's items
   pub numbers : NumbersFit old.maker items
 
 -- The run may be closed by these counts: a group that is not configured missed nothing. The run's numbers stay below 2^63.
-pub record FitClose (rest : ℕ → Counts) (old : RecordingState) : Type 0 where
+pub record FitClose (rest : ℕ → Counts) (old : RecorderState) : Type 0 where
   -- a group that is not configured missed nothing
-  pub quiet : (g : ℕ) → is_configured (limits_in old.members.config.groups g) ≡ false → total (rest g) ≡ 0
+  pub quiet : (g : ℕ) → is_configured (limits_in old.vault.config.groups g) ≡ false → total (rest g) ≡ 0
   -- the places of the closing Gaps and of the Stop are below 2^63
   pub place : old.maker.place + 17 < 2 ^ 63
   -- and so are the numbers of each group's items
   pub numbers : (g : ℕ) → g < 16 → next_number (counted_of old.maker g).pending + total (rest g) < 2 ^ 63
 
 -- The run goes on, with two records an item at most.
-pub record GoesOnWith (items : List Captured) (old new : RecordingState) (sizes : List ℕ) : Type 0 where
+pub record GoesOnWith (items : List Captured) (old new : RecorderState) (sizes : List ℕ) : Type 0 where
   -- the run stays open
   pub stays_open : new.is_open ≡ true
   -- an item takes two places at most
@@ -132,35 +133,35 @@ pub record GoesOnWith (items : List Captured) (old new : RecordingState) (sizes 
   -- a group counts no more than its items
   pub numbers : (g : ℕ) → g < 16 → next_number (counted_of new.maker g).pending ≤ next_number (counted_of old.maker g).pending + numbers_of g items
   -- the configuration is as before
-  pub config : new.members.config ≡ old.members.config
+  pub config : new.vault.config ≡ old.vault.config
   -- each ring is its medium's
-  pub rings : AreRings new.members sizes
+  pub rings : AreRings new.vault sizes
 
 -- No run is open, unless a write had failed before.
-pub record EndsRun (old new : RecordingState) (sizes : List ℕ) : Type 0 where
+pub record EndsRun (old new : RecorderState) (sizes : List ℕ) : Type 0 where
   -- no run is open, where no write had failed
-  pub closed : old.members.failed ≡ false → new.is_open ≡ false
+  pub closed : old.vault.failed ≡ false → new.is_open ≡ false
   -- the configuration is as before
-  pub config : new.members.config ≡ old.members.config
+  pub config : new.vault.config ≡ old.vault.config
   -- each ring is its medium's
-  pub rings : AreRings new.members sizes
+  pub rings : AreRings new.vault sizes
 
 module _ {tells tells_images : Type 0} where
   -- The recorder that was opened, and what the media hold of it. They were formatted and legible, and where they are sound it has
   -- recorded nothing yet.
-  pub record OpensRecording (result : Result RecordingState OpenRefused) (old new : Disk tells tells_images) : Type 0 where
+  pub record OpensRecorder (result : Result RecorderState OpenRefused) (old new : Disk tells tells_images) : Type 0 where
     -- where the media are sound, nothing is recorded on them since a moment of the call
     pub opened : IfOk result (λ r. (x : Contents) → tells → HoldsContents old.reads x → AreSound x → (t0 : ℕ) × (old.clock ≤ t0) × (t0 ≤ new.clock) × HasRecorded (opening_of x) [] t0 r new)
     -- the media were formatted, and what the recorder tells is what they hold
     pub contents : IfOk result (λ r. tells → IsFormatted old.reads × (x : Contents) × HoldsContents old.reads x
-        × EndsMeet both (reading_of x) × (r.members.config ≡ x.config) × (r.members.table ≡ x.table) × (r.members.last ≡ option_map of_stamp (opening_of x).last))
+        × EndsMeet both (reading_of x) × (r.vault.config ≡ x.config) × (r.vault.table ≡ x.table) × (r.vault.last ≡ option_map of_stamp (opening_of x).last))
     -- the next place is that of what they hold
-    pub place : IfOk result (λ r. (x : Contents) → tells → HoldsContents old.reads x → r.members.next_place ≡ (opening_of x).next_place)
+    pub place : IfOk result (λ r. (x : Contents) → tells → HoldsContents old.reads x → r.vault.next_place ≡ (opening_of x).next_place)
     -- where both end with the last batch it can be read
-    pub readable : IfOk result (λ r. (x : Contents) → tells → HoldsContents old.reads x → AreLevel both (reading_of x) → IsReadable (opening_of x) [] r.members x.placed new)
+    pub readable : IfOk result (λ r. (x : Contents) → tells → HoldsContents old.reads x → AreLevel both (reading_of x) → IsReadable (opening_of x) [] r.vault x.placed new)
     -- no write has failed
-    pub works : IfOk result (λ r. r.members.failed ≡ false)
+    pub works : IfOk result (λ r. r.vault.failed ≡ false)
     -- no run is open
     pub closed : IfOk result (λ r. r.is_open ≡ false)
     -- each ring is its medium's
-    pub rings : IfOk result (λ r. AreRings r.members new.sizes)
+    pub rings : IfOk result (λ r. AreRings r.vault new.sizes)

@@ -1,6 +1,4 @@
 -- What a recorder makes of the items that it takes, and what its media keep of it.
-pub mod Accounts
-pub mod Starts
 pub mod Making
 pub mod Recordings
 pub mod Refusals

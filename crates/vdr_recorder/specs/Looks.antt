@@ -5,16 +5,16 @@ use Rattle.vdr_history.specs.Histories.{Event, Opening}
 use Rattle.vdr_history.specs.Histories.Act.{Look}
 use Rattle.vdr_playback.specs.Playback.{medium_of}
 use Rattle.vdr_outside.specs.Disk.{Disk}
-use Rattle.vdr_visit.specs.Stops.{HasVisitCause}
+use Rattle.vdr_visit.specs.Refusals.{HasVisitCause}
 use Rattle.vdr_visit.specs.Visits.{HasOnlyRead}
-use Rattle.vdr_recorder.specs.Recordings.{HasDone, HasRecorded, RecordingState}
+use Rattle.vdr_recorder.specs.Recordings.{HasDone, HasRecorded, RecorderState}
 
 module _ {tells tells_images : Type 0} where
   -- A query's medium was read, and nothing else was done. That is one event of the history, a look. A fault is answered only where it has its
   -- cause.
-  pub record HasLooked (query : Query) (old new : RecordingState) (before after : Disk tells tells_images) (read_before read_now faults_before faults_now : List ℕ) (answered : Type 0) : Type 0 where
-    pub read : HasOnlyRead query old.members new.members before after read_before read_now
+  pub record HasLooked (query : Query) (old new : RecorderState) (before after : Disk tells tells_images) (read_before read_now faults_before faults_now : List ℕ) (answered : Type 0) : Type 0 where
+    pub read : HasOnlyRead query old.vault new.vault before after read_before read_now
     pub maker : new.maker ≡ old.maker
     pub is_open : new.is_open ≡ old.is_open
     pub done : (opening : Opening) (events : List Event) (t0 : ℕ) → HasRecorded opening events t0 old before → HasDone opening events t0 Look new before after
-    pub cause : HasVisitCause (medium_of query.medium) old.members.failed faults_before faults_now answered
+    pub cause : HasVisitCause (medium_of query.medium) old.vault.failed faults_before faults_now answered

@@ -12,34 +12,34 @@ ghost use Rattle.vdr_recorder.specs.Recordings.{HasKept, KeepsEvent};
 
 use vdr_entry::Record;
 use vdr_outside::{Fault, Media};
-use vdr_vault::Members;
+use vdr_vault::Vault;
 
 /// Commits these records as one batch; where there are none, nothing is called.
 pub(crate) fn commit<M: Media>(
-    members: &mut Members,
+    vault: &mut Vault,
     media: &mut M,
     records: &[Record],
 ) -> Result<(), Fault>
-    requires rings { AreRings members.old (M.disk media.old).sizes }
-    requires short { records_size records.now ≤ members.old.config.batch }
-    requires works { members.old.failed ≡ false }
-    ensures event { (opening : Opening) (events : List Event) (t0 : ℕ) (taken : List Captured) → M.tells → HasKept opening events t0 members.old (M.disk media.old)
-        → closing_size ≤ members.old.config.batch → IsDoneIn opening.settings.limits members.old.config.batch (state_left opening events) (Commit records.now taken)
-        → KeepsEvent opening events t0 (Commit records.now taken) members.new (M.disk media.old) (M.disk media.new) }
-    ensures nothing { length records.now ≡ 0 → (members.new ≡ members.old) × (media.new ≡ media.old) }
-    ensures fails { OnErr result (members.new.failed ≡ true) }
-    ensures works { OnOk result (members.new.failed ≡ false) }
-    ensures kept { OnErr result ((members.new.next_place ≡ members.old.next_place) × (members.new.last ≡ members.old.last)) }
-    ensures config { members.new.config ≡ members.old.config }
-    ensures table { members.new.table ≡ members.old.table }
-    ensures rings { AreRings members.new (M.disk media.new).sizes }
+    requires rings { AreRings vault.old (M.disk media.old).sizes }
+    requires short { records_size records.now ≤ vault.old.config.batch }
+    requires works { vault.old.failed ≡ false }
+    ensures event { (opening : Opening) (events : List Event) (t0 : ℕ) (taken : List Captured) → M.tells → HasKept opening events t0 vault.old (M.disk media.old)
+        → closing_size ≤ vault.old.config.batch → IsDoneIn opening.settings.limits vault.old.config.batch (state_left opening events) (Commit records.now taken)
+        → KeepsEvent opening events t0 (Commit records.now taken) vault.new (M.disk media.old) (M.disk media.new) }
+    ensures nothing { length records.now ≡ 0 → (vault.new ≡ vault.old) × (media.new ≡ media.old) }
+    ensures fails { OnErr result (vault.new.failed ≡ true) }
+    ensures works { OnOk result (vault.new.failed ≡ false) }
+    ensures kept { OnErr result ((vault.new.next_place ≡ vault.old.next_place) × (vault.new.last ≡ vault.old.last)) }
+    ensures config { vault.new.config ≡ vault.old.config }
+    ensures table { vault.new.table ≡ vault.old.table }
+    ensures rings { AreRings vault.new (M.disk media.new).sizes }
     ensures others { M.tells → SameElsewhere (M.disk media.old).reads (M.disk media.new).reads }
     ensures sizes { (M.disk media.new).sizes ≡ (M.disk media.old).sizes }
     ensures counts { M.bytes_read media.new ≡ M.bytes_read media.old }
-    ensures cause { HasVaultCause members.old.failed (M.faults media.old) (M.faults media.new) result }
+    ensures cause { HasVaultCause vault.old.failed (M.faults media.old) (M.faults media.new) result }
 {
     if records.is_empty() {
         return Ok(());
     }
-    members.commit(media, records)
+    vault.commit(media, records)
 }

@@ -3,17 +3,17 @@ ghost use Rattle.std.specs.Prelude.{◌≡◌, ◌⊎◌, ℕ, length, true, Err
 ghost use Rattle.vdr_entry.specs.Queries.{asked};
 ghost use Rattle.vdr_play.specs.Streams.{nothing_seen};
 ghost use Rattle.vdr_vault.specs.Vaults.{AreRings};
-ghost use Rattle.vdr_visit.specs.Stops.{HasOutputCause, IsAccepted, after_fault, lacks_channel, lacks_incident, unanswered};
-ghost use Rattle.vdr_visit.specs.declared.stop.VisitStop.TheVariants.{Fault as AFault, NoChannel, NoIncident, Output};
+ghost use Rattle.vdr_visit.specs.Refusals.{HasOutputCause, IsAccepted, after_fault, lacks_channel, lacks_incident, unanswered};
+ghost use Rattle.vdr_visit.specs.declared.refused.VisitRefused.TheVariants.{Fault as AFault, NoChannel, NoIncident, Output};
 ghost use Rattle.vdr_recorder.specs.Looks.{HasLooked};
 ghost use Rattle.vdr_recorder.specs.Playing.{HasPlayed};
 
-use crate::Recording;
+use crate::Recorder;
 use std::convert::Infallible;
 use vdr_entry::{Query, Record};
 use vdr_outside::{Media, Sink};
 use vdr_play::{Tracks, print_record};
-use vdr_visit::{VisitStop, Visitor, VisitorStop};
+use vdr_visit::{VisitRefused, Visitor, VisitorRefused};
 
 /// Prints records, each as `vdr_play::print_record` does. It takes no memory.
 #[derive(Drop)]
@@ -50,19 +50,19 @@ impl Visitor for Player {
         &mut self,
         item: &Record,
         out: &mut O,
-    ) -> Result<(), VisitorStop<Infallible>> {
+    ) -> Result<(), VisitorRefused<Infallible>> {
         match print_record(item, &mut self.tracks, out) {
             Ok(()) => Ok(()),
-            Err(_) => Err(VisitorStop::Output),
+            Err(_) => Err(VisitorRefused::Output),
         }
     }
 
-    fn finish<O: Sink>(&mut self, _out: &mut O) -> Result<(), VisitorStop<Infallible>> {
+    fn finish<O: Sink>(&mut self, _out: &mut O) -> Result<(), VisitorRefused<Infallible>> {
         Ok(())
     }
 }
 
-impl Recording {
+impl Recorder {
     /// Prints the records that a query selects, in order of place, each as `vdr_play::print_record` does, from new tracks on, and each as it is
     /// read: it takes no memory. Reads the query's medium alone.
     ///
@@ -74,13 +74,13 @@ impl Recording {
         media: &mut M,
         query: &Query,
         out: &mut O,
-    ) -> Result<(), VisitStop<Infallible>>
-        requires rings { AreRings self.old.members (M.disk media.old).sizes }
-        ensures accepted { IsAccepted (lacks_channel (length self.old.members.config.channels) query.now.channel) (lacks_incident self.old.members.table (asked query.now).medium) result }
-        ensures played { HasPlayed (asked query.now) self.old.members (M.disk media.old) (O.taken out.old) (O.taken out.new) result }
+    ) -> Result<(), VisitRefused<Infallible>>
+        requires rings { AreRings self.old.vault (M.disk media.old).sizes }
+        ensures accepted { IsAccepted (lacks_channel (length self.old.vault.config.channels) query.now.channel) (lacks_incident self.old.vault.table (asked query.now).medium) result }
+        ensures played { HasPlayed (asked query.now) self.old.vault (M.disk media.old) (O.taken out.old) (O.taken out.new) result }
         ensures unread { (result ≡ Err NoChannel) ⊎ (result ≡ Err NoIncident) → (self.new ≡ self.old) × (media.new ≡ media.old) × (out.new ≡ out.old) }
-        ensures failed { self.old.members.failed ≡ true → (self.new ≡ self.old) × (media.new ≡ media.old) × (out.new ≡ out.old)
-            × (result ≡ after_fault (unanswered (lacks_channel (length self.old.members.config.channels) query.now.channel) (lacks_incident self.old.members.table (asked query.now).medium))) }
+        ensures failed { self.old.vault.failed ≡ true → (self.new ≡ self.old) × (media.new ≡ media.old) × (out.new ≡ out.old)
+            × (result ≡ after_fault (unanswered (lacks_channel (length self.old.vault.config.channels) query.now.channel) (lacks_incident self.old.vault.table (asked query.now).medium))) }
         ensures looked { HasLooked (asked query.now) self.old self.new (M.disk media.old) (M.disk media.new) (M.bytes_read media.old) (M.bytes_read media.new) (M.faults media.old) (M.faults media.new) (result ≡ Err AFault) }
         ensures output { HasOutputCause (O.faults out.old) (O.faults out.new) (result ≡ Err Output) }
     {

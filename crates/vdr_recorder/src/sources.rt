@@ -2,17 +2,17 @@
 ghost use Rattle.std.specs.Prelude.{◌≡◌, ◌⊎◌, [], length, true, Err};
 ghost use Rattle.vdr_entry.specs.Queries.{asked};
 ghost use Rattle.vdr_vault.specs.Vaults.{AreRings};
-ghost use Rattle.vdr_visit.specs.Stops.{HasOutputCause, IsAccepted, after_fault, lacks_channel, lacks_incident, unanswered};
-ghost use Rattle.vdr_visit.specs.declared.stop.VisitStop.TheVariants.{Fault as AFault, NoChannel, NoIncident, Output};
+ghost use Rattle.vdr_visit.specs.Refusals.{HasOutputCause, IsAccepted, after_fault, lacks_channel, lacks_incident, unanswered};
+ghost use Rattle.vdr_visit.specs.declared.refused.VisitRefused.TheVariants.{Fault as AFault, NoChannel, NoIncident, Output};
 ghost use Rattle.vdr_recorder.specs.Looks.{HasLooked};
 ghost use Rattle.vdr_recorder.specs.Playing.{HasTold};
 
-use crate::Recording;
+use crate::Recorder;
 use std::alloc::{AllocError, Global};
 use vdr_entry::{Query, Record};
 use vdr_outside::{Media, Printable, Sink};
 use vdr_sources::SourceTable;
-use vdr_visit::{VisitStop, Visitor, VisitorStop};
+use vdr_visit::{VisitRefused, Visitor, VisitorRefused};
 
 /// Counts the lines of records, and prints the table of their sources behind the last.
 #[derive(Drop)]
@@ -50,22 +50,22 @@ impl Visitor for SourceCounter {
         &mut self,
         item: &Record,
         _out: &mut O,
-    ) -> Result<(), VisitorStop<AllocError>> {
+    ) -> Result<(), VisitorRefused<AllocError>> {
         match self.table.add(item) {
             Ok(()) => Ok(()),
-            Err(none) => Err(VisitorStop::Own(none)),
+            Err(none) => Err(VisitorRefused::Own(none)),
         }
     }
 
-    fn finish<O: Sink>(&mut self, out: &mut O) -> Result<(), VisitorStop<AllocError>> {
+    fn finish<O: Sink>(&mut self, out: &mut O) -> Result<(), VisitorRefused<AllocError>> {
         match self.table.print(out) {
             Ok(()) => Ok(()),
-            Err(_) => Err(VisitorStop::Output),
+            Err(_) => Err(VisitorRefused::Output),
         }
     }
 }
 
-impl Recording {
+impl Recorder {
     /// Prints the table of sources of the records that a query selects, each record read once, behind the last of them. It takes memory for
     /// the table, and `Own` says that there was none. Reads the query's medium alone.
     ///
@@ -77,13 +77,13 @@ impl Recording {
         media: &mut M,
         query: &Query,
         out: &mut O,
-    ) -> Result<(), VisitStop<AllocError>>
-        requires rings { AreRings self.old.members (M.disk media.old).sizes }
-        ensures accepted { IsAccepted (lacks_channel (length self.old.members.config.channels) query.now.channel) (lacks_incident self.old.members.table (asked query.now).medium) result }
-        ensures told { HasTold (asked query.now) self.old.members (M.disk media.old) (O.taken out.old) (O.taken out.new) result }
+    ) -> Result<(), VisitRefused<AllocError>>
+        requires rings { AreRings self.old.vault (M.disk media.old).sizes }
+        ensures accepted { IsAccepted (lacks_channel (length self.old.vault.config.channels) query.now.channel) (lacks_incident self.old.vault.table (asked query.now).medium) result }
+        ensures told { HasTold (asked query.now) self.old.vault (M.disk media.old) (O.taken out.old) (O.taken out.new) result }
         ensures unread { (result ≡ Err NoChannel) ⊎ (result ≡ Err NoIncident) → (self.new ≡ self.old) × (media.new ≡ media.old) × (out.new ≡ out.old) }
-        ensures failed { self.old.members.failed ≡ true → (self.new ≡ self.old) × (media.new ≡ media.old) × (out.new ≡ out.old)
-            × (result ≡ after_fault (unanswered (lacks_channel (length self.old.members.config.channels) query.now.channel) (lacks_incident self.old.members.table (asked query.now).medium))) }
+        ensures failed { self.old.vault.failed ≡ true → (self.new ≡ self.old) × (media.new ≡ media.old) × (out.new ≡ out.old)
+            × (result ≡ after_fault (unanswered (lacks_channel (length self.old.vault.config.channels) query.now.channel) (lacks_incident self.old.vault.table (asked query.now).medium))) }
         ensures looked { HasLooked (asked query.now) self.old self.new (M.disk media.old) (M.disk media.new) (M.bytes_read media.old) (M.bytes_read media.new) (M.faults media.old) (M.faults media.new) (result ≡ Err AFault) }
         ensures output { HasOutputCause (O.faults out.old) (O.faults out.new) (result ≡ Err Output) }
     {

@@ -3,22 +3,22 @@ ghost use Rattle.std.specs.Prelude.{◌≡◌, ◌⊎◌, [], length, true, Err}
 ghost use Rattle.vdr_entry.specs.Queries.{asked};
 ghost use Rattle.vdr_vault.specs.Vaults.{AreRings};
 ghost use Rattle.vdr_visit.specs.Prints.{whole_text};
-ghost use Rattle.vdr_visit.specs.Stops.{HasOutputCause, IsAccepted, after_fault, lacks_channel, lacks_incident, unanswered};
+ghost use Rattle.vdr_visit.specs.Refusals.{HasOutputCause, IsAccepted, after_fault, lacks_channel, lacks_incident, unanswered};
 ghost use Rattle.vdr_visit.specs.Visits.{HasVisited};
-ghost use Rattle.vdr_visit.specs.declared.stop.VisitStop.TheVariants.{Fault as AFault, NoChannel, NoIncident, Output};
+ghost use Rattle.vdr_visit.specs.declared.refused.VisitRefused.TheVariants.{Fault as AFault, NoChannel, NoIncident, Output};
 ghost use Rattle.vdr_recorder.specs.Looks.{HasLooked};
 
-use crate::Recording;
+use crate::Recorder;
 use vdr_entry::Query;
 use vdr_outside::{Media, Sink};
-use vdr_visit::{VisitStop, Visitor, accept, visit_selected};
+use vdr_visit::{VisitRefused, Visitor, accept, visit_selected};
 
-impl Recording {
+impl Recorder {
     /// Whether a query asks for a channel that is configured and for an incident that is live, where it asks for one.
-    pub fn accept<R>(&self, query: &Query) -> Result<(), VisitStop<R>>
-        ensures { result ≡ unanswered (lacks_channel (length self.now.members.config.channels) query.now.channel) (lacks_incident self.now.members.table (asked query.now).medium) }
+    pub fn accept<R>(&self, query: &Query) -> Result<(), VisitRefused<R>>
+        ensures { result ≡ unanswered (lacks_channel (length self.now.vault.config.channels) query.now.channel) (lacks_incident self.now.vault.table (asked query.now).medium) }
     {
-        accept(&self.members, query)
+        accept(&self.vault, query)
     }
 
     /// Hands the records that a query selects to the visitor, in order of place, each once, and then their end. What it prints goes to the
@@ -33,18 +33,18 @@ impl Recording {
         query: &Query,
         visitor: &mut V,
         out: &mut O,
-    ) -> Result<(), VisitStop<V::Reason>>
-        requires rings { AreRings self.old.members (M.disk media.old).sizes }
-        ensures accepted { IsAccepted (lacks_channel (length self.old.members.config.channels) query.now.channel) (lacks_incident self.old.members.table (asked query.now).medium) result }
+    ) -> Result<(), VisitRefused<V::Reason>>
+        requires rings { AreRings self.old.vault (M.disk media.old).sizes }
+        ensures accepted { IsAccepted (lacks_channel (length self.old.vault.config.channels) query.now.channel) (lacks_incident self.old.vault.table (asked query.now).medium) result }
         ensures visited { (first : V) → V.has first [] visitor.old
-            → HasVisited (asked query.now) self.old.members (M.disk media.old) (λ seen. V.has first seen visitor.new) (V.stops first) (V.line first) (whole_text (V.line first) (V.last first))
+            → HasVisited (asked query.now) self.old.vault (M.disk media.old) (λ seen. V.has first seen visitor.new) (V.stops first) (V.line first) (whole_text (V.line first) (V.last first))
             (O.taken out.old) (O.taken out.new) result }
         ensures unread { (result ≡ Err NoChannel) ⊎ (result ≡ Err NoIncident) → (self.new ≡ self.old) × (media.new ≡ media.old) × (visitor.new ≡ visitor.old) × (out.new ≡ out.old) }
-        ensures failed { self.old.members.failed ≡ true → (self.new ≡ self.old) × (media.new ≡ media.old) × (visitor.new ≡ visitor.old) × (out.new ≡ out.old)
-            × (result ≡ after_fault (unanswered (lacks_channel (length self.old.members.config.channels) query.now.channel) (lacks_incident self.old.members.table (asked query.now).medium))) }
+        ensures failed { self.old.vault.failed ≡ true → (self.new ≡ self.old) × (media.new ≡ media.old) × (visitor.new ≡ visitor.old) × (out.new ≡ out.old)
+            × (result ≡ after_fault (unanswered (lacks_channel (length self.old.vault.config.channels) query.now.channel) (lacks_incident self.old.vault.table (asked query.now).medium))) }
         ensures looked { HasLooked (asked query.now) self.old self.new (M.disk media.old) (M.disk media.new) (M.bytes_read media.old) (M.bytes_read media.new) (M.faults media.old) (M.faults media.new) (result ≡ Err AFault) }
         ensures output { HasOutputCause (O.faults out.old) (O.faults out.new) (result ≡ Err Output) }
     {
-        visit_selected(&mut self.members, media, query, visitor, out)
+        visit_selected(&mut self.vault, media, query, visitor, out)
     }
 }

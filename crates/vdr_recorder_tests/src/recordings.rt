@@ -1,4 +1,6 @@
+mod bench;
 mod full;
 mod making;
+mod playing;
 mod recording;
 mod saving;

@@ -1,11 +1,11 @@
 use std::alloc::{AllocError, Global};
 use std::process::Abort;
 use std::test::Fail;
-use vdr_gap::Counts;
 use vdr_media::format;
 use vdr_memory::{MemorySource, RamMedia};
 use vdr_outside::Media;
-use vdr_replay::{FeedEnd, GroupSums, ReplayStop, Replayed, replay};
+use vdr_replay::{FeedEnd, GroupSums, ReplayRefused, Replayed, replay};
+use vdr_terms::Counts;
 
 // The bench configuration: windows of 60 and 600 seconds, for which the media need 11 and 83 slots.
 const BENCH: &[u8] =
@@ -78,17 +78,17 @@ fn both_media(rt: &impl Abort, alloc: Global) -> Result<RamMedia, AllocError> {
     Ok(RamMedia::new(media))
 }
 
-// What recording this feed answers, which comes in pieces of 7 bytes from a source that fails at these calls.
-fn answer(
+// What recording this feed answers, which comes in pieces of 7 bytes from a source that fails at this call.
+fn answer<M: Media>(
     rt: &impl Abort,
     alloc: Global,
-    media: &mut RamMedia,
+    media: &mut M,
     feed: Vec<u8>,
-    failing: Vec<u64>,
-) -> Result<Replayed, ReplayStop> {
+    failing: u64,
+) -> Result<Result<Replayed, ReplayRefused>, AllocError> {
     assert!(rt; media.count() == 2);
-    let mut input = MemorySource::new(feed, 7, failing);
-    replay(alloc, media, &mut input)
+    let mut input = MemorySource::new(feed, 7, vec![in alloc; failing]?);
+    Ok(replay(alloc, media, &mut input))
 }
 
 // Appends an item that was received at this time, which is its stamp too.
@@ -111,8 +111,11 @@ fn feed_of(alloc: Global, items: &[(u8, u64, &[u8])], cut: usize) -> Result<Vec<
     Ok(feed)
 }
 
-// A run in which NAVD's port gave so many items, of which so many are recorded.
-fn replayed(taken: u64, recorded: u64, counts: Counts, records: u64, end: FeedEnd) -> Replayed {
+// A run in which NAVD's port gave so many items, of which so many are recorded: what it missed, all records, and how the feed ended.
+type Sums = (u64, u64, Counts, u64, FeedEnd);
+
+fn replayed(sums: &Sums) -> Replayed {
+    let (taken, recorded, counts, records, end) = *sums;
     let mut groups = [None; 16];
     groups[NAVD as usize] = Some(GroupSums {
         taken,
@@ -126,46 +129,55 @@ fn replayed(taken: u64, recorded: u64, counts: Counts, records: u64, end: FeedEn
     }
 }
 
+// The items, how many bytes are cut off behind them, the call at which the source fails, and the answer.
+const ROWS: [(Feed<'_>, usize, u64, Sums); 6] = [
+    (FOUR, 0, NEVER, (4, 4, NONE, 6, FeedEnd::Whole)),
+    (&[], 0, NEVER, (0, 0, NONE, 2, FeedEnd::Whole)),
+    (STRANGER, 0, NEVER, (1, 1, NONE, 3, STRANGE)),
+    (STRANGER, 15, NEVER, (1, 1, NONE, 3, CUT)),
+    (FOUR, 0, 7, (1, 1, NONE, 3, FeedEnd::Input)),
+    (MISSING, 0, NEVER, (7, 3, MISSED, 8, FeedEnd::Whole)),
+];
+
+fn formatted_media(rt: &impl Abort, alloc: Global) -> Result<RamMedia, AllocError> {
+    let mut media = both_media(rt, alloc)?;
+    assert!(rt; media.count() == 2);
+    assert!(rt; format(alloc, &mut media, BENCH, false).is_ok());
+    Ok(media)
+}
+
 #[test]
 fn feeds_are_recorded_on_formatted_media(rt: HostRuntime) -> Result<(), Fail> {
     let alloc = rt.alloc();
-    let mut media = both_media(&rt, alloc)?;
-    assert!(rt; media.count() == 2);
-    assert!(rt; format(alloc, &mut media, BENCH, false).is_ok());
-    // The items, how many bytes are cut off behind them, the call at which the source fails, and the answer.
-    let rows: [(Feed<'_>, usize, u64, Replayed); 6] = [
-        (FOUR, 0, NEVER, replayed(4, 4, NONE, 6, FeedEnd::Whole)),
-        (&[], 0, NEVER, replayed(0, 0, NONE, 2, FeedEnd::Whole)),
-        (STRANGER, 0, NEVER, replayed(1, 1, NONE, 3, STRANGE)),
-        (STRANGER, 15, NEVER, replayed(1, 1, NONE, 3, CUT)),
-        (FOUR, 0, 7, replayed(1, 1, NONE, 3, FeedEnd::Input)),
-        (MISSING, 0, NEVER, replayed(7, 3, MISSED, 8, FeedEnd::Whole)),
-    ];
-    for (items, cut, failing, expected) in &rows {
-        let feed = feed_of(alloc, items, *cut)?;
-        let failing = vec![in alloc; *failing]?;
-        assert!(rt; answer(&rt, alloc, &mut media, feed, failing) == Ok(*expected));
+    let mut media = formatted_media(&rt, alloc)?;
+    for (items, cut, failing, sums) in &ROWS {
+        let feed = feed_of(alloc, *items, *cut)?;
+        let given = answer(&rt, alloc, &mut media, feed, *failing)?;
+        assert!(rt; given == Ok(replayed(sums)));
     }
     Ok(())
 }
+
+const NO_HEADER: ReplayRefused = ReplayRefused::Refused {
+    number: 1,
+    offset: 0,
+};
+
+// Feeds, the call at which the source fails, and why they are refused.
+const REFUSED: [(&[u8], u64, ReplayRefused); 3] = [
+    (b"VDRFEED1", NEVER, ReplayRefused::NotFormatted),
+    (b"VDRFEED2", NEVER, NO_HEADER),
+    (b"VDRFEED1", 0, ReplayRefused::Input),
+];
 
 #[test]
 fn what_is_refused_is_not_recorded(rt: HostRuntime) -> Result<(), Fail> {
     let alloc = rt.alloc();
     let mut media = both_media(&rt, alloc)?;
-    let no_header = ReplayStop::Refused {
-        number: 1,
-        offset: 0,
-    };
-    let rows: [(&[u8], u64, ReplayStop); 3] = [
-        (b"VDRFEED1", NEVER, ReplayStop::NotFormatted),
-        (b"VDRFEED2", NEVER, no_header),
-        (b"VDRFEED1", 0, ReplayStop::Input),
-    ];
-    for (feed, failing, expected) in &rows {
-        let failing = vec![in alloc; *failing]?;
+    for (feed, failing, expected) in &REFUSED {
         let feed = feed.to_vec(alloc)?;
-        assert!(rt; answer(&rt, alloc, &mut media, feed, failing) == Err(*expected));
+        let given = answer(&rt, alloc, &mut media, feed, *failing)?;
+        assert!(rt; given == Err(*expected));
     }
     Ok(())
 }

@@ -19,10 +19,10 @@ use Rattle.vdr_durability.specs.Keeping.{IsWhole}
 use Rattle.vdr_durability.proofs.Shows.{recorded_with}
 use Rattle.vdr_durability.proofs.Whole.{whole_has_not_failed}
 use Rattle.vdr_outside.specs.Disk.{Disk}
-use Rattle.vdr_recorder.specs.Making.{CountsItems}
-use Rattle.vdr_recorder.specs.Recordings.{HasDone, HasRecorded, RecordingState, start_of_opening}
+use Rattle.vdr_run.specs.Making.{CountsItems}
+use Rattle.vdr_recorder.specs.Recordings.{HasDone, HasRecorded, RecorderState, start_of_opening}
 use Rattle.vdr_recorder.proofs.Continuing.{has_moment, left_with}
-use Rattle.vdr_replay.proofs.Given.{taken_one_more}
+use Rattle.vdr_run.proofs.Given.{taken_one_more}
 use Rattle.vdr_replay.specs.Taking.{BreaksOff, Closes, HasTaken, TakesOn}
 
 -- A commit that begins no run goes on with it.
@@ -32,25 +32,25 @@ same_start s records taken begins = cond-false (begin_run records) (next_start s
 more_popped : (s : RunState) (records : List Record) (taken : List Captured) → begin_run records ≡ false → (after_commit s records taken).popped ≡ s.popped ++ taken
 more_popped s records taken begins = cond-false (begin_run records) taken (s.popped ++ taken) begins
 
-module _ {tells tells_images : Type 0} (opening : Opening) (events : List Event) (t0 : ℕ) (r after : RecordingState) (old new : Disk tells tells_images) where
+module _ {tells tells_images : Type 0} (opening : Opening) (events : List Event) (t0 : ℕ) (r after : RecorderState) (old new : Disk tells tells_images) where
   abbrev Left : RunState
   Left = state_left opening events
 
-  whole : HasRecorded opening events t0 r old → r.members.failed ≡ false → IsWhole events
+  whole : HasRecorded opening events t0 r old → r.vault.failed ≡ false → IsWhole events
   whole h works = (whole_has_not_failed events).1 (sym h.failed ∙ works)
 
   -- What the history leaves after an event that was done.
-  left_now : (act : Act) → HasRecorded opening events t0 r old → r.members.failed ≡ false → (d : HasDone opening events t0 act after old new) → after.members.failed ≡ false
+  left_now : (act : Act) → HasRecorded opening events t0 r old → r.vault.failed ≡ false → (d : HasDone opening events t0 act after old new) → after.vault.failed ≡ false
       → state_left opening (events ++ d.event ∷ []) ≡ after_act Left act
   left_now act h works d goes =
-      left_with opening events d.event (whole h works) (has_moment after.members.failed new.clock d.event.moment d.moment_is goes) ∙ ap (after_act Left) d.act_is
+      left_with opening events d.event (whole h works) (has_moment after.vault.failed new.clock d.event.moment d.moment_is goes) ∙ ap (after_act Left) d.act_is
 
   recorded_now : (records : List Record) (taken : List Captured) → (d : HasDone opening events t0 (Commit records taken) after old new)
       → recorded (events ++ d.event ∷ []) ≡ recorded events ++ records
   recorded_now records taken d = recorded_with events d.event ∙ ap (λ (a : Act). recorded events ++ records_of_act a) d.act_is
 
   -- A batch
-  module _ (feed : List FeedItem) (batch : List Captured) (records : List Record) (h : HasTaken opening feed batch events t0 r old) (works : r.members.failed ≡ false)
+  module _ (feed : List FeedItem) (batch : List Captured) (records : List Record) (h : HasTaken opening feed batch events t0 r old) (works : r.vault.failed ≡ false)
       (made : (recorder_after Left.start (Left.popped ++ batch)).made ≡ (recorder_in Left).made ++ records)
       (d : HasDone opening events t0 (Commit records batch) after old new) where
     batch_made : recorded (events ++ d.event ∷ []) ≡ (recorder_after Left.start (Left.popped ++ batch)).made
@@ -59,7 +59,7 @@ module _ {tells tells_images : Type 0} (opening : Opening) (events : List Event)
     begins_none : begin_run records ≡ false
     begins_none = inside_begins_none records (further_items Left.start Left.popped batch records made).1
 
-    pub batch_taken : after.members.failed ≡ false → TakesOn opening feed [] events t0 after old new
+    pub batch_taken : after.vault.failed ≡ false → TakesOn opening feed [] events t0 after old new
     batch_taken goes = record {
       more = d.event ∷ [];
       taken = record {
@@ -93,11 +93,11 @@ module _ {tells tells_images : Type 0} (opening : Opening) (events : List Event)
   Batch items = (records : List Record) × ((recorder_after Left.start (Left.popped ++ items)).made ≡ (recorder_in Left).made ++ records)
       × HasDone opening events t0 (Commit records items) after old new
 
-  module _ (feed : List FeedItem) (batch items : List Captured) (same : items ≡ batch) (h : HasTaken opening feed batch events t0 r old) (works : r.members.failed ≡ false) (b : Batch items) where
+  module _ (feed : List FeedItem) (batch items : List Captured) (same : items ≡ batch) (h : HasTaken opening feed batch events t0 r old) (works : r.vault.failed ≡ false) (b : Batch items) where
     is_batch : Batch batch
     is_batch = subst Batch same b
 
-    pub takes_batch : after.members.failed ≡ false → TakesOn opening feed [] events t0 after old new
+    pub takes_batch : after.vault.failed ≡ false → TakesOn opening feed [] events t0 after old new
     takes_batch goes = batch_taken feed batch is_batch.0 h works is_batch.1 is_batch.2 goes
 
     pub breaks_batch : BreaksOff opening feed events t0 after old new
@@ -129,12 +129,12 @@ module _ {tells tells_images : Type 0} (opening : Opening) (events : List Event)
     }
 
 -- The Start
-module _ {tells tells_images : Type 0} (opening : Opening) (t0 : ℕ) (r after : RecordingState) (old new : Disk tells tells_images) (h : HasRecorded opening [] t0 r old) (works : r.members.failed ≡ false)
+module _ {tells tells_images : Type 0} (opening : Opening) (t0 : ℕ) (r after : RecorderState) (old new : Disk tells tells_images) (h : HasRecorded opening [] t0 r old) (works : r.vault.failed ≡ false)
     (d : HasDone opening [] t0 (Commit (begun (next_start (state_left opening []))).made []) after old new) where
   start_made : recorded (d.event ∷ []) ≡ (begun (start_of_opening opening)).made
   start_made = recorded_now opening [] t0 r after old new (begun (next_start (state_left opening []))).made [] d
 
-  pub run_begins : after.members.failed ≡ false → TakesOn opening [] [] [] t0 after old new
+  pub run_begins : after.vault.failed ≡ false → TakesOn opening [] [] [] t0 after old new
   run_begins goes = record {
     more = d.event ∷ [];
     taken = record {
@@ -153,7 +153,7 @@ module _ {tells tells_images : Type 0} (opening : Opening) (t0 : ℕ) (r after :
   start_breaks = record { more = d.event ∷ []; has = d.has; cut = inl ([], [], refl, start_made); passes = d.passes }
 
 -- One more item waits.
-pub taken_more : {tells tells_images : Type 0} (opening : Opening) (feed : List FeedItem) (x : FeedItem) (batch more : List Captured) (events : List Event) (t0 : ℕ) (r : RecordingState) (disk : Disk tells tells_images)
+pub taken_more : {tells tells_images : Type 0} (opening : Opening) (feed : List FeedItem) (x : FeedItem) (batch more : List Captured) (events : List Event) (t0 : ℕ) (r : RecorderState) (disk : Disk tells tells_images)
     → HasTaken opening feed batch events t0 r disk → more ≡ batch ++ captured_if (is_yes (verdict x.item.bytes)) feed x → HasTaken opening (feed ++ x ∷ []) more events t0 r disk
 taken_more opening feed x batch more events t0 r disk h is = record {
   has = h.has;
@@ -165,7 +165,7 @@ taken_more opening feed x batch more events t0 r disk h is = record {
       ∙ ap (λ (cs : List Captured). (state_left opening events).popped ++ cs) (sym is);
 }
 
-pub takes_more : {tells tells_images : Type 0} (opening : Opening) (feed : List FeedItem) (x : FeedItem) (batch more : List Captured) (events : List Event) (t0 : ℕ) (r : RecordingState) (old new : Disk tells tells_images)
+pub takes_more : {tells tells_images : Type 0} (opening : Opening) (feed : List FeedItem) (x : FeedItem) (batch more : List Captured) (events : List Event) (t0 : ℕ) (r : RecorderState) (old new : Disk tells tells_images)
     → TakesOn opening feed batch events t0 r old new → more ≡ batch ++ captured_if (is_yes (verdict x.item.bytes)) feed x → TakesOn opening (feed ++ x ∷ []) more events t0 r old new
 takes_more opening feed x batch more events t0 r old new t is = record {
   more = t.more;

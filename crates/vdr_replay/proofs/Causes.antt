@@ -8,7 +8,7 @@ use Rattle.vdr_vault.specs.Calls.{HasVaultCause}
 use Rattle.vdr_vault.specs.Openings.{HasCauseOnBoth}
 use Rattle.vdr_replay.specs.Answers.{HasReplayCause}
 use Rattle.vdr_replay.specs.declared.ended.Replayed.{Replayed}
-use Rattle.vdr_replay.specs.declared.ended.ReplayStop.{ReplayStop}
+use Rattle.vdr_replay.specs.declared.ended.ReplayRefused.{ReplayRefused}
 
 abbrev pub OneRose : List ℕ → List ℕ → Type 0
 OneRose before now = Any (λ m. Rose (get_or before m 0) (get_or now m 0)) both
@@ -37,13 +37,13 @@ vault_joined failed a b c e s works earlier k =
     record { later = later; by_medium = on_err s rose; in_all = on_err s (sum_of_rose a c later rose) }
 
 -- And of the whole call
-pub replay_joined : {T E : Type 0} (a b c : List ℕ) (e : E) (s : Result Replayed ReplayStop) → NoneFalls a b → HasCauseOnBoth {T = T} b c (Err e) → HasReplayCause a c s
+pub replay_joined : {T E : Type 0} (a b c : List ℕ) (e : E) (s : Result Replayed ReplayRefused) → NoneFalls a b → HasCauseOnBoth {T = T} b c (Err e) → HasReplayCause a c s
 replay_joined a b c e s earlier k =
     let later = none_falls_join a b c earlier k.later in
     let rose = rose_joined a b c earlier k.by_medium in
     record { later = later; by_medium = λ is. rose; in_all = λ is. sum_of_rose a c later rose }
 
-pub replay_after : (a b c : List ℕ) (s : Result Replayed ReplayStop) → NoneFalls a b → HasReplayCause b c s → HasReplayCause a c s
+pub replay_after : (a b c : List ℕ) (s : Result Replayed ReplayRefused) → NoneFalls a b → HasReplayCause b c s → HasReplayCause a c s
 replay_after a b c s earlier k =
     let later = none_falls_join a b c earlier k.later in
     record { later = later; by_medium = λ is. rose_joined a b c earlier (k.by_medium is); in_all = λ is. sum_of_rose a c later (rose_joined a b c earlier (k.by_medium is)) }

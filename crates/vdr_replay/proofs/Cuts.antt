@@ -16,7 +16,7 @@ use Rattle.vdr_core.proofs.Taken.{cut_runs}
 use Rattle.vdr_replay.specs.Headline.{AccountBy, RecordsAre}
 use Rattle.vdr_replay.specs.Headline.RunEnd.{Broken, Closed}
 use Rattle.vdr_replay.specs.Taking.{IsCut}
-use Rattle.vdr_replay.proofs.Given.{of_groups}
+use Rattle.vdr_run.proofs.Given.{of_groups}
 
 -- The records grow by what further items make.
 abbrev Grows : List Record → List Record → Type 0

@@ -18,13 +18,16 @@ use Rattle.vdr_config.specs.Configuration.{Configuration}
 use Rattle.vdr_config.specs.Sizes.{limits_in}
 use Rattle.vdr_feed.specs.Kept.{Holds}
 use Rattle.vdr_feed.specs.declared.item.Item.{Item as Held}
-use Rattle.vdr_recorder.specs.Making.{counted_of, numbers_of}
-use Rattle.vdr_recorder.specs.declared.maker.Maker.{Maker}
+use Rattle.vdr_run.specs.Making.{counted_of}
+use Rattle.vdr_recorder.specs.Making.{numbers_of}
+use Rattle.vdr_run.specs.declared.maker.Maker.{Maker}
 use Rattle.vdr_replay.specs.declared.lanes.Lanes.{Lanes}
 use Rattle.vdr_feed.specs.Feed.{longest_feed}
 use Rattle.vdr_replay.specs.Feeding.{HasRate}
-use Rattle.vdr_replay.specs.Given.{AreFew, CountsFeed, HoldsFeed, IsSized}
-use Rattle.vdr_replay.proofs.Given.{fewer, no_start, rated, tally_other}
+use Rattle.vdr_run.specs.Given.{CountsFeed}
+use Rattle.vdr_replay.specs.Given.{AreFew, HoldsFeed, IsSized}
+use Rattle.vdr_run.proofs.Given.{fewer, no_start, tally_other}
+use Rattle.vdr_replay.proofs.Given.{rated}
 
 -- What fits the recorder
 
@@ -97,7 +100,7 @@ numbers_fit feed batch maker h few g low = let a = h.numbers g low in let b = fe
 
 -- All that is held, with one more item
 module _ (config : Configuration) (feed : List FeedItem) (x : FeedItem) (item : Held) (old new : Lanes) (maker : Maker) (h : HoldsFeed config feed old maker) (few : length feed < longest_feed)
-    (holds : Holds item x) (low : item.group < 16) (rate : HasRate config.groups item.group) (counts : CountsFeed (feed ++ x ∷ []) new)
+    (holds : Holds item x) (low : item.group < 16) (rate : HasRate config.groups item.group) (counts : CountsFeed (feed ++ x ∷ []) new.ports)
     (batch : new.batch.items ≡ old.batch.items ++ captured_if (is_yes (verdict x.item.bytes)) feed x) (room : new.room ≡ old.room) (sized : IsSized new) where
   rated_one : (b : Bool) → All (λ c. is_configured (limits_in config.groups c.group) ≡ true) (captured_if b feed x)
   rated_one true = All-cons (λ (c : Captured). is_configured (limits_in config.groups c.group) ≡ true) (captured_after feed x) []

@@ -1,15 +1,10 @@
 pub mod Reading
 pub mod Given
 pub mod Fitting
-pub mod Held
 pub mod Passing
 pub mod Calls
 pub mod Causes
-pub mod Ordering
 pub mod Starts
-pub mod Restoring
-pub mod Playing
-pub mod Resting
 pub mod Cuts
 pub mod Summing
 pub mod Headlines

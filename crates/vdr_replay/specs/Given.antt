@@ -1,42 +1,21 @@
--- What the ports of a feed gave so far, as it is counted, and what waits for the next batch.
-use Rattle.std.specs.Prelude.{◌≡◌, ◌≤◌, ◌<◌, ◌+◌, ◌*◌, ◌/◌, ◌^◌, ℕ, true, List, length, count_by, slice_index_or, All}
-use Rattle.vdr_terms.specs.declared.counts.Counts.{Counts}
-use Rattle.vdr_terms.specs.Counting.{Tally, next_number, no_tally}
-use Rattle.vdr_terms.specs.Datagrams.{verdict, is_bad, is_large}
+-- What waits for the next batch of what the ports of a feed gave.
+use Rattle.std.specs.Prelude.{◌≡◌, ◌≤◌, ◌<◌, ◌+◌, ◌*◌, ◌/◌, ◌^◌, ℕ, true, List, length, All}
+use Rattle.vdr_terms.specs.Counting.{next_number}
 use Rattle.vdr_terms.specs.Rates.{is_configured}
-use Rattle.vdr_terms.specs.Records.{FeedItem, Item, total}
+use Rattle.vdr_terms.specs.Records.{FeedItem, total}
 use Rattle.vdr_history.specs.Feed.{items_of}
 use Rattle.vdr_history.specs.Taken.{Captured}
 use Rattle.vdr_core.specs.Replay.{rest_after}
 use Rattle.vdr_pace.specs.Commits.{items_size, largest_item, least_item}
 use Rattle.vdr_config.specs.Configuration.{Configuration}
 use Rattle.vdr_config.specs.Sizes.{limits_in}
-use Rattle.vdr_recorder.specs.Making.{counted_of, numbers_of}
-use Rattle.vdr_recorder.specs.declared.maker.Maker.{Maker}
+use Rattle.vdr_run.specs.Given.{CountsFeed}
+use Rattle.vdr_run.specs.Making.{counted_of}
+use Rattle.vdr_recorder.specs.Making.{numbers_of}
+use Rattle.vdr_run.specs.declared.maker.Maker.{Maker}
 use Rattle.vdr_feed.specs.Feed.{longest_feed}
 use Rattle.vdr_replay.specs.Feeding.{AreConfigured}
 use Rattle.vdr_replay.specs.declared.lanes.Lanes.{Lanes}
-
--- The items that are no recordable datagrams. No queue is full, and what the rate refuses is counted elsewhere.
-abbrev pub totals_of : List Item → Counts
-totals_of items = record {
-  full = 0;
-  rate = 0;
-  bad = count_by (λ i. is_bad (verdict i.bytes)) items;
-  large = count_by (λ i. is_large (verdict i.bytes)) items;
-}
-
--- The count of a group's port after this part of a feed.
-abbrev pub tally_after : List FeedItem → ℕ → Tally
-tally_after feed g = record { taken = length (items_of g feed); missed = rest_after feed g; totals = totals_of (items_of g feed) }
-
-abbrev pub tally_of : Lanes → ℕ → Tally
-tally_of lanes g = slice_index_or lanes.tallies g no_tally
-
--- Each port's count is that of this part of a feed.
-pub record CountsFeed (feed : List FeedItem) (lanes : Lanes) : Type 0 where
-  pub sixteen : length lanes.tallies ≡ 16
-  pub each : (g : ℕ) → g < 16 → tally_of lanes g ≡ tally_after feed g
 
 -- It is counted how many bytes the batch's items take, which fit. There is room for any one item, and memory for as many as fit.
 pub record IsSized (lanes : Lanes) : Type 0 where
@@ -60,7 +39,7 @@ pub record AreFew (feed : List FeedItem) (batch : List Captured) (maker : Maker)
 -- What the ports gave of this part of a feed is counted, and what is not recorded of it fits the recorder.
 pub record HoldsFeed (config : Configuration) (feed : List FeedItem) (lanes : Lanes) (maker : Maker) : Type 0 where
   pub few : length feed ≤ longest_feed
-  pub counts : CountsFeed feed lanes
+  pub counts : CountsFeed feed lanes.ports
   pub batch : HasBatch config lanes
   pub fits : AreFew feed lanes.batch.items maker
   pub known : AreConfigured config.groups feed

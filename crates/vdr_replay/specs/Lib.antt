@@ -6,6 +6,6 @@ pub mod Answers
 pub mod Captured
 pub mod Given
 pub mod Taking
-pub mod Stops
+pub mod Refusals
 pub mod Ran
 pub mod Replays

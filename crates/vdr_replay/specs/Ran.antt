@@ -8,19 +8,19 @@ use Rattle.vdr_history.specs.Runs.{base_after}
 use Rattle.vdr_outside.specs.Disk.{Disk}
 use Rattle.vdr_feed.specs.Feed.{Reaches, longest_feed}
 use Rattle.vdr_feed.specs.Reader.{IfKnown, Reading}
-use Rattle.vdr_recorder.specs.Recordings.{HasRecorded, Passes, RecordingState, start_of_opening}
-use Rattle.vdr_recorder.specs.Starts.{stamp_of}
+use Rattle.vdr_recorder.specs.Recordings.{HasRecorded, Passes, RecorderState, start_of_opening}
+use Rattle.vdr_run.specs.Starts.{stamp_of}
 use Rattle.vdr_replay.specs.Answers.{MayBegin}
 use Rattle.vdr_replay.specs.Feeding.{AreConfigured, ReadsFeed}
 use Rattle.vdr_feed.specs.Progress.{HasRead}
 use Rattle.vdr_replay.specs.Summary.{AreSums}
 use Rattle.vdr_replay.specs.Taking.{BreaksOff, Closes}
 use Rattle.vdr_replay.specs.declared.ended.Replayed.{Replayed}
-use Rattle.vdr_replay.specs.declared.ended.ReplayStop.{ReplayStop}
-use Rattle.vdr_replay.specs.declared.ended.ReplayStop.TheVariants.{NoMemory, Input, Refused, NotFormatted, Damaged, Place, Tick, Media}
+use Rattle.vdr_replay.specs.declared.ended.ReplayRefused.{ReplayRefused}
+use Rattle.vdr_replay.specs.declared.ended.ReplayRefused.TheVariants.{NoMemory, Input, Refused, NotFormatted, Damaged, Place, Tick, Media}
 
 module _ {tells tells_images : Type 0} (opening : Opening) (t0 : ℕ) (left : Option (List ℕ)) (reader : Reading) (now : Option (List ℕ)) (rates : List (Option Rate))
-    (after : RecordingState) (old new : Disk tells tells_images) where
+    (after : RecorderState) (old new : Disk tells tells_images) where
   -- The run was closed.
   pub record HasRun (r : Replayed) : Type 0 where
     pub feed : List FeedItem
@@ -28,7 +28,7 @@ module _ {tells tells_images : Type 0} (opening : Opening) (t0 : ℕ) (left : Op
     pub known : AreConfigured rates feed
     pub low : All (λ i. i.group < 16) feed
     pub may : MayBegin opening
-    pub works : after.members.failed ≡ false
+    pub works : after.vault.failed ≡ false
     pub closes : Closes opening feed [] t0 after old new
     pub sums : AreSums rates (λ g. items_of g feed) (feed_records (start_of_opening opening) feed) r.groups
     pub total : r.records ≡ length (feed_records (start_of_opening opening) feed)
@@ -47,7 +47,7 @@ module _ {tells tells_images : Type 0} (opening : Opening) (t0 : ℕ) (left : Op
     pub has : HasRecorded opening [] t0 after new
     pub passes : Passes opening [] old new
 
-  abbrev pub Runs : Result Replayed ReplayStop → Type 0
+  abbrev pub Runs : Result Replayed ReplayRefused → Type 0
   Runs (Ok r) = HasRun r
   Runs (Err Media) = HasBroken
   Runs (Err Place) = (2 ^ 62 ≤ opening.next_place) × HasNotBegun
@@ -60,7 +60,7 @@ module _ {tells tells_images : Type 0} (opening : Opening) (t0 : ℕ) (left : Op
 
 -- A run begins by its place and the last stamp, whatever the media tell, and of its feed these items were read by these rates.
 module _ (place : ℕ) (newest : Option (ℕ × ℤ)) (left : Option (List ℕ)) (reader : Reading) (now : Option (List ℕ)) (rates : List (Option Rate)) where
-  abbrev pub DecidesRun : Result Replayed ReplayStop → Type 0
+  abbrev pub DecidesRun : Result Replayed ReplayRefused → Type 0
   DecidesRun (Ok r) = (place < 2 ^ 62) × (base_after (option_map stamp_of newest) < 2 ^ 62)
       × ((first : Option (List ℕ)) → HasRead first left reader [] → IfKnown first (λ bytes. (feed : List FeedItem) × ReadsFeed rates bytes now r.end feed × AreConfigured rates feed))
   DecidesRun (Err Place) = 2 ^ 62 ≤ place
@@ -73,7 +73,7 @@ module _ (place : ℕ) (newest : Option (ℕ × ℤ)) (left : Option (List ℕ))
   DecidesRun (Err Media) = ⊤
 
 -- A run is refused by its place or its base, or the media fail.
-abbrev pub StopsIn : Result Replayed ReplayStop → Type 0
+abbrev pub StopsIn : Result Replayed ReplayRefused → Type 0
 StopsIn (Ok r) = ⊤
 StopsIn (Err Media) = ⊤
 StopsIn (Err Place) = ⊤

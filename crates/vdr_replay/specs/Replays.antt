@@ -16,12 +16,12 @@ use Rattle.vdr_replay.specs.Answers.{Answers, Decides, EndsAtHeader, HasReplayCa
 use Rattle.vdr_replay.specs.Headline.{LeavesHistory}
 use Rattle.vdr_replay.specs.declared.ended.FeedEnd.TheVariants.{Whole, Input as InputEnds}
 use Rattle.vdr_replay.specs.declared.ended.Replayed.{Replayed}
-use Rattle.vdr_replay.specs.declared.ended.ReplayStop.{ReplayStop}
-use Rattle.vdr_replay.specs.declared.ended.ReplayStop.TheVariants.{Damaged, Input, NotFormatted}
+use Rattle.vdr_replay.specs.declared.ended.ReplayRefused.{ReplayRefused}
+use Rattle.vdr_replay.specs.declared.ended.ReplayRefused.TheVariants.{Damaged, Input, NotFormatted}
 
 -- The media were `old` and the input `before` at entry, and they are `new` and `after` at the return.
 pub record ReplaysFeed {M I : Type 0} (media : MediaTells M) (source : SourceTells I) (old new : M) (before after : I)
-    (result : Result Replayed ReplayStop) : Type 0 where
+    (result : Result Replayed ReplayRefused) : Type 0 where
   -- What is recorded, and what a stop leaves.
 
   -- of a feed that is known, one history of it, whole and at every moment

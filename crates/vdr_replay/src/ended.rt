@@ -30,7 +30,7 @@ pub struct Replayed {
 
 /// Why a feed is not recorded. Nothing of it is, but for `Media`.
 #[derive(Clone, Copy, Debug, PartialEq, Eq, Drop)]
-pub enum ReplayStop {
+pub enum ReplayRefused {
     /// There was no memory. Nothing was recorded.
     NoMemory,
     /// The source failed before the first item.
@@ -49,69 +49,69 @@ pub enum ReplayStop {
     Media,
 }
 
-impl From<FeedFault> for ReplayStop {
+impl From<FeedFault> for ReplayRefused {
     ghost use Rattle.std.specs.Prelude.{◌≡◌};
-    ghost use Rattle.vdr_replay.specs.Stops.{stop_by_feed};
+    ghost use Rattle.vdr_replay.specs.Refusals.{refused_by_feed};
 
-    ghost from_gives = { λ fault stop. stop ≡ stop_by_feed fault };
+    ghost from_gives = { λ fault stop. stop ≡ refused_by_feed fault };
 
-    fn from(fault: FeedFault) -> ReplayStop {
+    fn from(fault: FeedFault) -> ReplayRefused {
         match fault {
-            FeedFault::Fault => ReplayStop::Input,
-            FeedFault::Refused { number, offset } => ReplayStop::Refused { number, offset },
+            FeedFault::Fault => ReplayRefused::Input,
+            FeedFault::Refused { number, offset } => ReplayRefused::Refused { number, offset },
         }
     }
 }
 
-impl From<OpenRefused> for ReplayStop {
+impl From<OpenRefused> for ReplayRefused {
     ghost use Rattle.std.specs.Prelude.{◌≡◌};
-    ghost use Rattle.vdr_replay.specs.Stops.{stop_by_opening};
+    ghost use Rattle.vdr_replay.specs.Refusals.{refused_by_opening};
 
-    ghost from_gives = { λ refused stop. stop ≡ stop_by_opening refused };
+    ghost from_gives = { λ refused stop. stop ≡ refused_by_opening refused };
 
-    fn from(refused: OpenRefused) -> ReplayStop {
+    fn from(refused: OpenRefused) -> ReplayRefused {
         match refused {
-            OpenRefused::NoMemory => ReplayStop::NoMemory,
-            OpenRefused::NotFormatted => ReplayStop::NotFormatted,
-            OpenRefused::Damaged { medium, offset } => ReplayStop::Damaged { medium, offset },
-            OpenRefused::Fault => ReplayStop::Media,
+            OpenRefused::NoMemory => ReplayRefused::NoMemory,
+            OpenRefused::NotFormatted => ReplayRefused::NotFormatted,
+            OpenRefused::Damaged { medium, offset } => ReplayRefused::Damaged { medium, offset },
+            OpenRefused::Fault => ReplayRefused::Media,
         }
     }
 }
 
-impl From<AllocError> for ReplayStop {
+impl From<AllocError> for ReplayRefused {
     ghost use Rattle.std.specs.Prelude.{◌≡◌};
-    ghost use Rattle.vdr_replay.specs.declared.ended.ReplayStop.TheVariants as stops;
+    ghost use Rattle.vdr_replay.specs.declared.ended.ReplayRefused.TheVariants as stops;
 
     ghost from_gives = { λ _ stop. stop ≡ stops.NoMemory };
 
-    fn from(_: AllocError) -> ReplayStop {
-        ReplayStop::NoMemory
+    fn from(_: AllocError) -> ReplayRefused {
+        ReplayRefused::NoMemory
     }
 }
 
-impl From<StartRefused> for ReplayStop {
+impl From<StartRefused> for ReplayRefused {
     ghost use Rattle.std.specs.Prelude.{◌≡◌};
-    ghost use Rattle.vdr_replay.specs.Stops.{stop_by_start};
+    ghost use Rattle.vdr_replay.specs.Refusals.{refused_by_start};
 
-    ghost from_gives = { λ refused stop. stop ≡ stop_by_start refused };
+    ghost from_gives = { λ refused stop. stop ≡ refused_by_start refused };
 
-    fn from(refused: StartRefused) -> ReplayStop {
+    fn from(refused: StartRefused) -> ReplayRefused {
         match refused {
-            StartRefused::Place => ReplayStop::Place,
-            StartRefused::Tick => ReplayStop::Tick,
-            StartRefused::Fault => ReplayStop::Media,
+            StartRefused::Place => ReplayRefused::Place,
+            StartRefused::Tick => ReplayRefused::Tick,
+            StartRefused::Fault => ReplayRefused::Media,
         }
     }
 }
 
-impl From<Fault> for ReplayStop {
+impl From<Fault> for ReplayRefused {
     ghost use Rattle.std.specs.Prelude.{◌≡◌};
-    ghost use Rattle.vdr_replay.specs.declared.ended.ReplayStop.TheVariants as stops;
+    ghost use Rattle.vdr_replay.specs.declared.ended.ReplayRefused.TheVariants as stops;
 
     ghost from_gives = { λ _ stop. stop ≡ stops.Media };
 
-    fn from(_: Fault) -> ReplayStop {
-        ReplayStop::Media
+    fn from(_: Fault) -> ReplayRefused {
+        ReplayRefused::Media
     }
 }

@@ -12,7 +12,7 @@ ghost use Rattle.vdr_vault.specs.Vaults.{AreRings};
 ghost use Rattle.vdr_replay.specs.Captured.{item_bytes};
 ghost use Rattle.vdr_feed.specs.Feed.{longest_feed};
 ghost use Rattle.vdr_replay.specs.Feeding.{HasRate, ReadsFeed};
-ghost use Rattle.vdr_replay.specs.Given.{CountsFeed, HoldsFeed};
+ghost use Rattle.vdr_replay.specs.Given.{HoldsFeed};
 ghost use Rattle.vdr_feed.specs.Progress.{HasRead};
 ghost use Rattle.vdr_replay.specs.Taking.{BreaksFeed, BreaksOff, HasTaken, TakesFeed, TakesOn};
 ghost use Rattle.vdr_replay.specs.declared.ended.FeedEnd.TheVariants.{Whole, Input};
@@ -22,7 +22,7 @@ use crate::lanes::Lanes;
 use vdr_config::Config;
 use vdr_feed::{FeedFault, FeedReader, Item};
 use vdr_outside::{Fault, Media, Source};
-use vdr_recorder::Recording;
+use vdr_recorder::Recorder;
 
 // The number by which an item of a strange group is refused.
 const STRANGE_GROUP: u8 = 4;
@@ -64,28 +64,28 @@ fn read_next<I: Source>(
 
 // Records the batch, where it has no room for the item.
 fn make_room<M: Media>(
-    recording: &mut Recording,
+    recorder: &mut Recorder,
     media: &mut M,
     lanes: &mut Lanes,
     item: &Item,
 ) -> Result<(), Fault>
-    requires rings { AreRings recording.old.members (M.disk media.old).sizes }
-    requires open { recording.old.is_open ≡ true }
-    requires works { recording.old.members.failed ≡ false }
-    requires held { (feed : List FeedItem) × HoldsFeed recording.old.members.config feed lanes.old recording.old.maker }
+    requires rings { AreRings recorder.old.vault (M.disk media.old).sizes }
+    requires open { recorder.old.is_open ≡ true }
+    requires works { recorder.old.vault.failed ≡ false }
+    requires held { (feed : List FeedItem) × HoldsFeed recorder.old.vault.config feed lanes.old recorder.old.maker }
     ensures taken { (opening : Opening) (feed : List FeedItem) (events : List Event) (t0 : ℕ) → M.tells
-        → HasTaken opening feed lanes.old.batch.items events t0 recording.old (M.disk media.old)
-        → OnOk result (TakesOn opening feed lanes.new.batch.items events t0 recording.new (M.disk media.old) (M.disk media.new)) }
+        → HasTaken opening feed lanes.old.batch.items events t0 recorder.old (M.disk media.old)
+        → OnOk result (TakesOn opening feed lanes.new.batch.items events t0 recorder.new (M.disk media.old) (M.disk media.new)) }
     ensures broken { (opening : Opening) (feed : List FeedItem) (events : List Event) (t0 : ℕ) → M.tells
-        → HasTaken opening feed lanes.old.batch.items events t0 recording.old (M.disk media.old)
-        → OnErr result (BreaksOff opening feed events t0 recording.new (M.disk media.old) (M.disk media.new)) }
-    ensures held { OnOk result ((feed : List FeedItem) → HoldsFeed recording.old.members.config feed lanes.old recording.old.maker
-        → HoldsFeed recording.new.members.config feed lanes.new recording.new.maker) }
+        → HasTaken opening feed lanes.old.batch.items events t0 recorder.old (M.disk media.old)
+        → OnErr result (BreaksOff opening feed events t0 recorder.new (M.disk media.old) (M.disk media.new)) }
+    ensures held { OnOk result ((feed : List FeedItem) → HoldsFeed recorder.old.vault.config feed lanes.old recorder.old.maker
+        → HoldsFeed recorder.new.vault.config feed lanes.new recorder.new.maker) }
     ensures room { OnOk result (lanes.new.size + item_bytes item.now ≤ lanes.new.room) }
-    ensures works { OnOk result (recording.new.members.failed ≡ false) }
-    ensures open { recording.new.is_open ≡ true }
-    ensures config { recording.new.members.config ≡ recording.old.members.config }
-    ensures rings { AreRings recording.new.members (M.disk media.new).sizes }
+    ensures works { OnOk result (recorder.new.vault.failed ≡ false) }
+    ensures open { recorder.new.is_open ≡ true }
+    ensures config { recorder.new.vault.config ≡ recorder.old.vault.config }
+    ensures rings { AreRings recorder.new.vault (M.disk media.new).sizes }
     ensures others { M.tells → SameElsewhere (M.disk media.old).reads (M.disk media.new).reads }
     ensures sizes { (M.disk media.new).sizes ≡ (M.disk media.old).sizes }
     ensures cause { HasCauseOnBoth (M.faults media.old) (M.faults media.new) result }
@@ -93,76 +93,76 @@ fn make_room<M: Media>(
     if lanes.has_room(item) {
         return Ok(());
     }
-    lanes.record(recording, media)
+    lanes.record(recorder, media)
 }
 
 // Takes an item of a configured group, once the batch has room for it.
 fn take_item<M: Media>(
-    recording: &mut Recording,
+    recorder: &mut Recorder,
     media: &mut M,
     lanes: &mut Lanes,
     item: &Item,
 ) -> Result<(), Fault>
-    requires rings { AreRings recording.old.members (M.disk media.old).sizes }
-    requires open { recording.old.is_open ≡ true }
-    requires works { recording.old.members.failed ≡ false }
+    requires rings { AreRings recorder.old.vault (M.disk media.old).sizes }
+    requires open { recorder.old.is_open ≡ true }
+    requires works { recorder.old.vault.failed ≡ false }
     requires legal { IsLegalItem item.now }
-    requires configured { HasRate recording.old.members.config.groups item.now.group }
-    requires held { (feed : List FeedItem) × HoldsFeed recording.old.members.config feed lanes.old recording.old.maker × (length feed < longest_feed) }
+    requires configured { HasRate recorder.old.vault.config.groups item.now.group }
+    requires held { (feed : List FeedItem) × HoldsFeed recorder.old.vault.config feed lanes.old recorder.old.maker × (length feed < longest_feed) }
     ensures taken { (opening : Opening) (feed : List FeedItem) (x : FeedItem) (events : List Event) (t0 : ℕ) → M.tells → Holds item.now x
-        → HoldsFeed recording.old.members.config feed lanes.old recording.old.maker
-        → HasTaken opening feed lanes.old.batch.items events t0 recording.old (M.disk media.old)
-        → OnOk result (TakesOn opening (feed ++ x ∷ []) lanes.new.batch.items events t0 recording.new (M.disk media.old) (M.disk media.new)) }
+        → HoldsFeed recorder.old.vault.config feed lanes.old recorder.old.maker
+        → HasTaken opening feed lanes.old.batch.items events t0 recorder.old (M.disk media.old)
+        → OnOk result (TakesOn opening (feed ++ x ∷ []) lanes.new.batch.items events t0 recorder.new (M.disk media.old) (M.disk media.new)) }
     ensures broken { (opening : Opening) (feed : List FeedItem) (events : List Event) (t0 : ℕ) → M.tells
-        → HasTaken opening feed lanes.old.batch.items events t0 recording.old (M.disk media.old)
-        → OnErr result (BreaksOff opening feed events t0 recording.new (M.disk media.old) (M.disk media.new)) }
-    ensures held { OnOk result ((feed : List FeedItem) (x : FeedItem) → HoldsFeed recording.old.members.config feed lanes.old recording.old.maker
-        → length feed < longest_feed → Holds item.now x → HoldsFeed recording.new.members.config (feed ++ x ∷ []) lanes.new recording.new.maker) }
-    ensures works { OnOk result (recording.new.members.failed ≡ false) }
-    ensures open { recording.new.is_open ≡ true }
-    ensures config { recording.new.members.config ≡ recording.old.members.config }
-    ensures rings { AreRings recording.new.members (M.disk media.new).sizes }
+        → HasTaken opening feed lanes.old.batch.items events t0 recorder.old (M.disk media.old)
+        → OnErr result (BreaksOff opening feed events t0 recorder.new (M.disk media.old) (M.disk media.new)) }
+    ensures held { OnOk result ((feed : List FeedItem) (x : FeedItem) → HoldsFeed recorder.old.vault.config feed lanes.old recorder.old.maker
+        → length feed < longest_feed → Holds item.now x → HoldsFeed recorder.new.vault.config (feed ++ x ∷ []) lanes.new recorder.new.maker) }
+    ensures works { OnOk result (recorder.new.vault.failed ≡ false) }
+    ensures open { recorder.new.is_open ≡ true }
+    ensures config { recorder.new.vault.config ≡ recorder.old.vault.config }
+    ensures rings { AreRings recorder.new.vault (M.disk media.new).sizes }
     ensures others { M.tells → SameElsewhere (M.disk media.old).reads (M.disk media.new).reads }
     ensures sizes { (M.disk media.new).sizes ≡ (M.disk media.old).sizes }
     ensures cause { HasCauseOnBoth (M.faults media.old) (M.faults media.new) result }
 {
-    make_room(recording, media, lanes, item)?;
+    make_room(recorder, media, lanes, item)?;
     lanes.take(item);
     Ok(())
 }
 
 /// Takes the items of the feed, up to its end, or to what is refused or fails.
 pub(crate) fn take_all<I: Source, M: Media>(
-    recording: &mut Recording,
+    recorder: &mut Recorder,
     media: &mut M,
     lanes: &mut Lanes,
     reader: &mut FeedReader,
     input: &mut I,
 ) -> Result<FeedEnd, Fault>
-    requires rings { AreRings recording.old.members (M.disk media.old).sizes }
-    requires open { recording.old.is_open ≡ true }
-    requires works { recording.old.members.failed ≡ false }
+    requires rings { AreRings recorder.old.vault (M.disk media.old).sizes }
+    requires open { recorder.old.is_open ≡ true }
+    requires works { recorder.old.vault.failed ≡ false }
     requires read { (first : Option (List ℕ)) × HasRead first (I.left input.old) reader.old [] }
-    requires held { HoldsFeed recording.old.members.config [] lanes.old recording.old.maker }
+    requires held { HoldsFeed recorder.old.vault.config [] lanes.old recorder.old.maker }
     requires empty { lanes.old.batch.items ≡ [] }
-    ensures taken { IfOk result (λ end. TakesFeed (I.left input.old) reader.old (I.left input.new) end lanes.new recording.old recording.new (M.disk media.old) (M.disk media.new)) }
-    ensures broken { OnErr result (BreaksFeed (I.left input.old) reader.old recording.old recording.new (M.disk media.old) (M.disk media.new)) }
+    ensures taken { IfOk result (λ end. TakesFeed (I.left input.old) reader.old (I.left input.new) end lanes.new recorder.old recorder.new (M.disk media.old) (M.disk media.new)) }
+    ensures broken { OnErr result (BreaksFeed (I.left input.old) reader.old recorder.old recorder.new (M.disk media.old) (M.disk media.new)) }
     ensures whole { IfOk result (λ end. end ≡ Whole → IsAtEnd (I.left input.new)) }
     ensures failed { IfOk result (λ end. end ≡ Input → Rose (I.faults input.old) (I.faults input.new)) }
     ensures later { I.faults input.old ≤ I.faults input.new }
-    ensures works { OnOk result (recording.new.members.failed ≡ false) }
-    ensures open { recording.new.is_open ≡ true }
-    ensures config { recording.new.members.config ≡ recording.old.members.config }
-    ensures rings { AreRings recording.new.members (M.disk media.new).sizes }
+    ensures works { OnOk result (recorder.new.vault.failed ≡ false) }
+    ensures open { recorder.new.is_open ≡ true }
+    ensures config { recorder.new.vault.config ≡ recorder.old.vault.config }
+    ensures rings { AreRings recorder.new.vault (M.disk media.new).sizes }
     ensures others { M.tells → SameElsewhere (M.disk media.old).reads (M.disk media.new).reads }
     ensures sizes { (M.disk media.new).sizes ≡ (M.disk media.old).sizes }
     ensures cause { HasCauseOnBoth (M.faults media.old) (M.faults media.new) result }
 {
     let mut item = Item::new();
     loop {
-        if let Some(end) = read_next(recording.config(), reader, input, &mut item) {
+        if let Some(end) = read_next(recorder.config(), reader, input, &mut item) {
             return Ok(end);
         }
-        take_item(recording, media, lanes, &item)?;
+        take_item(recorder, media, lanes, &item)?;
     }
 }

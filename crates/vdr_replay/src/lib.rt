@@ -8,6 +8,6 @@ mod replaying;
 mod running;
 mod sums;
 
-pub use ended::{FeedEnd, ReplayStop, Replayed};
+pub use ended::{FeedEnd, ReplayRefused, Replayed};
 pub use replaying::replay;
 pub use vdr_capture::GroupSums;

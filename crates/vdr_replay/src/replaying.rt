@@ -14,23 +14,23 @@ ghost use Rattle.vdr_replay.specs.Answers.{Answers, Decides, EndsAtHeader, HasRe
 ghost use Rattle.vdr_replay.specs.Headline.{LeavesHistory};
 ghost use Rattle.vdr_replay.specs.Replays.{ReplaysFeed};
 ghost use Rattle.vdr_replay.specs.declared.ended.FeedEnd.TheVariants.{Whole, Input as InputEnds};
-ghost use Rattle.vdr_replay.specs.declared.ended.ReplayStop.TheVariants.{Damaged, Input, NotFormatted};
+ghost use Rattle.vdr_replay.specs.declared.ended.ReplayRefused.TheVariants.{Damaged, Input, NotFormatted};
 
 use crate::lanes::Lanes;
 use crate::running::record_run;
-use crate::{ReplayStop, Replayed};
+use crate::{ReplayRefused, Replayed};
 use std::alloc::Global;
 use vdr_feed::{FeedReader, LONGEST_FEED};
 use vdr_opening::law_of_contents;
 use vdr_outside::{Media, Source};
-use vdr_recorder::Recording;
+use vdr_recorder::Recorder;
 
 // Records the feed as `replay` does. Each clause is proved on each way out, and is a member of `ReplaysFeed` by its name.
 fn record_feed<I: Source, M: Media>(
     alloc: Global,
     media: &mut M,
     input: &mut I,
-) -> Result<Replayed, ReplayStop>
+) -> Result<Replayed, ReplayRefused>
     requires two { 2 ≤ length (M.disk media.old).sizes }
     requires three { length (M.disk media.old).sizes ≤ 3 }
     ensures replayed { (x : Contents) (bytes : List ℕ) → M.tells → HoldsContents (M.disk media.old).reads x → AreSound x → I.left input.old ≡ Some bytes
@@ -57,9 +57,9 @@ fn record_feed<I: Source, M: Media>(
     law_of_contents();
     let mut reader = FeedReader::new(LONGEST_FEED);
     reader.header(input)?;
-    let mut recording = Recording::open(alloc, media)?;
-    let mut lanes = Lanes::new(alloc, recording.config())?;
-    record_run(&mut recording, media, &mut lanes, &mut reader, input)
+    let mut recorder = Recorder::open(alloc, media)?;
+    let mut lanes = Lanes::new(alloc, recorder.config())?;
+    record_run(&mut recorder, media, &mut lanes, &mut reader, input)
 }
 
 /// Records the feed of the input on the media, in the feed's order, as one run (this project's profile): its header is read; the
@@ -70,7 +70,7 @@ fn record_feed<I: Source, M: Media>(
 /// configured. What was read before is recorded. An item that is refused counts for nothing. Where the header is refused, or can't be
 /// read, the media are not touched, and where the media are refused nothing is written, nor where the run is, but the batch that the
 /// long-term medium lacks. Faults and refusals of the input and of
-/// the media are told by `FeedEnd` and `ReplayStop`.
+/// the media are told by `FeedEnd` and `ReplayRefused`.
 ///
 /// At every moment a stop leaves the media as before opening, or as media that play back the first of the run's events on what was
 /// recorded before, all that were acknowledged among them.
@@ -78,7 +78,7 @@ pub fn replay<I: Source, M: Media>(
     alloc: Global,
     media: &mut M,
     input: &mut I,
-) -> Result<Replayed, ReplayStop>
+) -> Result<Replayed, ReplayRefused>
     requires two { 2 ≤ length (M.disk media.old).sizes }
     requires three { length (M.disk media.old).sizes ≤ 3 }
     ensures replays { ReplaysFeed M.Media I.Source media.old media.new input.old input.new result }

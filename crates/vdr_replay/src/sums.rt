@@ -4,22 +4,23 @@ ghost use Rattle.vdr_terms.specs.Records.{FeedItem};
 ghost use Rattle.vdr_history.specs.Feed.{items_of, feed_records};
 ghost use Rattle.vdr_history.specs.Runs.{RunStart};
 ghost use Rattle.vdr_core.specs.Replay.{taken_of};
-ghost use Rattle.vdr_recorder.specs.Making.{CountsItems};
-ghost use Rattle.vdr_replay.specs.Given.{CountsFeed, tally_after};
+ghost use Rattle.vdr_run.specs.Making.{CountsItems};
+ghost use Rattle.vdr_run.specs.Given.{CountsFeed, tally_after};
 ghost use Rattle.vdr_replay.specs.Summary.{AreSums, sums_of};
 
 use crate::lanes::Lanes;
 use vdr_capture::GroupSums;
-use vdr_gap::{Counts, Tally};
-use vdr_recorder::Recording;
+use vdr_gap::Tally;
+use vdr_recorder::Recorder;
+use vdr_terms::Counts;
 
 // The sums of a group, of which a port gave what the tally counts.
-fn sums_of(recording: &Recording, tally: &Tally, group: u8) -> GroupSums
+fn sums_of(recorder: &Recorder, tally: &Tally, group: u8) -> GroupSums
     requires { group < 16 }
-    ensures { (start : RunStart) (feed : List FeedItem) → All (λ i. i.group < 16) feed → CountsItems start (taken_of [] feed) recording.now.maker
+    ensures { (start : RunStart) (feed : List FeedItem) → All (λ i. i.group < 16) feed → CountsItems start (taken_of [] feed) recorder.now.maker
         → tally.now ≡ tally_after feed group → result ≡ sums_of group (items_of group feed) (feed_records start feed) }
 {
-    let (recorded, rate) = recording.recorded(group);
+    let (recorded, rate) = recorder.recorded(group);
     let missed = tally.totals();
     GroupSums {
         taken: tally.taken(),
@@ -29,15 +30,15 @@ fn sums_of(recording: &Recording, tally: &Tally, group: u8) -> GroupSums
 }
 
 /// The sums of each configured group by its number, None for the others.
-pub(crate) fn sums(recording: &Recording, lanes: &Lanes) -> [Option<GroupSums>; 16]
-    ensures { (start : RunStart) (feed : List FeedItem) → All (λ i. i.group < 16) feed → CountsItems start (taken_of [] feed) recording.now.maker
-        → CountsFeed feed lanes.now
-        → AreSums recording.now.members.config.groups (λ g. items_of g feed) (feed_records start feed) result }
+pub(crate) fn sums(recorder: &Recorder, lanes: &Lanes) -> [Option<GroupSums>; 16]
+    ensures { (start : RunStart) (feed : List FeedItem) → All (λ i. i.group < 16) feed → CountsItems start (taken_of [] feed) recorder.now.maker
+        → CountsFeed feed lanes.now.ports
+        → AreSums recorder.now.vault.config.groups (λ g. items_of g feed) (feed_records start feed) result }
 {
     let mut sums = [None; 16];
     for group in 0..16 {
-        if recording.config().groups[group as usize].is_some() {
-            sums[group as usize] = Some(sums_of(recording, &lanes.tallies[group as usize], group));
+        if recorder.config().groups[group as usize].is_some() {
+            sums[group as usize] = Some(sums_of(recorder, lanes.ports.tally(group), group));
         }
     }
     sums

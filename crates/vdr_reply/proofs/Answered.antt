@@ -10,7 +10,7 @@ use Rattle.vdr_durability.specs.Keeping.{moment_of}
 use Rattle.vdr_playback.specs.Replies.{Reply, act_of, answer_before, free_id, release_reply, reply, save_of, save_reply, tick_or_0}
 use Rattle.vdr_playback.specs.Replies as replies
 use Rattle.vdr_playback.specs.Replies.Reply.{State, Saved, Released, NoLabel, NothingToSave, TableFull, NoIncident, Failed}
-use Rattle.vdr_incident.specs.Saves.{is_label}
+use Rattle.vdr_terms.specs.Texts.{is_label}
 use Rattle.vdr_incident.specs.declared.refused.ReleaseRefused.{ReleaseRefused}
 use Rattle.vdr_incident.specs.declared.refused.ReleaseRefused.TheVariants as releases
 use Rattle.vdr_outside.specs.Disk.{Disk}
@@ -22,8 +22,8 @@ use Rattle.vdr_vault.specs.declared.refused.SaveRefused.{SaveRefused}
 use Rattle.vdr_vault.specs.declared.refused.SaveRefused.TheVariants as saves
 use Rattle.vdr_control.specs.Orders.{PlainOrder}
 use Rattle.vdr_control.specs.Orders.PlainOrder.{Status as StatusOrder, Save as SaveOrder, Release as ReleaseOrder, Play as PlayOrder}
-use Rattle.vdr_recorder.specs.Recordings.{HasDone, HasRecorded, RecordingState}
-use Rattle.vdr_recorder.specs.Starts.{stamp_of}
+use Rattle.vdr_recorder.specs.Recordings.{HasDone, HasRecorded, RecorderState}
+use Rattle.vdr_run.specs.Starts.{stamp_of}
 use Rattle.vdr_recorder.proofs.Answering.{same_disk}
 use Rattle.vdr_recorder.proofs.Looking.{look_done}
 use Rattle.vdr_reply.specs.Answers.{HasAnswered, IsAnswer, Spells}
@@ -61,108 +61,108 @@ granted_so true None free id e is = let none : ⊥ = cc in absurd none
 granted_so true (Some s) None id e is = let none : ⊥ = cc in absurd none
 granted_so true (Some s) (Some slot) id e is = ap Saved (same_some (suc slot) id is)
 
-module _ {tells tells_images : Type 0} (opening : Opening) (events : List Event) (t0 : ℕ) (r : RecordingState) (old : Disk tells tells_images) (h : HasRecorded opening events t0 r old)
+module _ {tells tells_images : Type 0} (opening : Opening) (events : List Event) (t0 : ℕ) (r : RecorderState) (old : Disk tells tells_images) (h : HasRecorded opening events t0 r old)
     (channels : List Selector) (met_fault : Type 0) (text : List ℕ) where
   -- an order that is a look
-  pub looked_answer : (order : PlainOrder) (after : RecordingState) (new : Disk tells tells_images) → changes order r.members ≡ false → HasDone opening events t0 Look after old new
-      → (act_of opening events (order_of channels order) (reply both opening events (order_of channels order)) ≡ Look) ⊎ (after.members.failed ≡ true)
-      → Spells met_fault order (answer_before (moment_of after.members.failed new.clock) (reply both opening events (order_of channels order))) text
+  pub looked_answer : (order : PlainOrder) (after : RecorderState) (new : Disk tells tells_images) → changes order r.vault ≡ false → HasDone opening events t0 Look after old new
+      → (act_of opening events (order_of channels order) (reply both opening events (order_of channels order)) ≡ Look) ⊎ (after.vault.failed ≡ true)
+      → Spells met_fault order (answer_before (moment_of after.vault.failed new.clock) (reply both opening events (order_of channels order))) text
       → HasAnswered channels met_fault opening events t0 order text r after old new
   looked_answer order after new none d act is = record { done = subst (λ (act : Act). HasDone opening events t0 act after old new) (sym looks) d; answer = record { act_is = acts act; text_is = is } }
     where
-      looks : cond (changes order r.members) (granted_act opening events order) Look ≡ Look
-      looks = cond-false (changes order r.members) (granted_act opening events order) Look none
+      looks : cond (changes order r.vault) (granted_act opening events order) Look ≡ Look
+      looks = cond-false (changes order r.vault) (granted_act opening events order) Look none
 
-      acts : (act_of opening events (order_of channels order) (reply both opening events (order_of channels order)) ≡ Look) ⊎ (after.members.failed ≡ true)
-          → (cond (changes order r.members) (granted_act opening events order) Look ≡ act_of opening events (order_of channels order) (reply both opening events (order_of channels order)))
-          ⊎ ((cond (changes order r.members) (granted_act opening events order) Look ≡ Look) × (moment_of after.members.failed new.clock ≡ None))
+      acts : (act_of opening events (order_of channels order) (reply both opening events (order_of channels order)) ≡ Look) ⊎ (after.vault.failed ≡ true)
+          → (cond (changes order r.vault) (granted_act opening events order) Look ≡ act_of opening events (order_of channels order) (reply both opening events (order_of channels order)))
+          ⊎ ((cond (changes order r.vault) (granted_act opening events order) Look ≡ Look) × (moment_of after.vault.failed new.clock ≡ None))
       acts (inl a) = inl (looks ∙ sym a)
-      acts (inr fails) = inr (looks, no_moment after.members.failed new.clock fails)
+      acts (inr fails) = inr (looks, no_moment after.vault.failed new.clock fails)
 
   untouched : HasDone opening events t0 Look r old old
-  untouched = look_done opening events t0 r old old h r.members (same_disk old) refl refl refl refl refl (λ placed stands. stands)
+  untouched = look_done opening events t0 r old old h r.vault (same_disk old) refl refl refl refl refl (λ placed stands. stands)
 
   -- an order that was answered with nothing called
-  pub still_answer : (order : PlainOrder) → changes order r.members ≡ false
-      → (act_of opening events (order_of channels order) (reply both opening events (order_of channels order)) ≡ Look) ⊎ (r.members.failed ≡ true)
-      → Spells met_fault order (answer_before (moment_of r.members.failed old.clock) (reply both opening events (order_of channels order))) text
+  pub still_answer : (order : PlainOrder) → changes order r.vault ≡ false
+      → (act_of opening events (order_of channels order) (reply both opening events (order_of channels order)) ≡ Look) ⊎ (r.vault.failed ≡ true)
+      → Spells met_fault order (answer_before (moment_of r.vault.failed old.clock) (reply both opening events (order_of channels order))) text
       → HasAnswered channels met_fault opening events t0 order text r r old old
   still_answer order none act is = looked_answer order r old none untouched act is
 
   -- each order after a fault
-  pub failed_answer : (order : PlainOrder) → r.members.failed ≡ true → text ≡ fault_line → HasAnswered channels met_fault opening events t0 order text r r old old
-  failed_answer order fails is = still_answer order (ap (λ (b : Bool). not b && is_granted order r.members) fails) (inr fails) (spelled order (said_failed r.members.failed old.clock (reply both opening events (order_of channels order)) fails))
+  pub failed_answer : (order : PlainOrder) → r.vault.failed ≡ true → text ≡ fault_line → HasAnswered channels met_fault opening events t0 order text r r old old
+  failed_answer order fails is = still_answer order (ap (λ (b : Bool). not b && is_granted order r.vault) fails) (inr fails) (spelled order (said_failed r.vault.failed old.clock (reply both opening events (order_of channels order)) fails))
     where
-      spelled : (order : PlainOrder) → answer_before (moment_of r.members.failed old.clock) (reply both opening events (order_of channels order)) ≡ Failed
-          → Spells met_fault order (answer_before (moment_of r.members.failed old.clock) (reply both opening events (order_of channels order))) text
+      spelled : (order : PlainOrder) → answer_before (moment_of r.vault.failed old.clock) (reply both opening events (order_of channels order)) ≡ Failed
+          → Spells met_fault order (answer_before (moment_of r.vault.failed old.clock) (reply both opening events (order_of channels order))) text
       spelled StatusOrder e = is ∙ ap text_of (sym e)
       spelled (SaveOrder label) e = is ∙ ap text_of (sym e)
       spelled (ReleaseOrder id) e = is ∙ ap text_of (sym e)
       spelled (PlayOrder medium name from to) e = inl (is ∙ ap text_of (sym e))
 
-  module _ (works : r.members.failed ≡ false) where
-    stands : Stands opening events r.members (h.works works).placed old
+  module _ (works : r.vault.failed ≡ false) where
+    stands : Stands opening events r.vault (h.works works).placed old
     stands = (h.works works).stands
 
-    unchanged : (order : PlainOrder) → is_granted order r.members ≡ false → changes order r.members ≡ false
-    unchanged order none = ap (λ (b : Bool). not b && is_granted order r.members) works ∙ none
+    unchanged : (order : PlainOrder) → is_granted order r.vault ≡ false → changes order r.vault ≡ false
+    unchanged order none = ap (λ (b : Bool). not b && is_granted order r.vault) works ∙ none
 
-    changed : (order : PlainOrder) → is_granted order r.members ≡ true → changes order r.members ≡ true
-    changed order some = ap (λ (b : Bool). not b && is_granted order r.members) works ∙ some
+    changed : (order : PlainOrder) → is_granted order r.vault ≡ true → changes order r.vault ≡ true
+    changed order some = ap (λ (b : Bool). not b && is_granted order r.vault) works ∙ some
 
-    pub status_answer : text ≡ state_line r.members.next_place (last_tick (option_map stamp_of r.members.last)) (count_by is_some r.members.table)
+    pub status_answer : text ≡ state_line r.vault.next_place (last_tick (option_map stamp_of r.vault.last)) (count_by is_some r.vault.table)
         → HasAnswered channels met_fault opening events t0 StatusOrder text r r old old
-    status_answer is = still_answer StatusOrder (unchanged StatusOrder refl) (inl refl) (is ∙ told ∙ ap text_of (sym (said_working r.members.failed old.clock (reply both opening events replies.Order.Status) works)))
+    status_answer is = still_answer StatusOrder (unchanged StatusOrder refl) (inl refl) (is ∙ told ∙ ap text_of (sym (said_working r.vault.failed old.clock (reply both opening events replies.Order.Status) works)))
       where
-        tick : last_tick (option_map stamp_of r.members.last) ≡ tick_or_0 (last_stamp opening events)
+        tick : last_tick (option_map stamp_of r.vault.last) ≡ tick_or_0 (last_stamp opening events)
         tick = ap (λ (o : Option (ℕ × _)). last_tick (option_map stamp_of o)) stands.newest ∙ tick_is (last_stamp opening events)
 
-        told : state_line r.members.next_place (last_tick (option_map stamp_of r.members.last)) (count_by is_some r.members.table) ≡ text_of (reply both opening events replies.Order.Status)
+        told : state_line r.vault.next_place (last_tick (option_map stamp_of r.vault.last)) (count_by is_some r.vault.table) ≡ text_of (reply both opening events replies.Order.Status)
         told = λ i. state_line (stands.goes_on i) (tick i) (count_by is_some (stands.incidents_are i))
 
-    module _ (after : RecordingState) (new : Disk tells tells_images) where
+    module _ (after : RecorderState) (new : Disk tells tells_images) where
       pub save_answer : (label : List ℕ) (saved : Result ℕ SaveRefused) → text ≡ save_line saved
-          → (save_refusal label r.members ≡ None → ((m offset : ℕ) → saved ≡ Err (saves.Damaged m offset) → ⊥)
+          → (save_refusal label r.vault ≡ None → ((m offset : ℕ) → saved ≡ Err (saves.Damaged m offset) → ⊥)
           → (id : ℕ) × (a : ℕ) × (b : ℕ) × IfOk saved (λ told. told ≡ id) × HasDone opening events t0 (Save id label a b) after old new)
-          → ((refused : SaveRefused) → save_refusal label r.members ≡ Some refused → HasDone opening events t0 Look after old new)
-          → ((refused : SaveRefused) → save_refusal label r.members ≡ Some refused → (saved ≡ Err refused) × (after ≡ r))
-          → ((refused : SaveRefused) → saved ≡ Err refused → (refused ≡ saves.Label) ⊎ ((refused ≡ saves.Nothing) ⊎ (refused ≡ saves.TableFull)) → save_refusal label r.members ≡ Some refused)
+          → ((refused : SaveRefused) → save_refusal label r.vault ≡ Some refused → HasDone opening events t0 Look after old new)
+          → ((refused : SaveRefused) → save_refusal label r.vault ≡ Some refused → (saved ≡ Err refused) × (after ≡ r))
+          → ((refused : SaveRefused) → saved ≡ Err refused → (refused ≡ saves.Label) ⊎ ((refused ≡ saves.Nothing) ⊎ (refused ≡ saves.TableFull)) → save_refusal label r.vault ≡ Some refused)
           → ((m offset : ℕ) → saved ≡ Err (saves.Damaged m offset) → ⊥)
-          → (saved ≡ Err saves.Fault → after.members.failed ≡ true) → ((saved ≡ Err saves.Fault → ⊥) → after.members.failed ≡ false)
+          → (saved ≡ Err saves.Fault → after.vault.failed ≡ true) → ((saved ≡ Err saves.Fault → ⊥) → after.vault.failed ≡ false)
           → HasAnswered channels met_fault opening events t0 (SaveOrder label) text r after old new
-      save_answer label saved is keeps looked refused reason undamaged fails goes = by_refusal (save_refusal label r.members) refl
+      save_answer label saved is keeps looked refused reason undamaged fails goes = by_refusal (save_refusal label r.vault) refl
         where
           order : PlainOrder
           order = SaveOrder label
 
-          judged : save_refusal label r.members ≡ refusal_from (is_label label) (option_map of_stamp (last_stamp opening events)) (position is_none (incidents opening events))
+          judged : save_refusal label r.vault ≡ refusal_from (is_label label) (option_map of_stamp (last_stamp opening events)) (position is_none (incidents opening events))
           judged = λ i. refusal_from (is_label label) (stands.newest i) (position is_none (stands.incidents_are i))
 
-          text_by : (res : Result ℕ SaveRefused) → saved ≡ res → save_refusal label r.members ≡ None → (id : ℕ) → reply both opening events (replies.Order.Save label) ≡ Saved id → IfOk res (λ told. told ≡ id)
-              → text ≡ text_of (answer_before (moment_of after.members.failed new.clock) (reply both opening events (replies.Order.Save label)))
+          text_by : (res : Result ℕ SaveRefused) → saved ≡ res → save_refusal label r.vault ≡ None → (id : ℕ) → reply both opening events (replies.Order.Save label) ≡ Saved id → IfOk res (λ told. told ≡ id)
+              → text ≡ text_of (answer_before (moment_of after.vault.failed new.clock) (reply both opening events (replies.Order.Save label)))
           text_by (Ok told) e none id answer same =
               is ∙ ap save_line e ∙ ap id_line same ∙ ap text_of (sym answer)
-              ∙ ap text_of (sym (said_working after.members.failed new.clock (reply both opening events (replies.Order.Save label)) (goes (λ f. let no : ⊥ = cc in no))))
+              ∙ ap text_of (sym (said_working after.vault.failed new.clock (reply both opening events (replies.Order.Save label)) (goes (λ f. let no : ⊥ = cc in no))))
           text_by (Err saves.Label) e none id answer same = let some = reason saves.Label e (inl refl) in let no : ⊥ = cc in absurd no
           text_by (Err saves.Nothing) e none id answer same = let some = reason saves.Nothing e (inr (inl refl)) in let no : ⊥ = cc in absurd no
           text_by (Err saves.TableFull) e none id answer same = let some = reason saves.TableFull e (inr (inr refl)) in let no : ⊥ = cc in absurd no
           text_by (Err (saves.Damaged m offset)) e none id answer same = absurd (undamaged m offset e)
           text_by (Err saves.Fault) e none id answer same =
-              is ∙ ap save_line e ∙ ap text_of (sym (said_failed after.members.failed new.clock (reply both opening events (replies.Order.Save label)) (fails e)))
+              is ∙ ap save_line e ∙ ap text_of (sym (said_failed after.vault.failed new.clock (reply both opening events (replies.Order.Save label)) (fails e)))
 
-          by_refusal : (o : Option SaveRefused) → save_refusal label r.members ≡ o → HasAnswered channels met_fault opening events t0 order text r after old new
+          by_refusal : (o : Option SaveRefused) → save_refusal label r.vault ≡ o → HasAnswered channels met_fault opening events t0 order text r after old new
           by_refusal (Some x) e =
               let so = refused_so (is_label label) (last_stamp opening events) (position is_none (incidents opening events)) x (sym judged ∙ e) in
               let same = refused x e in
-              let good : after.members.failed ≡ false = ap (λ (s : RecordingState). s.members.failed) same.1 ∙ works in
+              let good : after.vault.failed ≡ false = ap (λ (s : RecorderState). s.vault.failed) same.1 ∙ works in
               looked_answer order after new (unchanged order (ap is_none e)) (looked x e) (inl (so.1 opening events label))
-              (is ∙ ap save_line same.0 ∙ sym so.0 ∙ ap text_of (sym (said_working after.members.failed new.clock (reply both opening events (replies.Order.Save label)) good)))
+              (is ∙ ap save_line same.0 ∙ sym so.0 ∙ ap text_of (sym (said_working after.vault.failed new.clock (reply both opening events (replies.Order.Save label)) good)))
           by_refusal None e =
               let s = keeps e undamaged in
               let d = s.4 in
               let may : MayCome opening events (Save s.0 label s.1 s.2) = subst (λ (act : Act). MayCome opening events act) d.act_is (come_last opening events d.event d.has.history.follow) in
               let answer = granted_so (is_label label) (last_stamp opening events) (position is_none (incidents opening events)) s.0 (sym judged ∙ e) may.0 in
-              let act : cond (changes order r.members) (granted_act opening events order) Look ≡ granted_act opening events order = cond-true (changes order r.members) (granted_act opening events order) Look (changed order (ap is_none e)) in
+              let act : cond (changes order r.vault) (granted_act opening events order) Look ≡ granted_act opening events order = cond-true (changes order r.vault) (granted_act opening events order) Look (changed order (ap is_none e)) in
               record {
                 done = subst (λ (act : Act). HasDone opening events t0 act after old new) (save_is opening events label s.0 s.1 s.2 may ∙ sym act) d;
                 answer = record {
@@ -172,37 +172,37 @@ module _ {tells tells_images : Type 0} (opening : Opening) (events : List Event)
               }
 
       pub release_answer : (id : ℕ) (released : Result ⊤ ReleaseRefused) → text ≡ release_line released
-          → ((saved : Incident) → live r.members.table id ≡ Some saved → HasDone opening events t0 (Release id) after old new)
-          → (live r.members.table id ≡ None → HasDone opening events t0 Look after old new)
-          → (live r.members.table id ≡ None → (released ≡ Err releases.NoSuch) × (after ≡ r))
-          → (released ≡ Err releases.NoSuch → live r.members.table id ≡ None)
-          → (released ≡ Err releases.Fault → after.members.failed ≡ true) → ((released ≡ Err releases.Fault → ⊥) → after.members.failed ≡ false)
+          → ((saved : Incident) → live r.vault.table id ≡ Some saved → HasDone opening events t0 (Release id) after old new)
+          → (live r.vault.table id ≡ None → HasDone opening events t0 Look after old new)
+          → (live r.vault.table id ≡ None → (released ≡ Err releases.NoSuch) × (after ≡ r))
+          → (released ≡ Err releases.NoSuch → live r.vault.table id ≡ None)
+          → (released ≡ Err releases.Fault → after.vault.failed ≡ true) → ((released ≡ Err releases.Fault → ⊥) → after.vault.failed ≡ false)
           → HasAnswered channels met_fault opening events t0 (ReleaseOrder id) text r after old new
-      release_answer id released is keeps looked refused reason fails goes = by_live (live r.members.table id) refl
+      release_answer id released is keeps looked refused reason fails goes = by_live (live r.vault.table id) refl
         where
           order : PlainOrder
           order = ReleaseOrder id
 
-          answer_by : (o : Option Incident) → live r.members.table id ≡ o → reply both opening events (replies.Order.Release id) ≡ release_reply o
+          answer_by : (o : Option Incident) → live r.vault.table id ≡ o → reply both opening events (replies.Order.Release id) ≡ release_reply o
           answer_by o e = ap release_reply (ap (λ (t : List (Option Incident)). live t id) (sym stands.incidents_are) ∙ e)
 
-          text_by : (res : Result ⊤ ReleaseRefused) → released ≡ res → (saved : Incident) → live r.members.table id ≡ Some saved
-              → text ≡ text_of (answer_before (moment_of after.members.failed new.clock) (reply both opening events (replies.Order.Release id)))
+          text_by : (res : Result ⊤ ReleaseRefused) → released ≡ res → (saved : Incident) → live r.vault.table id ≡ Some saved
+              → text ≡ text_of (answer_before (moment_of after.vault.failed new.clock) (reply both opening events (replies.Order.Release id)))
           text_by (Ok x) e saved some =
               is ∙ ap release_line e ∙ ap text_of (sym (answer_by (Some saved) some))
-              ∙ ap text_of (sym (said_working after.members.failed new.clock (reply both opening events (replies.Order.Release id)) (goes (λ f. let no : ⊥ = cc in no))))
+              ∙ ap text_of (sym (said_working after.vault.failed new.clock (reply both opening events (replies.Order.Release id)) (goes (λ f. let no : ⊥ = cc in no))))
           text_by (Err releases.NoSuch) e saved some = let none = reason e in let no : ⊥ = cc in absurd no
           text_by (Err releases.Fault) e saved some =
-              is ∙ ap release_line e ∙ ap text_of (sym (said_failed after.members.failed new.clock (reply both opening events (replies.Order.Release id)) (fails e)))
+              is ∙ ap release_line e ∙ ap text_of (sym (said_failed after.vault.failed new.clock (reply both opening events (replies.Order.Release id)) (fails e)))
 
-          by_live : (o : Option Incident) → live r.members.table id ≡ o → HasAnswered channels met_fault opening events t0 order text r after old new
+          by_live : (o : Option Incident) → live r.vault.table id ≡ o → HasAnswered channels met_fault opening events t0 order text r after old new
           by_live None e =
               let same = refused e in
-              let good : after.members.failed ≡ false = ap (λ (s : RecordingState). s.members.failed) same.1 ∙ works in
+              let good : after.vault.failed ≡ false = ap (λ (s : RecorderState). s.vault.failed) same.1 ∙ works in
               looked_answer order after new (unchanged order (ap is_some e)) (looked e) (inl (ap (act_of opening events (replies.Order.Release id)) (answer_by None e)))
-              (is ∙ ap release_line same.0 ∙ ap text_of (sym (answer_by None e)) ∙ ap text_of (sym (said_working after.members.failed new.clock (reply both opening events (replies.Order.Release id)) good)))
+              (is ∙ ap release_line same.0 ∙ ap text_of (sym (answer_by None e)) ∙ ap text_of (sym (said_working after.vault.failed new.clock (reply both opening events (replies.Order.Release id)) good)))
           by_live (Some saved) e =
-              let act : cond (changes order r.members) (granted_act opening events order) Look ≡ granted_act opening events order = cond-true (changes order r.members) (granted_act opening events order) Look (changed order (ap is_some e)) in
+              let act : cond (changes order r.vault) (granted_act opening events order) Look ≡ granted_act opening events order = cond-true (changes order r.vault) (granted_act opening events order) Look (changed order (ap is_some e)) in
               record {
                 done = subst (λ (act : Act). HasDone opening events t0 act after old new) (sym act) (keeps saved e);
                 answer = record {

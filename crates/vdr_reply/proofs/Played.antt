@@ -1,9 +1,8 @@
 -- What a play comes to as a reply of the history.
-use Rattle.std.proofs.Common.{◌≡◌, ◌≤◌, ◌<◌, ◌⊎◌, inl, inr, ◌↔◌, ◌++◌, ◌∷◌, ◌&&◌, not, ℕ, ℤ, Bool, true, false, true≢false, List, [], Option, Some, None, Result, Ok, Err, length, refl, sym, ap, ◌∙◌, subst, arith}
-use Rattle.std.specs.Prelude.{bytes_eq, codes, if◌then◌else◌, is_none, is_some, nat_le, position, OnOk, ⊤}
+use Rattle.std.proofs.Common.{◌≡◌, ◌⊎◌, inl, inr, ◌↔◌, ◌++◌, ◌&&◌, not, ℕ, ℤ, Bool, true, false, true≢false, List, Option, Some, None, Result, Ok, Err, length, refl, sym, ap, ◌∙◌, subst}
+use Rattle.std.specs.Prelude.{bytes_eq, codes, is_none, is_some, OnOk, ⊤}
 use Rattle.std.specs.Io.KnownBytes.{Appends}
-use Rattle.std.proofs.lemmas.Bool.{cases_Bool, false_from_ne_true, leb-true}
-use Rattle.std.proofs.lemmas.List.Quantifiers.{position-Some}
+use Rattle.std.proofs.lemmas.Bool.{cases_Bool}
 use Rattle.vdr_terms.specs.Queries.{Query}
 use Rattle.vdr_terms.specs.Records.{Record}
 use Rattle.vdr_history.specs.Histories.{Act, Event, Incident, Opening, incidents, live}
@@ -23,10 +22,11 @@ use Rattle.vdr_entry.specs.declared.query.Medium.TheVariants.{Capsule, LongTerm,
 use Rattle.vdr_opening.specs.Media.{both}
 use Rattle.vdr_control.specs.Orders.{PlainOrder}
 use Rattle.vdr_control.specs.Orders.PlainOrder.{Status as StatusOrder, Save as SaveOrder, Release as ReleaseOrder, Play as PlayOrder}
-use Rattle.vdr_recorder.specs.Recordings.{HasDone, HasRecorded, RecordingState}
-use Rattle.vdr_visit.specs.Stops.{lacks_channel, lacks_incident}
-use Rattle.vdr_visit.specs.declared.stop.VisitStop.{VisitStop}
-use Rattle.vdr_visit.specs.declared.stop.VisitStop.TheVariants as plays
+use Rattle.vdr_recorder.specs.Recordings.{HasDone, HasRecorded, RecorderState}
+use Rattle.vdr_visit.proofs.Channels.{has_number, number_if, position_within}
+use Rattle.vdr_visit.specs.Refusals.{lacks_channel, lacks_incident}
+use Rattle.vdr_visit.specs.declared.refused.VisitRefused.{VisitRefused}
+use Rattle.vdr_visit.specs.declared.refused.VisitRefused.TheVariants as plays
 use Rattle.vdr_reply.specs.Answers.{HasAnswered, Spells}
 use Rattle.vdr_reply.specs.Orders.{channel_in, is_every, is_named, order_of, query_of}
 use Rattle.vdr_reply.specs.Texts.{IsPlayed, done_line, fault_line, memory_line, not_there_line, page_text, text_of}
@@ -39,18 +39,6 @@ and_false false = refl
 page_is : (records : List Record) → done_line ++ records_text nothing_seen records ++ codes ".\n" ≡ page_text records
 unfolding page_text
 page_is records = refl
-
-has_number : (count : ℕ) (number : Option ℕ) → ((k : ℕ) → number ≡ Some k → k < count) → lacks_channel count number ≡ false
-has_number count None within = refl
-has_number count (Some k) within = false_from_ne_true (nat_le count k) (λ past. let few = within k refl in let low : count ≤ k = leb-true count k past in let none : ⊥ = omega (arith, few, low) in none)
-
-position_within : (test : Selector → Bool) (channels : List Selector) (k : ℕ) → position test channels ≡ Some k → k < length channels
-position_within test [] k e = let none : ⊥ = cc in absurd none
-position_within test (c ∷ channels) k e = (position-Some test (c ∷ channels) k c e).0
-
-number_if : (b : Bool) (found : Option ℕ) (k : ℕ) → (if b then None else found) ≡ Some k → found ≡ Some k
-number_if true found k e = let none : ⊥ = cc in absurd none
-number_if false found k e = e
 
 -- a channel that is asked for by its name is configured
 asked_within : (channels : List Selector) (medium : Medium) (name : List ℕ) (from to : ℤ) → lacks_channel (length channels) (query_of channels medium name from to).channel ≡ false
@@ -81,10 +69,10 @@ lacks_not opening events table (AnIncident id) e lacks there = clash (live table
     clash None n s = true≢false (sym s)
     clash (Some x) n s = true≢false (sym n)
 
-module _ {tells tells_images : Type 0} (opening : Opening) (events : List Event) (t0 : ℕ) (r : RecordingState) (old : Disk tells tells_images) (h : HasRecorded opening events t0 r old)
-    (met_fault : Type 0) (text : List ℕ) (works : r.members.failed ≡ false) (medium : Medium) (name : List ℕ) (from to : ℤ) where
+module _ {tells tells_images : Type 0} (opening : Opening) (events : List Event) (t0 : ℕ) (r : RecorderState) (old : Disk tells tells_images) (h : HasRecorded opening events t0 r old)
+    (met_fault : Type 0) (text : List ℕ) (works : r.vault.failed ≡ false) (medium : Medium) (name : List ℕ) (from to : ℤ) where
   abbrev channels : List Selector
-  channels = r.members.config.channels
+  channels = r.vault.config.channels
 
   abbrev order : PlainOrder
   order = PlayOrder medium name from to
@@ -97,48 +85,48 @@ module _ {tells tells_images : Type 0} (opening : Opening) (events : List Event)
 
   -- no channel of that name is configured
   pub unnamed_answer : is_named channels name ≡ false → text ≡ not_there_line → HasAnswered channels met_fault opening events t0 order text r r old old
-  unnamed_answer none is = still_answer opening events t0 r old h channels met_fault text order (and_false r.members.failed) (inl refl)
-      (inl (is ∙ ap text_of (sym (said_working r.members.failed old.clock answer works ∙ ap (λ (b : Bool). play_reply b (is_there both opening events query.medium) (refusal_of query.medium) (selected opening events query)) none))))
+  unnamed_answer none is = still_answer opening events t0 r old h channels met_fault text order (and_false r.vault.failed) (inl refl)
+      (inl (is ∙ ap text_of (sym (said_working r.vault.failed old.clock answer works ∙ ap (λ (b : Bool). play_reply b (is_there both opening events query.medium) (refusal_of query.medium) (selected opening events query)) none))))
 
   pub no_memory_answer : text ≡ memory_line → HasAnswered channels met_fault opening events t0 order text r r old old
-  no_memory_answer is = still_answer opening events t0 r old h channels met_fault text order (and_false r.members.failed) (inl refl) (inr (inr is))
+  no_memory_answer is = still_answer opening events t0 r old h channels met_fault text order (and_false r.vault.failed) (inl refl) (inr (inr is))
 
-  pub played_answer : {R : Type 0} (after : RecordingState) (new : Disk tells tells_images) (played : Result ⊤ (VisitStop R)) (page : List ℕ) → IsPlayed played page text
-      → HasDone opening events t0 Look after old new → after.members.failed ≡ false → is_named channels name ≡ true
+  pub played_answer : {R : Type 0} (after : RecorderState) (new : Disk tells tells_images) (played : Result ⊤ (VisitRefused R)) (page : List ℕ) → IsPlayed played page text
+      → HasDone opening events t0 Look after old new → after.vault.failed ≡ false → is_named channels name ≡ true
       → (played ≡ Err plays.NoChannel → lacks_channel (length channels) query.channel ≡ true)
-      → ((played ≡ Err plays.NoIncident) ↔ ((lacks_channel (length channels) query.channel ≡ false) × (lacks_incident r.members.table query.medium ≡ true)))
+      → ((played ≡ Err plays.NoIncident) ↔ ((lacks_channel (length channels) query.channel ≡ false) × (lacks_incident r.vault.table query.medium ≡ true)))
       → OnOk played (page ≡ done_line ++ records_text nothing_seen (selected opening events query))
       → ((m offset : ℕ) → played ≡ Err (plays.Damaged m offset) → ⊥)
       → (played ≡ Err plays.Fault → met_fault)
       → HasAnswered channels met_fault opening events t0 order text r after old new
   played_answer {R = R} after new played page is d goes named channel incident printed undamaged fault =
-      looked_answer opening events t0 r old h channels met_fault text order after new (and_false r.members.failed) d (inl refl)
+      looked_answer opening events t0 r old h channels met_fault text order after new (and_false r.vault.failed) d (inl refl)
       (spelled played refl is printed)
     where
-      table_is : r.members.table ≡ incidents opening events
+      table_is : r.vault.table ≡ incidents opening events
       table_is = (h.works works).stands.incidents_are
 
-      said : answer_before (moment_of after.members.failed new.clock) answer ≡ play_reply true (is_there both opening events query.medium) (refusal_of query.medium) (selected opening events query)
-      said = said_working after.members.failed new.clock answer goes ∙ ap (λ (b : Bool). play_reply b (is_there both opening events query.medium) (refusal_of query.medium) (selected opening events query)) named
+      said : answer_before (moment_of after.vault.failed new.clock) answer ≡ play_reply true (is_there both opening events query.medium) (refusal_of query.medium) (selected opening events query)
+      said = said_working after.vault.failed new.clock answer goes ∙ ap (λ (b : Bool). play_reply b (is_there both opening events query.medium) (refusal_of query.medium) (selected opening events query)) named
 
       there : (played ≡ Err plays.NoIncident → ⊥) → is_there both opening events query.medium ≡ true
-      there other = by_there (there_or_not opening events r.members.table medium table_is)
+      there other = by_there (there_or_not opening events r.vault.table medium table_is)
         where
-          by_there : (is_there both opening events query.medium ≡ true) ⊎ ((is_there both opening events query.medium ≡ false) × (lacks_incident r.members.table query.medium ≡ true) × (refusal_of query.medium ≡ NoIncident))
+          by_there : (is_there both opening events query.medium ≡ true) ⊎ ((is_there both opening events query.medium ≡ false) × (lacks_incident r.vault.table query.medium ≡ true) × (refusal_of query.medium ≡ NoIncident))
               → is_there both opening events query.medium ≡ true
           by_there (inl is) = is
           by_there (inr n) = absurd (other (incident.1 (asked_within channels medium name from to, n.1)))
 
       not_there : played ≡ Err plays.NoIncident → text_of (play_reply true (is_there both opening events query.medium) (refusal_of query.medium) (selected opening events query)) ≡ not_there_line
-      not_there e = by_there (there_or_not opening events r.members.table medium table_is)
+      not_there e = by_there (there_or_not opening events r.vault.table medium table_is)
         where
-          by_there : (is_there both opening events query.medium ≡ true) ⊎ ((is_there both opening events query.medium ≡ false) × (lacks_incident r.members.table query.medium ≡ true) × (refusal_of query.medium ≡ NoIncident))
+          by_there : (is_there both opening events query.medium ≡ true) ⊎ ((is_there both opening events query.medium ≡ false) × (lacks_incident r.vault.table query.medium ≡ true) × (refusal_of query.medium ≡ NoIncident))
               → text_of (play_reply true (is_there both opening events query.medium) (refusal_of query.medium) (selected opening events query)) ≡ not_there_line
-          by_there (inl is) = absurd (lacks_not opening events r.members.table medium table_is (incident.0 e).1 is)
+          by_there (inl is) = absurd (lacks_not opening events r.vault.table medium table_is (incident.0 e).1 is)
           by_there (inr n) = ap (λ (b : Bool). text_of (play_reply true b (refusal_of query.medium) (selected opening events query))) n.0 ∙ ap text_of n.2
 
-      spelled : (res : Result ⊤ (VisitStop R)) → played ≡ res → IsPlayed res page text → OnOk res (page ≡ done_line ++ records_text nothing_seen (selected opening events query))
-          → Spells met_fault order (answer_before (moment_of after.members.failed new.clock) answer) text
+      spelled : (res : Result ⊤ (VisitRefused R)) → played ≡ res → IsPlayed res page text → OnOk res (page ≡ done_line ++ records_text nothing_seen (selected opening events query))
+          → Spells met_fault order (answer_before (moment_of after.vault.failed new.clock) answer) text
       spelled (Ok x) e (inl ends) made =
           inl (ends ∙ ap (λ (l : List ℕ). l ++ codes ".\n") made ∙ page_is (selected opening events query)
           ∙ ap (λ (b : Bool). text_of (play_reply true b (refusal_of query.medium) (selected opening events query))) (sym (there (λ f. let no : ⊥ = cc in no))) ∙ ap text_of (sym said))

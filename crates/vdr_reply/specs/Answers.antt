@@ -9,7 +9,7 @@ use Rattle.vdr_config.specs.Configuration.{Selector}
 use Rattle.vdr_opening.specs.Media.{both}
 use Rattle.vdr_control.specs.Orders.{PlainOrder}
 use Rattle.vdr_control.specs.Orders.PlainOrder.{Status, Save, Release, Play}
-use Rattle.vdr_recorder.specs.Recordings.{HasDone, RecordingState}
+use Rattle.vdr_recorder.specs.Recordings.{HasDone, RecorderState}
 use Rattle.vdr_reply.specs.Orders.{changes, granted_act, order_of}
 use Rattle.vdr_reply.specs.Texts.{fault_line, memory_line, text_of}
 
@@ -28,13 +28,13 @@ pub record IsAnswer (channels : List Selector) (met_fault : Type 0) (opening : O
 module _ {tells tells_images : Type 0} where
   -- The order was one event after these, and was answered so.
   pub record HasAnswered (channels : List Selector) (met_fault : Type 0) (opening : Opening) (events : List Event) (t0 : ℕ) (order : PlainOrder) (text : List ℕ)
-      (before after : RecordingState) (old new : Disk tells tells_images) : Type 0 where
-    pub done : HasDone opening events t0 (cond (changes order before.members) (granted_act opening events order) Act.Look) after old new
-    pub answer : IsAnswer channels met_fault opening events (record { act = cond (changes order before.members) (granted_act opening events order) Act.Look; moment = moment_of after.members.failed new.clock }) order text
+      (before after : RecorderState) (old new : Disk tells tells_images) : Type 0 where
+    pub done : HasDone opening events t0 (cond (changes order before.vault) (granted_act opening events order) Act.Look) after old new
+    pub answer : IsAnswer channels met_fault opening events (record { act = cond (changes order before.vault) (granted_act opening events order) Act.Look; moment = moment_of after.vault.failed new.clock }) order text
 
 -- What an order leaves as it was.
-pub record LeavesRest (before after : RecordingState) : Type 0 where
-  pub config : after.members.config ≡ before.members.config
+pub record LeavesRest (before after : RecorderState) : Type 0 where
+  pub config : after.vault.config ≡ before.vault.config
   pub maker : after.maker ≡ before.maker
   pub is_open : after.is_open ≡ before.is_open
 

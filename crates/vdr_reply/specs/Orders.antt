@@ -9,7 +9,7 @@ use Rattle.vdr_entry.specs.Queries.{asked_medium}
 use Rattle.vdr_entry.specs.declared.query.Medium.{Medium}
 use Rattle.vdr_control.specs.Orders.{PlainOrder}
 use Rattle.vdr_control.specs.Orders.PlainOrder.{Status, Save, Release, Play}
-use Rattle.vdr_vault.specs.Vaults.{MembersState}
+use Rattle.vdr_vault.specs.Vaults.{VaultState}
 use Rattle.vdr_vault.specs.Saves.{save_refusal}
 
 -- The name that stands for every record. No channel has it.
@@ -35,14 +35,14 @@ order_of channels (Release id) = replies.Order.Release id
 order_of channels (Play medium name from to) = replies.Order.Play (is_named channels name) (query_of channels medium name from to)
 
 -- The order changes what the vault holds: a save that nothing stands in the way of, or a release of a live incident.
-abbrev pub is_granted : PlainOrder → MembersState → Bool
-is_granted Status members = false
-is_granted (Save label) members = is_none (save_refusal label members)
-is_granted (Release id) members = is_some (live members.table id)
-is_granted (Play medium name from to) members = false
+abbrev pub is_granted : PlainOrder → VaultState → Bool
+is_granted Status vault = false
+is_granted (Save label) vault = is_none (save_refusal label vault)
+is_granted (Release id) vault = is_some (live vault.table id)
+is_granted (Play medium name from to) vault = false
 
-abbrev pub changes : PlainOrder → MembersState → Bool
-changes order members = not members.failed && is_granted order members
+abbrev pub changes : PlainOrder → VaultState → Bool
+changes order vault = not vault.failed && is_granted order vault
 
 abbrev pub id_or_0 : Option ℕ → ℕ
 id_or_0 None = 0

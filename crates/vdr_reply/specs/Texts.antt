@@ -9,8 +9,8 @@ use Rattle.vdr_incident.specs.declared.refused.ReleaseRefused.{ReleaseRefused}
 use Rattle.vdr_incident.specs.declared.refused.ReleaseRefused.TheVariants as releases
 use Rattle.vdr_vault.specs.declared.refused.SaveRefused.{SaveRefused}
 use Rattle.vdr_vault.specs.declared.refused.SaveRefused.TheVariants as saves
-use Rattle.vdr_visit.specs.declared.stop.VisitStop.{VisitStop}
-use Rattle.vdr_visit.specs.declared.stop.VisitStop.TheVariants as visits
+use Rattle.vdr_visit.specs.declared.refused.VisitRefused.{VisitRefused}
+use Rattle.vdr_visit.specs.declared.refused.VisitRefused.TheVariants as visits
 
 -- The media have failed, a record of them is not legal, or there is no memory for the text.
 abbrev pub fault_line : List ℕ
@@ -71,7 +71,7 @@ release_line (Err releases.Fault) = text_of Failed
 
 -- What is sent for a play that was answered so, of a page with this text so far: the page with its end, unless there is no memory for it. The
 -- page's only failure is want of memory, and a player never stops by itself.
-abbrev pub IsPlayed : {R : Type 0} → Result ⊤ (VisitStop R) → (page text : List ℕ) → Type 0
+abbrev pub IsPlayed : {R : Type 0} → Result ⊤ (VisitRefused R) → (page text : List ℕ) → Type 0
 IsPlayed (Ok done) page text = (text ≡ page ++ codes ".\n") ⊎ (text ≡ memory_line)
 IsPlayed (Err visits.NoChannel) page text = text ≡ not_there_line
 IsPlayed (Err visits.NoIncident) page text = text ≡ not_there_line

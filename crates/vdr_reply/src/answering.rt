@@ -16,43 +16,43 @@ use std::alloc::Global;
 use vdr_control::Order;
 use vdr_desk::Reply;
 use vdr_outside::Media;
-use vdr_recorder::Recording;
+use vdr_recorder::Recorder;
 
 // How far the recording is. The media are there for the proof alone.
-fn answer_status<M: Media>(recording: &Recording, _media: &M) -> Reply
-    requires works { recording.now.members.failed ≡ false }
-    ensures answered { (opening : Opening) (events : List Event) (t0 : ℕ) → HasRecorded opening events t0 recording.now (M.disk _media.now)
-        → HasAnswered recording.now.members.config.channels (Rose (sum (M.faults _media.now)) (sum (M.faults _media.now))) opening events t0 StatusOrder result recording.now recording.now (M.disk _media.now) (M.disk _media.now) }
+fn answer_status<M: Media>(recorder: &Recorder, _media: &M) -> Reply
+    requires works { recorder.now.vault.failed ≡ false }
+    ensures answered { (opening : Opening) (events : List Event) (t0 : ℕ) → HasRecorded opening events t0 recorder.now (M.disk _media.now)
+        → HasAnswered recorder.now.vault.config.channels (Rose (sum (M.faults _media.now)) (sum (M.faults _media.now))) opening events t0 StatusOrder result recorder.now recorder.now (M.disk _media.now) (M.disk _media.now) }
 {
-    of_state(&recording.status())
+    of_state(&recorder.status())
 }
 
-fn answer_save<M: Media>(recording: &mut Recording, media: &mut M, label: &[u8]) -> Reply
-    requires rings { AreRings recording.old.members (M.disk media.old).sizes }
-    requires works { recording.old.members.failed ≡ false }
-    ensures answered { (opening : Opening) (events : List Event) (t0 : ℕ) → M.tells → HasRecorded opening events t0 recording.old (M.disk media.old)
-        → HasAnswered recording.old.members.config.channels (Rose (sum (M.faults media.old)) (sum (M.faults media.new))) opening events t0 (SaveOrder label.now) result recording.old recording.new (M.disk media.old) (M.disk media.new) }
-    ensures rest { LeavesRest recording.old recording.new }
-    ensures rings { AreRings recording.new.members (M.disk media.new).sizes }
+fn answer_save<M: Media>(recorder: &mut Recorder, media: &mut M, label: &[u8]) -> Reply
+    requires rings { AreRings recorder.old.vault (M.disk media.old).sizes }
+    requires works { recorder.old.vault.failed ≡ false }
+    ensures answered { (opening : Opening) (events : List Event) (t0 : ℕ) → M.tells → HasRecorded opening events t0 recorder.old (M.disk media.old)
+        → HasAnswered recorder.old.vault.config.channels (Rose (sum (M.faults media.old)) (sum (M.faults media.new))) opening events t0 (SaveOrder label.now) result recorder.old recorder.new (M.disk media.old) (M.disk media.new) }
+    ensures rest { LeavesRest recorder.old recorder.new }
+    ensures rings { AreRings recorder.new.vault (M.disk media.new).sizes }
     ensures others { M.tells → SameElsewhere (M.disk media.old).reads (M.disk media.new).reads }
     ensures sizes { (M.disk media.new).sizes ≡ (M.disk media.old).sizes }
-    ensures cause { HasOrderCause recording.old.members.failed recording.new.members.failed (M.faults media.old) (M.faults media.new) }
+    ensures cause { HasOrderCause recorder.old.vault.failed recorder.new.vault.failed (M.faults media.old) (M.faults media.new) }
 {
-    of_save(recording.save(media, label))
+    of_save(recorder.save(media, label))
 }
 
-fn answer_release<M: Media>(recording: &mut Recording, media: &mut M, id: u32) -> Reply
-    requires rings { AreRings recording.old.members (M.disk media.old).sizes }
-    requires works { recording.old.members.failed ≡ false }
-    ensures answered { (opening : Opening) (events : List Event) (t0 : ℕ) → M.tells → HasRecorded opening events t0 recording.old (M.disk media.old)
-        → HasAnswered recording.old.members.config.channels (Rose (sum (M.faults media.old)) (sum (M.faults media.new))) opening events t0 (ReleaseOrder id) result recording.old recording.new (M.disk media.old) (M.disk media.new) }
-    ensures rest { LeavesRest recording.old recording.new }
-    ensures rings { AreRings recording.new.members (M.disk media.new).sizes }
+fn answer_release<M: Media>(recorder: &mut Recorder, media: &mut M, id: u32) -> Reply
+    requires rings { AreRings recorder.old.vault (M.disk media.old).sizes }
+    requires works { recorder.old.vault.failed ≡ false }
+    ensures answered { (opening : Opening) (events : List Event) (t0 : ℕ) → M.tells → HasRecorded opening events t0 recorder.old (M.disk media.old)
+        → HasAnswered recorder.old.vault.config.channels (Rose (sum (M.faults media.old)) (sum (M.faults media.new))) opening events t0 (ReleaseOrder id) result recorder.old recorder.new (M.disk media.old) (M.disk media.new) }
+    ensures rest { LeavesRest recorder.old recorder.new }
+    ensures rings { AreRings recorder.new.vault (M.disk media.new).sizes }
     ensures others { M.tells → SameElsewhere (M.disk media.old).reads (M.disk media.new).reads }
     ensures sizes { (M.disk media.new).sizes ≡ (M.disk media.old).sizes }
-    ensures cause { HasOrderCause recording.old.members.failed recording.new.members.failed (M.faults media.old) (M.faults media.new) }
+    ensures cause { HasOrderCause recorder.old.vault.failed recorder.new.vault.failed (M.faults media.old) (M.faults media.new) }
 {
-    of_release(recording.release(media, id))
+    of_release(recorder.release(media, id))
 }
 
 /// Answers an order. It is one event of the recorder's history: a save or a release that is granted, and else a look. The reply is a function
@@ -62,27 +62,27 @@ fn answer_release<M: Media>(recording: &mut Recording, media: &mut M, id: u32) -
 /// answered `FAULT 5` too where a read fails, and `FAULT 9` where there is no memory for the page.
 pub fn answer<M: Media>(
     alloc: Global,
-    recording: &mut Recording,
+    recorder: &mut Recorder,
     media: &mut M,
     order: Order<'_>,
 ) -> Reply
-    requires rings { AreRings recording.old.members (M.disk media.old).sizes }
+    requires rings { AreRings recorder.old.vault (M.disk media.old).sizes }
     requires asked { (line : List ℕ) × AsksFor line (plain order) }
-    ensures answered { (opening : Opening) (events : List Event) (t0 : ℕ) → M.tells → HasRecorded opening events t0 recording.old (M.disk media.old)
-        → HasAnswered recording.old.members.config.channels (Rose (sum (M.faults media.old)) (sum (M.faults media.new))) opening events t0 (plain order.entry) result recording.old recording.new (M.disk media.old) (M.disk media.new) }
-    ensures rest { LeavesRest recording.old recording.new }
-    ensures rings { AreRings recording.new.members (M.disk media.new).sizes }
+    ensures answered { (opening : Opening) (events : List Event) (t0 : ℕ) → M.tells → HasRecorded opening events t0 recorder.old (M.disk media.old)
+        → HasAnswered recorder.old.vault.config.channels (Rose (sum (M.faults media.old)) (sum (M.faults media.new))) opening events t0 (plain order.entry) result recorder.old recorder.new (M.disk media.old) (M.disk media.new) }
+    ensures rest { LeavesRest recorder.old recorder.new }
+    ensures rings { AreRings recorder.new.vault (M.disk media.new).sizes }
     ensures others { M.tells → SameElsewhere (M.disk media.old).reads (M.disk media.new).reads }
     ensures sizes { (M.disk media.new).sizes ≡ (M.disk media.old).sizes }
-    ensures cause { HasOrderCause recording.old.members.failed recording.new.members.failed (M.faults media.old) (M.faults media.new) }
+    ensures cause { HasOrderCause recorder.old.vault.failed recorder.new.vault.failed (M.faults media.old) (M.faults media.new) }
 {
-    if recording.failed() {
+    if recorder.failed() {
         return Reply::of_line(FAULT);
     }
     match order {
-        Order::Status => answer_status(recording, media),
-        Order::Save(label) => answer_save(recording, media, label),
-        Order::Release(id) => answer_release(recording, media, id),
+        Order::Status => answer_status(recorder, media),
+        Order::Save(label) => answer_save(recorder, media, label),
+        Order::Release(id) => answer_release(recorder, media, id),
         Order::Play {
             medium,
             channel,
@@ -95,7 +95,7 @@ pub fn answer<M: Media>(
                 from,
                 to,
             };
-            answer_play(alloc, recording, media, wanted)
+            answer_play(alloc, recorder, media, wanted)
         }
     }
 }

@@ -19,8 +19,8 @@ use std::convert::Infallible;
 use vdr_desk::Reply;
 use vdr_entry::{Medium, Query};
 use vdr_outside::Media;
-use vdr_recorder::Recording;
-use vdr_visit::VisitStop;
+use vdr_recorder::Recorder;
+use vdr_visit::VisitRefused;
 
 /// The channel's name that stands for every record.
 const EVERY: &[u8] = b"all";
@@ -37,10 +37,10 @@ pub(crate) struct Wanted<'a> {
 }
 
 // The query of what is wanted, None where no channel of this name is configured.
-fn query_of(recording: &Recording, wanted: Wanted<'_>) -> Option<Query>
-    ensures found { IfSome result (λ query. (asked query ≡ query_of recording.now.members.config.channels wanted.entry.medium wanted.entry.name.now wanted.entry.from wanted.entry.to)
-        × (is_named recording.now.members.config.channels wanted.entry.name.now ≡ true)) }
-    ensures none { IfNone result (is_named recording.now.members.config.channels wanted.entry.name.now ≡ false) }
+fn query_of(recorder: &Recorder, wanted: Wanted<'_>) -> Option<Query>
+    ensures found { IfSome result (λ query. (asked query ≡ query_of recorder.now.vault.config.channels wanted.entry.medium wanted.entry.name.now wanted.entry.from wanted.entry.to)
+        × (is_named recorder.now.vault.config.channels wanted.entry.name.now ≡ true)) }
+    ensures none { IfNone result (is_named recorder.now.vault.config.channels wanted.entry.name.now ≡ false) }
 {
     let mut query = Query {
         medium: wanted.medium,
@@ -51,7 +51,7 @@ fn query_of(recording: &Recording, wanted: Wanted<'_>) -> Option<Query>
     if wanted.name == EVERY {
         return Some(query);
     }
-    let Some(number) = recording.config().channel_of(wanted.name) else {
+    let Some(number) = recorder.config().channel_of(wanted.name) else {
         return None;
     };
     query.channel = Some(number);
@@ -59,7 +59,7 @@ fn query_of(recording: &Recording, wanted: Wanted<'_>) -> Option<Query>
 }
 
 // What a play comes to: the page with its end, or the line of a refusal.
-fn of_played(played: Result<(), VisitStop<Infallible>>, page: Page) -> Reply
+fn of_played(played: Result<(), VisitRefused<Infallible>>, page: Page) -> Reply
     ensures { IsPlayed played page.bytes.items result }
 {
     match played {
@@ -67,38 +67,38 @@ fn of_played(played: Result<(), VisitStop<Infallible>>, page: Page) -> Reply
             Ok(bytes) => Reply::of_page(bytes),
             Err(_) => Reply::of_line(NO_MEMORY),
         },
-        Err(VisitStop::NoChannel | VisitStop::NoIncident) => Reply::of_line(NOT_THERE),
-        Err(VisitStop::Fault) => Reply::of_line(FAULT),
-        Err(VisitStop::Damaged { .. }) => Reply::of_line(DAMAGED),
-        Err(VisitStop::Output) => Reply::of_line(NO_MEMORY),
-        Err(VisitStop::Own(never)) => match never {},
+        Err(VisitRefused::NoChannel | VisitRefused::NoIncident) => Reply::of_line(NOT_THERE),
+        Err(VisitRefused::Fault) => Reply::of_line(FAULT),
+        Err(VisitRefused::Damaged { .. }) => Reply::of_line(DAMAGED),
+        Err(VisitRefused::Output) => Reply::of_line(NO_MEMORY),
+        Err(VisitRefused::Own(never)) => match never {},
     }
 }
 
 /// Answers a play, on media that have not failed. The page is made in memory, so that the recorder is free again before it is sent.
 pub(crate) fn answer_play<M: Media>(
     alloc: Global,
-    recording: &mut Recording,
+    recorder: &mut Recorder,
     media: &mut M,
     wanted: Wanted<'_>,
 ) -> Reply
-    requires rings { AreRings recording.old.members (M.disk media.old).sizes }
-    requires works { recording.old.members.failed ≡ false }
-    ensures answered { (opening : Opening) (events : List Event) (t0 : ℕ) → M.tells → HasRecorded opening events t0 recording.old (M.disk media.old)
-        → HasAnswered recording.old.members.config.channels (Rose (sum (M.faults media.old)) (sum (M.faults media.new))) opening events t0
-        (PlayOrder wanted.entry.medium wanted.entry.name.now wanted.entry.from wanted.entry.to) result recording.old recording.new (M.disk media.old) (M.disk media.new) }
-    ensures rest { LeavesRest recording.old recording.new }
-    ensures rings { AreRings recording.new.members (M.disk media.new).sizes }
+    requires rings { AreRings recorder.old.vault (M.disk media.old).sizes }
+    requires works { recorder.old.vault.failed ≡ false }
+    ensures answered { (opening : Opening) (events : List Event) (t0 : ℕ) → M.tells → HasRecorded opening events t0 recorder.old (M.disk media.old)
+        → HasAnswered recorder.old.vault.config.channels (Rose (sum (M.faults media.old)) (sum (M.faults media.new))) opening events t0
+        (PlayOrder wanted.entry.medium wanted.entry.name.now wanted.entry.from wanted.entry.to) result recorder.old recorder.new (M.disk media.old) (M.disk media.new) }
+    ensures rest { LeavesRest recorder.old recorder.new }
+    ensures rings { AreRings recorder.new.vault (M.disk media.new).sizes }
     ensures others { M.tells → SameElsewhere (M.disk media.old).reads (M.disk media.new).reads }
     ensures sizes { (M.disk media.new).sizes ≡ (M.disk media.old).sizes }
-    ensures cause { HasOrderCause recording.old.members.failed recording.new.members.failed (M.faults media.old) (M.faults media.new) }
+    ensures cause { HasOrderCause recorder.old.vault.failed recorder.new.vault.failed (M.faults media.old) (M.faults media.new) }
 {
-    let Some(query) = query_of(recording, wanted) else {
+    let Some(query) = query_of(recorder, wanted) else {
         return Reply::of_line(NOT_THERE);
     };
     let Ok(mut page) = Page::begin(alloc) else {
         return Reply::of_line(NO_MEMORY);
     };
-    let played = recording.play(media, &query, &mut page);
+    let played = recorder.play(media, &query, &mut page);
     of_played(played, page)
 }

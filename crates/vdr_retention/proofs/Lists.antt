@@ -1,10 +1,11 @@
 -- What a list contains, its last element, and the records of segments.
-use Rattle.std.proofs.Common.{List, [], ◌∷◌, ◌++◌, Bool, true, filter, flat_map, All, Contains, Some, None, ◌≡◌, ◌⊎◌, inl, inr, ⊎_elim, refl, sym, ap, ◌∙◌, subst, append-nil, arith}
+use Rattle.std.proofs.Common.{ℕ, ◌≤◌, List, [], ◌∷◌, ◌++◌, Bool, true, filter, flat_map, All, Contains, Some, None, ◌≡◌, ◌⊎◌, inl, inr, ⊎_elim, refl, sym, ap, ◌∙◌, subst, append-nil, arith}
 use Rattle.std.proofs.lemmas.Bool.{cond-true, cond_both}
 use Rattle.std.proofs.lemmas.List.Elements.{All-contains, All-cons, All-nil, Contains-append_left, Contains-append_right, Contains-append_cases, Contains-push, Contains-push_cases, filter_passes}
 use Rattle.std.proofs.lemmas.Grind.{flat_map-append}
 use Rattle.vdr_terms.specs.Records.{Record, last_after, last}
-use Rattle.vdr_retention.specs.Layout.{Batches, records_in, segment_records}
+use Rattle.vdr_terms.specs.Order.{NeverFalls}
+use Rattle.vdr_retention.specs.Layout.{Batches, batches_in, records_in, segment_records}
 
 pub none_contained : {X : Type 0} (x : X) → Contains [] x → ⊥
 none_contained x h = omega (arith, h.1)
@@ -84,3 +85,17 @@ contains_flat {X} f (z ∷ zs) x y h k =
 -- the records of the older segments, then those of the newest
 pub records_split : (older : List Batches) (newest : Batches) → records_in (older ++ newest ∷ []) ≡ records_in older ++ segment_records newest
 records_split older newest = flat_map-append segment_records older (newest ∷ []) ∙ ap (λ (xs : List Record). records_in older ++ xs) (append-nil (segment_records newest))
+
+-- The batches of segments have their records.
+pub records_of_batches : (segments : List Batches) → segment_records (batches_in segments) ≡ records_in segments
+records_of_batches [] = refl
+records_of_batches (s ∷ segments) = flat_map-append (λ (b : List Record). b) s (batches_in segments) ∙ ap (λ (xs : List Record). segment_records s ++ xs) (records_of_batches segments)
+
+-- Ticks that do not fall are at least the first.
+pub ticks_from : (from : ℕ) (rs : List Record) (r : Record) → NeverFalls from rs → Contains rs r → from ≤ r.tick
+ticks_from from [] r h m = absurd (none_contained r m)
+ticks_from from (x ∷ xs) r h m =
+    ⊎_elim
+    (λ (e : x ≡ r). let a = h.0 in let b = ap (λ (r : Record). r.tick) e in let c : from ≤ r.tick = omega (arith, a, b) in c)
+    (λ (k : Contains xs r). let a = h.0 in let b = ticks_from x.tick xs r h.1 k in let c : from ≤ r.tick = omega (arith, a, b) in c)
+    (contains_cases x xs r m)

@@ -30,7 +30,7 @@ pub in_the_window : (seconds : ℕ) (all : List Record) (r : Record) → IsRecen
 in_the_window seconds all r h = subst (λ (o : Option Record). Contains (window_before o seconds all) r) (sym h.ends)
     (contains_filter (λ (r : Record). in_window (second r.tick) (second h.newest.tick) seconds) all r h.there (lt-ltb (second h.newest.tick) (second r.tick + seconds) h.close))
 
-second_rises : (a b : ℕ) → a ≤ b → second a ≤ second b
+pub second_rises : (a b : ℕ) → a ≤ b → second a ≤ second b
 second_rises a b h = omega arith
 
 same_newest : (o : Option Record) (a b : Record) → o ≡ Some a → o ≡ Some b → a ≡ b

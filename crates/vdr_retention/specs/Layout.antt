@@ -13,6 +13,10 @@ segment_records batches = flat_map (λ batch. batch) batches
 abbrev pub records_in : List Batches → List Record
 records_in segments = flat_map segment_records segments
 
+-- All batches of segments, in order.
+abbrev pub batches_in : List Batches → Batches
+batches_in segments = flat_map (λ segment. segment) segments
+
 -- The bytes of batches.
 abbrev pub batches_size : Batches → ℕ
 batches_size batches = sum_by batch_size batches

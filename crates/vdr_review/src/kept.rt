@@ -1,28 +1,25 @@
 // A record that a review keeps until it is printed or leaves the window.
-ghost use Rattle.std.specs.Prelude.{◌≡◌, ◌≤◌, ◌<◌, ◌^◌, IfOk, pos};
-ghost use Rattle.vdr_terms.specs.Records.Content.{Datagram, Gap};
-ghost use Rattle.vdr_terms.specs.Records.{second};
-ghost use Rattle.vdr_terms.specs.declared.datagram.Verdict.TheVariants.{Yes};
-ghost use Rattle.vdr_terms.specs.Datagrams.{verdict};
-ghost use Rattle.vdr_terms.specs.Legality.{IsMissed};
-ghost use Rattle.vdr_terms.specs.Stamps.{IsStamp};
+ghost use Rattle.std.specs.Prelude.{◌≡◌, ◌<◌, ◌^◌, is_some, IfOk, IfSome};
+ghost use Rattle.vdr_terms.specs.Records.{has_items, second};
 
 use std::alloc::{AllocError, Global};
 use std::marker::Model;
-use vdr_entry::{Counts, Record};
+use vdr_entry::{Content, Record};
+use vdr_terms::Counts;
 
 /// Where and when a record stands.
 #[derive(Clone, Copy, Drop)]
-pub(crate) struct Spot {
-    pub(crate) group: u8,
-    pub(crate) place: u64,
-    pub(crate) number: u64,
-    pub(crate) tick: u64,
-    pub(crate) utc: i64,
+struct Spot {
+    group: u8,
+    bits: u64,
+    place: u64,
+    number: u64,
+    tick: u64,
+    utc: i64,
 }
 
 #[derive(Drop)]
-pub(crate) enum Said {
+enum Said {
     Datagram(Vec<u8>),
     Gap(Counts),
 }
@@ -41,41 +38,31 @@ impl Model for Kept {
 
     ghost Value = { Told };
 
-    ghost view = { λ k. record { content = content_of k.said; group = k.spot.group; bits = 0; place = k.spot.place; number = k.spot.number; tick = k.spot.tick; utc = k.spot.utc } };
+    ghost view = { λ k. record { content = content_of k.said; group = k.spot.group; bits = k.spot.bits; place = k.spot.place; number = k.spot.number; tick = k.spot.tick; utc = k.spot.utc } };
 
-    ghost invariant = { λ k. IsRecord (record { content = content_of k.said; group = k.spot.group; bits = 0; place = k.spot.place; number = k.spot.number; tick = k.spot.tick; utc = k.spot.utc }) };
+    ghost invariant = { λ k. IsRecord (record { content = content_of k.said; group = k.spot.group; bits = k.spot.bits; place = k.spot.place; number = k.spot.number; tick = k.spot.tick; utc = k.spot.utc }) };
 }
 
 impl Kept {
-    /// A Datagram with a copy of these bytes.
-    pub(crate) fn datagram(alloc: Global, spot: Spot, bytes: &[u8]) -> Result<Kept, AllocError>
-        requires group { spot.group ≤ 15 }
-        requires place { spot.place < 2 ^ 63 }
-        requires tick { spot.tick < 2 ^ 63 }
-        requires utc { IsStamp spot.utc }
-        requires bytes { verdict bytes.now ≡ Yes }
-        ensures { IfOk result (λ k. k ≡ record { content = Datagram bytes.now; group = spot.group; bits = 0; place = spot.place; number = spot.number; tick = spot.tick; utc = spot.utc }) }
+    /// A copy of the record, None where it is a Start or a Stop.
+    pub(crate) fn of(alloc: Global, item: &Record) -> Result<Option<Kept>, AllocError>
+        ensures kept { IfOk result (λ kept. is_some kept ≡ has_items item.now.content) }
+        ensures same { IfOk result (λ kept. IfSome kept (λ k. k ≡ item.now)) }
     {
-        let bytes = bytes.to_vec(alloc)?;
-        Ok(Kept {
-            spot,
-            said: Said::Datagram(bytes),
-        })
-    }
-
-    /// A Gap with these counts, not all 0. The spot's number is the first that is missed.
-    pub(crate) fn gap(spot: Spot, missed: Counts) -> Kept
-        requires group { spot.group ≤ 15 }
-        requires place { spot.place < 2 ^ 63 }
-        requires tick { spot.tick < 2 ^ 63 }
-        requires utc { IsStamp spot.utc }
-        requires missed { IsMissed missed }
-        ensures { result ≡ record { content = Gap missed; group = spot.group; bits = 0; place = spot.place; number = spot.number; tick = spot.tick; utc = spot.utc } }
-    {
-        Kept {
-            spot,
-            said: Said::Gap(missed),
-        }
+        let said = match item.content() {
+            Content::Start | Content::Stop => return Ok(None),
+            Content::Datagram(bytes) => Said::Datagram(bytes.to_vec(alloc)?),
+            Content::Gap(missed) => Said::Gap(missed),
+        };
+        let spot = Spot {
+            group: item.group,
+            bits: item.bits,
+            place: item.place,
+            number: item.number,
+            tick: item.tick,
+            utc: item.utc,
+        };
+        Ok(Some(Kept { spot, said }))
     }
 
     /// Its second of recording time.
@@ -92,6 +79,7 @@ impl Kept {
     {
         let Spot {
             group,
+            bits,
             place,
             number,
             tick,
@@ -99,9 +87,9 @@ impl Kept {
         } = self.spot;
         match &self.said {
             Said::Datagram(bytes) => {
-                Record::datagram(group, 0, place, number, tick, utc, bytes.as_slice())
+                Record::datagram(group, bits, place, number, tick, utc, bytes.as_slice())
             }
-            Said::Gap(missed) => Record::gap(group, 0, place, number, tick, utc, *missed),
+            Said::Gap(missed) => Record::gap(group, bits, place, number, tick, utc, *missed),
         }
     }
 }

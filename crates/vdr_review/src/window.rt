@@ -6,12 +6,14 @@ ghost use Rattle.vdr_outside.specs.Causes.{HasCause};
 ghost use Rattle.vdr_outside.specs.Writes.{AppendsFront};
 ghost use Rattle.vdr_play.specs.Streams.{nothing_seen};
 ghost use Rattle.vdr_play.specs.Texts.{records_text, seen_by};
+ghost use Rattle.vdr_review.specs.Walks.{kept_of};
 ghost use Rattle.vdr_review.specs.Review.{review_seconds, OnFirst, PopsOld, shown_records};
 
 use crate::kept::Kept;
 use std::alloc::{AllocError, Global};
 use std::collections::VecDeque;
 use std::marker::Model;
+use vdr_entry::Record;
 use vdr_outside::{Failed, Printable, Sink};
 use vdr_play::{Tracks, print_record};
 use vdr_window::in_window;
@@ -69,11 +71,24 @@ impl Window {
         }
     }
 
-    /// Keeps one more record.
-    pub(crate) fn push(&mut self, kept: Kept) -> Result<(), AllocError>
-        ensures { OnOk result (self.new ≡ self.old ++ kept ∷ []) }
+    // Keeps one more record, if it is a Datagram or a Gap.
+    fn push(&mut self, alloc: Global, item: &Record) -> Result<(), AllocError>
+        ensures { OnOk result (self.new ≡ self.old ++ kept_of (item.now ∷ [])) }
     {
-        self.kept.push_back(kept)?;
+        match Kept::of(alloc, item)? {
+            Some(kept) => self.kept.push_back(kept)?,
+            None => {}
+        }
+        Ok(())
+    }
+
+    /// Keeps the Datagrams and Gaps of these records.
+    pub(crate) fn keep(&mut self, alloc: Global, records: &[Record]) -> Result<(), AllocError>
+        ensures { OnOk result (self.new ≡ self.old ++ kept_of records.now) }
+    {
+        for record in records {
+            self.push(alloc, record)?;
+        }
         Ok(())
     }
 

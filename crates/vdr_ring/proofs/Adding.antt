@@ -6,6 +6,7 @@ use Rattle.std.proofs.lemmas.List.Elements.{All-contains, Contains-append_right}
 use Rattle.vdr_terms.specs.Records.{Record, last}
 use Rattle.vdr_terms.specs.Order.{RunOn}
 use Rattle.vdr_terms.specs.Sizes.{batch_size}
+use Rattle.vdr_terms.proofs.Somewhere.{any_here, any_left, any_right}
 use Rattle.vdr_outside.specs.Disk.{Disk}
 use Rattle.vdr_outside.specs.Moments.{ChangesOnly, Settled}
 use Rattle.vdr_outside.proofs.Moments.{changes_none, changes_weaken, changes_join, settled_image}
@@ -30,9 +31,9 @@ use Rattle.vdr_ring.specs.Indexed.{known_by}
 use Rattle.vdr_ring.proofs.Filing.{few_records}
 use Rattle.vdr_ring.proofs.Placing.{append_in_sequence}
 use Rattle.vdr_ring.proofs.Ordering.{append_in_order}
-use Rattle.vdr_ring.proofs.Telling.{any_here, EndsWith, ends_with, IsNewest, described_newest, described_none, tells_done}
+use Rattle.vdr_ring.proofs.Telling.{EndsWith, ends_with, IsNewest, described_newest, described_none, tells_done}
 use Rattle.vdr_ring.proofs.Freeing.{holds_either, settled_slots, settled_placed}
-use Rattle.vdr_ring.proofs.Beginning.{any_left, any_right, settled_at}
+use Rattle.vdr_ring.proofs.Beginning.{settled_at}
 
 -- The newest segment has no room where the table says so.
 pub no_room : (size : ℕ) (placed : List Placed) (records : List Record) (es : List Entry) → Describe placed es → (HasRoomFor size (batch_size records) (last es) → ⊥) → HasNoRoom size placed records

@@ -4,6 +4,7 @@ use Rattle.std.specs.Prelude.{Any}
 use Rattle.std.proofs.lemmas.List.{get_or_append_left, length-append, length_push}
 use Rattle.std.proofs.lemmas.List.Elements.{All-contains, Contains-append_left, Contains-append_right, Contains-append_cases}
 use Rattle.vdr_terms.specs.Records.{Record, last}
+use Rattle.vdr_terms.proofs.Somewhere.{any_there, any_left, any_right}
 use Rattle.vdr_outside.specs.Disk.{Disk}
 use Rattle.vdr_outside.specs.Moments.{ChangesOnly, Settled}
 use Rattle.vdr_outside.proofs.Moments.{changes_weaken, changes_join}
@@ -23,17 +24,10 @@ use Rattle.vdr_ring.specs.Appends.{MayCome, HasNoRoom, LeavesFree, IsFree, IsRea
 use Rattle.vdr_ring.proofs.Placing.{begin_in_sequence, slot_closed}
 use Rattle.vdr_ring.proofs.Numbering.{seqs_below}
 use Rattle.vdr_ring.proofs.Staging.{victim_split, Finds, begins_anew}
-use Rattle.vdr_ring.proofs.Telling.{any_there, begins_with, least_closed, tells_begun}
+use Rattle.vdr_ring.proofs.Telling.{begins_with, least_closed, tells_begun}
 use Rattle.vdr_ring.proofs.Freeing.{holds_either, settled_slots, settled_placed}
 
 -- Some of more
-
-pub any_left : {X : Type 0} (P : X → Type 0) (xs ys : List X) → Any P xs → Any P (xs ++ ys)
-any_left P xs ys h = let lt = h.2 in (h.0, h.1, omega (arith, lt, length-append xs ys), get_or_append_left xs ys h.1 h.0 h.2 ∙ h.3, h.4)
-
-pub any_right : {X : Type 0} (P : X → Type 0) (xs ys : List X) → Any P ys → Any P (xs ++ ys)
-any_right P [] ys h = h
-any_right P (x ∷ xs) ys h = any_there P x (xs ++ ys) (any_right P xs ys h)
 
 -- The batches that a medium holds are legal.
 pub legal_batches : (segment count : ℕ) (placed : List Placed) (b : List ℕ) → HoldsPlaced segment count placed b → All (λ p. All IsBatch (batches_of p)) placed

@@ -5,6 +5,7 @@ use Rattle.vdr_outside.specs.Causes.{NoneFalls}
 use Rattle.vdr_outside.specs.declared.fault.PartRefused.{PartRefused}
 use Rattle.vdr_outside.specs.declared.fault.PartRefused.TheVariants.{Fault}
 use Rattle.vdr_outside.proofs.Counts.{rose_after, none_falls_join}
+use Rattle.vdr_terms.proofs.Results.{same_err}
 use Rattle.vdr_ring.specs.Opening.{HasFaultCause}
 
 -- calls that succeeded, and then one more
@@ -17,10 +18,6 @@ fault_after m a b c r earlier h = record {
 -- an answer that is no fault
 pub no_fault : {T : Type 0} (m : ℕ) (a b : List ℕ) (r : Result T PartRefused) → NoneFalls a b → (IsErrOf r Fault → ⊥) → HasFaultCause m a b r
 no_fault m a b r later other = record { later = later; rose = λ is. absurd (other is) }
-
--- one error of two results
-pub same_err : {T U E : Type 0} (e f : E) → ◌≡◌ {A = Result T E} (Err e) (Err f) → ◌≡◌ {A = Result U E} (Err e) (Err f)
-same_err e f is = cc
 
 -- an error that is passed on
 pub fault_passed : {T U : Type 0} (m : ℕ) (a b : List ℕ) (e : PartRefused) (r : Result U PartRefused) → r ≡ Err e → HasFaultCause {T = T} m a b (Err e) → HasFaultCause m a b r

@@ -11,6 +11,7 @@ use Rattle.vdr_segment.specs.Segments.{Segment}
 use Rattle.vdr_slots.specs.Slots.{HoldsSlots, HoldsEither, slots_closed}
 use Rattle.vdr_retention.specs.Retention.{Pin}
 use Rattle.vdr_retention.proofs.Lists.{contains_here}
+use Rattle.vdr_terms.proofs.Somewhere.{any_here, any_there}
 use Rattle.vdr_ring.specs.declared.entry.Entry.{Entry}
 use Rattle.vdr_ring.specs.Sequence.{Placed, AreInSequence}
 use Rattle.vdr_ring.specs.Tables.{TableState, slot_of}
@@ -19,7 +20,8 @@ use Rattle.vdr_ring.specs.Stages.{IsVictim}
 use Rattle.vdr_ring.specs.Appends.{LeavesFree, IsFree}
 use Rattle.vdr_ring.proofs.Placing.{close_in_sequence}
 use Rattle.vdr_ring.proofs.Staging.{victim_split}
-use Rattle.vdr_ring.proofs.Telling.{any_here, any_there, described_length, IsAmong, described_among, least_closed, tells_closed}
+use Rattle.vdr_ring.proofs.Telling.{IsAmong, described_among, least_closed, tells_closed}
+use Rattle.vdr_ring.proofs.Filing.{described_length}
 
 pub holds_either : (segment count : ℕ) (slots slots' : List (Option Segment)) (placed placed' : List Placed) (b : List ℕ) → AreInSequence slots placed → AreInSequence slots' placed' → length slots ≡ count → length slots' ≡ count
     → HoldsEither segment slots slots' b → HoldsAny segment count (placed ∷ placed' ∷ []) b

@@ -56,7 +56,7 @@ below_more js n below = all_from (λ j. j < n + 1) (js ++ n ∷ []) (λ j m. ⊎
 below_still : (js : List ℕ) (n : ℕ) → All (λ j. j < n) js → All (λ j. j < n + 1) js
 below_still js n below = all_from (λ j. j < n + 1) js (λ j m. let lt : j < n = All-contains (λ i. i < n) js j below m in omega (arith, lt))
 
-slots_push : (es : List Entry) (e : Entry) → map slot_of (es ++ e ∷ []) ≡ map slot_of es ++ e.slot ∷ []
+pub slots_push : (es : List Entry) (e : Entry) → map slot_of (es ++ e ∷ []) ≡ map slot_of es ++ e.slot ∷ []
 slots_push [] e = refl
 slots_push (x ∷ es) e = ap (λ (js : List ℕ). x.slot ∷ js) (slots_push es e)
 

@@ -2,6 +2,7 @@
 use Rattle.std.proofs.Common.{◌≡◌, ◌<◌, ◌≤◌, ◌⊎◌, inl, inr, ⊎_elim, ℕ, zero, suc, ◌+◌, List, [], ◌∷◌, length, get_or, drop, Option, Some, None, refl, sym, ◌∙◌, ap, subst, arith}
 use Rattle.std.specs.Prelude.{◌↔◌, Any}
 use Rattle.std.proofs.Math.Seq.{drop-nil}
+use Rattle.vdr_terms.proofs.Somewhere.{any_cases, any_here, any_there, any_none}
 use Rattle.vdr_ring.specs.declared.entry.Entry.{Entry}
 use Rattle.vdr_ring.specs.Sequence.{Placed, first_of}
 use Rattle.vdr_ring.specs.Order.{next_place, RunsOn, AreInPlace, AreInOrder, HasPlace}
@@ -11,21 +12,8 @@ use Rattle.vdr_ring.proofs.Indexing.{lt_or_le}
 
 -- One segment and those behind it
 
-any_cases : {X : Type 0} (P : X → Type 0) (x : X) (xs : List X) → Any P (x ∷ xs) → P x ⊎ Any P xs
-any_cases P x xs (zero, y, within, at, h) = inl (subst P (sym at) h)
-any_cases P x xs (suc k, y, within, at, h) = inr (k, y, omega (arith, within), at, h)
-
-any_here : {X : Type 0} (P : X → Type 0) (x : X) (xs : List X) → P x → Any P (x ∷ xs)
-any_here P x xs h = (0, x, omega arith, refl, h)
-
-any_there : {X : Type 0} (P : X → Type 0) (x : X) (xs : List X) → Any P xs → Any P (x ∷ xs)
-any_there P x xs (k, y, within, at, h) = (suc k, y, omega (arith, within), at, h)
-
-none_in : {X : Type 0} (P : X → Type 0) → Any P [] → ⊥
-none_in P (k, y, within, at, h) = omega (arith, within)
-
 places_behind : (q : Placed) (ps : List Placed) (place : ℕ) → AreInPlace (Some q) ps → Any (HasPlace place) ps → next_place q ≤ place
-places_behind q [] place h any = absurd (none_in (HasPlace place) any)
+places_behind q [] place h any = absurd (any_none (HasPlace place) any)
 places_behind q (p ∷ ps) place h any =
     let a : next_place q ≤ first_of p = h.0.follows.place in
     ⊎_elim
@@ -141,4 +129,4 @@ none_past (p ∷ ps) (e ∷ es) (suc i) h past = none_past ps es i h.1 (omega (a
 pub left_done : (a place b : ℕ) (entries : List Entry) (i : ℕ) → place ≤ b → length entries ≤ i → HasLeft a place b entries i
     → (placed : List Placed) → Describe placed entries → AreInOrder placed → HoldAll a b placed → ⊥
 left_done a place b entries i le past left placed h order all =
-    none_in (HasPlace place) (subst (HoldAll place b) (none_past placed entries i h past) ((left placed h order).0 all) place (omega arith) le)
+    any_none (HasPlace place) (subst (HoldAll place b) (none_past placed entries i h past) ((left placed h order).0 all) place (omega arith) le)

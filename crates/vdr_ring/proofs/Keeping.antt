@@ -5,6 +5,7 @@ use Rattle.vdr_terms.specs.Records.{Record}
 use Rattle.vdr_terms.specs.Needs.{Sizes, cost, usable}
 use Rattle.vdr_outside.specs.Disk.{Disk}
 use Rattle.vdr_terms.specs.Sizes.{batch_size}
+use Rattle.vdr_terms.proofs.Somewhere.{any_cases, any_none}
 use Rattle.vdr_segment.specs.Batches.{IsBatch}
 use Rattle.vdr_retention.specs.Retention.{Pin, Retains}
 use Rattle.vdr_ring.specs.Sequence.{Placed, all_records, batches_in}
@@ -15,13 +16,6 @@ use Rattle.vdr_ring.specs.Regularity.{AreRegular, IsAllowed, MissOneAtMost}
 use Rattle.vdr_ring.specs.Keeping.{IsKept, HasKept}
 use Rattle.vdr_ring.proofs.Staging.{stages_in_order}
 use Rattle.vdr_ring.proofs.Beginning.{legal_batches}
-
-any_cases : {X : Type 0} (P : X → Type 0) (x : X) (xs : List X) → Any P (x ∷ xs) → P x ⊎ Any P xs
-any_cases P x xs (zero, y, lt, is, p) = inl (subst P (sym is) p)
-any_cases P x xs (suc k, y, lt, is, p) = inr (k, y, omega (arith, lt), is, p)
-
-no_any : {X : Type 0} (P : X → Type 0) → Any P [] → ⊥
-no_any P h = let lt = h.2 in omega (arith, lt)
 
 -- What each stage keeps of the batches and of the records.
 pub record Keeps (seconds : ℕ) (pins : List Pin) (placed : List Placed) (all records : List Record) (stages : Stages) : Type 0 where
@@ -43,7 +37,7 @@ module _ (size count seconds : ℕ) (pins : List Pin) (placed : List Placed) (al
       (λ (k : Holds stages.begun). record { now = stages.begun; holds = k; order = orders.1; whole = record { kept = stages.closed; missing = keeps.batches.0; batches = inl keeps.batches.1 }; retains = inl keeps.begun })
       (λ h. ⊎_elim
       (λ (k : Holds stages.done). record { now = stages.done; holds = k; order = orders.2; whole = record { kept = stages.closed; missing = keeps.batches.0; batches = inr keeps.batches.2 }; retains = inr keeps.done })
-      (λ h. absurd (no_any Holds h))
+      (λ h. absurd (any_none Holds h))
       (any_cases Holds stages.done [] h))
       (any_cases Holds stages.begun (stages.done ∷ []) h))
       (any_cases Holds stages.closed (stages.begun ∷ stages.done ∷ []) h))

@@ -32,7 +32,7 @@ use Rattle.vdr_ring.specs.Sequence.{Placed, batches_of, batches_in}
 use Rattle.vdr_ring.specs.Entries.{Describe}
 use Rattle.vdr_ring.specs.Candidates.{has_records}
 use Rattle.vdr_ring.specs.Rings.{RingState, HoldsPlaced, Reads}
-use Rattle.vdr_ring.specs.Cursors.{IsLoaded}
+use Rattle.vdr_ring.specs.Visits.{IsLoaded}
 use Rattle.vdr_ring.specs.Lasts.{batch_or_none, AreOfBatch, IsLastSlot}
 use Rattle.vdr_ring.proofs.Ends.{none_recorded}
 

@@ -16,7 +16,8 @@ use Rattle.vdr_ring.specs.Stages.{IsFull, IsOldest, IsVictim, IsNextSlot, next_s
 use Rattle.vdr_ring.specs.Appends.{HasRoomFor}
 use Rattle.vdr_ring.proofs.Ordering.{newest_runs_on}
 use Rattle.vdr_ring.proofs.Staging.{victim_split}
-use Rattle.vdr_ring.proofs.Telling.{last_at, described_length, IsAmong, described_among, IsNewest, described_newest}
+use Rattle.vdr_ring.proofs.Telling.{last_at, IsAmong, described_among, IsNewest, described_newest}
+use Rattle.vdr_ring.proofs.Filing.{described_length}
 
 pub last_read : {X : Type 0} (xs ys : List X) (x : X) → ys ≡ xs → Some x ≡ slice_get ys (length ys - 1) → last xs ≡ Some x
 last_read xs ys x e h = sym (h ∙ last_at ys ∙ ap last e)

@@ -4,11 +4,12 @@ use Rattle.std.proofs.lemmas.Option.{none-some, same_Some}
 use Rattle.std.proofs.lemmas.Grind.{flat_map-append}
 use Rattle.vdr_terms.specs.Records.{Record, last_after, last}
 use Rattle.vdr_terms.specs.Order.{RunOn, NeverFalls}
+use Rattle.vdr_terms.proofs.Running.{run_on_join}
 use Rattle.vdr_retention.proofs.Lists.{last_behind}
 use Rattle.vdr_ring.specs.Sequence.{Placed, seq_of, first_of, records_of, all_records}
 use Rattle.vdr_ring.specs.Order.{next_place, HasNone, RunsOn, Follows, MayFollow, MayPrecede, IsInPlace, AreInPlace, AreInOrder}
 use Rattle.vdr_ring.specs.Stages.{next_seq, new_segment, with_batch_in, next_of, tick_of, Continues}
-use Rattle.vdr_ring.proofs.Runs.{nil_right, positive_length, nil_from_last, last_behind_some, run_on_join, never_falls_less, never_falls_join, first_to_last, tick_behind, ticks_between}
+use Rattle.vdr_ring.proofs.Runs.{nil_right, positive_length, nil_from_last, last_behind_some, never_falls_less, never_falls_join, first_to_last, tick_behind, ticks_between}
 
 -- The newest segment has records.
 abbrev pub NewestHasRecords : List Placed → Type 0

@@ -6,6 +6,7 @@ use Rattle.std.proofs.lemmas.Option.{none-some}
 use Rattle.std.proofs.lemmas.Grind.{flat_map-append, reverse_onto}
 use Rattle.vdr_terms.specs.Records.{Record, second, last_after, last}
 use Rattle.vdr_terms.specs.Order.{RunOn}
+use Rattle.vdr_terms.proofs.Running.{last_of_run}
 use Rattle.vdr_retention.specs.Victims.{IsExtent, IsLastSecond}
 use Rattle.vdr_retention.proofs.Lists.{last_behind}
 use Rattle.vdr_survey.specs.declared.extent.Extent.{Extent}
@@ -176,10 +177,6 @@ found_in found there o is same = ap extent_in (sym is) ∙ ap (λ (r : Option (B
 
 -- What retention knows of a segment
 
-last_place : (place : ℕ) (r : Record) (rs : List Record) → RunOn place (r ∷ rs) → suc (last_after r rs).place ≡ place + length (r ∷ rs)
-last_place place r [] h = let a = h.0 in omega (arith, a)
-last_place place r (s ∷ rs) h = let a = last_place (suc place) s rs h.1 in omega (arith, a)
-
 known_by_records : (first : ℕ) (rs fs : List Record) → AreBoth rs fs → RunOn first rs → IsExtent (known_by first (extent_by rs fs)) rs
 known_by_records first [] [] h run = record { some = refl; places = tt; ends = omega arith; seconds = λ newest e. absurd (none-some newest e) }
 known_by_records first [] (f ∷ fs) h run = elim h [ ]
@@ -187,7 +184,7 @@ known_by_records first (r ∷ rs) [] h run = elim h [ ]
 known_by_records first (r ∷ rs) (f ∷ fs) h run = record {
   some = sym (lt-ltb 0 (length (r ∷ rs)) (omega arith));
   places = run;
-  ends = last_place first r rs run;
+  ends = last_of_run first r rs run;
   seconds = λ newest e. ap (λ (r : Record). second r.tick) (the_last newest e);
 }
   where

@@ -3,7 +3,8 @@ use Rattle.std.proofs.Common.{◌≡◌, ◌≢◌, ◌<◌, ◌≤◌, ◌+◌,
 use Rattle.std.proofs.lemmas.Option.{none-some, same_Some}
 use Rattle.vdr_terms.specs.Records.{Record, last_after, last}
 use Rattle.vdr_terms.specs.Order.{RunOn, NeverFalls}
-use Rattle.vdr_retention.proofs.Lists.{none_contained, contains_cases, last_behind}
+use Rattle.vdr_terms.proofs.Running.{run_on_join, never_falls_behind}
+use Rattle.vdr_retention.proofs.Lists.{none_contained, contains_cases, last_behind, ticks_from}
 use Rattle.vdr_ring.specs.Stages.{tick_of}
 
 -- Lists, empty and not
@@ -27,17 +28,9 @@ last_behind_some xs (y ∷ ys) some = last_behind xs y ys
 
 -- Joined
 
-pub run_on_join : (place : ℕ) (xs ys : List Record) → RunOn place xs → RunOn (place + length xs) ys → RunOn place (xs ++ ys)
-run_on_join place [] ys h k = subst (λ (n : ℕ). RunOn n ys) (add-zero place) k
-run_on_join place (x ∷ xs) ys h k = (h.0, run_on_join (suc place) xs ys h.1 (subst (λ (n : ℕ). RunOn n ys) (omega arith) k))
-
 pub never_falls_less : (from to : ℕ) (rs : List Record) → from ≤ to → NeverFalls to rs → NeverFalls from rs
 never_falls_less from to [] le h = tt
 never_falls_less from to (r ∷ rs) le h = let a = h.0 in (omega (arith, le, a), h.1)
-
-never_falls_behind : (x : Record) (xs ys : List Record) → NeverFalls x.tick xs → NeverFalls (last_after x xs).tick ys → NeverFalls x.tick (xs ++ ys)
-never_falls_behind x [] ys h k = k
-never_falls_behind x (z ∷ xs) ys h k = (h.0, never_falls_behind z xs ys h.1 k)
 
 pub never_falls_join : (from : ℕ) (xs ys : List Record) → NeverFalls from xs → (xs ≡ [] → NeverFalls from ys) → NeverFalls (tick_of (last xs)) ys → NeverFalls from (xs ++ ys)
 never_falls_join from [] ys h none k = none refl
@@ -50,14 +43,6 @@ pub after_last : (place : ℕ) (rs : List Record) (r : Record) → RunOn place r
 after_last place [] r h e = absurd (none-some r e)
 after_last place (x ∷ []) r h e = let a = h.0 in let b = ap (λ (r : Record). r.place) (same_Some x r e) in omega (arith, a, b)
 after_last place (x ∷ y ∷ ys) r h e = let a = after_last (suc place) (y ∷ ys) r h.1 e in omega (arith, a)
-
-pub ticks_from : (from : ℕ) (rs : List Record) (r : Record) → NeverFalls from rs → Contains rs r → from ≤ r.tick
-ticks_from from [] r h m = absurd (none_contained r m)
-ticks_from from (x ∷ xs) r h m =
-    ⊎_elim
-    (λ (e : x ≡ r). let a = h.0 in let b = ap (λ (r : Record). r.tick) e in let c : from ≤ r.tick = omega (arith, a, b) in c)
-    (λ (k : Contains xs r). let a = h.0 in let b = ticks_from x.tick xs r h.1 k in let c : from ≤ r.tick = omega (arith, a, b) in c)
-    (contains_cases x xs r m)
 
 pub first_to_last : (x : Record) (xs : List Record) → NeverFalls x.tick xs → x.tick ≤ (last_after x xs).tick
 first_to_last x [] h = omega arith

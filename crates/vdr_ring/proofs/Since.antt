@@ -7,6 +7,7 @@ use Rattle.std.proofs.lemmas.List.Elements.{All-append, All-cons, All-head, All-
 use Rattle.vdr_terms.specs.Order.{NeverFalls}
 use Rattle.vdr_terms.specs.Records.{Record, last, second}
 use Rattle.vdr_retention.proofs.Lists.{last_contained}
+use Rattle.vdr_retention.proofs.Retained.{second_rises}
 use Rattle.vdr_survey.specs.declared.extent.Extent.{Extent}
 use Rattle.vdr_ring.specs.declared.entry.Entry.{Entry}
 use Rattle.vdr_ring.specs.Sequence.{Placed, all_records, batches_of, records_of}
@@ -25,9 +26,6 @@ no_later from (x ∷ y ∷ ys) r h is =
     let most = All-head (λ z. z.tick ≤ r.tick) y ys rest in
     All-cons (λ z. z.tick ≤ r.tick) x (y ∷ ys) (omega (arith, next, most)) rest
 
-seconds_rise : (a b : ℕ) → a ≤ b → second a ≤ second b
-seconds_rise a b le = omega (arith, le)
-
 module _ (s : ℕ) (p : Placed) (e : Entry) (h : Describes p e) where
   newest : (x : Extent) → e.survey.extent ≡ Some x → Newest (last (records_of p)) x
   newest x is = newest_recorded _ _ _ x (sym h.survey.extent ∙ is)
@@ -41,7 +39,7 @@ module _ (s : ℕ) (p : Placed) (e : Entry) (h : Describes p e) where
           let n = newest x is in
           let below = leb-false s (second x.last_tick) miss in
           let same = n.tick in
-          All-weaker (λ r. r.tick ≤ n.r.tick) (λ r. second r.tick < s) (λ r le. let up = seconds_rise r.tick n.r.tick le in omega (arith, up, below, same)) (records_of p) (no_later 0 (records_of p) n.r runs.ticks n.is)
+          All-weaker (λ r. r.tick ≤ n.r.tick) (λ r. second r.tick < s) (λ r le. let up = second_rises r.tick n.r.tick le in omega (arith, up, below, same)) (records_of p) (no_later 0 (records_of p) n.r runs.ticks n.is)
 
   later_in : reaches s e ≡ true → Any (λ r. s ≤ second r.tick) (records_of p)
   later_in hit = go e.survey.extent refl hit

@@ -5,6 +5,7 @@ use Rattle.std.proofs.lemmas.List.Elements.{All-append, All-cons, All-nil, All-h
 use Rattle.vdr_index.specs.declared.known.Known.{Known}
 use Rattle.vdr_ring.specs.declared.entry.Entry.{Entry}
 use Rattle.vdr_ring.specs.Tables.{AreEntries, slot_of}
+use Rattle.vdr_ring.proofs.FrontLemmas.{slots_push}
 
 -- The entries are those of the open segments, and behind them those of these slots.
 pub record Filled (opened entries : List Entry) (slots : List ℕ) : Type 0 where
@@ -14,10 +15,6 @@ pub record Filled (opened entries : List Entry) (slots : List ℕ) : Type 0 wher
 
 pub filled_none : (opened : List Entry) → Filled opened opened []
 filled_none opened = record { rest = []; are = sym (append-nil opened); slots_are = refl }
-
-slots_push : (es : List Entry) (e : Entry) → map slot_of (es ++ e ∷ []) ≡ map slot_of es ++ e.slot ∷ []
-slots_push [] e = refl
-slots_push (x ∷ es) e = ap (λ (js : List ℕ). x.slot ∷ js) (slots_push es e)
 
 pub filled_more : (opened entries new : List Entry) (slots more : List ℕ) (e : Entry) → new ≡ entries ++ e ∷ [] → more ≡ slots ++ e.slot ∷ [] → Filled opened entries slots → Filled opened new more
 filled_more opened entries new slots more e pushed is h = record {

@@ -7,6 +7,7 @@ use Rattle.std.proofs.lemmas.List.{length_push}
 use Rattle.std.proofs.lemmas.List.Edits.{length-remove}
 use Rattle.std.proofs.lemmas.List.Elements.{All-nil, All-cons, All-contains, All-append, All-push, Contains-append_left, Contains-append_right, Contains-append_cases}
 use Rattle.vdr_terms.specs.Records.{Record, last_after, last}
+use Rattle.vdr_terms.proofs.Somewhere.{any_here, any_there}
 use Rattle.vdr_retention.proofs.Lists.{none_contained, contains_here, contains_there, contains_cases, last_behind, all_from}
 use Rattle.vdr_segment.specs.Segments.{Segment}
 use Rattle.vdr_survey.specs.declared.extent.Survey.{Survey}
@@ -19,7 +20,7 @@ use Rattle.vdr_ring.specs.Rings.{Ascends, Tells}
 use Rattle.vdr_ring.specs.Stages.{IsLeastClosed, new_segment, with_batch_in}
 use Rattle.vdr_ring.specs.Indexed.{known_by, told_by}
 use Rattle.vdr_ring.proofs.Placing.{distinct_slots}
-use Rattle.vdr_ring.proofs.Filing.{indexed_closed, indexed_begun, indexed_newest, known_as}
+use Rattle.vdr_ring.proofs.Filing.{indexed_closed, indexed_begun, indexed_newest, known_as, described_length}
 
 -- Lists
 
@@ -47,12 +48,6 @@ ends_with [] x h = absurd (none-some x h)
 ends_with (y ∷ []) x h = record { older = []; split = ap (λ z. z ∷ []) (same_Some y x h) }
 ends_with (y ∷ z ∷ zs) x h = let k = ends_with (z ∷ zs) x h in record { older = y ∷ k.older; split = ap (λ l. y ∷ l) k.split }
 
-pub any_here : {X : Type 0} (P : X → Type 0) (x : X) (xs : List X) → P x → Any P (x ∷ xs)
-any_here P x xs p = (0, x, omega arith, refl, p)
-
-pub any_there : {X : Type 0} (P : X → Type 0) (x : X) (xs : List X) → Any P xs → Any P (x ∷ xs)
-any_there P x xs h = let lt = h.2 in (suc h.0, h.1, omega (arith, lt), h.3, h.4)
-
 pub any_or_none : (ps : List Placed) (j : ℕ) → Any (λ p. p.slot ≡ j) ps ⊎ All (λ p. p.slot ≢ j) ps
 any_or_none [] j = inr (All-nil (λ p. p.slot ≢ j))
 any_or_none (p ∷ ps) j =
@@ -65,12 +60,6 @@ any_or_none (p ∷ ps) j =
     (cases_eq p.slot j)
 
 -- Entries and the segments that they describe
-
-pub described_length : (ps : List Placed) (es : List Entry) → Describe ps es → length ps ≡ length es
-described_length [] [] h = refl
-described_length [] (e ∷ es) h = absurd h
-described_length (p ∷ ps) [] h = absurd h
-described_length (p ∷ ps) (e ∷ es) h = let k = described_length ps es h.1 in omega (arith, k)
 
 pub described_push : (ps : List Placed) (es : List Entry) (p : Placed) (e : Entry) → Describe ps es → Describes p e → Describe (ps ++ p ∷ []) (es ++ e ∷ [])
 described_push [] [] p e h d = (d, tt)

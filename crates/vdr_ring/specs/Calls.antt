@@ -13,7 +13,7 @@ use Rattle.vdr_slots.specs.Slots.{place_of}
 use Rattle.vdr_survey.specs.declared.selection.Selection.{Selection}
 use Rattle.vdr_ring.specs.Sequence.{Placed, batches_in}
 use Rattle.vdr_ring.specs.Rings.{HasMedium, Reads, RingState}
-use Rattle.vdr_ring.specs.Cursors.{AreAhead, CursorState, IsLoaded, StandsIn, Steps, Visits, slot_read}
+use Rattle.vdr_ring.specs.Visits.{AreAhead, VisitState, IsLoaded, StandsIn, Steps, Visits, slot_read}
 use Rattle.vdr_ring.specs.Fronts.{BreaksIn}
 use Rattle.vdr_ring.specs.Lasts.{batch_or_none}
 use Rattle.vdr_ring.specs.declared.refused.ReadRefused.{ReadRefused}
@@ -32,9 +32,9 @@ pub record OnlyReads {M : Type 0} (media : MediaTells M) (old new : RingState) (
   -- nothing was written
   pub unchanged : Unchanged (media.disk before) (media.disk after)
 
--- A step of a cursor to the next record of a slot that is selected.
-pub record StepsInSlot {M : Type 0} (media : MediaTells M) (selection : Selection) (slot : ℕ) (old new : RingState) (from to : CursorState) (before : M) (result : Result Bool ReadRefused) : Type 0 where
-  -- the cursor may go on from there
+-- A step of a visit to the next record of a slot that is selected.
+pub record StepsInSlot {M : Type 0} (media : MediaTells M) (selection : Selection) (slot : ℕ) (old new : RingState) (from to : VisitState) (before : M) (result : Result Bool ReadRefused) : Type 0 where
+  -- the visit may go on from there
   pub stands : StandsIn new to
   -- it has a record exactly where one was found
   pub item : to.item ≢ None ↔ (result ≡ Ok true)

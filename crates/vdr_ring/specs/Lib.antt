@@ -13,6 +13,6 @@ pub mod Regularity
 pub mod Keeping
 pub mod Opening
 pub mod Fronts
-pub mod Cursors
+pub mod Visits
 pub mod Lasts
 pub mod Calls

@@ -4,7 +4,8 @@ use Rattle.vdr_outside.specs.Disk.{Disk, content}
 use Rattle.vdr_outside.specs.Moments.{Settled}
 use Rattle.vdr_outside.specs.Parts.{part}
 use Rattle.vdr_segment.specs.Segments.{Segment}
-use Rattle.vdr_slots.specs.Slots.{HoldsSlots, slots_from, place_of}
+use Rattle.vdr_terms.specs.Slots.{slots_from}
+use Rattle.vdr_slots.specs.Slots.{HoldsSlots, place_of}
 use Rattle.vdr_ring.specs.Sequence.{Placed, AreInSequence}
 use Rattle.vdr_ring.specs.Order.{AreInOrder}
 use Rattle.vdr_ring.specs.Tables.{TableState}

@@ -4,7 +4,6 @@
 mod append;
 mod appending;
 mod choice;
-mod cursor;
 mod entry;
 mod fronts;
 mod known;
@@ -21,9 +20,10 @@ mod refused;
 mod ring;
 mod surveys;
 mod table;
+mod visit;
 
-pub use cursor::Cursor;
 pub use law::{law_of_opening, law_of_stages};
 pub use pins::Pins;
 pub use refused::ReadRefused;
 pub use ring::Ring;
+pub use visit::Visit;

@@ -19,12 +19,7 @@ use std::alloc::Global;
 use vdr_config::Config;
 use vdr_outside::{Media, PartRefused};
 use vdr_slots::Area;
-
-// The superblock and the table of incident saves stand before the first slot.
-const SLOTS_FROM: u64 = 32_768;
-
-// No more slots than these are used.
-const MOST_SLOTS: u64 = 1_000_000;
+use vdr_terms::slot_count;
 
 // The slots of medium m, of so many bytes.
 fn area_of(config: &Config, m: u8, size: u64) -> Area
@@ -33,11 +28,10 @@ fn area_of(config: &Config, m: u8, size: u64) -> Area
     ensures slots { result.slots ≡ slots_in (sizes_of config.now) size }
     ensures room { 32768 ≤ size → 32768 + result.slots * result.segment ≤ size }
 {
-    let slots = (size.saturating_sub(SLOTS_FROM) / config.segment as u64).min(MOST_SLOTS);
     Area {
         medium: m,
         segment: config.segment,
-        slots: slots as u32,
+        slots: slot_count(config.segment, size),
     }
 }
 

@@ -5,12 +5,12 @@ ghost use Rattle.vdr_segment.specs.Gates.{IsOpenAt};
 ghost use Rattle.vdr_slots.specs.Slots.{place_of};
 ghost use Rattle.vdr_survey.specs.Positions.{IsAt};
 ghost use Rattle.vdr_ring.specs.Rings.{HasMedium};
-ghost use Rattle.vdr_ring.specs.Cursors.{StandsIn, IsLoaded, position_in, Steps};
+ghost use Rattle.vdr_ring.specs.Visits.{StandsIn, IsLoaded, position_in, Steps};
 ghost use Rattle.vdr_ring.specs.Calls.{OnlyReads, ReadsUnlessLoaded, StepsInSlot};
 ghost use Rattle.vdr_ring.specs.declared.refused.ReadRefused.TheVariants.{Fault as AFault, Damaged};
 
-use crate::cursor::stands_in;
-use crate::{Cursor, ReadRefused, Ring};
+use crate::visit::stands_in;
+use crate::{ReadRefused, Ring, Visit};
 use vdr_outside::{Fault, Media};
 use vdr_segment::OPEN_GATE;
 use vdr_slots::read_slot;
@@ -47,9 +47,9 @@ impl Ring {
         self.buffer[0] == OPEN_GATE
     }
 
-    // Where a step in the slot that is loaded begins. None where the cursor doesn't stand in it, as it may be where the slot was
+    // Where a step in the slot that is loaded begins. None where the visit doesn't stand in it, as it may be where the slot was
     // read again.
-    fn start(&self, slot: u32, visit: &Cursor, held: bool) -> Option<Position>
+    fn start(&self, slot: u32, visit: &Visit, held: bool) -> Option<Position>
         requires loaded { self.now.loaded ≡ Some slot }
         requires stands { IsTrue held → StandsIn self.now visit.now }
         ensures some { IfSome result (λ position. (position ≡ position_in slot visit.now) × IsAt self.now.buffer position) }
@@ -72,11 +72,11 @@ impl Ring {
         }
     }
 
-    // A step of a cursor that has no record, in the slot that is loaded.
+    // A step of a visit that has no record, in the slot that is loaded.
     fn step_in(
         &mut self,
         slot: u32,
-        visit: &mut Cursor,
+        visit: &mut Visit,
         selection: &Selection,
         held: bool,
     ) -> Result<bool, ReadRefused>
@@ -105,21 +105,21 @@ impl Ring {
     }
 
     /// Steps to the next record of the segment in a slot that is selected. False exactly where no further one is there, as in a slot
-    /// that is closed, after which the cursor stands in none. A cursor that is new begins at the first record of the slot, and so
+    /// that is closed, after which the visit stands in none. A visit that is new begins at the first record of the slot, and so
     /// does one that stands in another slot. The slot is read whole where the last step was in another one, or an `append` came
     /// since; else nothing is read. Of a record that is not selected only the head is looked at. It takes no memory.
     ///
-    /// The cursor is new, or its last step was by this ring and no other cursor's came since (`stands`): then it may go on in
+    /// The visit is new, or its last step was by this ring and no other visit's came since (`stands`): then it may go on in
     /// the buffer without a look at what is behind it.
     ///
     /// `Damaged` names the medium and where a batch begins, in bytes, exactly where that batch is not legal and no record before it is
-    /// selected. Where the bytes have changed so that no record begins where the cursor stands, it names the slot. `Fault`: the read failed. Where a
-    /// step is refused, the cursor stays where it is, without a record.
+    /// selected. Where the bytes have changed so that no record begins where the visit stands, it names the slot. `Fault`: the read failed. Where a
+    /// step is refused, the visit stays where it is, without a record.
     pub fn read_span<M: Media>(
         &mut self,
         media: &mut M,
         slot: u32,
-        visit: &mut Cursor,
+        visit: &mut Visit,
         selection: &Selection,
     ) -> Result<bool, ReadRefused>
         requires room { HasMedium self.old (M.disk media.old).sizes }

@@ -48,7 +48,7 @@ characters_of_body content high low sum digits h =
     ∙ (λ i. h i && each_passes is_body_character (42 ∷ high ∷ low ∷ []))
     ∙ both_true (is_body_character high (low ∷ [])) (is_body_character low []) (hex_is_character high (low ∷ []) hex.first) (hex_is_character low [] hex.second)
 
-take_one_more : (n b : ℕ) (bytes : List ℕ) → take (1 + n) (b ∷ bytes) ≡ b ∷ take n bytes
+pub take_one_more : (n b : ℕ) (bytes : List ℕ) → take (1 + n) (b ∷ bytes) ≡ b ∷ take n bytes
 take_one_more n b bytes = let e : 1 + n ≡ suc n = omega arith in rw e refl
 
 -- The address ends before the checksum field.

@@ -1,7 +1,7 @@
 -- What bytes read as, against what a sentence is.
 use Rattle.std.proofs.Common.{◌≡◌, ◌++◌, ◌∙◌, ◌-◌, ◌+◌, ◌≤◌, ◌<◌, ℕ, suc, Bool, true, false, cond, not, ◌&&◌, ◌||◌, List, [], ◌∷◌, length, take, get_or, Option, Some, None, Ok, Err, refl, sym, ap, subst, arith, length-append, eqb, ltb}
 use Rattle.std.specs.Option.{option_or}
-use Rattle.std.proofs.lemmas.Bool.{not-false, le-ltb, ltb-false, eqb-true, eq-eqb}
+use Rattle.std.proofs.lemmas.Bool.{not-false, le-ltb, ltb-false, eqb-true, eq-eqb, and_parts, or_parts}
 use Rattle.std.proofs.lemmas.List.{take-append-drop, drop_more, at_drop_all, get_or-append-add}
 use Rattle.std.proofs.Math.Seq.{take-append_seam, get_or-append_seam}
 use Rattle.vdr_digits.specs.Checksum.{checksum, written, covered}
@@ -19,14 +19,6 @@ pub row_none : {X : Type 0} (t : Bool) (bad : X) (others : Option X) → cond t 
 row_none true bad others h = absurd (cc)
 row_none false bad others h = (refl, h)
 
-or_false : (a b : Bool) → (a || b) ≡ false → (a ≡ false) × (b ≡ false)
-or_false true b h = absurd (cc)
-or_false false b h = (refl, h)
-
-and_true : (a b : Bool) → (a && b) ≡ true → (a ≡ true) × (b ≡ true)
-and_true true b h = (refl, h)
-and_true false b h = absurd (cc)
-
 -- What no refusal by the frame says.
 pub record IsFramed (bytes : List ℕ) : Type 0 where
   pub begins : is_start (get_or bytes 0 0) ≡ true
@@ -38,7 +30,7 @@ unfolding frame_refusal
 IsFramed-from_refusal bytes h =
     let start = row_none (not (is_start (get_or bytes 0 0))) Start _ h in
     let line = row_none (ltb 82 (length bytes) || not (ends_line bytes)) Length _ start.1 in
-    record { begins = not-false (is_start (get_or bytes 0 0)) start.0; short = ltb-false 82 (length bytes) (or_false _ _ line.0).0; line = not-false (ends_line bytes) (or_false _ _ line.0).1 }
+    record { begins = not-false (is_start (get_or bytes 0 0)) start.0; short = ltb-false 82 (length bytes) (or_parts _ _ line.0).0; line = not-false (ends_line bytes) (or_parts _ _ line.0).1 }
 
 frame_refusal-none : (bytes : List ℕ) → IsFramed bytes → frame_refusal bytes ≡ None
 unfolding frame_refusal
@@ -68,7 +60,7 @@ spelled-from_framed (s ∷ x ∷ y ∷ rest) h =
     let cr : length (s ∷ x ∷ y ∷ rest) - 2 ≡ suc (length rest) = omega arith in
     let lf : length (s ∷ x ∷ y ∷ rest) - 1 ≡ suc (length rest + 1) = omega arith in
     let inner : List ℕ = x ∷ y ∷ rest in
-    let line = and_true (eqb (get_or inner (length rest) 0) 13) (eqb (get_or inner (length rest + 1) 0) 10) (rw (cr, lf) at h.line) in
+    let line = and_parts (eqb (get_or inner (length rest) 0) 13) (eqb (get_or inner (length rest + 1) 0) 10) (rw (cr, lf) at h.line) in
     let two : length inner ≡ length rest + 2 = omega arith in
     rw n (ap (λ xs. s ∷ xs) (last_two inner (length rest) two
     ∙ (λ i. take (length rest) inner ++ eqb-true (get_or inner (length rest) 0) 13 line.0 i ∷ eqb-true (get_or inner (length rest + 1) 0) 10 line.1 i ∷ [])))

@@ -32,8 +32,8 @@ use Rattle.vdr_capture.specs.declared.sums.Outcome.{Outcome}
 use Rattle.vdr_capture.specs.declared.sums.Outcome.TheVariants.{Done, MediaFault}
 use Rattle.vdr_capture.specs.Gives.{EndsBy}
 use Rattle.vdr_vault.specs.Calls.{SameElsewhere}
-use Rattle.vdr_recorder.specs.Making.{CountsItems, counted_of}
-use Rattle.vdr_recorder.specs.Recordings.{HasDone, HasRecorded, RecordingState}
+use Rattle.vdr_run.specs.Making.{CountsItems, counted_of}
+use Rattle.vdr_recorder.specs.Recordings.{HasDone, HasRecorded, RecorderState}
 use Rattle.vdr_session.specs.declared.mark.Mark.{Mark}
 use Rattle.vdr_session.specs.declared.records.Began.{Began}
 use Rattle.vdr_session.specs.declared.records.Began.TheVariants.{Begun, Place, Tick, Fault}
@@ -106,20 +106,20 @@ quiet_rest configured g (Some queue) None lane rest met is none = absurd met
 quiet_rest configured g (Some queue) (Some taker) lane rest met is none = absurd (true≢false (sym met.known ∙ none))
 
 module _ {P : Type 0} (port_tells : PortTells P) {tells tells_images : Type 0} (turns : ℕ) (queues : List (Option QueueId)) (first last : List (Option Taking)) (old new : List (Lane P)) (before : Before) (opened : Opening → ℕ → Type 0)
-    (rates : List (Option Rate)) (room : ℕ) (sizes faults : List ℕ) (marks : List Mark) (began : Began) (r : RecordingState) (disk : Disk tells tells_images) (now : List ℕ)
+    (rates : List (Option Rate)) (room : ℕ) (sizes faults : List ℕ) (marks : List Mark) (began : Began) (r : RecorderState) (disk : Disk tells tells_images) (now : List ℕ)
     (k : IsKept before opened rates room sizes faults marks r disk now) (h : HasClosed port_tells turns (λ g. is_configured (limits_in rates g)) queues first last old new began marks)
     (means : tells → (opening : Opening) (t0 : ℕ) → opened opening t0 → StartMeans opening began) (beside : Began → List Mark → Type 0) (besides : beside began marks) where
-  failed_by : has_fault marks ≡ true → r.members.failed ≡ true
-  failed_by fault = by (cases_Bool r.members.failed)
+  failed_by : has_fault marks ≡ true → r.vault.failed ≡ true
+  failed_by fault = by (cases_Bool r.vault.failed)
     where
-      by : (r.members.failed ≡ true) ⊎ (r.members.failed ≡ false) → r.members.failed ≡ true
+      by : (r.vault.failed ≡ true) ⊎ (r.vault.failed ≡ false) → r.vault.failed ≡ true
       by (inl fails) = fails
       by (inr works) = absurd (true≢false (sym fault ∙ no_fault marks (k.stage.whole works)))
 
-  session_ends : (outcome : Outcome) (opening : Opening) (t0 : ℕ) (rest : ℕ → Counts) (after : RecordingState) (end : Disk tells tells_images) → after ≡ r → end ≡ disk → HasSession before opening marks t0 r disk → (outcome ≡ Done → ⊥) → (has_fault marks ≡ false) ⊎ (outcome ≡ MediaFault)
+  session_ends : (outcome : Outcome) (opening : Opening) (t0 : ℕ) (rest : ℕ → Counts) (after : RecorderState) (end : Disk tells tells_images) → after ≡ r → end ≡ disk → HasSession before opening marks t0 r disk → (outcome ≡ Done → ⊥) → (has_fault marks ≡ false) ⊎ (outcome ≡ MediaFault)
       → EndsRun before opening marks t0 rest outcome after end
   session_ends outcome opening t0 rest after end same still s never pending =
-      subst (λ (x : RecordingState × Disk tells tells_images). EndsRun before opening marks t0 rest outcome x.0 x.1) (λ i. (sym same i, sym still i))
+      subst (λ (x : RecorderState × Disk tells tells_images). EndsRun before opening marks t0 rest outcome x.0 x.1) (λ i. (sym same i, sym still i))
       (record { events = events_of opening marks; behind = []; front = sym (append-nil (events_of opening marks)); has = s.has; passes = s.passes; pending = whole_or pending; records = inl s.made; closed = λ e. absurd (never e) })
     where
       whole_or : (has_fault marks ≡ false) ⊎ (outcome ≡ MediaFault) → IsWhole (events_of opening marks) ⊎ (outcome ≡ MediaFault)
@@ -171,7 +171,7 @@ module _ {P : Type 0} (port_tells : PortTells P) {tells tells_images : Type 0} (
     pub stop_place : r.maker.place + 17 < 2 ^ 63
     stop_place = let place = stage.1.place in let few = all_few in omega (arith, place, few)
 
-    pub stop_quiet : (g : ℕ) → is_configured (limits_in r.members.config.groups g) ≡ false → total (rest g) ≡ 0
+    pub stop_quiet : (g : ℕ) → is_configured (limits_in r.vault.config.groups g) ≡ false → total (rest g) ≡ 0
     stop_quiet g none = ⊎_elim
         (λ (small : g < 16). quiet_rest (λ g. is_configured (limits_in rates g)) g (get_or queues g None) (get_or last g None) (get_or new g lane) (rest g) (ran.met g small) (missed.each g lane small)
         (ap (λ (rs : List (Option Rate)). is_configured (limits_in rs g)) (sym k.rates_are) ∙ none))
@@ -187,15 +187,15 @@ module _ {P : Type 0} (port_tells : PortTells P) {tells tells_images : Type 0} (
         let counts = rest_few port_tells turns g (get_or queues g None) (get_or last g None) (get_or old g lane) (get_or new g lane) (rest g) (ran.lanes g lane small) (missed.each g lane small) in
         omega (arith, number, few, parts, counts, turns_few)
 
-    works_here : r.members.failed ≡ false → has_fault marks ≡ false
+    works_here : r.vault.failed ≡ false → has_fault marks ≡ false
     works_here works = no_fault marks (k.stage.whole works)
 
     -- What a stop leaves.
-    module _ (after : RecordingState) (end : Disk tells tells_images) (later : List ℕ) (still : end.sizes ≡ disk.sizes) (elsewhere : tells → SameElsewhere disk.reads end.reads) (falls : NoneFalls now later)
-        (stopped : (opening : Opening) (events : List Event) (t0 : ℕ) → tells → r.members.failed ≡ false → HasRecorded opening events t0 r disk
+    module _ (after : RecorderState) (end : Disk tells tells_images) (later : List ℕ) (still : end.sizes ≡ disk.sizes) (elsewhere : tells → SameElsewhere disk.reads end.reads) (falls : NoneFalls now later)
+        (stopped : (opening : Opening) (events : List Event) (t0 : ℕ) → tells → r.vault.failed ≡ false → HasRecorded opening events t0 r disk
         → HasDone opening events t0 (Commit (closing (state_left opening events).start (recorder_in (state_left opening events)) rest) []) after disk end)
         (counted : (start : RunStart) (popped : List Captured) → CountsItems start popped r.maker → CountsItems start popped after.maker) where
-      closes : (outcome : Outcome) → (after.members.failed ≡ false) ⊎ (outcome ≡ MediaFault) → r.members.failed ≡ false → (opening : Opening) (t0 : ℕ) → tells → HasSession before opening marks t0 r disk → EndsRun before opening marks t0 rest outcome after end
+      closes : (outcome : Outcome) → (after.vault.failed ≡ false) ⊎ (outcome ≡ MediaFault) → r.vault.failed ≡ false → (opening : Opening) (t0 : ℕ) → tells → HasSession before opening marks t0 r disk → EndsRun before opening marks t0 rest outcome after end
       closes outcome goes works opening t0 told s =
           let run = closes_session before opening marks t0 rest r after disk end s works ran.begun (sym (begun_whole marks (k.stage.whole works)) ∙ ran.begun) (stopped opening (events_of opening marks) t0 told works s.has) in
           let at_ = s.begun works ran.begun in
@@ -206,12 +206,12 @@ module _ {P : Type 0} (port_tells : PortTells P) {tells tells_images : Type 0} (
             front = refl;
             has = run.has;
             passes = run.passes;
-            pending = ⊎_elim (λ (on : after.members.failed ≡ false). inl ((whole_has_not_failed (events_of opening marks ++ run.event ∷ [])).1 (sym run.has.failed ∙ on))) (λ (e : outcome ≡ MediaFault). inr e) goes;
+            pending = ⊎_elim (λ (on : after.vault.failed ≡ false). inl ((whole_has_not_failed (events_of opening marks ++ run.event ∷ [])).1 (sym run.has.failed ∙ on))) (λ (e : outcome ≡ MediaFault). inr e) goes;
             records = inr (run.made, ran.begun, works_here works);
             closed = λ _. (run.made, counted (start_of opening) (taken_in marks) (subst (λ (x : RunStart × List Captured). CountsItems x.0 x.1 r.maker) (λ i. (at_.0 i, at_.1 i)) makes.counts));
           }
 
-      ends_as : (outcome : Outcome) → (outcome ≡ Done) ⊎ (outcome ≡ MediaFault) → (outcome ≡ Done → (r.members.failed ≡ false) × (after.members.failed ≡ false)) → (outcome ≡ MediaFault → (r.members.failed ≡ true) ⊎ Rose (sum now) (sum later))
+      ends_as : (outcome : Outcome) → (outcome ≡ Done) ⊎ (outcome ≡ MediaFault) → (outcome ≡ Done → (r.vault.failed ≡ false) × (after.vault.failed ≡ false)) → (outcome ≡ MediaFault → (r.vault.failed ≡ true) ⊎ Rose (sum now) (sum later))
           → (tells → (opening : Opening) (t0 : ℕ) → HasSession before opening marks t0 r disk → EndsRun before opening marks t0 rest outcome after end)
           → HasEnded port_tells turns (λ g. is_configured (limits_in rates g)) queues first last old new before opened sizes faults beside outcome after end later
       ends_as outcome told_as works cause run = record {
@@ -227,7 +227,7 @@ module _ {P : Type 0} (port_tells : PortTells P) {tells tells_images : Type 0} (
         works = λ e. (works_here (works e).0, (works e).1);
         later = none_falls_join faults now later k.later falls;
         rose = λ e. ⊎_elim
-            (λ (had : r.members.failed ≡ true). let more = sum_not_less now later falls.same_media falls.none_falls in let rose = k.rose had in omega (arith, more, rose))
+            (λ (had : r.vault.failed ≡ true). let more = sum_not_less now later falls.same_media falls.none_falls in let rose = k.rose had in omega (arith, more, rose))
             (λ (rose : Rose (sum now) (sum later)). rose_after (sum faults) (sum now) (sum later) (sum_not_less faults now k.later.same_media k.later.none_falls) rose)
             (cause e);
         sizes_are = still ∙ k.sizes_are;
@@ -236,15 +236,15 @@ module _ {P : Type 0} (port_tells : PortTells P) {tells tells_images : Type 0} (
       }
 
       -- The run was closed.
-      pub done_ends : r.members.failed ≡ false → after.members.failed ≡ false
+      pub done_ends : r.vault.failed ≡ false → after.vault.failed ≡ false
           → HasEnded port_tells turns (λ g. is_configured (limits_in rates g)) queues first last old new before opened sizes faults beside Done after end later
       done_ends works goes = ends_as Done (inl refl) (λ _. (works, goes)) (λ e. absurd (done_is_no_fault e)) (λ told opening t0 s. closes Done (inl goes) works opening t0 told s)
 
       -- The media failed, before or in the close.
-      pub fault_ends : (r.members.failed ≡ true → (after ≡ r) × (end ≡ disk)) → (r.members.failed ≡ true) ⊎ Rose (sum now) (sum later)
+      pub fault_ends : (r.vault.failed ≡ true → (after ≡ r) × (end ≡ disk)) → (r.vault.failed ≡ true) ⊎ Rose (sum now) (sum later)
           → HasEnded port_tells turns (λ g. is_configured (limits_in rates g)) queues first last old new before opened sizes faults beside MediaFault after end later
       fault_ends same cause = ends_as MediaFault (inr refl) (λ e. absurd (fault_is_not_done e)) (λ _. cause)
           (λ told opening t0 s. ⊎_elim
-          (λ (fails : r.members.failed ≡ true). session_ends MediaFault opening t0 rest after end (same fails).0 (same fails).1 s fault_is_not_done (inr refl))
-          (λ (works : r.members.failed ≡ false). closes MediaFault (inr refl) works opening t0 told s)
-          (cases_Bool r.members.failed))
+          (λ (fails : r.vault.failed ≡ true). session_ends MediaFault opening t0 rest after end (same fails).0 (same fails).1 s fault_is_not_done (inr refl))
+          (λ (works : r.vault.failed ≡ false). closes MediaFault (inr refl) works opening t0 told s)
+          (cases_Bool r.vault.failed))

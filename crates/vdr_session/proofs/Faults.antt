@@ -1,8 +1,9 @@
 -- Which turns met a fault.
 use Rattle.std.proofs.Common.{◌≡◌, ◌≢◌, ◌⊎◌, inl, inr, ◌++◌, ◌||◌, ℕ, Bool, true, false, true≢false, List, [], ◌∷◌, All, Option, Some, None, filter, is_some, not, refl, sym, ap, ◌∙◌}
 use Rattle.std.proofs.lemmas.Bool.{cases_Bool, cond-false, cond-true}
-use Rattle.std.proofs.lemmas.List.Elements.{All-append, All-cons, All-head, All-nil, All-tail}
+use Rattle.std.proofs.lemmas.List.Elements.{All-cons, All-head, All-nil, All-tail}
 use Rattle.std.proofs.lemmas.List.Folds.{list_any-append}
+use Rattle.vdr_recorder.proofs.Continuing.{whole_with}
 use Rattle.vdr_session.specs.declared.mark.Did.{Did}
 use Rattle.vdr_session.specs.declared.mark.Did.TheVariants.{Begin, Take, Save, Release, Look, Miss}
 use Rattle.vdr_session.specs.declared.mark.Mark.{Mark}
@@ -90,12 +91,9 @@ all_there (m ∷ marks) e =
     let parts = or_none (not (is_some m.moment)) (has_fault marks) e in
     All-cons (λ (m : Mark). m.moment ≢ None) m marks (moment_there m.moment parts.0) (all_there marks parts.1)
 
-whole_more : (events : List Event) (e : Event) → IsWhole events → e.moment ≢ None → IsWhole (events ++ e ∷ [])
-whole_more events e whole some = All-append (λ (e : Event). e.moment ≢ None) events (e ∷ []) whole (All-cons (λ (e : Event). e.moment ≢ None) e [] some (All-nil (λ (e : Event). e.moment ≢ None)))
-
 -- and their history has no pending event
 pub whole_along : (opening : Opening) (taken : List Captured) (events : List Event) (marks : List Mark) → IsWhole events → All (λ m. m.moment ≢ None) marks → IsWhole (events_along opening taken events marks)
 whole_along opening taken events [] whole all = whole
 whole_along opening taken events (m ∷ marks) whole all =
     whole_along opening (taken ++ taken_by m.did) (events ++ event_of opening taken events m ∷ []) marks
-    (whole_more events (event_of opening taken events m) whole (All-head (λ (m : Mark). m.moment ≢ None) m marks all)) (All-tail (λ (m : Mark). m.moment ≢ None) m marks all)
+    (whole_with events (event_of opening taken events m) whole (All-head (λ (m : Mark). m.moment ≢ None) m marks all)) (All-tail (λ (m : Mark). m.moment ≢ None) m marks all)

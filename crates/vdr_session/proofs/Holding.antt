@@ -9,9 +9,10 @@ use Rattle.vdr_intake.specs.Items.{Follows, IsRun, most_items}
 use Rattle.vdr_intake.proofs.Runs.{run_more}
 use Rattle.vdr_pace.specs.Commits.{item_size, items_size, least_item}
 use Rattle.vdr_pace.proofs.ItemSizes.{fit_few}
+use Rattle.vdr_desk.proofs.Lists.{no_default, at_each}
 use Rattle.vdr_session.specs.Heads.{AreHeld, NoneHeld, Steps}
 use Rattle.vdr_session.specs.Lanes.{AreMet, ArePopped, HasPopped, IsDrained, IsFront, IsMet, Pops, StayJoined, held, joined_to, popped_by}
-use Rattle.vdr_session.proofs.Popped.{at_each, at_other, at_own, for_each, front_more, no_default, of_appended, of_others, of_own, same_or_not}
+use Rattle.vdr_session.proofs.Popped.{at_other, at_own, for_each, front_more, of_appended, of_others, of_own, same_or_not}
 
 -- What the next item of a queue tells of its taker, or that there is none.
 pub popped_next : (group : ℕ) (old new : Taking) (item : Option Captured) → (new.queue ≡ old.queue) × (new.joined ≡ old.joined) → IfSome item (λ c. new.popped ≡ old.popped ++ c ∷ [])

@@ -14,10 +14,11 @@ use Rattle.vdr_outside.specs.Disk.{Disk}
 use Rattle.vdr_config.specs.Configuration.{Selector}
 use Rattle.vdr_control.specs.Orders.{PlainOrder}
 use Rattle.vdr_control.specs.Orders.PlainOrder.{Status, Save, Release, Play}
-use Rattle.vdr_vault.specs.Vaults.{MembersState}
-use Rattle.vdr_recorder.specs.declared.maker.Maker.{Maker}
-use Rattle.vdr_recorder.specs.Making.{counted_of, numbers_of}
-use Rattle.vdr_recorder.specs.Recordings.{HasDone, HasRecorded, RecordingState}
+use Rattle.vdr_vault.specs.Vaults.{VaultState}
+use Rattle.vdr_run.specs.declared.maker.Maker.{Maker}
+use Rattle.vdr_run.specs.Making.{counted_of}
+use Rattle.vdr_recorder.specs.Making.{numbers_of}
+use Rattle.vdr_recorder.specs.Recordings.{HasDone, HasRecorded, RecorderState}
 use Rattle.vdr_recorder.proofs.Continuing.{has_moment}
 use Rattle.vdr_reply.specs.Answers.{HasAnswered, IsAnswer, LeavesRest, Spells}
 use Rattle.vdr_reply.specs.Orders.{changes, granted_act}
@@ -96,31 +97,31 @@ and_false true = refl
 and_false false = refl
 
 -- with another cause of a fault, which counts for a play alone
-spelled_so : (A B : Type 0) (order : PlainOrder) (members : MembersState) (reply : Reply) (text : List ℕ) → (changes order members ≡ false → A → B) → Spells A order reply text → Spells B order reply text
-spelled_so A B Status members reply text so h = h
-spelled_so A B (Save label) members reply text so h = h
-spelled_so A B (Release id) members reply text so h = h
-spelled_so A B (Play medium name from to) members reply text so (inl h) = inl h
-spelled_so A B (Play medium name from to) members reply text so (inr (inl h)) = inr (inl (h.0, so (and_false members.failed) h.1))
-spelled_so A B (Play medium name from to) members reply text so (inr (inr h)) = inr (inr h)
+spelled_so : (A B : Type 0) (order : PlainOrder) (vault : VaultState) (reply : Reply) (text : List ℕ) → (changes order vault ≡ false → A → B) → Spells A order reply text → Spells B order reply text
+spelled_so A B Status vault reply text so h = h
+spelled_so A B (Save label) vault reply text so h = h
+spelled_so A B (Release id) vault reply text so h = h
+spelled_so A B (Play medium name from to) vault reply text so (inl h) = inl h
+spelled_so A B (Play medium name from to) vault reply text so (inr (inl h)) = inr (inl (h.0, so (and_false vault.failed) h.1))
+spelled_so A B (Play medium name from to) vault reply text so (inr (inr h)) = inr (inr h)
 
-module _ {tells tells_images : Type 0} (before : Before) (began : Opening → ℕ → Type 0) (rates : List (Option Rate)) (room : ℕ) (sizes faults : List ℕ) (marks : List Mark) (r : RecordingState)
-    (old : Disk tells tells_images) (was : List ℕ) (k : IsKept before began rates room sizes faults marks r old was) (order : PlainOrder) (text : List ℕ) (after : RecordingState) (new : Disk tells tells_images) (now : List ℕ)
-    (home : StaysHome r old was after new now) (rest : LeavesRest r after) (stays : r.members.failed ≡ true → after.members.failed ≡ true)
-    (answered : (opening : Opening) (events : List Event) (t0 : ℕ) → tells → HasRecorded opening events t0 r old → HasAnswered r.members.config.channels (Rose (sum was) (sum now)) opening events t0 order text r after old new) where
+module _ {tells tells_images : Type 0} (before : Before) (began : Opening → ℕ → Type 0) (rates : List (Option Rate)) (room : ℕ) (sizes faults : List ℕ) (marks : List Mark) (r : RecorderState)
+    (old : Disk tells tells_images) (was : List ℕ) (k : IsKept before began rates room sizes faults marks r old was) (order : PlainOrder) (text : List ℕ) (after : RecorderState) (new : Disk tells tells_images) (now : List ℕ)
+    (home : StaysHome r old was after new now) (rest : LeavesRest r after) (stays : r.vault.failed ≡ true → after.vault.failed ≡ true)
+    (answered : (opening : Opening) (events : List Event) (t0 : ℕ) → tells → HasRecorded opening events t0 r old → HasAnswered r.vault.config.channels (Rose (sum was) (sum now)) opening events t0 order text r after old new) where
   abbrev mark : Mark
-  mark = order_mark order r.members after.members.failed new.clock (sum was) (sum now)
+  mark = order_mark order r.vault after.vault.failed new.clock (sum was) (sum now)
 
   abbrev granted : Bool
-  granted = changes order r.members
+  granted = changes order r.vault
 
   abbrev rose : Bool
   rose = rose_in (sum was) (sum now)
 
-  lasts : after.members.failed ≡ false → r.members.failed ≡ false
-  lasts goes = by (cases_Bool r.members.failed)
+  lasts : after.vault.failed ≡ false → r.vault.failed ≡ false
+  lasts goes = by (cases_Bool r.vault.failed)
     where
-      by : (r.members.failed ≡ true) ⊎ (r.members.failed ≡ false) → r.members.failed ≡ false
+      by : (r.vault.failed ≡ true) ⊎ (r.vault.failed ≡ false) → r.vault.failed ≡ false
       by (inl fails) = absurd (true≢false (sym (stays fails) ∙ goes))
       by (inr works) = works
 
@@ -139,7 +140,7 @@ module _ {tells tells_images : Type 0} (before : Before) (began : Opening → �
           },
         );
         idle = λ is. let o = k.stage.idle (sym (started_same marks mark (begins_none granted rose order)) ∙ is) in (rest.is_open ∙ o.0, taken ∙ o.1);
-        whole = λ goes. all_more marks mark (k.stage.whole (lasts goes)) (has_moment after.members.failed new.clock mark.moment refl goes);
+        whole = λ goes. all_more marks mark (k.stage.whole (lasts goes)) (has_moment after.vault.failed new.clock mark.moment refl goes);
       })
       (λ told opening t0 b.
       let s = k.told told opening t0 b in
@@ -161,5 +162,5 @@ module _ {tells tells_images : Type 0} (before : Before) (began : Opening → �
       subst (λ (x : List Selector × Event). IsAnswer x.0 (misses mark.did ≡ true) opening (events_of opening marks) x.1 order text) (λ i. (k.channels_are i, sym own i))
       (record {
         act_is = a.answer.act_is;
-        text_is = spelled_so (Rose (sum was) (sum now)) (misses mark.did ≡ true) order r.members _ text (λ none rose_now. missed_so granted rose order none (le-leb (min (sum was + 1) (2 ^ 64 - 1)) (sum now) rose_now)) a.answer.text_is;
+        text_is = spelled_so (Rose (sum was) (sum now)) (misses mark.did ≡ true) order r.vault _ text (λ none rose_now. missed_so granted rose order none (le-leb (min (sum was + 1) (2 ^ 64 - 1)) (sum now) rose_now)) a.answer.text_is;
       })

@@ -5,6 +5,7 @@ use Rattle.std.proofs.lemmas.List.Elements.{All-head, All-tail, filter-append}
 use Rattle.std.proofs.lemmas.Bool.{cond-true, cases_eq, cond-false, eq-eqb, ne_eqb}
 use Rattle.vdr_history.specs.Taken.{Captured, of_group}
 use Rattle.vdr_intake.specs.Ends.{QueueId, Taking, Feeding}
+use Rattle.vdr_desk.proofs.Lists.{no_default, at_each}
 use Rattle.vdr_session.specs.Lanes.{AreMet, IsFront, IsMet}
 
 pub of_own : (g : ℕ) (items : List Captured) → All (λ c. c.group ≡ g) items → of_group g items ≡ items
@@ -41,18 +42,6 @@ module _ (n : ℕ) (takers : List (Option Taking)) (sixteen : length takers ≡ 
 
   pub met_after : (configured : ℕ → Bool) (queues : List (Option QueueId)) → AreMet configured queues takers → IsMet configured n (get_or queues n None) new → AreMet configured queues (set takers n new)
   met_after configured queues met here = for_each (λ g t. IsMet configured g (get_or queues g None) t) here (λ g small ne. met g small)
-
--- what stands at an index doesn't hang on what would stand past the end
-pub no_default : {X : Type 0} (xs : List X) (i : ℕ) (d e : X) → i < length xs → get_or xs i d ≡ get_or xs i e
-no_default [] i d e small = absurd (omega (arith, small))
-no_default (x ∷ xs) zero d e small = refl
-no_default (x ∷ xs) (suc i) d e small = no_default xs i d e (omega (arith, small))
-
--- a fact of each element, where one was set
-pub at_each : {X : Type 0} (xs : List X) (n : ℕ) (new : X) → n < length xs → (P : ℕ → X → Type 0) (d : X) → P n new → (k : ℕ) → ((k ≡ n → ⊥) → P k (get_or xs k d)) → P k (get_or (set xs n new) k d)
-at_each {X} xs n new small P d here k there = same_or_not k n
-    (λ e. subst (λ (m : ℕ). P m (get_or (set xs n new) m d)) (sym e) (subst (P n) (sym (get_or-set_same xs n new d small)) here))
-    (λ ne. subst (P k) (sym (get_or-set_other xs n k new d ne)) (there ne))
 
 -- one more item was popped of what a joined feeder pushed
 pub front_more : (joined : Option Feeding) (old : List Captured) (c : Captured) (new : List Captured) → new ≡ old ++ c ∷ []

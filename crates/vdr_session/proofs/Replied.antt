@@ -12,7 +12,7 @@ use Rattle.vdr_config.specs.Configuration.{Selector}
 use Rattle.vdr_capture.specs.declared.sums.Outcome.{Outcome}
 use Rattle.vdr_control.specs.Orders.{PlainOrder}
 use Rattle.vdr_control.specs.Orders.PlainOrder.{Status, Save, Release, Play}
-use Rattle.vdr_recorder.specs.Recordings.{RecordingState}
+use Rattle.vdr_recorder.specs.Recordings.{RecorderState}
 use Rattle.vdr_desk.specs.declared.desk.Desk.{Desk}
 use Rattle.vdr_desk.specs.Exchanges.{AreExchanged, Exchange}
 use Rattle.vdr_desk.specs.Links.{Converses}
@@ -78,7 +78,7 @@ spelled_so A B (Play medium name from to) reply text so (inl h) = inl h
 spelled_so A B (Play medium name from to) reply text so (inr (inl h)) = inr (inl (h.0, so h.1))
 spelled_so A B (Play medium name from to) reply text so (inr (inr h)) = inr (inr h)
 
-answer_so : {channels : List Selector} {A B : Type 0} {opening : Opening} {before : List Event} {own : Event} {order : PlainOrder} {text : List ℕ} → (A → B) → IsAnswer channels A opening before own order text → IsAnswer channels B opening before own order text
+pub answer_so : {channels : List Selector} {A B : Type 0} {opening : Opening} {before : List Event} {own : Event} {order : PlainOrder} {text : List ℕ} → (A → B) → IsAnswer channels A opening before own order text → IsAnswer channels B opening before own order text
 answer_so {A = A} {B = B} {order = order} {text = text} so a = record { act_is = a.act_is; text_is = spelled_so A B order _ text so a.text_is }
 
 begun_or_not : (began : Began) → (began ≡ starts.Begun) ⊎ (began ≡ starts.Begun → ⊥)
@@ -123,7 +123,7 @@ module _ {L : Type 0} (tells : LinkTells L) (turns : ℕ) (media_tells : Type 0)
     each = λ i d low. let s = spoken i d low in (s.0, s.1);
   }
 
-  pub desks_replied : {images : Type 0} (met_fault : Type 0) (missed : has_missed marks ≡ true → met_fault) (before : Before) (t0 : ℕ) (rest : ℕ → Counts) (r : RecordingState) (disk : Disk media_tells images)
+  pub desks_replied : {images : Type 0} (met_fault : Type 0) (missed : has_missed marks ≡ true → met_fault) (before : Before) (t0 : ℕ) (rest : ℕ → Counts) (r : RecorderState) (disk : Disk media_tells images)
       → media_tells → (opening : Opening) → opened opening t0 → (run : EndsRun before opening marks t0 rest outcome r disk) → DesksReplied tells turns channels met_fault end orig new opening run.events
   desks_replied met_fault missed before t0 rest r disk told opening opens run i d low =
       let s = spoken i d low in

@@ -1,18 +1,17 @@
 -- A session, from what it left under its media and what its counters came to.
-use Rattle.std.proofs.Common.{◌≡◌, ◌≢◌, ◌⊎◌, inl, inr, ◌<◌, ◌≤◌, ◌+◌, ◌-◌, ◌++◌, ◌&&◌, ℕ, zero, suc, Bool, true, false, true≢false, List, [], ◌∷◌, All, Option, Some, None, length, get_or, is_some, if◌then◌else◌, count_by, refl, sym, ap, ◌∙◌, subst, arith, append-nil}
+use Rattle.std.proofs.Common.{◌≡◌, ◌≢◌, ◌⊎◌, inl, inr, ◌<◌, ◌≤◌, ◌+◌, ◌-◌, ◌++◌, ◌&&◌, ℕ, Bool, true, false, true≢false, List, [], Option, Some, None, length, get_or, is_some, if◌then◌else◌, count_by, refl, sym, ap, ◌∙◌, subst, arith, append-nil}
 use Rattle.std.specs.Prelude.{IfSome}
 use Rattle.std.proofs.lemmas.Bool.{cases_Bool}
-use Rattle.std.proofs.lemmas.List.Elements.{All-head, All-nil, All-tail}
+use Rattle.std.proofs.lemmas.List.Elements.{All-nil}
 use Rattle.vdr_terms.specs.declared.counts.Counts.{Counts}
 use Rattle.vdr_terms.specs.declared.rate.Rate.{Rate}
 use Rattle.vdr_terms.specs.Rates.{is_configured, limit_of}
-use Rattle.vdr_terms.specs.Rates.Limit.{AtMost}
 use Rattle.vdr_terms.specs.Records.{Item, Record, none_missed}
 use Rattle.vdr_terms.specs.Counting.{Tally}
 use Rattle.vdr_terms.specs.Datagrams.{is_bad, is_large, verdict}
 use Rattle.vdr_history.specs.Accounts.{Accounts, AccountsPrefix}
 use Rattle.vdr_history.specs.FullCounts.{AreFullSteps, FullCounts}
-use Rattle.vdr_config.specs.Configuration.{Configuration, IsConfiguration, IsRate}
+use Rattle.vdr_config.specs.Configuration.{Configuration}
 use Rattle.vdr_config.specs.Sizes.{limits_in}
 use Rattle.vdr_history.specs.Histories.{Event, Opening, Settings, recorded}
 use Rattle.vdr_history.specs.Recorder.{closed_run, recorder_after}
@@ -33,9 +32,10 @@ use Rattle.vdr_capture.specs.declared.lane.Lane.{Lane}
 use Rattle.vdr_capture.specs.declared.sums.GroupSums.{GroupSums}
 use Rattle.vdr_capture.specs.declared.sums.Outcome.{Outcome}
 use Rattle.vdr_capture.specs.declared.sums.Outcome.TheVariants.{Done, NoMemory, Place, Tick, MediaFault, PortFault, LinkFault}
-use Rattle.vdr_recorder.specs.Making.{CountsItems}
-use Rattle.vdr_recorder.specs.Recordings.{HasRecorded, RecordingState, start_of_opening}
+use Rattle.vdr_run.specs.Making.{CountsItems}
+use Rattle.vdr_recorder.specs.Recordings.{HasRecorded, RecorderState, start_of_opening}
 use Rattle.vdr_recorder.proofs.Continuing.{left_place}
+use Rattle.vdr_desk.proofs.Lists.{no_default}
 use Rattle.vdr_session.specs.declared.mark.Mark.{Mark}
 use Rattle.vdr_session.specs.declared.records.Began.{Began}
 use Rattle.vdr_session.specs.declared.records.Began.TheVariants as starts
@@ -54,7 +54,6 @@ use Rattle.vdr_session.proofs.Closes.{closed_accounts, cut_accounts}
 use Rattle.vdr_session.proofs.Gathered.{gather}
 use Rattle.vdr_session.proofs.LanesFed.{each_fed, feeds_all, none_lost}
 use Rattle.vdr_session.proofs.LanesRan.{first_of, ready_group}
-use Rattle.vdr_session.proofs.Popped.{no_default}
 
 -- Whether a run was begun
 abbrev pub has_begun : Began → Bool
@@ -318,19 +317,19 @@ some_rate None = refl
 some_rate (Some rate) = refl
 
 module _ {P : Type 0} (port_tells : PortTells P) {tells tells_images : Type 0} (turns capacity : ℕ) (rates : List (Option Rate)) (configured : List Bool) (queues : List (Option QueueId)) (first last : List (Option Taking))
-    (orig old new : List (Lane P)) (recording : RecordingState) (at_first : Disk tells tells_images) (sizes faults : List ℕ) (beside : Began → List Mark → Type 0) (outcome : Outcome) (r : RecordingState) (disk : Disk tells tells_images) (now : List ℕ) (end : SessionEnd)
+    (orig old new : List (Lane P)) (recorder : RecorderState) (at_first : Disk tells tells_images) (sizes faults : List ℕ) (beside : Began → List Mark → Type 0) (outcome : Outcome) (r : RecorderState) (disk : Disk tells tells_images) (now : List ℕ) (end : SessionEnd)
     (conf : (g : ℕ) → g < 16 → get_or configured g false ≡ is_configured (limits_in rates g)) (lengths : (length orig ≡ 16) × (length old ≡ 16) × (length new ≡ 16))
     (set : (g : ℕ) (d : Lane P) → g < 16 → IsSetUp (get_or configured g false) g capacity (get_or queues g None) (get_or first g None) (get_or orig g d) (get_or old g d))
-    (e : HasEnded port_tells turns (λ g. is_configured (limits_in rates g)) queues first last old new (record { clock = at_first.clock; now = at_first.now; since = at_first.since; reads = at_first.reads; channels = recording.members.config.channels })
-    (λ opening t0. HasRecorded opening [] t0 recording at_first) sizes faults beside outcome r disk now)
+    (e : HasEnded port_tells turns (λ g. is_configured (limits_in rates g)) queues first last old new (record { clock = at_first.clock; now = at_first.now; since = at_first.since; reads = at_first.reads; channels = recorder.vault.config.channels })
+    (λ opening t0. HasRecorded opening [] t0 recorder at_first) sizes faults beside outcome r disk now)
     (ports : IsWithFailures outcome end.outcome)
     (sums : (start : RunStart) (popped : List Captured) → CountsItems start popped r.maker → (g : ℕ) (d : Lane P) → g < 16 → is_some (get_or queues g None) ≡ true
     → get_or end.groups g None ≡ Some (summed start popped (get_or new g d).tally g))
-    (total : end.records ≡ r.members.next_place - recording.members.next_place)
+    (total : end.records ≡ r.vault.next_place - recorder.vault.next_place)
     (intakes : (g : ℕ) → g < 16 → get_or end.intakes g None ≡ paired (get_or queues g None) (get_or last g None))
     (knows : (g : ℕ) (i : QueueId × Taking) → g < 16 → get_or end.intakes g None ≡ Some i → KnowsFull i.1)
-    (admits : Admits (limits_in rates)) (rates_are : recording.members.config.groups ≡ rates) (works : recording.members.failed ≡ false)
-    (replied : Opening → List Event → Type 0) (replies : (told : tells) (opening : Opening) (t0 : ℕ) (h : HasRecorded opening [] t0 recording at_first) → replied opening (e.told told opening t0 h).0.events) where
+    (admits : Admits (limits_in rates)) (rates_are : recorder.vault.config.groups ≡ rates) (works : recorder.vault.failed ≡ false)
+    (replied : Opening → List Event → Type 0) (replies : (told : tells) (opening : Opening) (t0 : ℕ) (h : HasRecorded opening [] t0 recorder at_first) → replied opening (e.told told opening t0 h).0.events) where
   abbrev items : List Captured
   items = taken_in e.marks
 
@@ -343,15 +342,15 @@ module _ {P : Type 0} (port_tells : PortTells P) {tells tells_images : Type 0} (
       (begun : e.began ≡ starts.Begun → is_begun e.marks ≡ true)
       (closes : e.began ≡ starts.Begun → has_fault e.marks ≡ false → (g : ℕ) (d : Lane P) → g < 16
       → LaneGave port_tells turns g (get_or queues g None) (get_or last g None) (get_or old g d) (get_or new g d) (given g) (e.rest g) × (of_group g items ≡ popped_by (get_or last g None)) × IsDrained (get_or last g None)) where
-    module _ (opening : Opening) (t0 : ℕ) (told : tells) (h : HasRecorded opening [] t0 recording at_first) where
-      run : EndsRun (record { clock = at_first.clock; now = at_first.now; since = at_first.since; reads = at_first.reads; channels = recording.members.config.channels }) opening e.marks t0 e.rest outcome r disk
+    module _ (opening : Opening) (t0 : ℕ) (told : tells) (h : HasRecorded opening [] t0 recorder at_first) where
+      run : EndsRun (record { clock = at_first.clock; now = at_first.now; since = at_first.since; reads = at_first.reads; channels = recorder.vault.config.channels }) opening e.marks t0 e.rest outcome r disk
       run = (e.told told opening t0 h).0
 
       abbrev records : List Record
       records = recorded run.events
 
       admits_here : Admits (start_of opening).limits
-      admits_here = subst Admits (sym (settings_limits opening recording.members.config opening.settings.text (h.works works).stands.settings ∙ ap limits_in rates_are)) admits
+      admits_here = subst Admits (sym (settings_limits opening recorder.vault.config opening.settings.text (h.works works).stands.settings ∙ ap limits_in rates_are)) admits
 
       told_are : RecordsAre end.outcome (start_of opening) items lost e.rest records
       told_are = records_are opening e.marks e.rest records lost e.began outcome end.outcome e.told_as ports whole run.records (λ done. (run.closed done).0) (λ done. (e.works done).0) begun
@@ -427,7 +426,7 @@ module _ {P : Type 0} (port_tells : PortTells P) {tells tells_images : Type 0} (
         replies told opening t0 h,
       )
 
-    pub session : end.outcome ≢ NoMemory → SessionWith port_tells turns capacity rates orig new recording at_first disk end replied
+    pub session : end.outcome ≢ NoMemory → SessionWith port_tells turns capacity rates orig new recorder at_first disk end replied
     session memory = record {
       began = has_begun e.began;
       given = given;
@@ -457,7 +456,7 @@ module _ {P : Type 0} (port_tells : PortTells P) {tells tells_images : Type 0} (
         subst (λ (x : Lane P × Lane P). LaneGave port_tells turns g (get_or queues g None) (get_or last g None) x.0 x.1 (fed g).given (e.rest g))
         (λ i. (no_default old g lane d (let l = lengths.1 in omega (arith, l, small)) i, no_default new g lane d (let l = lengths.2 in omega (arith, l, small)) i)) ((fed g).lane small)
 
-    pub session_ran : end.outcome ≢ NoMemory → SessionWith port_tells turns capacity rates orig new recording at_first disk end replied
+    pub session_ran : end.outcome ≢ NoMemory → SessionWith port_tells turns capacity rates orig new recorder at_first disk end replied
     session_ran memory =
         let lost = ran.lost ++ gather (λ g. (fed g).queued) 16 in
         let whole : has_fault e.marks ≡ false → lost ≡ [] = λ none. none_lost port_tells turns queues last old new lane e.rest ran.sixteen
@@ -490,7 +489,7 @@ module _ {P : Type 0} (port_tells : PortTells P) {tells tells_images : Type 0} (
     not_begun starts.Tick ne = refl
     not_begun starts.Fault ne = refl
 
-    pub session_rested : end.outcome ≢ NoMemory → SessionWith port_tells turns capacity rates orig new recording at_first disk end replied
+    pub session_rested : end.outcome ≢ NoMemory → SessionWith port_tells turns capacity rates orig new recorder at_first disk end replied
     session_rested memory = session (λ _. []) []
         (subst (λ (rest : ℕ → Counts). AllFeed (items ++ []) rest (λ _. [])) (λ i g. sym (e.quiet ne g) i) (nothing_feeds items rested.none))
         (λ _ _. refl)
@@ -501,13 +500,13 @@ module _ {P : Type 0} (port_tells : PortTells P) {tells tells_images : Type 0} (
         (λ is. absurd (ne is))
         memory
 
-  pub session_of : SessionWith port_tells turns capacity rates orig new recording at_first disk end replied
+  pub session_of : SessionWith port_tells turns capacity rates orig new recorder at_first disk end replied
   session_of = by e.began refl
     where
       memory : end.outcome ≢ NoMemory
       memory = has_memory outcome end.outcome e.began e.told_as ports
 
-      by : (b : Began) → e.began ≡ b → SessionWith port_tells turns capacity rates orig new recording at_first disk end replied
+      by : (b : Began) → e.began ≡ b → SessionWith port_tells turns capacity rates orig new recorder at_first disk end replied
       by starts.Begun is = session_ran is memory
       by starts.Place is = session_rested (λ b. place_is_not (sym is ∙ b)) memory
         where
@@ -546,10 +545,10 @@ with_memory MediaFault ne = refl
 with_memory (PortFault g) ne = refl
 with_memory (LinkFault i) ne = refl
 
-pub groups_of : {P : Type 0} (tells : PortTells P) {media_tells images : Type 0} (turns capacity : ℕ) (rates : List (Option Rate)) (queues : List (Option QueueId)) (old new : List (Lane P)) (recording : RecordingState) (before after : Disk media_tells images)
-    (end : SessionEnd) (replied : Opening → List Event → Type 0) → SessionWith tells turns capacity rates old new recording before after end replied → end.outcome ≢ NoMemory → length new ≡ 16
+pub groups_of : {P : Type 0} (tells : PortTells P) {media_tells images : Type 0} (turns capacity : ℕ) (rates : List (Option Rate)) (queues : List (Option QueueId)) (old new : List (Lane P)) (recorder : RecorderState) (before after : Disk media_tells images)
+    (end : SessionEnd) (replied : Opening → List Event → Type 0) → SessionWith tells turns capacity rates old new recorder before after end replied → end.outcome ≢ NoMemory → length new ≡ 16
     → ((g : ℕ) → g < 16 → is_some (get_or end.groups g None) ≡ is_some (get_or queues g None)) → ((g : ℕ) → g < 16 → is_some (get_or queues g None) ≡ is_some (get_or rates g None)) → HasGroups rates end
-groups_of tells turns capacity rates queues old new recording before after end replied s memory sixteen sums same =
+groups_of tells turns capacity rates queues old new recorder before after end replied s memory sixteen sums same =
     let d = first_of new (omega (arith, sixteen)) in
     let there = with_memory end.outcome memory in
     record {
@@ -562,9 +561,9 @@ pub ports_memory : (outcome end : Outcome) (began : Began) → IsToldAs began ou
 ports_memory outcome end began told ports = has_memory outcome end began told ports
 
 -- Where there was no memory, nothing was done.
-pub no_memory_session : {P : Type 0} (tells : PortTells P) {media_tells images : Type 0} (turns capacity : ℕ) (rates : List (Option Rate)) (old new : List (Lane P)) (recording : RecordingState) (disk : Disk media_tells images) (end : SessionEnd)
-    (replied : Opening → List Event → Type 0) → end.outcome ≡ NoMemory → ((opening : Opening) → replied opening []) → SessionWith tells turns capacity rates old new recording disk disk end replied
-no_memory_session {P} tells {media_tells} {images} turns capacity rates old new recording disk end replied is replies =
+pub no_memory_session : {P : Type 0} (tells : PortTells P) {media_tells images : Type 0} (turns capacity : ℕ) (rates : List (Option Rate)) (old new : List (Lane P)) (recorder : RecorderState) (disk : Disk media_tells images) (end : SessionEnd)
+    (replied : Opening → List Event → Type 0) → end.outcome ≡ NoMemory → ((opening : Opening) → replied opening []) → SessionWith tells turns capacity rates old new recorder disk disk end replied
+no_memory_session {P} tells {media_tells} {images} turns capacity rates old new recorder disk end replied is replies =
     let open_ : is_closed end.outcome ≡ false = ap is_closed is in
     record {
       began = false;
@@ -596,26 +595,10 @@ no_memory_session {P} tells {media_tells} {images} turns capacity rates old new 
       );
     }
 
--- A legal configuration admits a datagram a second of each of its groups.
-rate_at : (rates : List (Option Rate)) (g : ℕ) → All (λ rate. IfSome rate IsRate) rates → IfSome (get_or rates g None) IsRate
-rate_at [] g h = tt
-rate_at (rate ∷ rates) zero h = All-head (λ (rate : Option Rate). IfSome rate IsRate) rate rates h
-rate_at (rate ∷ rates) (suc g) h = rate_at rates g (All-tail (λ (rate : Option Rate). IfSome rate IsRate) rate rates h)
-
-pub admits_all : (c : Configuration) → IsConfiguration c → Admits (limits_in c.groups)
-admits_all c legal g rate is = go (get_or c.groups g None) (rate_at c.groups g legal.rates) is
-  where
-    go : (o : Option Rate) → IfSome o IsRate → limit_of o ≡ AtMost rate → 1 ≤ rate.datagrams
-    go None h e = let none : ⊥ = cc in absurd none
-    go (Some r) h e = subst (λ (r : Rate). 1 ≤ r.datagrams) (same r e) h.0
-      where
-        same : (r : Rate) → AtMost r ≡ AtMost rate → r ≡ rate
-        same r e = cc
-
 -- A session of which nothing is said of replies.
-pub session_alone : {P : Type 0} (tells : PortTells P) {media_tells images : Type 0} (turns capacity : ℕ) (rates : List (Option Rate)) (old new : List (Lane P)) (recording : RecordingState) (before after : Disk media_tells images) (end : SessionEnd)
-    (replied : Opening → List Event → Type 0) → SessionWith tells turns capacity rates old new recording before after end replied → Session tells turns capacity rates old new recording before after end
-session_alone tells turns capacity rates old new recording before after end replied s = record {
+pub session_alone : {P : Type 0} (tells : PortTells P) {media_tells images : Type 0} (turns capacity : ℕ) (rates : List (Option Rate)) (old new : List (Lane P)) (recorder : RecorderState) (before after : Disk media_tells images) (end : SessionEnd)
+    (replied : Opening → List Event → Type 0) → SessionWith tells turns capacity rates old new recorder before after end replied → Session tells turns capacity rates old new recorder before after end
+session_alone tells turns capacity rates old new recorder before after end replied s = record {
   began = s.began;
   given = s.given;
   rest = s.rest;

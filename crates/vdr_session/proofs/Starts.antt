@@ -6,8 +6,8 @@ use Rattle.vdr_history.specs.Runs.{RunStart, Stamp, base_after}
 use Rattle.vdr_history.specs.RunStates.{state_left}
 use Rattle.vdr_outside.specs.Disk.{Disk}
 use Rattle.vdr_vault.specs.Vaults.{of_stamp}
-use Rattle.vdr_recorder.specs.Recordings.{RecordingState}
-use Rattle.vdr_recorder.specs.Starts.{stamp_of}
+use Rattle.vdr_recorder.specs.Recordings.{RecorderState}
+use Rattle.vdr_run.specs.Starts.{stamp_of}
 use Rattle.vdr_recorder.specs.declared.run.StartRefused.{StartRefused}
 use Rattle.vdr_recorder.specs.declared.run.StartRefused.TheVariants.{Place, Tick}
 use Rattle.vdr_session.specs.declared.mark.Mark.{Mark}
@@ -18,28 +18,28 @@ same_stamp : (o : Option Stamp) → option_map stamp_of (option_map of_stamp o) 
 same_stamp None = refl
 same_stamp (Some s) = refl
 
-module _ {tells tells_images : Type 0} {before : Before} {opening : Opening} {marks : List Mark} {t0 : ℕ} {r : RecordingState} {disk : Disk tells tells_images}
-    (s : HasSession before opening marks t0 r disk) (works : r.members.failed ≡ false) (idle : is_started marks ≡ false) where
-  place_is : r.members.next_place ≡ opening.next_place
+module _ {tells tells_images : Type 0} {before : Before} {opening : Opening} {marks : List Mark} {t0 : ℕ} {r : RecorderState} {disk : Disk tells tells_images}
+    (s : HasSession before opening marks t0 r disk) (works : r.vault.failed ≡ false) (idle : is_started marks ≡ false) where
+  place_is : r.vault.next_place ≡ opening.next_place
   place_is = s.has.told.place ∙ ap (λ (start : RunStart). start.place) (s.next works idle)
 
-  base_is : base_after (option_map stamp_of r.members.last) ≡ base_after opening.last
+  base_is : base_after (option_map stamp_of r.vault.last) ≡ base_after opening.last
   base_is =
       ap (λ (o : Option (ℕ × ℤ)). base_after (option_map stamp_of o)) s.has.told.stamp
       ∙ ap base_after (same_stamp (state_left opening (events_of opening marks)).last)
       ∙ ap (λ (start : RunStart). base_after start.last) (s.next works idle)
 
-  pub no_place : 2 ^ 62 ≤ r.members.next_place → 2 ^ 62 ≤ opening.next_place
+  pub no_place : 2 ^ 62 ≤ r.vault.next_place → 2 ^ 62 ≤ opening.next_place
   no_place high = subst (λ (n : ℕ). 2 ^ 62 ≤ n) place_is high
 
-  pub no_tick : (r.members.next_place < 2 ^ 62) × (2 ^ 62 ≤ base_after (option_map stamp_of r.members.last)) → (opening.next_place < 2 ^ 62) × (2 ^ 62 ≤ base_after opening.last)
+  pub no_tick : (r.vault.next_place < 2 ^ 62) × (2 ^ 62 ≤ base_after (option_map stamp_of r.vault.last)) → (opening.next_place < 2 ^ 62) × (2 ^ 62 ≤ base_after opening.last)
   no_tick late = (subst (λ (n : ℕ). n < 2 ^ 62) place_is late.0, subst (λ (n : ℕ). 2 ^ 62 ≤ n) base_is late.1)
 
-  pub may_begin : {started : Result (Unit {0}) StartRefused} → (started ≡ Err Place) ↔ (2 ^ 62 ≤ r.members.next_place)
-      → (started ≡ Err Tick) ↔ ((r.members.next_place < 2 ^ 62) × (2 ^ 62 ≤ base_after (option_map stamp_of r.members.last)))
+  pub may_begin : {started : Result (Unit {0}) StartRefused} → (started ≡ Err Place) ↔ (2 ^ 62 ≤ r.vault.next_place)
+      → (started ≡ Err Tick) ↔ ((r.vault.next_place < 2 ^ 62) × (2 ^ 62 ≤ base_after (option_map stamp_of r.vault.last)))
       → (started ≡ Err Place → ⊥) → (started ≡ Err Tick → ⊥) → MayBegin opening
   may_begin place tick not_place not_tick =
-      let low : r.members.next_place < 2 ^ 62 = ⊎_elim (λ (l : r.members.next_place < 2 ^ 62). l) (λ (k : 2 ^ 62 ≤ r.members.next_place). absurd (not_place (place.1 k))) (cases_lt r.members.next_place (2 ^ 62)) in
+      let low : r.vault.next_place < 2 ^ 62 = ⊎_elim (λ (l : r.vault.next_place < 2 ^ 62). l) (λ (k : 2 ^ 62 ≤ r.vault.next_place). absurd (not_place (place.1 k))) (cases_lt r.vault.next_place (2 ^ 62)) in
       record {
         place = let a = place_is in omega (arith, a, low);
         base = ⊎_elim (λ (l : base_after opening.last < 2 ^ 62). l)

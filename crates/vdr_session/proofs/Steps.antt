@@ -26,8 +26,9 @@ use Rattle.vdr_outside.specs.Disk.{Disk, Image, content}
 use Rattle.vdr_outside.proofs.Counts.{none_fell, none_falls_join, rose_after, sum_not_less}
 use Rattle.vdr_vault.specs.Calls.{SameElsewhere}
 use Rattle.vdr_vault.specs.Vaults.{AreRings, ShowsHistory}
-use Rattle.vdr_recorder.specs.Making.{counted_of, numbers_of}
-use Rattle.vdr_recorder.specs.Recordings.{HasDone, HasRecorded, Passes, RecordingState}
+use Rattle.vdr_run.specs.Making.{counted_of}
+use Rattle.vdr_recorder.specs.Making.{numbers_of}
+use Rattle.vdr_recorder.specs.Recordings.{HasDone, HasRecorded, Passes, RecorderState}
 use Rattle.vdr_recorder.proofs.Answering.{same_disk}
 use Rattle.vdr_recorder.proofs.Continuing.{has_moment, left_with}
 use Rattle.vdr_recorder.proofs.Looking.{look_done}
@@ -126,9 +127,9 @@ module _ {tells tells_images : Type 0} (before : Before) (opening : Opening) whe
       in_call : (i : Image) → (old.now i ⊎ ShowsPrefix (ShowsHistory opening) (events ++ e ∷ []) 0 i) → Possible before opening (events ++ e ∷ []) i
       in_call i h = ⊎_elim (λ (now : old.now i). weaker i (p.each i (old.counts_now before.clock i p.later now))) (λ (shown : ShowsPrefix (ShowsHistory opening) (events ++ e ∷ []) 0 i). inr shown) h
 
-  module _ (marks : List Mark) (t0 : ℕ) (r : RecordingState) (old : Disk tells tells_images) (s : HasSession before opening marks t0 r old) (m : Mark) (after : RecordingState) (new : Disk tells tells_images)
-      (d : HasDone opening (events_of opening marks) t0 (act_of opening (taken_in marks) (events_of opening marks) m.did) after old new) (moment_is : m.moment ≡ moment_of after.members.failed new.clock)
-      (lasts : after.members.failed ≡ false → r.members.failed ≡ false) where
+  module _ (marks : List Mark) (t0 : ℕ) (r : RecorderState) (old : Disk tells tells_images) (s : HasSession before opening marks t0 r old) (m : Mark) (after : RecorderState) (new : Disk tells tells_images)
+      (d : HasDone opening (events_of opening marks) t0 (act_of opening (taken_in marks) (events_of opening marks) m.did) after old new) (moment_is : m.moment ≡ moment_of after.vault.failed new.clock)
+      (lasts : after.vault.failed ≡ false → r.vault.failed ≡ false) where
     abbrev events : List Event
     events = events_of opening marks
 
@@ -153,10 +154,10 @@ module _ {tells tells_images : Type 0} (before : Before) (opening : Opening) whe
         ∙ flat_map-append (λ (e : Event). records_of_act e.act) events (own ∷ [])
         ∙ (λ i. s.made i ++ append-nil (records_of_act own.act) i)
 
-    left_more : after.members.failed ≡ false → state_left opening (events_of opening (marks ++ m ∷ [])) ≡ after_act (state_left opening events) (act_of opening (taken_in marks) events m.did)
+    left_more : after.vault.failed ≡ false → state_left opening (events_of opening (marks ++ m ∷ [])) ≡ after_act (state_left opening events) (act_of opening (taken_in marks) events m.did)
     left_more goes =
         ap (state_left opening) (events_more opening marks m)
-        ∙ left_with opening events own ((whole_has_not_failed events).1 (sym s.has.failed ∙ lasts goes)) (has_moment after.members.failed new.clock m.moment moment_is goes)
+        ∙ left_with opening events own ((whole_has_not_failed events).1 (sym s.has.failed ∙ lasts goes)) (has_moment after.vault.failed new.clock m.moment moment_is goes)
 
     -- the mark begins nothing, takes nothing and records nothing
     pub still_session : begins m.did ≡ false → taken_by m.did ≡ [] → records_of_act (act_of opening (taken_in marks) events m.did) ≡ []
@@ -176,7 +177,7 @@ module _ {tells tells_images : Type 0} (before : Before) (opening : Opening) whe
     }
 
     -- the mark began the run
-    pub begun_session : m.did ≡ Begin → r.members.failed ≡ false → is_started marks ≡ false → taken_in marks ≡ [] → HasSession before opening (marks ++ m ∷ []) t0 after new
+    pub begun_session : m.did ≡ Begin → r.vault.failed ≡ false → is_started marks ≡ false → taken_in marks ≡ [] → HasSession before opening (marks ++ m ∷ []) t0 after new
     begun_session did_is works idle none =
         let act_is : act_of opening (taken_in marks) events m.did ≡ Commit (begun (start_of opening)).made [] = ap (act_of opening (taken_in marks) events) did_is in
         let begins_is : begins m.did ≡ true = ap begins did_is in
@@ -198,7 +199,7 @@ module _ {tells tells_images : Type 0} (before : Before) (opening : Opening) whe
     -- the mark took items
     pub taken_session : (items : List Captured) → m.did ≡ Take items → is_started marks ≡ true
         → (recorder_after (start_of opening) (taken_in marks ++ items)).made ≡ (recorder_after (start_of opening) (taken_in marks)).made ++ added_records (start_of opening) (taken_in marks) items
-        → (after.members.failed ≡ false → is_begun marks ≡ true) → HasSession before opening (marks ++ m ∷ []) t0 after new
+        → (after.vault.failed ≡ false → is_begun marks ≡ true) → HasSession before opening (marks ++ m ∷ []) t0 after new
     taken_session items did_is started made was_begun =
         let act_is : act_of opening (taken_in marks) events m.did ≡ Commit (added_records (start_of opening) (taken_in marks) items) items = ap (act_of opening (taken_in marks) events) did_is in
         let begins_none : begins m.did ≡ false = ap begins did_is in
@@ -228,26 +229,26 @@ module _ {tells tells_images : Type 0} (before : Before) (opening : Opening) whe
         }
 
 -- the marks of a start and of a batch
-begin_told : (r after : RecordingState) → r.members.failed ≡ false → (after.is_open ≡ true) ⊎ (after.members.failed ≡ true)
-    → cond r.members.failed Look (cond after.is_open Begin (cond after.members.failed Begin Look)) ≡ Begin
+begin_told : (r after : RecorderState) → r.vault.failed ≡ false → (after.is_open ≡ true) ⊎ (after.vault.failed ≡ true)
+    → cond r.vault.failed Look (cond after.is_open Begin (cond after.vault.failed Begin Look)) ≡ Begin
 begin_told r after works (inl opened) =
-    cond-false r.members.failed Look (cond after.is_open Begin (cond after.members.failed Begin Look)) works
-    ∙ cond-true after.is_open Begin (cond after.members.failed Begin Look) opened
+    cond-false r.vault.failed Look (cond after.is_open Begin (cond after.vault.failed Begin Look)) works
+    ∙ cond-true after.is_open Begin (cond after.vault.failed Begin Look) opened
 begin_told r after works (inr fails) =
-    cond-false r.members.failed Look (cond after.is_open Begin (cond after.members.failed Begin Look)) works
-    ∙ ap (λ (did : Did). cond after.is_open Begin did) (cond-true after.members.failed Begin Look fails)
+    cond-false r.vault.failed Look (cond after.is_open Begin (cond after.vault.failed Begin Look)) works
+    ∙ ap (λ (did : Did). cond after.is_open Begin did) (cond-true after.vault.failed Begin Look fails)
     ∙ both after.is_open
   where
     both : (b : Bool) → cond b Begin Begin ≡ Begin
     both true = refl
     both false = refl
 
-look_told : (r : RecordingState) → r.is_open ≡ false → (r.members.failed ≡ true) ⊎ (r.members.failed ≡ false) → cond r.members.failed Look (cond r.is_open Begin (cond r.members.failed Begin Look)) ≡ Look
-look_told r closed (inl fails) = cond-true r.members.failed Look (cond r.is_open Begin (cond r.members.failed Begin Look)) fails
+look_told : (r : RecorderState) → r.is_open ≡ false → (r.vault.failed ≡ true) ⊎ (r.vault.failed ≡ false) → cond r.vault.failed Look (cond r.is_open Begin (cond r.vault.failed Begin Look)) ≡ Look
+look_told r closed (inl fails) = cond-true r.vault.failed Look (cond r.is_open Begin (cond r.vault.failed Begin Look)) fails
 look_told r closed (inr works) =
-    cond-false r.members.failed Look (cond r.is_open Begin (cond r.members.failed Begin Look)) works
-    ∙ cond-false r.is_open Begin (cond r.members.failed Begin Look) closed
-    ∙ cond-false r.members.failed Begin Look works
+    cond-false r.vault.failed Look (cond r.is_open Begin (cond r.vault.failed Begin Look)) works
+    ∙ cond-false r.is_open Begin (cond r.vault.failed Begin Look) closed
+    ∙ cond-false r.vault.failed Begin Look works
 
 -- a batch is taken whole where it was taken at all
 moment_told : (after : Bool) (clock : ℕ) (b : Bool) → after ≡ b → not b ≡ is_some (moment_of after clock)
@@ -272,18 +273,18 @@ rose_of (Ok x) b P works cause fails = absurd (true≢false (sym fails ∙ works
 rose_of (Err e) b P works cause fails = cause
 
 -- What a call leaves at home.
-pub record StaysHome {tells tells_images : Type 0} (r : RecordingState) (old : Disk tells tells_images) (was : List ℕ) (after : RecordingState) (new : Disk tells tells_images) (now : List ℕ) : Type 0 where
-  pub config : after.members.config ≡ r.members.config
-  pub rings : AreRings after.members new.sizes
+pub record StaysHome {tells tells_images : Type 0} (r : RecorderState) (old : Disk tells tells_images) (was : List ℕ) (after : RecorderState) (new : Disk tells tells_images) (now : List ℕ) : Type 0 where
+  pub config : after.vault.config ≡ r.vault.config
+  pub rings : AreRings after.vault new.sizes
   pub sizes : new.sizes ≡ old.sizes
   pub later : NoneFalls was now
-  pub rose : after.members.failed ≡ true → (r.members.failed ≡ true) ⊎ Rose (sum was) (sum now)
+  pub rose : after.vault.failed ≡ true → (r.vault.failed ≡ true) ⊎ Rose (sum was) (sum now)
   pub elsewhere : tells → SameElsewhere old.reads new.reads
 
-module _ {tells tells_images : Type 0} (before : Before) (began : Opening → ℕ → Type 0) (rates : List (Option Rate)) (room : ℕ) (sizes faults : List ℕ) (marks : List Mark) (r : RecordingState)
+module _ {tells tells_images : Type 0} (before : Before) (began : Opening → ℕ → Type 0) (rates : List (Option Rate)) (room : ℕ) (sizes faults : List ℕ) (marks : List Mark) (r : RecorderState)
     (old : Disk tells tells_images) (was : List ℕ) (k : IsKept before began rates room sizes faults marks r old was) where
   -- with what holds at home, the rest is the stage and the history
-  pub kept_by : (m : Mark) (after : RecordingState) (new : Disk tells tells_images) (now : List ℕ) → StaysHome r old was after new now → (misses m.did ≡ true → Rose (sum was) (sum now)) → IsAt (marks ++ m ∷ []) after
+  pub kept_by : (m : Mark) (after : RecorderState) (new : Disk tells tells_images) (now : List ℕ) → StaysHome r old was after new now → (misses m.did ≡ true → Rose (sum was) (sum now)) → IsAt (marks ++ m ∷ []) after
       → (tells → (opening : Opening) (t0 : ℕ) → began opening t0 → HasSession before opening (marks ++ m ∷ []) t0 after new) → IsKept before began rates room sizes faults (marks ++ m ∷ []) after new now
   kept_by m after new now home fell stage told = record {
     rates_are = ap (λ (c : Configuration). c.groups) home.config ∙ k.rates_are;
@@ -294,7 +295,7 @@ module _ {tells tells_images : Type 0} (before : Before) (began : Opening → �
     elsewhere = λ told n ne ne1. home.elsewhere told n ne ne1 ∙ k.elsewhere told n ne ne1;
     later = none_falls_join faults was now k.later home.later;
     rose = λ fails. ⊎_elim
-        (λ (had : r.members.failed ≡ true). let more = sum_not_less was now home.later.same_media home.later.none_falls in let rose = k.rose had in omega (arith, more, rose))
+        (λ (had : r.vault.failed ≡ true). let more = sum_not_less was now home.later.same_media home.later.none_falls in let rose = k.rose had in omega (arith, more, rose))
         (λ (rose : Rose (sum was) (sum now)). rose_after (sum faults) (sum was) (sum now) (sum_not_less faults was k.later.same_media k.later.none_falls) rose)
         (home.rose fails);
     stage = stage;
@@ -314,7 +315,7 @@ module _ {tells tells_images : Type 0} (before : Before) (began : Opening → �
   home_same = record { config = refl; rings = k.rings; sizes = refl; later = none_fell was; rose = λ fails. inl fails; elsewhere = λ told n ne ne1. refl }
 
   abbrev look_mark : Mark
-  look_mark = record { did = Look; moment = moment_of r.members.failed old.clock }
+  look_mark = record { did = Look; moment = moment_of r.vault.failed old.clock }
 
   -- a call that touched nothing
   pub look_kept : IsKept before began rates room sizes faults (marks ++ look_mark ∷ []) r old was
@@ -328,33 +329,33 @@ module _ {tells tells_images : Type 0} (before : Before) (began : Opening → �
           },
         );
         idle = λ is. let o = k.stage.idle (sym (started_same marks look_mark refl) ∙ is) in (o.0, taken_same_by marks look_mark refl ∙ o.1);
-        whole = λ goes. all_more marks look_mark (k.stage.whole goes) (has_moment r.members.failed old.clock look_mark.moment refl goes);
+        whole = λ goes. all_more marks look_mark (k.stage.whole goes) (has_moment r.vault.failed old.clock look_mark.moment refl goes);
       })
       (λ told opening t0 b.
       let s = k.told told opening t0 b in
       still_session before opening marks t0 r old s look_mark r old
-      (look_done opening (events_of opening marks) t0 r old old s.has r.members (same_disk old) refl refl refl refl refl (λ placed stands. stands))
+      (look_done opening (events_of opening marks) t0 r old old s.has r.vault (same_disk old) refl refl refl refl refl (λ placed stands. stands))
       refl (λ goes. goes) refl refl refl (λ t. refl))
 
   -- a start and a batch that touched nothing
-  pub start_look_kept : r.is_open ≡ false → (after : RecordingState) (new : Disk tells tells_images) (now : List ℕ) → after ≡ r → new ≡ old → now ≡ was
+  pub start_look_kept : r.is_open ≡ false → (after : RecorderState) (new : Disk tells tells_images) (now : List ℕ) → after ≡ r → new ≡ old → now ≡ was
       → IsKept before began rates room sizes faults (marks ++ start_mark r after new.clock ∷ []) after new now
   start_look_kept closed after new now same same_disk_ same_now =
-      subst (λ (x : RecordingState × Disk tells tells_images × List ℕ). IsKept before began rates room sizes faults (marks ++ start_mark r x.0 x.1.clock ∷ []) x.0 x.1 x.2)
+      subst (λ (x : RecorderState × Disk tells tells_images × List ℕ). IsKept before began rates room sizes faults (marks ++ start_mark r x.0 x.1.clock ∷ []) x.0 x.1 x.2)
       (λ i. (sym same i, sym same_disk_ i, sym same_now i))
-      (subst (λ (did : Did). IsKept before began rates room sizes faults (marks ++ record { did = did; moment = moment_of r.members.failed old.clock } ∷ []) r old was)
-      (sym (look_told r closed (cases_Bool r.members.failed))) look_kept)
+      (subst (λ (did : Did). IsKept before began rates room sizes faults (marks ++ record { did = did; moment = moment_of r.vault.failed old.clock } ∷ []) r old was)
+      (sym (look_told r closed (cases_Bool r.vault.failed))) look_kept)
 
-  pub batch_look_kept : (items : List Captured) → r.members.failed ≡ true → (after : RecordingState) (new : Disk tells tells_images) (now : List ℕ) → after ≡ r → new ≡ old → now ≡ was
-      → IsKept before began rates room sizes faults (marks ++ batch_mark r.members.failed items after.members.failed new.clock ∷ []) after new now
+  pub batch_look_kept : (items : List Captured) → r.vault.failed ≡ true → (after : RecorderState) (new : Disk tells tells_images) (now : List ℕ) → after ≡ r → new ≡ old → now ≡ was
+      → IsKept before began rates room sizes faults (marks ++ batch_mark r.vault.failed items after.vault.failed new.clock ∷ []) after new now
   batch_look_kept items fails after new now same same_disk_ same_now =
-      subst (λ (x : RecordingState × Disk tells tells_images × List ℕ). IsKept before began rates room sizes faults (marks ++ batch_mark r.members.failed items x.0.members.failed x.1.clock ∷ []) x.0 x.1 x.2)
+      subst (λ (x : RecorderState × Disk tells tells_images × List ℕ). IsKept before began rates room sizes faults (marks ++ batch_mark r.vault.failed items x.0.vault.failed x.1.clock ∷ []) x.0 x.1 x.2)
       (λ i. (sym same i, sym same_disk_ i, sym same_now i))
-      (subst (λ (did : Did). IsKept before began rates room sizes faults (marks ++ record { did = did; moment = moment_of r.members.failed old.clock } ∷ []) r old was)
-      (sym (cond-true r.members.failed Look (Take items) fails)) look_kept)
+      (subst (λ (did : Did). IsKept before began rates room sizes faults (marks ++ record { did = did; moment = moment_of r.vault.failed old.clock } ∷ []) r old was)
+      (sym (cond-true r.vault.failed Look (Take items) fails)) look_kept)
 
   -- no run was begun where none is open
-  pub none_started : r.is_open ≡ false → r.members.failed ≡ false → (is_begun marks ≡ false) × (is_started marks ≡ false)
+  pub none_started : r.is_open ≡ false → r.vault.failed ≡ false → (is_begun marks ≡ false) × (is_started marks ≡ false)
   none_started closed works = let none : is_begun marks ≡ false = none_begun_yet (cases_Bool (is_begun marks)) in (none, sym (begun_whole marks (k.stage.whole works)) ∙ none)
     where
       none_begun_yet : (is_begun marks ≡ true) ⊎ (is_begun marks ≡ false) → is_begun marks ≡ false
@@ -369,13 +370,13 @@ module _ {tells tells_images : Type 0} (before : Before) (began : Opening → �
       on (inl is) = is
       on (inr none) = absurd (true≢false (sym opened ∙ (k.stage.idle none).0))
 
-  module _ (after : RecordingState) (new : Disk tells tells_images) (now : List ℕ) (home : StaysHome r old was after new now) (works : r.members.failed ≡ false) where
+  module _ (after : RecorderState) (new : Disk tells tells_images) (now : List ℕ) (home : StaysHome r old was after new now) (works : r.vault.failed ≡ false) where
     abbrev begin_mark : Mark
-    begin_mark = record { did = Begin; moment = moment_of after.members.failed new.clock }
+    begin_mark = record { did = Begin; moment = moment_of after.vault.failed new.clock }
 
     -- a start that called the media
     pub begin_kept : r.is_open ≡ false
-        → (after.members.failed ≡ false → (after.is_open ≡ true) × (after.maker.place ≤ 2 ^ 62) × ((g : ℕ) → g < 16 → next_number (counted_of after.maker g).pending ≡ 0))
+        → (after.vault.failed ≡ false → (after.is_open ≡ true) × (after.maker.place ≤ 2 ^ 62) × ((g : ℕ) → g < 16 → next_number (counted_of after.maker g).pending ≡ 0))
         → ((opening : Opening) (events : List Event) (t0 : ℕ) → tells → HasRecorded opening events t0 r old → HasDone opening events t0 (Commit (begun (next_start (state_left opening events))).made []) after old new)
         → IsKept before began rates room sizes faults (marks ++ begin_mark ∷ []) after new now
     begin_kept closed opens done =
@@ -384,9 +385,9 @@ module _ {tells tells_images : Type 0} (before : Before) (began : Opening → �
         let started : is_started (marks ++ begin_mark ∷ []) ≡ true = started_more marks begin_mark ∙ ap (λ (b : Bool). b || true) none.1 in
         kept_by begin_mark after new now home (λ e. absurd (true≢false (sym e)))
         (record {
-          open_is = λ is. opened (none.0) is (cases_Bool after.members.failed);
+          open_is = λ is. opened (none.0) is (cases_Bool after.vault.failed);
           idle = λ is. absurd (true≢false (sym started ∙ is));
-          whole = λ goes. all_more marks begin_mark (k.stage.whole works) (has_moment after.members.failed new.clock begin_mark.moment refl goes);
+          whole = λ goes. all_more marks begin_mark (k.stage.whole works) (has_moment after.vault.failed new.clock begin_mark.moment refl goes);
         })
         (λ told opening t0 b.
         let s = k.told told opening t0 b in
@@ -394,21 +395,21 @@ module _ {tells tells_images : Type 0} (before : Before) (began : Opening → �
         (subst (λ (start : RunStart). HasDone opening (events_of opening marks) t0 (Commit (begun start).made []) after old new) (s.next works none.1) (done opening (events_of opening marks) t0 told s.has))
         refl (λ goes. works) refl works none.1 idle.1)
       where
-        opened : is_begun marks ≡ false → is_begun (marks ++ begin_mark ∷ []) ≡ true → (after.members.failed ≡ true) ⊎ (after.members.failed ≡ false) → (after.is_open ≡ true) × AreFew (marks ++ begin_mark ∷ []) after
-        opened none is (inl fails) = absurd (true≢false (sym is ∙ begun_none marks begin_mark (no_moment after.members.failed new.clock fails) ∙ none))
+        opened : is_begun marks ≡ false → is_begun (marks ++ begin_mark ∷ []) ≡ true → (after.vault.failed ≡ true) ⊎ (after.vault.failed ≡ false) → (after.is_open ≡ true) × AreFew (marks ++ begin_mark ∷ []) after
+        opened none is (inl fails) = absurd (true≢false (sym is ∙ begun_none marks begin_mark (no_moment after.vault.failed new.clock fails) ∙ none))
         opened none is (inr goes) = let o = opens goes in (o.0, record { place = (let p = o.1 in omega (arith, p)); numbers = λ g small. let n = o.2 g small in omega (arith, n) })
 
-    pub start_kept : r.is_open ≡ false → (after.is_open ≡ true) ⊎ (after.members.failed ≡ true)
-        → (after.members.failed ≡ false → (after.is_open ≡ true) × (after.maker.place ≤ 2 ^ 62) × ((g : ℕ) → g < 16 → next_number (counted_of after.maker g).pending ≡ 0))
+    pub start_kept : r.is_open ≡ false → (after.is_open ≡ true) ⊎ (after.vault.failed ≡ true)
+        → (after.vault.failed ≡ false → (after.is_open ≡ true) × (after.maker.place ≤ 2 ^ 62) × ((g : ℕ) → g < 16 → next_number (counted_of after.maker g).pending ≡ 0))
         → ((opening : Opening) (events : List Event) (t0 : ℕ) → tells → HasRecorded opening events t0 r old → HasDone opening events t0 (Commit (begun (next_start (state_left opening events))).made []) after old new)
         → IsKept before began rates room sizes faults (marks ++ start_mark r after new.clock ∷ []) after new now
     start_kept closed how opens done =
-        subst (λ (did : Did). IsKept before began rates room sizes faults (marks ++ record { did = did; moment = moment_of after.members.failed new.clock } ∷ []) after new now)
+        subst (λ (did : Did). IsKept before began rates room sizes faults (marks ++ record { did = did; moment = moment_of after.vault.failed new.clock } ∷ []) after new now)
         (sym (begin_told r after works how)) (begin_kept closed opens done)
 
     module _ (items : List Captured) where
       abbrev take_mark : Mark
-      take_mark = record { did = Take items; moment = moment_of after.members.failed new.clock }
+      take_mark = record { did = Take items; moment = moment_of after.vault.failed new.clock }
 
       -- a batch that called the media
       pub take_kept : r.is_open ≡ true → after.is_open ≡ true → after.maker.place ≤ r.maker.place + 2 * length items
@@ -433,7 +434,7 @@ module _ {tells tells_images : Type 0} (before : Before) (began : Opening → �
               },
             );
             idle = λ is. absurd (true≢false (sym (started_same marks take_mark refl ∙ started) ∙ is));
-            whole = λ goes. all_more marks take_mark (k.stage.whole works) (has_moment after.members.failed new.clock take_mark.moment refl goes);
+            whole = λ goes. all_more marks take_mark (k.stage.whole works) (has_moment after.vault.failed new.clock take_mark.moment refl goes);
           })
           (λ told opening t0 b.
           let s = k.told told opening t0 b in
@@ -454,24 +455,24 @@ module _ {tells tells_images : Type 0} (before : Before) (began : Opening → �
           → (records : List Record)
           × ((recorder_after (state_left opening events).start ((state_left opening events).popped ++ items)).made ≡ (recorder_in (state_left opening events)).made ++ records)
           × HasDone opening events t0 (Commit records items) after old new)
-          → IsKept before began rates room sizes faults (marks ++ batch_mark r.members.failed items after.members.failed new.clock ∷ []) after new now
+          → IsKept before began rates room sizes faults (marks ++ batch_mark r.vault.failed items after.vault.failed new.clock ∷ []) after new now
       batch_kept open_was open_is place numbers done =
-          subst (λ (did : Did). IsKept before began rates room sizes faults (marks ++ record { did = did; moment = moment_of after.members.failed new.clock } ∷ []) after new now)
-          (sym (cond-false r.members.failed Look (Take items) works)) (take_kept open_was open_is place numbers done)
+          subst (λ (did : Did). IsKept before began rates room sizes faults (marks ++ record { did = did; moment = moment_of after.vault.failed new.clock } ∷ []) after new now)
+          (sym (cond-false r.vault.failed Look (Take items) works)) (take_kept open_was open_is place numbers done)
 
 module _ {tells tells_images : Type 0} (before : Before) (began : Opening → ℕ → Type 0) (rates : List (Option Rate)) (room : ℕ) (sizes faults : List ℕ) where
-  pub fresh_kept : (marks : List Mark) (r : RecordingState) (disk : Disk tells tells_images) (now : List ℕ) → IsKept before began rates room sizes faults marks r disk now → filter is_leading marks ≡ [] → IsFresh r disk
+  pub fresh_kept : (marks : List Mark) (r : RecorderState) (disk : Disk tells tells_images) (now : List ℕ) → IsKept before began rates room sizes faults marks r disk now → filter is_leading marks ≡ [] → IsFresh r disk
   fresh_kept marks r disk now k e = record { rings = k.rings; closed = (k.stage.idle (none_leads is_leading (λ m. refl) marks e)).0 }
 
-  pub taking_kept : (marks : List Mark) (r : RecordingState) (disk : Disk tells tells_images) (now : List ℕ) → IsKept before began rates room sizes faults marks r disk now → is_begun marks ≡ true
+  pub taking_kept : (marks : List Mark) (r : RecorderState) (disk : Disk tells tells_images) (now : List ℕ) → IsKept before began rates room sizes faults marks r disk now → is_begun marks ≡ true
       → IsTaking rates room (taken_in marks) r disk
   taking_kept marks r disk now k is =
       let o = k.stage.open_is is in
       record { rings = k.rings; open_is = o.0; rates_are = k.rates_are; sixteen = k.sixteen; room_is = k.room_is; place = o.1.place; numbers = o.1.numbers }
 
   -- before any turn
-  pub first_kept : (r : RecordingState) (disk : Disk tells tells_images) (now : List ℕ) → (r.members.config.groups ≡ rates) × (r.members.config.batch ≡ room) × (length rates ≡ 16)
-      → r.members.config.channels ≡ before.channels → AreRings r.members disk.sizes → (r.is_open ≡ false) × (r.members.failed ≡ false) → disk.sizes ≡ sizes → now ≡ faults
+  pub first_kept : (r : RecorderState) (disk : Disk tells tells_images) (now : List ℕ) → (r.vault.config.groups ≡ rates) × (r.vault.config.batch ≡ room) × (length rates ≡ 16)
+      → r.vault.config.channels ≡ before.channels → AreRings r.vault disk.sizes → (r.is_open ≡ false) × (r.vault.failed ≡ false) → disk.sizes ≡ sizes → now ≡ faults
       → (before.clock ≡ disk.clock) × ((i : Image) → disk.now i → before.now i) × ((t : ℕ) (i : Image) → disk.since t i → before.since t i) × (disk.reads ≡ before.reads)
       → ((opening : Opening) (t0 : ℕ) → began opening t0 → HasRecorded opening [] t0 r disk) → IsKept before began rates room sizes faults [] r disk now
   first_kept r disk now config channels rings new sizes_are faults_are was has = record {

@@ -5,7 +5,7 @@ use Rattle.vdr_durability.specs.Keeping.{moment_of}
 use Rattle.vdr_config.specs.Configuration.{Selector}
 use Rattle.vdr_control.specs.Orders.{PlainOrder}
 use Rattle.vdr_control.specs.Orders.PlainOrder.{Status, Save, Release, Play}
-use Rattle.vdr_vault.specs.Vaults.{MembersState}
+use Rattle.vdr_vault.specs.Vaults.{VaultState}
 use Rattle.vdr_reply.specs.Answers.{IsAnswer}
 use Rattle.vdr_reply.specs.Orders.{changes}
 use Rattle.vdr_session.specs.declared.mark.Did.{Did}
@@ -26,9 +26,9 @@ abbrev pub rose_in : (before now : ℕ) → Bool
 rose_in before now = nat_le (min (before + 1) (2 ^ 64 - 1)) now
 
 -- The mark of an order, by the vault before it, and the media's counts of faults before and after.
-abbrev pub order_mark : PlainOrder → MembersState → (failed_after : Bool) → (clock faults_before faults_after : ℕ) → Mark
-order_mark order members failed_after clock faults_before faults_after =
-    record { did = cond (changes order members) (did_for order) (cond (rose_in faults_before faults_after) dids.Miss dids.Look); moment = moment_of failed_after clock }
+abbrev pub order_mark : PlainOrder → VaultState → (failed_after : Bool) → (clock faults_before faults_after : ℕ) → Mark
+order_mark order vault failed_after clock faults_before faults_after =
+    record { did = cond (changes order vault) (did_for order) (cond (rose_in faults_before faults_after) dids.Miss dids.Look); moment = moment_of failed_after clock }
 
 -- The answer is a function of the history before its mark.
 abbrev pub AnswersMark : (tells : Type 0) (began : Opening → ℕ → Type 0) (channels : List Selector) → List Mark → Mark → PlainOrder → List ℕ → Type 0

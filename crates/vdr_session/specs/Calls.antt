@@ -6,18 +6,18 @@ use Rattle.vdr_vault.specs.Calls.{SameElsewhere}
 use Rattle.vdr_vault.specs.Vaults.{AreRings}
 use Rattle.vdr_capture.specs.declared.lane.Lane.{Lane}
 use Rattle.vdr_capture.specs.declared.sums.Outcome.TheVariants.{NoMemory}
-use Rattle.vdr_recorder.specs.Recordings.{RecordingState}
+use Rattle.vdr_recorder.specs.Recordings.{RecorderState}
 use Rattle.vdr_session.specs.declared.session.SessionEnd.{SessionEnd}
 use Rattle.vdr_session.specs.Sessions.{HasGroups, HasSessionCause}
 
 -- The recorder is over these media, no run is open, and no write has failed.
-pub record MayRecord (recording : RecordingState) (sizes : List ℕ) : Type 0 where
+pub record MayRecord (recorder : RecorderState) (sizes : List ℕ) : Type 0 where
   -- each ring is its medium's
-  pub rings : AreRings recording.members sizes
+  pub rings : AreRings recorder.vault sizes
   -- no run is open
-  pub closed : recording.is_open ≡ false
+  pub closed : recorder.is_open ≡ false
   -- no write has failed
-  pub works : recording.members.failed ≡ false
+  pub works : recorder.vault.failed ≡ false
 
 -- There is a lane for each of the sixteen groups, at the group's number.
 pub record AreByGroup {P : Type 0} (lanes : List (Lane P)) : Type 0 where

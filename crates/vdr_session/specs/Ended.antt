@@ -13,8 +13,8 @@ use Rattle.vdr_vault.specs.Calls.{SameElsewhere}
 use Rattle.vdr_capture.specs.declared.lane.Lane.{Lane}
 use Rattle.vdr_capture.specs.declared.sums.Outcome.{Outcome}
 use Rattle.vdr_capture.specs.declared.sums.Outcome.TheVariants as outcomes
-use Rattle.vdr_recorder.specs.Making.{CountsItems}
-use Rattle.vdr_recorder.specs.Recordings.{HasRecorded, RecordingState}
+use Rattle.vdr_run.specs.Making.{CountsItems}
+use Rattle.vdr_recorder.specs.Recordings.{HasRecorded, RecorderState}
 use Rattle.vdr_session.specs.declared.mark.Mark.{Mark}
 use Rattle.vdr_session.specs.declared.records.Began.{Began}
 use Rattle.vdr_session.specs.declared.records.Began.TheVariants.{Begun, Place, Tick, Fault}
@@ -37,7 +37,7 @@ IsWithFailures outcome end = (end ≡ outcome) ⊎ ((outcome ≡ outcomes.Done) 
 
 module _ {tells tells_images : Type 0} where
   -- The history that the marks tell, or that history and the close of its run.
-  pub record EndsRun (before : Before) (opening : Opening) (marks : List Mark) (t0 : ℕ) (rest : ℕ → Counts) (outcome : Outcome) (r : RecordingState) (disk : Disk tells tells_images) : Type 0 where
+  pub record EndsRun (before : Before) (opening : Opening) (marks : List Mark) (t0 : ℕ) (rest : ℕ → Counts) (outcome : Outcome) (r : RecorderState) (disk : Disk tells tells_images) : Type 0 where
     pub events : List Event
     pub behind : List Event
     pub front : events ≡ events_of opening marks ++ behind
@@ -50,7 +50,7 @@ module _ {tells tells_images : Type 0} where
 
   -- The session ended so.
   pub record HasEnded {P : Type 0} (port_tells : PortTells P) (turns : ℕ) (configured : ℕ → Bool) (queues : List (Option QueueId)) (takers_before takers_after : List (Option Taking)) (old new : List (Lane P))
-      (before : Before) (opened : Opening → ℕ → Type 0) (sizes faults : List ℕ) (beside : Began → List Mark → Type 0) (outcome : Outcome) (r : RecordingState) (disk : Disk tells tells_images) (now : List ℕ) : Type 0 where
+      (before : Before) (opened : Opening → ℕ → Type 0) (sizes faults : List ℕ) (beside : Began → List Mark → Type 0) (outcome : Outcome) (r : RecorderState) (disk : Disk tells tells_images) (now : List ℕ) : Type 0 where
     pub marks : List Mark
     pub began : Began
     pub besides : beside began marks
@@ -60,7 +60,7 @@ module _ {tells tells_images : Type 0} where
     pub rest : ℕ → Counts
     pub missed : began ≡ Begun → AreMissed queues new rest
     pub quiet : (began ≡ Begun → ⊥) → (g : ℕ) → rest g ≡ none_missed
-    pub works : outcome ≡ outcomes.Done → (has_fault marks ≡ false) × (r.members.failed ≡ false)
+    pub works : outcome ≡ outcomes.Done → (has_fault marks ≡ false) × (r.vault.failed ≡ false)
     pub later : NoneFalls faults now
     pub rose : outcome ≡ outcomes.MediaFault → Rose (sum faults) (sum now)
     pub sizes_are : disk.sizes ≡ sizes

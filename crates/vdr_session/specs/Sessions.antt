@@ -24,7 +24,7 @@ use Rattle.vdr_capture.specs.declared.lane.Lane.{Lane}
 use Rattle.vdr_capture.specs.declared.sums.GroupSums.{GroupSums}
 use Rattle.vdr_capture.specs.declared.sums.Outcome.{Outcome}
 use Rattle.vdr_capture.specs.declared.sums.Outcome.TheVariants.{Done, NoMemory, Place, Tick, MediaFault, PortFault, LinkFault}
-use Rattle.vdr_recorder.specs.Recordings.{HasRecorded, Passes, RecordingState, start_of_opening}
+use Rattle.vdr_recorder.specs.Recordings.{HasRecorded, Passes, RecorderState, start_of_opening}
 use Rattle.vdr_session.specs.declared.session.SessionEnd.{SessionEnd}
 use Rattle.vdr_session.specs.Ran.{PortRan, PortRests}
 use Rattle.vdr_session.specs.Standing.{MayBegin, StartMeans}
@@ -137,7 +137,7 @@ pub record RecordsSession (start : RunStart) (rates : List (Option Rate)) (capac
 
 -- A session over these lanes, with a recorder over these media, in whose history this holds of what was replied.
 pub record SessionWith {P : Type 0} (port_tells : PortTells P) {tells tells_images : Type 0} (turns capacity : ℕ) (rates : List (Option Rate)) (old new : List (Lane P))
-    (recording : RecordingState) (before after : Disk tells tells_images) (end : SessionEnd) (replied : Opening → List Event → Type 0) : Type 0 where
+    (recorder : RecorderState) (before after : Disk tells tells_images) (end : SessionEnd) (replied : Opening → List Event → Type 0) : Type 0 where
   pub began : Bool
   pub given : ℕ → List Item
   pub rest : ℕ → Counts
@@ -147,13 +147,13 @@ pub record SessionWith {P : Type 0} (port_tells : PortTells P) {tells tells_imag
   pub lanes : end.outcome ≢ NoMemory → (g : ℕ) (d : Lane P) → g < 16
       → LaneTold port_tells turns capacity began g (get_or rates g None) (get_or end.intakes g None) (get_or old g d).port (get_or new g d) (given g) (rest g)
   pub runs : is_closed end.outcome ≡ true → began ≡ true
-  pub told : tells → (opening : Opening) (t0 : ℕ) → HasRecorded opening [] t0 recording before
+  pub told : tells → (opening : Opening) (t0 : ℕ) → HasRecorded opening [] t0 recorder before
       → (events : List Event) × KeepsSession opening t0 end.outcome before after events × RecordsSession (start_of_opening opening) rates capacity given rest items lost end (recorded events) × replied opening events
 
 -- A session without desks.
 abbrev pub Session : {P : Type 0} (port_tells : PortTells P) {tells tells_images : Type 0} (turns capacity : ℕ) (rates : List (Option Rate)) (old new : List (Lane P))
-    (recording : RecordingState) (before after : Disk tells tells_images) (end : SessionEnd) → Type 0
-Session port_tells turns capacity rates old new recording before after end = SessionWith port_tells turns capacity rates old new recording before after end (λ opening events. ⊤)
+    (recorder : RecorderState) (before after : Disk tells tells_images) (end : SessionEnd) → Type 0
+Session port_tells turns capacity rates old new recorder before after end = SessionWith port_tells turns capacity rates old new recorder before after end (λ opening events. ⊤)
 
 -- There are sums and queues of the configured groups, unless there was no memory for them.
 abbrev pub has_groups : Outcome → Bool

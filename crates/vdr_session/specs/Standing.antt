@@ -12,8 +12,9 @@ use Rattle.vdr_outside.specs.Causes.{NoneFalls, Rose}
 use Rattle.vdr_outside.specs.Disk.{Disk, Image}
 use Rattle.vdr_vault.specs.Calls.{SameElsewhere}
 use Rattle.vdr_vault.specs.Vaults.{AreRings, ShowsHistory}
-use Rattle.vdr_recorder.specs.Making.{counted_of, numbers_of}
-use Rattle.vdr_recorder.specs.Recordings.{HasRecorded, RecordingState}
+use Rattle.vdr_run.specs.Making.{counted_of}
+use Rattle.vdr_recorder.specs.Making.{numbers_of}
+use Rattle.vdr_recorder.specs.Recordings.{HasRecorded, RecorderState}
 use Rattle.vdr_session.specs.declared.mark.Mark.{Mark}
 use Rattle.vdr_session.specs.declared.mark.Did.TheVariants.{Begin, Take, Look}
 use Rattle.vdr_session.specs.declared.records.Began.{Began}
@@ -22,15 +23,15 @@ use Rattle.vdr_session.specs.Events.{events_of, is_started, run_records, start_o
 use Rattle.vdr_session.specs.Marks.{has_missed, is_begun, taken_in}
 
 -- The places and numbers of the run stay small: an item takes two places at most, and its numbers.
-pub record AreFew (marks : List Mark) (r : RecordingState) : Type 0 where
+pub record AreFew (marks : List Mark) (r : RecorderState) : Type 0 where
   pub place : r.maker.place ≤ 2 ^ 62 + 2 * length (taken_in marks)
   pub numbers : (g : ℕ) → g < 16 → next_number (counted_of r.maker g).pending ≤ numbers_of g (taken_in marks)
 
 -- Whether a run is open, and how far it is.
-pub record IsAt (marks : List Mark) (r : RecordingState) : Type 0 where
+pub record IsAt (marks : List Mark) (r : RecorderState) : Type 0 where
   pub open_is : is_begun marks ≡ true → (r.is_open ≡ true) × AreFew marks r
   pub idle : is_started marks ≡ false → (r.is_open ≡ false) × (taken_in marks ≡ [])
-  pub whole : r.members.failed ≡ false → All (λ m. m.moment ≢ None) marks
+  pub whole : r.vault.failed ≡ false → All (λ m. m.moment ≢ None) marks
 
 -- The media as the session began: what a stop might have left of them then.
 pub record Before : Type 1 where
@@ -60,41 +61,41 @@ module _ {tells tells_images : Type 0} where
     pub earlier : (t : ℕ) (i : Image) → t ≤ before.clock → disk.since t i → before.since t i ⊎ (before.now i ⊎ ShowsPrefix (ShowsHistory opening) events 0 i)
 
   -- The recorder has made the history that the marks tell: its records are those of the one run.
-  pub record HasSession (before : Before) (opening : Opening) (marks : List Mark) (t0 : ℕ) (r : RecordingState) (disk : Disk tells tells_images) : Type 0 where
+  pub record HasSession (before : Before) (opening : Opening) (marks : List Mark) (t0 : ℕ) (r : RecorderState) (disk : Disk tells tells_images) : Type 0 where
     pub has : HasRecorded opening (events_of opening marks) t0 r disk
     pub made : recorded (events_of opening marks) ≡ run_records opening marks
-    pub begun : r.members.failed ≡ false → is_begun marks ≡ true
+    pub begun : r.vault.failed ≡ false → is_begun marks ≡ true
         → ((state_left opening (events_of opening marks)).start ≡ start_of opening) × ((state_left opening (events_of opening marks)).popped ≡ taken_in marks)
-    pub next : r.members.failed ≡ false → is_started marks ≡ false → next_start (state_left opening (events_of opening marks)) ≡ start_of opening
+    pub next : r.vault.failed ≡ false → is_started marks ≡ false → next_start (state_left opening (events_of opening marks)) ≡ start_of opening
     pub passes : PassesSince before opening (events_of opening marks) disk
 
   -- What holds of it and its media at home.
-  pub record IsKept (before : Before) (began : Opening → ℕ → Type 0) (rates : List (Option Rate)) (room : ℕ) (sizes faults : List ℕ) (marks : List Mark) (r : RecordingState) (disk : Disk tells tells_images) (now : List ℕ) : Type 0 where
-    pub rates_are : r.members.config.groups ≡ rates
+  pub record IsKept (before : Before) (began : Opening → ℕ → Type 0) (rates : List (Option Rate)) (room : ℕ) (sizes faults : List ℕ) (marks : List Mark) (r : RecorderState) (disk : Disk tells tells_images) (now : List ℕ) : Type 0 where
+    pub rates_are : r.vault.config.groups ≡ rates
     pub sixteen : length rates ≡ 16
-    pub room_is : r.members.config.batch ≡ room
-    pub rings : AreRings r.members disk.sizes
+    pub room_is : r.vault.config.batch ≡ room
+    pub rings : AreRings r.vault disk.sizes
     pub sizes_are : disk.sizes ≡ sizes
     pub elsewhere : tells → SameElsewhere before.reads disk.reads
     pub later : NoneFalls faults now
-    pub rose : r.members.failed ≡ true → Rose (sum faults) (sum now)
+    pub rose : r.vault.failed ≡ true → Rose (sum faults) (sum now)
     pub stage : IsAt marks r
-    pub channels_are : r.members.config.channels ≡ before.channels
+    pub channels_are : r.vault.config.channels ≡ before.channels
     pub missed : has_missed marks ≡ true → Rose (sum faults) (sum now)
     pub told : tells → (opening : Opening) (t0 : ℕ) → began opening t0 → HasSession before opening marks t0 r disk
 
   -- A run is open in which these items were taken, and its numbers are small.
-  pub record IsTaking (rates : List (Option Rate)) (room : ℕ) (popped : List Captured) (r : RecordingState) (disk : Disk tells tells_images) : Type 0 where
-    pub rings : AreRings r.members disk.sizes
+  pub record IsTaking (rates : List (Option Rate)) (room : ℕ) (popped : List Captured) (r : RecorderState) (disk : Disk tells tells_images) : Type 0 where
+    pub rings : AreRings r.vault disk.sizes
     pub open_is : r.is_open ≡ true
-    pub rates_are : r.members.config.groups ≡ rates
+    pub rates_are : r.vault.config.groups ≡ rates
     pub sixteen : length rates ≡ 16
-    pub room_is : r.members.config.batch ≡ room
+    pub room_is : r.vault.config.batch ≡ room
     pub place : r.maker.place ≤ 2 ^ 62 + 2 * length popped
     pub numbers : (g : ℕ) → g < 16 → next_number (counted_of r.maker g).pending ≤ numbers_of g popped
 
-  pub record IsFresh (r : RecordingState) (disk : Disk tells tells_images) : Type 0 where
-    pub rings : AreRings r.members disk.sizes
+  pub record IsFresh (r : RecorderState) (disk : Disk tells tells_images) : Type 0 where
+    pub rings : AreRings r.vault disk.sizes
     pub closed : r.is_open ≡ false
 
 -- The mark of a batch: a look where the media had failed before.
@@ -102,5 +103,5 @@ abbrev pub batch_mark : (failed : Bool) → List Captured → (failed_after : Bo
 batch_mark failed items failed_after clock = record { did = cond failed Look (Take items); moment = moment_of failed_after clock }
 
 -- The mark of a start: it began the run, or met a fault in it; else it was refused.
-abbrev pub start_mark : RecordingState → RecordingState → ℕ → Mark
-start_mark old new clock = record { did = cond old.members.failed Look (cond new.is_open Begin (cond new.members.failed Begin Look)); moment = moment_of new.members.failed clock }
+abbrev pub start_mark : RecorderState → RecorderState → ℕ → Mark
+start_mark old new clock = record { did = cond old.vault.failed Look (cond new.is_open Begin (cond new.vault.failed Begin Look)); moment = moment_of new.vault.failed clock }

@@ -26,12 +26,12 @@ use std::thread::Threads;
 use vdr_capture::{Lane, Outcome};
 use vdr_desk::Desk;
 use vdr_outside::{Link, Media, Port};
-use vdr_recorder::Recording;
+use vdr_recorder::Recorder;
 
 /// The recorder after a session, and how the session ended, but for its ports.
 #[derive(Drop)]
 pub(crate) struct Ended {
-    pub recording: Recording,
+    pub recorder: Recorder,
     pub outcome: Outcome,
 }
 
@@ -59,7 +59,7 @@ pub(crate) fn run_lent<
 >(
     rt: &R,
     alloc: Global,
-    recording: Recording,
+    recorder: Recorder,
     media: &'a mut M,
     lanes: &mut [Lane<P>],
     desks: &mut [Desk<L, Mark>],
@@ -68,12 +68,12 @@ pub(crate) fn run_lent<
     room: usize,
 ) -> (&'a mut M, Option<Ended>)
     requires name { O.name ≡ media.ghost_name }
-    requires began { (opening : Opening) (t0 : ℕ) → O.began opening t0 → HasRecorded opening [] t0 recording (M.disk media.old) }
+    requires began { (opening : Opening) (t0 : ℕ) → O.began opening t0 → HasRecorded opening [] t0 recorder (M.disk media.old) }
     requires before { (O.clock ≡ (M.disk media.old).clock) × ((i : Image) → (M.disk media.old).now i → O.now i) × ((t : ℕ) (i : Image) → (M.disk media.old).since t i → O.since t i) × ((M.disk media.old).reads ≡ O.reads) }
-    requires config { (recording.members.config.groups ≡ O.rates) × (recording.members.config.batch ≡ O.room) × (length O.rates ≡ 16) }
-    requires channels { recording.members.config.channels ≡ O.channels }
-    requires rings { AreRings recording.members (M.disk media.old).sizes }
-    requires new { (recording.is_open ≡ false) × (recording.members.failed ≡ false) }
+    requires config { (recorder.vault.config.groups ≡ O.rates) × (recorder.vault.config.batch ≡ O.room) × (length O.rates ≡ 16) }
+    requires channels { recorder.vault.config.channels ≡ O.channels }
+    requires rings { AreRings recorder.vault (M.disk media.old).sizes }
+    requires new { (recorder.is_open ≡ false) × (recorder.vault.failed ≡ false) }
     requires sizes { (M.disk media.old).sizes ≡ O.sizes }
     requires faults { M.faults media.old ≡ O.faults }
     requires turns { turns ≤ most_items }
@@ -84,14 +84,14 @@ pub(crate) fn run_lent<
     requires empty { memory.old.batch.items.items ≡ [] }
     ensures same { result.0.ghost_name ≡ media.entry.ghost_name }
     ensures ended { IfSome result.1 (λ e. HasEnded P.Port turns (λ g. is_configured (limits_in O.rates g)) memory.old.queues memory.old.takers memory.new.takers lanes.old lanes.new
-        (record { clock = O.clock; now = O.now; since = O.since; reads = O.reads; channels = O.channels }) O.began O.sizes O.faults (λ began marks. DesksRan L.Link (AnswersMark M.tells O.began O.channels) turns desks.old desks.new began marks) e.outcome e.recording (M.disk result.0.now) (M.faults result.0.now)) }
+        (record { clock = O.clock; now = O.now; since = O.since; reads = O.reads; channels = O.channels }) O.began O.sizes O.faults (λ began marks. DesksRan L.Link (AnswersMark M.tells O.began O.channels) turns desks.old desks.new began marks) e.outcome e.recorder (M.disk result.0.now) (M.faults result.0.now)) }
     ensures queues { memory.new.queues ≡ memory.old.queues }
     ensures refused { result.1 ≡ None → (result.0.now ≡ media.entry.now) × (lanes.new ≡ lanes.old) × (desks.new ≡ desks.old) }
 {
     let (media, recorded) = record_lent::<M, P, L, O, R>(
         rt,
         alloc,
-        recording,
+        recorder,
         media,
         lanes,
         desks,
@@ -103,7 +103,7 @@ pub(crate) fn run_lent<
     );
     let Some(
         Recorded {
-            mut recording,
+            mut recorder,
             began,
         },
     ) = recorded
@@ -112,11 +112,11 @@ pub(crate) fn run_lent<
     };
     let Began::Begun = began else {
         let outcome = refused(began);
-        return (media, Some(Ended { recording, outcome }));
+        return (media, Some(Ended { recorder, outcome }));
     };
-    let outcome = match recording.stop(media, &rest_of(lanes, &memory.queues)) {
+    let outcome = match recorder.stop(media, &rest_of(lanes, &memory.queues)) {
         Ok(()) => Outcome::Done,
         Err(_) => Outcome::MediaFault,
     };
-    (media, Some(Ended { recording, outcome }))
+    (media, Some(Ended { recorder, outcome }))
 }

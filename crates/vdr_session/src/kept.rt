@@ -5,7 +5,7 @@ use std::marker::{Brand, PhantomData};
 use vdr_intake::Captured;
 use vdr_latch::Stepped;
 use vdr_outside::Media;
-use vdr_recorder::{Recording, StartRefused};
+use vdr_recorder::{Recorder, StartRefused};
 
 /// The recorder and the media as the session began. The one call that makes it picks them.
 pub(crate) trait Lent {
@@ -75,7 +75,7 @@ impl Lent for Brand {
 /// A recorder with its media. The reference is the one that it was made with.
 #[derive(Drop)]
 pub(crate) struct Kept<'a, M: Media, O: Lent> {
-    pub recording: Recording,
+    pub recorder: Recorder,
     pub media: &'a mut M,
     pub of: PhantomData<O>,
 }
@@ -87,7 +87,7 @@ impl<'a, M: Media, O: Lent> Stepped for Kept<'a, M, O> {
 
     type Event = Mark;
 
-    ghost leaves = { λ marks k. IsKept (record { clock = O.clock; now = O.now; since = O.since; reads = O.reads; channels = O.channels }) O.began O.rates O.room O.sizes O.faults marks k.recording (M.disk k.media.now) (M.faults k.media.now) × (k.media.ghost_name ≡ O.name) };
+    ghost leaves = { λ marks k. IsKept (record { clock = O.clock; now = O.now; since = O.since; reads = O.reads; channels = O.channels }) O.began O.rates O.room O.sizes O.faults marks k.recorder (M.disk k.media.now) (M.faults k.media.now) × (k.media.ghost_name ≡ O.name) };
 
     ghost leading = { is_leading };
 }
@@ -103,18 +103,18 @@ impl<'a, M: Media, O: Lent> Records for Kept<'a, M, O> {
 
     ghost configured = { λ g. is_configured (limits_in O.rates g) };
 
-    ghost takes = { λ popped k. IsTaking O.rates O.room popped k.recording (M.disk k.media.now) };
+    ghost takes = { λ popped k. IsTaking O.rates O.room popped k.recorder (M.disk k.media.now) };
 
-    ghost batch = { λ k items l. batch_mark k.recording.members.failed items l.recording.members.failed (M.disk l.media.now).clock };
+    ghost batch = { λ k items l. batch_mark k.recorder.vault.failed items l.recorder.vault.failed (M.disk l.media.now).clock };
 
-    ghost fresh = { λ k. IsFresh k.recording (M.disk k.media.now) };
+    ghost fresh = { λ k. IsFresh k.recorder (M.disk k.media.now) };
 
     ghost means = { λ began. M.tells → (opening : Opening) (t0 : ℕ) → O.began opening t0 → StartMeans opening began };
 
-    ghost start = { λ k l. start_mark k.recording l.recording (M.disk l.media.now).clock };
+    ghost start = { λ k l. start_mark k.recorder l.recorder (M.disk l.media.now).clock };
 
     fn begin(&mut self) -> Began {
-        match self.recording.start(self.media) {
+        match self.recorder.start(self.media) {
             Ok(()) => Began::Begun,
             Err(StartRefused::Place) => Began::Place,
             Err(StartRefused::Tick) => Began::Tick,
@@ -123,6 +123,6 @@ impl<'a, M: Media, O: Lent> Records for Kept<'a, M, O> {
     }
 
     fn take_batch(&mut self, items: &[Captured]) -> bool {
-        self.recording.take_batch(self.media, items).is_ok()
+        self.recorder.take_batch(self.media, items).is_ok()
     }
 }

@@ -27,12 +27,12 @@ use vdr_capture::Lane;
 use vdr_desk::Desk;
 use vdr_intake::{Intake, Taker};
 use vdr_outside::{Link, Media, Port};
-use vdr_recorder::Recording;
+use vdr_recorder::Recorder;
 
 /// The recorder after a session, and how its run began.
 #[derive(Drop)]
 pub(crate) struct Recorded {
-    pub recording: Recording,
+    pub recorder: Recorder,
     pub began: Began,
 }
 
@@ -47,7 +47,7 @@ pub(crate) fn record_lent<
 >(
     rt: &R,
     alloc: Global,
-    recording: Recording,
+    recorder: Recorder,
     media: &'a mut M,
     lanes: &mut [Lane<P>],
     desks: &mut [Desk<L, Mark>],
@@ -58,12 +58,12 @@ pub(crate) fn record_lent<
     room: usize,
 ) -> (&'a mut M, Option<Recorded>)
     requires name { O.name ≡ media.ghost_name }
-    requires began { (opening : Opening) (t0 : ℕ) → O.began opening t0 → HasRecorded opening [] t0 recording (M.disk media.old) }
+    requires began { (opening : Opening) (t0 : ℕ) → O.began opening t0 → HasRecorded opening [] t0 recorder (M.disk media.old) }
     requires before { (O.clock ≡ (M.disk media.old).clock) × ((i : Image) → (M.disk media.old).now i → O.now i) × ((t : ℕ) (i : Image) → (M.disk media.old).since t i → O.since t i) × ((M.disk media.old).reads ≡ O.reads) }
-    requires config { (recording.members.config.groups ≡ O.rates) × (recording.members.config.batch ≡ O.room) × (length O.rates ≡ 16) }
-    requires channels { recording.members.config.channels ≡ O.channels }
-    requires rings { AreRings recording.members (M.disk media.old).sizes }
-    requires new { (recording.is_open ≡ false) × (recording.members.failed ≡ false) }
+    requires config { (recorder.vault.config.groups ≡ O.rates) × (recorder.vault.config.batch ≡ O.room) × (length O.rates ≡ 16) }
+    requires channels { recorder.vault.config.channels ≡ O.channels }
+    requires rings { AreRings recorder.vault (M.disk media.old).sizes }
+    requires new { (recorder.is_open ≡ false) × (recorder.vault.failed ≡ false) }
     requires sizes { (M.disk media.old).sizes ≡ O.sizes }
     requires faults { M.faults media.old ≡ O.faults }
     requires turns { turns ≤ most_items }
@@ -74,14 +74,14 @@ pub(crate) fn record_lent<
     requires empty { batch.old.items.items ≡ [] }
     ensures same { result.0.ghost_name ≡ media.entry.ghost_name }
     ensures closed { IfSome result.1 (λ r. (marks : List Marked)
-        × IsKept (record { clock = O.clock; now = O.now; since = O.since; reads = O.reads; channels = O.channels }) O.began O.rates O.room O.sizes O.faults marks r.recording (M.disk result.0.now) (M.faults result.0.now)
+        × IsKept (record { clock = O.clock; now = O.now; since = O.since; reads = O.reads; channels = O.channels }) O.began O.rates O.room O.sizes O.faults marks r.recorder (M.disk result.0.now) (M.faults result.0.now)
         × HasClosed P.Port turns (λ g. is_configured (limits_in O.rates g)) queues.now takers.old takers.new lanes.old lanes.new r.began marks
         × DesksRan L.Link (AnswersMark M.tells O.began O.channels) turns desks.old desks.new r.began marks
         × (M.tells → (opening : Opening) (t0 : ℕ) → O.began opening t0 → StartMeans opening r.began)) }
     ensures refused { result.1 ≡ None → (result.0.now ≡ media.entry.now) × (lanes.new ≡ lanes.old) × (desks.new ≡ desks.old) × (takers.new ≡ takers.old) }
 {
     let kept = Kept::<M, O> {
-        recording,
+        recorder,
         media,
         of: PhantomData,
     };
@@ -90,15 +90,15 @@ pub(crate) fn record_lent<
     ) {
         Ok(Closed { value, began }) => {
             let Kept {
-                recording,
+                recorder,
                 media,
                 of: _,
             } = value;
-            (media, Some(Recorded { recording, began }))
+            (media, Some(Recorded { recorder, began }))
         }
         Err(refused) => {
             let Kept {
-                recording: _,
+                recorder: _,
                 media,
                 of: _,
             } = refused.value;

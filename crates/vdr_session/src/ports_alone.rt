@@ -14,7 +14,7 @@ use std::thread::Threads;
 use vdr_capture::Lane;
 use vdr_desk::Desk;
 use vdr_outside::{Failed, Heard, Link, Media, Port};
-use vdr_recorder::Recording;
+use vdr_recorder::Recorder;
 
 /// A link with no line. There is none in a session over ports alone.
 #[derive(Drop)]
@@ -49,18 +49,18 @@ impl Link for NoLine {
 pub fn record<M: Media + Send, P: Port + Send, R: Threads + Wait + Sync>(
     rt: &R,
     alloc: Global,
-    recording: Recording,
+    recorder: Recorder,
     media: &mut M,
     lanes: &mut [Lane<P>],
     turns: u64,
 ) -> SessionEnd
-    requires recorder { MayRecord recording (M.disk media.old).sizes }
+    requires recorder { MayRecord recorder (M.disk media.old).sizes }
     requires lanes { AreByGroup lanes.old }
     requires turns { turns ≤ most_items }
-    ensures session { Session P.Port turns recording.members.config.queue recording.members.config.groups lanes.old lanes.new recording (M.disk media.old) (M.disk media.new) result }
+    ensures session { Session P.Port turns recorder.vault.config.queue recorder.vault.config.groups lanes.old lanes.new recorder (M.disk media.old) (M.disk media.new) result }
     ensures ports { PortsTold result.outcome lanes.new }
-    ensures ends { EndsSession M.Media recording.members.config.groups lanes.old lanes.new media.old media.new result }
+    ensures ends { EndsSession M.Media recorder.vault.config.groups lanes.old lanes.new media.old media.new result }
 {
     let mut none: [Desk<NoLine, Mark>; 0] = [];
-    record_at_desks(rt, alloc, recording, media, lanes, &mut none, turns)
+    record_at_desks(rt, alloc, recorder, media, lanes, &mut none, turns)
 }

@@ -24,7 +24,7 @@ use std::thread::Threads;
 use vdr_capture::{Lane, Outcome};
 use vdr_desk::{Desk, failed_link};
 use vdr_outside::{Link, Media, Port};
-use vdr_recorder::Recording;
+use vdr_recorder::Recorder;
 
 // There was no memory, and nothing was recorded.
 fn without_memory() -> SessionEnd
@@ -73,30 +73,30 @@ fn reset<L>(desks: &mut [Desk<L, Mark>])
 fn record_and_reply<M: Media + Send, P: Port + Send, L: Link + Send, R: Threads + Wait + Sync>(
     rt: &R,
     alloc: Global,
-    recording: Recording,
+    recorder: Recorder,
     media: &mut M,
     lanes: &mut [Lane<P>],
     desks: &mut [Desk<L, Mark>],
     turns: u64,
 ) -> SessionEnd
-    requires rings { AreRings recording.members (M.disk media.old).sizes }
-    requires new { (recording.is_open ≡ false) × (recording.members.failed ≡ false) }
+    requires rings { AreRings recorder.vault (M.disk media.old).sizes }
+    requires new { (recorder.is_open ≡ false) × (recorder.vault.failed ≡ false) }
     requires lanes { length lanes.old ≡ 16 }
     requires groups { (g : ℕ) (d : _) → g < 16 → (slice_index_or lanes.old g d).group ≡ g }
     requires desks { length desks.old < 2 ^ 32 }
     requires turns { turns ≤ most_items }
-    ensures session { SessionWith P.Port turns recording.members.config.queue recording.members.config.groups lanes.old lanes.new recording (M.disk media.old) (M.disk media.new) result
-        (DesksReplied L.Link turns recording.members.config.channels (Rose (sum (M.faults media.old)) (sum (M.faults media.new))) result.outcome desks.old desks.new) }
+    ensures session { SessionWith P.Port turns recorder.vault.config.queue recorder.vault.config.groups lanes.old lanes.new recorder (M.disk media.old) (M.disk media.new) result
+        (DesksReplied L.Link turns recorder.vault.config.channels (Rose (sum (M.faults media.old)) (sum (M.faults media.new))) result.outcome desks.old desks.new) }
     ensures desks { DesksTold L.Link turns result.outcome desks.old desks.new }
     ensures failures { FailureTold result.outcome lanes.new desks.new }
-    ensures groups { HasGroups recording.members.config.groups result }
+    ensures groups { HasGroups recorder.vault.config.groups result }
     ensures memory { result.outcome ≡ NoMemory → (media.new ≡ media.old) × ((g : ℕ) (d : _) → g < 16 → (slice_index_or lanes.new g d).port ≡ (slice_index_or lanes.old g d).port) }
     ensures others { M.tells → SameElsewhere (M.disk media.old).reads (M.disk media.new).reads }
     ensures sizes { (M.disk media.new).sizes ≡ (M.disk media.old).sizes }
     ensures cause { HasSessionCause (M.faults media.old) (M.faults media.new) result.outcome }
 {
-    let plan = Plan::new(recording.config());
-    let first = recording.status().records;
+    let plan = Plan::new(recorder.config());
+    let first = recorder.status().records;
     reset(desks);
     let Ok(mut memory) = Memory::new(alloc, &plan, lanes) else {
         return without_memory();
@@ -104,7 +104,7 @@ fn record_and_reply<M: Media + Send, P: Port + Send, L: Link + Send, R: Threads 
     let (media, ended) = run_lent::<M, P, L, Brand, R>(
         rt,
         alloc,
-        recording,
+        recorder,
         media,
         lanes,
         desks,
@@ -113,13 +113,13 @@ fn record_and_reply<M: Media + Send, P: Port + Send, L: Link + Send, R: Threads 
         plan.room,
     );
     let _ = &*media;
-    let Some(Ended { recording, outcome }) = ended else {
+    let Some(Ended { recorder, outcome }) = ended else {
         return without_memory();
     };
     SessionEnd {
         outcome: with_failures(outcome, lanes, desks),
-        groups: sums(&recording, lanes, &memory.queues),
-        records: recording.status().records.saturating_sub(first),
+        groups: sums(&recorder, lanes, &memory.queues),
+        records: recorder.status().records.saturating_sub(first),
         intakes: intakes_of(memory.queues, memory.takers),
     }
 }
@@ -140,21 +140,21 @@ fn record_and_reply<M: Media + Send, P: Port + Send, L: Link + Send, R: Threads 
 pub fn record_at_desks<M: Media + Send, P: Port + Send, L: Link + Send, R: Threads + Wait + Sync>(
     rt: &R,
     alloc: Global,
-    recording: Recording,
+    recorder: Recorder,
     media: &mut M,
     lanes: &mut [Lane<P>],
     desks: &mut [Desk<L, Mark>],
     turns: u64,
 ) -> SessionEnd
-    requires recorder { MayRecord recording (M.disk media.old).sizes }
+    requires recorder { MayRecord recorder (M.disk media.old).sizes }
     requires lanes { AreByGroup lanes.old }
     requires desks { length desks.old < 2 ^ 32 }
     requires turns { turns ≤ most_items }
-    ensures session { SessionWith P.Port turns recording.members.config.queue recording.members.config.groups lanes.old lanes.new recording (M.disk media.old) (M.disk media.new) result
-        (DesksReplied L.Link turns recording.members.config.channels (Rose (sum (M.faults media.old)) (sum (M.faults media.new))) result.outcome desks.old desks.new) }
+    ensures session { SessionWith P.Port turns recorder.vault.config.queue recorder.vault.config.groups lanes.old lanes.new recorder (M.disk media.old) (M.disk media.new) result
+        (DesksReplied L.Link turns recorder.vault.config.channels (Rose (sum (M.faults media.old)) (sum (M.faults media.new))) result.outcome desks.old desks.new) }
     ensures desks { DesksTold L.Link turns result.outcome desks.old desks.new }
     ensures failures { FailureTold result.outcome lanes.new desks.new }
-    ensures ends { EndsSession M.Media recording.members.config.groups lanes.old lanes.new media.old media.new result }
+    ensures ends { EndsSession M.Media recorder.vault.config.groups lanes.old lanes.new media.old media.new result }
 {
-    record_and_reply(rt, alloc, recording, media, lanes, desks, turns)
+    record_and_reply(rt, alloc, recorder, media, lanes, desks, turns)
 }

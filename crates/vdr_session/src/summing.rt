@@ -4,15 +4,16 @@ ghost use Rattle.vdr_history.specs.Runs.{RunStart};
 ghost use Rattle.vdr_history.specs.Taken.{Captured as CapturedTold};
 ghost use Rattle.vdr_intake.specs.Ends.{QueueId, Taking};
 ghost use Rattle.vdr_capture.specs.declared.lane.Cause.TheVariants.{Failed};
-ghost use Rattle.vdr_recorder.specs.Making.{CountsItems, rest_of};
+ghost use Rattle.vdr_run.specs.Making.{CountsItems, rest_of};
 ghost use Rattle.vdr_session.specs.Feeding.{AreMissed, RestIs};
 ghost use Rattle.vdr_session.specs.Sessions.{IsLeastFailed};
 ghost use Rattle.vdr_session.specs.Summing.{KnowsFull, paired, summed};
 
 use crate::making::none;
-use vdr_capture::{Cause, Counts, GroupSums, Lane};
+use vdr_capture::{Cause, GroupSums, Lane};
 use vdr_intake::{Intake, Taker};
-use vdr_recorder::Recording;
+use vdr_recorder::Recorder;
+use vdr_terms::Counts;
 
 /// No item.
 const NONE: Counts = Counts {
@@ -46,19 +47,19 @@ pub(crate) fn rest_of<P>(lanes: &[Lane<P>], queues: &[Option<Intake>; 16]) -> [C
 
 // The sums of a group, by what its lane and the recorder have counted, where it has a queue.
 fn sums_of<P>(
-    recording: &Recording,
+    recorder: &Recorder,
     lane: &Lane<P>,
     queue: &Option<Intake>,
     group: u8,
 ) -> Option<GroupSums>
     requires { group < 16 }
     ensures some { is_some result ≡ is_some queue.now }
-    ensures sums { (start : RunStart) (popped : List CapturedTold) → CountsItems start popped recording.now.maker → is_some queue.now ≡ true → result ≡ Some (summed start popped lane.now.tally group) }
+    ensures sums { (start : RunStart) (popped : List CapturedTold) → CountsItems start popped recorder.now.maker → is_some queue.now ≡ true → result ≡ Some (summed start popped lane.now.tally group) }
 {
     if queue.is_none() {
         return None;
     }
-    let (recorded, rate) = recording.recorded(group);
+    let (recorded, rate) = recorder.recorded(group);
     let missed = lane.tally.totals();
     Some(GroupSums {
         taken: lane.tally.taken(),
@@ -69,18 +70,18 @@ fn sums_of<P>(
 
 /// The sums of each group with a queue, None for the others.
 pub(crate) fn sums<P>(
-    recording: &Recording,
+    recorder: &Recorder,
     lanes: &[Lane<P>],
     queues: &[Option<Intake>; 16],
 ) -> [Option<GroupSums>; 16]
     requires sixteen { length lanes.now ≡ 16 }
     ensures some { (g : ℕ) → g < 16 → is_some (get_or result g None) ≡ is_some (get_or queues.now g None) }
-    ensures each { (start : RunStart) (popped : List CapturedTold) → CountsItems start popped recording.now.maker → (g : ℕ) (d : _) → g < 16 → is_some (get_or queues.now g None) ≡ true
+    ensures each { (start : RunStart) (popped : List CapturedTold) → CountsItems start popped recorder.now.maker → (g : ℕ) (d : _) → g < 16 → is_some (get_or queues.now g None) ≡ true
         → get_or result g None ≡ Some (summed start popped (slice_index_or lanes.now g d).tally g) }
 {
     let mut sums = [None; 16];
     for group in 0..16 {
-        sums[group] = sums_of(recording, &lanes[group], &queues[group], group as u8);
+        sums[group] = sums_of(recorder, &lanes[group], &queues[group], group as u8);
     }
     sums
 }

@@ -14,7 +14,7 @@ use vdr_memory::{
     Flag, GatedLink, GatedPort, LinkLine, LinkPlan, MemoryLink, MemoryPort, PortItem, RamMedia,
 };
 use vdr_outside::Media;
-use vdr_recorder::Recording;
+use vdr_recorder::Recorder;
 use vdr_session::{Desk, Mark, Outcome, record_at_desks};
 
 // The lines of this text.
@@ -93,14 +93,14 @@ fn each_order_is_answered(rt: HostRuntime) -> Result<(), Fail> {
     let mut lanes = quiet_lanes(&rt, alloc)?;
     let mut desks = Vec::with_capacity(alloc, 1)?;
     desks.push(desk(alloc, ASKED, None, None)?)?;
-    let Ok(recording) = Recording::open(alloc, &mut media) else {
+    let Ok(recorder) = Recorder::open(alloc, &mut media) else {
         return Err("the media are not opened".into());
     };
     assert!(rt; desks.len() == 1 && lanes.len() == 16);
     let end = record_at_desks(
         &rt,
         alloc,
-        recording,
+        recorder,
         &mut media,
         lanes.as_mut_slice(),
         desks.as_mut_slice(),
@@ -139,14 +139,14 @@ fn outcome_of<R: Abort + Threads + Wait + Sync>(
     let mut desks = Vec::with_capacity(alloc, 2)?;
     desks.push(desk(alloc, b"STATUS\n", failing, refusing)?)?;
     desks.push(desk(alloc, b"STATUS\nSTATUS\n", other, None)?)?;
-    let Ok(recording) = Recording::open(alloc, &mut media) else {
+    let Ok(recorder) = Recorder::open(alloc, &mut media) else {
         return Ok(None);
     };
     assert!(rt; desks.len() == 2 && lanes.len() == 16);
     let end = record_at_desks(
         rt,
         alloc,
-        recording,
+        recorder,
         &mut media,
         lanes.as_mut_slice(),
         desks.as_mut_slice(),
@@ -224,14 +224,14 @@ fn orders_are_answered_beside_the_captures(rt: HostRuntime) -> Result<(), Fail> 
     let mut desks = Vec::with_capacity(alloc, 2)?;
     desks.push(Desk::new(GatedLink::new(&rt, start, navd)))?;
     desks.push(Desk::new(GatedLink::new(&rt, datagram, vdrd)))?;
-    let Ok(recording) = Recording::open(alloc, &mut media) else {
+    let Ok(recorder) = Recorder::open(alloc, &mut media) else {
         return Err("the media are not opened".into());
     };
     assert!(rt; desks.len() == 2 && lanes.len() == 16);
     let end = record_at_desks(
         &rt,
         alloc,
-        recording,
+        recorder,
         &mut media,
         lanes.as_mut_slice(),
         desks.as_mut_slice(),

@@ -6,7 +6,7 @@ use std::time::Clock;
 use vdr_media::format;
 use vdr_memory::{Flag, GatedPort, RamMedia, meeting_ports};
 use vdr_outside::Media;
-use vdr_recorder::Recording;
+use vdr_recorder::Recorder;
 use vdr_session::{Outcome, record};
 
 // A port that has nothing to give, behind a gate that is open.
@@ -49,13 +49,13 @@ fn ports_that_meet_are_recorded_beside_each_other(rt: HostRuntime) -> Result<(),
     let ports = ports(&rt, alloc)?;
     assert!(rt; ports.len() == 16);
     let mut lanes = lanes_of(alloc, ports)?;
-    let Ok(recording) = Recording::open(alloc, &mut media) else {
+    let Ok(recorder) = Recorder::open(alloc, &mut media) else {
         return Err("the media are not opened".into());
     };
     let end = record(
         &rt,
         alloc,
-        recording,
+        recorder,
         &mut media,
         lanes.as_mut_slice(),
         10_000,

@@ -6,12 +6,13 @@ use std::process::Abort;
 use std::sync::Wait;
 use std::test::Fail;
 use std::thread::Threads;
-use vdr_capture::{Counts, GroupSums};
+use vdr_capture::GroupSums;
 use vdr_media::format;
 use vdr_memory::{MemoryMedia, MemoryPort, PortItem, RamMedia, are_in_order};
 use vdr_outside::Media;
-use vdr_recorder::Recording;
+use vdr_recorder::Recorder;
 use vdr_session::{Outcome, SessionEnd, record};
+use vdr_terms::Counts;
 
 // What the ports of NAVD and VDRD give: so many recordable datagrams, so many milliseconds apart, and bad ones behind them; and which take fails.
 #[derive(Clone, Copy, Drop)]
@@ -95,10 +96,10 @@ fn session<M: Media + Send, R: Abort + Threads + Wait + Sync>(
     let ports = ports(rt, alloc, navd, vdrd)?;
     assert!(rt; ports.len() == 16);
     let mut lanes = lanes_of(alloc, ports)?;
-    let Ok(recording) = Recording::open(alloc, media) else {
+    let Ok(recorder) = Recorder::open(alloc, media) else {
         return Ok(None);
     };
-    Ok(Some(record(rt, alloc, recording, media, lanes.as_mut_slice(), turns)))
+    Ok(Some(record(rt, alloc, recorder, media, lanes.as_mut_slice(), turns)))
 }
 
 const NONE: Counts = Counts {

@@ -3,5 +3,4 @@ pub mod Segments
 pub mod Holding
 pub mod Writes
 pub mod Opening
-pub mod Results
 pub mod Fronts

@@ -1,15 +1,12 @@
 -- What the slots of a medium hold, and what each write makes of that (this project's profile).
 use Rattle.std.specs.Prelude.{◌≡◌, ℕ, ◌+◌, ◌*◌, ◌≤◌, ◌⊎◌, List, [], length, set, Option, Some, None}
+use Rattle.vdr_terms.specs.Slots.{slots_from}
 use Rattle.vdr_terms.specs.Records.{Record}
 use Rattle.vdr_outside.specs.Parts.{Slots, part}
 use Rattle.vdr_segment.specs.declared.header.Header.{Header}
 use Rattle.vdr_segment.specs.Gates.{IsOpenAt}
 use Rattle.vdr_segment.specs.Headers.{IsHeader}
 use Rattle.vdr_segment.specs.Segments.{Segment, IsSlot, with_batch}
-
--- Where the first slot begins.
-abbrev pub slots_from : ℕ
-slots_from = 32768
 
 -- Where a slot begins, with segments of this size.
 abbrev pub place_of : (segment slot : ℕ) → ℕ

@@ -7,7 +7,8 @@ ghost use Rattle.vdr_segment.specs.Gates.{closed_gate};
 ghost use Rattle.vdr_segment.specs.Headers.{new_header};
 ghost use Rattle.vdr_segment.specs.Batches.{IsBatch, batch_bytes};
 ghost use Rattle.vdr_segment.specs.Segments.{Segment, end_of};
-ghost use Rattle.vdr_slots.specs.Slots.{HoldsSlots, HoldsEither, SameFront, slots_closed, slots_begun, slots_from, slots_with_batch};
+ghost use Rattle.vdr_terms.specs.Slots.{slots_from};
+ghost use Rattle.vdr_slots.specs.Slots.{HoldsSlots, HoldsEither, SameFront, slots_closed, slots_begun, slots_with_batch};
 ghost use Rattle.vdr_slots.specs.Areas.{HasRoom};
 ghost use Rattle.vdr_slots.specs.Writes.{KeepsFront};
 

@@ -6,6 +6,7 @@ use Rattle.std.proofs.lemmas.List.Sums.{fold-append}
 use Rattle.vdr_terms.specs.Stamps.{IsStamp}
 use Rattle.vdr_terms.specs.Records.{Content, Record}
 use Rattle.vdr_terms.specs.Records.Content.{Datagram}
+use Rattle.vdr_terms.proofs.Stamping.{stamp_fits}
 use Rattle.vdr_datagram.specs.declared.line.Line.{Line}
 use Rattle.vdr_datagram.specs.declared.tokens.Token.{Token}
 use Rattle.vdr_datagram.specs.declared.tokens.Token.TheVariants.{Sentences, Image, Pcm, Other, NoToken}
@@ -98,10 +99,6 @@ pub of_record : (r : Record) (payload : List ℕ) → Datagram payload ≡ r.con
 of_record r payload is =
     sym (append-nil (lines_at r.group r.utc (read_lines payload)))
     ∙ ap (λ (content : Content). lines_at r.group r.utc (readings_of read_lines content) ++ []) is
-
--- A stamp is a number of 64 bits.
-pub stamp_fits : (utc : ℤ) → IsStamp utc → FitsSigned w64 utc
-stamp_fits utc s = omega (arith, ints, s.whole, s.in_time)
 
 -- Records counted one after another.
 pub by_records : (rows : List Row) (records : List Record) → fold with_record rows records ≡ fold with_line rows (lines_in records)

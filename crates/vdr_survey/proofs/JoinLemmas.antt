@@ -11,6 +11,8 @@ use Rattle.std.proofs.lemmas.Bool.{cases_eq, true≢false, leb-true, le-leb}
 use Rattle.std.proofs.lemmas.Option.{none-some, same_Some}
 use Rattle.vdr_terms.specs.Records.{Record, second, last, last_after}
 use Rattle.vdr_terms.specs.Queries.{has_channel}
+use Rattle.vdr_terms.proofs.Running.{last_join}
+use Rattle.vdr_terms.proofs.Somewhere.{any_left, any_right}
 use Rattle.vdr_entry.specs.declared.summary.Summary.{Summary}
 use Rattle.vdr_survey.specs.Summaries.{IsSummaryOf, Summarises, greatest_count}
 
@@ -39,16 +41,6 @@ int_le_trans (negsuc a) (pos b) (negsuc c) p q = absurd (true≢false (sym q))
 int_le_trans (negsuc a) (negsuc b) (pos c) p q = refl
 int_le_trans (negsuc a) (negsuc b) (negsuc c) p q = let x = leb-true b a p in let y = leb-true c b q in le-leb c a (omega (arith, x, y))
 
-any_left : {X : Type 0} (P : X → Type 0) (xs ys : List X) → Any P xs → Any P (xs ++ ys)
-any_left P xs ys h =
-    let lt = h.2 in
-    (h.0, h.1, omega (arith, lt, length-append xs ys), get_or_append_left xs ys h.1 h.0 h.2 ∙ h.3, h.4)
-
-any_right : {X : Type 0} (P : X → Type 0) (xs ys : List X) → Any P ys → Any P (xs ++ ys)
-any_right P xs ys h =
-    let lt = h.2 in
-    (length xs + h.0, h.1, omega (arith, lt, length-append xs ys), get_or-append-add xs ys h.0 h.1 ∙ h.3, h.4)
-
 abbrev Within : (l g : ℤ) → Record → Type 0
 Within l g r = (int_le l r.utc ≡ true) × (int_le r.utc g ≡ true)
 
@@ -58,14 +50,10 @@ first_of : (xs ys : List Record) (s : ℕ) → option_map (λ r. second r.tick) 
 first_of [] ys s e = absurd (none-some s e)
 first_of (x ∷ xs) ys s e = e
 
-after_append : (x : Record) (xs : List Record) (y : Record) (ys : List Record) → last_after x (xs ++ y ∷ ys) ≡ last_after y ys
-after_append x [] y ys = refl
-after_append x (z ∷ zs) y ys = after_append z zs y ys
-
 last_of : (xs ys : List Record) (s : ℕ) → option_map (λ r. second r.tick) (last ys) ≡ Some s → option_map (λ r. second r.tick) (last (xs ++ ys)) ≡ Some s
 last_of xs [] s e = absurd (none-some s e)
 last_of [] (y ∷ ys) s e = e
-last_of (x ∷ xs) (y ∷ ys) s e = ap (λ (r : Record). Some (second r.tick)) (after_append x xs y ys) ∙ e
+last_of (x ∷ xs) (y ∷ ys) s e = ap (λ (r : Record). Some (second r.tick)) (last_join x xs y ys) ∙ e
 
 -- Both
 

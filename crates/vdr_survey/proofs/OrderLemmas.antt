@@ -2,12 +2,8 @@
 use Rattle.std.proofs.Common.{◌≡◌, ◌≤◌, ℕ, suc, List, [], ◌∷◌, ◌++◌, refl, ap, ◌∙◌, sym, subst, arith}
 use Rattle.vdr_terms.specs.Records.{Record, last_after}
 use Rattle.vdr_terms.specs.Order.{RunOn, NeverFalls}
+use Rattle.vdr_terms.proofs.Running.{last_join}
 use Rattle.vdr_survey.specs.Stretches.{mark_of, Follows, AreInOrderFrom}
-
--- the last of two runs is the last of the second
-pub last_join : (x : Record) (xs : List Record) (y : Record) (ys : List Record) → last_after x (xs ++ y ∷ ys) ≡ last_after y ys
-last_join x [] y ys = refl
-last_join x (z ∷ xs) y ys = last_join z xs y ys
 
 run_join : (p : ℕ) (x : Record) (xs : List Record) (y : Record) (ys : List Record) → RunOn p (x ∷ xs) → y.place ≡ suc (last_after x xs).place → RunOn y.place (y ∷ ys) → RunOn p ((x ∷ xs) ++ y ∷ ys)
 run_join p x [] y ys a e b = (a.0, (e ∙ ap suc a.0, subst (λ (n : ℕ). RunOn (suc n) ys) (e ∙ ap suc a.0) b.1))

@@ -6,6 +6,7 @@ use Rattle.std.proofs.lemmas.List.{append_assoc, append-nil, take_more}
 use Rattle.vdr_bytes.specs.Numbers.{u16_at, u64_at}
 use Rattle.vdr_terms.specs.Records.{Record, last_after}
 use Rattle.vdr_terms.specs.Sizes.{record_size}
+use Rattle.vdr_terms.proofs.Running.{last_join}
 use Rattle.vdr_entry.specs.Reading.{Begins}
 use Rattle.vdr_entry.specs.Spotting.{record_in}
 use Rattle.vdr_entry.specs.Spelling.{records_bytes}
@@ -19,7 +20,7 @@ use Rattle.vdr_survey.specs.declared.stretch.Stretch.{Stretch}
 use Rattle.vdr_entry.specs.declared.summary.Summary.{Summary}
 use Rattle.vdr_survey.specs.Summaries.{IsSummaryOf}
 use Rattle.vdr_survey.specs.Stretches.{mark_of, Follows, ComesTo}
-use Rattle.vdr_survey.proofs.OrderLemmas.{last_join, order_join, order_split, order_alone}
+use Rattle.vdr_survey.proofs.OrderLemmas.{order_join, order_split, order_alone}
 
 -- One record more
 

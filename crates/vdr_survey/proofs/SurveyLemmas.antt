@@ -7,6 +7,7 @@ use Rattle.std.proofs.lemmas.List.{append-nil}
 use Rattle.std.proofs.lemmas.List.Sums.{sum_by_push}
 use Rattle.vdr_terms.specs.Records.{Record, last, last_after}
 use Rattle.vdr_terms.specs.Sizes.{batch_size}
+use Rattle.vdr_terms.proofs.Running.{last_join}
 use Rattle.vdr_survey.specs.declared.extent.Extent.{Extent}
 use Rattle.vdr_survey.specs.declared.extent.Survey.{Survey}
 use Rattle.vdr_survey.specs.declared.stretch.Mark.{Mark}
@@ -16,7 +17,7 @@ use Rattle.vdr_survey.specs.Summaries.{IsSummaryOf, Summarises}
 use Rattle.vdr_survey.specs.Extents.{records_in, first_records, extent_between, extent_of}
 use Rattle.vdr_survey.specs.Stretches.{mark_of, AreInOrderFrom, GoesOn, grown, ComesTo}
 use Rattle.vdr_survey.specs.Surveys.{Surveys}
-use Rattle.vdr_survey.proofs.OrderLemmas.{last_join, order_join, order_split, order_from, order_own}
+use Rattle.vdr_survey.proofs.OrderLemmas.{order_join, order_split, order_from, order_own}
 use Rattle.vdr_survey.proofs.JoinLemmas.{one_summarised}
 
 -- The records of batches, and the first of each

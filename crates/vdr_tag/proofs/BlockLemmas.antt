@@ -2,7 +2,7 @@
 use Rattle.std.proofs.Common.{◌≡◌, ◌<◌, ◌++◌, ◌+◌, ◌∙◌, ap, refl, sym, ℕ, Bool, true, false, cond, not, ◌&&◌, List, [], ◌∷◌, length, take, drop, get_or, Option, Some, None, eqb, ltb, arith, length-append}
 use Rattle.std.specs.Option.{is_some}
 use Rattle.std.specs.List.{AllZip, after_first, before_first, cons_option, list_all, position_or_len}
-use Rattle.std.proofs.lemmas.Bool.{eqb-true, eq-eqb, not-false, ltb-true, lt-ltb}
+use Rattle.std.proofs.lemmas.Bool.{eqb-true, eq-eqb, not-false, ltb-true, lt-ltb, and_parts}
 use Rattle.std.proofs.Math.Seq.{take-append_seam, drop-append-add, get_or-append_seam}
 use Rattle.std.proofs.lemmas.List.{get_or-take, get_or_append_left}
 use Rattle.std.proofs.lemmas.List.Folds.{length-prefix_len}
@@ -54,13 +54,9 @@ IsCutInto-append at before after h =
       place = place;
     }
 
-and_true : (a b : Bool) → (a && b) ≡ true → (a ≡ true) × (b ≡ true)
-and_true true b h = (refl, h)
-and_true false b h = absurd (cc)
-
 IsItem-from_tests : (item : List ℕ) (values : TagValues) → has_code item ≡ true → item_values item ≡ Some values → IsItem item values
 IsItem-from_tests item values code said =
-    let tests = and_true (ltb 0 (colon item)) (ltb (colon item) (length item)) code in
+    let tests = and_parts (ltb 0 (colon item)) (ltb (colon item) (length item)) code in
     let cut = IsCut-from_place 58 item (ltb-true (colon item) (length item) tests.1) in
     record {
       code = before_first (λ b. eqb b 58) item;
@@ -88,8 +84,8 @@ IsRead-from_item item values h =
 items_are : (parts : List (List ℕ)) → list_all has_code parts ≡ true → list_all is_accepted parts ≡ true → AllZip IsItem parts (values_in parts)
 items_are [] code said = tt
 items_are (item ∷ parts) code said =
-    let codes = and_true (has_code item) (list_all has_code parts) code in
-    let accepted = and_true (is_accepted item) (list_all is_accepted parts) said in
+    let codes = and_parts (has_code item) (list_all has_code parts) code in
+    let accepted = and_parts (is_accepted item) (list_all is_accepted parts) said in
     first (item_values item) refl accepted.0 codes.0 (items_are parts codes.1 accepted.1)
   where
     first : (v : Option TagValues) → item_values item ≡ v → is_some v ≡ true → has_code item ≡ true → AllZip IsItem parts (values_in parts) → AllZip IsItem (item ∷ parts) (cons_option v (values_in parts))

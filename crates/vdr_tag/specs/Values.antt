@@ -1,7 +1,7 @@
 -- What the items of TAG blocks say (IEC 61162-450). The values that are accepted are this project's profile.
 use Rattle.std.specs.Prelude.{ℕ, ◌+◌, min, Bool, ◌&&◌, ◌==◌, nat_le, List, [], ◌∷◌, length, Option, Some, None, option_map, if◌then◌else◌}
-use Rattle.std.specs.List.{list_all}
 use Rattle.std.specs.Option.{option_or}
+use Rattle.vdr_terms.specs.Texts.{are_graphic}
 use Rattle.vdr_digits.specs.Digits.{number}
 use Rattle.vdr_tag.specs.Parts.{parts}
 use Rattle.vdr_tag.specs.declared.grouping.Grouping.{Grouping}
@@ -42,7 +42,7 @@ all_said (values ∷ later) = over values (all_said later)
 
 -- One to fifteen bytes of 0x21 to 0x7E, as the system function identifier `GP0001`.
 abbrev pub is_identifier : List ℕ → Bool
-is_identifier value = nat_le 1 (length value) && nat_le (length value) 15 && list_all (λ b. nat_le 0x21 b && nat_le b 0x7E) value
+is_identifier value = nat_le 1 (length value) && nat_le (length value) 15 && are_graphic value
 
 abbrev pub in_order : Option ℕ → Option ℕ → Option ℕ → Option Grouping
 in_order (Some n) (Some total) (Some code) = if nat_le 1 n && nat_le n total then Some (record { number = n; total = total; code = code }) else None

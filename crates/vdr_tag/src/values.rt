@@ -1,5 +1,4 @@
 ghost use Rattle.std.specs.Prelude.{◌≡◌, ◌≤◌, ◌&&◌, [], ◌∷◌, Some, None, IfSome, IfNone, true, false, is_some, nat_le};
-ghost use Rattle.std.specs.List.{list_all};
 ghost use Rattle.vdr_tag.specs.Parts.{parts};
 ghost use Rattle.vdr_tag.specs.Values.{code_named, grouping, is_identifier, said_by};
 ghost use Rattle.vdr_tag.specs.Items.{over_item};
@@ -10,19 +9,14 @@ use crate::grouping::Grouping;
 use crate::split::split_once;
 use crate::tags::Tags;
 use vdr_digits::number;
-
-fn are_printable(value: &[u8]) -> bool
-    ensures { result ≡ list_all (λ b. nat_le 0x21 b && nat_le b 0x7E) value.now }
-{
-    value.iter().all(|byte| *byte >= 0x21 && *byte <= 0x7E)
-}
+use vdr_terms::are_graphic;
 
 // The value where it is an identifier.
 fn identifier(value: &[u8]) -> Option<&[u8]>
     ensures found { IfSome result (λ x. (is_identifier value.now ≡ true) × (x.now ≡ value.now)) }
     ensures none { IfNone result (is_identifier value.now ≡ false) }
 {
-    if 1 <= value.len() && value.len() <= 15 && are_printable(value) {
+    if 1 <= value.len() && value.len() <= 15 && are_graphic(value) {
         Some(value)
     } else {
         None

@@ -1,5 +1,6 @@
 -- The words of a recording, from the ground up.
 pub mod Stamps
+pub mod Texts
 pub mod Groups
 pub mod Records
 pub mod Datagrams
@@ -11,4 +12,5 @@ pub mod Channels
 pub mod Counting
 pub mod Order
 pub mod Queries
+pub mod Slots
 pub mod Needs

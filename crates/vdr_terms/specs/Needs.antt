@@ -1,6 +1,7 @@
 -- What recording costs, and the slots that a configuration needs.
-use Rattle.std.specs.Prelude.{ℕ, ◌+◌, ◌-◌, ◌*◌, ◌/◌, ◌≤◌, min, List, sum_by, ◌==◌, if◌then◌else◌, Option, Some, None}
+use Rattle.std.specs.Prelude.{ℕ, ◌+◌, ◌-◌, ◌*◌, ◌/◌, ◌≤◌, List, sum_by, ◌==◌, if◌then◌else◌, Option, Some, None}
 use Rattle.vdr_terms.specs.declared.rate.Rate.{Rate}
+use Rattle.vdr_terms.specs.Slots.{slot_count}
 
 -- The sizes of a configuration. None: the group is not configured.
 pub record Sizes : Type 0 where
@@ -32,7 +33,7 @@ needed_slots sizes m = (sizes.seconds m + 1) * cost sizes / usable sizes + 4 + p
 
 -- The slots of a medium of so many bytes.
 abbrev pub slots_in : Sizes → ℕ → ℕ
-slots_in sizes size = min 1000000 ((size - 32768) / sizes.segment)
+slots_in sizes size = slot_count sizes.segment size
 
 -- The medium has the slots that it needs.
 abbrev pub Fits : Sizes → ℕ → ℕ → Type 0

@@ -8,8 +8,9 @@ use std::alloc::Global;
 use std::process::Abort;
 use std::sync::Wait;
 use std::test::Fail;
-use vdr_capture::{Cause, Counts, Lane, capture};
+use vdr_capture::{Cause, Lane, capture};
 use vdr_intake::{Intake, Taker};
+use vdr_terms::Counts;
 
 fn counts(full: u64, bad: u64, large: u64) -> Counts {
     Counts {

@@ -8,8 +8,8 @@ use std::sync::Wait;
 use std::sync::atomic::{AtomicBool, Ordering};
 use std::test::Fail;
 use std::thread;
-use vdr_intake::{Captured, CapturedBuffer, Counts, Feeder, Intake, Taker};
-use vdr_terms::{Verdict, recordable};
+use vdr_intake::{Captured, CapturedBuffer, Feeder, Intake, Taker};
+use vdr_terms::{Counts, Verdict, recordable};
 
 // A datagram of the group NAVD, before which so many found the queue full.
 fn item(number: u64, full: u64) -> Captured

@@ -8,6 +8,7 @@ use Rattle.vdr_terms.specs.Records.{FeedItem}
 use Rattle.vdr_terms.specs.declared.rate.Rate.{Rate}
 use Rattle.vdr_feed.specs.Feed.{feed, feed_header, spelling, AreItems, IsItem, received_after, fault_of, Reaches, IsFeed, IsRefusedAfter, longest_feed}
 use Rattle.vdr_feed.proofs.Spelled.{same_item, no_fault}
+use Rattle.vdr_feed.proofs.Unique.{behind, begins}
 use Rattle.vdr_replay.specs.Feeding.{AreConfigured, HasRate, RefusesGroup, RefusesNext}
 
 -- Here stands an item of a group that is not configured.
@@ -66,13 +67,6 @@ unique rates limit count floor (i ∷ is) (j ∷ js) rest more a b k h l m p q e
     (subst (λ (f : ℕ). Ends rates limit (count + length (j ∷ js)) (received_after f js) more) at q))
     here.1 in
     ((λ k. here.0 k ∷ later.0 k), later.1)
-
--- What is reached behind the header.
-behind : (limit : ℕ) (bytes : List ℕ) (items : List FeedItem) (rest : List ℕ) → Reaches limit bytes items rest → drop 8 bytes ≡ flat_map spelling items ++ rest
-behind limit bytes items rest r = ap (λ (xs : List ℕ). drop 8 xs) (r.spelled ∙ append_assoc feed_header (flat_map spelling items) rest)
-
-pub has_header : (limit : ℕ) (bytes : List ℕ) (items : List FeedItem) (rest : List ℕ) → Reaches limit bytes items rest → take 8 bytes ≡ feed_header
-has_header limit bytes items rest r = ap (λ (xs : List ℕ). take 8 xs) (r.spelled ∙ append_assoc feed_header (flat_map spelling items) rest)
 
 -- How far a feed is recorded, and what stands there.
 record Stands (rates : List (Option Rate)) (limit : ℕ) (bytes : List ℕ) (items : List FeedItem) : Type 0 where

@@ -204,6 +204,10 @@ not_again : (again : Bool) (image : Image) → (again ≡ true) ⊎ IsUnformatte
 not_again again image (inl told) first is = let clash : true ≡ false = sym told ∙ first in cc
 not_again again image (inr un) first is = never_both image is un
 
+-- Media are too small in one way.
+pub one_small : (s t : TooSmall) (r : Result ⊤ TooSmall) → r ≡ Err s → r ≡ Err t → Small s ≡ Small t
+one_small s t r is also = let same : Err s ≡ Err t = sym is ∙ also in cc
+
 -- By exclusion: what may be formatted is, and what may not is refused by its own refusal.
 module _ {tells tells_images : Type 0} (again : Bool) (bytes : List ℕ) (old new : MediaSeen tells tells_images) (told : tells) where
   -- A text is no configuration and a refusal.
@@ -213,9 +217,6 @@ module _ {tells tells_images : Type 0} (again : Bool) (bytes : List ℕ) (old ne
   -- Of the text's configuration the media have room, or not, in one way.
   one_room : (c d : Configuration) (r : Result ⊤ TooSmall) → configuration bytes ≡ Ok c → configuration bytes ≡ Ok d → room c old.disk.sizes ≡ r → room d old.disk.sizes ≡ r
   one_room c d r is also fits = subst (λ (e : Configuration). room e old.disk.sizes ≡ r) (one_configuration (configuration bytes) c d is also) fits
-
-  one_small : (s t : TooSmall) (r : Result ⊤ TooSmall) → r ≡ Err s → r ≡ Err t → Small s ≡ Small t
-  one_small s t r is also = let same : Err s ≡ Err t = sym is ∙ also in cc
 
   pub formats_all : (was next : OutputSeen) (status : Status) → (status ≡ InputFault → ⊥) → (status ≡ MediaFault → ⊥)
       → FormatEnds again (Some bytes) old new status

@@ -1,19 +1,22 @@
 -- Media of this product stay so over each command.
+use Rattle.std.specs.Bool.{⊤}
 use Rattle.std.proofs.Common.{◌≡◌, ◌≤◌, ◌⊎◌, inl, inr, ⊎_elim, ℕ, Bool, List, Option, Result, Err, arith}
 use Rattle.vdr_history.specs.Histories.{Event}
 use Rattle.vdr_durability.specs.Keeping.{ShowsPrefix}
 use Rattle.vdr_outside.specs.Disk.{Disk, Durable, Image, Unchanged}
 use Rattle.vdr_opening.specs.Media.{Contents, opening_of}
 use Rattle.vdr_vault.specs.Openings.{LeavesAll}
-use Rattle.vdr_replay.specs.Headline.{LeavesHistory, PlaysBack, RunEnd}
+use Rattle.vdr_headline.specs.Headline.{PlaysBack, RecordingHeadline}
+use Rattle.vdr_replay.specs.Headline.{AccountsForFeed, LeavesHistory, RunEnd}
+use Rattle.vdr_replay.specs.Headline.RunEnd.{Broken}
 use Rattle.vdr_replay.specs.declared.ended.Replayed.{Replayed}
-use Rattle.vdr_replay.specs.declared.ended.ReplayStop.{ReplayStop}
+use Rattle.vdr_replay.specs.declared.ended.ReplayRefused.{ReplayRefused}
 use Rattle.vdr_life.specs.Ours.{AreOurs, IsOurs, StayOurs}
 use Rattle.vdr_life.proofs.Ours.{ours_formatted, ours_opened, ours_unchanged}
 use Rattle.vdr_tool.specs.Commands.{Asked}
 use Rattle.vdr_tool.specs.Commands.Asked.{Review, Check, Format, Replay, Play, Incidents, Save, Release, Sources, Watch, Targets, Wav, Picture, Trial}
 use Rattle.vdr_tool.specs.Formats.{FormatEnds, outcome_of}
-use Rattle.vdr_command.specs.Opened.{IsUnopened, KeepsContents, MediaEnds}
+use Rattle.vdr_command.specs.Opened.{ContentsKept, IsUnopened, KeepsContents, MediaEnds}
 use Rattle.vdr_tool.specs.Lives.{StartsSynced}
 use Rattle.vdr_command.specs.Outside.{MediaFailed, MediaSeen, Outside}
 use Rattle.vdr_tool.specs.Replays.{ReplayEnds}
@@ -29,30 +32,30 @@ pub played_ours : (x : Contents) (events : List Event) (image : Image) → Plays
 played_ours x events image p = inr (p.contents, p.legible, p.shown.media.ends, p.sound)
 
 module _ {tells tells_images : Type 0} where
-  abbrev Left : Disk tells tells_images → Disk tells tells_images → Type 0
+  abbrev pub Left : Disk tells tells_images → Disk tells tells_images → Type 0
   Left old new = LeavesAll old new ⊎ ((old.clock ≤ new.clock) × ((image : Image) → new.since old.clock image → old.now image ⊎ IsOurs image))
 
   -- What recorded contents are left as.
-  kept_ours : (x : Contents) (MayBe : List Event → Type 0) (status : Status) (old new : Disk tells tells_images) → (IsUnopened status × LeavesAll old new) ⊎ KeepsContents x MayBe status old new → Left old new
-  kept_ours x MayBe status old new (inl unopened) = inl unopened.1
-  kept_ours x MayBe status old new (inr kept) = inr (
-    (let first = kept.after_entry in let then = kept.before_exit in omega (arith, first, then)),
-    λ image left. ⊎_elim (λ now. inl now) (λ (shown : ShowsPrefix (PlaysBack (opening_of x)) kept.events 0 image). inr (played_ours x shown.first image shown.shown)) (kept.since_entry image left),
-  )
-
-  left_ours : (x : Contents) (rose : Type 0) (old new : Disk tells tells_images) → LeavesHistory x rose old new → Left old new
-  left_ours x rose old new (inl leaves) = inl leaves
-  left_ours x rose old new (inr (feed, end, h)) = inr (
+  pub headline_ours : (x : Contents) (Told : List Event → Type 0) (may_pend : Type 0) (old new : Disk tells tells_images) → RecordingHeadline x Told may_pend old new → Left old new
+  headline_ours x Told may_pend old new h = inr (
     (let first = h.after_entry in let then = h.before_exit in omega (arith, first, then)),
     λ image left. ⊎_elim (λ now. inl now) (λ (shown : ShowsPrefix (PlaysBack (opening_of x)) h.events 0 image). inr (played_ours x shown.first image shown.shown)) (h.moments.each image left),
   )
+
+  kept_ours : (x : Contents) (MayBe : List Event → Type 0) (status : Status) (old new : Disk tells tells_images) → (IsUnopened status × LeavesAll old new) ⊎ KeepsContents x MayBe status old new → Left old new
+  kept_ours x MayBe status old new (inl unopened) = inl unopened.1
+  kept_ours x MayBe status old new (inr kept) = headline_ours x (ContentsKept x MayBe status new) ⊤ old new kept
+
+  left_ours : (x : Contents) (rose : Type 0) (old new : Disk tells tells_images) → LeavesHistory x rose old new → Left old new
+  left_ours x rose old new (inl leaves) = inl leaves
+  left_ours x rose old new (inr (feed, end, h)) = headline_ours x (AccountsForFeed x new feed end) ((end ≡ Broken) × rose) old new h
 
   pub media_lives : {Can : Contents → Type 0} {Met : Type 0} {MayBe : List Event → Type 0} (old new : MediaSeen tells tells_images) (status : Status) → MediaEnds Can Met MayBe old new status
       → tells_images → AreOurs old.disk → StayOurs old.disk new.disk
   media_lives {MayBe = MayBe} old new status h told ours = ours_opened old.disk new.disk told ours h.blank
       (λ x t holds meet sound. kept_ours x MayBe status old.disk new.disk (h.kept x t holds meet sound))
 
-  pub replay_lives : (left now : Option (List ℕ)) (old new : MediaSeen tells tells_images) (answer : Result Replayed ReplayStop) → ReplayEnds left now old new answer → tells_images → AreOurs old.disk → StayOurs old.disk new.disk
+  pub replay_lives : (left now : Option (List ℕ)) (old new : MediaSeen tells tells_images) (answer : Result Replayed ReplayRefused) → ReplayEnds left now old new answer → tells_images → AreOurs old.disk → StayOurs old.disk new.disk
   replay_lives left now old new answer h told ours = ours_opened old.disk new.disk told ours h.blank (λ x t holds meet sound. left_ours x _ old.disk new.disk (h.left x t holds meet sound))
 
   pub format_lives : (again : Bool) (left : Option (List ℕ)) (old new : MediaSeen tells tells_images) (status : Status) → FormatEnds again left old new status → Durable 0 old.disk → AreOurs old.disk → StayOurs old.disk new.disk

@@ -7,19 +7,19 @@ use Rattle.vdr_replay.specs.Replays.{ReplaysFeed}
 use Rattle.vdr_replay.specs.declared.ended.FeedEnd.{FeedEnd}
 use Rattle.vdr_replay.specs.declared.ended.FeedEnd.TheVariants as ends
 use Rattle.vdr_replay.specs.declared.ended.Replayed.{Replayed}
-use Rattle.vdr_replay.specs.declared.ended.ReplayStop.{ReplayStop}
-use Rattle.vdr_replay.specs.declared.ended.ReplayStop.TheVariants as stops
+use Rattle.vdr_replay.specs.declared.ended.ReplayRefused.{ReplayRefused}
+use Rattle.vdr_replay.specs.declared.ended.ReplayRefused.TheVariants as stops
 use Rattle.vdr_command.specs.Opened.{OneAnswer}
 use Rattle.vdr_command.specs.Outside.{AreLeftAlone, InputFailed, MediaSeen, OutputFailed, OutputSeen, Outside, Writes}
 use Rattle.vdr_tool.specs.Replays.{PrintsRun, ReplayEnds, Replays, TellsRun}
-use Rattle.vdr_command.specs.Statuses.{status_of_stop}
+use Rattle.vdr_command.specs.Statuses.{status_of_replay}
 use Rattle.vdr_tool.specs.Summaries.{summary_text}
 use Rattle.vdr_command.specs.declared.status.Status.{Status}
 use Rattle.vdr_command.specs.declared.status.Status.TheVariants.{Done, InputFault, OutputFault, Feed}
 use Rattle.vdr_tool.proofs.ReplayLemmas.{replay_fault, replays_known}
 
 -- The status of a run that was not closed.
-pub stop_at_input : (stop : ReplayStop) → status_of_stop stop ≡ InputFault → stop ≡ stops.Input
+pub stop_at_input : (stop : ReplayRefused) → status_of_replay stop ≡ InputFault → stop ≡ stops.Input
 stop_at_input stops.NoMemory is = let none : ⊥ = cc in absurd none
 stop_at_input stops.Input is = refl
 stop_at_input (stops.Refused number offset) is = let none : ⊥ = cc in absurd none
@@ -29,7 +29,7 @@ stop_at_input stops.Place is = let none : ⊥ = cc in absurd none
 stop_at_input stops.Tick is = let none : ⊥ = cc in absurd none
 stop_at_input stops.Media is = let none : ⊥ = cc in absurd none
 
-pub stop_not_done : (stop : ReplayStop) → status_of_stop stop ≡ Done → ⊥
+pub stop_not_done : (stop : ReplayRefused) → status_of_replay stop ≡ Done → ⊥
 stop_not_done stops.NoMemory is = cc
 stop_not_done stops.Input is = cc
 stop_not_done (stops.Refused number offset) is = cc
@@ -39,7 +39,7 @@ stop_not_done stops.Place is = cc
 stop_not_done stops.Tick is = cc
 stop_not_done stops.Media is = cc
 
-pub stop_not_output : (stop : ReplayStop) → status_of_stop stop ≡ OutputFault → ⊥
+pub stop_not_output : (stop : ReplayRefused) → status_of_replay stop ≡ OutputFault → ⊥
 stop_not_output stops.NoMemory is = cc
 stop_not_output stops.Input is = cc
 stop_not_output (stops.Refused number offset) is = cc
@@ -71,12 +71,12 @@ run_at_output (ends.Refused number offset) summary status was next prints is = l
 pub prints_refused : (end : FeedEnd) (number offset : ℕ) (summary : List ℕ) (was next : OutputSeen) → end ≡ ends.Refused number offset → Writes summary was next → PrintsRun end summary (Feed number offset) was next
 prints_refused end number offset summary was next is wrote = subst (λ (e : FeedEnd). PrintsRun e summary (Feed number offset) was next) (sym is) (refl, wrote)
 
-pub tells_stop : (answer : Result Replayed ReplayStop) (stop : ReplayStop) (was next : OutputSeen) → answer ≡ Err stop → next ≡ was → TellsRun answer (status_of_stop stop) was next
-tells_stop answer stop was next is same = subst (λ (a : Result Replayed ReplayStop). TellsRun a (status_of_stop stop) was next) (sym is) (refl, same)
+pub tells_stop : (answer : Result Replayed ReplayRefused) (stop : ReplayRefused) (was next : OutputSeen) → answer ≡ Err stop → next ≡ was → TellsRun answer (status_of_replay stop) was next
+tells_stop answer stop was next is same = subst (λ (a : Result Replayed ReplayRefused). TellsRun a (status_of_replay stop) was next) (sym is) (refl, same)
 
-pub tells_run : (answer : Result Replayed ReplayStop) (run : Replayed) (status : Status) (was next : OutputSeen) → answer ≡ Ok run → PrintsRun run.end (summary_text run.groups run.records) status was next
+pub tells_run : (answer : Result Replayed ReplayRefused) (run : Replayed) (status : Status) (was next : OutputSeen) → answer ≡ Ok run → PrintsRun run.end (summary_text run.groups run.records) status was next
     → TellsRun answer status was next
-tells_run answer run status was next is prints = subst (λ (a : Result Replayed ReplayStop). TellsRun a status was next) (sym is) prints
+tells_run answer run status was next is prints = subst (λ (a : Result Replayed ReplayRefused). TellsRun a status was next) (sym is) prints
 
 -- What is left alone is so in all that is seen of it.
 pub left_alone : {tells tells_images A : Type 0} (see : A → MediaSeen tells tells_images) (old new : A) → new ≡ old → AreLeftAlone (see old) (see new)
@@ -91,7 +91,7 @@ abbrev pub seen_media : {M : Type 0} (media : MediaTells M) → M → MediaSeen 
 seen_media media m = record { disk = media.disk m; faults = media.faults m; bytes_read = media.bytes_read m }
 
 -- What the recording ensures is what is owed of the media.
-pub replay_ends : {M I : Type 0} (media : MediaTells M) (source : SourceTells I) (old new : M) (before after : I) (answer : Result Replayed ReplayStop)
+pub replay_ends : {M I : Type 0} (media : MediaTells M) (source : SourceTells I) (old new : M) (before after : I) (answer : Result Replayed ReplayRefused)
     → ReplaysFeed media source old new before after answer → ReplayEnds (source.left before) (source.left after) (seen_media media old) (seen_media media new) answer
 replay_ends media source old new before after answer told = record {
   recorded = told.replayed;
@@ -109,7 +109,7 @@ replay_ends media source old new before after answer told = record {
   cause = told.cause;
 }
 
-pub replays_so : {tells tells_images : Type 0} (old new : Outside tells tells_images) (status : Status) (answer : Result Replayed ReplayStop) → OneAnswer old.media.disk.reads
+pub replays_so : {tells tells_images : Type 0} (old new : Outside tells tells_images) (status : Status) (answer : Result Replayed ReplayRefused) → OneAnswer old.media.disk.reads
     → (status ≡ Done → IsAtEnd new.input.left) → TellsRun answer status old.output new.output → (status ≡ InputFault → InputFailed old.input new.input)
     → (status ≡ OutputFault → OutputFailed old.output new.output) → ReplayEnds old.input.left new.input.left old.media new.media answer → Replays old new status
 replays_so old new status answer law done told input output media = record {

@@ -12,6 +12,7 @@ use Rattle.vdr_outside.specs.Disk.{Image}
 use Rattle.vdr_outside.specs.Writes.{AppendsFront}
 use Rattle.vdr_feed.specs.Feed.{feed_header, longest_feed}
 use Rattle.vdr_feed.specs.Reader.{IfKnown}
+use Rattle.vdr_feed.proofs.Unique.{begins as has_header}
 use Rattle.vdr_media.specs.Formatted.{IsFormatted, IsUnformatted}
 use Rattle.vdr_opening.specs.Media.{both, Contents, HoldsContents, opening_of}
 use Rattle.vdr_opening.specs.Refusals.{IsRefused}
@@ -22,18 +23,18 @@ use Rattle.vdr_replay.specs.Feeding.{AreConfigured, ReadsFeed, RefusesNext}
 use Rattle.vdr_replay.specs.declared.ended.FeedEnd.{FeedEnd}
 use Rattle.vdr_replay.specs.declared.ended.FeedEnd.TheVariants as ends
 use Rattle.vdr_replay.specs.declared.ended.Replayed.{Replayed}
-use Rattle.vdr_replay.specs.declared.ended.ReplayStop.{ReplayStop}
-use Rattle.vdr_replay.specs.declared.ended.ReplayStop.TheVariants as stops
+use Rattle.vdr_replay.specs.declared.ended.ReplayRefused.{ReplayRefused}
+use Rattle.vdr_replay.specs.declared.ended.ReplayRefused.TheVariants as stops
 use Rattle.vdr_command.specs.Endings.{IsDone, IsRefusal}
 use Rattle.vdr_command.specs.Opened.{IsLegibleWith, OneAnswer}
 use Rattle.vdr_command.specs.Outside.{MediaFailed, MediaSeen, OutputSeen}
 use Rattle.vdr_command.specs.StatusLine.{Wrote}
 use Rattle.vdr_tool.specs.Summaries.{summary_text}
 use Rattle.vdr_tool.specs.Replays.{PrintsRun, ReplayEnds, ReplaysAll, TellsRun}
-use Rattle.vdr_command.specs.Statuses.{status_of_stop}
+use Rattle.vdr_command.specs.Statuses.{status_of_replay}
 use Rattle.vdr_command.specs.declared.status.Status.{Status}
 use Rattle.vdr_command.specs.declared.status.Status.TheVariants.{Done, MediaFault, InputFault, OutputFault, Feed}
-use Rattle.vdr_tool.proofs.FeedLemmas.{has_header, not_refused, one_refusal}
+use Rattle.vdr_tool.proofs.FeedLemmas.{not_refused, one_refusal}
 use Rattle.vdr_vault.proofs.OpenMoments.{never_both}
 use Rattle.vdr_command.proofs.OpenedCompleteness.{damaged_alike}
 
@@ -72,7 +73,7 @@ may_too image law x y hx hy may = record {
 -- All that may be said of a status by its answer, in one place: what `replay` ends with where no object outside fails.
 module _ {tells tells_images : Type 0} (bytes : List ℕ) (now : Option (List ℕ)) (old new : MediaSeen tells tells_images) (was next : OutputSeen)
     (told : tells) (law : OneAnswer old.disk.reads) where
-  abbrev Legible : Result Replayed ReplayStop → Type 0
+  abbrev Legible : Result Replayed ReplayRefused → Type 0
   Legible answer = IsLegibleWith old.disk.reads (λ x. Decides x (Some bytes) now answer)
 
   no_place : (n : ℕ) → 2 ^ 62 ≤ n → n < 2 ^ 62 → ⊥
@@ -121,10 +122,10 @@ module _ {tells tells_images : Type 0} (bytes : List ℕ) (now : Option (List �
             (subst (λ (e : FeedEnd). ReadsFeed x.config.groups bytes now e feed) is (subst (λ (c : Configuration). ReadsFeed c.groups bytes now run.end feed) same read)));
       }
 
-  stopped : (stop : ReplayStop) → (status_of_stop stop ≡ InputFault → ⊥) → (status_of_stop stop ≡ MediaFault → ⊥) → TellsHeader (Some bytes) now (Err stop) → IfOpened (Err stop) (Legible (Err stop))
-      → (◌≡◌ {A = Result Replayed ReplayStop} (Err stop) (Err stops.NotFormatted) → tells → IsUnformatted old.disk.reads)
-      → ((m offset : ℕ) → ◌≡◌ {A = Result Replayed ReplayStop} (Err stop) (Err (stops.Damaged m offset)) → tells → IsFormatted old.disk.reads × IsRefused old.disk.reads m offset)
-      → ReplaysAll bytes old.disk.reads (status_of_stop stop)
+  stopped : (stop : ReplayRefused) → (status_of_replay stop ≡ InputFault → ⊥) → (status_of_replay stop ≡ MediaFault → ⊥) → TellsHeader (Some bytes) now (Err stop) → IfOpened (Err stop) (Legible (Err stop))
+      → (◌≡◌ {A = Result Replayed ReplayRefused} (Err stop) (Err stops.NotFormatted) → tells → IsUnformatted old.disk.reads)
+      → ((m offset : ℕ) → ◌≡◌ {A = Result Replayed ReplayRefused} (Err stop) (Err (stops.Damaged m offset)) → tells → IsFormatted old.disk.reads × IsRefused old.disk.reads m offset)
+      → ReplaysAll bytes old.disk.reads (status_of_replay stop)
   stopped stops.NoMemory input media header legible unformatted damaged = record {
     header = λ no. absurd (no header);
     unformatted = λ h un. inr refl;
@@ -192,7 +193,7 @@ module _ {tells tells_images : Type 0} (bytes : List ℕ) (now : Option (List �
       too_late : (x : Contents) → HoldsContents old.disk.reads x → 2 ^ 62 ≤ base_after (opening_of x).last
       too_late x holds = subst (λ (n : ℕ). 2 ^ 62 ≤ n) (base_is old.disk.reads law y x hy holds) decides.1
 
-  by_answer : (status : Status) (answer : Result Replayed ReplayStop) → (status ≡ InputFault → ⊥) → (status ≡ OutputFault → ⊥) → (status ≡ MediaFault → ⊥)
+  by_answer : (status : Status) (answer : Result Replayed ReplayRefused) → (status ≡ InputFault → ⊥) → (status ≡ OutputFault → ⊥) → (status ≡ MediaFault → ⊥)
       → TellsRun answer status was next → TellsHeader (Some bytes) now answer → IfOpened answer (Legible answer)
       → (answer ≡ Err stops.NotFormatted → tells → IsUnformatted old.disk.reads)
       → ((m offset : ℕ) → answer ≡ Err (stops.Damaged m offset) → tells → IsFormatted old.disk.reads × IsRefused old.disk.reads m offset)
@@ -202,13 +203,13 @@ module _ {tells tells_images : Type 0} (bytes : List ℕ) (now : Option (List �
       subst (λ (s : Status). ReplaysAll bytes old.disk.reads s) (sym prints.0)
       (stopped stop (λ is. input (prints.0 ∙ is)) (λ is. media (prints.0 ∙ is)) header legible unformatted damaged)
 
-  pub replays_all : (status : Status) (answer : Result Replayed ReplayStop) → (status ≡ InputFault → ⊥) → (status ≡ OutputFault → ⊥) → (status ≡ MediaFault → ⊥)
+  pub replays_all : (status : Status) (answer : Result Replayed ReplayRefused) → (status ≡ InputFault → ⊥) → (status ≡ OutputFault → ⊥) → (status ≡ MediaFault → ⊥)
       → TellsRun answer status was next → ReplayEnds (Some bytes) now old new answer → ReplaysAll bytes old.disk.reads status
   replays_all status answer input output media tells_it ends =
       by_answer status answer input output media tells_it ends.header (ends.legible told) ends.unformatted ends.damaged
 
 -- The media's fault has its cause.
-stop_at_fault : (stop : ReplayStop) → status_of_stop stop ≡ MediaFault → ◌≡◌ {A = Result Replayed ReplayStop} (Err stop) (Err stops.Media)
+stop_at_fault : (stop : ReplayRefused) → status_of_replay stop ≡ MediaFault → ◌≡◌ {A = Result Replayed ReplayRefused} (Err stop) (Err stops.Media)
 stop_at_fault stops.NoMemory is = let none : ⊥ = cc in absurd none
 stop_at_fault stops.Input is = let none : ⊥ = cc in absurd none
 stop_at_fault (stops.Refused number offset) is = let none : ⊥ = cc in absurd none
@@ -224,11 +225,11 @@ no_media_fault was next ends.Whole summary status (inr failed) is = let clash : 
 no_media_fault was next ends.Input summary status prints is = let clash : InputFault ≡ MediaFault = sym prints.0 ∙ is in cc
 no_media_fault was next (ends.Refused number offset) summary status prints is = let clash : Feed number offset ≡ MediaFault = sym prints.0 ∙ is in cc
 
-fault_of_answer : (was next : OutputSeen) (answer : Result Replayed ReplayStop) (status : Status) → TellsRun answer status was next → status ≡ MediaFault → answer ≡ Err stops.Media
+fault_of_answer : (was next : OutputSeen) (answer : Result Replayed ReplayRefused) (status : Status) → TellsRun answer status was next → status ≡ MediaFault → answer ≡ Err stops.Media
 fault_of_answer was next (Ok run) status prints is = absurd (no_media_fault was next run.end (summary_text run.groups run.records) status prints is)
 fault_of_answer was next (Err stop) status prints is = stop_at_fault stop (sym prints.0 ∙ is)
 
-pub replay_fault : {tells tells_images : Type 0} (left now : Option (List ℕ)) (old new : MediaSeen tells tells_images) (was next : OutputSeen) (status : Status) (answer : Result Replayed ReplayStop)
+pub replay_fault : {tells tells_images : Type 0} (left now : Option (List ℕ)) (old new : MediaSeen tells tells_images) (was next : OutputSeen) (status : Status) (answer : Result Replayed ReplayRefused)
     → TellsRun answer status was next → ReplayEnds left now old new answer → status ≡ MediaFault → MediaFailed old new
 replay_fault left now old new was next status answer told ends is = ends.cause.in_all (fault_of_answer was next answer status told is)
 
@@ -238,7 +239,7 @@ pub wrote_of : {T E : Type 0} (r : Result T E) (text : List ℕ) (old new : Opti
 wrote_of (Ok x) text old new before now all front cause = record { front = front; all = inl all; later = cause.later }
 wrote_of (Err e) text old new before now all front cause = record { front = front; all = inr cause.failed; later = cause.later }
 
-pub replays_known : {tells tells_images : Type 0} (left now : Option (List ℕ)) (old new : MediaSeen tells tells_images) (was next : OutputSeen) → OneAnswer old.disk.reads → (status : Status) (answer : Result Replayed ReplayStop)
+pub replays_known : {tells tells_images : Type 0} (left now : Option (List ℕ)) (old new : MediaSeen tells tells_images) (was next : OutputSeen) → OneAnswer old.disk.reads → (status : Status) (answer : Result Replayed ReplayRefused)
     → (status ≡ InputFault → ⊥) → (status ≡ OutputFault → ⊥) → (status ≡ MediaFault → ⊥) → TellsRun answer status was next → ReplayEnds left now old new answer
     → IfKnown left (λ bytes. tells → ReplaysAll bytes old.disk.reads status)
 replays_known None now old new was next law status answer input output media told_it ends = tt

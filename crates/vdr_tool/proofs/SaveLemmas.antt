@@ -8,18 +8,18 @@ use Rattle.vdr_durability.specs.Readings.{EndsMeet}
 use Rattle.vdr_outside.specs.Causes.{NoneFalls, Rose}
 use Rattle.vdr_outside.specs.Disk.{Disk, SameBut, Unchanged}
 use Rattle.vdr_outside.proofs.Counts.{rose_after, sum_not_less}
-use Rattle.vdr_incident.specs.Saves.{is_label}
+use Rattle.vdr_terms.specs.Texts.{is_label}
 use Rattle.vdr_incident.specs.declared.refused.ReleaseRefused.{ReleaseRefused}
 use Rattle.vdr_incident.specs.declared.refused.ReleaseRefused.TheVariants as releases
 use Rattle.vdr_ring.specs.Sequence.{Placed}
 use Rattle.vdr_opening.specs.Media.{both, Contents, HoldsContents, opening_of, reading_of}
 use Rattle.vdr_opening.specs.declared.refused.OpenRefused.{OpenRefused}
 use Rattle.vdr_opening.specs.declared.refused.OpenRefused.TheVariants as openings
-use Rattle.vdr_recorder.specs.Recordings.{HasDone, HasRecorded, RecordingState}
+use Rattle.vdr_recorder.specs.Recordings.{HasDone, HasRecorded, RecorderState}
 use Rattle.vdr_vault.specs.Openings.{OpensAtEachMoment}
 use Rattle.vdr_vault.specs.Saves.{HasFaultOn, refusal_from, save_refusal}
 use Rattle.vdr_vault.proofs.OpenMoments.{never_both}
-use Rattle.vdr_vault.specs.Vaults.{MembersState, ShowsHistory, Stands}
+use Rattle.vdr_vault.specs.Vaults.{VaultState, ShowsHistory, Stands}
 use Rattle.vdr_vault.specs.declared.refused.SaveRefused.{SaveRefused as Refused}
 use Rattle.vdr_vault.specs.declared.refused.SaveRefused.TheVariants as saves
 use Rattle.vdr_command.specs.Endings.{IsWorkDone}
@@ -33,7 +33,7 @@ use Rattle.vdr_command.specs.declared.status.SaveCause.{SaveCause}
 use Rattle.vdr_command.specs.declared.status.SaveCause.TheVariants.{Label, Nothing, TableFull}
 use Rattle.vdr_command.specs.declared.status.Status.{Status}
 use Rattle.vdr_command.specs.declared.status.Status.TheVariants.{Done, MediaFault, OutputFault, SaveRefused}
-use Rattle.vdr_replay.proofs.Playing.{config_read}
+use Rattle.vdr_headline.proofs.Playing.{config_read}
 use Rattle.vdr_command.proofs.OpenedLemmas.{OpenedOn, done_either, kept_by_call, legible_so, missing_looked, missing_still, one_look, reads_done, worked_ends}
 
 -- Of a refused opening nothing is printed.
@@ -86,51 +86,51 @@ never_fault true None free is = let none : ⊥ = cc in absurd none
 never_fault true (Some stamp) None is = let none : ⊥ = cc in absurd none
 never_fault true (Some stamp) (Some slot) is = let none : ⊥ = cc in absurd none
 
-module _ {tells tells_images : Type 0} (old mid new : MediaSeen tells tells_images) (r after : RecordingState)
-    (works : r.members.failed ≡ false)
-    (contents : OpenedOn old.disk r.members)
+module _ {tells tells_images : Type 0} (old mid new : MediaSeen tells tells_images) (r after : RecorderState)
+    (works : r.vault.failed ≡ false)
+    (contents : OpenedOn old.disk r.vault)
     (opened : (x : Contents) → tells → HoldsContents old.disk.reads x → WasRecorded x
     → (t0 : ℕ) × (old.disk.clock ≤ t0) × (t0 ≤ mid.disk.clock) × HasRecorded (opening_of x) [] t0 r mid.disk)
     (later : NoneFalls old.faults mid.faults) (others : tells → SameBut 1 old.disk.reads mid.disk.reads) (beside : tells → SameBut 1 mid.disk.reads new.disk.reads) where
   others_too : tells → SameBut 1 old.disk.reads new.disk.reads
   others_too t = λ k not_second. beside t k not_second ∙ others t k not_second
 
-  rose : (faulted : Type 0) → HasFaultOn 1 r.members.failed mid.faults new.faults faulted → faulted → Rose (sum old.faults) (sum new.faults)
-  rose faulted cause is = ⊎_elim (λ (failed : r.members.failed ≡ true). let clash : true ≡ false = sym failed ∙ works in let none : ⊥ = cc in absurd none)
+  rose : (faulted : Type 0) → HasFaultOn 1 r.vault.failed mid.faults new.faults faulted → faulted → Rose (sum old.faults) (sum new.faults)
+  rose faulted cause is = ⊎_elim (λ (failed : r.vault.failed ≡ true). let clash : true ≡ false = sym failed ∙ works in let none : ⊥ = cc in absurd none)
       (λ (more : Rose (sum mid.faults) (sum new.faults)). rose_after (sum old.faults) (sum mid.faults) (sum new.faults) (sum_not_less old.faults mid.faults later.same_media later.none_falls) more)
       (cause.in_all is)
 
-  standing : (x : Contents) → tells → HoldsContents old.disk.reads x → WasRecorded x → (placed : ℕ → List Placed) × Stands (opening_of x) [] r.members placed mid.disk
+  standing : (x : Contents) → tells → HoldsContents old.disk.reads x → WasRecorded x → (placed : ℕ → List Placed) × Stands (opening_of x) [] r.vault placed mid.disk
   standing x t holds regular = let work = (opened x t holds regular).3.works works in (work.placed, work.stands)
 
   module _ (label : List ℕ) (saved : Result ℕ Refused)
-      (saves_so : (opening : Opening) (events : List Event) (t0 : ℕ) → tells → r.members.failed ≡ false → save_refusal label r.members ≡ None → ((m offset : ℕ) → saved ≡ Err (saves.Damaged m offset) → ⊥)
+      (saves_so : (opening : Opening) (events : List Event) (t0 : ℕ) → tells → r.vault.failed ≡ false → save_refusal label r.vault ≡ None → ((m offset : ℕ) → saved ≡ Err (saves.Damaged m offset) → ⊥)
       → HasRecorded opening events t0 r mid.disk → (id : ℕ) × (a : ℕ) × (b : ℕ) × IfOk saved (λ told. told ≡ id) × HasDone opening events t0 (Save id label a b) after mid.disk new.disk)
-      (looked : (opening : Opening) (events : List Event) (t0 : ℕ) (refused : Refused) → (r.members.failed ≡ true) ⊎ (save_refusal label r.members ≡ Some refused)
+      (looked : (opening : Opening) (events : List Event) (t0 : ℕ) (refused : Refused) → (r.vault.failed ≡ true) ⊎ (save_refusal label r.vault ≡ Some refused)
       → HasRecorded opening events t0 r mid.disk → HasDone opening events t0 Look after mid.disk new.disk)
       (met_damage : (opening : Opening) (events : List Event) (t0 m offset : ℕ) → tells → saved ≡ Err (saves.Damaged m offset) → HasRecorded opening events t0 r mid.disk → HasDone opening events t0 Look after mid.disk new.disk)
-      (refused_so : (refused : Refused) → r.members.failed ≡ false → save_refusal label r.members ≡ Some refused → saved ≡ Err refused)
-      (undamaged : (opening : Opening) (events : List Event) (placed : ℕ → List Placed) (m offset : ℕ) → tells → Stands opening events r.members placed mid.disk
+      (refused_so : (refused : Refused) → r.vault.failed ≡ false → save_refusal label r.vault ≡ Some refused → saved ≡ Err refused)
+      (undamaged : (opening : Opening) (events : List Event) (placed : ℕ → List Placed) (m offset : ℕ) → tells → Stands opening events r.vault placed mid.disk
       → saved ≡ Err (saves.Damaged m offset) → ⊥)
     where
       -- How the label is judged on these media.
-      judged : (found : Option Refused) → save_refusal label r.members ≡ found → tells → IsLegibleWith old.disk.reads (IsJudged label (cause_if found))
-      judged found is = legible_so (IsJudged label (cause_if found)) old.disk r.members contents (λ x t holds c k l.
+      judged : (found : Option Refused) → save_refusal label r.vault ≡ found → tells → IsLegibleWith old.disk.reads (IsJudged label (cause_if found))
+      judged found is = legible_so (IsJudged label (cause_if found)) old.disk r.vault contents (λ x t holds c k l.
           subst (λ (newest : Option (ℕ × ℤ)). save_cause label newest x.table ≡ cause_if found) l
-          (subst (λ (table : List (Option Incident)). save_cause label r.members.last table ≡ cause_if found) k (ap (λ (o : Option Refused). cause_if o) is)))
+          (subst (λ (table : List (Option Incident)). save_cause label r.vault.last table ≡ cause_if found) k (ap (λ (o : Option Refused). cause_if o) is)))
 
       -- What a recorder leaves is not damaged.
       unsound : (m offset : ℕ) → saved ≡ Err (saves.Damaged m offset) → tells → (x : Contents) → HoldsContents old.disk.reads x → WasRecorded x → ⊥
       unsound m offset is t x holds sound = let stands = standing x t holds sound in undamaged (opening_of x) [] stands.0 m offset t stands.1 is
 
       -- Where the save is not refused by the judgement, nothing stands in its way.
-      unrefused : (found : Option Refused) → save_refusal label r.members ≡ found → ((refused : Refused) → save_refusal label r.members ≡ Some refused → ⊥) → save_refusal label r.members ≡ None
+      unrefused : (found : Option Refused) → save_refusal label r.vault ≡ found → ((refused : Refused) → save_refusal label r.vault ≡ Some refused → ⊥) → save_refusal label r.vault ≡ None
       unrefused None is not = is
       unrefused (Some refused) is not = absurd (not refused is)
 
       module _ {T : Type 0} (result : Result T OpenRefused)
           (moments : (x : Contents) → tells → HoldsContents old.disk.reads x → EndsMeet both (reading_of x) → WasRecorded x → OpensAtEachMoment old.disk mid.disk result (ShowsHistory (opening_of x) [])) where
-        kept_with_save : (moment : Option ℕ) (MayBe : List Event → Type 0) (status : Status) → (IsWorkDone status → after.members.failed ≡ false) → save_refusal label r.members ≡ None → ((m offset : ℕ) → saved ≡ Err (saves.Damaged m offset) → ⊥) → moment_of after.members.failed new.disk.clock ≡ moment
+        kept_with_save : (moment : Option ℕ) (MayBe : List Event → Type 0) (status : Status) → (IsWorkDone status → after.vault.failed ≡ false) → save_refusal label r.vault ≡ None → ((m offset : ℕ) → saved ≡ Err (saves.Damaged m offset) → ⊥) → moment_of after.vault.failed new.disk.clock ≡ moment
             → ((events : List Event) → IsOneEvent (SavesAs label) moment events → MayBe events)
             → (x : Contents) → tells → HoldsContents old.disk.reads x → EndsMeet both (reading_of x) → WasRecorded x → KeepsContents x MayBe status old.disk new.disk
         kept_with_save moment MayBe status works_still none whole is may x t holds meet regular =
@@ -141,7 +141,7 @@ module _ {tells tells_images : Type 0} (old mid new : MediaSeen tells tells_imag
             (λ worked told. reads_done x (Save save.0 label save.1 save.2) after has.0 mid.disk new.disk done (works_still worked) told)
             (may (done.event ∷ []) (record { event = done.event; is = refl; does = (save.0, save.1, save.2, done.act_is); moment_is = done.moment_is ∙ is }))
 
-        kept_refused : (refused : Refused) (status : Status) → (IsWorkDone status → ⊥) → save_refusal label r.members ≡ Some refused
+        kept_refused : (refused : Refused) (status : Status) → (IsWorkDone status → ⊥) → save_refusal label r.vault ≡ Some refused
             → (x : Contents) → tells → HoldsContents old.disk.reads x → EndsMeet both (reading_of x) → WasRecorded x → KeepsContents x AreLooks status old.disk new.disk
         kept_refused refused status undone is x t holds meet regular =
             let has = opened x t holds regular in
@@ -149,27 +149,27 @@ module _ {tells tells_images : Type 0} (old mid new : MediaSeen tells tells_imag
             kept_by_call x (config_read old.disk.reads x holds) regular AreLooks status old.disk mid.disk new.disk result Look refl r after has.0 (moments x t holds meet regular) has.1 has.2 done
             (λ worked. absurd (undone worked)) (one_look done.event done.act_is)
 
-        pub saved_ends : (status : Status) (id : ℕ) → IsWorkDone status → saved ≡ Ok id → ((saved ≡ Err saves.Fault → ⊥) → after.members.failed ≡ false)
+        pub saved_ends : (status : Status) (id : ℕ) → IsWorkDone status → saved ≡ Ok id → ((saved ≡ Err saves.Fault → ⊥) → after.vault.failed ≡ false)
             → MediaEnds (CanSave label) (MetUnsound old.disk (CanSave label)) (MayLeave (SavesAs label) new.disk.clock status) old new status
         saved_ends status id done is works_on =
             let works_still = works_on (λ e. let clash : Ok id ≡ Err saves.Fault = sym is ∙ e in let no_one : ⊥ = cc in no_one) in
-            let none = unrefused (save_refusal label r.members) refl (λ refused e. let clash : Ok id ≡ Err refused = sym is ∙ refused_so refused works e in let no_one : ⊥ = cc in no_one) in
+            let none = unrefused (save_refusal label r.vault) refl (λ refused e. let clash : Ok id ≡ Err refused = sym is ∙ refused_so refused works e in let no_one : ⊥ = cc in no_one) in
             worked_ends (CanSave label) (MetUnsound old.disk (CanSave label)) (MayLeave (SavesAs label) new.disk.clock status) old new status done
             (judged None none) others_too
             (kept_with_save (Some new.disk.clock) (MayLeave (SavesAs label) new.disk.clock status) status (λ worked. works_still) none (λ m offset e. let clash : Ok id ≡ Err (saves.Damaged m offset) = sym is ∙ e in let no_one : ⊥ = cc in no_one) (ap (λ (b : Bool). moment_of b new.disk.clock) works_still) (λ events one. may_leave (SavesAs label) new.disk.clock status events done one))
 
         module _ (reason : (refused : Refused) → saved ≡ Err refused → (refused ≡ saves.Label) ⊎ ((refused ≡ saves.Nothing) ⊎ (refused ≡ saves.TableFull))
-            → (r.members.failed ≡ false) × (save_refusal label r.members ≡ Some refused))
-            (fails : saved ≡ Err saves.Fault → after.members.failed ≡ true)
-            (cause : HasFaultOn 1 r.members.failed mid.faults new.faults (saved ≡ Err saves.Fault)) where
+            → (r.vault.failed ≡ false) × (save_refusal label r.vault ≡ Some refused))
+            (fails : saved ≡ Err saves.Fault → after.vault.failed ≡ true)
+            (cause : HasFaultOn 1 r.vault.failed mid.faults new.faults (saved ≡ Err saves.Fault)) where
           -- What a judgement never answers was not judged.
-          unjudged : (refused : Refused) → saved ≡ Err refused → (save_refusal label r.members ≡ Some refused → ⊥) → save_refusal label r.members ≡ None
-          unjudged refused is never = unrefused (save_refusal label r.members) refl (λ other e.
+          unjudged : (refused : Refused) → saved ≡ Err refused → (save_refusal label r.vault ≡ Some refused → ⊥) → save_refusal label r.vault ≡ None
+          unjudged refused is never = unrefused (save_refusal label r.vault) refl (λ other e.
               let both_are : Err refused ≡ Err other = sym is ∙ refused_so other works e in
               let same : other ≡ refused = cc in
               never (e ∙ ap (λ (x : Refused). Some x) same))
 
-          by_judgement : (refused : Refused) (why : SaveCause) → save_refusal label r.members ≡ Some refused
+          by_judgement : (refused : Refused) (why : SaveCause) → save_refusal label r.vault ≡ Some refused
               → MediaEnds (CanSave label) (MetUnsound old.disk (CanSave label)) AreLooks old new (SaveRefused why)
           by_judgement refused why is = record {
             unformatted = λ e. let none : ⊥ = cc in absurd none;
@@ -187,7 +187,7 @@ module _ {tells tells_images : Type 0} (old mid new : MediaSeen tells tells_imag
           unsaved_ends saves.Nothing is = by_judgement saves.Nothing Nothing (reason saves.Nothing is (inr (inl refl))).1
           unsaved_ends saves.TableFull is = by_judgement saves.TableFull TableFull (reason saves.TableFull is (inr (inr refl))).1
           unsaved_ends (saves.Damaged m offset) is =
-              let none = unjudged (saves.Damaged m offset) is (never_damaged (is_label label) r.members.last (position is_none r.members.table) m offset) in
+              let none = unjudged (saves.Damaged m offset) is (never_damaged (is_label label) r.vault.last (position is_none r.vault.table) m offset) in
               record {
                 unformatted = λ e. let none : ⊥ = cc in absurd none;
                 damaged = inr (λ t. (judged None none t, unsound m offset is t));
@@ -202,7 +202,7 @@ module _ {tells tells_images : Type 0} (old mid new : MediaSeen tells tells_imag
                     (λ worked. absurd worked) (one_look done.event done.act_is));
               }
           unsaved_ends saves.Fault is =
-              let none = unjudged saves.Fault is (never_fault (is_label label) r.members.last (position is_none r.members.table)) in
+              let none = unjudged saves.Fault is (never_fault (is_label label) r.vault.last (position is_none r.vault.table)) in
               record {
                 unformatted = λ e. let none : ⊥ = cc in absurd none;
                 damaged = tt;
@@ -221,29 +221,29 @@ module _ {tells tells_images : Type 0} (old mid new : MediaSeen tells tells_imag
           unsaved_refused saves.Fault is = tt
 
   module _ (id : ℕ) (released : Result ⊤ ReleaseRefused)
-      (releases_so : (opening : Opening) (events : List Event) (t0 : ℕ) (saved : Incident) → tells → r.members.failed ≡ false → live r.members.table id ≡ Some saved → HasRecorded opening events t0 r mid.disk
+      (releases_so : (opening : Opening) (events : List Event) (t0 : ℕ) (saved : Incident) → tells → r.vault.failed ≡ false → live r.vault.table id ≡ Some saved → HasRecorded opening events t0 r mid.disk
       → HasDone opening events t0 (Release id) after mid.disk new.disk)
-      (looked : (opening : Opening) (events : List Event) (t0 : ℕ) → (r.members.failed ≡ true) ⊎ (live r.members.table id ≡ None)
+      (looked : (opening : Opening) (events : List Event) (t0 : ℕ) → (r.vault.failed ≡ true) ⊎ (live r.vault.table id ≡ None)
       → HasRecorded opening events t0 r mid.disk → HasDone opening events t0 Look after mid.disk new.disk)
-      (refused_so : r.members.failed ≡ false → live r.members.table id ≡ None → released ≡ Err releases.NoSuch)
-      (reason : released ≡ Err releases.NoSuch → (r.members.failed ≡ false) × (live r.members.table id ≡ None))
-      (fails : released ≡ Err releases.Fault → after.members.failed ≡ true)
-      (works_on : (released ≡ Err releases.Fault → ⊥) → after.members.failed ≡ false)
-      (cause : HasFaultOn 1 r.members.failed mid.faults new.faults (released ≡ Err releases.Fault)) where
+      (refused_so : r.vault.failed ≡ false → live r.vault.table id ≡ None → released ≡ Err releases.NoSuch)
+      (reason : released ≡ Err releases.NoSuch → (r.vault.failed ≡ false) × (live r.vault.table id ≡ None))
+      (fails : released ≡ Err releases.Fault → after.vault.failed ≡ true)
+      (works_on : (released ≡ Err releases.Fault → ⊥) → after.vault.failed ≡ false)
+      (cause : HasFaultOn 1 r.vault.failed mid.faults new.faults (released ≡ Err releases.Fault)) where
     -- What is not refused is live.
-    there : (found : Option Incident) → live r.members.table id ≡ found → (released ≡ Err releases.NoSuch → ⊥) → (saved : Incident) × (live r.members.table id ≡ Some saved)
+    there : (found : Option Incident) → live r.vault.table id ≡ found → (released ≡ Err releases.NoSuch → ⊥) → (saved : Incident) × (live r.vault.table id ≡ Some saved)
     there None is not = absurd (not (refused_so works is))
     there (Some saved) is not = (saved, is)
 
-    missing : live r.members.table id ≡ None → tells → IsLegibleWith old.disk.reads (λ x. live x.table id ≡ None)
-    missing none = legible_so (λ x. live x.table id ≡ None) old.disk r.members contents (λ x t holds c k l. subst (λ (table : List (Option Incident)). live table id ≡ None) k none)
+    missing : live r.vault.table id ≡ None → tells → IsLegibleWith old.disk.reads (λ x. live x.table id ≡ None)
+    missing none = legible_so (λ x. live x.table id ≡ None) old.disk r.vault contents (λ x t holds c k l. subst (λ (table : List (Option Incident)). live table id ≡ None) k none)
 
-    can : (saved : Incident) → live r.members.table id ≡ Some saved → tells → IsLegibleWith old.disk.reads (λ x. CanRelease id x)
-    can saved is = legible_so (λ x. CanRelease id x) old.disk r.members contents (λ x t holds c k l. (saved, subst (λ (table : List (Option Incident)). live table id ≡ Some saved) k is))
+    can : (saved : Incident) → live r.vault.table id ≡ Some saved → tells → IsLegibleWith old.disk.reads (λ x. CanRelease id x)
+    can saved is = legible_so (λ x. CanRelease id x) old.disk r.vault contents (λ x t holds c k l. (saved, subst (λ (table : List (Option Incident)). live table id ≡ Some saved) k is))
 
     module _ {T : Type 0} (result : Result T OpenRefused)
         (moments : (x : Contents) → tells → HoldsContents old.disk.reads x → EndsMeet both (reading_of x) → WasRecorded x → OpensAtEachMoment old.disk mid.disk result (ShowsHistory (opening_of x) [])) where
-      kept_with_release : (moment : Option ℕ) (MayBe : List Event → Type 0) (status : Status) → (IsWorkDone status → after.members.failed ≡ false) → (saved : Incident) → live r.members.table id ≡ Some saved → moment_of after.members.failed new.disk.clock ≡ moment
+      kept_with_release : (moment : Option ℕ) (MayBe : List Event → Type 0) (status : Status) → (IsWorkDone status → after.vault.failed ≡ false) → (saved : Incident) → live r.vault.table id ≡ Some saved → moment_of after.vault.failed new.disk.clock ≡ moment
           → ((events : List Event) → IsOneEvent (ReleasesId id) moment events → MayBe events)
           → (x : Contents) → tells → HoldsContents old.disk.reads x → EndsMeet both (reading_of x) → WasRecorded x → KeepsContents x MayBe status old.disk new.disk
       kept_with_release moment MayBe status works_still saved live_is is may x t holds meet regular =
@@ -256,7 +256,7 @@ module _ {tells tells_images : Type 0} (old mid new : MediaSeen tells tells_imag
       pub released_ends : (p : Result ⊤ ReleaseRefused) → released ≡ p
           → MediaEnds (λ x. CanRelease id x) ⊥ (MayLeave (ReleasesId id) new.disk.clock (status_of_release p id)) old new (status_of_release p id)
       released_ends (Ok u) is =
-          let live_one = there (live r.members.table id) refl (λ e. let clash : Ok u ≡ Err releases.NoSuch = sym is ∙ e in let none : ⊥ = cc in none) in
+          let live_one = there (live r.vault.table id) refl (λ e. let clash : Ok u ≡ Err releases.NoSuch = sym is ∙ e in let none : ⊥ = cc in none) in
           let works_still = works_on (λ e. let clash : Ok u ≡ Err releases.Fault = sym is ∙ e in let none : ⊥ = cc in none) in
           worked_ends (λ x. CanRelease id x) ⊥ (MayLeave (ReleasesId id) new.disk.clock Done) old new Done tt (can live_one.0 live_one.1) others_too
           (kept_with_release (Some new.disk.clock) (MayLeave (ReleasesId id) new.disk.clock Done) Done (λ worked. works_still) live_one.0 live_one.1 (ap (λ (b : Bool). moment_of b new.disk.clock) works_still) (λ events one. one))
@@ -274,7 +274,7 @@ module _ {tells tells_images : Type 0} (old mid new : MediaSeen tells tells_imag
             (λ worked. absurd worked) (one_look done.event done.act_is));
       }
       released_ends (Err releases.Fault) is =
-          let live_one = there (live r.members.table id) refl (λ e. let clash : Err releases.Fault ≡ Err releases.NoSuch = sym is ∙ e in let none : ⊥ = cc in none) in
+          let live_one = there (live r.vault.table id) refl (λ e. let clash : Err releases.Fault ≡ Err releases.NoSuch = sym is ∙ e in let none : ⊥ = cc in none) in
           record {
             unformatted = λ e. let none : ⊥ = cc in absurd none;
             damaged = tt;
@@ -305,10 +305,10 @@ release_status (Err releases.NoSuch) id = tt
 release_status (Err releases.Fault) id = tt
 
 -- A refused save, and a refused release, write no more than opening did.
-module _ {tells tells_images A : Type 0} (disk : A → Disk tells tells_images) (old : Disk tells tells_images) (mid new : A) (members : MembersState) where
+module _ {tells tells_images A : Type 0} (disk : A → Disk tells tells_images) (old : Disk tells tells_images) (mid new : A) (vault : VaultState) where
   pub unsaved_adds : (label : List ℕ) (saved : Result ℕ Refused) (refused : Refused) → saved ≡ Err refused → AddsMissing old (disk mid)
-      → ((refused : Refused) → saved ≡ Err refused → (refused ≡ saves.Label) ⊎ ((refused ≡ saves.Nothing) ⊎ (refused ≡ saves.TableFull)) → (members.failed ≡ false) × (save_refusal label members ≡ Some refused))
-      → ((refused : Refused) → members.failed ≡ false → save_refusal label members ≡ Some refused → new ≡ mid)
+      → ((refused : Refused) → saved ≡ Err refused → (refused ≡ saves.Label) ⊎ ((refused ≡ saves.Nothing) ⊎ (refused ≡ saves.TableFull)) → (vault.failed ≡ false) × (save_refusal label vault ≡ Some refused))
+      → ((refused : Refused) → vault.failed ≡ false → save_refusal label vault ≡ Some refused → new ≡ mid)
       → ((m offset : ℕ) → saved ≡ Err (saves.Damaged m offset) → Unchanged (disk mid) (disk new))
       → IsUnbegun (status_of_save refused) → AddsMissing old (disk new)
   unsaved_adds label saved saves.Label is adds reason refused damaged unbegun =
@@ -321,7 +321,7 @@ module _ {tells tells_images A : Type 0} (disk : A → Disk tells tells_images) 
   unsaved_adds label saved saves.Fault is adds reason refused damaged unbegun = absurd unbegun
 
   pub unreleased_adds : (id : ℕ) {released : Result ⊤ ReleaseRefused} (p : Result ⊤ ReleaseRefused) → released ≡ p → AddsMissing old (disk mid)
-      → (released ≡ Err releases.NoSuch → (members.failed ≡ false) × (live members.table id ≡ None)) → (members.failed ≡ false → live members.table id ≡ None → new ≡ mid)
+      → (released ≡ Err releases.NoSuch → (vault.failed ≡ false) × (live vault.table id ≡ None)) → (vault.failed ≡ false → live vault.table id ≡ None → new ≡ mid)
       → IsUnbegun (status_of_release p id) → AddsMissing old (disk new)
   unreleased_adds id (Ok u) is adds reason refused unbegun = absurd unbegun
   unreleased_adds id (Err releases.NoSuch) is adds reason refused unbegun = let why = reason is in missing_still disk old mid new adds (refused why.0 why.1)

@@ -7,13 +7,10 @@ use Rattle.vdr_config.specs.declared.bad.ConfigBad.{ConfigBad}
 use Rattle.vdr_config.specs.declared.bad.ConfigBad.TheVariants.{TooLong}
 use Rattle.vdr_config.specs.Configuration.{Configuration}
 use Rattle.vdr_config.specs.Grammar.{configuration}
-use Rattle.vdr_tool.specs.declared.checking.CheckStop.{CheckStop}
-use Rattle.vdr_tool.specs.declared.checking.CheckStop.TheVariants.{Input, Memory, Refused}
-use Rattle.vdr_tool.specs.Check.{IfChecked, IfRefusedStop, check_text}
-
-too_long : (text : List ℕ) → 16380 < length text → configuration text ≡ Err TooLong
-unfolding configuration
-too_long text l = cond-true _ (Err TooLong) _ (lt-ltb 16380 (length text) l)
+use Rattle.vdr_media.proofs.Rooms.{too_long}
+use Rattle.vdr_tool.specs.declared.checking.CheckRefused.{CheckRefused}
+use Rattle.vdr_tool.specs.declared.checking.CheckRefused.TheVariants.{Input, Memory, Refused}
+use Rattle.vdr_tool.specs.Check.{IfChecked, IfRefused, check_text}
 
 -- what was read tells all of the input
 pub whole_text : (first now : Option (List ℕ)) (text : List ℕ) → Consumes first now text → (length text < 16381 → IsAtEnd now)
@@ -54,7 +51,7 @@ read_whole (Some bytes) (Some rest) text read end c is =
     let at_end : rest ≡ [] = end (short_text text c is) in
     read ∙ (ap (λ (r : List ℕ). text ++ r) at_end ∙ append-nil text)
 
-pub stop_weaker : (s : CheckStop) (P Q : ConfigBad → Type 0) → ((b : ConfigBad) → P b → Q b) → IfRefusedStop s P → IfRefusedStop s Q
-stop_weaker Input P Q f h = tt
-stop_weaker Memory P Q f h = tt
-stop_weaker (Refused bad) P Q f h = f bad h
+pub refused_weaker : (s : CheckRefused) (P Q : ConfigBad → Type 0) → ((b : ConfigBad) → P b → Q b) → IfRefused s P → IfRefused s Q
+refused_weaker Input P Q f h = tt
+refused_weaker Memory P Q f h = tt
+refused_weaker (Refused bad) P Q f h = f bad h

@@ -1,5 +1,5 @@
 -- How a trial ends, by how its parts did.
-use Rattle.std.specs.Prelude.{◌<◌, ◌^◌, Bool, filter, IfOk, sum, ⊤}
+use Rattle.std.specs.Prelude.{◌<◌, ◌^◌, Bool, filter, IfOk, sum}
 use Rattle.std.proofs.Common.{◌≡◌, ◌≤◌, ◌⊎◌, inl, inr, ⊎_elim, ℕ, false, List, [], ◌∷◌, length, Some, Result, Ok, Err, refl, sym, ap, subst, ◌∙◌, Contains, Option, None, arith}
 use Rattle.vdr_terms.specs.Records.{FeedItem, Record, last, second}
 use Rattle.std.proofs.lemmas.List.Sums.{count_by-le-length, length-filter}
@@ -8,7 +8,6 @@ use Rattle.vdr_terms.specs.Windows.{in_window, window, window_before}
 use Rattle.vdr_retention.proofs.Lists.{contains_here, contains_there}
 use Rattle.vdr_durability.specs.Readings.{EndsMeet}
 use Rattle.vdr_outside.specs.Causes.{Rose}
-use Rattle.vdr_config.specs.declared.media.TooSmall.{TooSmall}
 use Rattle.vdr_config.specs.Configuration.{Configuration}
 use Rattle.vdr_config.specs.Grammar.{configuration}
 use Rattle.vdr_config.specs.Sizes.{window_of}
@@ -18,7 +17,8 @@ use Rattle.vdr_vault.specs.Calls.{SameElsewhere}
 use Rattle.vdr_vault.specs.Regularity.{AreSound}
 use Rattle.vdr_vault.specs.Vaults.{ShowsHistory}
 use Rattle.vdr_vault.proofs.OpenMoments.{never_both}
-use Rattle.vdr_replay.specs.Headline.{Headline, RunEnd}
+use Rattle.vdr_headline.proofs.Headlines.{told_as}
+use Rattle.vdr_replay.specs.Headline.{NothingIsRecorded, ReplayHeadline, RunEnd}
 use Rattle.vdr_replay.specs.Headline.RunEnd.{NotStarted, Closed, Broken}
 use Rattle.vdr_life.proofs.Lives.{LifeHolds, life_config, life_holds, life_windows}
 use Rattle.vdr_command.specs.Endings.{IsWorkDone}
@@ -28,13 +28,13 @@ use Rattle.vdr_command.proofs.OpenedLemmas.{done_either}
 use Rattle.vdr_command.specs.declared.status.Status.{Status}
 use Rattle.vdr_command.specs.declared.status.Status.TheVariants.{Done, Words, Config, Small, Unformatted, Formatted, Damaged, MediaFault, PortFault, LinkFault, InputFault, OutputFault, NoMemory, Feed, NoChannel, NoIncident, SaveRefused, Place, Tick, ExportKind, ExportNothing, ExportMixed, ExportLong, ExportPart}
 use Rattle.vdr_tool.specs.Formats.{FormatEnds}
-use Rattle.vdr_tool.specs.TrialParts.{BreaksOff, CountsWindows, IfStopped, IsBenchStop, IsOwnStop, IsRunStop, IsTally, IsTrialStop, RecordsNothing, RunsItems, as_u64}
+use Rattle.vdr_tool.specs.TrialParts.{BreaksOff, CountsWindows, IfStatus, IsBenchStatus, IsOwnStatus, IsRunStatus, IsTally, IsPartStatus, RunsItems, as_u64}
 use Rattle.vdr_tool.specs.Trials.{ComesTo, IsAfterRun, IsOfOtherMedia, LeavesRun, TrialEnds, TrialLeaves, Trials, TriesAll, all_of, bench, bench_text, fresh, trial_items, trial_lines, trial_records, trial_text, window_count}
 use Rattle.vdr_tool.specs.declared.trying.Ran.{Ran}
 use Rattle.vdr_tool.specs.declared.trying.Tally.{Tally}
 use Rattle.vdr_tool.specs.declared.trying.Windows.{Windows}
-use Rattle.vdr_tool.proofs.FormatLemmas.{one_configuration}
-use Rattle.vdr_tool.proofs.TrialLemmas.{Lives, RanOn, bench_reads, elsewhere, empty_now, empty_read, has_room, joined, lived_all, nothing_ran, own_after, own_not_other, ran_on, reopened, reopened_shows, run_not_formatted, run_not_small, run_trial, stop_prints, stop_status, stop_undone, was_unformatted}
+use Rattle.vdr_tool.proofs.FormatLemmas.{one_configuration, one_small}
+use Rattle.vdr_tool.proofs.TrialLemmas.{Lives, RanOn, RecordsItems, bench_reads, elsewhere, empty_now, empty_read, has_room, joined, lived_all, nothing_ran, own_after, own_not_other, ran_on, reopened, reopened_shows, run_not_formatted, run_not_small, run_trial, stop_prints, stop_status, stop_undone, was_unformatted}
 
 window_short : (o : Option Record) (seconds : ℕ) (records : List Record) → length (window_before o seconds records) ≤ length records
 window_short None seconds records = omega arith
@@ -55,7 +55,7 @@ if_ok P result n is h = subst (λ (r : Result Windows Status). IfOk r P) is h
 
 module _ {tells tells_images : Type 0} (seed count : ℕ) where
   -- Formatting was refused, or failed.
-  pub refused_as : (old new : MediaSeen tells tells_images) (s : Status) → IsBenchStop s → FormatEnds false (Some bench_text) old new s → TrialEnds seed count old new s
+  pub refused_as : (old new : MediaSeen tells tells_images) (s : Status) → IsBenchStatus s → FormatEnds false (Some bench_text) old new s → TrialEnds seed count old new s
   refused_as old new Done h ends = absurd h
   refused_as old new Words h ends = absurd h
   refused_as old new (Config n) h ends = absurd h
@@ -118,7 +118,7 @@ module _ {tells tells_images : Type 0} (seed count : ℕ) where
     abbrev pub Left : Status → Type 0
     Left s = tells → (end : RunEnd) × (items : List FeedItem) × ComesTo seed count end items s × LeavesRun (MediaFailed old new) old.disk new.disk items end s
 
-    stopped_as : (s : Status) → IsRunStop s → (s ≡ MediaFault → MediaFailed old new) → (IsOfOtherMedia s → tells → ⊥)
+    stopped_as : (s : Status) → IsRunStatus s → (s ≡ MediaFault → MediaFailed old new) → (IsOfOtherMedia s → tells → ⊥)
         → (tells → SameElsewhere mid.disk.reads new.disk.reads) → Left s → TrialEnds seed count old new s
     stopped_as s stop fault other same left = record {
       own = stop_status s (run_trial s stop);
@@ -143,10 +143,10 @@ module _ {tells tells_images : Type 0} (seed count : ℕ) where
 
     -- The run was not closed.
     module _ (wider : Rose (sum mid.faults) (sum new.faults) → MediaFailed old new) where
-      nothing_left : (s : Status) → (s ≡ MediaFault) ⊎ (s ≡ NoMemory) → (IsWorkDone s → ⊥) → tells → RecordsNothing seed count (Rose (sum mid.faults) (sum new.faults)) mid.disk new.disk
+      nothing_left : (s : Status) → (s ≡ MediaFault) ⊎ (s ≡ NoMemory) → (IsWorkDone s → ⊥) → tells → NothingIsRecorded fresh (Rose (sum mid.faults) (sum new.faults)) mid.disk new.disk
           → (end : RunEnd) × (items : List FeedItem) × ComesTo seed count end items s × LeavesRun (MediaFailed old new) old.disk new.disk items end s
       nothing_left s is undone told nothing =
-          let r = nothing_ran (Rose (sum mid.faults) (sum new.faults)) mid.disk new.disk seed count (empty_read old mid ends told) (empty_now old mid ends) nothing in
+          let r = nothing_ran (Rose (sum mid.faults) (sum new.faults)) mid.disk new.disk (empty_read old mid ends told) (empty_now old mid ends) nothing in
           (NotStarted, [], is, joined old mid ends (Rose (sum mid.faults) (sum new.faults)) (MediaFailed old new) new.disk [] NotStarted s wider r (λ done. absurd (undone done)))
 
       left_by : (s : Status) → tells → RunsItems seed count (Rose (sum mid.faults) (sum new.faults)) mid.disk new.disk (Err s)
@@ -207,26 +207,26 @@ module _ {tells tells_images : Type 0} (seed count : ℕ) where
       not_other ExportLong runs other = absurd runs
       not_other (ExportPart part) runs other = absurd runs
 
-      pub run_stops_as : (s : Status) → IsRunStop s → (s ≡ MediaFault → Rose (sum mid.faults) (sum new.faults)) → (tells → SameElsewhere mid.disk.reads new.disk.reads)
+      pub run_stops_as : (s : Status) → IsRunStatus s → (s ≡ MediaFault → Rose (sum mid.faults) (sum new.faults)) → (tells → SameElsewhere mid.disk.reads new.disk.reads)
           → (tells → RunsItems seed count (Rose (sum mid.faults) (sum new.faults)) mid.disk new.disk (Err s)) → TrialEnds seed count old new s
       run_stops_as s stop fault same runs = stopped_as s stop (λ is. wider (fault is)) (λ other told. not_other s (runs told) other) same (λ told. left_by s told (runs told))
 
   -- The run was closed, and the media were opened again.
   module _ (old mid late new : MediaSeen tells tells_images) (ends : FormatEnds false (Some bench_text) old mid Done) (rose : Type 0) where
-    closed_so : tells → Headline fresh rose mid.disk late.disk (trial_items seed count) Closed → RanOn rose mid.disk late.disk (trial_items seed count) Closed
+    closed_so : tells → ReplayHeadline fresh rose mid.disk late.disk (trial_items seed count) Closed → RanOn rose mid.disk late.disk (trial_items seed count) Closed
     closed_so told h = ran_on rose mid.disk late.disk (trial_items seed count) Closed (empty_read old mid ends told) h
 
-    life_so : (told : tells) (h : Headline fresh rose mid.disk late.disk (trial_items seed count) Closed) → Lives (closed_so told h).events late.disk.reads
+    life_so : (told : tells) (h : ReplayHeadline fresh rose mid.disk late.disk (trial_items seed count) Closed) → Lives (closed_so told h).events late.disk.reads
     unfolding closed_so
     life_so told h = lived_all rose mid.disk late.disk (trial_items seed count) (empty_read old mid ends told) h told
 
-    holds_so : (told : tells) (h : Headline fresh rose mid.disk late.disk (trial_items seed count) Closed) → LifeHolds bench bench_text late.disk.reads
+    holds_so : (told : tells) (h : ReplayHeadline fresh rose mid.disk late.disk (trial_items seed count) Closed) → LifeHolds bench bench_text late.disk.reads
     holds_so told h = life_holds bench bench_text (closed_so told h).events late.disk.reads (life_so told h)
 
     abbrev pub Counts : Result Windows Status → Type 0
     Counts result = (x : Contents) → tells → HoldsContents late.disk.reads x → EndsMeet both (reading_of x) → AreSound x → CountsWindows x late.disk new.disk result
 
-    left_closed : (result : Result Windows Status) (s : Status) (told : tells) (h : Headline fresh rose mid.disk late.disk (trial_items seed count) Closed) → IsAfterRun s
+    left_closed : (result : Result Windows Status) (s : Status) (told : tells) (h : ReplayHeadline fresh rose mid.disk late.disk (trial_items seed count) Closed) → IsAfterRun s
         → (c : CountsWindows (holds_so told h).contents late.disk new.disk result) → (IsWorkDone s → ShowsHistory (opening_of (holds_so told h).contents) [] new.disk.reads)
         → (end : RunEnd) × (items : List FeedItem) × ComesTo seed count end items s × LeavesRun (MediaFailed old new) old.disk new.disk items end s
     left_closed result s told h after c shows =
@@ -237,40 +237,30 @@ module _ {tells tells_images : Type 0} (seed count : ℕ) where
       where
         joined_closed : (r : RanOn rose mid.disk new.disk (trial_items seed count) Closed) → (IsWorkDone s → Lives r.events new.disk.reads) → LeavesRun (MediaFailed old new) old.disk new.disk (trial_items seed count) Closed s
         joined_closed r reads = joined old mid ends ⊥ (MediaFailed old new) new.disk (trial_items seed count) Closed s (λ none. absurd none)
-            (record {
-              events = r.events;
-              history = r.history;
-              pending = ⊎_elim (λ w. inl w) (λ (b : (Closed ≡ Broken) × rose). let clash = b.0 in let none : ⊥ = cc in absurd none) r.pending;
-              records = r.records;
-              accounts = r.accounts;
-              moments = r.moments;
-              synced = r.synced;
-              after_entry = r.after_entry;
-              before_exit = r.before_exit;
-              kept = r.kept;
-            })
+            (told_as (opening_of fresh) Lives Lives (RecordsItems (trial_items seed count) Closed) (RecordsItems (trial_items seed count) Closed) ((Closed ≡ Broken) × rose) ((Closed ≡ Broken) × ⊥) mid.disk new.disk r
+            (λ first rest split image shown. shown) (λ told. told) (λ (b : (Closed ≡ Broken) × rose). let clash = b.0 in let none : ⊥ = cc in absurd none))
             reads
 
-    counted_at : (result : Result Windows Status) → Counts result → (told : tells) (h : Headline fresh rose mid.disk late.disk (trial_items seed count) Closed) → CountsWindows (holds_so told h).contents late.disk new.disk result
+    counted_at : (result : Result Windows Status) → Counts result → (told : tells) (h : ReplayHeadline fresh rose mid.disk late.disk (trial_items seed count) Closed) → CountsWindows (holds_so told h).contents late.disk new.disk result
     counted_at result counts told h = let l = holds_so told h in counts l.contents told l.holds l.meet l.sound
 
     -- Opening them, or counting, stopped.
-    pub count_stops_as : (result : Result Windows Status) (s : Status) → result ≡ Err s → IsRunStop s → (s ≡ MediaFault → MediaFailed old new) → (tells → SameElsewhere mid.disk.reads new.disk.reads)
-        → (tells → Headline fresh rose mid.disk late.disk (trial_items seed count) Closed) → Counts result → TrialEnds seed count old new s
+    pub count_stops_as : (result : Result Windows Status) (s : Status) → result ≡ Err s → IsRunStatus s → (s ≡ MediaFault → MediaFailed old new) → (tells → SameElsewhere mid.disk.reads new.disk.reads)
+        → (tells → ReplayHeadline fresh rose mid.disk late.disk (trial_items seed count) Closed) → Counts result → TrialEnds seed count old new s
     count_stops_as result s is stop fault same run counts = stopped_as old mid new ends s stop fault
         (λ other told. own_not_other s (own told) other) same
         (λ told. left_closed result s told (run told) (own_after s (own told)) (counted_at result counts told (run told)) (λ done. stop_undone s (run_trial s stop) done))
       where
-        own : tells → IsOwnStop s
-        own told = subst (λ (r : Result Windows Status). IfStopped r IsOwnStop) is (counted_at result counts told (run told)).cause
+        own : tells → IsOwnStatus s
+        own told = subst (λ (r : Result Windows Status). IfStatus r IsOwnStatus) is (counted_at result counts told (run told)).cause
 
     -- All was counted.
     pub counts_as : (result : Result Windows Status) (n : Windows) → result ≡ Ok n → (tells → SameElsewhere mid.disk.reads new.disk.reads)
-        → (tells → Headline fresh rose mid.disk late.disk (trial_items seed count) Closed) → Counts result → TrialEnds seed count old new Done
+        → (tells → ReplayHeadline fresh rose mid.disk late.disk (trial_items seed count) Closed) → Counts result → TrialEnds seed count old new Done
     counts_as result n is same run counts = done_as old mid new ends same
         (λ told. left_closed result Done told (run told) tt (counted_at result counts told (run told)) (λ done. (counted result n is counts told (run told)).0))
       where
-        counted : (result : Result Windows Status) (n : Windows) → result ≡ Ok n → (counts : Counts result) (told : tells) (h : Headline fresh rose mid.disk late.disk (trial_items seed count) Closed)
+        counted : (result : Result Windows Status) (n : Windows) → result ≡ Ok n → (counts : Counts result) (told : tells) (h : ReplayHeadline fresh rose mid.disk late.disk (trial_items seed count) Closed)
             → ShowsHistory (opening_of (holds_so told h).contents) [] new.disk.reads
             × (n.capsule ≡ as_u64 (window_count 0 (window_of (holds_so told h).contents.config 0) ((opening_of (holds_so told h).contents).records 0)))
             × (n.long_term ≡ as_u64 (window_count 1 (window_of (holds_so told h).contents.config 1) ((opening_of (holds_so told h).contents).records 1)))
@@ -286,7 +276,7 @@ module _ {tells tells_images : Type 0} (seed count : ℕ) where
         let low : length (trial_records seed count) < 2 ^ 64 = omega (arith, fits, records) in
         let on : (m : ℕ) → Contains both m → window (window_of l.contents.config m) ((opening_of l.contents).records m) ≡ window (window_of bench m) (trial_records seed count) =
         (λ m there. ap (λ (d : Configuration). window (window_of d m) ((opening_of l.contents).records m)) config ∙ life_windows bench bench_text (closed_so told h).events late.disk.reads l.contents m (life_so told h) l.holds there
-        ∙ ap (λ (rs : List Record). window (window_of bench m) rs) (closed_so told h).records) in
+        ∙ ap (λ (rs : List Record). window (window_of bench m) rs) (closed_so told h).told.records) in
         record {
           sums = sums;
           records = records;
@@ -296,9 +286,6 @@ module _ {tells tells_images : Type 0} (seed count : ℕ) where
 
 -- By exclusion
 module _ {tells tells_images : Type 0} (seed count : ℕ) (old new : MediaSeen tells tells_images) (told : tells) where
-  one_small : (s t : TooSmall) (r : Result ⊤ TooSmall) → r ≡ Err s → r ≡ Err t → Small s ≡ Small t
-  one_small s t r is also = let same : Err s ≡ Err t = sym is ∙ also in cc
-
   done_all : TrialLeaves seed count old new Done → TriesAll old.disk Done
   done_all (inl refused) = absurd refused.0
   done_all (inr (inl failed)) = let clash = failed.0 in let none : ⊥ = cc in absurd none
@@ -382,7 +369,7 @@ output_failed {tells} seed count old new ends = record {
 
 -- What the command owes
 
-pub stopped_trial : {tells tells_images : Type 0} (seed count : ℕ) (old new : Outside tells tells_images) (s : Status) → IsTrialStop s → TrialEnds seed count old.media new.media s → new.output ≡ old.output → Trials seed count old new s
+pub stopped_trial : {tells tells_images : Type 0} (seed count : ℕ) (old new : Outside tells tells_images) (s : Status) → IsPartStatus s → TrialEnds seed count old.media new.media s → new.output ≡ old.output → Trials seed count old new s
 stopped_trial seed count old new s stop ends same = record {
   printed = λ told. stop_prints (trial_text seed count) old.output new.output s stop;
   output = λ is. stop_undone s stop (subst IsWorkDone (sym is) tt);

@@ -5,8 +5,8 @@ use Rattle.std.specs.Str.{is_utf8, chars}
 use Rattle.std.proofs.lemmas.List.Elements.{All-head, All-tail}
 use Rattle.serde_json.proofs.OnLiterals.{serde_json_on_literals}
 use Rattle.vdr_terms.specs.Records.{FeedItem}
-use Rattle.vdr_history.specs.Histories.{Event, IsHistory, recorded}
-use Rattle.vdr_durability.specs.Keeping.{IsWhole, Keeps, ShowsOn, ShowsPrefix}
+use Rattle.vdr_history.specs.Histories.{Event, recorded}
+use Rattle.vdr_durability.specs.Keeping.{IsWhole, ShowsOn, ShowsPrefix}
 use Rattle.vdr_durability.proofs.Kept.{keeps_on}
 use Rattle.vdr_outside.specs.Causes.{Rose}
 use Rattle.vdr_outside.specs.Disk.{Disk, Durable, Image, SameBut, content}
@@ -29,9 +29,10 @@ use Rattle.vdr_vault.specs.Calls.{SameElsewhere}
 use Rattle.vdr_vault.specs.Openings.{LeavesAll}
 use Rattle.vdr_vault.specs.Regularity.{AreSound}
 use Rattle.vdr_vault.specs.Vaults.{ShowsHistory}
-use Rattle.vdr_replay.specs.Headline.{AccountBy, Headline, PlaysBack, RecordsAre, RunEnd}
+use Rattle.vdr_headline.specs.Headline.{Headline, PlaysBack}
+use Rattle.vdr_headline.proofs.Headlines.{no_event_history, no_event_whole, order_quiet, told_as}
+use Rattle.vdr_replay.specs.Headline.{AccountBy, AccountsForFeed, NothingIsRecorded, RecordsAre, ReplayHeadline, RunEnd}
 use Rattle.vdr_replay.specs.Headline.RunEnd.{NotStarted, Closed, Broken}
-use Rattle.vdr_replay.proofs.Headlines.{keeps_told, no_event_history, no_event_whole, prefix_told}
 use Rattle.vdr_life.specs.Lives.{Life}
 use Rattle.vdr_life.specs.Lives.Life.{formatted, ran}
 use Rattle.vdr_life.proofs.Lives.{run_front, run_in_order}
@@ -42,17 +43,17 @@ use Rattle.vdr_command.specs.StatusLine.{IfSmall}
 use Rattle.vdr_command.specs.declared.status.Status.{Status}
 use Rattle.vdr_command.specs.declared.status.Status.TheVariants.{Done, Words, Config, Small, Unformatted, Formatted, Damaged, MediaFault, PortFault, LinkFault, InputFault, OutputFault, NoMemory, Feed, NoChannel, NoIncident, SaveRefused, Place, Tick, ExportKind, ExportNothing, ExportMixed, ExportLong, ExportPart}
 use Rattle.vdr_tool.specs.Formats.{FormatEnds, status_of}
-use Rattle.vdr_tool.specs.TrialParts.{IsBenchStop, IsOwnStop, IsRunStop, IsTrialStop, RecordsNothing}
+use Rattle.vdr_tool.specs.TrialParts.{IsBenchStatus, IsOwnStatus, IsPartStatus, IsRunStatus}
 use Rattle.vdr_tool.specs.Trials.{IsAfterRun, IsOfOtherMedia, IsTrialStatus, LeavesRun, bench, bench_text, first_run, fresh}
 use Rattle.vdr_tool.proofs.FormatLemmas.{one_configuration}
-use Rattle.vdr_tool.proofs.LifeGoesOn.{played_so, quiet_order}
+use Rattle.vdr_tool.proofs.LifeGoesOn.{played_so}
 
 -- The text is that configuration.
 pub bench_reads : configuration bench_text ≡ Ok bench
 unfolding serde_json_on_literals is_utf8 chars configuration configuration_of only_keys top_of needed_key optional_key each_element group_at channel_at selection_at agreement is_key
 bench_reads = refl
 
-pub stops_at_bench : (r : FormatRefused) → TextTested (Err r) (configuration bench_text) → IsBenchStop (status_of r)
+pub stops_at_bench : (r : FormatRefused) → TextTested (Err r) (configuration bench_text) → IsBenchStatus (status_of r)
 stops_at_bench refusal.NoMemory tested = tt
 stops_at_bench (refusal.Config bad) tested = let clash : Ok bench ≡ Err bad = sym bench_reads ∙ tested in let none : ⊥ = cc in absurd none
 stops_at_bench refusal.AlreadyFormatted tested = tt
@@ -61,7 +62,7 @@ stops_at_bench refusal.Fault tested = tt
 
 -- Which statuses come of what
 
-pub bench_trial : (s : Status) → IsBenchStop s → IsTrialStop s
+pub bench_trial : (s : Status) → IsBenchStatus s → IsPartStatus s
 bench_trial Done h = absurd h
 bench_trial Words h = absurd h
 bench_trial (Config n) h = absurd h
@@ -87,7 +88,7 @@ bench_trial (ExportMixed place) h = absurd h
 bench_trial ExportLong h = absurd h
 bench_trial (ExportPart part) h = absurd h
 
-pub run_trial : (s : Status) → IsRunStop s → IsTrialStop s
+pub run_trial : (s : Status) → IsRunStatus s → IsPartStatus s
 run_trial Done h = absurd h
 run_trial Words h = absurd h
 run_trial (Config n) h = absurd h
@@ -113,7 +114,7 @@ run_trial (ExportMixed place) h = absurd h
 run_trial ExportLong h = absurd h
 run_trial (ExportPart part) h = absurd h
 
-pub stop_status : (s : Status) → IsTrialStop s → IsTrialStatus s
+pub stop_status : (s : Status) → IsPartStatus s → IsTrialStatus s
 stop_status Done h = absurd h
 stop_status Words h = absurd h
 stop_status (Config n) h = absurd h
@@ -140,7 +141,7 @@ stop_status ExportLong h = absurd h
 stop_status (ExportPart part) h = absurd h
 
 -- No work is done where a part of it stopped.
-pub stop_undone : {P : Type 0} (s : Status) → IsTrialStop s → IsWorkDone s → P
+pub stop_undone : {P : Type 0} (s : Status) → IsPartStatus s → IsWorkDone s → P
 stop_undone Done h done = absurd h
 stop_undone Words h done = absurd h
 stop_undone (Config n) h done = absurd h
@@ -166,7 +167,7 @@ stop_undone (ExportMixed place) h done = absurd h
 stop_undone ExportLong h done = absurd h
 stop_undone (ExportPart part) h done = absurd h
 
-pub stop_prints : (text : List ℕ) (was next : OutputSeen) (s : Status) → IsTrialStop s → PrintsText text s was next
+pub stop_prints : (text : List ℕ) (was next : OutputSeen) (s : Status) → IsPartStatus s → PrintsText text s was next
 stop_prints text was next Done h = absurd h
 stop_prints text was next Words h = absurd h
 stop_prints text was next (Config n) h = absurd h
@@ -192,7 +193,7 @@ stop_prints text was next (ExportMixed place) h = absurd h
 stop_prints text was next ExportLong h = absurd h
 stop_prints text was next (ExportPart part) h = absurd h
 
-pub run_not_formatted : (s : Status) → IsRunStop s → s ≡ Formatted → ⊥
+pub run_not_formatted : (s : Status) → IsRunStatus s → s ≡ Formatted → ⊥
 run_not_formatted Done h is = absurd h
 run_not_formatted Words h is = absurd h
 run_not_formatted (Config n) h is = absurd h
@@ -218,7 +219,7 @@ run_not_formatted (ExportMixed place) h is = absurd h
 run_not_formatted ExportLong h is = absurd h
 run_not_formatted (ExportPart part) h is = absurd h
 
-pub run_not_small : (P : TooSmall → Type 0) (s : Status) → IsRunStop s → IfSmall s P
+pub run_not_small : (P : TooSmall → Type 0) (s : Status) → IsRunStatus s → IfSmall s P
 run_not_small P Done h = absurd h
 run_not_small P Words h = absurd h
 run_not_small P (Config n) h = absurd h
@@ -244,7 +245,7 @@ run_not_small P (ExportMixed place) h = absurd h
 run_not_small P ExportLong h = absurd h
 run_not_small P (ExportPart part) h = absurd h
 
-pub own_after : (s : Status) → IsOwnStop s → IsAfterRun s
+pub own_after : (s : Status) → IsOwnStatus s → IsAfterRun s
 own_after Done h = absurd h
 own_after Words h = absurd h
 own_after (Config n) h = absurd h
@@ -270,7 +271,7 @@ own_after (ExportMixed place) h = absurd h
 own_after ExportLong h = absurd h
 own_after (ExportPart part) h = absurd h
 
-pub own_not_other : (s : Status) → IsOwnStop s → IsOfOtherMedia s → ⊥
+pub own_not_other : (s : Status) → IsOwnStatus s → IsOfOtherMedia s → ⊥
 own_not_other Done h other = absurd h
 own_not_other Words h other = absurd h
 own_not_other (Config n) h other = absurd h
@@ -312,6 +313,11 @@ empty_of image (c, h) = subst (λ (d : Configuration). IsEmptyHistory both d ben
 pub same_joined : (a b c : Image) → SameElsewhere a b → SameBut 1 b c → SameElsewhere a c
 same_joined a b c first then k zero_not one_not = then k one_not ∙ first k zero_not one_not
 
+-- What a run over these items records, where it ended so.
+pub record RecordsItems (items : List FeedItem) (end : RunEnd) (events : List Event) : Type 0 where
+  pub records : RecordsAre end first_run items (recorded events)
+  pub accounts : (g : ℕ) → AccountBy end first_run items (recorded events) g
+
 module _ {tells tells_images : Type 0} where
   -- Formatting succeeded.
   module _ (old mid : MediaSeen tells tells_images) (ends : FormatEnds false (Some bench_text) old mid Done) where
@@ -349,52 +355,33 @@ module _ {tells tells_images : Type 0} where
             (λ image p. ⊎_elim (λ now. inl now) (λ k. ⊎_elim (λ un. inr (inl un)) (λ new. inr (inr (empty_of image new))) k) p)
 
   -- A run on media that were just formatted, from the moment at which it began.
-  pub record RanOn (rose : Type 0) (mid late : Disk tells tells_images) (items : List FeedItem) (end : RunEnd) : Type 0 where
-    pub events : List Event
-    pub history : IsHistory (opening_of fresh) events
-    pub pending : IsWhole events ⊎ ((end ≡ Broken) × rose)
-    pub records : RecordsAre end first_run items (recorded events)
-    pub accounts : (g : ℕ) → AccountBy end first_run items (recorded events) g
-    pub moments : AtEachMoment mid late (λ image. mid.now image ⊎ ShowsPrefix Lives events 0 image)
-    pub synced : ℕ
-    pub after_entry : mid.clock ≤ synced
-    pub before_exit : synced ≤ late.clock
-    pub kept : Keeps Lives events synced late
+  abbrev pub RanOn : (rose : Type 0) → (mid late : Disk tells tells_images) → List FeedItem → RunEnd → Type 0
+  RanOn rose mid late items end = Headline (opening_of fresh) Lives (RecordsItems items end) ((end ≡ Broken) × rose) mid late
 
-  pub lived : (rose : Type 0) (mid late : Disk tells tells_images) (items : List FeedItem) (end : RunEnd) → IsEmpty mid.reads → (h : Headline fresh rose mid late items end)
+  pub lived : (rose : Type 0) (mid late : Disk tells tells_images) (items : List FeedItem) (end : RunEnd) → IsEmpty mid.reads → (h : ReplayHeadline fresh rose mid late items end)
       → (first rest : List Event) → h.events ≡ first ++ rest → (image : Image) → PlaysBack (opening_of fresh) first image → Lives first image
   lived rose mid late items end empty h first rest split image p =
       ran [] mid.reads image fresh first (formatted mid.reads empty) (empty_holds mid.reads bench bench_text empty)
       (run_front fresh first rest h.events split (run_in_order fresh h.events h.history.follow h.order)) (played_so fresh first image p)
 
-  pub ran_on : (rose : Type 0) (mid late : Disk tells tells_images) (items : List FeedItem) (end : RunEnd) → IsEmpty mid.reads → Headline fresh rose mid late items end → RanOn rose mid late items end
-  ran_on rose mid late items end empty h = record {
-    events = h.events;
-    history = h.history;
-    pending = h.pending;
-    records = h.records;
-    accounts = h.accounts;
-    moments = moments_weaken mid late (λ image. mid.now image ⊎ ShowsPrefix (PlaysBack (opening_of fresh)) h.events 0 image) (λ image. mid.now image ⊎ ShowsPrefix Lives h.events 0 image) h.moments
-        (λ image p. ⊎_elim (λ now. inl now) (λ shown. inr (prefix_told (PlaysBack (opening_of fresh)) Lives h.events (lived rose mid late items end empty h) 0 image shown)) p);
-    synced = h.synced;
-    after_entry = h.after_entry;
-    before_exit = h.before_exit;
-    kept = keeps_told (PlaysBack (opening_of fresh)) Lives h.events (lived rose mid late items end empty h) h.synced late h.kept;
-  }
+  pub ran_on : (rose : Type 0) (mid late : Disk tells tells_images) (items : List FeedItem) (end : RunEnd) → IsEmpty mid.reads → ReplayHeadline fresh rose mid late items end → RanOn rose mid late items end
+  ran_on rose mid late items end empty h =
+      told_as (opening_of fresh) (PlaysBack (opening_of fresh)) Lives (AccountsForFeed fresh late items end) (RecordsItems items end) ((end ≡ Broken) × rose) ((end ≡ Broken) × rose) mid late h
+      (lived rose mid late items end empty h) (λ told. record { records = told.records; accounts = told.accounts }) (λ p. p)
 
-  pub lived_all : (rose : Type 0) (mid late : Disk tells tells_images) (items : List FeedItem) (empty : IsEmpty mid.reads) → (h : Headline fresh rose mid late items Closed) → tells
+  pub lived_all : (rose : Type 0) (mid late : Disk tells tells_images) (items : List FeedItem) (empty : IsEmpty mid.reads) → (h : ReplayHeadline fresh rose mid late items Closed) → tells
       → Lives (ran_on rose mid late items Closed empty h).events late.reads
   unfolding ran_on
-  lived_all rose mid late items empty h told = lived rose mid late items Closed empty h h.events [] (sym (append-nil h.events)) late.reads (h.reads told refl)
+  lived_all rose mid late items empty h told = lived rose mid late items Closed empty h h.events [] (sym (append-nil h.events)) late.reads (h.told.reads told refl)
 
   -- It was not begun, and a stop leaves the media empty.
   ran_nothing : (rose : Type 0) (mid late : Disk tells tells_images) → ((image : Image) → mid.now image → IsEmpty image) → LeavesAll mid late → RanOn rose mid late [] NotStarted
   ran_nothing rose mid late empty leaves = record {
     events = [];
     history = no_event_history (opening_of fresh);
+    order = λ m there. tt;
     pending = inl no_event_whole;
-    records = refl;
-    accounts = λ g. tt;
+    told = record { records = refl; accounts = λ g. tt };
     moments = moments_weaken mid late (λ image. mid.now image) (λ image. mid.now image ⊎ ShowsPrefix Lives [] 0 image) leaves (λ image now. inl now);
     synced = mid.clock;
     after_entry = omega arith;
@@ -407,16 +394,16 @@ module _ {tells tells_images : Type 0} where
     };
   }
 
-  pub nothing_ran : (rose : Type 0) (mid late : Disk tells tells_images) (seed count : ℕ) → IsEmpty mid.reads → ((image : Image) → mid.now image → IsEmpty image) → RecordsNothing seed count rose mid late → RanOn rose mid late [] NotStarted
-  nothing_ran rose mid late seed count read empty (inl leaves) = ran_nothing rose mid late empty leaves
-  nothing_ran rose mid late seed count read empty (inr h) = ran_on rose mid late [] NotStarted read h
+  pub nothing_ran : (rose : Type 0) (mid late : Disk tells tells_images) → IsEmpty mid.reads → ((image : Image) → mid.now image → IsEmpty image) → NothingIsRecorded fresh rose mid late → RanOn rose mid late [] NotStarted
+  nothing_ran rose mid late read empty (inl leaves) = ran_nothing rose mid late empty leaves
+  nothing_ran rose mid late read empty (inr h) = ran_on rose mid late [] NotStarted read h
 
   -- The media were opened again, which changed nothing of what they have.
   module _ (rose : Type 0) (mid late new : Disk tells tells_images) (items : List FeedItem) (r : RanOn rose mid late items Closed) (x : Contents) (life : Lives r.events late.reads)
       (holds : HoldsContents late.reads x) (sound : AreSound x) (moments : AtEachMoment late new (λ image. late.now image ⊎ ShowsHistory (opening_of x) [] image)) where
     pub shows_on : (image : Image) → ShowsHistory (opening_of x) [] image → Lives r.events image
     shows_on image shown = subst (λ (es : List Event). Lives es image) (append-nil r.events)
-        (ran r.events late.reads image x [] life holds (record { follow = tt; order = quiet_order x sound [] refl }) shown)
+        (ran r.events late.reads image x [] life holds (run_in_order x [] tt (order_quiet x sound [] refl)) shown)
 
     all_whole : IsWhole r.events
     all_whole = ⊎_elim (λ w. w) (λ (b : (Closed ≡ Broken) × rose). let clash = b.0 in let none : ⊥ = cc in absurd none) r.pending
@@ -432,9 +419,9 @@ module _ {tells tells_images : Type 0} where
     reopened = record {
       events = r.events;
       history = r.history;
+      order = r.order;
       pending = r.pending;
-      records = r.records;
-      accounts = r.accounts;
+      told = r.told;
       moments = moments_join mid late new Since r.moments (moments_weaken late new (λ image. late.now image ⊎ Lives r.events image) Since goes_on
           (λ image p. ⊎_elim (λ now. now_after mid late Since r.moments image now)
           (λ shown. inr (record { first = r.events; rest = []; split = sym (append-nil r.events); enough = omega arith; shown = shown })) p));
@@ -460,8 +447,8 @@ module _ {tells tells_images : Type 0} where
     events = r.events;
     history = r.history;
     pending = ⊎_elim (λ w. inl w) (λ (b : (end ≡ Broken) × rose). inr (b.0, to b.1)) r.pending;
-    records = r.records;
-    accounts = r.accounts;
+    records = r.told.records;
+    accounts = r.told.accounts;
     moments = λ durable. moments_join old.disk mid.disk new (SinceEntry old.disk r.events)
         (moments_weaken old.disk mid.disk (λ image. old.disk.now image ⊎ (IsUnformatted image ⊎ IsEmpty image)) (SinceEntry old.disk r.events) (formats old mid ends durable)
         (λ image p. ⊎_elim (λ now. inl now) (λ k. ⊎_elim (λ un. inr (inl un)) (λ empty. begun image empty) k) p))

@@ -6,8 +6,8 @@ use Rattle.vdr_config.specs.declared.bad.ConfigBad.{ConfigBad}
 use Rattle.vdr_config.specs.Configuration.{Configuration}
 use Rattle.vdr_config.specs.Sizes.{sizes_of}
 use Rattle.vdr_config.specs.Grammar.{configuration}
-use Rattle.vdr_tool.specs.declared.checking.CheckStop.{CheckStop}
-use Rattle.vdr_tool.specs.declared.checking.CheckStop.TheVariants.{Input, Memory, Refused}
+use Rattle.vdr_tool.specs.declared.checking.CheckRefused.{CheckRefused}
+use Rattle.vdr_tool.specs.declared.checking.CheckRefused.TheVariants.{Input, Memory, Refused}
 
 -- The number of configured groups.
 abbrev pub groups_of : Configuration → ℕ
@@ -30,11 +30,11 @@ abbrev pub IfChecked : Option (List ℕ) → (List ℕ → Type 0) → Type 0
 IfChecked left P = IfKnown left (λ bytes. (c : Configuration) × (configuration bytes ≡ Ok c) × P (check_text c))
 
 -- What is said of a text that is refused.
-abbrev pub IfRefusedStop : CheckStop → (ConfigBad → Type 0) → Type 0
-IfRefusedStop Input P = ⊤
-IfRefusedStop Memory P = ⊤
-IfRefusedStop (Refused bad) P = P bad
+abbrev pub IfRefused : CheckRefused → (ConfigBad → Type 0) → Type 0
+IfRefused Input P = ⊤
+IfRefused Memory P = ⊤
+IfRefused (Refused bad) P = P bad
 
-abbrev pub IfRefusedText : {T : Type 0} → Result T CheckStop → (ConfigBad → Type 0) → Type 0
+abbrev pub IfRefusedText : {T : Type 0} → Result T CheckRefused → (ConfigBad → Type 0) → Type 0
 IfRefusedText (Ok x) P = ⊤
-IfRefusedText (Err stop) P = IfRefusedStop stop P
+IfRefusedText (Err stop) P = IfRefused stop P

@@ -18,14 +18,14 @@ use Rattle.vdr_replay.specs.Feeding.{AreConfigured, RefusesNext}
 use Rattle.vdr_replay.specs.declared.ended.FeedEnd.{FeedEnd}
 use Rattle.vdr_replay.specs.declared.ended.FeedEnd.TheVariants as feed_ends
 use Rattle.vdr_replay.specs.declared.ended.Replayed.{Replayed}
-use Rattle.vdr_replay.specs.declared.ended.ReplayStop.{ReplayStop}
-use Rattle.vdr_replay.specs.declared.ended.ReplayStop.TheVariants as stops
+use Rattle.vdr_replay.specs.declared.ended.ReplayRefused.{ReplayRefused}
+use Rattle.vdr_replay.specs.declared.ended.ReplayRefused.TheVariants as stops
 use Rattle.vdr_command.specs.Endings.{IsDone, IsRefusal}
 use Rattle.vdr_command.specs.Opened.{AddsMissing, IsLegibleWith, IsUntouched, WasRecorded}
 use Rattle.vdr_command.specs.Outside.{AreLeftAlone, InputFailed, MediaFailed, MediaSeen, NothingFailed, OutputFailed, OutputSeen, Outside, Prints, PrintsFront, Writes}
 use Rattle.vdr_command.specs.Promises.{Promise}
 use Rattle.vdr_tool.specs.Summaries.{summary_text}
-use Rattle.vdr_command.specs.Statuses.{status_of_stop}
+use Rattle.vdr_command.specs.Statuses.{status_of_replay}
 use Rattle.vdr_command.specs.declared.status.Status.{Status}
 use Rattle.vdr_command.specs.declared.status.Status.TheVariants.{Done, Unformatted, Damaged, InputFault, OutputFault, NoMemory, Feed, Place, Tick}
 
@@ -38,12 +38,12 @@ PrintsRun feed_ends.Input summary status old new = (status ≡ InputFault) × Wr
 PrintsRun (feed_ends.Refused number offset) summary status old new = (status ≡ Feed number offset) × Writes summary old new
 
 -- Status and output tell how the recording ended: of a run that was not closed there is no summary.
-abbrev pub TellsRun : Result Replayed ReplayStop → Status → (old new : OutputSeen) → Type 0
+abbrev pub TellsRun : Result Replayed ReplayRefused → Status → (old new : OutputSeen) → Type 0
 TellsRun (Ok run) status old new = PrintsRun run.end (summary_text run.groups run.records) status old new
-TellsRun (Err stop) status old new = (status ≡ status_of_stop stop) × (new ≡ old)
+TellsRun (Err stop) status old new = (status ≡ status_of_replay stop) × (new ≡ old)
 
 -- What the answer says of the input and of the media at entry, and what the input and the media are afterwards.
-pub record ReplayEnds {tells tells_images : Type 0} (input now : Option (List ℕ)) (old new : MediaSeen tells tells_images) (answer : Result Replayed ReplayStop) : Type 0 where
+pub record ReplayEnds {tells tells_images : Type 0} (input now : Option (List ℕ)) (old new : MediaSeen tells tells_images) (answer : Result Replayed ReplayRefused) : Type 0 where
   -- one history of the feed, whole and at every moment
   pub recorded : (x : Contents) (bytes : List ℕ) → tells → HoldsContents old.disk.reads x → WasRecorded x → input ≡ Some bytes
       → Answers x bytes now (MediaFailed old new) old.disk new.disk answer
@@ -83,7 +83,7 @@ pub record Replays {tells tells_images : Type 0} (old new : Outside tells tells_
   -- all was done: the input was read to its end
   pub done : status ≡ Done → IsAtEnd new.input.left
   -- how the recording ended, as status and output tell it
-  pub answer : Result Replayed ReplayStop
+  pub answer : Result Replayed ReplayRefused
   pub told : TellsRun answer status old.output new.output
   -- each failure comes only with its cause
   pub input : status ≡ InputFault → InputFailed old.input new.input

@@ -5,7 +5,7 @@ use Rattle.vdr_history.specs.Histories.{Act, Incident}
 use Rattle.vdr_history.specs.Histories.Act.{Save as Saving}
 use Rattle.vdr_durability.specs.Readings.{EndsMeet}
 use Rattle.vdr_outside.specs.Disk.{Image}
-use Rattle.vdr_incident.specs.Saves.{is_label}
+use Rattle.vdr_terms.specs.Texts.{is_label}
 use Rattle.vdr_opening.specs.Media.{both, Contents, HoldsContents, reading_of}
 use Rattle.vdr_vault.specs.Saves.{refusal_from}
 use Rattle.vdr_vault.specs.declared.refused.SaveRefused.{SaveRefused as Refused}

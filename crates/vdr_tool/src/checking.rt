@@ -8,12 +8,12 @@ ghost use Rattle.vdr_feed.specs.Reader.{IfKnown};
 ghost use Rattle.vdr_config.specs.declared.bad.ConfigBad.{ConfigBad as Bad};
 ghost use Rattle.vdr_config.specs.Configuration.{Configuration};
 ghost use Rattle.vdr_config.specs.Grammar.{configuration, Refuses};
-ghost use Rattle.vdr_tool.specs.Check.{IfChecked, IfRefusedStop, IfRefusedText, check_text, groups_of, need_line};
+ghost use Rattle.vdr_tool.specs.Check.{IfChecked, IfRefused, IfRefusedText, check_text, groups_of, need_line};
 ghost use Rattle.vdr_command.specs.Refusals.{number_of, refusal_line};
 ghost use Rattle.vdr_tool.specs.Checks.{Checks, IsCheckStatus};
 ghost use Rattle.vdr_command.specs.Endings.{IsWorkDone, ending};
 ghost use Rattle.vdr_command.specs.StatusLine.{IfConfig, IsConfig, Wrote};
-ghost use Rattle.vdr_tool.specs.declared.checking.CheckStop.TheVariants.{Input};
+ghost use Rattle.vdr_tool.specs.declared.checking.CheckRefused.TheVariants.{Input};
 ghost use Rattle.vdr_command.specs.declared.status.Status.TheVariants.{Done, InputFault, OutputFault, Words};
 
 use arrayvec::ArrayVec;
@@ -21,15 +21,14 @@ use itoa::Buffer;
 use std::alloc::Global;
 use vdr_command::{Outer, ROOM, Status, World, number_of, push_text, report_refusal};
 use vdr_config::{Config, ConfigBad, needs, read_config};
-use vdr_feed::fill;
-use vdr_outside::{Media, Sink, Source, write_all};
+use vdr_outside::{Media, Sink, Source, fill, write_all};
 
 /// So many bytes tell that a text is longer than the longest configuration.
 pub(crate) const ENOUGH: usize = 16_381;
 
 // Why a text has no needs.
 #[derive(Drop)]
-enum CheckStop {
+enum CheckRefused {
     Input,
     Memory,
     Refused(ConfigBad),
@@ -67,18 +66,18 @@ fn text_of(config: &Config) -> ArrayVec<u8, ROOM>
 }
 
 // What a reading of a configuration ended with.
-fn stopped_by(bad: ConfigBad) -> CheckStop
-    ensures refused { (grammar : Result Configuration Bad) → Refuses bad grammar → IfRefusedStop result (λ b. grammar ≡ Err b) }
+fn stopped_by(bad: ConfigBad) -> CheckRefused
+    ensures refused { (grammar : Result Configuration Bad) → Refuses bad grammar → IfRefused result (λ b. grammar ≡ Err b) }
     ensures read { result ≡ Input → ⊥ }
 {
     match bad {
-        ConfigBad::NoMemory => CheckStop::Memory,
-        bad => CheckStop::Refused(bad),
+        ConfigBad::NoMemory => CheckRefused::Memory,
+        bad => CheckRefused::Refused(bad),
     }
 }
 
 // What the configuration that the input is needs. The input is read to its end, unless it is too long.
-fn check<I: Source>(alloc: Global, input: &mut I) -> Result<ArrayVec<u8, ROOM>, CheckStop>
+fn check<I: Source>(alloc: Global, input: &mut I) -> Result<ArrayVec<u8, ROOM>, CheckRefused>
     ensures text { IfOk result (λ text. IsAtEnd (I.left input.new) × IfChecked (I.left input.old) (λ needs. text.items ≡ needs)) }
     ensures refused { IfRefusedText result (λ bad. IfKnown (I.left input.old) (λ bytes. configuration bytes ≡ Err bad)) }
     ensures failed { IsErrOf result Input → Rose (I.faults input.old) (I.faults input.new) }
@@ -86,7 +85,7 @@ fn check<I: Source>(alloc: Global, input: &mut I) -> Result<ArrayVec<u8, ROOM>, 
 {
     let mut text = [0; ENOUGH];
     let Ok(count) = fill(input, &mut text) else {
-        return Err(CheckStop::Input);
+        return Err(CheckRefused::Input);
     };
     match read_config(alloc, &text[..count]) {
         Ok(config) => Ok(text_of(&config)),
@@ -115,14 +114,14 @@ fn print_needs<I: Source, O: Sink>(
             Ok(()) => Ok(()),
             Err(_) => Err(Status::OutputFault),
         },
-        Err(CheckStop::Refused(bad)) => {
+        Err(CheckRefused::Refused(bad)) => {
             report_refusal(&bad, output);
             Err(Status::Config {
                 number: number_of(&bad),
             })
         }
-        Err(CheckStop::Input) => Err(Status::InputFault),
-        Err(CheckStop::Memory) => Err(Status::NoMemory),
+        Err(CheckRefused::Input) => Err(Status::InputFault),
+        Err(CheckRefused::Memory) => Err(Status::NoMemory),
     }
 }
 

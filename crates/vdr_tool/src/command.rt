@@ -78,7 +78,7 @@ fn answer<I: Source + Drop, O: Sink + Drop, M: Media + Drop>(
 ///   channel, or all where CHANNEL is `all`, whose UTC stamps are from FROM to TO; `-` is no bound.
 /// - `incidents` reads no input. It prints the saved incidents that are live, in the order of their ids, each as a line
 ///   `ID TICK UTC A B LABEL`: tick and UTC of its last record, its first and its last place, and its label.
-/// - `save LABEL` reads no input. It saves an incident, as `vdr_recorder::Recording::save` does, and prints its id and LF. The label
+/// - `save LABEL` reads no input. It saves an incident, as `vdr_recorder::Recorder::save` does, and prints its id and LF. The label
 ///   is 1 to 64 bytes of 0x20 to 0x7E. Where the output fails the save stays.
 /// - `release ID` reads no input and prints nothing. It releases the incident of this id, 1 to 32.
 /// - `sources MEDIUM` reads no input. It prints the table of sources of the window of `capsule` or `longterm`, or of the incident

@@ -12,7 +12,7 @@ ghost use Rattle.vdr_opening.specs.Media.{Contents, HoldsContents, both, reading
 ghost use Rattle.vdr_vault.specs.Regularity.{AreSound};
 ghost use Rattle.vdr_vault.specs.Vaults.{AreRings, IsReadable};
 ghost use Rattle.vdr_recorder.specs.Looks.{HasLooked};
-ghost use Rattle.vdr_tool.specs.TrialParts.{CountsRecords, CountsWindows, IfStopped, IsRunStop, cause_of, outcome, whole};
+ghost use Rattle.vdr_tool.specs.TrialParts.{CountsRecords, CountsWindows, IfStatus, IsRunStatus, cause_of, outcome, whole};
 ghost use Rattle.vdr_command.specs.declared.status.Status.TheVariants.{MediaFault};
 
 use crate::trying::Windows;
@@ -21,11 +21,9 @@ use std::convert::Infallible;
 use vdr_command::{Status, law_of_openings};
 use vdr_entry::{Medium, Query, Record};
 use vdr_outside::{Failed, Media, Sink};
-use vdr_recorder::Recording;
-use vdr_visit::{VisitStop, Visitor, VisitorStop};
-
-/// The last stamp: the last millisecond of the year 9999.
-const LAST_STAMP: i64 = 253_402_300_799_999;
+use vdr_recorder::Recorder;
+use vdr_terms::LAST_STAMP;
+use vdr_visit::{VisitRefused, Visitor, VisitorRefused};
 
 /// Counts the records that it is handed, and prints nothing. At the greatest u64 the count stands still.
 #[derive(Drop)]
@@ -52,12 +50,12 @@ impl Visitor for Counter {
         &mut self,
         _item: &Record,
         _out: &mut O,
-    ) -> Result<(), VisitorStop<Infallible>> {
+    ) -> Result<(), VisitorRefused<Infallible>> {
         self.count = self.count.saturating_add(1);
         Ok(())
     }
 
-    fn finish<O: Sink>(&mut self, _out: &mut O) -> Result<(), VisitorStop<Infallible>> {
+    fn finish<O: Sink>(&mut self, _out: &mut O) -> Result<(), VisitorRefused<Infallible>> {
         Ok(())
     }
 }
@@ -79,32 +77,32 @@ impl Sink for Nowhere {
 }
 
 // The status with which a count stops. Only a fault, or damage of media that were changed from outside, stops one.
-fn cause_of(stop: VisitStop<Infallible>) -> Status
+fn cause_of(stop: VisitRefused<Infallible>) -> Status
     ensures { result ≡ cause_of stop }
 {
     match stop {
-        VisitStop::Fault => Status::MediaFault,
-        VisitStop::Damaged { medium, offset } => Status::Damaged { medium, offset },
-        VisitStop::NoChannel => Status::NoChannel,
-        VisitStop::NoIncident => Status::NoIncident(0),
-        VisitStop::Output => Status::OutputFault,
-        VisitStop::Own(none) => match none {},
+        VisitRefused::Fault => Status::MediaFault,
+        VisitRefused::Damaged { medium, offset } => Status::Damaged { medium, offset },
+        VisitRefused::NoChannel => Status::NoChannel,
+        VisitRefused::NoIncident => Status::NoIncident(0),
+        VisitRefused::Output => Status::OutputFault,
+        VisitRefused::Own(none) => match none {},
     }
 }
 
 // Counts the records that stand in the window of this medium.
 fn count_window<M: Media>(
-    recording: &mut Recording,
+    recorder: &mut Recorder,
     media: &mut M,
     medium: Medium,
 ) -> Result<u64, Status>
     requires window { (medium ≡ TheCapsule) ⊎ (medium ≡ TheLongTerm) }
-    requires rings { AreRings recording.old.members (M.disk media.old).sizes }
-    requires works { recording.old.members.failed ≡ false }
-    ensures stops { IfStopped result IsRunStop }
-    ensures counted { (opening : Opening) (events : List Event) (placed : ℕ → List Placed) → M.tells → IsReadable opening events recording.old.members placed (M.disk media.old)
+    requires rings { AreRings recorder.old.vault (M.disk media.old).sizes }
+    requires works { recorder.old.vault.failed ≡ false }
+    ensures stops { IfStatus result IsRunStatus }
+    ensures counted { (opening : Opening) (events : List Event) (placed : ℕ → List Placed) → M.tells → IsReadable opening events recorder.old.vault placed (M.disk media.old)
         → CountsRecords (selected opening events (whole medium)) result }
-    ensures looked { HasLooked (whole medium) recording.old recording.new (M.disk media.old) (M.disk media.new) (M.bytes_read media.old) (M.bytes_read media.new)
+    ensures looked { HasLooked (whole medium) recorder.old recorder.new (M.disk media.old) (M.disk media.new) (M.bytes_read media.old) (M.bytes_read media.new)
         (M.faults media.old) (M.faults media.new) (outcome result ≡ MediaFault) }
 {
     let query = Query {
@@ -114,7 +112,7 @@ fn count_window<M: Media>(
         to: LAST_STAMP,
     };
     let mut counter = Counter { count: 0 };
-    match recording.visit(media, &query, &mut counter, &mut Nowhere {}) {
+    match recorder.visit(media, &query, &mut counter, &mut Nowhere {}) {
         Ok(()) => Ok(counter.count),
         Err(stop) => Err(cause_of(stop)),
     }
@@ -124,7 +122,7 @@ fn count_window<M: Media>(
 pub(crate) fn count_windows<M: Media>(alloc: Global, media: &mut M) -> Result<Windows, Status>
     requires two { 2 ≤ length (M.disk media.old).sizes }
     requires three { length (M.disk media.old).sizes ≤ 3 }
-    ensures stops { IfStopped result IsRunStop }
+    ensures stops { IfStatus result IsRunStatus }
     ensures counts { (x : Contents) → M.tells → HoldsContents (M.disk media.old).reads x → EndsMeet both (reading_of x) → AreSound x
         → CountsWindows x (M.disk media.old) (M.disk media.new) result }
     ensures fault { outcome result ≡ MediaFault → Rose (sum (M.faults media.old)) (sum (M.faults media.new)) }
@@ -133,8 +131,8 @@ pub(crate) fn count_windows<M: Media>(alloc: Global, media: &mut M) -> Result<Wi
     ensures sizes { (M.disk media.new).sizes ≡ (M.disk media.old).sizes }
 {
     law_of_openings();
-    let mut recording = Recording::open(alloc, media)?;
-    let capsule = count_window(&mut recording, media, Medium::Capsule)?;
-    let long_term = count_window(&mut recording, media, Medium::LongTerm)?;
+    let mut recorder = Recorder::open(alloc, media)?;
+    let capsule = count_window(&mut recorder, media, Medium::Capsule)?;
+    let long_term = count_window(&mut recorder, media, Medium::LongTerm)?;
     Ok(Windows { capsule, long_term })
 }

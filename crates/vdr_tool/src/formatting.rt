@@ -14,9 +14,8 @@ ghost use Rattle.vdr_command.specs.declared.status.Status.TheVariants.{Done, Inp
 use crate::checking::ENOUGH;
 use std::alloc::Global;
 use vdr_command::{Outer, Status, World, number_of, report_refusal};
-use vdr_feed::fill;
 use vdr_media::{FormatRefused, format};
-use vdr_outside::{Media, Sink, Source};
+use vdr_outside::{Media, Sink, Source, fill};
 
 // How a refusal ends the command. That of the configuration is written, with its key.
 fn told<O: Sink>(refused: &FormatRefused, output: &mut O) -> Status

@@ -9,7 +9,7 @@ ghost use Rattle.vdr_command.specs.declared.status.Status.TheVariants.{Words};
 use std::alloc::Global;
 use vdr_command::{Outer, Status, World, law_of_openings};
 use vdr_outside::{Media, Sink, Source};
-use vdr_recorder::{Recording, ReleaseRefused};
+use vdr_recorder::{Recorder, ReleaseRefused};
 
 // How a release of this id ends the command.
 fn ended_by(released: Result<(), ReleaseRefused>, id: u32) -> Result<(), Status>
@@ -38,8 +38,8 @@ fn release<I: Source + Drop, O: Sink + Drop, M: Media + Drop>(
     ensures silent { world.new.output ≡ world.old.output }
     ensures unread { world.new.input ≡ world.old.input }
 {
-    let mut recording = Recording::open(alloc, &mut world.media)?;
-    let released = recording.release(&mut world.media, id);
+    let mut recorder = Recorder::open(alloc, &mut world.media)?;
+    let released = recorder.release(&mut world.media, id);
     ended_by(released, id)
 }
 

@@ -13,7 +13,7 @@ use std::alloc::Global;
 use vdr_command::{Outer, ROOM, Status, World, law_of_openings, push_text};
 use vdr_opening::law_of_contents;
 use vdr_outside::{Media, Sink, Source, write_all};
-use vdr_recorder::Recording;
+use vdr_recorder::Recorder;
 
 // The line of an id.
 fn line_of(id: u32) -> ArrayVec<u8, ROOM>
@@ -61,8 +61,8 @@ fn save<I: Source + Drop, O: Sink + Drop, M: Media + Drop>(
     ensures unread { world.new.input ≡ world.old.input }
 {
     law_of_contents();
-    let mut recording = Recording::open(alloc, &mut world.media)?;
-    let id = recording.save(&mut world.media, label)?;
+    let mut recorder = Recorder::open(alloc, &mut world.media)?;
+    let id = recorder.save(&mut world.media, label)?;
     print_id(id, &mut world.output)
 }
 

@@ -9,7 +9,7 @@ ghost use Rattle.vdr_command.specs.Endings.{IsWorkDone, ending};
 ghost use Rattle.vdr_command.specs.Opened.{PrintsText};
 ghost use Rattle.vdr_tool.specs.Formats.{FormatEnds, status_of};
 ghost use Rattle.vdr_tool.specs.Summaries.{count_text};
-ghost use Rattle.vdr_tool.specs.TrialParts.{IfStopped, IsBenchStop, IsRunStop, IsTrialStop, IsTally, RunsItems, outcome};
+ghost use Rattle.vdr_tool.specs.TrialParts.{IfStatus, IsBenchStatus, IsRunStatus, IsPartStatus, IsTally, RunsItems, outcome};
 ghost use Rattle.vdr_tool.specs.Trials.{TrialEnds, Trials, bench_text, count_line, fresh, sums_line, trial_lines};
 ghost use Rattle.vdr_command.specs.declared.status.Status.TheVariants.{MediaFault, OutputFault, Words};
 
@@ -76,7 +76,7 @@ fn format_bench<M: Media>(alloc: Global, media: &mut M) -> Result<(), Status>
     requires three { length (M.disk media.old).sizes ≤ 3 }
     ensures ends { FormatEnds false (Some bench_text) (record { disk = M.disk media.old; faults = M.faults media.old; bytes_read = M.bytes_read media.old })
         (record { disk = M.disk media.new; faults = M.faults media.new; bytes_read = M.bytes_read media.new }) (ending result) }
-    ensures stops { IfStopped result IsBenchStop }
+    ensures stops { IfStatus result IsBenchStatus }
     ensures later { NoneFalls (M.faults media.old) (M.faults media.new) }
     ensures sizes { (M.disk media.new).sizes ≡ (M.disk media.old).sizes }
 {
@@ -115,7 +115,7 @@ fn record_items<M: Media>(
     requires few { count ≤ 1_000_000 }
     requires two { 2 ≤ length (M.disk media.old).sizes }
     requires three { length (M.disk media.old).sizes ≤ 3 }
-    ensures stops { IfStopped result IsRunStop }
+    ensures stops { IfStatus result IsRunStatus }
     ensures run { M.tells → HoldsContents (M.disk media.old).reads fresh
         → RunsItems seed count (Rose (sum (M.faults media.old)) (sum (M.faults media.new))) (M.disk media.old) (M.disk media.new) result }
     ensures fits { IfOk result (λ ran. ran.records < 2 ^ 64) }
@@ -147,7 +147,7 @@ fn try_media<M: Media>(alloc: Global, seed: u32, count: u64, media: &mut M) -> R
     ensures ends { TrialEnds seed count (record { disk = M.disk media.old; faults = M.faults media.old; bytes_read = M.bytes_read media.old })
         (record { disk = M.disk media.new; faults = M.faults media.new; bytes_read = M.bytes_read media.new }) (outcome result) }
     ensures tally { M.tells → IfOk result (IsTally seed count) }
-    ensures stops { IfStopped result IsTrialStop }
+    ensures stops { IfStatus result IsPartStatus }
     ensures sizes { (M.disk media.new).sizes ≡ (M.disk media.old).sizes }
 {
     format_bench(alloc, media)?;

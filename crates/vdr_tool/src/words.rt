@@ -1,6 +1,5 @@
 // The words that ask for a command.
 ghost use Rattle.std.specs.Prelude.{◌≡◌, ◌≤◌, ◌&&◌, ◌∷◌, [], ℕ, ℤ, nat_le, pos, true, Some, IfSome, decimal, option_map};
-ghost use Rattle.std.specs.List.{list_all};
 ghost use Rattle.vdr_terms.specs.Stamps.{last_stamp};
 ghost use Rattle.vdr_terms.specs.declared.rate.Rate.{Rate as RateTold};
 ghost use Rattle.vdr_config.specs.Configuration.{IsRate};
@@ -21,6 +20,7 @@ use vdr_control::{Order, law_of_plays, read_play};
 use vdr_entry::Medium;
 use vdr_export::Block;
 use vdr_readout::Wanted;
+use vdr_terms::are_graphic;
 
 /// What the words ask for.
 #[derive(Clone, Copy, Drop)]
@@ -236,12 +236,6 @@ fn five_words<'a>(
     Some(Command::Wav(wanted))
 }
 
-fn are_printable(text: &[u8]) -> bool
-    ensures { result ≡ list_all (λ b. nat_le 0x21 b && nat_le b 0x7E) text.now }
-{
-    text.iter().all(|byte| *byte >= 0x21 && *byte <= 0x7E)
-}
-
 // The source of an image: six bytes of 0x21 to 0x7E.
 fn source_of(word: &str) -> Option<[u8; 6]>
     ensures found { is_identifier word.now ≡ true → result ≡ Some word.now }
@@ -252,7 +246,7 @@ fn source_of(word: &str) -> Option<[u8; 6]>
         return None;
     }
     let source = [text[0], text[1], text[2], text[3], text[4], text[5]];
-    if are_printable(&source) {
+    if are_graphic(&source) {
         Some(source)
     } else {
         None

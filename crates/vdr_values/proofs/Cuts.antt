@@ -2,13 +2,11 @@
 use Rattle.std.proofs.Common.{◌≡◌, ◌≤◌, ◌∙◌, ◌+◌, ℕ, suc, Bool, true, false, cond, not, List, [], ◌∷◌, length, take, drop, refl, sym, ap, arith, eqb}
 use Rattle.std.specs.List.{onto_first, position_or_len}
 use Rattle.vdr_sentence.specs.Fields.{fields}
+use Rattle.vdr_sentence.proofs.Bodies.{take_one_more}
 use Rattle.vdr_values.specs.Readings.{fields_behind}
 
 abbrev pub comma_place : List ℕ → ℕ
 comma_place text = position_or_len (λ b. eqb b 44) text
-
-take_one_more : (n b : ℕ) (bytes : List ℕ) → take (1 + n) (b ∷ bytes) ≡ b ∷ take n bytes
-take_one_more n b bytes = let e : 1 + n ≡ suc n = omega arith in rw e refl
 
 drop_one_more : (n b : ℕ) (bytes : List ℕ) → drop (1 + n) (b ∷ bytes) ≡ drop n bytes
 drop_one_more n b bytes = let e : 1 + n ≡ suc n = omega arith in rw e refl

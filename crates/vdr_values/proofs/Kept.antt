@@ -1,5 +1,6 @@
 -- The values of a reading have the kinds of their forms.
 use Rattle.std.proofs.Common.{◌≡◌, ◌∙◌, ℕ, suc, Bool, true, false, ◌&&◌, List, [], ◌∷◌, sum_by, leb, Option, Some, None, refl, sym, ap}
+use Rattle.std.proofs.lemmas.Bool.{and_parts}
 use Rattle.vdr_values.specs.declared.formatter.Formatter.{Formatter}
 use Rattle.vdr_values.specs.Values.{Value, value_at, Number, Time, Angle, Digits, Letter, Raw}
 use Rattle.vdr_values.specs.Forms.{Form}
@@ -25,10 +26,6 @@ kept-suits (form.Letter letters) (Some (Letter b)) h = refl
 kept-suits form.Raw None h = refl
 kept-suits form.Raw (Some (Raw bytes)) h = refl
 kept-suits _ _ h = absurd (cc)
-
-and_parts : (a b : Bool) → (a && b) ≡ true → (a ≡ true) × (b ≡ true)
-and_parts true b h = (refl, h)
-and_parts false b h = absurd (cc)
 
 pub kept_all-suits : (forms : List Form) (values : Values) → each_suits forms values ≡ true → kept_all forms (value_at values) ≡ values
 kept_all-suits [] [] h = refl

@@ -2,7 +2,7 @@
 use Rattle.std.proofs.Common.{◌≡◌, ◌≤◌, ◌<◌, ◌+◌, ◌-◌, ◌*◌, ◌/◌, ◌%◌, ◌^◌, ℕ, Bool, true, false, cond, not, ◌&&◌, List, [], ◌∷◌, ◌++◌, length, codes, decimal, Option, Some, None, refl, sym, ap, subst, arith, length-append, eqb, leb, ltb}
 use Rattle.std.specs.List.{list_all}
 use Rattle.std.proofs.Math.Nat.{pow-le-pow_right}
-use Rattle.std.proofs.lemmas.Bool.{ltb-true, leb-true}
+use Rattle.std.proofs.lemmas.Bool.{ltb-true, leb-true, and_parts}
 use Rattle.std.proofs.lemmas.Fmt.{length-decimal-le}
 use Rattle.std.proofs.lemmas.List.Concat.{flat_map-cons}
 use Rattle.vdr_entry.specs.Escape.{escaped, escaped_byte, is_plain, hex_digit}
@@ -48,10 +48,6 @@ escaped_byte-short b = by_test (is_plain b)
 escaped-short : (bytes : List ℕ) → length (escaped bytes) ≤ 4 * length bytes
 escaped-short [] = omega arith
 escaped-short (b ∷ bytes) = omega (arith, length-append (escaped_byte b) (escaped bytes), escaped_byte-short b, escaped-short bytes)
-
-and_parts : (a b : Bool) → (a && b) ≡ true → (a ≡ true) × (b ≡ true)
-and_parts true b h = (refl, h)
-and_parts false b h = absurd (cc)
 
 -- The most bytes of the text of a field of this form. An empty field takes four, and each byte of a raw one four at most.
 abbrev pub most : Form → Option Value → ℕ

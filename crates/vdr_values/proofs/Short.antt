@@ -1,7 +1,7 @@
 -- The text of a legal reading has at most 400 bytes.
 use Rattle.std.proofs.Common.{◌≡◌, ◌≤◌, ◌<◌, ◌+◌, ◌∙◌, ℕ, zero, suc, Bool, true, false, ◌&&◌, List, [], ◌∷◌, length, sum_by, get_or, Option, Some, None, refl, sym, ap, arith, length-append, leb}
 use Rattle.std.specs.List.{list_all}
-use Rattle.std.proofs.lemmas.Bool.{leb-true}
+use Rattle.std.proofs.lemmas.Bool.{leb-true, and_parts}
 use Rattle.std.proofs.lemmas.List.Sums.{sum_by-cons}
 use Rattle.vdr_values.specs.declared.formatter.Formatter.{Formatter}
 use Rattle.vdr_values.specs.declared.formatter.Formatter.TheVariants.{Hdt, Ths, Rot, Rsa, Dpt, Mwv, Vtg, Gll, Zda, Rpm, Hbt, Alr, Vdm, Vdo}
@@ -12,10 +12,6 @@ use Rattle.vdr_values.specs.Table.{row}
 use Rattle.vdr_values.specs.Texts.{field_text, piece, reading_text, text_along}
 use Rattle.vdr_values.proofs.Along.{Values}
 use Rattle.vdr_values.proofs.Lengths.{field-short, most}
-
-and_parts : (a b : Bool) → (a && b) ≡ true → (a ≡ true) × (b ≡ true)
-and_parts true b h = (refl, h)
-and_parts false b h = absurd (cc)
 
 abbrev total : List ℕ → Values → ℕ
 total [] values = 0

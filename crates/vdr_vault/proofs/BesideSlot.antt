@@ -4,7 +4,8 @@ use Rattle.vdr_terms.specs.Needs.{Fits}
 use Rattle.vdr_outside.specs.Parts.{part}
 use Rattle.vdr_config.specs.Configuration.{Configuration}
 use Rattle.vdr_config.specs.Sizes.{sizes_of}
-use Rattle.vdr_media.specs.Layout.{slot_count, superblock_bytes, text_from}
+use Rattle.vdr_terms.specs.Slots.{slot_count}
+use Rattle.vdr_media.specs.Layout.{superblock_bytes, text_from}
 use Rattle.vdr_media.specs.Medium.{IsSuperblock}
 use Rattle.vdr_ring.specs.Sequence.{Placed}
 use Rattle.vdr_ring.specs.Rings.{HoldsPlaced}

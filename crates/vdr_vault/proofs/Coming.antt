@@ -19,7 +19,7 @@ use Rattle.vdr_ring.specs.Sequence.{Placed, all_records}
 use Rattle.vdr_ring.specs.Rings.{RingState}
 use Rattle.vdr_ring.specs.declared.refused.ReadRefused.{ReadRefused}
 use Rattle.vdr_ring.proofs.Medium.{in_order_records}
-use Rattle.vdr_vault.specs.Vaults.{IsReadable, IsReadableAt, MembersState, ring_of}
+use Rattle.vdr_vault.specs.Vaults.{IsReadable, IsReadableAt, VaultState, ring_of}
 use Rattle.vdr_vault.specs.Walks.{CursorState, Slots, AreAhead, AreLeft, GivesNext, HasRead, IsBefore, slots_read}
 use Rattle.vdr_vault.specs.declared.cursor.Standing.{Standing}
 use Rattle.vdr_vault.specs.Plays.{AreToCome, ring_for, span_in}
@@ -32,10 +32,10 @@ asked_two LongTerm = omega arith
 asked_two (PlayedIncident id) = omega arith
 
 -- the rings of a vault do not change what a query's medium comes to
-span_with : (members : MembersState) (capsule long_term : RingState) (placed : ℕ → List Placed) (medium : Medium)
-    → span_in (record members { capsule = capsule; long_term = long_term }) placed medium ≡ span_in members placed medium
-span_with members capsule long_term placed (WindowOf m) = refl
-span_with members capsule long_term placed (Incident id) = refl
+span_with : (vault : VaultState) (capsule long_term : RingState) (placed : ℕ → List Placed) (medium : Medium)
+    → span_in (record vault { capsule = capsule; long_term = long_term }) placed medium ≡ span_in vault placed medium
+span_with vault capsule long_term placed (WindowOf m) = refl
+span_with vault capsule long_term placed (Incident id) = refl
 
 -- a cursor that stands in no segment has all records ahead
 all_ahead : (slots : Slots) (placed : List Placed) (c : CursorState) → c.standing ≡ None → AreAhead slots placed c (all_records placed)
@@ -46,12 +46,12 @@ all_ahead slots placed c stands = record {
 }
 
 module _ {tells tells_images : Type 0} where
-  span_same : (old new : MembersState) (before now : Disk tells tells_images) → BothRead old new before now → (placed : ℕ → List Placed) (medium : Medium)
+  span_same : (old new : VaultState) (before now : Disk tells tells_images) → BothRead old new before now → (placed : ℕ → List Placed) (medium : Medium)
       → span_in new placed medium ≡ span_in old placed medium
   span_same old new before now read placed medium =
-      ap (λ (s : MembersState). span_in s placed medium) read.same ∙ span_with old new.capsule new.long_term placed medium
+      ap (λ (s : VaultState). span_in s placed medium) read.same ∙ span_with old new.capsule new.long_term placed medium
 
-  pub gives_to_come : (query : Query) (old new : MembersState) (before now : Disk tells tells_images) (placed : ℕ → List Placed) (span : Option Span) (c : CursorState) (records : List Record)
+  pub gives_to_come : (query : Query) (old new : VaultState) (before now : Disk tells tells_images) (placed : ℕ → List Placed) (span : Option Span) (c : CursorState) (records : List Record)
       (result : Result Bool ReadRefused) → tells → BothRead old new before now → HasRead (ring_for old query) (ring_for new query) before now → span ≡ span_in old placed query.medium
       → GivesNext records result c.visit.item (AreLeft (slots_read (ring_for old query) before) (placed (medium_of query.medium)) query span c)
       → GivesNext records result c.visit.item (AreToCome query new placed now c)
@@ -62,46 +62,46 @@ module _ {tells tells_images : Type 0} where
       (same ∙ sym (span_same old new before now both placed query.medium)) gives)
 
   -- where the query's medium comes to nothing
-  pub none_to_come : (query : Query) (members : MembersState) (disk : Disk tells tells_images) (placed : ℕ → List Placed) (c new : CursorState) (records : List Record)
-      → span_in members placed query.medium ≡ None → new.standing ≡ None → new.visit.item ≡ None → AreToCome query members placed disk c records
-      → GivesNext records (Ok false) new.visit.item (AreToCome query members placed disk new)
-  none_to_come query members disk placed c new records none stands item left = (
+  pub none_to_come : (query : Query) (vault : VaultState) (disk : Disk tells tells_images) (placed : ℕ → List Placed) (c new : CursorState) (records : List Record)
+      → span_in vault placed query.medium ≡ None → new.standing ≡ None → new.visit.item ≡ None → AreToCome query vault placed disk c records
+      → GivesNext records (Ok false) new.visit.item (AreToCome query vault placed disk new)
+  none_to_come query vault disk placed c new records none stands item left = (
     left.are ∙ ap (λ (o : Option Span). found query o left.ahead) none,
     item,
     record {
       ahead = all_records (placed (medium_of query.medium));
-      are_ahead = all_ahead (slots_read (ring_for members query) disk) (placed (medium_of query.medium)) new stands;
+      are_ahead = all_ahead (slots_read (ring_for vault query) disk) (placed (medium_of query.medium)) new stands;
       are = sym (ap (λ (o : Option Span). found query o (all_records (placed (medium_of query.medium)))) none);
     },
   )
 
-  module _ (opening : Opening) (events : List Event) (members : MembersState) (placed : ℕ → List Placed) (disk : Disk tells tells_images) (stands : IsReadable opening events members placed disk) where
+  module _ (opening : Opening) (events : List Event) (vault : VaultState) (placed : ℕ → List Placed) (disk : Disk tells tells_images) (stands : IsReadable opening events vault placed disk) where
     -- what the law of playback says of each query
     abbrev pub IsRetained : Type 0
     IsRetained = (query : Query) (held : List Record) → AreInOrder (histories.all_records opening (medium_of query.medium) events) → AreInOrder held
         → Retains (opening.settings.seconds (medium_of query.medium)) (pins_on opening events (medium_of query.medium)) (histories.all_records opening (medium_of query.medium) events) held
         → found query (span_of opening events query.medium) held ≡ selected opening events query
 
-    pub holds_on : (medium : Played) → IsReadableAt opening events (medium_of (asked_medium medium)) (ring_of members (medium_of (asked_medium medium))) (placed (medium_of (asked_medium medium))) disk
+    pub holds_on : (medium : Played) → IsReadableAt opening events (medium_of (asked_medium medium)) (ring_of vault (medium_of (asked_medium medium))) (placed (medium_of (asked_medium medium))) disk
     holds_on Capsule = stands.media 0 0 (omega arith)
     holds_on LongTerm = stands.media 1 0 (omega arith)
     holds_on (PlayedIncident id) = stands.media 1 0 (omega arith)
 
-    window_same : (m : ℕ) (ring : RingState) → IsReadableAt opening events m ring (placed m) disk → span_of opening events (WindowOf m) ≡ span_in members placed (WindowOf m)
+    window_same : (m : ℕ) (ring : RingState) → IsReadableAt opening events m ring (placed m) disk → span_of opening events (WindowOf m) ≡ span_in vault placed (WindowOf m)
     window_same m ring holds =
         ap (λ (s : Settings). option_map (λ (r : Record). Window (second r.tick) (s.seconds m)) (last (histories.all_records opening m events))) stands.settings
-        ∙ ap (λ (o : Option Record). option_map (λ (r : Record). Window (second r.tick) (window_of members.config m)) o) (sym holds.retains.window.newest)
+        ∙ ap (λ (o : Option Record). option_map (λ (r : Record). Window (second r.tick) (window_of vault.config m)) o) (sym holds.retains.window.newest)
 
-    incident_same : (id : ℕ) → span_of opening events (Incident id) ≡ span_in members placed (Incident id)
+    incident_same : (id : ℕ) → span_of opening events (Incident id) ≡ span_in vault placed (Incident id)
     incident_same id = ap (λ (t : List (Option histories.Incident)). option_map (λ (x : histories.Incident). Places x.a x.b) (live t id)) (sym stands.incidents_are)
 
-    span_is : (medium : Played) → span_of opening events (asked_medium medium) ≡ span_in members placed (asked_medium medium)
-    span_is Capsule = window_same 0 members.capsule (stands.media 0 0 (omega arith))
-    span_is LongTerm = window_same 1 members.long_term (stands.media 1 0 (omega arith))
+    span_is : (medium : Played) → span_of opening events (asked_medium medium) ≡ span_in vault placed (asked_medium medium)
+    span_is Capsule = window_same 0 vault.capsule (stands.media 0 0 (omega arith))
+    span_is LongTerm = window_same 1 vault.long_term (stands.media 1 0 (omega arith))
     span_is (PlayedIncident id) = incident_same id
 
     -- all that is selected is to come of a new cursor
-    pub selected_to_come : IsRetained → (query : Asked) (c : CursorState) → c.standing ≡ None → AreToCome (asked query) members placed disk c (selected opening events (asked query))
+    pub selected_to_come : IsRetained → (query : Asked) (c : CursorState) → c.standing ≡ None → AreToCome (asked query) vault placed disk c (selected opening events (asked query))
     selected_to_come law query c fresh =
         let holds = holds_on query.medium in
         let m = medium_of (asked_medium query.medium) in
@@ -110,6 +110,6 @@ module _ {tells tells_images : Type 0} where
         law (asked query) held holds.order (in_order_records (placed m) holds.reads.order) holds.retains in
         record {
           ahead = held;
-          are_ahead = all_ahead (slots_read (ring_of members m) disk) (placed m) c fresh;
+          are_ahead = all_ahead (slots_read (ring_of vault m) disk) (placed m) c fresh;
           are = sym found_is ∙ ap (λ (o : Option Span). found (asked query) o held) (span_is query.medium);
         }

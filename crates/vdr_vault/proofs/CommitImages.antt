@@ -18,11 +18,12 @@ use Rattle.vdr_ring.specs.Rings.{RingState}
 use Rattle.vdr_ring.specs.Stages.{Stages}
 use Rattle.vdr_incident.specs.Tables.{HoldsTable}
 use Rattle.vdr_opening.specs.Media.{both, AreThere, Contents, HoldsContents, IsMedium, reading_of}
+use Rattle.vdr_opening.proofs.Meeting.{all_one}
 use Rattle.vdr_vault.specs.Vaults.{HoldsHistory, ShowsHistory}
 use Rattle.vdr_vault.proofs.CommitPins.{HoldPins}
 use Rattle.vdr_vault.proofs.CommitReady.{are_there, waits}
 use Rattle.vdr_vault.proofs.CommitStages.{IsAfter, IsBefore, StaysRegular}
-use Rattle.vdr_vault.proofs.CommitMoments.{HoldsBefore, HoldsDone, MeetsEnds, legible_with, one, one_zero, two, zero_one}
+use Rattle.vdr_vault.proofs.CommitMoments.{HoldsBefore, HoldsDone, MeetsEnds, legible_with, one_zero, two, zero_one}
 use Rattle.vdr_vault.proofs.ShownFronts.{table_stays}
 use Rattle.vdr_vault.proofs.ShownHistory.{durable_at, legible_at, sound_alone}
 use Rattle.vdr_vault.proofs.Sounding.{IsSoundAlone, no_pins, sound_level, sound_passed, unbroken_waiting}
@@ -97,8 +98,8 @@ module _ (opening : Opening) (events : List Event) (c : Configuration) (table : 
     capsule_passed = record {
       split = refl;
       some = omega arith;
-      given_end = one (λ m. last ((reading_of (contents opening c table stages.done (placed 1))).batches m) ≡ Some records) 0 done.ends;
-      waiting_end = one (λ m. ends_before (Some records) ((reading_of (contents opening c table stages.done (placed 1))).batches m) ≡ true) 1 (waits (placed 1) records (next_place opening events) meets.next_long meets.run meets.some long_stays.paced.order);
+      given_end = all_one (λ m. last ((reading_of (contents opening c table stages.done (placed 1))).batches m) ≡ Some records) 0 done.ends;
+      waiting_end = all_one (λ m. ends_before (Some records) ((reading_of (contents opening c table stages.done (placed 1))).batches m) ≡ true) 1 (waits (placed 1) records (next_place opening events) meets.next_long meets.run meets.some long_stays.paced.order);
     }
 
     pub at_capsule : (i : Image) → Changed 0 (λ bytes. HoldsBefore (sizes_of c) 0 capsule [] (given_with opening events 0) records (placed 0) bytes ⊎ HoldsDone capsule stages bytes) old.now i
@@ -132,9 +133,9 @@ module _ (opening : Opening) (events : List Event) (c : Configuration) (table : 
         e records taken (0 ∷ []) (1 ∷ []) is
         capsule_passed
         meets.follow
-        (one (RetainsGiven opening events (λ m. given_with opening events m ++ records) (two stages.done (placed 1))) 0
+        (all_one (RetainsGiven opening events (λ m. given_with opening events m ++ records) (two stages.done (placed 1))) 0
         (subst (λ (n : ℕ). Retains n [] (given_with opening events 0 ++ records) (all_records stages.done)) window done.retains))
-        (one (RetainsGiven opening events (given_with opening events) (two stages.done (placed 1))) 1 second.retains)))
+        (all_one (RetainsGiven opening events (given_with opening events) (two stages.done (placed 1))) 1 second.retains)))
         changed.has
 
   -- While it goes to the long-term medium the capsule has it.
@@ -160,8 +161,8 @@ module _ (opening : Opening) (events : List Event) (c : Configuration) (table : 
     long_passed now before follow = record {
       split = refl;
       some = omega arith;
-      given_end = one (λ m. last ((reading_of (contents opening c table capsule_now now)).batches m) ≡ Some records) 0 ends;
-      waiting_end = one (λ m. ends_before (Some records) ((reading_of (contents opening c table capsule_now now)).batches m) ≡ true) 1
+      given_end = all_one (λ m. last ((reading_of (contents opening c table capsule_now now)).batches m) ≡ Some records) 0 ends;
+      waiting_end = all_one (λ m. ends_before (Some records) ((reading_of (contents opening c table capsule_now now)).batches m) ≡ true) 1
           (waits now records (next_place opening events) (next_long now before.retains.window.newest) meets.run meets.some follow);
     }
 
@@ -178,8 +179,8 @@ module _ (opening : Opening) (events : List Event) (c : Configuration) (table : 
         e records taken (0 ∷ []) (1 ∷ []) is
         (long_passed b.now b.before b.stays.paced.order)
         meets.follow
-        (one (RetainsGiven opening events (λ m. given_with opening events m ++ records) (two capsule_now b.now)) 0 retains)
-        (one (RetainsGiven opening events (given_with opening events) (two capsule_now b.now)) 1
+        (all_one (RetainsGiven opening events (λ m. given_with opening events m ++ records) (two capsule_now b.now)) 0 retains)
+        (all_one (RetainsGiven opening events (given_with opening events) (two capsule_now b.now)) 1
         (subst (λ (n : ℕ). Retains n (pins_of (incidents opening events)) (given_with opening events 1) (all_records b.now)) window b.before.retains)))
         (λ (d : HoldsDone long_term stages (content i 1)).
         shown_passed opening events (contents opening c table capsule_now stages.done) i

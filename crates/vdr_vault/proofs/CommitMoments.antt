@@ -5,6 +5,7 @@ use Rattle.std.proofs.lemmas.List.Elements.{All-cons, All-nil}
 use Rattle.vdr_terms.specs.Needs.{Sizes}
 use Rattle.vdr_terms.specs.Order.{RunOn}
 use Rattle.vdr_terms.specs.Records.{Record, last}
+use Rattle.vdr_terms.proofs.Somewhere.{any_cases, any_none}
 use Rattle.vdr_history.specs.Histories.{Event, Opening, next_place}
 use Rattle.vdr_retention.specs.Regular.{FollowOn}
 use Rattle.vdr_retention.specs.Retention.{Pin}
@@ -26,8 +27,8 @@ use Rattle.vdr_ring.specs.Stages.{AreStages, Stages}
 use Rattle.vdr_ring.specs.Keeping.{IsKept}
 use Rattle.vdr_ring.proofs.Placing.{one_sequence}
 use Rattle.vdr_opening.specs.Media.{both, IsMedium}
+use Rattle.vdr_opening.proofs.Meeting.{all_one}
 use Rattle.vdr_vault.specs.Vaults.{HoldsHistory}
-use Rattle.vdr_vault.proofs.CommitPins.{any_first, any_none}
 use Rattle.vdr_vault.proofs.CommitStages.{IsBefore, IsReady, StaysRegular, begun_before, begun_stays, closed_before, closed_stays, placed_before, placed_stays}
 use Rattle.vdr_vault.proofs.ShownFronts.{front_stays}
 use Rattle.vdr_vault.proofs.ShownImages.{placed_there}
@@ -72,10 +73,10 @@ module _ (sizes : Sizes) (m : ℕ) (ring : RingState) (pins : List Pin) (all rec
       (λ k. ⊎_elim
       (λ (k : Holds stages.done). inr (record { holds = k; order = ordered stages.done k }))
       (λ k. absurd (any_none Holds k))
-      (any_first Holds stages.done [] k))
-      (any_first Holds stages.begun (stages.done ∷ []) k))
-      (any_first Holds stages.closed (stages.begun ∷ stages.done ∷ []) k))
-      (any_first Holds placed (stages.closed ∷ stages.begun ∷ stages.done ∷ []) h.stage)
+      (any_cases Holds stages.done [] k))
+      (any_cases Holds stages.begun (stages.done ∷ []) k))
+      (any_cases Holds stages.closed (stages.begun ∷ stages.done ∷ []) k))
+      (any_cases Holds placed (stages.closed ∷ stages.begun ∷ stages.done ∷ []) h.stage)
     where
       Holds : List Placed → Type 0
       Holds ps = HoldsPlaced ring.segment ring.slots ps bytes
@@ -89,9 +90,6 @@ module _ (sizes : Sizes) (m : ℕ) (ring : RingState) (pins : List Pin) (all rec
 -- The segments of two media.
 abbrev pub two : List Placed → List Placed → ℕ → List Placed
 two capsule long_term m = if m == 0 then capsule else long_term
-
-pub one : (P : ℕ → Type 0) (m : ℕ) → P m → All P (m ∷ [])
-one P m p = All-cons P m [] p (All-nil P)
 
 pub one_zero : ◌≢◌ {A = ℕ} 1 0
 one_zero = omega arith

@@ -5,6 +5,7 @@ use Rattle.std.proofs.lemmas.Bool.{and_from, cases_eq, le-leb}
 use Rattle.std.proofs.lemmas.List.Elements.{All-contains, Contains-append_left, Contains-append_right}
 use Rattle.vdr_terms.specs.Records.{Record}
 use Rattle.vdr_terms.specs.Order.{RunOn}
+use Rattle.vdr_terms.proofs.Somewhere.{any_cases, any_none, any_left, any_right}
 use Rattle.vdr_retention.specs.Layout.{segment_records}
 use Rattle.vdr_retention.specs.Retention.{Pin, HaveNoPlace, within}
 use Rattle.vdr_retention.specs.Victims.{MayGo}
@@ -13,7 +14,6 @@ use Rattle.vdr_ring.specs.Sequence.{Placed, all_records, batches_of, first_of, r
 use Rattle.vdr_ring.specs.Order.{HasPlace, RunsOn, IsInPlace, AreInPlace, AreInOrder}
 use Rattle.vdr_ring.specs.Lookup.{HoldAll}
 use Rattle.vdr_ring.specs.Stages.{with_batch_in}
-use Rattle.vdr_ring.proofs.Beginning.{any_left, any_right}
 use Rattle.vdr_ring.proofs.Ordering.{records_with_batch}
 
 -- All places of each of these pins stand in the segments.
@@ -21,13 +21,6 @@ abbrev pub HoldPins : List Pin → List Placed → Type 0
 HoldPins pins placed = (pin : Pin) → Contains pins pin → HoldAll pin.a pin.b placed
 
 -- Some of two lists
-
-pub any_first : {X : Type 0} (P : X → Type 0) (x : X) (xs : List X) → Any P (x ∷ xs) → P x ⊎ Any P xs
-any_first P x xs (zero, y, lt, is, p) = inl (subst P (sym is) p)
-any_first P x xs (suc k, y, lt, is, p) = inr (k, y, omega (arith, lt), is, p)
-
-pub any_none : {X : Type 0} (P : X → Type 0) → Any P [] → ⊥
-any_none P h = let lt = h.2 in omega (arith, lt)
 
 pub any_one : {X : Type 0} (P : X → Type 0) (x : X) → P x → Any P (x ∷ [])
 any_one P x p = (0, x, omega arith, refl, p)
@@ -38,7 +31,7 @@ any_append_cases P (x ∷ xs) ys h =
     ⊎_elim
     (λ (p : P x). inl (any_left P (x ∷ []) xs (any_one P x p)))
     (λ (k : Any P (xs ++ ys)). ⊎_elim (λ (l : Any P xs). inl (any_right P (x ∷ []) xs l)) (λ (r : Any P ys). inr r) (any_append_cases P xs ys k))
-    (any_first P x (xs ++ ys) h)
+    (any_cases P x (xs ++ ys) h)
 
 -- A segment that goes
 
@@ -79,7 +72,7 @@ pins_stay seconds pins held before v after may_go order h pin there place low hi
     (λ (k : Any (HasPlace place) (v ∷ after)). ⊎_elim
     (λ (has : HasPlace place v). absurd (no_place seconds pins held v pin place may_go (victim_in_place before v after order).1.runs_on there low high has))
     (λ (l : Any (HasPlace place) after). any_right (HasPlace place) before after l)
-    (any_first (HasPlace place) v after k))
+    (any_cases (HasPlace place) v after k))
     (any_append_cases (HasPlace place) before (v ∷ after) (h pin there place low high))
 
 -- Segments that come
@@ -100,7 +93,7 @@ pins_with_batch pins older newest records h pin there place low high =
     (λ (k : Any (HasPlace place) (newest ∷ [])). ⊎_elim
     (λ (has : HasPlace place newest). any_right (HasPlace place) older (with_batch_in newest records ∷ []) (any_one (HasPlace place) (with_batch_in newest records) (more_places place newest records has)))
     (λ (l : Any (HasPlace place) []). absurd (any_none (HasPlace place) l))
-    (any_first (HasPlace place) newest [] k))
+    (any_cases (HasPlace place) newest [] k))
     (any_append_cases (HasPlace place) older (newest ∷ []) (h pin there place low high))
 
 -- A place that stands in the segments is that of a record.
@@ -119,4 +112,4 @@ place_recorded place placed order h = go None placed order h
         let found = go (Some p) ps order.1 k in
         let there : (r : Record) × Contains (all_records (p ∷ ps)) r × (r.place ≡ place) = (found.0, Contains-append_right (records_of p) (all_records ps) found.0 found.1, found.2) in
         there)
-        (any_first (HasPlace place) p ps h)
+        (any_cases (HasPlace place) p ps h)

@@ -11,7 +11,7 @@ use Rattle.vdr_history.specs.Histories.{Event, Incident, Opening, Settings, inci
 use Rattle.vdr_retention.specs.Layout.{Batches, segment_records}
 use Rattle.vdr_retention.specs.Regular.{FollowOn, IsPaced}
 use Rattle.vdr_retention.specs.Retention.{Retains}
-use Rattle.vdr_retention.proofs.Lists.{all_from, last_behind, last_contained}
+use Rattle.vdr_retention.proofs.Lists.{all_from, last_contained}
 use Rattle.vdr_durability.specs.Readings.{begins_at, comes_next, ends_before, next_after}
 use Rattle.vdr_durability.specs.Shown.{given_with, pins_of, pins_on}
 use Rattle.vdr_durability.proofs.Restored.{all_with, comes_behind, ends_in}
@@ -32,7 +32,7 @@ use Rattle.vdr_opening.specs.Media.{AreThere}
 use Rattle.vdr_opening.specs.Settings.{settings_of}
 use Rattle.vdr_vault.specs.Vaults.{HoldsHistory}
 use Rattle.vdr_vault.proofs.CommitPins.{HoldPins}
-use Rattle.vdr_vault.proofs.CommitStages.{IsReady}
+use Rattle.vdr_vault.proofs.CommitStages.{IsReady, last_of_both}
 use Rattle.vdr_vault.proofs.ShownImages.{records_are}
 
 -- The last record is that of the last batch
@@ -59,15 +59,11 @@ regular_batches cost usable batch placed (inr (older, newest, e, h)) =
 last_by_batch : (bs : Batches) → All IsSome bs → last (segment_records bs) ≡ last_of (last bs)
 last_by_batch bs some = go (last bs) refl
   where
-    behind : (xs ys : List Record) → 0 < length ys → last (xs ++ ys) ≡ last ys
-    behind xs [] lt = absurd (omega (arith, lt))
-    behind xs (y ∷ ys) lt = last_behind xs y ys
-
     go : (o : Option (List Record)) → last bs ≡ o → last (segment_records bs) ≡ last_of o
     go None e = ap (λ (l : Batches). last (segment_records l)) (nil_from_last bs e)
     go (Some b) e =
         let k = ends_in bs b e in
-        ap (λ (l : Batches). last (segment_records l)) k.split ∙ ap last (all_with k.front b) ∙ behind (segment_records k.front) b (All-contains IsSome bs b some (last_contained bs b e))
+        ap (λ (l : Batches). last (segment_records l)) k.split ∙ ap last (all_with k.front b) ∙ last_of_both (segment_records k.front) b (All-contains IsSome bs b some (last_contained bs b e))
 
 -- Two regular media that end with one batch end with one record.
 pub one_end : (cost usable batch : ℕ) (x y : List Placed) → AreRegular cost usable batch x → AreRegular cost usable batch y → last (batches_in x) ≡ last (batches_in y) → last (all_records x) ≡ last (all_records y)

@@ -38,7 +38,11 @@ pub records_append : (xs ys : List Placed) → all_records (xs ++ ys) ≡ all_re
 records_append [] ys = refl
 records_append (x ∷ xs) ys = ap (λ (rs : List Record). records_of x ++ rs) (records_append xs ys) ∙ sym (append_assoc (records_of x) (all_records xs) (all_records ys))
 
-segments_batches : (ps : List Placed) → flat_map (λ (segment : Batches). segment) (segments_in ps) ≡ batches_in ps
+pub last_of_both : (xs ys : List Record) → 0 < length ys → last (xs ++ ys) ≡ last ys
+last_of_both xs [] some = absurd (omega (arith, some))
+last_of_both xs (y ∷ ys) some = last_behind xs y ys
+
+pub segments_batches : (ps : List Placed) → flat_map (λ (segment : Batches). segment) (segments_in ps) ≡ batches_in ps
 segments_batches [] = refl
 segments_batches (p ∷ ps) = ap (λ (bs : Batches). batches_of p ++ bs) (segments_batches ps)
 
@@ -313,9 +317,5 @@ module _ (sizes : Sizes) (m size count seconds : ℕ) (pins : List Pin) (all rec
       some = subst (Sublist (batches_in stages.closed)) (sym (segments_batches placed)) some_kept;
       order = segments_batches stages.done ∙ done_batches;
     };
-    ends_all = ap last done_records ∙ behind (all_records stages.closed) records ready.allowed.paced.some;
+    ends_all = ap last done_records ∙ last_of_both (all_records stages.closed) records ready.allowed.paced.some;
   }
-    where
-      behind : (xs ys : List Record) → 0 < length ys → last (xs ++ ys) ≡ last ys
-      behind xs [] some = absurd (omega (arith, some))
-      behind xs (y ∷ ys) some = last_behind xs y ys

@@ -11,7 +11,6 @@ use Rattle.vdr_retention.specs.Regular.{FollowOn}
 use Rattle.vdr_retention.specs.Retention.{Retains}
 use Rattle.vdr_retention.specs.Victims.{ArePinsOf}
 use Rattle.vdr_retention.proofs.Following.{follow_in_order}
-use Rattle.vdr_retention.proofs.Lists.{last_behind}
 use Rattle.vdr_durability.specs.Readings.{next_after}
 use Rattle.vdr_durability.specs.Shown.{given_with, pins_on}
 use Rattle.vdr_durability.proofs.Shows.{all_records_with, incidents_with, recorded_with}
@@ -32,7 +31,7 @@ use Rattle.vdr_opening.specs.Answers.{IsRingOf}
 use Rattle.vdr_durability.specs.Soundness.{IsUnbroken}
 use Rattle.vdr_durability.proofs.Unbroken.{unbroken_follows}
 use Rattle.vdr_vault.specs.Vaults.{HoldsHistory, of_stamp, tick_utc}
-use Rattle.vdr_vault.proofs.CommitStages.{IsAfter}
+use Rattle.vdr_vault.proofs.CommitStages.{IsAfter, last_of_both}
 use Rattle.vdr_vault.proofs.ShownFronts.{front_stays}
 use Rattle.vdr_vault.proofs.ShownPlaces.{stamp_told}
 
@@ -53,10 +52,6 @@ module _ (opening : Opening) (events : List Event) (e : Event) (records : List R
   nonempty None (x ∷ xs) h lt = absurd (none-some _ (sym h))
   nonempty (Some r) xs h lt = (r, refl)
 
-  behind : (xs ys : List Record) → 0 < length ys → last (xs ++ ys) ≡ last ys
-  behind xs [] lt = absurd (omega (arith, lt))
-  behind xs (y ∷ ys) lt = last_behind xs y ys
-
   pub next_with : RunOn (next_place opening events) records → 0 < length records → next_place opening (events ++ e ∷ []) ≡ next_after (last records)
   next_with run some =
       let r = nonempty (last records) records refl some in
@@ -68,7 +63,7 @@ module _ (opening : Opening) (events : List Event) (e : Event) (records : List R
   pub stamp_with : 0 < length records → last_stamp opening (events ++ e ∷ []) ≡ stamp_of (last records) None
   stamp_with some =
       let r = nonempty (last records) records refl some in
-      ap (λ (rs : List Record). stamp_of (last rs) opening.last) recorded_more ∙ ap (λ (o : Option Record). stamp_of o opening.last) (behind (recorded events) records some ∙ r.1)
+      ap (λ (rs : List Record). stamp_of (last rs) opening.last) recorded_more ∙ ap (λ (o : Option Record). stamp_of o opening.last) (last_of_both (recorded events) records some ∙ r.1)
       ∙ ap (λ (o : Option Record). stamp_of o None) (sym r.1)
 
   pub newest_with : 0 < length records → option_map tick_utc (last records) ≡ option_map of_stamp (last_stamp opening (events ++ e ∷ []))

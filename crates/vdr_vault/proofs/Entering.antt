@@ -12,7 +12,7 @@ use Rattle.vdr_ring.specs.Sequence.{Placed, seq_of, records_of, all_records}
 use Rattle.vdr_ring.specs.Order.{AreInPlace, AreInOrder}
 use Rattle.vdr_ring.specs.Lookup.{IsAbove}
 use Rattle.vdr_ring.specs.Indexed.{HasNoneSelected, is_selected}
-use Rattle.vdr_ring.specs.Cursors as visits
+use Rattle.vdr_ring.specs.Visits as visits
 use Rattle.vdr_vault.specs.declared.cursor.Standing.{Standing}
 use Rattle.vdr_vault.specs.Walks.{CursorState, Slots, IsWithin, IsBefore, IsBehind, AreAhead, AreLeft, AreLeftBehind, seq_in}
 use Rattle.vdr_vault.proofs.CommitStages.{records_append}
@@ -87,7 +87,7 @@ in_later before own later order p there above =
 -- What is ahead once it is entered, or where none is there
 
 -- the cursor stands at the front of this segment
-front_of : (slots : Slots) (before : List Placed) (p : Placed) (rest : List Placed) (s : Standing) (visit : visits.CursorState) → s.slot ≡ p.slot → s.seq ≡ seq_of p → visit.slot ≡ None
+front_of : (slots : Slots) (before : List Placed) (p : Placed) (rest : List Placed) (s : Standing) (visit : visits.VisitState) → s.slot ≡ p.slot → s.seq ≡ seq_of p → visit.slot ≡ None
     → IsWithin slots (before ++ p ∷ rest) s visit (records_of p) (all_records (p ∷ rest))
 front_of slots before p rest s visit slot seq new = record {
   before = before;

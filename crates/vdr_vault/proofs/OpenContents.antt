@@ -22,9 +22,9 @@ use Rattle.vdr_opening.specs.Media.{both, Contents, HoldsContents, IsMedium, ope
 use Rattle.vdr_opening.specs.Settings.{settings_of}
 use Rattle.vdr_opening.specs.Answers.{IsMissing, IsOpened, OpenedState}
 use Rattle.vdr_opening.proofs.ContentsHeld.{are_legal, one_capsule, one_config, one_incidents, one_long_term}
+use Rattle.vdr_opening.proofs.Meeting.{all_one}
 use Rattle.vdr_vault.specs.Regularity.{AreSound}
 use Rattle.vdr_vault.specs.Vaults.{ShowsHistory, of_stamp, tick_utc}
-use Rattle.vdr_vault.proofs.CommitMoments.{one}
 use Rattle.vdr_vault.proofs.ShownImages.{are_members, has_long_term, records_are}
 use Rattle.vdr_vault.proofs.ShownPlaces.{stamp_told}
 
@@ -38,7 +38,7 @@ module _ (r s : Reading) (first : r.batches 0 ≡ s.batches 0) (second : r.batch
 
   pub same_meet : EndsMeet both r → EndsMeet both s
   same_meet (inl (e, inl (f, u))) = inl (refl, inl (same_end f, tt))
-  same_meet (inl (e, inr waits)) = inl (refl, inr (one (λ m. ends_before (last (s.batches 0)) (s.batches m) ≡ true) 1 (same_waits (waits 0 1 (omega arith)))))
+  same_meet (inl (e, inr waits)) = inl (refl, inr (all_one (λ m. ends_before (last (s.batches 0)) (s.batches m) ≡ true) 1 (same_waits (waits 0 1 (omega arith)))))
   same_meet (inr waits) = inr (all_two (λ m. ends_before (last (s.batches 0)) (s.batches m) ≡ true)
       (subst (λ (b : Batches). ends_before (last b) b ≡ true) first (waits 0 0 (omega arith))) (same_waits (waits 1 1 (omega arith))))
 
@@ -47,8 +47,8 @@ module _ (r s : Reading) (first : r.batches 0 ≡ s.batches 0) (second : r.batch
   same_missing missing (inr passed) = inr (record {
     split = refl;
     some = omega arith;
-    given_end = one (λ m. last (s.batches m) ≡ Some missing) 0 (sym (ap last first) ∙ passed.given_end 0 0 (omega arith));
-    waiting_end = one (λ m. ends_before (Some missing) (s.batches m) ≡ true) 1 (subst (λ (b : Batches). ends_before (Some missing) b ≡ true) second (passed.waiting_end 0 1 (omega arith)));
+    given_end = all_one (λ m. last (s.batches m) ≡ Some missing) 0 (sym (ap last first) ∙ passed.given_end 0 0 (omega arith));
+    waiting_end = all_one (λ m. ends_before (Some missing) (s.batches m) ≡ true) 1 (subst (λ (b : Batches). ends_before (Some missing) b ≡ true) second (passed.waiting_end 0 1 (omega arith)));
   })
 
 module _ {tells tells_images : Type 0} where
@@ -93,8 +93,8 @@ restored_shown x image holds meet sound = (
 capsule_opened : (x : Contents) → AreInOrder (x.placed 0) → records_on (restored both (reading_of x)) 0 ≡ all_records (x.placed 0)
 capsule_opened x order =
     let in_order : RecordsAreInOrder (segment_records (batches_in (x.placed 0))) = subst RecordsAreInOrder (sym (records_are (x.placed 0))) (in_order_records (x.placed 0) order) in
-    level_restored (0 ∷ []) (reading_of x) (one (λ m. last (batches_in (x.placed m)) ≡ last (batches_in (x.placed 0))) 0 refl)
-    (one (λ m. RecordsAreInOrder (segment_records (batches_in (x.placed m)))) 0 in_order) 0 (contains_here 0 [])
+    level_restored (0 ∷ []) (reading_of x) (all_one (λ m. last (batches_in (x.placed m)) ≡ last (batches_in (x.placed 0))) 0 refl)
+    (all_one (λ m. RecordsAreInOrder (segment_records (batches_in (x.placed m)))) 0 in_order) 0 (contains_here 0 [])
     ∙ records_are (x.placed 0)
 
 -- The last record that they begin with is the capsule's, and the place behind it the next one.

@@ -23,14 +23,14 @@ use Rattle.vdr_opening.specs.Settings.{settings_of}
 use Rattle.vdr_opening.specs.Media.{both, Contents, HoldsContents, opening_of, reading_of}
 use Rattle.vdr_opening.specs.Answers.{IsOpened, OpenedState}
 use Rattle.vdr_vault.specs.Regularity.{AreSound}
-use Rattle.vdr_vault.specs.Vaults.{IsReadable, IsReadableAt, MembersState, ShowsHistory, ring_of, tick_utc}
+use Rattle.vdr_vault.specs.Vaults.{IsReadable, IsReadableAt, VaultState, ShowsHistory, ring_of, tick_utc}
 use Rattle.vdr_vault.proofs.ShownImages.{has_capsule, has_long_term, records_are}
 use Rattle.vdr_vault.specs.Openings.{EndsWithin, GoesOnBehind, GoesOnSynced, LeavesAll, opened_with}
 use Rattle.vdr_vault.proofs.ReconcileWithin.{held_within}
 use Rattle.vdr_vault.proofs.OpenContents.{held_durable, level_lacks_none, opened_on, restored_shown}
 
 -- A vault that is made of what was opened, wherever it goes on.
-abbrev pub vault_of : OpenedState → MembersState
+abbrev pub vault_of : OpenedState → VaultState
 vault_of o = record { config = o.config; capsule = o.capsule; long_term = o.long_term; table = o.table; next_place = 0; last = None; failed = false }
 
 -- Media are formatted or not.
@@ -81,12 +81,12 @@ module _ {tells tells_images : Type 0} where
       level_lacks_none missing x on.missing level on.long_term.order
 
   -- Legible media whose ends are level can be read as they were opened.
-  pub opened_to_read : (x : Contents) (members : MembersState) (missing : List Record) (disk : Disk tells tells_images) → IsOpened (opened_with members missing) x disk → AreLevel both (reading_of x)
-      → members.failed ≡ false → IsReadable (opening_of x) [] members x.placed disk
-  opened_to_read x members missing disk o level works = record {
+  pub opened_to_read : (x : Contents) (vault : VaultState) (missing : List Record) (disk : Disk tells tells_images) → IsOpened (opened_with vault missing) x disk → AreLevel both (reading_of x)
+      → vault.failed ≡ false → IsReadable (opening_of x) [] vault x.placed disk
+  opened_to_read x vault missing disk o level works = record {
     settings = ap (λ (c : Configuration). settings_of c x.text) (sym o.config);
     working = works;
-    media = all_two (λ m. IsReadableAt (opening_of x) [] m (ring_of members m) (x.placed m) disk) (is_there 0 members.capsule has_capsule o.capsule) (is_there 1 members.long_term has_long_term o.long_term);
+    media = all_two (λ m. IsReadableAt (opening_of x) [] m (ring_of vault m) (x.placed m) disk) (is_there 0 vault.capsule has_capsule o.capsule) (is_there 1 vault.long_term has_long_term o.long_term);
     incidents_are = o.table;
   }
     where
@@ -94,7 +94,7 @@ module _ {tells tells_images : Type 0} where
       order m ring reads = subst RecordsAreInOrder (sym (records_are (x.placed m))) (in_order_records (x.placed m) reads.order)
 
       restored_at : (m : ℕ) → Contains both m → records_on (restored both (reading_of x)) m ≡ all_records (x.placed m)
-      restored_at m there = level_restored both (reading_of x) level (all_two (λ m. RecordsAreInOrder (records_on (reading_of x) m)) (order 0 members.capsule o.capsule) (order 1 members.long_term o.long_term)) m there
+      restored_at m there = level_restored both (reading_of x) level (all_two (λ m. RecordsAreInOrder (records_on (reading_of x) m)) (order 0 vault.capsule o.capsule) (order 1 vault.long_term o.long_term)) m there
           ∙ records_are (x.placed m)
 
       given_is : (m : ℕ) → Contains both m → given_with (opening_of x) [] m ≡ all_records (x.placed m)
@@ -108,15 +108,15 @@ module _ {tells tells_images : Type 0} where
             (retains_itself ((opening_of x).settings.seconds m) (pins_on m (incidents (opening_of x) [])) (all_records (x.placed m)));
       }
 
-  pub readable_as : {A : Type 0} (disk : A → Disk tells tells_images) (x : Contents) (members new : MembersState) (before now : A) → new ≡ members → now ≡ before
-      → IsReadable (opening_of x) [] members x.placed (disk before) → IsReadable (opening_of x) [] new x.placed (disk now)
-  readable_as disk x members new before now same still h =
-      subst (λ a. IsReadable (opening_of x) [] new x.placed (disk a)) (sym still) (subst (λ (s : MembersState). IsReadable (opening_of x) [] s x.placed (disk before)) (sym same) h)
+  pub readable_as : {A : Type 0} (disk : A → Disk tells tells_images) (x : Contents) (vault new : VaultState) (before now : A) → new ≡ vault → now ≡ before
+      → IsReadable (opening_of x) [] vault x.placed (disk before) → IsReadable (opening_of x) [] new x.placed (disk now)
+  readable_as disk x vault new before now same still h =
+      subst (λ a. IsReadable (opening_of x) [] new x.placed (disk a)) (sym still) (subst (λ (s : VaultState). IsReadable (opening_of x) [] s x.placed (disk before)) (sym same) h)
 
   -- What a ring tells of its end, of the contents that the media hold.
-  pub goes_on : (x : Contents) (members : MembersState) (missing : List Record) (disk : Disk tells tells_images) → tells → IsOpened (opened_with members missing) x disk
-      → ((placed : List Placed) (bytes : List ℕ) → Tells members.capsule.slots placed members.capsule.table → HoldsPlaced members.capsule.segment members.capsule.slots placed bytes
-      → members.next_place ≡ next_after (last (all_records placed)))
-      → ((placed : List Placed) → Tells members.capsule.slots placed members.capsule.table → members.last ≡ option_map tick_utc (last (all_records placed)))
-      → GoesOnBehind x members
-  goes_on x members missing disk told o next newest = record { place = next (x.placed 0) _ o.capsule.table (o.capsule.settled.reads told); newest = newest (x.placed 0) o.capsule.table }
+  pub goes_on : (x : Contents) (vault : VaultState) (missing : List Record) (disk : Disk tells tells_images) → tells → IsOpened (opened_with vault missing) x disk
+      → ((placed : List Placed) (bytes : List ℕ) → Tells vault.capsule.slots placed vault.capsule.table → HoldsPlaced vault.capsule.segment vault.capsule.slots placed bytes
+      → vault.next_place ≡ next_after (last (all_records placed)))
+      → ((placed : List Placed) → Tells vault.capsule.slots placed vault.capsule.table → vault.last ≡ option_map tick_utc (last (all_records placed)))
+      → GoesOnBehind x vault
+  goes_on x vault missing disk told o next newest = record { place = next (x.placed 0) _ o.capsule.table (o.capsule.settled.reads told); newest = newest (x.placed 0) o.capsule.table }

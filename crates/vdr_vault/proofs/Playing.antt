@@ -16,16 +16,16 @@ use Rattle.vdr_incident.specs.Tables.{HoldsTable}
 use Rattle.std.proofs.lemmas.List.Elements.{All-weaker}
 use Rattle.vdr_opening.specs.Media.{HasFront, both}
 use Rattle.vdr_opening.specs.Answers.{IsRingOf}
-use Rattle.vdr_vault.specs.Vaults.{MembersState, AreRings, HoldsHistory, IsReadable, IsReadableAt, Stands, ring_of}
+use Rattle.vdr_vault.specs.Vaults.{VaultState, AreRings, HoldsHistory, IsReadable, IsReadableAt, Stands, ring_of}
 use Rattle.vdr_vault.specs.Walks.{HasRead}
 use Rattle.vdr_vault.specs.Plays.{ReadsOn}
 use Rattle.vdr_vault.proofs.Passing.{room_kept}
 
-with_rings : (old new : MembersState) (capsule long_term : RingState) → new ≡ record old { capsule = capsule; long_term = long_term }
+with_rings : (old new : VaultState) (capsule long_term : RingState) → new ≡ record old { capsule = capsule; long_term = long_term }
     → new ≡ record old { capsule = new.capsule; long_term = new.long_term }
 with_rings old new capsule long_term same =
-    let first : new.capsule ≡ capsule = ap (λ (s : MembersState). s.capsule) same in
-    let second : new.long_term ≡ long_term = ap (λ (s : MembersState). s.long_term) same in
+    let first : new.capsule ≡ capsule = ap (λ (s : VaultState). s.capsule) same in
+    let second : new.long_term ≡ long_term = ap (λ (s : VaultState). s.long_term) same in
     same ∙ sym (λ i. record old { capsule = first i; long_term = second i })
 
 module _ {tells tells_images : Type 0} where
@@ -72,21 +72,21 @@ module _ {tells tells_images : Type 0} where
   }
 
   -- with other rings that have read
-  stands_with : (opening : Opening) (events : List Event) (placed : ℕ → List Placed) (members : MembersState) (capsule long_term : RingState) (before now : Disk tells tells_images)
-      → HasRead members.capsule capsule before now → HasRead members.long_term long_term before now → Stands opening events members placed before
-      → Stands opening events (record members { capsule = capsule; long_term = long_term }) placed now
-  stands_with opening events placed members capsule long_term before now first second stands =
-      let new : MembersState = record members { capsule = capsule; long_term = long_term } in
+  stands_with : (opening : Opening) (events : List Event) (placed : ℕ → List Placed) (vault : VaultState) (capsule long_term : RingState) (before now : Disk tells tells_images)
+      → HasRead vault.capsule capsule before now → HasRead vault.long_term long_term before now → Stands opening events vault placed before
+      → Stands opening events (record vault { capsule = capsule; long_term = long_term }) placed now
+  stands_with opening events placed vault capsule long_term before now first second stands =
+      let new : VaultState = record vault { capsule = capsule; long_term = long_term } in
       record {
         settings = stands.settings;
         working = stands.working;
-        media = all_two (λ m. HoldsHistory opening events members.config m (ring_of new m) (placed m) now)
-            (holds_still opening events members.config 0 members.capsule capsule (placed 0) before now first (stands.media 0 0 (omega arith)))
-            (holds_still opening events members.config 1 members.long_term long_term (placed 1) before now second (stands.media 1 0 (omega arith)));
+        media = all_two (λ m. HoldsHistory opening events vault.config m (ring_of new m) (placed m) now)
+            (holds_still opening events vault.config 0 vault.capsule capsule (placed 0) before now first (stands.media 0 0 (omega arith)))
+            (holds_still opening events vault.config 1 vault.long_term long_term (placed 1) before now second (stands.media 1 0 (omega arith)));
         level = stands.level;
         incidents_are = stands.incidents_are;
         slots = stands.slots;
-        table = λ told. subst (λ (i : Image). HoldsTable members.config.incident_slots members.table (content i 1)) (sym (first.unchanged.reads told)) (stands.table told);
+        table = λ told. subst (λ (i : Image). HoldsTable vault.config.incident_slots vault.table (content i 1)) (sym (first.unchanged.reads told)) (stands.table told);
         there = stands.there;
         goes_on = stands.goes_on;
         newest = stands.newest;
@@ -99,69 +99,69 @@ module _ {tells tells_images : Type 0} where
       → IsReadableAt opening events m old placed before → IsReadableAt opening events m new placed now
   readable_at_still opening events m old new placed before now read h = record { reads = read.reads placed h.reads; order = h.order; retains = h.retains }
 
-  readable_with : (opening : Opening) (events : List Event) (placed : ℕ → List Placed) (members : MembersState) (capsule long_term : RingState) (before now : Disk tells tells_images)
-      → HasRead members.capsule capsule before now → HasRead members.long_term long_term before now → IsReadable opening events members placed before
-      → IsReadable opening events (record members { capsule = capsule; long_term = long_term }) placed now
-  readable_with opening events placed members capsule long_term before now first second h =
-      let new : MembersState = record members { capsule = capsule; long_term = long_term } in
+  readable_with : (opening : Opening) (events : List Event) (placed : ℕ → List Placed) (vault : VaultState) (capsule long_term : RingState) (before now : Disk tells tells_images)
+      → HasRead vault.capsule capsule before now → HasRead vault.long_term long_term before now → IsReadable opening events vault placed before
+      → IsReadable opening events (record vault { capsule = capsule; long_term = long_term }) placed now
+  readable_with opening events placed vault capsule long_term before now first second h =
+      let new : VaultState = record vault { capsule = capsule; long_term = long_term } in
       record {
         settings = h.settings;
         working = h.working;
         media = all_two (λ m. IsReadableAt opening events m (ring_of new m) (placed m) now)
-            (readable_at_still opening events 0 members.capsule capsule (placed 0) before now first (h.media 0 0 (omega arith)))
-            (readable_at_still opening events 1 members.long_term long_term (placed 1) before now second (h.media 1 0 (omega arith)));
+            (readable_at_still opening events 0 vault.capsule capsule (placed 0) before now first (h.media 0 0 (omega arith)))
+            (readable_at_still opening events 1 vault.long_term long_term (placed 1) before now second (h.media 1 0 (omega arith)));
         incidents_are = h.incidents_are;
       }
 
   -- What stands can be read.
-  pub stands_to_read : (opening : Opening) (events : List Event) (members : MembersState) (placed : ℕ → List Placed) (disk : Disk tells tells_images) → Stands opening events members placed disk
-      → IsReadable opening events members placed disk
-  stands_to_read opening events members placed disk stands = record {
+  pub stands_to_read : (opening : Opening) (events : List Event) (vault : VaultState) (placed : ℕ → List Placed) (disk : Disk tells tells_images) → Stands opening events vault placed disk
+      → IsReadable opening events vault placed disk
+  stands_to_read opening events vault placed disk stands = record {
     settings = stands.settings;
     working = stands.working;
-    media = All-weaker (λ m. HoldsHistory opening events members.config m (ring_of members m) (placed m) disk) (λ m. IsReadableAt opening events m (ring_of members m) (placed m) disk)
+    media = All-weaker (λ m. HoldsHistory opening events vault.config m (ring_of vault m) (placed m) disk) (λ m. IsReadableAt opening events m (ring_of vault m) (placed m) disk)
         (λ m h. record { reads = h.reads; order = h.order; retains = h.retains }) both stands.media;
     incidents_are = stands.incidents_are;
   }
 
-  rings_with : (members : MembersState) (capsule long_term : RingState) (before now : Disk tells tells_images) → HasRead members.capsule capsule before now
-      → HasRead members.long_term long_term before now → AreRings members before.sizes → AreRings (record members { capsule = capsule; long_term = long_term }) now.sizes
-  rings_with members capsule long_term before now first second rings =
-      let new : MembersState = record members { capsule = capsule; long_term = long_term } in
-      all_two (λ m. IsRingOf members.config now.sizes m (ring_of new m)) (is_ring_still members.config 0 members.capsule capsule before now first (rings 0 0 (omega arith)))
-      (is_ring_still members.config 1 members.long_term long_term before now second (rings 1 0 (omega arith)))
+  rings_with : (vault : VaultState) (capsule long_term : RingState) (before now : Disk tells tells_images) → HasRead vault.capsule capsule before now
+      → HasRead vault.long_term long_term before now → AreRings vault before.sizes → AreRings (record vault { capsule = capsule; long_term = long_term }) now.sizes
+  rings_with vault capsule long_term before now first second rings =
+      let new : VaultState = record vault { capsule = capsule; long_term = long_term } in
+      all_two (λ m. IsRingOf vault.config now.sizes m (ring_of new m)) (is_ring_still vault.config 0 vault.capsule capsule before now first (rings 0 0 (omega arith)))
+      (is_ring_still vault.config 1 vault.long_term long_term before now second (rings 1 0 (omega arith)))
 
   -- Both rings have read, of which one read nothing.
-  pub record BothRead (old new : MembersState) (before now : Disk tells tells_images) : Type 0 where
+  pub record BothRead (old new : VaultState) (before now : Disk tells tells_images) : Type 0 where
     pub same : new ≡ record old { capsule = new.capsule; long_term = new.long_term }
     pub capsule : HasRead old.capsule new.capsule before now
     pub long_term : HasRead old.long_term new.long_term before now
 
-  pub both_read : (m : ℕ) (old new : MembersState) (before now : Disk tells tells_images) → m < 2 → ReadsOn m old new → HasRead (ring_of old m) (ring_of new m) before now → BothRead old new before now
-  both_read zero old new before now within members read = record {
-    same = with_rings old new (record old.capsule { buffer = new.capsule.buffer; loaded = new.capsule.loaded }) old.long_term members;
+  pub both_read : (m : ℕ) (old new : VaultState) (before now : Disk tells tells_images) → m < 2 → ReadsOn m old new → HasRead (ring_of old m) (ring_of new m) before now → BothRead old new before now
+  both_read zero old new before now within vault read = record {
+    same = with_rings old new (record old.capsule { buffer = new.capsule.buffer; loaded = new.capsule.loaded }) old.long_term vault;
     capsule = read;
-    long_term = subst (λ (r : RingState). HasRead old.long_term r before now) (sym (ap (λ (s : MembersState). s.long_term) members)) (other_read old.long_term before now read.unchanged);
+    long_term = subst (λ (r : RingState). HasRead old.long_term r before now) (sym (ap (λ (s : VaultState). s.long_term) vault)) (other_read old.long_term before now read.unchanged);
   }
-  both_read (suc zero) old new before now within members read = record {
-    same = with_rings old new old.capsule (record old.long_term { buffer = new.long_term.buffer; loaded = new.long_term.loaded }) members;
-    capsule = subst (λ (r : RingState). HasRead old.capsule r before now) (sym (ap (λ (s : MembersState). s.capsule) members)) (other_read old.capsule before now read.unchanged);
+  both_read (suc zero) old new before now within vault read = record {
+    same = with_rings old new old.capsule (record old.long_term { buffer = new.long_term.buffer; loaded = new.long_term.loaded }) vault;
+    capsule = subst (λ (r : RingState). HasRead old.capsule r before now) (sym (ap (λ (s : VaultState). s.capsule) vault)) (other_read old.capsule before now read.unchanged);
     long_term = read;
   }
-  both_read (suc (suc m)) old new before now within members read = absurd (omega (arith, within))
+  both_read (suc (suc m)) old new before now within vault read = absurd (omega (arith, within))
 
-  pub stands_still : (opening : Opening) (events : List Event) (placed : ℕ → List Placed) (old new : MembersState) (before now : Disk tells tells_images) → BothRead old new before now
+  pub stands_still : (opening : Opening) (events : List Event) (placed : ℕ → List Placed) (old new : VaultState) (before now : Disk tells tells_images) → BothRead old new before now
       → Stands opening events old placed before → Stands opening events new placed now
   stands_still opening events placed old new before now read stands =
-      subst (λ (s : MembersState). Stands opening events s placed now) (sym read.same)
+      subst (λ (s : VaultState). Stands opening events s placed now) (sym read.same)
       (stands_with opening events placed old new.capsule new.long_term before now read.capsule read.long_term stands)
 
-  pub readable_still : (opening : Opening) (events : List Event) (placed : ℕ → List Placed) (old new : MembersState) (before now : Disk tells tells_images) → BothRead old new before now
+  pub readable_still : (opening : Opening) (events : List Event) (placed : ℕ → List Placed) (old new : VaultState) (before now : Disk tells tells_images) → BothRead old new before now
       → IsReadable opening events old placed before → IsReadable opening events new placed now
   readable_still opening events placed old new before now read h =
-      subst (λ (s : MembersState). IsReadable opening events s placed now) (sym read.same)
+      subst (λ (s : VaultState). IsReadable opening events s placed now) (sym read.same)
       (readable_with opening events placed old new.capsule new.long_term before now read.capsule read.long_term h)
 
-  pub rings_still : (old new : MembersState) (before now : Disk tells tells_images) → BothRead old new before now → AreRings old before.sizes → AreRings new now.sizes
+  pub rings_still : (old new : VaultState) (before now : Disk tells tells_images) → BothRead old new before now → AreRings old before.sizes → AreRings new now.sizes
   rings_still old new before now read rings =
-      subst (λ (s : MembersState). AreRings s now.sizes) (sym read.same) (rings_with old new.capsule new.long_term before now read.capsule read.long_term rings)
+      subst (λ (s : VaultState). AreRings s now.sizes) (sym read.same) (rings_with old new.capsule new.long_term before now read.capsule read.long_term rings)

@@ -17,7 +17,7 @@ run_front : (place : ℕ) (xs ys : List Record) → RunOn place (xs ++ ys) → R
 run_front place [] ys h = tt
 run_front place (x ∷ xs) ys h = (h.0, run_front (suc place) xs ys h.1)
 
-run_behind : (place : ℕ) (xs ys : List Record) → RunOn place (xs ++ ys) → RunOn (place + length xs) ys
+pub run_behind : (place : ℕ) (xs ys : List Record) → RunOn place (xs ++ ys) → RunOn (place + length xs) ys
 run_behind place [] ys h = subst (λ (n : ℕ). RunOn n ys) (let e : place ≡ place + 0 = omega arith in e) h
 run_behind place (x ∷ xs) ys h = subst (λ (n : ℕ). RunOn n ys) (let e : suc place + length xs ≡ place + length (x ∷ xs) = omega arith in e) (run_behind (suc place) xs ys h.1)
 
@@ -29,7 +29,7 @@ batch_runs_on place (b ∷ bs) batch run there =
     (λ (k : Contains bs batch). batch_runs_on (place + length b) bs batch (run_behind place b (segment_records bs) run) k)
     (contains_cases b bs batch there)
 
-placed_runs_on : (o : Option Placed) (placed : List Placed) (batch : List Record) → AreInPlace o placed → Contains (batches_in placed) batch → (from : ℕ) × RunOn from batch
+pub placed_runs_on : (o : Option Placed) (placed : List Placed) (batch : List Record) → AreInPlace o placed → Contains (batches_in placed) batch → (from : ℕ) × RunOn from batch
 placed_runs_on o [] batch order there = absurd (none_contained batch there)
 placed_runs_on o (p ∷ placed) batch order there =
     ⊎_elim

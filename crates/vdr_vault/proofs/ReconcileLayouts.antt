@@ -1,11 +1,11 @@
 -- Regular contents are regular media by the segments of each.
-use Rattle.std.proofs.Common.{◌≡◌, inl, inr, ℕ, zero, suc, ◌<◌, ◌≤◌, List, [], ◌∷◌, ◌++◌, length, map, flat_map, true, All, Some, refl, sym, ap, ◌∙◌, subst, arith}
+use Rattle.std.proofs.Common.{◌≡◌, inl, inr, ℕ, zero, suc, ◌<◌, ◌≤◌, List, [], length, map, true, All, Some, sym, ap, ◌∙◌, subst, arith}
 use Rattle.std.proofs.lemmas.List.Elements.{All-nil, All-cons}
 use Rattle.vdr_terms.specs.Records.{Record}
 use Rattle.vdr_terms.specs.Sizes.{records_size}
 use Rattle.vdr_terms.specs.Order.{RunOn}
 use Rattle.vdr_terms.specs.Needs.{Sizes, cost, usable}
-use Rattle.vdr_retention.specs.Layout.{Batches, batches_size, records_in}
+use Rattle.vdr_retention.specs.Layout.{Batches, batches_in as all_batches, batches_size, records_in}
 use Rattle.vdr_retention.specs.Regular.{IsPaced, IsRegular}
 use Rattle.vdr_retention.specs.Retention.{Pin}
 use Rattle.vdr_retention.specs.Victims.{ArePinsOf}
@@ -16,15 +16,12 @@ use Rattle.vdr_durability.specs.Shown.{pins_on}
 use Rattle.vdr_durability.proofs.Regular.{lacked_is_paced, pins_allowed}
 use Rattle.vdr_config.specs.Sizes.{sizes_of}
 use Rattle.vdr_media.proofs.Two.{all_two}
-use Rattle.vdr_ring.specs.Sequence.{Placed, all_records, batches_in, batches_of, segments_in}
+use Rattle.vdr_ring.specs.Sequence.{Placed, all_records, batches_in, segments_in}
 use Rattle.vdr_ring.specs.Regularity.{AreRegular}
 use Rattle.vdr_opening.specs.Media.{both, Contents, reading_of}
 use Rattle.vdr_vault.specs.Regularity.{AreRegularMedia, IsRegularMedium}
+use Rattle.vdr_vault.proofs.CommitStages.{segments_batches}
 use Rattle.vdr_vault.proofs.ShownImages.{has_capsule, has_long_term}
-
-batches_of_segments : (placed : List Placed) → flat_map (λ (segment : Batches). segment) (segments_in placed) ≡ batches_in placed
-batches_of_segments [] = refl
-batches_of_segments (p ∷ placed) = ap (λ (bs : Batches). batches_of p ++ bs) (batches_of_segments placed)
 
 -- The layout of a regular medium. One without a segment has an empty newest one.
 abbrev pub layout_of : {c u b : ℕ} {placed : List Placed} → AreRegular c u b placed → Layout
@@ -32,9 +29,9 @@ layout_of (inl none) = record { older = []; newest = [] }
 layout_of (inr (older, newest, split, regular)) = record { older = older; newest = newest }
 
 module _ (c u b : ℕ) (placed : List Placed) where
-  pub laid_out : (r : AreRegular c u b placed) → batches_in placed ≡ layouts.batches_in (segments_of (layout_of r))
+  pub laid_out : (r : AreRegular c u b placed) → batches_in placed ≡ all_batches (segments_of (layout_of r))
   laid_out (inl none) = ap batches_in none
-  laid_out (inr (older, newest, split, regular)) = sym (batches_of_segments placed) ∙ ap layouts.batches_in split
+  laid_out (inr (older, newest, split, regular)) = sym (segments_batches placed) ∙ ap all_batches split
 
   pub as_laid_out : (r : AreRegular c u b placed) → IsRegular c u b (layout_of r).older (layout_of r).newest
   as_laid_out (inl none) = record {

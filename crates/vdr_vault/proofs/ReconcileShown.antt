@@ -21,10 +21,10 @@ use Rattle.vdr_ring.specs.Regularity.{AreRegular}
 use Rattle.vdr_ring.proofs.Medium.{in_order_records}
 use Rattle.vdr_opening.specs.Media.{both, AreThere, Contents, HoldsContents, opening_of, reading_of}
 use Rattle.vdr_opening.specs.Settings.{settings_of}
+use Rattle.vdr_opening.proofs.Meeting.{all_one}
 use Rattle.vdr_vault.specs.Vaults.{ShowsHistory, reading_with}
 use Rattle.vdr_vault.specs.Regularity.{AreRegularMedia, AreSound}
 use Rattle.vdr_vault.proofs.ShownImages.{are_members, has_capsule, has_long_term, records_are}
-use Rattle.vdr_vault.proofs.CommitMoments.{one}
 use Rattle.vdr_vault.proofs.ReconcileLayouts.{pins_read, segments_read}
 
 -- With these segments on the long-term medium.
@@ -121,13 +121,13 @@ module _ (x : Contents) (batch : List Record) (passed : IsPassedOn both (0 ∷ [
       reading_of (with_placed x (with_long_term x.placed now)),
       record { reads = record { members_are = refl; contents = with_placed x (with_long_term x.placed now); holds = holds; is = refl }; sound = sound },
       reconciling_shows both (settings_of x.config x.text) (reading_of x) (reading_of (with_placed x (with_long_term x.placed now))) (0 ∷ []) (1 ∷ []) batch are_members has_long_term refl refl leads
-          (record { split = refl; some = omega arith; given_end = one (λ m. last (batches_in (with_long_term x.placed now m)) ≡ Some batch) 0 (passed.given_end 0 0 (omega arith)); waiting_end = one (λ m. ends_before (Some batch) (batches_in (with_long_term x.placed now m)) ≡ true) 1 still_waits })
+          (record { split = refl; some = omega arith; given_end = all_one (λ m. last (batches_in (with_long_term x.placed now m)) ≡ Some batch) 0 (passed.given_end 0 0 (omega arith)); waiting_end = all_one (λ m. ends_before (Some batch) (batches_in (with_long_term x.placed now m)) ≡ true) 1 still_waits })
           (follow_is_in_order (last (all_records (x.placed 1))) batch follow)
-          (one (λ m. (ends_before (Some batch) (batches_in (x.placed m)) ≡ true) × FollowOn (last (segment_records (batches_in (x.placed m)))) batch) 1
+          (all_one (λ m. (ends_before (Some batch) (batches_in (x.placed m)) ≡ true) × FollowOn (last (segment_records (batches_in (x.placed m)))) batch) 1
           (waits, subst (λ (rs : List Record). FollowOn (last rs) batch) (sym (records_are (x.placed 1))) follow))
-          (one (λ m. Retains (window_of x.config m) (pins_on m x.table) (records_on (restored both (reading_of x)) m) (segment_records (batches_in (with_long_term x.placed now m)))) 0
+          (all_one (λ m. Retains (window_of x.config m) (pins_on m x.table) (records_on (restored both (reading_of x)) m) (segment_records (batches_in (with_long_term x.placed now m)))) 0
           (subst (λ (rs : List Record). Retains (window_of x.config 0) (pins_on 0 x.table) rs (segment_records (batches_in (x.placed 0)))) (sym (capsule_restored ∙ sym (records_are (x.placed 0))))
           (retains_itself (window_of x.config 0) (pins_on 0 x.table) (segment_records (batches_in (x.placed 0))))))
-          (one (λ m. Retains (window_of x.config m) (pins_on m x.table) (segment_records (batches_in (x.placed m))) (segment_records (batches_in (with_long_term x.placed now m)))) 1
+          (all_one (λ m. Retains (window_of x.config m) (pins_on m x.table) (segment_records (batches_in (x.placed m))) (segment_records (batches_in (with_long_term x.placed now m)))) 1
           (subst (λ (p : List Record × List Record). Retains (window_of x.config 1) (pins_on 1 x.table) p.0 p.1) (λ i. (sym (records_are (x.placed 1)) i, sym (records_are now) i)) retains)),
     )

@@ -26,6 +26,7 @@ use Rattle.vdr_ring.specs.Regularity.{AreRegular}
 use Rattle.vdr_ring.specs.Stages.{AreStages, Continues, Stages}
 use Rattle.vdr_opening.specs.Media.{both, Contents, HasFront, HoldsContents, IsMedium, opening_of, reading_of}
 use Rattle.vdr_opening.specs.Answers.{IsRingOf}
+use Rattle.vdr_opening.proofs.Meeting.{all_one}
 use Rattle.vdr_vault.specs.Vaults.{ShowsHistory}
 use Rattle.vdr_durability.specs.Soundness.{IsUnbroken}
 use Rattle.vdr_vault.specs.Regularity.{AreSound}
@@ -36,12 +37,12 @@ use Rattle.vdr_durability.proofs.Unbroken.{unbroken_held}
 use Rattle.vdr_vault.proofs.ShownFronts.{front_stays, table_stays}
 use Rattle.vdr_vault.proofs.ShownImages.{placed_there, records_are}
 use Rattle.vdr_vault.proofs.CommitPins.{HoldPins}
-use Rattle.vdr_vault.proofs.CommitReady.{are_there, pins_there}
+use Rattle.vdr_vault.proofs.CommitReady.{are_there, pins_there, windowed}
 use Rattle.vdr_vault.proofs.CommitStages.{IsAfter, IsBefore, IsReady, StaysRegular, begun_before, begun_stays, closed_before, closed_stays, done_after, placed_before, placed_stays}
-use Rattle.vdr_vault.proofs.CommitMoments.{changes_both, one, zero_one}
+use Rattle.vdr_vault.proofs.CommitMoments.{changes_both, zero_one}
 use Rattle.vdr_vault.proofs.ReconcileBatch.{last_runs_on}
 use Rattle.vdr_vault.proofs.ReconcileLayouts.{missing_is_paced, pins_read, segments_read}
-use Rattle.vdr_vault.proofs.ReconcileWithin.{Lacks, any_of_four, first_place, lacked_follows, lacked_orders, windowed}
+use Rattle.vdr_vault.proofs.ReconcileWithin.{Lacks, any_of_four, first_place, lacked_follows, lacked_orders}
 use Rattle.vdr_vault.proofs.ReconcileShown.{AreOpened, capsule_restored, leads, long_term_restored, opened_shown, still_waits, waiting_shown, with_long_term, with_placed}
 
 module _ {tells tells_images : Type 0} (x : Contents) (batch : List Record) (ring : RingState) (disk : Disk tells tells_images) (h : Lacks x batch ring disk) (sound : AreSound x) where
@@ -91,8 +92,8 @@ module _ {tells tells_images : Type 0} (x : Contents) (batch : List Record) (rin
       (record {
         split = refl;
         some = omega arith;
-        given_end = one (λ m. last (batches_in (with_long_term x.placed now m)) ≡ Some batch) 0 (h.passed.given_end 0 0 (omega arith));
-        waiting_end = one (λ m. ends_before (Some batch) (batches_in (with_long_term x.placed now m)) ≡ true) 1 (still_waits x batch h.passed follow now retains);
+        given_end = all_one (λ m. last (batches_in (with_long_term x.placed now m)) ≡ Some batch) 0 (h.passed.given_end 0 0 (omega arith));
+        waiting_end = all_one (λ m. ends_before (Some batch) (batches_in (with_long_term x.placed now m)) ≡ true) 1 (still_waits x batch h.passed follow now retains);
       })
       stays.paced capsule_sound
       (record {

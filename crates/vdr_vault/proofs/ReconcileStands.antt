@@ -24,7 +24,7 @@ use Rattle.vdr_incident.specs.Tables.{HoldsTable}
 use Rattle.vdr_opening.specs.Media.{both, AreThere, Contents, HasFront, opening_of, reading_of}
 use Rattle.vdr_opening.specs.Settings.{settings_of}
 use Rattle.vdr_opening.specs.Answers.{IsRingOf}
-use Rattle.vdr_vault.specs.Vaults.{AreRings, HoldsHistory, MembersState, Stands, of_stamp, ring_of, tick_utc}
+use Rattle.vdr_vault.specs.Vaults.{AreRings, HoldsHistory, VaultState, Stands, of_stamp, ring_of, tick_utc}
 use Rattle.vdr_durability.specs.Soundness.{IsUnbroken}
 use Rattle.vdr_vault.specs.Regularity.{AreSound}
 use Rattle.vdr_vault.proofs.ReconcileShown.{AreOpened}
@@ -43,31 +43,31 @@ module _ {tells tells_images : Type 0} where
   }
 
   -- What the vault reads of the media.
-  pub record ReadsVault (x : Contents) (members : MembersState) (placed : ℕ → List Placed) (disk : Disk tells tells_images) : Type 0 where
-    pub working : members.failed ≡ false
-    pub config : members.config ≡ x.config
-    pub table : members.table ≡ x.table
-    pub rings_are : AreRings members disk.sizes
-    pub reads : All (λ m. rings.Reads (ring_of members m) (placed m) disk) both
+  pub record ReadsVault (x : Contents) (vault : VaultState) (placed : ℕ → List Placed) (disk : Disk tells tells_images) : Type 0 where
+    pub working : vault.failed ≡ false
+    pub config : vault.config ≡ x.config
+    pub table : vault.table ≡ x.table
+    pub rings_are : AreRings vault disk.sizes
+    pub reads : All (λ m. rings.Reads (ring_of vault m) (placed m) disk) both
     pub fronts : tells → All (λ m. HasFront m x.config x.text (content disk.reads m)) both
     pub incidents : tells → HoldsTable x.config.incident_slots x.table (content disk.reads 1)
     pub slots : length x.table ≡ x.config.incident_slots
-    pub next : members.next_place ≡ next_after (last (all_records (placed 0)))
-    pub last_is : members.last ≡ option_map tick_utc (last (all_records (placed 0)))
+    pub next : vault.next_place ≡ next_after (last (all_records (placed 0)))
+    pub last_is : vault.last ≡ option_map tick_utc (last (all_records (placed 0)))
 
-  module _ (x : Contents) (members : MembersState) (placed : ℕ → List Placed) (disk : Disk tells tells_images) (sound : AreSound x) (opened : AreOpened x placed) (v : ReadsVault x members placed disk) where
+  module _ (x : Contents) (vault : VaultState) (placed : ℕ → List Placed) (disk : Disk tells tells_images) (sound : AreSound x) (opened : AreOpened x placed) (v : ReadsVault x vault placed disk) where
     abbrev given : ℕ → List Record
     given m = records_on (restored both (reading_of x)) m
 
     all_given : (m : ℕ) → given_with (opening_of x) [] m ≡ given m
     all_given m = append-nil (given m)
 
-    history : (m : ℕ) → IsRingOf members.config disk.sizes m (ring_of members m) → rings.Reads (ring_of members m) (placed m) disk → (tells → HasFront m x.config x.text (content disk.reads m)) → AreInOrder (given m)
+    history : (m : ℕ) → IsRingOf vault.config disk.sizes m (ring_of vault m) → rings.Reads (ring_of vault m) (placed m) disk → (tells → HasFront m x.config x.text (content disk.reads m)) → AreInOrder (given m)
         → Retains (window_of x.config m) (pins_on m x.table) (given m) (all_records (placed m))
         → AreRegular (cost (sizes_of x.config)) (usable (sizes_of x.config)) x.config.batch (placed m) → ArePinsOf (sizes_of x.config) m (all_records (placed m)) (pins_on m x.table)
-        → IsUnbroken (window_of x.config m) (given m) → HoldsHistory (opening_of x) [] members.config m (ring_of members m) (placed m) disk
-    history m its reads front order retains segments pins unbroken = subst (λ (c : Configuration). HoldsHistory (opening_of x) [] c m (ring_of members m) (placed m) disk) (sym v.config) (record {
-      is_its = subst (λ (c : Configuration). IsRingOf c disk.sizes m (ring_of members m)) v.config its;
+        → IsUnbroken (window_of x.config m) (given m) → HoldsHistory (opening_of x) [] vault.config m (ring_of vault m) (placed m) disk
+    history m its reads front order retains segments pins unbroken = subst (λ (c : Configuration). HoldsHistory (opening_of x) [] c m (ring_of vault m) (placed m) disk) (sym v.config) (record {
+      is_its = subst (λ (c : Configuration). IsRingOf c disk.sizes m (ring_of vault m)) v.config its;
       reads = reads;
       front = front;
       regular = segments;
@@ -83,11 +83,11 @@ module _ {tells tells_images : Type 0} where
     next_is : next_after (last (given 0)) + 0 ≡ next_after (last (all_records (placed 0)))
     next_is = (let e : next_after (last (given 0)) + 0 ≡ next_after (last (given 0)) = omega arith in e) ∙ ap next_after ends
 
-    pub opened_stands : Stands (opening_of x) [] members placed disk
+    pub opened_stands : Stands (opening_of x) [] vault placed disk
     opened_stands = record {
       settings = ap (λ (c : Configuration). settings_of c x.text) (sym v.config);
       working = v.working;
-      media = all_two (λ m. HoldsHistory (opening_of x) [] members.config m (ring_of members m) (placed m) disk)
+      media = all_two (λ m. HoldsHistory (opening_of x) [] vault.config m (ring_of vault m) (placed m) disk)
           (history 0 (v.rings_are 0 0 (omega arith)) (v.reads 0 0 (omega arith)) (λ told. v.fronts told 0 0 (omega arith)) (sound.regular 0 0 (omega arith)).order (opened.retains 0 0 (omega arith))
           (opened.regular 0 0 (omega arith)) (opened.pins 0 0 (omega arith)) (sound.unbroken 0 0 (omega arith)))
           (history 1 (v.rings_are 1 1 (omega arith)) (v.reads 1 1 (omega arith)) (λ told. v.fronts told 1 1 (omega arith)) (sound.regular 1 1 (omega arith)).order (opened.retains 1 1 (omega arith))

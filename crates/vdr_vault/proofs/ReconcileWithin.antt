@@ -1,12 +1,13 @@
 -- What the long-term medium holds while the batch that it lacks is appended to it, whether the media are sound or not.
-use Rattle.std.proofs.Common.{◌≡◌, inl, inr, ⊎_elim, ℕ, zero, suc, ◌+◌, ◌<◌, ◌≤◌, List, [], ◌∷◌, ◌++◌, length, true, All, Contains, Option, Some, None, ◌==◌, refl, sym, ap, ◌∙◌, subst, arith}
+use Rattle.std.proofs.Common.{◌≡◌, inl, inr, ⊎_elim, ℕ, zero, suc, ◌+◌, ◌<◌, ◌≤◌, List, [], ◌∷◌, ◌++◌, length, true, All, Contains, Option, Some, None, refl, sym, ap, ◌∙◌, subst, arith}
 use Rattle.std.specs.Prelude.{Any}
-use Rattle.std.proofs.lemmas.Bool.{and_parts, cond_both, leb-true, true≢false}
+use Rattle.std.proofs.lemmas.Bool.{and_parts, leb-true, true≢false}
 use Rattle.std.proofs.lemmas.List.Elements.{Contains-append_cases}
 use Rattle.vdr_terms.specs.Records.{Record, last}
 use Rattle.vdr_terms.specs.Needs.{needed_slots, slots_in}
 use Rattle.vdr_terms.specs.Order.{NeverFalls, RunOn}
 use Rattle.vdr_terms.specs.Sizes.{batch_size}
+use Rattle.vdr_terms.proofs.Running.{never_falls_front}
 use Rattle.vdr_retention.specs.Layout.{Batches, segment_records}
 use Rattle.vdr_retention.specs.Regular.{FollowOn}
 use Rattle.vdr_retention.proofs.Lists.{contains_cases, last_contained, none_contained}
@@ -15,8 +16,8 @@ use Rattle.vdr_durability.specs.Shown.{pins_of}
 use Rattle.vdr_outside.specs.Disk.{Disk, Durable, Image, content}
 use Rattle.vdr_outside.specs.Moments.{AtEachMoment, Changed, ChangesOnly}
 use Rattle.vdr_outside.proofs.Moments.{moments_weaken, size_read}
-use Rattle.vdr_config.specs.Configuration.{Configuration, IsConfiguration}
-use Rattle.vdr_config.specs.Sizes.{sizes_of, window_of}
+use Rattle.vdr_config.specs.Configuration.{IsConfiguration}
+use Rattle.vdr_config.specs.Sizes.{sizes_of}
 use Rattle.vdr_media.proofs.Two.{all_two}
 use Rattle.vdr_slots.specs.Slots.{SameFront}
 use Rattle.vdr_ring.specs.Sequence.{Placed, all_records, batches_in, batches_of}
@@ -29,18 +30,15 @@ use Rattle.vdr_ring.proofs.Beginning.{legal_batches}
 use Rattle.vdr_ring.proofs.Staging.{stages_in_order}
 use Rattle.vdr_opening.specs.Media.{both, Contents, HoldsContents, IsMedium, reading_of}
 use Rattle.vdr_opening.specs.Answers.{IsMissing, IsRingOf}
+use Rattle.vdr_opening.proofs.Meeting.{all_one}
 use Rattle.vdr_vault.specs.Openings.{EndsWithin}
 use Rattle.vdr_vault.proofs.ShownFronts.{front_stays, table_stays}
 use Rattle.vdr_vault.proofs.ShownImages.{placed_there, records_are}
-use Rattle.vdr_vault.proofs.CommitReady.{begins_first, continues}
-use Rattle.vdr_vault.proofs.CommitMoments.{changes_both, one, zero_one}
+use Rattle.vdr_vault.proofs.CommitReady.{begins_first, continues, windowed}
+use Rattle.vdr_vault.proofs.CommitMoments.{changes_both, zero_one}
 use Rattle.vdr_vault.proofs.ReconcileBatch.{last_is_legal, last_runs_on, runs_from}
 
 -- The ticks of a legal medium's last batch never fall
-
-falls_front : (from : ℕ) (xs ys : List Record) → NeverFalls from (xs ++ ys) → NeverFalls from xs
-falls_front from [] ys h = tt
-falls_front from (x ∷ xs) ys h = (h.0, falls_front x.tick xs ys h.1)
 
 abbrev tick_behind : ℕ → List Record → ℕ
 tick_behind from [] = from
@@ -54,7 +52,7 @@ batch_never_falls : (from : ℕ) (bs : Batches) (batch : List Record) → NeverF
 batch_never_falls from [] batch falls there = absurd (none_contained batch there)
 batch_never_falls from (b ∷ bs) batch falls there =
     ⊎_elim
-    (λ (e : b ≡ batch). (from, subst (NeverFalls from) e (falls_front from b (segment_records bs) falls)))
+    (λ (e : b ≡ batch). (from, subst (NeverFalls from) e (never_falls_front from b (segment_records bs) falls)))
     (λ (k : Contains bs batch). batch_never_falls (tick_behind from b) bs batch (falls_behind from b (segment_records bs) falls) k)
     (contains_cases b bs batch there)
 
@@ -92,12 +90,6 @@ any_of_four P R a b c d p q r s (suc (suc zero), y, lt, is, h) = r (subst P (sym
 any_of_four P R a b c d p q r s (suc (suc (suc zero)), y, lt, is, h) = s (subst P (sym is) h)
 any_of_four P R a b c d p q r s (suc (suc (suc (suc k))), y, lt, is, h) = absurd (omega (arith, lt))
 
-pub windowed : (c : Configuration) (m : ℕ) → IsConfiguration c → 0 < window_of c m
-windowed c m is =
-    let a = is.capsule_low in
-    let b = is.long_low in
-    cond_both (m == 0) c.capsule_seconds c.long_seconds (λ (n : ℕ). 0 < n) (λ _. omega (arith, a)) (λ _. omega (arith, b))
-
 -- What media whose ends meet lack
 module _ (x : Contents) where
   waiting : (o : Option (List Record)) → last (batches_in (x.placed 0)) ≡ o → ends_before o (batches_in (x.placed 1)) ≡ true → (missing : List Record) × IsMissing missing (reading_of x)
@@ -107,8 +99,8 @@ module _ (x : Contents) where
     inr (record {
       split = refl;
       some = omega arith;
-      given_end = one (λ m. last (batches_in (x.placed m)) ≡ Some batch) 0 is;
-      waiting_end = one (λ m. ends_before (Some batch) (batches_in (x.placed m)) ≡ true) 1 waits;
+      given_end = all_one (λ m. last (batches_in (x.placed m)) ≡ Some batch) 0 is;
+      waiting_end = all_one (λ m. ends_before (Some batch) (batches_in (x.placed m)) ≡ true) 1 waits;
     }),
   )
 

@@ -7,14 +7,11 @@ use Rattle.vdr_outside.specs.Causes.{NoneFalls, Rose}
 use Rattle.vdr_outside.specs.Disk.{Disk}
 use Rattle.vdr_outside.proofs.Counts.{sum_rose}
 use Rattle.vdr_ring.specs.Sequence.{Placed}
+use Rattle.vdr_terms.proofs.Results.{on_ok_both}
 use Rattle.vdr_vault.specs.Saves.{Does, HasFaultOn, Saves}
 use Rattle.vdr_vault.specs.declared.refused.SaveRefused.{SaveRefused}
 use Rattle.vdr_vault.specs.declared.refused.SaveRefused.TheVariants.{Damaged, Fault}
-use Rattle.vdr_vault.specs.Vaults.{MembersState, Stands}
-
-pub both_ok : {T E P Q R : Type 0} (r : Result T E) → (P → Q → R) → OnOk r P → OnOk r Q → OnOk r R
-both_ok (Ok x) f p q = f p q
-both_ok (Err x) f p q = tt
+use Rattle.vdr_vault.specs.Vaults.{VaultState, Stands}
 
 -- A success is no error.
 pub not_failed : {T E : Type 0} (same : T → T → Bool) (same_error : E → E → Bool) (r : Result T E) (e : E) (b : Bool) → b ≡ result_eq same same_error r (Err e) → OnOk r (b ≡ false)
@@ -34,30 +31,30 @@ has_fault failed before now faulted later rises = record {
 }
 
 -- What the vault says of a failure after a success is that there was none.
-pub does_so : {tells tells_images T E : Type 0} (opening : Opening) (events : List Event) (e : Event) (placed : ℕ → List Placed) (members : MembersState) (failed : Bool) (old new : Disk tells tells_images) (result : Result T E)
-    → OnOk result (failed ≡ false) → members.failed ≡ false → Does opening events e placed members old new result → Does opening events e placed (record members { failed = failed }) old new result
-does_so opening events e placed members failed old new result fine was does = record {
+pub does_so : {tells tells_images T E : Type 0} (opening : Opening) (events : List Event) (e : Event) (placed : ℕ → List Placed) (vault : VaultState) (failed : Bool) (old new : Disk tells tells_images) (result : Result T E)
+    → OnOk result (failed ≡ false) → vault.failed ≡ false → Does opening events e placed vault old new result → Does opening events e placed (record vault { failed = failed }) old new result
+does_so opening events e placed vault failed old new result fine was does = record {
   moments = does.moments;
-  done = both_ok result
-      (λ is stands. subst (λ (b : Bool). Stands opening (events ++ e ∷ []) (record members { failed = b }) placed new) (sym is)
-      (subst (λ (b : Bool). Stands opening (events ++ e ∷ []) (record members { failed = b }) placed new) was stands))
+  done = on_ok_both result
+      (λ is stands. subst (λ (b : Bool). Stands opening (events ++ e ∷ []) (record vault { failed = b }) placed new) (sym is)
+      (subst (λ (b : Bool). Stands opening (events ++ e ∷ []) (record vault { failed = b }) placed new) was stands))
       fine does.done;
 }
 
-pub stands_so : {tells tells_images : Type 0} (opening : Opening) (events : List Event) (placed : ℕ → List Placed) (members : MembersState) (failed : Bool) (disk : Disk tells tells_images)
-    → failed ≡ false → Stands opening events members placed disk → Stands opening events (record members { failed = failed }) placed disk
-stands_so opening events placed members failed disk fine stands =
-    subst (λ (b : Bool). Stands opening events (record members { failed = b }) placed disk) (sym fine)
-    (subst (λ (b : Bool). Stands opening events (record members { failed = b }) placed disk) stands.working stands)
+pub stands_so : {tells tells_images : Type 0} (opening : Opening) (events : List Event) (placed : ℕ → List Placed) (vault : VaultState) (failed : Bool) (disk : Disk tells tells_images)
+    → failed ≡ false → Stands opening events vault placed disk → Stands opening events (record vault { failed = failed }) placed disk
+stands_so opening events placed vault failed disk fine stands =
+    subst (λ (b : Bool). Stands opening events (record vault { failed = b }) placed disk) (sym fine)
+    (subst (λ (b : Bool). Stands opening events (record vault { failed = b }) placed disk) stands.working stands)
 
-pub saves_so : {tells tells_images : Type 0} (opening : Opening) (events : List Event) (label : List ℕ) (placed : ℕ → List Placed) (members : MembersState) (failed : Bool) (old new : Disk tells tells_images)
-    (result : Result ℕ SaveRefused) → OnOk result (failed ≡ false) → members.failed ≡ false → Saves opening events label placed members old new result
-    → Saves opening events label placed (record members { failed = failed }) old new result
-saves_so opening events label placed members failed old new result fine was s = record {
+pub saves_so : {tells tells_images : Type 0} (opening : Opening) (events : List Event) (label : List ℕ) (placed : ℕ → List Placed) (vault : VaultState) (failed : Bool) (old new : Disk tells tells_images)
+    (result : Result ℕ SaveRefused) → OnOk result (failed ≡ false) → vault.failed ≡ false → Saves opening events label placed vault old new result
+    → Saves opening events label placed (record vault { failed = failed }) old new result
+saves_so opening events label placed vault failed old new result fine was s = record {
   id = s.id;
   a = s.a;
   b = s.b;
   may_come = s.may_come;
   told = s.told;
-  does = λ e is. does_so opening events e placed members failed old new result fine was (s.does e is);
+  does = λ e is. does_so opening events e placed vault failed old new result fine was (s.does e is);
 }

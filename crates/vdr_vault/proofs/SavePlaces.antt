@@ -7,6 +7,7 @@ use Rattle.std.proofs.lemmas.Option.{none-some, same_Some}
 use Rattle.vdr_terms.specs.Order.{AreInOrder as RecordsAreInOrder, RunOn}
 use Rattle.vdr_terms.specs.Records.{Record, last, last_after, second}
 use Rattle.vdr_terms.specs.Windows.{window}
+use Rattle.vdr_terms.proofs.Somewhere.{any_left, any_right}
 use Rattle.vdr_retention.specs.Retention.{at_places, within}
 use Rattle.vdr_retention.specs.Victims.{SpansAtMost}
 use Rattle.vdr_retention.proofs.Lists.{contains_cases, contains_here, contains_there, filter_test, filter_was, last_contained, none_contained}
@@ -15,7 +16,6 @@ use Rattle.vdr_retention.proofs.Retained.{in_the_window, recent}
 use Rattle.vdr_ring.specs.Lookup.{HoldAll}
 use Rattle.vdr_ring.specs.Order.{AreInOrder, AreInPlace, HasPlace}
 use Rattle.vdr_ring.specs.Sequence.{Placed, all_records, first_of, records_of}
-use Rattle.vdr_ring.proofs.Beginning.{any_left, any_right}
 use Rattle.vdr_durability.specs.Soundness.{IsUnbroken}
 use Rattle.vdr_vault.specs.Saves.{first_in_window}
 use Rattle.vdr_vault.proofs.CommitPins.{any_one, record_at}

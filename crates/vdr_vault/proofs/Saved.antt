@@ -23,7 +23,9 @@ use Rattle.vdr_outside.specs.Moments.{ChangesOnly, Settled}
 use Rattle.vdr_outside.proofs.Moments.{moments_after_reads, moments_and_reads, moments_none, moments_weaken, unchanged_now}
 use Rattle.vdr_config.specs.Configuration.{IsConfiguration}
 use Rattle.vdr_config.specs.Sizes.{sizes_of}
-use Rattle.vdr_incident.specs.Saves.{IsSave, is_label}
+use Rattle.vdr_terms.specs.Texts.{is_label}
+use Rattle.vdr_terms.proofs.Results.{on_ok_both}
+use Rattle.vdr_incident.specs.Saves.{IsSave}
 use Rattle.vdr_incident.specs.Tables.{HoldsBeside, HoldsEither, HoldsTable}
 use Rattle.vdr_incident.proofs.Ids.{free_held}
 use Rattle.vdr_ring.specs.Sequence.{Placed, all_records, batches_in}
@@ -32,11 +34,10 @@ use Rattle.vdr_ring.proofs.Beginning.{legal_batches}
 use Rattle.vdr_ring.proofs.Medium.{in_order_records}
 use Rattle.vdr_durability.specs.Soundness.{IsUnbroken}
 use Rattle.vdr_vault.specs.Saves.{Does, Saves, first_in_window, refusal_from, save_refusal}
-use Rattle.vdr_vault.specs.Vaults.{HoldsHistory, MembersState, Stands, of_stamp, tick_utc}
+use Rattle.vdr_vault.specs.Vaults.{HoldsHistory, VaultState, Stands, of_stamp, tick_utc}
 use Rattle.vdr_vault.specs.declared.refused.SaveRefused.{SaveRefused}
 use Rattle.vdr_vault.proofs.CommitReady.{one_end}
 use Rattle.vdr_vault.proofs.Released.{table_settled}
-use Rattle.vdr_vault.proofs.SaveFaults.{both_ok}
 use Rattle.vdr_vault.proofs.SavePlaces.{IsFirst, a_first, find_last, first_is, first_there, spans, unbroken_holds}
 use Rattle.vdr_vault.proofs.ShownPlaces.{all_legal}
 use Rattle.vdr_vault.proofs.SlotKept.{MayStand, slot_written}
@@ -60,32 +61,32 @@ held_within (s ∷ table) zero x is = omega arith
 held_within (s ∷ table) (suc slot) x is = let a = held_within table slot x is in omega (arith, a)
 
 -- The last record of both media.
-pub record IsNewest (opening : Opening) (events : List Event) (members : MembersState) (placed : ℕ → List Placed) (tick : ℕ) (utc : ℤ) : Type 0 where
+pub record IsNewest (opening : Opening) (events : List Event) (vault : VaultState) (placed : ℕ → List Placed) (tick : ℕ) (utc : ℤ) : Type 0 where
   pub r : Record
   pub ends : last (all_records (placed 1)) ≡ Some r
   pub given : last (given_with opening events 1) ≡ Some r
   pub tick_is : r.tick ≡ tick
   pub utc_is : r.utc ≡ utc
-  pub next : members.next_place ≡ suc r.place
+  pub next : vault.next_place ≡ suc r.place
 
-module _ {tells tells_images : Type 0} (opening : Opening) (events : List Event) (members : MembersState) (placed : ℕ → List Placed) (old : Disk tells tells_images)
-    (stands : Stands opening events members placed old) where
-  capsule : HoldsHistory opening events members.config 0 members.capsule (placed 0) old
+module _ {tells tells_images : Type 0} (opening : Opening) (events : List Event) (vault : VaultState) (placed : ℕ → List Placed) (old : Disk tells tells_images)
+    (stands : Stands opening events vault placed old) where
+  capsule : HoldsHistory opening events vault.config 0 vault.capsule (placed 0) old
   capsule = stands.media 0 0 (omega arith)
 
-  long_term : HoldsHistory opening events members.config 1 members.long_term (placed 1) old
+  long_term : HoldsHistory opening events vault.config 1 vault.long_term (placed 1) old
   long_term = stands.media 1 1 (omega arith)
 
   same_end : last (all_records (placed 1)) ≡ last (all_records (placed 0))
-  same_end = one_end (cost (sizes_of members.config)) (usable (sizes_of members.config)) members.config.batch (placed 1) (placed 0) long_term.regular capsule.regular (stands.level 1 1 (omega arith))
+  same_end = one_end (cost (sizes_of vault.config)) (usable (sizes_of vault.config)) vault.config.batch (placed 1) (placed 0) long_term.regular capsule.regular (stands.level 1 1 (omega arith))
 
-  pub newest_record : (tick : ℕ) (utc : ℤ) → members.last ≡ Some (tick, utc) → IsNewest opening events members placed tick utc
+  pub newest_record : (tick : ℕ) (utc : ℤ) → vault.last ≡ Some (tick, utc) → IsNewest opening events vault placed tick utc
   newest_record tick utc is = go (last (all_records (placed 0))) refl
     where
       told_by : (o : Option Record) → last (all_records (placed 0)) ≡ o → option_map of_stamp (stamp_of o None) ≡ Some (tick, utc)
       told_by o e = ap (λ (o : Option Record). option_map of_stamp (stamp_of o None)) (sym e) ∙ ap (option_map of_stamp) (sym stands.stamp) ∙ sym stands.newest ∙ is
 
-      go : (o : Option Record) → last (all_records (placed 0)) ≡ o → IsNewest opening events members placed tick utc
+      go : (o : Option Record) → last (all_records (placed 0)) ≡ o → IsNewest opening events vault placed tick utc
       go None e = absurd (none-some (tick, utc) (told_by None e))
       go (Some r) e =
           let same : (r.tick, r.utc) ≡ (tick, utc) = same_Some (r.tick, r.utc) (tick, utc) (told_by (Some r) e) in
@@ -98,41 +99,41 @@ module _ {tells tells_images : Type 0} (opening : Opening) (events : List Event)
             next = stands.goes_on ∙ stands.place ∙ ap next_after e;
           }
 
-  module _ (legal : IsConfiguration members.config) (label : List ℕ) (accepted : save_refusal label members ≡ None) (tick : ℕ) (utc : ℤ) (stamped : members.last ≡ Some (tick, utc)) where
-    pub accepts : IsAccepted (is_label label) members.last (position is_none members.table)
-    accepts = accepted_by (is_label label) members.last (position is_none members.table) accepted
+  module _ (legal : IsConfiguration vault.config) (label : List ℕ) (accepted : save_refusal label vault ≡ None) (tick : ℕ) (utc : ℤ) (stamped : vault.last ≡ Some (tick, utc)) where
+    pub accepts : IsAccepted (is_label label) vault.last (position is_none vault.table)
+    accepts = accepted_by (is_label label) vault.last (position is_none vault.table) accepted
 
-    newest : IsNewest opening events members placed tick utc
+    newest : IsNewest opening events vault placed tick utc
     newest = newest_record tick utc stamped
 
-    some : 0 < members.config.incident_seconds
+    some : 0 < vault.config.incident_seconds
     some = legal.incident_low
 
     -- The first place of its window.
-    pub begins : (a : ℕ) × (first_in_window members.config.incident_seconds (all_records (placed 1)) ≡ Some a)
-    begins = first_there members.config.incident_seconds (all_records (placed 1)) newest.r some newest.ends
+    pub begins : (a : ℕ) × (first_in_window vault.config.incident_seconds (all_records (placed 1)) ≡ Some a)
+    begins = first_there vault.config.incident_seconds (all_records (placed 1)) newest.r some newest.ends
 
-    less : members.config.incident_seconds ≤ opening.settings.seconds 1
-    less = subst (λ (s : Settings). members.config.incident_seconds ≤ s.seconds 1) (sym stands.settings) legal.incident_high
+    less : vault.config.incident_seconds ≤ opening.settings.seconds 1
+    less = subst (λ (s : Settings). vault.config.incident_seconds ≤ s.seconds 1) (sym stands.settings) legal.incident_high
 
     held_order : RecordsAreInOrder (all_records (placed 1))
     held_order = in_order_records (placed 1) long_term.reads.order
 
-    windows : window members.config.incident_seconds (all_records (placed 1)) ≡ window members.config.incident_seconds (given_with opening events 1)
-    windows = same_window members.config.incident_seconds (given_with opening events 1) (all_records (placed 1)) long_term.order held_order
-        (holds_less members.config.incident_seconds (opening.settings.seconds 1) (given_with opening events 1) (all_records (placed 1)) less long_term.retains.window)
+    windows : window vault.config.incident_seconds (all_records (placed 1)) ≡ window vault.config.incident_seconds (given_with opening events 1)
+    windows = same_window vault.config.incident_seconds (given_with opening events 1) (all_records (placed 1)) long_term.order held_order
+        (holds_less vault.config.incident_seconds (opening.settings.seconds 1) (given_with opening events 1) (all_records (placed 1)) less long_term.retains.window)
 
-    module _ (a : ℕ) (first : first_in_window members.config.incident_seconds (all_records (placed 1)) ≡ Some a) where
-      ends_there : newest.r.place ≡ members.next_place - 1
+    module _ (a : ℕ) (first : first_in_window vault.config.incident_seconds (all_records (placed 1)) ≡ Some a) where
+      ends_there : newest.r.place ≡ vault.next_place - 1
       ends_there = let next = newest.next in omega (arith, next)
 
       abbrev pub saved : Incident
-      saved = record { label = label; a = a; b = members.next_place - 1; stamp = record { tick = tick; utc = utc } }
+      saved = record { label = label; a = a; b = vault.next_place - 1; stamp = record { tick = tick; utc = utc } }
 
-      seconds_are : opening.settings.incident_seconds ≡ members.config.incident_seconds
+      seconds_are : opening.settings.incident_seconds ≡ vault.config.incident_seconds
       seconds_are = ap (λ (s : Settings). s.incident_seconds) stands.settings
 
-      pub may_come : MayCome opening events (Save (suc accepts.slot.0) label a (members.next_place - 1))
+      pub may_come : MayCome opening events (Save (suc accepts.slot.0) label a (vault.next_place - 1))
       may_come = (
         ap (λ (t : List (Option Incident)). option_map suc (position is_none t)) (sym stands.incidents_are) ∙ ap (option_map suc) accepts.slot.1,
         record {
@@ -141,15 +142,15 @@ module _ {tells tells_images : Type 0} (opening : Opening) (events : List Event)
         },
       )
 
-      is_first : IsFirst members.config.incident_seconds (all_records (placed 1)) a
-      is_first = first_is members.config.incident_seconds a (all_records (placed 1)) first
+      is_first : IsFirst vault.config.incident_seconds (all_records (placed 1)) a
+      is_first = first_is vault.config.incident_seconds a (all_records (placed 1)) first
 
       -- The save is legal where the medium tells.
       pub saved_legal : tells → IsSave saved
       saved_legal told =
-          let all = all_legal (placed 1) (legal_batches members.long_term.segment members.long_term.slots (placed 1) (content old.reads members.long_term.medium) (long_term.reads.settled.reads told)) in
+          let all = all_legal (placed 1) (legal_batches vault.long_term.segment vault.long_term.slots (placed 1) (content old.reads vault.long_term.medium) (long_term.reads.settled.reads told)) in
           let last_legal = All-contains IsRecord (all_records (placed 1)) newest.r all (last_contained (all_records (placed 1)) newest.r newest.ends) in
-          let low = a_first members.config.incident_seconds a (all_records (placed 1)) newest.r held_order newest.ends is_first in
+          let low = a_first vault.config.incident_seconds a (all_records (placed 1)) newest.r held_order newest.ends is_first in
           let place = last_legal.place in
           let early = last_legal.tick in
           let ticks = newest.tick_is in
@@ -163,86 +164,86 @@ module _ {tells tells_images : Type 0} (opening : Opening) (events : List Event)
           }
 
       -- All its places are there, where none is skipped.
-      pub all_there : IsUnbroken members.config.incident_seconds (given_with opening events 1) → HoldAll a (members.next_place - 1) (placed 1)
+      pub all_there : IsUnbroken vault.config.incident_seconds (given_with opening events 1) → HoldAll a (vault.next_place - 1) (placed 1)
       all_there unbroken = subst (λ (n : ℕ). HoldAll a n (placed 1)) ends_there
-          (unbroken_holds members.config.incident_seconds a (placed 1) newest.r some long_term.reads.order newest.ends first (subst (λ (w : List Record). (place : ℕ) × RunOn place w) (sym windows) unbroken))
+          (unbroken_holds vault.config.incident_seconds a (placed 1) newest.r some long_term.reads.order newest.ends first (subst (λ (w : List Record). (place : ℕ) × RunOn place w) (sym windows) unbroken))
 
-      may_stand : HoldAll a (members.next_place - 1) (placed 1) → MayStand opening events members.config.incident_seconds (placed 1) (Some saved)
+      may_stand : HoldAll a (vault.next_place - 1) (placed 1) → MayStand opening events vault.config.incident_seconds (placed 1) (Some saved)
       may_stand there = record {
         there = there;
-        places = save_keeps_places members.config.incident_seconds (opening.settings.seconds 1) (given_with opening events 1) (all_records (placed 1)) a (members.next_place - 1) less long_term.order
+        places = save_keeps_places vault.config.incident_seconds (opening.settings.seconds 1) (given_with opening events 1) (all_records (placed 1)) a (vault.next_place - 1) less long_term.order
             (record {
               first = ap (λ (w : List Record). option_map (λ r. r.place) (slice_get w 0)) (sym windows) ∙ first;
               newest = ap (option_map (λ r. r.place)) newest.given ∙ ap Some ends_there;
             })
             long_term.retains.window;
-        short = spans members.config.incident_seconds a (all_records (placed 1)) newest.r held_order newest.ends is_first (members.next_place - 1);
+        short = spans vault.config.incident_seconds a (all_records (placed 1)) newest.r held_order newest.ends is_first (vault.next_place - 1);
       }
 
-      module _ (e : Event) (is : e.act ≡ Save (suc accepts.slot.0) label a (members.next_place - 1)) where
-        found : incident_of label a (members.next_place - 1) (find (λ r. r.place == (members.next_place - 1)) (given_with opening events 1)) ≡ Some saved
+      module _ (e : Event) (is : e.act ≡ Save (suc accepts.slot.0) label a (vault.next_place - 1)) where
+        found : incident_of label a (vault.next_place - 1) (find (λ r. r.place == (vault.next_place - 1)) (given_with opening events 1)) ≡ Some saved
         found =
-            let last_one : find (λ r. r.place == (members.next_place - 1)) (given_with opening events 1) ≡ Some newest.r =
+            let last_one : find (λ r. r.place == (vault.next_place - 1)) (given_with opening events 1) ≡ Some newest.r =
             subst (λ (n : ℕ). find (λ r. r.place == n) (given_with opening events 1) ≡ Some newest.r) ends_there (find_last (given_with opening events 1) newest.r long_term.order newest.given) in
-            ap (incident_of label a (members.next_place - 1)) last_one
-            ∙ ap (λ (p : ℕ × ℤ). Some (record { label = label; a = a; b = members.next_place - 1; stamp = record { tick = p.0; utc = p.1 } })) (λ i. (newest.tick_is i, newest.utc_is i))
+            ap (incident_of label a (vault.next_place - 1)) last_one
+            ∙ ap (λ (p : ℕ × ℤ). Some (record { label = label; a = a; b = vault.next_place - 1; stamp = record { tick = p.0; utc = p.1 } })) (λ i. (newest.tick_is i, newest.utc_is i))
 
         table : incidents opening (events ++ e ∷ []) ≡ with_slot (incidents opening events) (suc accepts.slot.0) (Some saved)
         table = incidents_with opening events e ∙ ap (table_after (given_with opening events 1) (incidents opening events)) is ∙ ap (with_slot (incidents opening events) (suc accepts.slot.0)) found
 
-        written : HoldAll a (members.next_place - 1) (placed 1) → IsWritten opening events e members.config (placed 1) (with_slot members.table (suc accepts.slot.0) (Some saved))
-        written there = slot_written opening events e members placed old stands (suc accepts.slot.0) (Some saved) (ap records_of_act is) table (may_stand there)
+        written : HoldAll a (vault.next_place - 1) (placed 1) → IsWritten opening events e vault.config (placed 1) (with_slot vault.table (suc accepts.slot.0) (Some saved))
+        written there = slot_written opening events e vault placed old stands (suc accepts.slot.0) (Some saved) (ap records_of_act is) table (may_stand there)
 
       -- What `Table::save` says of it.
-      pub saves : (new : Disk tells tells_images) (out : Result ℕ SaveRefused) (now : List (Option Incident)) → HoldAll a (members.next_place - 1) (placed 1)
-          → ((slots slot : ℕ) → Settled 1 (HoldsTable slots members.table) old → position is_none members.table ≡ Some slot
-          → ChangesOnly 1 (HoldsEither slot slots members.table (with_slot members.table (suc slot) (Some saved)) (content old.reads 1)) old new)
-          → ((slots slot : ℕ) → Settled 1 (HoldsTable slots members.table) old → position is_none members.table ≡ Some slot
-          → OnOk out (Settled 1 (HoldsBeside slot slots (with_slot members.table (suc slot) (Some saved)) (content old.reads 1)) new))
+      pub saves : (new : Disk tells tells_images) (out : Result ℕ SaveRefused) (now : List (Option Incident)) → HoldAll a (vault.next_place - 1) (placed 1)
+          → ((slots slot : ℕ) → Settled 1 (HoldsTable slots vault.table) old → position is_none vault.table ≡ Some slot
+          → ChangesOnly 1 (HoldsEither slot slots vault.table (with_slot vault.table (suc slot) (Some saved)) (content old.reads 1)) old new)
+          → ((slots slot : ℕ) → Settled 1 (HoldsTable slots vault.table) old → position is_none vault.table ≡ Some slot
+          → OnOk out (Settled 1 (HoldsBeside slot slots (with_slot vault.table (suc slot) (Some saved)) (content old.reads 1)) new))
           → (tells → SameBut 1 old.reads new.reads) → new.sizes ≡ old.sizes
-          → IfOk out (λ id. now ≡ with_slot members.table id (Some saved)) → IfOk out (λ id. option_map suc (position is_none members.table) ≡ Some id)
-          → Saves opening events label placed (record members { table = now }) old new out
+          → IfOk out (λ id. now ≡ with_slot vault.table id (Some saved)) → IfOk out (λ id. option_map suc (position is_none vault.table) ≡ Some id)
+          → Saves opening events label placed (record vault { table = now }) old new out
       saves new out now there moments settled others sizes is_table is_id =
           let free = accepts.slot.1 in
-          let on_table = table_settled opening events members placed old stands legal in
+          let on_table = table_settled opening events vault placed old stands legal in
           let few = legal.slots_high in
           let all = stands.slots in
-          let within = held_within members.table accepts.slot.0 None (free_held members.table accepts.slot.0 free) in
+          let within = held_within vault.table accepts.slot.0 None (free_held vault.table accepts.slot.0 free) in
           let low : accepts.slot.0 < 32 = omega (arith, few, all, within) in
-          let changes = moments members.config.incident_slots accepts.slot.0 on_table free in
+          let changes = moments vault.config.incident_slots accepts.slot.0 on_table free in
           record {
             id = suc accepts.slot.0;
             a = a;
-            b = members.next_place - 1;
+            b = vault.next_place - 1;
             may_come = may_come;
             told = told_id out is_id;
             does = λ e is. record {
-              moments = written_moments opening events e members placed old stands (with_slot members.table (suc accepts.slot.0) (Some saved)) (written e is there) accepts.slot.0 low new changes;
-              done = both_ok out
-                  (λ held same. subst (λ (t : List (Option Incident)). Stands opening (events ++ e ∷ []) (record members { table = t }) placed new) (sym same)
-                  (written_stands opening events e members placed old stands (with_slot members.table (suc accepts.slot.0) (Some saved)) (written e is there) accepts.slot.0 low _ new changes others sizes held))
-                  (settled members.config.incident_slots accepts.slot.0 on_table free) (same_table out is_table is_id);
+              moments = written_moments opening events e vault placed old stands (with_slot vault.table (suc accepts.slot.0) (Some saved)) (written e is there) accepts.slot.0 low new changes;
+              done = on_ok_both out
+                  (λ held same. subst (λ (t : List (Option Incident)). Stands opening (events ++ e ∷ []) (record vault { table = t }) placed new) (sym same)
+                  (written_stands opening events e vault placed old stands (with_slot vault.table (suc accepts.slot.0) (Some saved)) (written e is there) accepts.slot.0 low _ new changes others sizes held))
+                  (settled vault.config.incident_slots accepts.slot.0 on_table free) (same_table out is_table is_id);
             };
           }
         where
-          same_id : (id : ℕ) → option_map suc (position is_none members.table) ≡ Some id → id ≡ suc accepts.slot.0
+          same_id : (id : ℕ) → option_map suc (position is_none vault.table) ≡ Some id → id ≡ suc accepts.slot.0
           same_id id e = same_Some id (suc accepts.slot.0) (sym e ∙ ap (option_map suc) accepts.slot.1)
 
-          told_id : (r : Result ℕ SaveRefused) → IfOk r (λ id. option_map suc (position is_none members.table) ≡ Some id) → IfOk r (λ told. told ≡ suc accepts.slot.0)
+          told_id : (r : Result ℕ SaveRefused) → IfOk r (λ id. option_map suc (position is_none vault.table) ≡ Some id) → IfOk r (λ told. told ≡ suc accepts.slot.0)
           told_id (Ok id) e = same_id id e
           told_id (Err x) e = tt
 
-          same_table : (r : Result ℕ SaveRefused) → IfOk r (λ id. now ≡ with_slot members.table id (Some saved)) → IfOk r (λ id. option_map suc (position is_none members.table) ≡ Some id)
-              → OnOk r (now ≡ with_slot members.table (suc accepts.slot.0) (Some saved))
-          same_table (Ok id) e f = e ∙ ap (λ (n : ℕ). with_slot members.table n (Some saved)) (same_id id f)
+          same_table : (r : Result ℕ SaveRefused) → IfOk r (λ id. now ≡ with_slot vault.table id (Some saved)) → IfOk r (λ id. option_map suc (position is_none vault.table) ≡ Some id)
+              → OnOk r (now ≡ with_slot vault.table (suc accepts.slot.0) (Some saved))
+          same_table (Ok id) e f = e ∙ ap (λ (n : ℕ). with_slot vault.table n (Some saved)) (same_id id f)
           same_table (Err x) e f = tt
 
     -- Nothing is written.
-    pub saves_nothing : (now : MembersState) (new : Disk tells tells_images) (out : Result ℕ SaveRefused) → IsErr out → Unchanged old new → Saves opening events label placed now old new out
+    pub saves_nothing : (now : VaultState) (new : Disk tells tells_images) (out : Result ℕ SaveRefused) → IsErr out → Unchanged old new → Saves opening events label placed now old new out
     saves_nothing now new out failed same = record {
       id = suc accepts.slot.0;
       a = begins.0;
-      b = members.next_place - 1;
+      b = vault.next_place - 1;
       may_come = may_come begins.0 begins.1;
       told = IfOk-from_err out _ failed;
       does = λ e is. record {
@@ -252,9 +253,9 @@ module _ {tells tells_images : Type 0} (opening : Opening) (events : List Event)
     }
 
 -- What was read before a save changes nothing of it.
-pub after_reading : {tells tells_images : Type 0} (opening : Opening) (events : List Event) (label : List ℕ) (placed : ℕ → List Placed) (members : MembersState) (old mid new : Disk tells tells_images) (out : Result ℕ SaveRefused)
-    → Unchanged old mid → Saves opening events label placed members mid new out → Saves opening events label placed members old new out
-after_reading opening events label placed members old mid new out same s = record {
+pub after_reading : {tells tells_images : Type 0} (opening : Opening) (events : List Event) (label : List ℕ) (placed : ℕ → List Placed) (vault : VaultState) (old mid new : Disk tells tells_images) (out : Result ℕ SaveRefused)
+    → Unchanged old mid → Saves opening events label placed vault mid new out → Saves opening events label placed vault old new out
+after_reading opening events label placed vault old mid new out same s = record {
   id = s.id;
   a = s.a;
   b = s.b;

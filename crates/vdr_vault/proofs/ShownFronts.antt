@@ -9,7 +9,8 @@ use Rattle.vdr_config.specs.declared.bad.ConfigBad.{ConfigBad}
 use Rattle.vdr_config.specs.Configuration.{Configuration}
 use Rattle.vdr_config.specs.Grammar.{configuration}
 use Rattle.vdr_config.specs.Sizes.{sizes_of}
-use Rattle.vdr_media.specs.Layout.{slot_count, superblock_bytes, text_from}
+use Rattle.vdr_terms.specs.Slots.{slot_count}
+use Rattle.vdr_media.specs.Layout.{superblock_bytes, text_from}
 use Rattle.vdr_media.specs.Medium.{IsSuperblock}
 use Rattle.vdr_slots.specs.Slots.{SameFront}
 use Rattle.vdr_incident.specs.Saves.{IsIncidentSlot}

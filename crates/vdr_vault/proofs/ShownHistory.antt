@@ -21,7 +21,7 @@ use Rattle.vdr_slots.specs.Slots.{place_of}
 use Rattle.vdr_incident.specs.Tables.{HoldsTable}
 use Rattle.vdr_opening.specs.Media.{both, HasFront, HoldsContents, IsMedium}
 use Rattle.vdr_opening.specs.Answers.{IsRingOf}
-use Rattle.vdr_vault.specs.Vaults.{MembersState, HoldsHistory, ShowsHistory, Stands, of_stamp, ring_of}
+use Rattle.vdr_vault.specs.Vaults.{VaultState, HoldsHistory, ShowsHistory, Stands, of_stamp, ring_of}
 use Rattle.vdr_durability.specs.Soundness.{IsUnbroken}
 use Rattle.vdr_vault.specs.Regularity.{AreSound}
 use Rattle.vdr_vault.proofs.ShownImages.{placed_there, shown_level}
@@ -63,35 +63,35 @@ module _ {tells tells_images : Type 0} where
         (unbroken_held (opening.settings.seconds m) (given_with opening events m) (sequence.all_records placed) h.order (in_order_records placed h.reads.order) h.retains.window h.unbroken);
   }
 
-  pub stands_sound : (opening : Opening) (events : List Event) (members : MembersState) (placed : ℕ → List Placed) (disk : Disk tells tells_images) → Stands opening events members placed disk
-      → AreSound (record { config = members.config; text = opening.settings.text; placed = placed; table = members.table })
-  stands_sound opening events members placed disk stands =
-      sound_level (record { config = members.config; text = opening.settings.text; placed = placed; table = members.table }) stands.level
-      (All-weaker (λ m. HoldsHistory opening events members.config m (ring_of members m) (placed m) disk) (λ m. InOrder (placed m)) (λ m h. h.reads.order) both stands.media)
-      (sound_alone opening events members.config 0 members.capsule (placed 0) members.table disk (stands.media 0 0 (omega arith)) (ap (λ (s : Settings). s.seconds 0) stands.settings) stands.incidents_are)
-      (sound_alone opening events members.config 1 members.long_term (placed 1) members.table disk (stands.media 1 1 (omega arith)) (ap (λ (s : Settings). s.seconds 1) stands.settings) stands.incidents_are)
+  pub stands_sound : (opening : Opening) (events : List Event) (vault : VaultState) (placed : ℕ → List Placed) (disk : Disk tells tells_images) → Stands opening events vault placed disk
+      → AreSound (record { config = vault.config; text = opening.settings.text; placed = placed; table = vault.table })
+  stands_sound opening events vault placed disk stands =
+      sound_level (record { config = vault.config; text = opening.settings.text; placed = placed; table = vault.table }) stands.level
+      (All-weaker (λ m. HoldsHistory opening events vault.config m (ring_of vault m) (placed m) disk) (λ m. InOrder (placed m)) (λ m h. h.reads.order) both stands.media)
+      (sound_alone opening events vault.config 0 vault.capsule (placed 0) vault.table disk (stands.media 0 0 (omega arith)) (ap (λ (s : Settings). s.seconds 0) stands.settings) stands.incidents_are)
+      (sound_alone opening events vault.config 1 vault.long_term (placed 1) vault.table disk (stands.media 1 1 (omega arith)) (ap (λ (s : Settings). s.seconds 1) stands.settings) stands.incidents_are)
 
   -- What a stop may leave of a vault at rest shows all its events.
-  pub stand_shows : (opening : Opening) (events : List Event) (members : MembersState) (placed : ℕ → List Placed) (disk : Disk tells tells_images) → Stands opening events members placed disk
+  pub stand_shows : (opening : Opening) (events : List Event) (vault : VaultState) (placed : ℕ → List Placed) (disk : Disk tells tells_images) → Stands opening events vault placed disk
       → (image : Image) → disk.now image → ShowsHistory opening events image
-  stand_shows opening events members placed disk stands image now =
-      shown_level opening events (record { config = members.config; text = opening.settings.text; placed = placed; table = members.table }) image holds
-      (stands_sound opening events members placed disk stands) refl stands.incidents_are stands.level
-      (All-weaker (λ m. HoldsHistory opening events members.config m (ring_of members m) (placed m) disk)
+  stand_shows opening events vault placed disk stands image now =
+      shown_level opening events (record { config = vault.config; text = opening.settings.text; placed = placed; table = vault.table }) image holds
+      (stands_sound opening events vault placed disk stands) refl stands.incidents_are stands.level
+      (All-weaker (λ m. HoldsHistory opening events vault.config m (ring_of vault m) (placed m) disk)
       (λ m. Retains (opening.settings.seconds m) (pins_on m (incidents opening events)) (given_with opening events m) (sequence.all_records (placed m))) (λ m h. h.retains) both stands.media)
     where
       told : tells
       told = (disk.shown (disk.told image now)).0
 
       long : Durable 1 disk
-      long = durable_at opening events members.config 1 members.long_term (placed 1) disk (stands.media 1 1 (omega arith))
+      long = durable_at opening events vault.config 1 vault.long_term (placed 1) disk (stands.media 1 1 (omega arith))
 
-      holds : HoldsContents image (record { config = members.config; text = opening.settings.text; placed = placed; table = members.table })
+      holds : HoldsContents image (record { config = vault.config; text = opening.settings.text; placed = placed; table = vault.table })
       holds = record {
-        media = All-weaker (λ m. HoldsHistory opening events members.config m (ring_of members m) (placed m) disk)
-            (λ m. IsMedium m members.config opening.settings.text (placed m) (content image m))
-            (λ m h. legible_at opening events members.config m (ring_of members m) (placed m) disk h image now) both stands.media;
-        table = subst (HoldsTable members.config.incident_slots members.table) (sym (long.each image now)) (stands.table told);
+        media = All-weaker (λ m. HoldsHistory opening events vault.config m (ring_of vault m) (placed m) disk)
+            (λ m. IsMedium m vault.config opening.settings.text (placed m) (content image m))
+            (λ m h. legible_at opening events vault.config m (ring_of vault m) (placed m) disk h image now) both stands.media;
+        table = subst (HoldsTable vault.config.incident_slots vault.table) (sym (long.each image now)) (stands.table told);
         there = stands.there;
       }
 
@@ -114,17 +114,17 @@ module _ {tells tells_images : Type 0} where
     unbroken = h.unbroken;
   }
 
-  pub stands_still : (opening : Opening) (events : List Event) (members : MembersState) (placed : ℕ → List Placed) (old new : Disk tells tells_images) → Unchanged old new
-      → Stands opening events members placed old → Stands opening events members placed new
-  stands_still opening events members placed old new same stands = record {
+  pub stands_still : (opening : Opening) (events : List Event) (vault : VaultState) (placed : ℕ → List Placed) (old new : Disk tells tells_images) → Unchanged old new
+      → Stands opening events vault placed old → Stands opening events vault placed new
+  stands_still opening events vault placed old new same stands = record {
     settings = stands.settings;
     working = stands.working;
-    media = All-weaker (λ m. HoldsHistory opening events members.config m (ring_of members m) (placed m) old) (λ m. HoldsHistory opening events members.config m (ring_of members m) (placed m) new)
-        (λ m h. history_still opening events members.config m (ring_of members m) (placed m) old new same h) both stands.media;
+    media = All-weaker (λ m. HoldsHistory opening events vault.config m (ring_of vault m) (placed m) old) (λ m. HoldsHistory opening events vault.config m (ring_of vault m) (placed m) new)
+        (λ m h. history_still opening events vault.config m (ring_of vault m) (placed m) old new same h) both stands.media;
     level = stands.level;
     incidents_are = stands.incidents_are;
     slots = stands.slots;
-    table = λ told. subst (λ (image : Image). HoldsTable members.config.incident_slots members.table (content image 1)) (sym (same.reads told)) (stands.table told);
+    table = λ told. subst (λ (image : Image). HoldsTable vault.config.incident_slots vault.table (content image 1)) (sym (same.reads told)) (stands.table told);
     there = stands.there;
     goes_on = stands.goes_on;
     newest = stands.newest;
@@ -165,12 +165,12 @@ module _ (opening : Opening) (events : List Event) (e : Event) (none : records_o
       unbroken = subst (IsUnbroken (opening.settings.seconds m)) (sym (same_given m)) h.unbroken;
     }
 
-    pub stands_silent : {tells tells_images : Type 0} (members : MembersState) (placed : ℕ → List Placed) (disk : Disk tells tells_images) → Stands opening events members placed disk → Stands opening (events ++ e ∷ []) members placed disk
-    stands_silent members placed disk stands = record {
+    pub stands_silent : {tells tells_images : Type 0} (vault : VaultState) (placed : ℕ → List Placed) (disk : Disk tells tells_images) → Stands opening events vault placed disk → Stands opening (events ++ e ∷ []) vault placed disk
+    stands_silent vault placed disk stands = record {
       settings = stands.settings;
       working = stands.working;
-      media = All-weaker (λ m. HoldsHistory opening events members.config m (ring_of members m) (placed m) disk) (λ m. HoldsHistory opening (events ++ e ∷ []) members.config m (ring_of members m) (placed m) disk)
-          (λ m h. history_silent members.config m (ring_of members m) (placed m) disk h) both stands.media;
+      media = All-weaker (λ m. HoldsHistory opening events vault.config m (ring_of vault m) (placed m) disk) (λ m. HoldsHistory opening (events ++ e ∷ []) vault.config m (ring_of vault m) (placed m) disk)
+          (λ m h. history_silent vault.config m (ring_of vault m) (placed m) disk h) both stands.media;
       level = stands.level;
       incidents_are = stands.incidents_are ∙ sym same_table;
       slots = stands.slots;

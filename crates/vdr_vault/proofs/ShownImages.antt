@@ -18,7 +18,7 @@ use Rattle.vdr_durability.proofs.Shows.{commit_shows, level_shows}
 use Rattle.vdr_outside.specs.Disk.{Image, content}
 use Rattle.vdr_config.specs.Configuration.{Configuration}
 use Rattle.vdr_config.specs.Sizes.{sizes_of}
-use Rattle.vdr_media.specs.Layout.{slot_count}
+use Rattle.vdr_terms.specs.Slots.{slot_count}
 use Rattle.vdr_ring.specs.Sequence.{Placed, all_records, batches_in, batches_of}
 use Rattle.vdr_ring.specs.Rings.{RingState, HoldsPlaced}
 use Rattle.vdr_ring.proofs.Medium.{in_order_records}

@@ -11,17 +11,14 @@ use Rattle.vdr_retention.specs.Victims.{ArePinsOf, SpansAtMost}
 use Rattle.vdr_retention.proofs.Lists.{all_from}
 use Rattle.vdr_durability.specs.Shown.{given_with, pins_of}
 use Rattle.vdr_durability.proofs.Shows.{OnSlot, pins_hold, slots_hold}
+use Rattle.vdr_durability.proofs.Shows.{slot_written as pins_written}
 use Rattle.vdr_outside.specs.Disk.{Disk}
 use Rattle.vdr_config.specs.Sizes.{sizes_of}
 use Rattle.vdr_ring.specs.Sequence.{Placed, all_records}
 use Rattle.vdr_ring.specs.Lookup.{HoldAll}
 use Rattle.vdr_opening.specs.Media.{AreThere}
-use Rattle.vdr_vault.specs.Vaults.{MembersState, Stands}
+use Rattle.vdr_vault.specs.Vaults.{VaultState, Stands}
 use Rattle.vdr_vault.proofs.SlotWritten.{IsWritten}
-
-pins_written : (P : Pin → Type 0) (table : List (Option Incident)) (id : ℕ) (slot : Option Incident) → OnSlot P slot → All P (pins_of table) → All P (pins_of (with_slot table id slot))
-pins_written P table zero slot here h = h
-pins_written P table (suc i) slot here h = pins_hold P (set table i slot) (All-set (OnSlot P) table i slot here (slots_hold P table h))
 
 there_written : (placed : List Placed) (table : List (Option Incident)) (id : ℕ) (slot : Option Incident) → IfSome slot (λ x. HoldAll x.a x.b placed) → AreThere table placed → AreThere (with_slot table id slot) placed
 there_written placed table zero slot here h = h
@@ -48,14 +45,14 @@ pub record MayStand (opening : Opening) (events : List Event) (seconds : ℕ) (p
   pub places : OnSlot (λ pin. HoldsPlaces (given_with opening events 1) (all_records placed) pin.a pin.b) slot
   pub short : OnSlot (λ pin. SpansAtMost seconds (at_places pin.a pin.b (all_records placed))) slot
 
-pub slot_written : {tells tells_images : Type 0} (opening : Opening) (events : List Event) (e : Event) (members : MembersState) (placed : ℕ → List Placed) (disk : Disk tells tells_images)
-    → Stands opening events members placed disk → (id : ℕ) (slot : Option Incident) → records_of_act e.act ≡ [] → incidents opening (events ++ e ∷ []) ≡ with_slot (incidents opening events) id slot
-    → MayStand opening events members.config.incident_seconds (placed 1) slot
-    → IsWritten opening events e members.config (placed 1) (with_slot members.table id slot)
-slot_written opening events e members placed disk stands id slot silent table may =
+pub slot_written : {tells tells_images : Type 0} (opening : Opening) (events : List Event) (e : Event) (vault : VaultState) (placed : ℕ → List Placed) (disk : Disk tells tells_images)
+    → Stands opening events vault placed disk → (id : ℕ) (slot : Option Incident) → records_of_act e.act ≡ [] → incidents opening (events ++ e ∷ []) ≡ with_slot (incidents opening events) id slot
+    → MayStand opening events vault.config.incident_seconds (placed 1) slot
+    → IsWritten opening events e vault.config (placed 1) (with_slot vault.table id slot)
+slot_written opening events e vault placed disk stands id slot silent table may =
     let long_term = stands.media 1 1 (omega arith) in
-    let same : with_slot members.table id slot ≡ with_slot (incidents opening events) id slot = ap (λ (t : List (Option Incident)). with_slot t id slot) stands.incidents_are in
-    subst (λ (t : List (Option Incident)). IsWritten opening events e members.config (placed 1) t) (sym same) (record {
+    let same : with_slot vault.table id slot ≡ with_slot (incidents opening events) id slot = ap (λ (t : List (Option Incident)). with_slot t id slot) stands.incidents_are in
+    subst (λ (t : List (Option Incident)). IsWritten opening events e vault.config (placed 1) t) (sym same) (record {
       silent = silent;
       table = table;
       size = size;
@@ -72,7 +69,7 @@ slot_written opening events e members placed disk stands id slot silent table ma
     Placed_there pin = HoldsPlaces (given_with opening events 1) (all_records (placed 1)) pin.a pin.b
 
     Short : Pin → Type 0
-    Short pin = SpansAtMost members.config.incident_seconds (at_places pin.a pin.b (all_records (placed 1)))
+    Short pin = SpansAtMost vault.config.incident_seconds (at_places pin.a pin.b (all_records (placed 1)))
 
-    size : length (with_slot (incidents opening events) id slot) ≡ members.config.incident_slots
+    size : length (with_slot (incidents opening events) id slot) ≡ vault.config.incident_slots
     size = size_written (incidents opening events) id slot ∙ ap length (sym stands.incidents_are) ∙ stands.slots

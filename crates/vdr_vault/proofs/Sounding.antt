@@ -25,9 +25,9 @@ use Rattle.vdr_ring.specs.Order.{AreInOrder}
 use Rattle.vdr_ring.specs.Regularity.{AreRegular}
 use Rattle.vdr_ring.proofs.Medium.{in_order_records}
 use Rattle.vdr_opening.specs.Media.{both, Contents, reading_of}
+use Rattle.vdr_opening.proofs.Meeting.{all_one}
 use Rattle.vdr_durability.specs.Soundness.{IsUnbroken}
 use Rattle.vdr_vault.specs.Regularity.{AreRegularMedia, AreSound, IsRegularMedium, IsUnbrokenMedium}
-use Rattle.vdr_vault.proofs.CommitMoments.{one}
 use Rattle.vdr_vault.proofs.ReconcileLayouts.{as_laid_out, laid_out, layout_of, paced_laid_out}
 use Rattle.vdr_vault.proofs.ReconcileShown.{capsule_restored, long_term_restored}
 use Rattle.vdr_vault.proofs.ShownImages.{has_capsule, has_long_term, records_are}
@@ -65,7 +65,7 @@ module _ (x : Contents) (first : IsRegularOn x.config (x.placed 0)) (second : Is
   pub passed_is_regular : (batch : List Record) → IsPassedOn both (0 ∷ []) (1 ∷ []) batch (reading_of x) → IsPaced (cost (sizes_of x.config)) x.config.batch (segments_in (x.placed 1)) batch
       → All Pinned both → AreRegularMedia x
   passed_is_regular batch passed paced pins = media_of (passed_regular (sizes_of x.config) both layout_at (reading_of x) (0 ∷ []) (1 ∷ []) batch passed as_read pins
-      (one (λ m. IsPaced (cost (sizes_of x.config)) x.config.batch (segments_of (layout_at m)) batch) 1 (paced_laid_out _ _ _ (x.placed 1) second batch paced)))
+      (all_one (λ m. IsPaced (cost (sizes_of x.config)) x.config.batch (segments_of (layout_at m)) batch) 1 (paced_laid_out _ _ _ (x.placed 1) second batch paced)))
 
 -- What is known of a medium by itself.
 pub record IsSoundAlone (c : Configuration) (m : ℕ) (placed : List Placed) (table : List (Option Incident)) (records : List Record) : Type 0 where

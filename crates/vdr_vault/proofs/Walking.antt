@@ -9,8 +9,8 @@ use Rattle.vdr_index.specs.Indexes.{span_as}
 use Rattle.vdr_survey.specs.declared.selection.Selection.{Selection}
 use Rattle.vdr_survey.specs.Selections.{is_selected}
 use Rattle.vdr_ring.specs.Sequence.{Placed, all_records}
-use Rattle.vdr_ring.specs.Cursors.{Visits}
-use Rattle.vdr_ring.specs.Cursors as visits
+use Rattle.vdr_ring.specs.Visits.{Visits}
+use Rattle.vdr_ring.specs.Visits as visits
 use Rattle.vdr_ring.specs.declared.refused.ReadRefused.{ReadRefused}
 use Rattle.vdr_ring.specs.declared.refused.ReadRefused.TheVariants.{Fault, Damaged}
 use Rattle.vdr_vault.specs.declared.cursor.Standing.{Standing}
@@ -23,7 +23,7 @@ found_behind s (r ∷ rs) ahead none =
     cond-false (is_selected s r) (r ∷ filter (is_selected s) (rs ++ ahead)) (filter (is_selected s) (rs ++ ahead)) (All-head (λ x. is_selected s x ≡ false) r rs none)
     ∙ found_behind s rs ahead (All-tail (λ x. is_selected s x ≡ false) r rs none)
 
-module _ (selection : Selection) (slots : Slots) (placed : List Placed) (s : Standing) (old : visits.CursorState) (new : CursorState) (here ahead passed records : List Record)
+module _ (selection : Selection) (slots : Slots) (placed : List Placed) (s : Standing) (old : visits.VisitState) (new : CursorState) (here ahead passed records : List Record)
     (within : IsWithin slots placed s old here ahead) (split : all_records placed ≡ passed ++ ahead) (found : records ≡ filter (is_selected selection) ahead) (stands : new.standing ≡ Some s) where
   -- these are in its slot now, and these are ahead
   moved : (more rest : List Record) → rest ≡ more ++ all_records within.later → visits.AreAhead (slots s.slot) placed s.slot new.visit more → IsWithin slots placed s new.visit more rest

@@ -14,7 +14,7 @@ use Rattle.vdr_config.specs.Sizes.{sizes_of}
 use Rattle.vdr_config.specs.Configuration.{Configuration}
 use Rattle.vdr_ring.specs.Sequence.{Placed, segments_in}
 use Rattle.vdr_opening.specs.Media.{both}
-use Rattle.vdr_vault.specs.Vaults.{MembersState, ShowsHistory, Stands}
+use Rattle.vdr_vault.specs.Vaults.{VaultState, ShowsHistory, Stands}
 
 -- The batch may come next on each medium.
 pub record MayCommit (opening : Opening) (events : List Event) (c : Configuration) (placed : ℕ → List Placed) (records : List Record) : Type 0 where
@@ -36,7 +36,7 @@ module _ {tells tells_images : Type 0} where
   -- At every moment a stop leaves media that show the events, or the events and this one; and after a success the vault stands
   -- with it, each medium with some of its batches and the new one.
   pub record Commits (opening : Opening) (events : List Event) (e : Event) (records : List Record) (placed : ℕ → List Placed)
-      (members : MembersState) (old new : Disk tells tells_images) (result : Result ⊤ Fault) : Type 0 where
+      (vault : VaultState) (old new : Disk tells tells_images) (result : Result ⊤ Fault) : Type 0 where
     pub moments : Extends (ShowsHistory opening) events e old new
-    pub done : OnOk result ((after : ℕ → List Placed) × Stands opening (events ++ e ∷ []) members after new
+    pub done : OnOk result ((after : ℕ → List Placed) × Stands opening (events ++ e ∷ []) vault after new
         × All (λ m. IsAppended (segments_in (placed m)) records (segments_in (after m))) both)

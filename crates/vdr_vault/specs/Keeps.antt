@@ -5,7 +5,7 @@ use Rattle.vdr_history.specs.Histories.{Event, Incident, Opening, live, with_slo
 use Rattle.vdr_durability.specs.Readings.{next_after}
 use Rattle.vdr_outside.specs.declared.media.Media.{Ghosts as MediaTells}
 use Rattle.vdr_outside.specs.Disk.{Disk, SameBut, Unchanged}
-use Rattle.vdr_ring.specs.Cursors.{IsLoaded}
+use Rattle.vdr_ring.specs.Visits.{IsLoaded}
 use Rattle.vdr_ring.specs.Rings.{RingState}
 use Rattle.vdr_ring.specs.Sequence.{Placed}
 use Rattle.vdr_ring.specs.declared.refused.ReadRefused.{ReadRefused}
@@ -14,7 +14,7 @@ use Rattle.vdr_incident.specs.declared.refused.ReleaseRefused.{ReleaseRefused}
 use Rattle.vdr_incident.specs.declared.refused.ReleaseRefused.TheVariants.{Fault as a_release_fault, NoSuch}
 use Rattle.vdr_vault.specs.declared.refused.SaveRefused.{SaveRefused}
 use Rattle.vdr_vault.specs.declared.refused.SaveRefused.TheVariants.{Damaged, Fault, Label, Nothing, TableFull}
-use Rattle.vdr_vault.specs.Vaults.{AreRings, IsReadable, MembersState, Stands, of_stamp, ring_of, tick_utc}
+use Rattle.vdr_vault.specs.Vaults.{AreRings, IsReadable, VaultState, Stands, of_stamp, ring_of, tick_utc}
 use Rattle.vdr_vault.specs.Calls.{HasVaultCause, SameElsewhere}
 use Rattle.vdr_vault.specs.Saves.{HasFaultOn, save_refusal}
 use Rattle.vdr_vault.specs.Walks.{CursorState, MayStep}
@@ -37,7 +37,7 @@ pub record FailsWhere (faulted : Type 0) (has_failed : Bool) : Type 0 where
   pub works : (faulted → ⊥) → has_failed ≡ false
 
 -- Next place and last record are those behind these records; where the call fails, they stay.
-pub record GoesOn {T E : Type 0} (old new : MembersState) (records : List Record) (result : Result T E) : Type 0 where
+pub record GoesOn {T E : Type 0} (old new : VaultState) (records : List Record) (result : Result T E) : Type 0 where
   -- after Ok the next place is behind them
   pub next_place : OnOk result (new.next_place ≡ next_after (last records))
   -- after Ok the last record is theirs
@@ -46,7 +46,7 @@ pub record GoesOn {T E : Type 0} (old new : MembersState) (records : List Record
   pub kept : OnErr result ((new.next_place ≡ old.next_place) × (new.last ≡ old.last))
 
 -- Configuration and incidents stay, and the rings are those of media of these sizes.
-pub record KeepsMembers (old new : MembersState) (sizes : List ℕ) : Type 0 where
+pub record KeepsVault (old new : VaultState) (sizes : List ℕ) : Type 0 where
   -- the configuration is as before
   pub config : new.config ≡ old.config
   -- the incidents are as before
@@ -55,7 +55,7 @@ pub record KeepsMembers (old new : MembersState) (sizes : List ℕ) : Type 0 whe
   pub rings : AreRings new sizes
 
 -- All that tells what was recorded stays, and the rings are those of media of these sizes.
-pub record KeepsHistory (old new : MembersState) (sizes : List ℕ) : Type 0 where
+pub record KeepsHistory (old new : VaultState) (sizes : List ℕ) : Type 0 where
   -- the next place is as before
   pub next_place : new.next_place ≡ old.next_place
   -- the last record is as before
@@ -90,16 +90,16 @@ pub record WritesToLongTerm {M : Type 0} (media : MediaTells M) (failed : Bool) 
   pub cause : HasFaultOn 1 failed (media.faults old) (media.faults new) faulted
 
 -- The first three refusals of a save, each exactly where it is due, leave all as it is, and so does a vault that a write had failed.
-pub record RefusesSave {S M : Type 0} (label : List ℕ) (members : MembersState) (old new : S) (before after : M) (result : Result ℕ SaveRefused) : Type 0 where
+pub record RefusesSave {S M : Type 0} (label : List ℕ) (vault : VaultState) (old new : S) (before after : M) (result : Result ℕ SaveRefused) : Type 0 where
   -- where a write had failed, a fault is answered and nothing is called
-  pub failed : members.failed ≡ true → (result ≡ Err Fault) × (new ≡ old) × (after ≡ before)
+  pub failed : vault.failed ≡ true → (result ≡ Err Fault) × (new ≡ old) × (after ≡ before)
   -- where a save is refused for its label, for want of records or of a free slot, that is answered and nothing is called
-  pub refused : (refused : SaveRefused) → members.failed ≡ false → save_refusal label members ≡ Some refused → (result ≡ Err refused) × (new ≡ old) × (after ≡ before)
+  pub refused : (refused : SaveRefused) → vault.failed ≡ false → save_refusal label vault ≡ Some refused → (result ≡ Err refused) × (new ≡ old) × (after ≡ before)
   -- and it is answered only there
-  pub reason : (refused : SaveRefused) → result ≡ Err refused → (refused ≡ Label) ⊎ ((refused ≡ Nothing) ⊎ (refused ≡ TableFull)) → (members.failed ≡ false) × (save_refusal label members ≡ Some refused)
+  pub reason : (refused : SaveRefused) → result ≡ Err refused → (refused ≡ Label) ⊎ ((refused ≡ Nothing) ⊎ (refused ≡ TableFull)) → (vault.failed ≡ false) × (save_refusal label vault ≡ Some refused)
 
 -- The save is in the table under its id, and where it is refused the table stays.
-pub record PutsIncident (label : List ℕ) (old : MembersState) (table_now : List (Option Incident)) (result : Result ℕ SaveRefused) : Type 0 where
+pub record PutsIncident (label : List ℕ) (old : VaultState) (table_now : List (Option Incident)) (result : Result ℕ SaveRefused) : Type 0 where
   -- the id is that of the free slot of least index
   pub id : IfOk result (λ id. option_map suc (position is_none old.table) ≡ Some id)
   -- the table has the save under its id: its label, its last place and its stamp
@@ -109,13 +109,13 @@ pub record PutsIncident (label : List ℕ) (old : MembersState) (table_now : Lis
   pub kept : OnErr result (table_now ≡ old.table)
 
 -- A release is refused exactly where no live save has this id; it leaves all as it is, and so does a vault that a write had failed.
-pub record RefusesRelease {T S M : Type 0} (id : ℕ) (members : MembersState) (old new : S) (before after : M) (result : Result T ReleaseRefused) : Type 0 where
+pub record RefusesRelease {T S M : Type 0} (id : ℕ) (vault : VaultState) (old new : S) (before after : M) (result : Result T ReleaseRefused) : Type 0 where
   -- where a write had failed, a fault is answered and nothing is called
-  pub failed : members.failed ≡ true → (result ≡ Err a_release_fault) × (new ≡ old) × (after ≡ before)
+  pub failed : vault.failed ≡ true → (result ≡ Err a_release_fault) × (new ≡ old) × (after ≡ before)
   -- where no live save has the id, that is answered and nothing is called
-  pub refused : members.failed ≡ false → live members.table id ≡ None → (result ≡ Err NoSuch) × (new ≡ old) × (after ≡ before)
+  pub refused : vault.failed ≡ false → live vault.table id ≡ None → (result ≡ Err NoSuch) × (new ≡ old) × (after ≡ before)
   -- and it is answered only there
-  pub reason : result ≡ Err NoSuch → (members.failed ≡ false) × (live members.table id ≡ None)
+  pub reason : result ≡ Err NoSuch → (vault.failed ≡ false) × (live vault.table id ≡ None)
 
 -- The slot of the id is free, and where the call fails the table stays.
 pub record FreesSlot {T E : Type 0} (id : ℕ) (old new : List (Option Incident)) (result : Result T E) : Type 0 where
@@ -132,9 +132,9 @@ pub record StandsAfter (ring : RingState) (cursor : CursorState) (result : Resul
   pub may : MayStep ring cursor
 
 -- A step of a play on medium m keeps the vault over its media, whatever it answers.
-pub record KeepsPlayed {M : Type 0} (media : MediaTells M) (m : ℕ) (old new : MembersState) (before after : M) : Type 0 where
+pub record KeepsPlayed {M : Type 0} (media : MediaTells M) (m : ℕ) (old new : VaultState) (before after : M) : Type 0 where
   -- only the buffer of the ring on medium m may have changed
-  pub members : ReadsOn m old new
+  pub vault : ReadsOn m old new
   -- each ring is its medium's
   pub rings : AreRings new (media.disk after).sizes
   -- a vault that stood over its media still does
@@ -145,7 +145,7 @@ pub record KeepsPlayed {M : Type 0} (media : MediaTells M) (m : ℕ) (old new : 
   pub unchanged : Unchanged (media.disk before) (media.disk after)
 
 -- It reads medium m alone, and an error has its cause.
-pub record ReadsForPlay {M : Type 0} (media : MediaTells M) (m : ℕ) (old new : MembersState) (before after : M) (result : Result Bool ReadRefused) : Type 0 where
+pub record ReadsForPlay {M : Type 0} (media : MediaTells M) (m : ℕ) (old new : VaultState) (before after : M) (result : Result Bool ReadRefused) : Type 0 where
   -- where a write had failed, a fault is answered and nothing is called
   pub failed : old.failed ≡ true → (result ≡ Err a_read_fault) × (new ≡ old) × (after ≡ before)
   -- no byte of another medium was read
@@ -157,7 +157,7 @@ pub record ReadsForPlay {M : Type 0} (media : MediaTells M) (m : ℕ) (old new :
 
 module _ {tells tells_images : Type 0} where
   -- Damage that a save meets: media that hold what was recorded have none, and of others nothing was written.
-  pub record MeetsDamage (old new : MembersState) (before after : Disk tells tells_images) (result : Result ℕ SaveRefused) : Type 0 where
+  pub record MeetsDamage (old new : VaultState) (before after : Disk tells tells_images) (result : Result ℕ SaveRefused) : Type 0 where
     -- media that hold what was recorded have no damage
     pub undamaged : (opening : Opening) (events : List Event) (placed : ℕ → List Placed) (m offset : ℕ) → tells → Stands opening events old placed before → result ≡ Err (Damaged m offset) → ⊥
     -- a vault that stood over them still does

@@ -16,12 +16,12 @@ use Rattle.vdr_opening.specs.declared.refused.OpenRefused.TheVariants.{Damaged, 
 use Rattle.vdr_opening.specs.Media.{both, Contents, HoldsContents, IsMedium, opening_of, reading_of}
 use Rattle.vdr_opening.specs.Refusals.{IsRefused}
 use Rattle.vdr_opening.specs.Answers.{HasOpenCause, IsMissing, OpenedState}
-use Rattle.vdr_vault.specs.Vaults.{AreRings, IsReadable, MembersState, ShowsHistory, Stands, of_stamp, tick_utc}
+use Rattle.vdr_vault.specs.Vaults.{AreRings, IsReadable, VaultState, ShowsHistory, Stands, of_stamp, tick_utc}
 use Rattle.vdr_vault.specs.Regularity.{AreSound}
 
 -- What was read, as the vault that is made of it and the batch that the long-term medium lacks.
-abbrev pub opened_with : MembersState → List Record → OpenedState
-opened_with members missing = record { config = members.config; capsule = members.capsule; long_term = members.long_term; table = members.table; missing = missing }
+abbrev pub opened_with : VaultState → List Record → OpenedState
+opened_with vault missing = record { config = vault.config; capsule = vault.capsule; long_term = vault.long_term; table = vault.table; missing = missing }
 
 -- No count of faults falls, and an error comes only where that of one of the media rose, and so their sum.
 pub record HasCauseOnBoth {T E : Type 0} (before now : List ℕ) (result : Result T E) : Type 0 where
@@ -30,9 +30,9 @@ pub record HasCauseOnBoth {T E : Type 0} (before now : List ℕ) (result : Resul
   pub in_all : OnErr result (Rose (sum before) (sum now))
 
 -- The vault goes on behind the capsule's last record.
-pub record GoesOnBehind (x : Contents) (members : MembersState) : Type 0 where
-  pub place : members.next_place ≡ next_after (last (all_records (x.placed 0)))
-  pub newest : members.last ≡ option_map tick_utc (last (all_records (x.placed 0)))
+pub record GoesOnBehind (x : Contents) (vault : VaultState) : Type 0 where
+  pub place : vault.next_place ≡ next_after (last (all_records (x.placed 0)))
+  pub newest : vault.last ≡ option_map tick_utc (last (all_records (x.placed 0)))
 
 -- Of media with these contents, sound or not, nothing else was written than the batch that the long-term medium lacks: that has whole
 -- batches of before, all but those of one segment at the most, with the missing one behind them or without.
@@ -74,25 +74,25 @@ module _ {tells tells_images : Type 0} where
     pub missing : EndsMeet both (reading_of x) → AtEachMoment old new (λ i. old.now i ⊎ EndsWithin x i)
 
   -- While the missing batch is appended a stop leaves media that show what was opened, and then the vault stands over it.
-  pub record Reconciles (x : Contents) (members : MembersState) (old new : Disk tells tells_images) (result : Result ⊤ Fault) : Type 0 where
+  pub record Reconciles (x : Contents) (vault : VaultState) (old new : Disk tells tells_images) (result : Result ⊤ Fault) : Type 0 where
     pub moments : AtEachMoment old new (ShowsHistory (opening_of x) [])
-    pub done : OnOk result ((placed : ℕ → List Placed) × Stands (opening_of x) [] members placed new)
+    pub done : OnOk result ((placed : ℕ → List Placed) × Stands (opening_of x) [] vault placed new)
 
   -- The vault that was opened, and what the media hold of it. They were formatted and legible, and where they are sound it stands.
-  pub record OpensMembers (result : Result MembersState OpenRefused) (old new : Disk tells tells_images) : Type 0 where
+  pub record OpensVault (result : Result VaultState OpenRefused) (old new : Disk tells tells_images) : Type 0 where
     -- where the media are sound the vault stands on them
-    pub opened : IfOk result (λ members. (x : Contents) → tells → HoldsContents old.reads x → AreSound x → (placed : ℕ → List Placed) × Stands (opening_of x) [] members placed new)
+    pub opened : IfOk result (λ vault. (x : Contents) → tells → HoldsContents old.reads x → AreSound x → (placed : ℕ → List Placed) × Stands (opening_of x) [] vault placed new)
     -- the media were formatted, and what the vault tells is what they hold
-    pub contents : IfOk result (λ members. tells → IsFormatted old.reads × (x : Contents) × HoldsContents old.reads x
-        × EndsMeet both (reading_of x) × (members.config ≡ x.config) × (members.table ≡ x.table) × (members.last ≡ option_map of_stamp (opening_of x).last))
+    pub contents : IfOk result (λ vault. tells → IsFormatted old.reads × (x : Contents) × HoldsContents old.reads x
+        × EndsMeet both (reading_of x) × (vault.config ≡ x.config) × (vault.table ≡ x.table) × (vault.last ≡ option_map of_stamp (opening_of x).last))
     -- the next place is that of what they hold
-    pub place : IfOk result (λ members. (x : Contents) → tells → HoldsContents old.reads x → members.next_place ≡ (opening_of x).next_place)
+    pub place : IfOk result (λ vault. (x : Contents) → tells → HoldsContents old.reads x → vault.next_place ≡ (opening_of x).next_place)
     -- where both end with the last batch the vault can be read
-    pub readable : IfOk result (λ members. (x : Contents) → tells → HoldsContents old.reads x → AreLevel both (reading_of x) → IsReadable (opening_of x) [] members x.placed new)
+    pub readable : IfOk result (λ vault. (x : Contents) → tells → HoldsContents old.reads x → AreLevel both (reading_of x) → IsReadable (opening_of x) [] vault x.placed new)
     -- no write has failed
-    pub works : IfOk result (λ members. members.failed ≡ false)
+    pub works : IfOk result (λ vault. vault.failed ≡ false)
     -- each ring is its medium's
-    pub rings : IfOk result (λ members. AreRings members new.sizes)
+    pub rings : IfOk result (λ vault. AreRings vault new.sizes)
 
   -- The media were not formatted, or this is the first part that is not legal, and nothing was written.
   pub record RefusesMedia {T : Type 0} (result : Result T OpenRefused) (old new : Disk tells tells_images) : Type 0 where

@@ -13,24 +13,24 @@ use Rattle.vdr_ring.specs.Sequence.{Placed, all_records}
 use Rattle.vdr_ring.specs.Rings.{RingState}
 use Rattle.vdr_ring.specs.declared.refused.ReadRefused.{ReadRefused}
 use Rattle.vdr_ring.specs.declared.refused.ReadRefused.TheVariants.{Fault}
-use Rattle.vdr_vault.specs.Vaults.{MembersState, ring_of}
+use Rattle.vdr_vault.specs.Vaults.{VaultState, ring_of}
 use Rattle.vdr_vault.specs.Walks.{CursorState, AreLeft, slots_read}
 
 -- What a query's medium comes to, by the segments of the media: the seconds up to the last record's, or an incident's places.
-abbrev pub span_in : MembersState → (placed : ℕ → List Placed) → Medium → Option Span
-span_in members placed (WindowOf m) = option_map (λ r. Window (second r.tick) (window_of members.config m)) (last (all_records (placed m)))
-span_in members placed (Incident id) = option_map (λ incident. Places incident.a incident.b) (live members.table id)
+abbrev pub span_in : VaultState → (placed : ℕ → List Placed) → Medium → Option Span
+span_in vault placed (WindowOf m) = option_map (λ r. Window (second r.tick) (window_of vault.config m)) (last (all_records (placed m)))
+span_in vault placed (Incident id) = option_map (λ incident. Places incident.a incident.b) (live vault.table id)
 
 -- The ring that a query reads.
-abbrev pub ring_for : MembersState → Query → RingState
-ring_for members query = ring_of members (medium_of query.medium)
+abbrev pub ring_for : VaultState → Query → RingState
+ring_for vault query = ring_of vault (medium_of query.medium)
 
 -- The vault with this ring on medium m.
-abbrev pub with_ring : ℕ → RingState → MembersState → MembersState
-with_ring m ring members = if m == 0 then record members { capsule = ring } else record members { long_term = ring }
+abbrev pub with_ring : ℕ → RingState → VaultState → VaultState
+with_ring m ring vault = if m == 0 then record vault { capsule = ring } else record vault { long_term = ring }
 
 -- Only the buffer of the ring on medium m may have changed.
-abbrev pub ReadsOn : ℕ → (old new : MembersState) → Type 0
+abbrev pub ReadsOn : ℕ → (old new : VaultState) → Type 0
 ReadsOn m old new = new ≡ with_ring m (record (ring_of old m) { buffer = (ring_of new m).buffer; loaded = (ring_of new m).loaded }) old
 
 -- No count of faults falls. A fault comes where a write had failed before, and else only where the count of medium m rose, and
@@ -46,6 +46,6 @@ ReadsNoOther m before now = (k : ℕ) → k ≢ m → get_or now k 0 ≡ get_or 
 
 module _ {tells tells_images : Type 0} where
   -- These records are still to come of what the query selects.
-  abbrev pub AreToCome : Query → MembersState → (placed : ℕ → List Placed) → Disk tells tells_images → CursorState → List Record → Type 0
-  AreToCome query members placed disk c records =
-      AreLeft (slots_read (ring_for members query) disk) (placed (medium_of query.medium)) query (span_in members placed query.medium) c records
+  abbrev pub AreToCome : Query → VaultState → (placed : ℕ → List Placed) → Disk tells tells_images → CursorState → List Record → Type 0
+  AreToCome query vault placed disk c records =
+      AreLeft (slots_read (ring_for vault query) disk) (placed (medium_of query.medium)) query (span_in vault placed query.medium) c records

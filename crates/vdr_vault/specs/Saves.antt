@@ -8,7 +8,7 @@ use Rattle.vdr_history.specs.Histories.Act.{Save}
 use Rattle.vdr_durability.specs.Keeping.{Extends}
 use Rattle.vdr_outside.specs.Causes.{NoneFalls, Rose}
 use Rattle.vdr_outside.specs.Disk.{Disk}
-use Rattle.vdr_incident.specs.Saves.{is_label}
+use Rattle.vdr_terms.specs.Texts.{is_label}
 use Rattle.vdr_incident.specs.declared.refused.TableRefused.{TableRefused}
 use Rattle.vdr_incident.specs.declared.refused.TableRefused.TheVariants as tables
 use Rattle.vdr_ring.specs.Sequence.{Placed, all_records}
@@ -16,7 +16,7 @@ use Rattle.vdr_ring.specs.declared.refused.ReadRefused.{ReadRefused}
 use Rattle.vdr_ring.specs.declared.refused.ReadRefused.TheVariants as reads
 use Rattle.vdr_vault.specs.declared.refused.SaveRefused.{SaveRefused}
 use Rattle.vdr_vault.specs.declared.refused.SaveRefused.TheVariants.{Label, Nothing, TableFull, Damaged, Fault}
-use Rattle.vdr_vault.specs.Vaults.{MembersState, ShowsHistory, Stands}
+use Rattle.vdr_vault.specs.Vaults.{VaultState, ShowsHistory, Stands}
 
 -- What is answered where a read is refused.
 abbrev pub refusal_by : ReadRefused → SaveRefused
@@ -35,8 +35,8 @@ refusal_from true None free = Some Nothing
 refusal_from true (Some stamp) None = Some TableFull
 refusal_from true (Some stamp) (Some slot) = None
 
-abbrev pub save_refusal : List ℕ → MembersState → Option SaveRefused
-save_refusal label members = refusal_from (is_label label) members.last (position is_none members.table)
+abbrev pub save_refusal : List ℕ → VaultState → Option SaveRefused
+save_refusal label vault = refusal_from (is_label label) vault.last (position is_none vault.table)
 
 -- The place of the first record in the window of so many seconds.
 abbrev pub first_in_window : ℕ → List Record → Option ℕ
@@ -52,17 +52,17 @@ pub record HasFaultOn (m : ℕ) (failed : Bool) (before now : List ℕ) (faulted
 module _ {tells tells_images : Type 0} where
   -- A call on media that have these segments: at every moment a stop leaves media that show the events, or the events and this
   -- one; and after a success the vault stands with it.
-  pub record Does {T E : Type 0} (opening : Opening) (events : List Event) (e : Event) (placed : ℕ → List Placed) (members : MembersState)
+  pub record Does {T E : Type 0} (opening : Opening) (events : List Event) (e : Event) (placed : ℕ → List Placed) (vault : VaultState)
       (old new : Disk tells tells_images) (result : Result T E) : Type 0 where
     pub moments : Extends (ShowsHistory opening) events e old new
-    pub done : OnOk result (Stands opening (events ++ e ∷ []) members placed new)
+    pub done : OnOk result (Stands opening (events ++ e ∷ []) vault placed new)
 
   -- A save under the least free id, of the records in the window of an incident's seconds up to the last one.
-  pub record Saves (opening : Opening) (events : List Event) (label : List ℕ) (placed : ℕ → List Placed) (members : MembersState)
+  pub record Saves (opening : Opening) (events : List Event) (label : List ℕ) (placed : ℕ → List Placed) (vault : VaultState)
       (old new : Disk tells tells_images) (result : Result ℕ SaveRefused) : Type 0 where
     pub id : ℕ
     pub a : ℕ
     pub b : ℕ
     pub may_come : MayCome opening events (Save id label a b)
     pub told : IfOk result (λ told. told ≡ id)
-    pub does : (e : Event) → e.act ≡ Save id label a b → Does opening events e placed members old new result
+    pub does : (e : Event) → e.act ≡ Save id label a b → Does opening events e placed vault old new result

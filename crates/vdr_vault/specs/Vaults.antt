@@ -25,7 +25,7 @@ use Rattle.vdr_opening.specs.Answers.{IsRingOf}
 
 -- A vault without its media: the configuration, a ring on each medium, the incidents, the next place with tick and utc of the
 -- last record, and whether a write has failed. After a fault place and record are those before the batch that met it.
-pub record MembersState : Type 0 where
+pub record VaultState : Type 0 where
   pub config : Configuration
   pub capsule : RingState
   pub long_term : RingState
@@ -42,20 +42,20 @@ abbrev pub of_stamp : Stamp → ℕ × ℤ
 of_stamp s = (s.tick, s.utc)
 
 -- The same, as if no write had failed.
-abbrev pub working : MembersState → MembersState
-working members = record members { failed = false }
+abbrev pub working : VaultState → VaultState
+working vault = record vault { failed = false }
 
 -- And as if this were the last record.
-abbrev pub working_from : Option Record → MembersState → MembersState
-working_from newest members = record members { next_place = next_after newest; last = option_map tick_utc newest; failed = false }
+abbrev pub working_from : Option Record → VaultState → VaultState
+working_from newest vault = record vault { next_place = next_after newest; last = option_map tick_utc newest; failed = false }
 
 -- The ring on medium m.
-abbrev pub ring_of : MembersState → ℕ → RingState
-ring_of members m = if m == 0 then members.capsule else members.long_term
+abbrev pub ring_of : VaultState → ℕ → RingState
+ring_of vault m = if m == 0 then vault.capsule else vault.long_term
 
 -- Each ring is its medium's.
-abbrev pub AreRings : MembersState → (sizes : List ℕ) → Type 0
-AreRings members sizes = All (λ m. IsRingOf members.config sizes m (ring_of members m)) both
+abbrev pub AreRings : VaultState → (sizes : List ℕ) → Type 0
+AreRings vault sizes = All (λ m. IsRingOf vault.config sizes m (ring_of vault m)) both
 
 -- What the segments of both media read as.
 abbrev pub reading_with : (text : List ℕ) (placed : ℕ → List Placed) (table : List (Option Incident)) → Reading
@@ -90,24 +90,24 @@ module _ {tells tells_images : Type 0} where
     pub retains : Retains (opening.settings.seconds m) (pins_on m (incidents opening events)) (given_with opening events m) (all_records placed)
 
   -- A vault whose media can be read as what these events left, regular or not.
-  pub record IsReadable (opening : Opening) (events : List Event) (members : MembersState) (placed : ℕ → List Placed) (disk : Disk tells tells_images) : Type 0 where
-    pub settings : opening.settings ≡ settings_of members.config opening.settings.text
-    pub working : members.failed ≡ false
-    pub media : All (λ m. IsReadableAt opening events m (ring_of members m) (placed m) disk) both
-    pub incidents_are : members.table ≡ incidents opening events
+  pub record IsReadable (opening : Opening) (events : List Event) (vault : VaultState) (placed : ℕ → List Placed) (disk : Disk tells tells_images) : Type 0 where
+    pub settings : opening.settings ≡ settings_of vault.config opening.settings.text
+    pub working : vault.failed ≡ false
+    pub media : All (λ m. IsReadableAt opening events m (ring_of vault m) (placed m) disk) both
+    pub incidents_are : vault.table ≡ incidents opening events
 
   -- A vault at rest after these events: nothing is unsynced, both media end with the last batch, and all that was recorded and
   -- saved stands on them as far as it is to be retained.
-  pub record Stands (opening : Opening) (events : List Event) (members : MembersState) (placed : ℕ → List Placed) (disk : Disk tells tells_images) : Type 0 where
-    pub settings : opening.settings ≡ settings_of members.config opening.settings.text
-    pub working : members.failed ≡ false
-    pub media : All (λ m. HoldsHistory opening events members.config m (ring_of members m) (placed m) disk) both
-    pub level : AreLevel both (reading_with opening.settings.text placed members.table)
-    pub incidents_are : members.table ≡ incidents opening events
-    pub slots : length members.table ≡ members.config.incident_slots
-    pub table : tells → HoldsTable members.config.incident_slots members.table (content disk.reads 1)
-    pub there : AreThere members.table (placed 1)
-    pub goes_on : members.next_place ≡ next_place opening events
-    pub newest : members.last ≡ option_map of_stamp (last_stamp opening events)
+  pub record Stands (opening : Opening) (events : List Event) (vault : VaultState) (placed : ℕ → List Placed) (disk : Disk tells tells_images) : Type 0 where
+    pub settings : opening.settings ≡ settings_of vault.config opening.settings.text
+    pub working : vault.failed ≡ false
+    pub media : All (λ m. HoldsHistory opening events vault.config m (ring_of vault m) (placed m) disk) both
+    pub level : AreLevel both (reading_with opening.settings.text placed vault.table)
+    pub incidents_are : vault.table ≡ incidents opening events
+    pub slots : length vault.table ≡ vault.config.incident_slots
+    pub table : tells → HoldsTable vault.config.incident_slots vault.table (content disk.reads 1)
+    pub there : AreThere vault.table (placed 1)
+    pub goes_on : vault.next_place ≡ next_place opening events
+    pub newest : vault.last ≡ option_map of_stamp (last_stamp opening events)
     pub place : next_place opening events ≡ next_after (last (all_records (placed 0)))
     pub stamp : last_stamp opening events ≡ stamp_of (last (all_records (placed 0))) None

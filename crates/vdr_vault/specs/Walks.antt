@@ -7,8 +7,8 @@ use Rattle.vdr_outside.specs.Causes.{NoneFalls}
 use Rattle.vdr_outside.specs.Disk.{Disk, Unchanged}
 use Rattle.vdr_ring.specs.Sequence.{Placed, seq_of, all_records}
 use Rattle.vdr_ring.specs.Rings.{RingState, Reads}
-use Rattle.vdr_ring.specs.Cursors.{StandsIn, IsLoaded, slot_read}
-use Rattle.vdr_ring.specs.Cursors as visits
+use Rattle.vdr_ring.specs.Visits.{StandsIn, IsLoaded, slot_read}
+use Rattle.vdr_ring.specs.Visits as visits
 use Rattle.vdr_ring.specs.declared.refused.ReadRefused.{ReadRefused}
 use Rattle.vdr_ring.specs.declared.refused.ReadRefused.TheVariants.{Fault, Damaged}
 use Rattle.vdr_vault.specs.declared.cursor.Standing.{Standing}
@@ -16,7 +16,7 @@ use Rattle.vdr_vault.specs.declared.cursor.Standing.{Standing}
 -- The segment in which a cursor stands, if any, and a cursor of the ring there.
 pub record CursorState : Type 0 where
   pub standing : Option Standing
-  pub visit : visits.CursorState
+  pub visit : visits.VisitState
 
 -- The cursor may step on this ring: its slot is one of the ring's, and it stands rightly in the slot that is loaded.
 pub record MayStep (ring : RingState) (c : CursorState) : Type 0 where
@@ -28,7 +28,7 @@ abbrev pub Slots : Type 0
 Slots = ℕ → List ℕ
 
 -- The cursor stands in one of these segments, and ahead are these records in it and then those of the later segments.
-pub record IsWithin (slots : Slots) (placed : List Placed) (s : Standing) (visit : visits.CursorState) (here ahead : List Record) : Type 0 where
+pub record IsWithin (slots : Slots) (placed : List Placed) (s : Standing) (visit : visits.VisitState) (here ahead : List Record) : Type 0 where
   pub before : List Placed
   pub own : Placed
   pub later : List Placed
@@ -39,7 +39,7 @@ pub record IsWithin (slots : Slots) (placed : List Placed) (s : Standing) (visit
   pub are : ahead ≡ here ++ all_records later
 
 -- A cursor that stands in no segment has all records ahead.
-abbrev pub IsBefore : Slots → List Placed → Option Standing → visits.CursorState → List Record → Type 0
+abbrev pub IsBefore : Slots → List Placed → Option Standing → visits.VisitState → List Record → Type 0
 IsBefore slots placed None visit ahead = ahead ≡ all_records placed
 IsBefore slots placed (Some s) visit ahead = (here : List Record) × IsWithin slots placed s visit here ahead
 
@@ -50,7 +50,7 @@ pub record AreAhead (slots : Slots) (placed : List Placed) (c : CursorState) (ah
   pub from : IsBefore slots placed c.standing c.visit ahead
 
 -- None of them is in the segment in which it stands.
-abbrev pub IsBehind : Slots → List Placed → Option Standing → visits.CursorState → List Record → Type 0
+abbrev pub IsBehind : Slots → List Placed → Option Standing → visits.VisitState → List Record → Type 0
 IsBehind slots placed None visit ahead = ahead ≡ all_records placed
 IsBehind slots placed (Some s) visit ahead = IsWithin slots placed s visit [] ahead
 

@@ -7,14 +7,14 @@ ghost use Rattle.vdr_history.specs.Taken.{Captured};
 ghost use Rattle.vdr_ring.specs.Sequence.{Placed};
 ghost use Rattle.vdr_vault.specs.Vaults.{AreRings, Stands, working, working_from};
 ghost use Rattle.vdr_vault.specs.Calls.{Commits, HasVaultCause, MayCommit, SameElsewhere};
-ghost use Rattle.vdr_vault.specs.Keeps.{GoesOn, KeepsMembers, StopsAtFault, WritesToBoth};
+ghost use Rattle.vdr_vault.specs.Keeps.{GoesOn, KeepsVault, StopsAtFault, WritesToBoth};
 
-use crate::Members;
+use crate::Vault;
 use vdr_entry::Record;
 use vdr_outside::{Fault, Media};
 use vdr_ring::Pins;
 
-impl Members {
+impl Vault {
     // Appends the batch to the capsule, and then to the long-term medium, which keeps the live saves.
     fn append_to_both<M: Media>(&mut self, media: &mut M, records: &[Record]) -> Result<(), Fault>
         requires rings { AreRings self.old (M.disk media.old).sizes }
@@ -26,7 +26,7 @@ impl Members {
         ensures failed { self.new.failed ≡ self.old.failed }
         ensures next_place { self.new.next_place ≡ self.old.next_place }
         ensures last { self.new.last ≡ self.old.last }
-        ensures keeps { KeepsMembers self.old self.new (M.disk media.new).sizes }
+        ensures keeps { KeepsVault self.old self.new (M.disk media.new).sizes }
         ensures others { M.tells → SameElsewhere (M.disk media.old).reads (M.disk media.new).reads }
         ensures sizes { (M.disk media.new).sizes ≡ (M.disk media.old).sizes }
         ensures counts { M.bytes_read media.new ≡ M.bytes_read media.old }
@@ -54,7 +54,7 @@ impl Members {
             → Commits opening events e records.now placed self.new (M.disk media.old) (M.disk media.new) result }
         ensures failing { StopsAtFault self.old.failed self.new.failed self.old self.new media.old media.new result }
         ensures goes_on { GoesOn self.old self.new records.now result }
-        ensures keeps { KeepsMembers self.old self.new (M.disk media.new).sizes }
+        ensures keeps { KeepsVault self.old self.new (M.disk media.new).sizes }
         ensures writes { WritesToBoth M.Media self.old.failed media.old media.new result }
     {
         if self.failed {

@@ -5,7 +5,7 @@ ghost use Rattle.vdr_ring.specs.Sequence.{Placed, all_records, records_of};
 ghost use Rattle.vdr_ring.specs.Order.{AreInOrder};
 ghost use Rattle.vdr_ring.specs.Rings.{HasMedium, Reads, Tells};
 ghost use Rattle.vdr_ring.specs.Lookup.{AreEarlier, IsFirstSince};
-ghost use Rattle.vdr_ring.specs.Cursors.{IsLoaded};
+ghost use Rattle.vdr_ring.specs.Visits.{IsLoaded};
 ghost use Rattle.vdr_ring.specs.declared.refused.ReadRefused.TheVariants.{Fault as AFault, Damaged};
 ghost use Rattle.vdr_entry.specs.Queries.{asked};
 ghost use Rattle.vdr_index.specs.Indexes.{span_as};
@@ -14,7 +14,7 @@ ghost use Rattle.vdr_vault.specs.Walks.{AreAhead, AreLeft, AreLeftBehind, Counts
 use std::marker::Model;
 use vdr_entry::Record;
 use vdr_outside::Media;
-use vdr_ring::{Cursor as Visit, ReadRefused, Ring};
+use vdr_ring::{ReadRefused, Ring, Visit};
 use vdr_survey::Selection;
 
 // The segment in which a cursor stands.

@@ -6,20 +6,20 @@ ghost use Rattle.vdr_config.specs.Configuration.{Configuration};
 ghost use Rattle.vdr_ring.specs.Sequence.{Placed};
 ghost use Rattle.vdr_opening.specs.Media.{Contents, HoldsContents, both, nothing_on, reading_of};
 ghost use Rattle.vdr_vault.specs.Regularity.{AreSound};
-ghost use Rattle.vdr_vault.specs.Vaults.{MembersState, ShowsHistory, Stands};
+ghost use Rattle.vdr_vault.specs.Vaults.{VaultState, ShowsHistory, Stands};
 
 use vdr_outside::Media;
 
 /// What a stop may leave of a vault at rest shows all its events. It stands on over calls that only read, and with an event that
 /// records nothing and changes no incident.
 pub fn law_of_vaults<M: Media>(old: &M, new: &M)
-    ensures shows { (opening : Opening) (events : List Event) (members : MembersState) (placed : ℕ → List Placed) → Stands opening events members placed (M.disk new.now)
+    ensures shows { (opening : Opening) (events : List Event) (vault : VaultState) (placed : ℕ → List Placed) → Stands opening events vault placed (M.disk new.now)
         → (image : Image) → (M.disk new.now).now image → ShowsHistory opening events image }
-    ensures still { (opening : Opening) (events : List Event) (members : MembersState) (placed : ℕ → List Placed) → Unchanged (M.disk old.now) (M.disk new.now)
-        → Stands opening events members placed (M.disk old.now) → Stands opening events members placed (M.disk new.now) }
-    ensures silent { (opening : Opening) (events : List Event) (e : Event) (members : MembersState) (placed : ℕ → List Placed) → records_of_act e.act ≡ []
+    ensures still { (opening : Opening) (events : List Event) (vault : VaultState) (placed : ℕ → List Placed) → Unchanged (M.disk old.now) (M.disk new.now)
+        → Stands opening events vault placed (M.disk old.now) → Stands opening events vault placed (M.disk new.now) }
+    ensures silent { (opening : Opening) (events : List Event) (e : Event) (vault : VaultState) (placed : ℕ → List Placed) → records_of_act e.act ≡ []
         → table_after (all_records opening 1 events) (incidents opening events) e.act ≡ incidents opening events
-        → Stands opening events members placed (M.disk new.now) → Stands opening (events ++ e ∷ []) members placed (M.disk new.now) }
+        → Stands opening events vault placed (M.disk new.now) → Stands opening (events ++ e ∷ []) vault placed (M.disk new.now) }
 {}
 
 /// Media that were just formatted are sound. Soundness is a fact of an image: of what it holds, all is sound or nothing is.

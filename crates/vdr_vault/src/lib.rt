@@ -4,15 +4,15 @@
 mod commit;
 mod cursor;
 mod law;
-mod members;
 mod open;
 mod pins;
 mod play;
 mod questions;
 mod refused;
 mod saving;
+mod vault;
 
 pub use cursor::Cursor;
 pub use law::{law_of_sound_media, law_of_vaults};
-pub use members::Members;
 pub use refused::SaveRefused;
+pub use vault::Vault;

@@ -12,10 +12,10 @@ ghost use Rattle.vdr_opening.specs.Answers.{HasOpenCause, IsOpened};
 ghost use Rattle.vdr_opening.specs.declared.refused.OpenRefused.TheVariants.{Damaged, NotFormatted};
 ghost use Rattle.vdr_vault.specs.Vaults.{AreRings, IsReadable, ShowsHistory, Stands, of_stamp};
 ghost use Rattle.vdr_vault.specs.Regularity.{AreSound};
-ghost use Rattle.vdr_vault.specs.Openings.{EndsWithin, GoesOnBehind, HasCauseOnBoth, LeavesAll, OpensAtEachMoment, OpensMembers, ReachesLongTerm, Reconciles, RefusesMedia, WritesMissing, opened_with};
+ghost use Rattle.vdr_vault.specs.Openings.{EndsWithin, GoesOnBehind, HasCauseOnBoth, LeavesAll, OpensAtEachMoment, OpensVault, ReachesLongTerm, Reconciles, RefusesMedia, WritesMissing, opened_with};
 
-use crate::Members;
-use crate::members::ending;
+use crate::Vault;
+use crate::vault::ending;
 use std::alloc::Global;
 use vdr_entry::Record;
 use vdr_opening::{OpenRefused, Opened, read_media};
@@ -35,7 +35,7 @@ fn sync_both<M: Media>(media: &mut M) -> Result<(), Failed>
     media.sync(1)
 }
 
-impl Members {
+impl Vault {
     // Appends the batch that the long-term medium lacks, if any.
     fn reconcile<M: Media>(&mut self, media: &mut M, missing: &[Record]) -> Result<(), Fault>
         requires rings { AreRings self.old (M.disk media.old).sizes }
@@ -65,25 +65,25 @@ impl Members {
     }
 
     // Opens media of which nothing is unsynced.
-    fn open_synced<M: Media>(alloc: Global, media: &mut M) -> Result<Members, OpenRefused>
+    fn open_synced<M: Media>(alloc: Global, media: &mut M) -> Result<Vault, OpenRefused>
         requires two { 2 ≤ length (M.disk media.old).sizes }
         requires three { length (M.disk media.old).sizes ≤ 3 }
-        ensures opened { IfOk result (λ members. (x : Contents) → M.tells → All (λ m. Durable m (M.disk media.old)) both → HoldsContents (M.disk media.old).reads x → AreSound x
-            → (placed : ℕ → List Placed) × Stands (opening_of x) [] members placed (M.disk media.new)) }
-        ensures contents { IfOk result (λ members. M.tells → All (λ m. Durable m (M.disk media.old)) both
+        ensures opened { IfOk result (λ vault. (x : Contents) → M.tells → All (λ m. Durable m (M.disk media.old)) both → HoldsContents (M.disk media.old).reads x → AreSound x
+            → (placed : ℕ → List Placed) × Stands (opening_of x) [] vault placed (M.disk media.new)) }
+        ensures contents { IfOk result (λ vault. M.tells → All (λ m. Durable m (M.disk media.old)) both
             → IsFormatted (M.disk media.old).reads × (x : Contents) × HoldsContents (M.disk media.old).reads x
-            × EndsMeet both (reading_of x) × (members.config ≡ x.config) × (members.table ≡ x.table)
-            × (members.last ≡ option_map of_stamp (opening_of x).last)) }
-        ensures place { IfOk result (λ members. (x : Contents) → M.tells → All (λ m. Durable m (M.disk media.old)) both → HoldsContents (M.disk media.old).reads x
-            → members.next_place ≡ (opening_of x).next_place) }
-        ensures readable { IfOk result (λ members. (x : Contents) → M.tells → All (λ m. Durable m (M.disk media.old)) both → HoldsContents (M.disk media.old).reads x → AreLevel both (reading_of x)
-            → IsReadable (opening_of x) [] members x.placed (M.disk media.new)) }
+            × EndsMeet both (reading_of x) × (vault.config ≡ x.config) × (vault.table ≡ x.table)
+            × (vault.last ≡ option_map of_stamp (opening_of x).last)) }
+        ensures place { IfOk result (λ vault. (x : Contents) → M.tells → All (λ m. Durable m (M.disk media.old)) both → HoldsContents (M.disk media.old).reads x
+            → vault.next_place ≡ (opening_of x).next_place) }
+        ensures readable { IfOk result (λ vault. (x : Contents) → M.tells → All (λ m. Durable m (M.disk media.old)) both → HoldsContents (M.disk media.old).reads x → AreLevel both (reading_of x)
+            → IsReadable (opening_of x) [] vault x.placed (M.disk media.new)) }
         ensures level { (x : Contents) → M.tells → All (λ m. Durable m (M.disk media.old)) both → HoldsContents (M.disk media.old).reads x → AreLevel both (reading_of x)
             → Unchanged (M.disk media.old) (M.disk media.new) }
         ensures within { (x : Contents) → M.tells → All (λ m. Durable m (M.disk media.old)) both → HoldsContents (M.disk media.old).reads x → EndsMeet both (reading_of x)
             → AtEachMoment (M.disk media.old) (M.disk media.new) (EndsWithin x) }
-        ensures works { IfOk result (λ members. members.failed ≡ false) }
-        ensures rings { IfOk result (λ members. AreRings members (M.disk media.new).sizes) }
+        ensures works { IfOk result (λ vault. vault.failed ≡ false) }
+        ensures rings { IfOk result (λ vault. AreRings vault (M.disk media.new).sizes) }
         ensures moments { (x : Contents) → M.tells → All (λ m. Durable m (M.disk media.old)) both → HoldsContents (M.disk media.old).reads x → EndsMeet both (reading_of x) → AreSound x
             → AtEachMoment (M.disk media.old) (M.disk media.new) (ShowsHistory (opening_of x) []) }
         ensures unformatted { result ≡ Err NotFormatted → M.tells → IsUnformatted (M.disk media.old).reads }
@@ -104,7 +104,7 @@ impl Members {
             missing,
         } = read_media(alloc, media)?;
         let (next_place, last) = ending(&capsule);
-        let mut members = Members {
+        let mut vault = Vault {
             config,
             capsule,
             long_term,
@@ -113,10 +113,10 @@ impl Members {
             last,
             failed: false,
         };
-        let Ok(()) = members.reconcile(media, &missing) else {
+        let Ok(()) = vault.reconcile(media, &missing) else {
             return Err(OpenRefused::Fault);
         };
-        Ok(members)
+        Ok(vault)
     }
 
     /// Opens the capsule and the long-term medium: syncs both, reads them, and appends the capsule's last batch to the long-term medium
@@ -129,10 +129,10 @@ impl Members {
     /// batch nothing is. Where the media are sound, a stop at each moment leaves what a stop before the call might have left, until the
     /// syncs have succeeded; from then on media that show what was opened, with the batch that the long-term medium lacks. Of media that
     /// are not formatted it leaves what a stop before the call might have left, whatever is answered.
-    pub fn open<M: Media>(alloc: Global, media: &mut M) -> Result<Members, OpenRefused>
+    pub fn open<M: Media>(alloc: Global, media: &mut M) -> Result<Vault, OpenRefused>
         requires two { 2 ≤ length (M.disk media.old).sizes }
         requires three { length (M.disk media.old).sizes ≤ 3 }
-        ensures opened { OpensMembers result (M.disk media.old) (M.disk media.new) }
+        ensures opened { OpensVault result (M.disk media.old) (M.disk media.new) }
         ensures missing { (x : Contents) → M.tells → HoldsContents (M.disk media.old).reads x → WritesMissing x (M.disk media.old) (M.disk media.new) }
         ensures moments { (x : Contents) → M.tells → HoldsContents (M.disk media.old).reads x → EndsMeet both (reading_of x) → AreSound x
             → OpensAtEachMoment (M.disk media.old) (M.disk media.new) result (ShowsHistory (opening_of x) []) }
@@ -142,6 +142,6 @@ impl Members {
         let Ok(()) = sync_both(media) else {
             return Err(OpenRefused::Fault);
         };
-        Members::open_synced(alloc, media)
+        Vault::open_synced(alloc, media)
     }
 }

@@ -3,7 +3,7 @@ ghost use Rattle.std.specs.Prelude.{◌≡◌, ◌≤◌, length};
 ghost use Rattle.vdr_durability.specs.Shown.{pins_of};
 ghost use Rattle.vdr_config.specs.Configuration.{IsConfiguration};
 
-use crate::Members;
+use crate::Vault;
 use vdr_incident::Table;
 use vdr_ring::Pins;
 
@@ -22,7 +22,7 @@ fn pins_in(table: &Table, slots: u8) -> Pins
     pins
 }
 
-impl Members {
+impl Vault {
     /// The places of the live saves.
     pub(crate) fn pins(&self) -> Pins
         ensures pins { result ≡ pins_of self.now.table }

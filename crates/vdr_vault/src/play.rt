@@ -7,7 +7,7 @@ ghost use Rattle.vdr_outside.specs.Causes.{Rose};
 ghost use Rattle.vdr_entry.specs.Queries.{asked, asked_medium};
 ghost use Rattle.vdr_ring.specs.Sequence.{Placed, all_records};
 ghost use Rattle.vdr_ring.specs.Rings.{Reads, Tells};
-ghost use Rattle.vdr_ring.specs.Cursors.{IsLoaded};
+ghost use Rattle.vdr_ring.specs.Visits.{IsLoaded};
 ghost use Rattle.vdr_ring.specs.declared.refused.ReadRefused.TheVariants.{Fault as AFault, Damaged};
 ghost use Rattle.vdr_opening.specs.Media.{both};
 ghost use Rattle.vdr_vault.specs.Vaults.{AreRings, IsReadable, ring_of};
@@ -16,7 +16,7 @@ ghost use Rattle.vdr_vault.specs.Walks.{AreLeft, CountsOn, GivesNext, HasRead, M
 ghost use Rattle.vdr_vault.specs.Keeps.{KeepsPlayed, ReadsForPlay, StandsAfter};
 ghost use Rattle.vdr_vault.specs.Plays.{AreToCome, ReadsOn, ring_for, span_in};
 
-use crate::{Cursor, Members};
+use crate::{Cursor, Vault};
 use vdr_entry::{Medium, Query};
 use vdr_index::Span;
 use vdr_outside::Media;
@@ -36,7 +36,7 @@ fn window_of(ring: &Ring, seconds: u64) -> Option<Span>
     })
 }
 
-impl Members {
+impl Vault {
     // What the query's medium comes to. None where it has no record, or the incident is not live.
     fn span_of(&self, medium: Medium) -> Option<Span>
         ensures { (placed : ℕ → List Placed) → All (λ m. Tells (ring_of self.now m).slots (placed m) (ring_of self.now m).table) both
@@ -65,7 +65,7 @@ impl Members {
     ) -> Result<bool, ReadRefused>
         requires rings { AreRings self.old (M.disk media.old).sizes }
         requires may { MayStep (ring_for self.old (asked query.now)) cursor.old }
-        ensures members { ReadsOn (medium_of (asked query.now).medium) self.old self.new }
+        ensures vault { ReadsOn (medium_of (asked query.now).medium) self.old self.new }
         ensures read { HasRead (ring_for self.old (asked query.now)) (ring_for self.new (asked query.now)) (M.disk media.old) (M.disk media.new) }
         ensures counts { CountsOn (medium_of (asked query.now).medium) (M.bytes_read media.old) (M.bytes_read media.new) (M.faults media.old) (M.faults media.new) }
         ensures may { MayStep (ring_for self.new (asked query.now)) cursor.new }

@@ -2,11 +2,11 @@
 ghost use Rattle.std.specs.Prelude.{◌≡◌, option_copied, count_by, is_some};
 ghost use Rattle.vdr_history.specs.Histories.{live};
 
-use crate::Members;
+use crate::Vault;
 use vdr_config::Config;
 use vdr_incident::Save;
 
-impl Members {
+impl Vault {
     /// The configuration that the media hold.
     pub fn config(&self) -> &Config
         ensures { result.now ≡ self.now.config }

@@ -9,7 +9,7 @@ ghost use Rattle.vdr_ring.specs.Sequence.{Placed, all_records};
 ghost use Rattle.vdr_ring.specs.Order.{AreInOrder};
 ghost use Rattle.vdr_ring.specs.Lookup.{HoldAll};
 ghost use Rattle.vdr_ring.specs.Rings.{Reads, Tells};
-ghost use Rattle.vdr_ring.specs.Cursors.{IsLoaded};
+ghost use Rattle.vdr_ring.specs.Visits.{IsLoaded};
 ghost use Rattle.vdr_incident.specs.Saves.{IsSave};
 ghost use Rattle.vdr_incident.specs.declared.refused.ReleaseRefused.TheVariants.{Fault as AReleaseFault, NoSuch};
 ghost use Rattle.vdr_vault.specs.Vaults.{AreRings, Stands, of_stamp};
@@ -21,7 +21,7 @@ ghost use Rattle.vdr_vault.specs.declared.refused.SaveRefused.{SaveRefused as Re
 ghost use Rattle.vdr_vault.specs.declared.refused.SaveRefused.TheVariants.{Damaged, Fault as AFault, Label, Nothing, TableFull};
 
 use crate::cursor::Cursor;
-use crate::{Members, SaveRefused};
+use crate::{SaveRefused, Vault};
 use vdr_entry::{Medium, Query};
 use vdr_incident::{ReleaseRefused, Save, is_label};
 use vdr_index::Span;
@@ -36,7 +36,7 @@ const ALL: Query = Query {
     to: i64::MAX,
 };
 
-impl Members {
+impl Vault {
     // Tick and stamp of the last record, where the label may be saved.
     fn accept(&self, label: &[u8]) -> Result<(u64, i64), SaveRefused>
         ensures refused { (refused : Refused) → save_refusal label.now self.now ≡ Some refused → result ≡ Err refused }
@@ -77,7 +77,7 @@ impl Members {
         last_second: u64,
     ) -> Result<u64, SaveRefused>
         requires rings { AreRings self.old (M.disk media.old).sizes }
-        ensures members { ReadsOn 1 self.old self.new }
+        ensures vault { ReadsOn 1 self.old self.new }
         ensures read { HasRead self.old.long_term self.new.long_term (M.disk media.old) (M.disk media.new) }
         ensures rings { AreRings self.new (M.disk media.new).sizes }
         ensures found { (placed : List Placed) (newest : Record) → M.tells → Reads self.old.long_term placed (M.disk media.old)

@@ -10,9 +10,9 @@ use Rattle.vdr_ring.specs.declared.refused.ReadRefused.{ReadRefused}
 use Rattle.vdr_ring.specs.declared.refused.ReadRefused.TheVariants as reads
 use Rattle.vdr_vault.specs.Walks.{GivesNext}
 use Rattle.vdr_visit.specs.Prints.{text_of}
-use Rattle.vdr_visit.specs.Stops.{stop_by}
+use Rattle.vdr_visit.specs.Refusals.{stop_by}
 use Rattle.vdr_visit.specs.Visits.{AreVisited, HasMade}
-use Rattle.vdr_visit.specs.declared.stop.VisitStop.{VisitStop}
+use Rattle.vdr_visit.specs.declared.refused.VisitRefused.{VisitRefused}
 
 -- What follows a record in order has greater places.
 behind_in_order : (before : List Record) (r : Record) (behind : List Record) → AreInOrder (before ++ r ∷ behind) → All (λ later. r.place + 1 ≤ later.place) behind
@@ -45,19 +45,19 @@ cons_is : (r x : Record) (more rest : List Record) → Some x ≡ Some r → res
 cons_is r x more rest same is = is ∙ ap (λ (o : Record). o ∷ more) (same_Some x r same)
 
 -- A read failed, behind the records visited so far.
-pub read_failed : {R : Type 0} (records seen rest : List Record) (read : ReadRefused) (result : Result Bool ReadRefused) (item : Option Record) (ToCome : List Record → Type 0) (out : Result ⊤ (VisitStop R))
+pub read_failed : {R : Type 0} (records seen rest : List Record) (read : ReadRefused) (result : Result Bool ReadRefused) (item : Option Record) (ToCome : List Record → Type 0) (out : Result ⊤ (VisitRefused R))
     → records ≡ seen ++ rest → GivesNext rest result item ToCome → result ≡ Err read → out ≡ Err (stop_by read) → AreVisited seen records out
 read_failed {R} records seen rest read result item ToCome out split gives was is =
-    subst (λ (o : Result ⊤ (VisitStop R)). AreVisited seen records o) (sym is) (by read (subst (λ (r : Result Bool ReadRefused). GivesNext rest r item ToCome) was gives))
+    subst (λ (o : Result ⊤ (VisitRefused R)). AreVisited seen records o) (sym is) (by read (subst (λ (r : Result Bool ReadRefused). GivesNext rest r item ToCome) was gives))
   where
     by : (e : ReadRefused) → GivesNext rest (Err e) item ToCome → AreVisited {R = R} seen records (Err (stop_by e))
     by reads.Fault g = (rest, split)
     by (reads.Damaged m offset) g = absurd g
 
 -- Then the visitor has what it had.
-pub still_has : {R : Type 0} (Has : Type 0) (Stops : R → Type 0) (line : List Record → Record → List ℕ) (whole : List ℕ) (seen : List Record) (was now : Option (List ℕ)) (read : ReadRefused) (out : Result ⊤ (VisitStop R))
+pub still_has : {R : Type 0} (Has : Type 0) (Stops : R → Type 0) (line : List Record → Record → List ℕ) (whole : List ℕ) (seen : List Record) (was now : Option (List ℕ)) (read : ReadRefused) (out : Result ⊤ (VisitRefused R))
     → Has → Appends was now (text_of line seen) → out ≡ Err (stop_by read) → HasMade Has Stops line whole seen was now out
-still_has {R} Has Stops line whole seen was now read out has printed is = subst (λ (o : Result ⊤ (VisitStop R)). HasMade Has Stops line whole seen was now o) (sym is) (by read)
+still_has {R} Has Stops line whole seen was now read out has printed is = subst (λ (o : Result ⊤ (VisitRefused R)). HasMade Has Stops line whole seen was now o) (sym is) (by read)
   where
     by : (e : ReadRefused) → HasMade Has Stops line whole seen was now (Err (stop_by e))
     by reads.Fault = (has, printed)
@@ -90,7 +90,7 @@ module _ {records seen : List Record} {least : ℕ} {found : Bool} {item : Optio
 
     module _ (result : Result Bool ReadRefused) (later : Option Record) (LaterToCome : List Record → Type 0) (steps : (rs : List Record) → ToCome rs → GivesNext rs result later LaterToCome) where
       -- It is visited, and the step behind it fails.
-      pub failed_behind : {R : Type 0} (read : ReadRefused) (out : Result ⊤ (VisitStop R)) → result ≡ Err read → out ≡ Err (stop_by read) → AreVisited (seen ++ r ∷ []) records out
+      pub failed_behind : {R : Type 0} (read : ReadRefused) (out : Result ⊤ (VisitRefused R)) → result ≡ Err read → out ≡ Err (stop_by read) → AreVisited (seen ++ r ∷ []) records out
       failed_behind read out was is = read_failed records (seen ++ r ∷ []) here.1 read result later LaterToCome out (whole ∙ sym (append_assoc seen (r ∷ []) here.1)) (steps here.1 here.4) was is
 
       -- It is visited, and the cursor steps on.

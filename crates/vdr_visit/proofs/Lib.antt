@@ -3,3 +3,4 @@ pub mod Between
 pub mod Visiting
 pub mod Stopping
 pub mod Printing
+pub mod Channels

@@ -9,14 +9,14 @@ use Rattle.vdr_outside.specs.Disk.{Disk}
 use Rattle.vdr_terms.specs.Records.{Record}
 use Rattle.vdr_outside.specs.Writes.{AppendsFront, BeginsWith, IsFrontOf}
 use Rattle.vdr_outside.proofs.Known.{front-more, front-printed}
-use Rattle.vdr_vault.specs.Vaults.{MembersState}
+use Rattle.vdr_vault.specs.Vaults.{VaultState}
 use Rattle.vdr_visit.specs.Prints.{HasPrinted, lines_behind, text_of, whole_text}
-use Rattle.vdr_visit.specs.Stops.{IfOwn, stop_of, unanswered}
+use Rattle.vdr_visit.specs.Refusals.{IfOwn, stop_of, unanswered}
 use Rattle.vdr_visit.specs.Visits.{AreVisited, HasMade, HasVisited}
-use Rattle.vdr_visit.specs.declared.stop.VisitStop.{VisitStop}
-use Rattle.vdr_visit.specs.declared.stop.VisitStop.TheVariants as visits
-use Rattle.vdr_visit.specs.declared.stop.VisitorStop.{VisitorStop}
-use Rattle.vdr_visit.specs.declared.stop.VisitorStop.TheVariants.{Output, Own}
+use Rattle.vdr_visit.specs.declared.refused.VisitRefused.{VisitRefused}
+use Rattle.vdr_visit.specs.declared.refused.VisitRefused.TheVariants as visits
+use Rattle.vdr_visit.specs.declared.refused.VisitorRefused.{VisitorRefused}
+use Rattle.vdr_visit.specs.declared.refused.VisitorRefused.TheVariants.{Output, Own}
 
 -- The lines of two lists, one after the other.
 lines_joined : (line : List Record → Record → List ℕ) (before xs ys : List Record) → lines_behind line before (xs ++ ys) ≡ lines_behind line before xs ++ lines_behind line (before ++ xs) ys
@@ -45,32 +45,32 @@ printed_next line seen r was mid now before here =
     (Appends-trans was mid now (text_of line seen) (line seen r) before here)
 
 -- The visitor stopped at the last of these records or behind it.
-pub stopped_made : {R : Type 0} (Has : Type 0) (Stops : R → Type 0) (line : List Record → Record → List ℕ) (whole : List ℕ) (seen : List Record) (was mid now : Option (List ℕ)) (own : VisitorStop R)
-    (result : Result ⊤ (VisitorStop R)) (out : Result ⊤ (VisitStop R)) → result ≡ Err own → out ≡ Err (stop_of own) → Appends was mid (text_of line seen)
+pub stopped_made : {R : Type 0} (Has : Type 0) (Stops : R → Type 0) (line : List Record → Record → List ℕ) (whole : List ℕ) (seen : List Record) (was mid now : Option (List ℕ)) (own : VisitorRefused R)
+    (result : Result ⊤ (VisitorRefused R)) (out : Result ⊤ (VisitRefused R)) → result ≡ Err own → out ≡ Err (stop_of own) → Appends was mid (text_of line seen)
     → (handed more : List Record) → handed ≡ seen ++ more → (text : List ℕ) → HasPrinted text mid now result → IfOwn result Stops → HasMade Has Stops line whole handed was now out
 stopped_made {R} Has Stops line whole seen was mid now own result out stopped is before handed more split text printed stops =
-    subst (λ (o : Result ⊤ (VisitStop R)). HasMade Has Stops line whole handed was now o) (sym is)
-    (by own (subst (λ (o : Result ⊤ (VisitorStop R)). HasPrinted text mid now o) stopped printed) (subst (λ (o : Result ⊤ (VisitorStop R)). IfOwn o Stops) stopped stops))
+    subst (λ (o : Result ⊤ (VisitRefused R)). HasMade Has Stops line whole handed was now o) (sym is)
+    (by own (subst (λ (o : Result ⊤ (VisitorRefused R)). HasPrinted text mid now o) stopped printed) (subst (λ (o : Result ⊤ (VisitorRefused R)). IfOwn o Stops) stopped stops))
   where
-    by : (e : VisitorStop R) → HasPrinted text mid now (Err e) → IfOwn (Err e) Stops → HasMade Has Stops line whole handed was now (Err (stop_of e))
+    by : (e : VisitorRefused R) → HasPrinted text mid now (Err e) → IfOwn (Err e) Stops → HasMade Has Stops line whole handed was now (Err (stop_of e))
     by Output p s = tt
     by (Own reason) p s = (s, seen, more, split, Appends-kept was mid now (text_of line seen) before p)
 
 -- What it was handed is a front of what is selected.
-pub stopped_front : {R : Type 0} (own : VisitorStop R) (out : Result ⊤ (VisitStop R)) → out ≡ Err (stop_of own) → (handed records : List Record) → ((rest : List Record) × (records ≡ handed ++ rest))
+pub stopped_front : {R : Type 0} (own : VisitorRefused R) (out : Result ⊤ (VisitRefused R)) → out ≡ Err (stop_of own) → (handed records : List Record) → ((rest : List Record) × (records ≡ handed ++ rest))
     → AreVisited handed records out
-stopped_front {R} own out is handed records first = subst (λ (o : Result ⊤ (VisitStop R)). AreVisited handed records o) (sym is) (by own)
+stopped_front {R} own out is handed records first = subst (λ (o : Result ⊤ (VisitRefused R)). AreVisited handed records o) (sym is) (by own)
   where
-    by : (e : VisitorStop R) → AreVisited {R = R} handed records (Err (stop_of e))
+    by : (e : VisitorRefused R) → AreVisited {R = R} handed records (Err (stop_of e))
     by Output = first
     by (Own reason) = first
 
 -- What is printed is a front of a text that begins with that of the records seen before and goes on with what the visitor was printing.
-pub stopped_text : {R : Type 0} (line : List Record → Record → List ℕ) (seen : List Record) (was mid now : Option (List ℕ)) (own : VisitorStop R) (result : Result ⊤ (VisitorStop R)) → result ≡ Err own
+pub stopped_text : {R : Type 0} (line : List Record → Record → List ℕ) (seen : List Record) (was mid now : Option (List ℕ)) (own : VisitorRefused R) (result : Result ⊤ (VisitorRefused R)) → result ≡ Err own
     → Appends was mid (text_of line seen) → (text rest all : List ℕ) → all ≡ text_of line seen ++ (text ++ rest) → HasPrinted text mid now result → AppendsFront was now all
-stopped_text {R} line seen was mid now own result stopped before text rest all split printed = by own (subst (λ (o : Result ⊤ (VisitorStop R)). HasPrinted text mid now o) stopped printed)
+stopped_text {R} line seen was mid now own result stopped before text rest all split printed = by own (subst (λ (o : Result ⊤ (VisitorRefused R)). HasPrinted text mid now o) stopped printed)
   where
-    by : (e : VisitorStop R) → HasPrinted text mid now (Err e) → AppendsFront was now all
+    by : (e : VisitorRefused R) → HasPrinted text mid now (Err e) → AppendsFront was now all
     by Output p = front-more was mid now (text_of line seen) text rest all split before p
     by (Own reason) p = (text_of line seen, text ++ rest, split, Appends-kept was mid now (text_of line seen) before p)
 
@@ -87,10 +87,10 @@ pub whole_at : (line : List Record → Record → List ℕ) (last : List Record 
 whole_at line last seen records is = ap (whole_text line last) (sym is) ∙ ap (λ (l : List ℕ). text_of line seen ++ l) (sym (append-nil (last seen)))
 
 -- What was visited is the same where nothing more is said of it than that the output failed.
-pub at_least_front : {R : Type 0} (seen records : List Record) (ended out : Result ⊤ (VisitStop R)) → AreVisited seen records ended → out ≡ Err visits.Output → AreVisited seen records out
-at_least_front {R} seen records ended out are is = subst (λ (o : Result ⊤ (VisitStop R)). AreVisited seen records o) (sym is) (by ended are)
+pub at_least_front : {R : Type 0} (seen records : List Record) (ended out : Result ⊤ (VisitRefused R)) → AreVisited seen records ended → out ≡ Err visits.Output → AreVisited seen records out
+at_least_front {R} seen records ended out are is = subst (λ (o : Result ⊤ (VisitRefused R)). AreVisited seen records o) (sym is) (by ended are)
   where
-    by : (e : Result ⊤ (VisitStop R)) → AreVisited seen records e → (rest : List Record) × (records ≡ seen ++ rest)
+    by : (e : Result ⊤ (VisitRefused R)) → AreVisited seen records e → (rest : List Record) × (records ≡ seen ++ rest)
     by (Ok all) a = ([], sym a ∙ sym (append-nil seen))
     by (Err visits.NoChannel) a = a
     by (Err visits.NoIncident) a = a
@@ -106,14 +106,14 @@ appends_behind (Some x) (Some y) None bytes k p = absurd p
 appends_behind (Some x) (Some y) (Some z) bytes k p = p ∙ ap (λ (l : List ℕ). l ++ bytes) k
 
 -- What was made, told by what reached the output behind a buffer.
-made_kept : {R : Type 0} (Has : Type 0) (Stops : R → Type 0) (line : List Record → Record → List ℕ) (whole : List ℕ) (seen : List Record) (start first last took : Option (List ℕ)) (r : Result ⊤ (VisitStop R))
+made_kept : {R : Type 0} (Has : Type 0) (Stops : R → Type 0) (line : List Record → Record → List ℕ) (whole : List ℕ) (seen : List Record) (start first last took : Option (List ℕ)) (r : Result ⊤ (VisitRefused R))
     → Keeps start first → Keeps last took → HasMade Has Stops line whole seen first last r → HasMade Has Stops line whole seen start took r
 made_kept {R} Has Stops line whole seen start first last took r k l = by r
   where
     moved : (text : List ℕ) → Appends first last text → Appends start took text
     moved text h = Appends-kept start last took text (appends_behind start first last text k h) l
 
-    by : (e : Result ⊤ (VisitStop R)) → HasMade Has Stops line whole seen first last e → HasMade Has Stops line whole seen start took e
+    by : (e : Result ⊤ (VisitRefused R)) → HasMade Has Stops line whole seen first last e → HasMade Has Stops line whole seen start took e
     by (Ok all) m = (m.0, moved whole m.1)
     by (Err visits.NoChannel) m = (m.0, moved (text_of line seen) m.1)
     by (Err visits.NoIncident) m = (m.0, moved (text_of line seen) m.1)
@@ -122,50 +122,50 @@ made_kept {R} Has Stops line whole seen start first last took r k l = by r
     by (Err visits.Output) m = tt
     by (Err (visits.Own reason)) m = (m.0, m.1, m.2, m.3, moved (text_of line m.1) m.4)
 
-module _ {tells tells_images : Type 0} {R : Type 0} {query : Query} {members : MembersState} {disk : Disk tells tells_images} {Has : List Record → Type 0} {Stops : List Record → R → Type 0}
-    {line : List Record → Record → List ℕ} {whole : List Record → List ℕ} {first last : Option (List ℕ)} {ended : Result ⊤ (VisitStop R)}
-    (v : HasVisited query members disk Has Stops line whole first last ended) (start took : Option (List ℕ)) (kept : Keeps start first) (front : IsFrontOf took last) (begins : BeginsWith start took) where
+module _ {tells tells_images : Type 0} {R : Type 0} {query : Query} {vault : VaultState} {disk : Disk tells tells_images} {Has : List Record → Type 0} {Stops : List Record → R → Type 0}
+    {line : List Record → Record → List ℕ} {whole : List Record → List ℕ} {first last : Option (List ℕ)} {ended : Result ⊤ (VisitRefused R)}
+    (v : HasVisited query vault disk Has Stops line whole first last ended) (start took : Option (List ℕ)) (kept : Keeps start first) (front : IsFrontOf took last) (begins : BeginsWith start took) where
   -- A visit through a buffer failed at the output.
-  pub blamed : (out : Result ⊤ (VisitStop R)) → out ≡ Err visits.Output → HasVisited query members disk Has Stops line whole start took out
+  pub blamed : (out : Result ⊤ (VisitRefused R)) → out ≡ Err visits.Output → HasVisited query vault disk Has Stops line whole start took out
   blamed out is = record {
     seen = v.seen;
-    made = subst (λ (o : Result ⊤ (VisitStop R)). HasMade (Has v.seen) (Stops v.seen) line (whole v.seen) v.seen start took o) (sym is) tt;
+    made = subst (λ (o : Result ⊤ (VisitRefused R)). HasMade (Has v.seen) (Stops v.seen) line (whole v.seen) v.seen start took o) (sym is) tt;
     are = λ opening events placed told readable. at_least_front v.seen (selected opening events query) ended out (v.are opening events placed told readable) is;
     front = λ opening events placed told readable. front-printed start first last took (whole (selected opening events query)) kept (v.front opening events placed told readable) front begins;
   }
 
   -- It was closed.
-  pub closed_so : {E : Type 0} (closed : Result ⊤ E) (out : Result ⊤ (VisitStop R)) → OnOk closed (Keeps last took) → OnOk closed (out ≡ ended) → OnErr closed (out ≡ Err visits.Output)
-      → HasVisited query members disk Has Stops line whole start took out
+  pub closed_so : {E : Type 0} (closed : Result ⊤ E) (out : Result ⊤ (VisitRefused R)) → OnOk closed (Keeps last took) → OnOk closed (out ≡ ended) → OnErr closed (out ≡ Err visits.Output)
+      → HasVisited query vault disk Has Stops line whole start took out
   closed_so (Ok done) out all same other = record {
     seen = v.seen;
-    made = subst (λ (o : Result ⊤ (VisitStop R)). HasMade (Has v.seen) (Stops v.seen) line (whole v.seen) v.seen start took o) (sym same)
+    made = subst (λ (o : Result ⊤ (VisitRefused R)). HasMade (Has v.seen) (Stops v.seen) line (whole v.seen) v.seen start took o) (sym same)
         (made_kept (Has v.seen) (Stops v.seen) line (whole v.seen) v.seen start first last took ended kept all v.made);
-    are = λ opening events placed told readable. subst (λ (o : Result ⊤ (VisitStop R)). AreVisited v.seen (selected opening events query) o) (sym same) (v.are opening events placed told readable);
+    are = λ opening events placed told readable. subst (λ (o : Result ⊤ (VisitRefused R)). AreVisited v.seen (selected opening events query) o) (sym same) (v.are opening events placed told readable);
     front = λ opening events placed told readable. front-printed start first last took (whole (selected opening events query)) kept (v.front opening events placed told readable) front begins;
   }
   closed_so (Err e) out all same other = blamed out other
 
 -- The same visit, told of equal outputs.
-pub told_of : {tells tells_images : Type 0} {R : Type 0} {query : Query} {members : MembersState} {disk : Disk tells tells_images} {Has : List Record → Type 0} {Stops : List Record → R → Type 0}
-    {line : List Record → Record → List ℕ} {whole : List Record → List ℕ} {first last : Option (List ℕ)} {ended : Result ⊤ (VisitStop R)} → HasVisited query members disk Has Stops line whole first last ended
-    → (was now : Option (List ℕ)) → first ≡ was → last ≡ now → HasVisited query members disk Has Stops line whole was now ended
-told_of {query = query} {members = members} {disk = disk} {Has = Has} {Stops = Stops} {line = line} {whole = whole} {first = first} {last = last} {ended = ended} v was now begins is =
-    subst (λ (o : Option (List ℕ) × Option (List ℕ)). HasVisited query members disk Has Stops line whole o.0 o.1 ended) (λ i. (begins i, is i)) v
+pub told_of : {tells tells_images : Type 0} {R : Type 0} {query : Query} {vault : VaultState} {disk : Disk tells tells_images} {Has : List Record → Type 0} {Stops : List Record → R → Type 0}
+    {line : List Record → Record → List ℕ} {whole : List Record → List ℕ} {first last : Option (List ℕ)} {ended : Result ⊤ (VisitRefused R)} → HasVisited query vault disk Has Stops line whole first last ended
+    → (was now : Option (List ℕ)) → first ≡ was → last ≡ now → HasVisited query vault disk Has Stops line whole was now ended
+told_of {query = query} {vault = vault} {disk = disk} {Has = Has} {Stops = Stops} {line = line} {whole = whole} {first = first} {last = last} {ended = ended} v was now begins is =
+    subst (λ (o : Option (List ℕ) × Option (List ℕ)). HasVisited query vault disk Has Stops line whole o.0 o.1 ended) (λ i. (begins i, is i)) v
 
 -- A visit of each record ended before their end.
-module _ {tells tells_images : Type 0} {R : Type 0} {query : Query} {members : MembersState} {disk : Disk tells tells_images} {Has : List Record → Type 0} {Stops : List Record → R → Type 0}
-    {line : List Record → Record → List ℕ} {was now : Option (List ℕ)} {ended : Result ⊤ (VisitStop R)} (v : HasVisited query members disk Has Stops line (text_of line) was now ended) where
-  pub ended_early : (last : List Record → List ℕ) (stop : VisitStop R) (out : Result ⊤ (VisitStop R)) → ended ≡ Err stop → out ≡ Err stop → HasVisited query members disk Has Stops line (whole_text line last) was now out
+module _ {tells tells_images : Type 0} {R : Type 0} {query : Query} {vault : VaultState} {disk : Disk tells tells_images} {Has : List Record → Type 0} {Stops : List Record → R → Type 0}
+    {line : List Record → Record → List ℕ} {was now : Option (List ℕ)} {ended : Result ⊤ (VisitRefused R)} (v : HasVisited query vault disk Has Stops line (text_of line) was now ended) where
+  pub ended_early : (last : List Record → List ℕ) (stop : VisitRefused R) (out : Result ⊤ (VisitRefused R)) → ended ≡ Err stop → out ≡ Err stop → HasVisited query vault disk Has Stops line (whole_text line last) was now out
   ended_early last stop out was_is is = record {
     seen = v.seen;
-    made = subst (λ (o : Result ⊤ (VisitStop R)). HasMade (Has v.seen) (Stops v.seen) line (whole_text line last v.seen) v.seen was now o) (sym is)
-        (by stop (subst (λ (o : Result ⊤ (VisitStop R)). HasMade (Has v.seen) (Stops v.seen) line (text_of line v.seen) v.seen was now o) was_is v.made));
-    are = λ opening events placed told readable. subst (λ (o : Result ⊤ (VisitStop R)). AreVisited v.seen (selected opening events query) o) (was_is ∙ sym is) (v.are opening events placed told readable);
+    made = subst (λ (o : Result ⊤ (VisitRefused R)). HasMade (Has v.seen) (Stops v.seen) line (whole_text line last v.seen) v.seen was now o) (sym is)
+        (by stop (subst (λ (o : Result ⊤ (VisitRefused R)). HasMade (Has v.seen) (Stops v.seen) line (text_of line v.seen) v.seen was now o) was_is v.made));
+    are = λ opening events placed told readable. subst (λ (o : Result ⊤ (VisitRefused R)). AreVisited v.seen (selected opening events query) o) (was_is ∙ sym is) (v.are opening events placed told readable);
     front = λ opening events placed told readable. front_of_whole was now (text_of line (selected opening events query)) (last (selected opening events query)) (v.front opening events placed told readable);
   }
     where
-      by : (e : VisitStop R) → HasMade (Has v.seen) (Stops v.seen) line (text_of line v.seen) v.seen was now (Err e) → HasMade (Has v.seen) (Stops v.seen) line (whole_text line last v.seen) v.seen was now (Err e)
+      by : (e : VisitRefused R) → HasMade (Has v.seen) (Stops v.seen) line (text_of line v.seen) v.seen was now (Err e) → HasMade (Has v.seen) (Stops v.seen) line (whole_text line last v.seen) v.seen was now (Err e)
       by visits.NoChannel m = m
       by visits.NoIncident m = m
       by visits.Fault m = m
@@ -174,23 +174,23 @@ module _ {tells tells_images : Type 0} {R : Type 0} {query : Query} {members : M
       by (visits.Own reason) m = m
 
 -- Nothing was read.
-module _ {tells tells_images : Type 0} {R : Type 0} (query : Query) (members : MembersState) (disk : Disk tells tells_images) (Has : List Record → Type 0) (Stops : List Record → R → Type 0)
+module _ {tells tells_images : Type 0} {R : Type 0} (query : Query) (vault : VaultState) (disk : Disk tells tells_images) (Has : List Record → Type 0) (Stops : List Record → R → Type 0)
     (line : List Record → Record → List ℕ) (whole : List Record → List ℕ) (was : Option (List ℕ)) (has : Has []) where
-  none_visited : (stop : VisitStop R) → HasMade (Has []) (Stops []) line (whole []) [] was was (Err stop) → ((records : List Record) → AreVisited [] records (Err stop)) → (out : Result ⊤ (VisitStop R)) → out ≡ Err stop
-      → HasVisited query members disk Has Stops line whole was was out
+  none_visited : (stop : VisitRefused R) → HasMade (Has []) (Stops []) line (whole []) [] was was (Err stop) → ((records : List Record) → AreVisited [] records (Err stop)) → (out : Result ⊤ (VisitRefused R)) → out ≡ Err stop
+      → HasVisited query vault disk Has Stops line whole was was out
   none_visited stop made are out is = record {
     seen = [];
-    made = subst (λ (o : Result ⊤ (VisitStop R)). HasMade (Has []) (Stops []) line (whole []) [] was was o) (sym is) made;
-    are = λ opening events placed told readable. subst (λ (o : Result ⊤ (VisitStop R)). AreVisited [] (selected opening events query) o) (sym is) (are (selected opening events query));
+    made = subst (λ (o : Result ⊤ (VisitRefused R)). HasMade (Has []) (Stops []) line (whole []) [] was was o) (sym is) made;
+    are = λ opening events placed told readable. subst (λ (o : Result ⊤ (VisitRefused R)). AreVisited [] (selected opening events query) o) (sym is) (are (selected opening events query));
     front = λ opening events placed told readable. front_of_none was (whole (selected opening events query));
   }
 
   -- What is asked for is not there.
-  pub not_asked : (no_channel no_incident : Bool) (stop : VisitStop R) (asked out : Result ⊤ (VisitStop R)) → asked ≡ unanswered no_channel no_incident → asked ≡ Err stop → out ≡ Err stop
-      → HasVisited query members disk Has Stops line whole was was out
+  pub not_asked : (no_channel no_incident : Bool) (stop : VisitRefused R) (asked out : Result ⊤ (VisitRefused R)) → asked ≡ unanswered no_channel no_incident → asked ≡ Err stop → out ≡ Err stop
+      → HasVisited query vault disk Has Stops line whole was was out
   not_asked true no_incident stop asked out answered is so = none_visited visits.NoChannel (has, Appends-nil was) (λ records. (records, refl)) out (so ∙ sym is ∙ answered)
   not_asked false true stop asked out answered is so = none_visited visits.NoIncident (has, Appends-nil was) (λ records. (records, refl)) out (so ∙ sym is ∙ answered)
   not_asked false false stop asked out answered is so = absurd (clash stop asked answered is)
     where
-      clash : (stop : VisitStop R) (asked : Result ⊤ (VisitStop R)) → asked ≡ Ok tt → asked ≡ Err stop → ⊥
+      clash : (stop : VisitRefused R) (asked : Result ⊤ (VisitRefused R)) → asked ≡ Ok tt → asked ≡ Err stop → ⊥
       clash stop asked ok err = cc

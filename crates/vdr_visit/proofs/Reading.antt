@@ -7,55 +7,55 @@ use Rattle.vdr_outside.specs.Disk.{Disk}
 use Rattle.vdr_outside.proofs.Counts.{none_falls_join, rose_after, sum_not_less}
 use Rattle.vdr_outside.proofs.Moments.{unchanged_join}
 use Rattle.vdr_ring.specs.Rings.{RingState}
-use Rattle.vdr_vault.specs.Vaults.{AreRings, MembersState, ring_of}
+use Rattle.vdr_vault.specs.Vaults.{AreRings, VaultState, ring_of}
 use Rattle.vdr_vault.specs.Plays.{ReadsOn}
-use Rattle.vdr_visit.specs.Stops.{HasVisitCause}
+use Rattle.vdr_visit.specs.Refusals.{HasVisitCause}
 use Rattle.vdr_visit.specs.Visits.{HasOnlyRead}
 
-read_ring : Bool → MembersState → RingState
+read_ring : Bool → VaultState → RingState
 read_ring b s = if b then s.capsule else s.long_term
 
-with_read : Bool → RingState → MembersState → MembersState
+with_read : Bool → RingState → VaultState → VaultState
 with_read b ring s = if b then record s { capsule = ring } else record s { long_term = ring }
 
-kept_by_reads : (b : Bool) (ring : RingState) (s : MembersState)
+kept_by_reads : (b : Bool) (ring : RingState) (s : VaultState)
     → ((with_read b ring s).config ≡ s.config) × ((with_read b ring s).table ≡ s.table) × ((with_read b ring s).next_place ≡ s.next_place) × ((with_read b ring s).last ≡ s.last) × ((with_read b ring s).failed ≡ s.failed)
 unfolding with_read
 kept_by_reads true ring s = (refl, refl, refl, refl, refl)
 kept_by_reads false ring s = (refl, refl, refl, refl, refl)
 
-pub reads_keep : (m : ℕ) (x y : MembersState) → ReadsOn m x y
+pub reads_keep : (m : ℕ) (x y : VaultState) → ReadsOn m x y
     → (y.config ≡ x.config) × (y.table ≡ x.table) × (y.next_place ≡ x.next_place) × (y.last ≡ x.last) × (y.failed ≡ x.failed)
 unfolding with_read
 reads_keep m x y h =
     let k = kept_by_reads (m == 0) (record (ring_of x m) { buffer = (ring_of y m).buffer; loaded = (ring_of y m).loaded }) x in (
-      ap (λ (s : MembersState). s.config) h ∙ k.0,
-      ap (λ (s : MembersState). s.table) h ∙ k.1,
-      ap (λ (s : MembersState). s.next_place) h ∙ k.2,
-      ap (λ (s : MembersState). s.last) h ∙ k.3,
-      ap (λ (s : MembersState). s.failed) h ∙ k.4,
+      ap (λ (s : VaultState). s.config) h ∙ k.0,
+      ap (λ (s : VaultState). s.table) h ∙ k.1,
+      ap (λ (s : VaultState). s.next_place) h ∙ k.2,
+      ap (λ (s : VaultState). s.last) h ∙ k.3,
+      ap (λ (s : VaultState). s.failed) h ∙ k.4,
     )
 
-pub reads_keep_failed : (m : ℕ) (x y : MembersState) → ReadsOn m x y → y.failed ≡ x.failed
+pub reads_keep_failed : (m : ℕ) (x y : VaultState) → ReadsOn m x y → y.failed ≡ x.failed
 reads_keep_failed m x y h = (reads_keep m x y h).4
 
-twice_read : (b : Bool) (x y z : MembersState)
+twice_read : (b : Bool) (x y z : VaultState)
     → y ≡ with_read b (record (read_ring b x) { buffer = (read_ring b y).buffer; loaded = (read_ring b y).loaded }) x
     → z ≡ with_read b (record (read_ring b y) { buffer = (read_ring b z).buffer; loaded = (read_ring b z).loaded }) y
     → z ≡ with_read b (record (read_ring b x) { buffer = (read_ring b z).buffer; loaded = (read_ring b z).loaded }) x
 unfolding with_read read_ring
-twice_read true x y z h k = k ∙ ap (λ (s : MembersState). record s { capsule = record s.capsule { buffer = z.capsule.buffer; loaded = z.capsule.loaded } }) h
-twice_read false x y z h k = k ∙ ap (λ (s : MembersState). record s { long_term = record s.long_term { buffer = z.long_term.buffer; loaded = z.long_term.loaded } }) h
+twice_read true x y z h k = k ∙ ap (λ (s : VaultState). record s { capsule = record s.capsule { buffer = z.capsule.buffer; loaded = z.capsule.loaded } }) h
+twice_read false x y z h k = k ∙ ap (λ (s : VaultState). record s { long_term = record s.long_term { buffer = z.long_term.buffer; loaded = z.long_term.loaded } }) h
 
-pub reads_join : (m : ℕ) (x y z : MembersState) → ReadsOn m x y → ReadsOn m y z → ReadsOn m x z
+pub reads_join : (m : ℕ) (x y z : VaultState) → ReadsOn m x y → ReadsOn m y z → ReadsOn m x z
 unfolding with_read read_ring
 reads_join m x y z h k = twice_read (m == 0) x y z h k
 
 -- A query's medium was read twice.
-pub only_read_join : {tells tells_images : Type 0} (query : Query) (x y z : MembersState) (before mid after : Disk tells tells_images) (read_before read_mid read_after : List ℕ)
+pub only_read_join : {tells tells_images : Type 0} (query : Query) (x y z : VaultState) (before mid after : Disk tells tells_images) (read_before read_mid read_after : List ℕ)
     → HasOnlyRead query x y before mid read_before read_mid → HasOnlyRead query y z mid after read_mid read_after → HasOnlyRead query x z before after read_before read_after
 only_read_join query x y z before mid after read_before read_mid read_after h k = record {
-  members = reads_join (medium_of query.medium) x y z h.members k.members;
+  vault = reads_join (medium_of query.medium) x y z h.vault k.vault;
   rings = k.rings;
   unchanged = unchanged_join before mid after h.unchanged k.unchanged;
   counts = λ m other. k.counts m other ∙ h.counts m other;

@@ -6,29 +6,29 @@ use Rattle.vdr_outside.proofs.Counts.{none_falls_join, rose_after, sum_not_less}
 use Rattle.vdr_ring.specs.declared.refused.ReadRefused.{ReadRefused}
 use Rattle.vdr_ring.specs.declared.refused.ReadRefused.TheVariants as reads
 use Rattle.vdr_vault.specs.Plays.{HasReadCause}
-use Rattle.vdr_visit.specs.Stops.{HasOutputCause, HasVisitCause, stop_by, stop_of}
-use Rattle.vdr_visit.specs.declared.stop.VisitStop.{VisitStop}
-use Rattle.vdr_visit.specs.declared.stop.VisitStop.TheVariants.{Damaged, Fault, Output, Own}
-use Rattle.vdr_visit.specs.declared.stop.VisitorStop.{VisitorStop}
-use Rattle.vdr_visit.specs.declared.stop.VisitorStop.TheVariants as visitors
+use Rattle.vdr_visit.specs.Refusals.{HasOutputCause, HasVisitCause, stop_by, stop_of}
+use Rattle.vdr_visit.specs.declared.refused.VisitRefused.{VisitRefused}
+use Rattle.vdr_visit.specs.declared.refused.VisitRefused.TheVariants.{Damaged, Fault, Output, Own}
+use Rattle.vdr_visit.specs.declared.refused.VisitorRefused.{VisitorRefused}
+use Rattle.vdr_visit.specs.declared.refused.VisitorRefused.TheVariants as visitors
 
 -- A visit that ends with a fault of a read met a fault.
-fault_of_read : {R : Type 0} (read : ReadRefused) (out : Result ⊤ (VisitStop R)) → out ≡ Err (stop_by read) → out ≡ Err Fault → read ≡ reads.Fault
+fault_of_read : {R : Type 0} (read : ReadRefused) (out : Result ⊤ (VisitRefused R)) → out ≡ Err (stop_by read) → out ≡ Err Fault → read ≡ reads.Fault
 fault_of_read reads.Fault out is fault = refl
 fault_of_read {R} (reads.Damaged m offset) out is fault = absurd (clash m offset out is fault)
   where
-    clash : (m offset : ℕ) (out : Result ⊤ (VisitStop R)) → out ≡ Err (Damaged m offset) → out ≡ Err Fault → ⊥
+    clash : (m offset : ℕ) (out : Result ⊤ (VisitRefused R)) → out ≡ Err (Damaged m offset) → out ≡ Err Fault → ⊥
     clash m offset out is fault = cc
 
 -- What was answered, by the read's own refusal.
-pub answered : {R : Type 0} (read : ReadRefused) (stop : VisitStop R) (out : Result ⊤ (VisitStop R)) → out ≡ Err stop → stop ≡ stop_by read → out ≡ Err (stop_by read)
-answered {R} read stop out is from = is ∙ ap (λ (s : VisitStop R). Err s) from
+pub answered : {R : Type 0} (read : ReadRefused) (stop : VisitRefused R) (out : Result ⊤ (VisitRefused R)) → out ≡ Err stop → stop ≡ stop_by read → out ≡ Err (stop_by read)
+answered {R} read stop out is from = is ∙ ap (λ (s : VisitRefused R). Err s) from
 
-pub stopped : {R : Type 0} (own : VisitorStop R) (stop : VisitStop R) (out : Result ⊤ (VisitStop R)) → out ≡ Err stop → stop ≡ stop_of own → out ≡ Err (stop_of own)
-stopped {R} own stop out is from = is ∙ ap (λ (s : VisitStop R). Err s) from
+pub stopped : {R : Type 0} (own : VisitorRefused R) (stop : VisitRefused R) (out : Result ⊤ (VisitRefused R)) → out ≡ Err stop → stop ≡ stop_of own → out ≡ Err (stop_of own)
+stopped {R} own stop out is from = is ∙ ap (λ (s : VisitRefused R). Err s) from
 
 -- Its cause is that of the read, over counts that did not fall before it.
-pub visit_cause : {R : Type 0} (read : ReadRefused) (result : Result Bool ReadRefused) (out : Result ⊤ (VisitStop R)) → result ≡ Err read → out ≡ Err (stop_by read)
+pub visit_cause : {R : Type 0} (read : ReadRefused) (result : Result Bool ReadRefused) (out : Result ⊤ (VisitRefused R)) → result ≡ Err read → out ≡ Err (stop_by read)
     → (m : ℕ) (failed : Bool) (start before now : List ℕ) → NoneFalls start before → HasReadCause m failed before now result → HasVisitCause m failed start now (out ≡ Err Fault)
 visit_cause read result out was is m failed start before now later cause = record {
   later = none_falls_join start before now later cause.later;
@@ -52,16 +52,16 @@ not_low reads.Fault result is fault damaged low = fault is
 not_low (reads.Damaged k offset) result is fault damaged low = low (damaged k offset is).1
 
 -- A visit that blames the output had it from the visitor, over a count that did not fall before it.
-pub output_cause : {R : Type 0} (own : VisitorStop R) (result : Result ⊤ (VisitorStop R)) (out : Result ⊤ (VisitStop R)) → result ≡ Err own → out ≡ Err (stop_of own)
+pub output_cause : {R : Type 0} (own : VisitorRefused R) (result : Result ⊤ (VisitorRefused R)) (out : Result ⊤ (VisitRefused R)) → result ≡ Err own → out ≡ Err (stop_of own)
     → (start before now : ℕ) → start ≤ before → HasOutputCause before now (result ≡ Err visitors.Output) → HasOutputCause start now (out ≡ Err Output)
 output_cause {R} own result out was is start before now later cause = record {
   later = let then = cause.later in omega (arith, later, then);
-  rose = λ blamed. rose_after start before now later (cause.rose (was ∙ ap (λ (e : VisitorStop R). Err e) (at_output own out is blamed)));
+  rose = λ blamed. rose_after start before now later (cause.rose (was ∙ ap (λ (e : VisitorRefused R). Err e) (at_output own out is blamed)));
 }
   where
-    at_output : (e : VisitorStop R) (out : Result ⊤ (VisitStop R)) → out ≡ Err (stop_of e) → out ≡ Err Output → e ≡ visitors.Output
+    at_output : (e : VisitorRefused R) (out : Result ⊤ (VisitRefused R)) → out ≡ Err (stop_of e) → out ≡ Err Output → e ≡ visitors.Output
     at_output visitors.Output out is blamed = refl
     at_output (visitors.Own reason) out is blamed = absurd (clash reason out is blamed)
       where
-        clash : (reason : R) (out : Result ⊤ (VisitStop R)) → out ≡ Err (Own reason) → out ≡ Err Output → ⊥
+        clash : (reason : R) (out : Result ⊤ (VisitRefused R)) → out ≡ Err (Own reason) → out ≡ Err Output → ⊥
         clash reason out is blamed = cc

@@ -12,7 +12,7 @@ use Rattle.vdr_outside.specs.Disk.{Disk, Unchanged}
 use Rattle.vdr_entry.specs.Queries.{asked}
 use Rattle.vdr_entry.specs.declared.query.Query.{Query as Asked}
 use Rattle.vdr_ring.specs.Sequence.{Placed}
-use Rattle.vdr_vault.specs.Vaults.{AreRings, IsReadable, MembersState, Stands}
+use Rattle.vdr_vault.specs.Vaults.{AreRings, IsReadable, VaultState, Stands}
 use Rattle.vdr_vault.specs.Walks.{CursorState, MayStep}
 use Rattle.vdr_vault.specs.Plays.{AreToCome, ReadsNoOther, ReadsOn, ring_for}
 use Rattle.vdr_vault.proofs.Coming.{holds_on}
@@ -22,7 +22,7 @@ use Rattle.vdr_visit.proofs.Between.{IsBetween}
 module _ {tells tells_images S : Type 0} where
   -- Between two records of a visit. What the visitor had of none of them, and has of the first of them, is told by the visitor from which it
   -- began.
-  pub record IsVisiting (query : Query) (first now : MembersState) (before after : Disk tells tells_images) (read_before read_now faults_before faults_now : List ℕ) (output_before output_now : ℕ)
+  pub record IsVisiting (query : Query) (first now : VaultState) (before after : Disk tells tells_images) (read_before read_now faults_before faults_now : List ℕ) (output_before output_now : ℕ)
       (was printed : Option (List ℕ)) (Had : S → Type 0) (Has : S → List Record → Type 0) (line : S → List Record → Record → List ℕ) (cursor : CursorState) (found : Bool) (least : ℕ) : Type 0 where
     pub rings : AreRings now after.sizes
     pub reads : ReadsOn (medium_of query.medium) first now
@@ -41,6 +41,6 @@ module _ {tells tells_images S : Type 0} where
 
 module _ {tells tells_images : Type 0} where
   -- What is selected of what a vault holds is in order.
-  pub selected_in_order : (opening : Opening) (events : List Event) (members : MembersState) (placed : ℕ → List Placed) (disk : Disk tells tells_images) → IsReadable opening events members placed disk
+  pub selected_in_order : (opening : Opening) (events : List Event) (vault : VaultState) (placed : ℕ → List Placed) (disk : Disk tells tells_images) → IsReadable opening events vault placed disk
       → (query : Asked) → AreInOrder (selected opening events (asked query))
-  selected_in_order opening events members placed disk stands query = is_in_order opening events (asked query) (holds_on opening events members placed disk stands query.medium).order
+  selected_in_order opening events vault placed disk stands query = is_in_order opening events (asked query) (holds_on opening events vault placed disk stands query.medium).order

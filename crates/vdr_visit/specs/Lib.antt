@@ -1,4 +1,4 @@
 -- How the records that a query selects are visited.
-pub mod Stops
+pub mod Refusals
 pub mod Prints
 pub mod Visits

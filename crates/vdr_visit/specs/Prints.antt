@@ -3,11 +3,11 @@ use Rattle.std.specs.Prelude.{ℕ, List, [], ◌∷◌, ◌++◌, Option, Result
 use Rattle.std.specs.Io.KnownBytes.{Appends, Keeps}
 use Rattle.vdr_terms.specs.Records.{Record}
 use Rattle.vdr_outside.specs.Writes.{AppendsFront}
-use Rattle.vdr_visit.specs.declared.stop.VisitorStop.{VisitorStop}
-use Rattle.vdr_visit.specs.declared.stop.VisitorStop.TheVariants.{Output, Own}
+use Rattle.vdr_visit.specs.declared.refused.VisitorRefused.{VisitorRefused}
+use Rattle.vdr_visit.specs.declared.refused.VisitorRefused.TheVariants.{Output, Own}
 
 -- One step of a visitor printed this text, a front of it where the output failed, and nothing where it stopped by itself.
-abbrev pub HasPrinted : {R : Type 0} → (text : List ℕ) → (was now : Option (List ℕ)) → Result ⊤ (VisitorStop R) → Type 0
+abbrev pub HasPrinted : {R : Type 0} → (text : List ℕ) → (was now : Option (List ℕ)) → Result ⊤ (VisitorRefused R) → Type 0
 HasPrinted text was now (Ok done) = Appends was now text
 HasPrinted text was now (Err Output) = AppendsFront was now text
 HasPrinted text was now (Err (Own reason)) = Keeps was now

@@ -8,16 +8,16 @@ use Rattle.vdr_playback.specs.Playback.{medium_of, selected}
 use Rattle.vdr_outside.specs.Disk.{Disk, Unchanged}
 use Rattle.vdr_outside.specs.Writes.{AppendsFront}
 use Rattle.vdr_ring.specs.Sequence.{Placed}
-use Rattle.vdr_vault.specs.Vaults.{AreRings, IsReadable, MembersState, Stands}
+use Rattle.vdr_vault.specs.Vaults.{AreRings, IsReadable, VaultState, Stands}
 use Rattle.vdr_vault.specs.Plays.{ReadsNoOther, ReadsOn}
 use Rattle.vdr_visit.specs.Prints.{text_of}
-use Rattle.vdr_visit.specs.declared.stop.VisitStop.{VisitStop}
-use Rattle.vdr_visit.specs.declared.stop.VisitStop.TheVariants.{NoChannel, NoIncident, Fault, Damaged, Output, Own}
+use Rattle.vdr_visit.specs.declared.refused.VisitRefused.{VisitRefused}
+use Rattle.vdr_visit.specs.declared.refused.VisitRefused.TheVariants.{NoChannel, NoIncident, Fault, Damaged, Output, Own}
 
 -- What a visitor is and has printed once it was handed these records. Where a read failed, their whole text stands in the output and nothing
 -- behind it; where the visitor stopped by itself, the text of the first of them.
 abbrev pub HasMade : {R : Type 0} → (Has : Type 0) → (Stops : R → Type 0) → (line : List Record → Record → List ℕ) → (whole : List ℕ) → (seen : List Record) → (was now : Option (List ℕ))
-    → Result ⊤ (VisitStop R) → Type 0
+    → Result ⊤ (VisitRefused R) → Type 0
 HasMade Has Stops line whole seen was now (Ok all) = Has × Appends was now whole
 HasMade Has Stops line whole seen was now (Err NoChannel) = Has × Appends was now (text_of line seen)
 HasMade Has Stops line whole seen was now (Err NoIncident) = Has × Appends was now (text_of line seen)
@@ -27,7 +27,7 @@ HasMade Has Stops line whole seen was now (Err Output) = ⊤
 HasMade Has Stops line whole seen was now (Err (Own reason)) = Stops reason × (told : List Record) × (rest : List Record) × (seen ≡ told ++ rest) × Appends was now (text_of line told)
 
 -- They are all of the records, or the first of them.
-abbrev pub AreVisited : {R : Type 0} → (seen records : List Record) → Result ⊤ (VisitStop R) → Type 0
+abbrev pub AreVisited : {R : Type 0} → (seen records : List Record) → Result ⊤ (VisitRefused R) → Type 0
 AreVisited seen records (Ok all) = seen ≡ records
 AreVisited seen records (Err NoChannel) = (rest : List Record) × (records ≡ seen ++ rest)
 AreVisited seen records (Err NoIncident) = (rest : List Record) × (records ≡ seen ++ rest)
@@ -39,19 +39,19 @@ AreVisited seen records (Err (Own reason)) = (rest : List Record) × (records �
 module _ {tells tells_images : Type 0} where
   -- Some records were handed to a visitor, who made this of them. Where the vault's media can be read they are those that the query selects,
   -- or the first of them, and a front of the whole text of all stands in the output however the visit ended.
-  pub record HasVisited {R : Type 0} (query : Query) (members : MembersState) (disk : Disk tells tells_images) (Has : List Record → Type 0) (Stops : List Record → R → Type 0)
-      (line : List Record → Record → List ℕ) (whole : List Record → List ℕ) (was now : Option (List ℕ)) (result : Result ⊤ (VisitStop R)) : Type 0 where
+  pub record HasVisited {R : Type 0} (query : Query) (vault : VaultState) (disk : Disk tells tells_images) (Has : List Record → Type 0) (Stops : List Record → R → Type 0)
+      (line : List Record → Record → List ℕ) (whole : List Record → List ℕ) (was now : Option (List ℕ)) (result : Result ⊤ (VisitRefused R)) : Type 0 where
     pub seen : List Record
     pub made : HasMade (Has seen) (Stops seen) line (whole seen) seen was now result
-    pub are : (opening : Opening) (events : List Event) (placed : ℕ → List Placed) → tells → IsReadable opening events members placed disk
+    pub are : (opening : Opening) (events : List Event) (placed : ℕ → List Placed) → tells → IsReadable opening events vault placed disk
         → AreVisited seen (selected opening events query) result
-    pub front : (opening : Opening) (events : List Event) (placed : ℕ → List Placed) → tells → IsReadable opening events members placed disk
+    pub front : (opening : Opening) (events : List Event) (placed : ℕ → List Placed) → tells → IsReadable opening events vault placed disk
         → AppendsFront was now (whole (selected opening events query))
 
   -- The query's medium was read, and nothing else was done: of the vault only the buffer of one ring may have changed, and it stands on what
   -- it stood on.
-  pub record HasOnlyRead (query : Query) (old new : MembersState) (before after : Disk tells tells_images) (read_before read_now : List ℕ) : Type 0 where
-    pub members : ReadsOn (medium_of query.medium) old new
+  pub record HasOnlyRead (query : Query) (old new : VaultState) (before after : Disk tells tells_images) (read_before read_now : List ℕ) : Type 0 where
+    pub vault : ReadsOn (medium_of query.medium) old new
     pub rings : AreRings new after.sizes
     pub unchanged : Unchanged before after
     pub counts : ReadsNoOther (medium_of query.medium) read_before read_now

@@ -5,16 +5,16 @@ ghost use Rattle.vdr_entry.specs.Queries.{asked, asked_medium};
 ghost use Rattle.vdr_ring.specs.declared.refused.ReadRefused.TheVariants as reads;
 ghost use Rattle.vdr_vault.specs.Vaults.{AreRings};
 ghost use Rattle.vdr_visit.specs.Prints.{text_of, whole_text};
-ghost use Rattle.vdr_visit.specs.Stops.{HasOutputCause, HasVisitCause};
+ghost use Rattle.vdr_visit.specs.Refusals.{HasOutputCause, HasVisitCause};
 ghost use Rattle.vdr_visit.specs.Visits.{HasOnlyRead, HasVisited};
-ghost use Rattle.vdr_visit.specs.declared.stop.VisitStop.TheVariants.{Fault as AFault, NoChannel, NoIncident, Output};
+ghost use Rattle.vdr_visit.specs.declared.refused.VisitRefused.TheVariants.{Fault as AFault, NoChannel, NoIncident, Output};
 
 use crate::asking::number_of;
-use crate::{VisitStop, Visitor};
+use crate::{VisitRefused, Visitor};
 use vdr_entry::{Medium, Query, Record};
 use vdr_outside::{Media, Sink};
 use vdr_ring::ReadRefused;
-use vdr_vault::{Cursor, Members};
+use vdr_vault::{Cursor, Vault};
 
 // The least place that is expected behind this record, whose own is not below the least that was expected.
 fn place_behind(item: &Record, medium: Medium, least: u64) -> Result<u64, ReadRefused>
@@ -35,53 +35,53 @@ fn place_behind(item: &Record, medium: Medium, least: u64) -> Result<u64, ReadRe
 // Hands the records of an accepted query to the visitor, until it stops. Places rise in what is selected, so that it ends on media that
 // were changed from outside too.
 fn visit_each<M: Media, V: Visitor, O: Sink>(
-    members: &mut Members,
+    vault: &mut Vault,
     media: &mut M,
     query: &Query,
     visitor: &mut V,
     out: &mut O,
-) -> Result<(), VisitStop<V::Reason>>
-    requires rings { AreRings members.old (M.disk media.old).sizes }
+) -> Result<(), VisitRefused<V::Reason>>
+    requires rings { AreRings vault.old (M.disk media.old).sizes }
     ensures visited { (first : V) → V.has first [] visitor.old
-        → HasVisited (asked query.now) members.old (M.disk media.old) (λ seen. V.has first seen visitor.new) (V.stops first) (V.line first) (text_of (V.line first))
+        → HasVisited (asked query.now) vault.old (M.disk media.old) (λ seen. V.has first seen visitor.new) (V.stops first) (V.line first) (text_of (V.line first))
         (O.taken out.old) (O.taken out.new) result }
     ensures asked { (result ≡ Err NoChannel) ⊎ (result ≡ Err NoIncident) → ⊥ }
-    ensures read { HasOnlyRead (asked query.now) members.old members.new (M.disk media.old) (M.disk media.new) (M.bytes_read media.old) (M.bytes_read media.new) }
-    ensures cause { HasVisitCause (medium_of (asked query.now).medium) members.old.failed (M.faults media.old) (M.faults media.new) (result ≡ Err AFault) }
+    ensures read { HasOnlyRead (asked query.now) vault.old vault.new (M.disk media.old) (M.disk media.new) (M.bytes_read media.old) (M.bytes_read media.new) }
+    ensures cause { HasVisitCause (medium_of (asked query.now).medium) vault.old.failed (M.faults media.old) (M.faults media.new) (result ≡ Err AFault) }
     ensures output { HasOutputCause (O.faults out.old) (O.faults out.new) (result ≡ Err Output) }
 {
     let mut cursor = Cursor::new();
     let mut least = 0;
-    let mut found = members.first(media, query, &mut cursor)?;
+    let mut found = vault.first(media, query, &mut cursor)?;
     while found {
         let Some(item) = cursor.item() else {
             unreachable!()
         };
         least = place_behind(item, query.medium, least)?;
         visitor.visit(item, out)?;
-        found = members.next(media, query, &mut cursor)?;
+        found = vault.next(media, query, &mut cursor)?;
     }
     Ok(())
 }
 
 /// Hands the records of an accepted query to the visitor, and then their end, until it stops.
 pub(crate) fn visit_all<M: Media, V: Visitor, O: Sink>(
-    members: &mut Members,
+    vault: &mut Vault,
     media: &mut M,
     query: &Query,
     visitor: &mut V,
     out: &mut O,
-) -> Result<(), VisitStop<V::Reason>>
-    requires rings { AreRings members.old (M.disk media.old).sizes }
+) -> Result<(), VisitRefused<V::Reason>>
+    requires rings { AreRings vault.old (M.disk media.old).sizes }
     ensures visited { (first : V) → V.has first [] visitor.old
-        → HasVisited (asked query.now) members.old (M.disk media.old) (λ seen. V.has first seen visitor.new) (V.stops first) (V.line first) (whole_text (V.line first) (V.last first))
+        → HasVisited (asked query.now) vault.old (M.disk media.old) (λ seen. V.has first seen visitor.new) (V.stops first) (V.line first) (whole_text (V.line first) (V.last first))
         (O.taken out.old) (O.taken out.new) result }
     ensures asked { (result ≡ Err NoChannel) ⊎ (result ≡ Err NoIncident) → ⊥ }
-    ensures read { HasOnlyRead (asked query.now) members.old members.new (M.disk media.old) (M.disk media.new) (M.bytes_read media.old) (M.bytes_read media.new) }
-    ensures cause { HasVisitCause (medium_of (asked query.now).medium) members.old.failed (M.faults media.old) (M.faults media.new) (result ≡ Err AFault) }
+    ensures read { HasOnlyRead (asked query.now) vault.old vault.new (M.disk media.old) (M.disk media.new) (M.bytes_read media.old) (M.bytes_read media.new) }
+    ensures cause { HasVisitCause (medium_of (asked query.now).medium) vault.old.failed (M.faults media.old) (M.faults media.new) (result ≡ Err AFault) }
     ensures output { HasOutputCause (O.faults out.old) (O.faults out.new) (result ≡ Err Output) }
 {
-    visit_each(members, media, query, visitor, out)?;
+    visit_each(vault, media, query, visitor, out)?;
     visitor.finish(out)?;
     Ok(())
 }

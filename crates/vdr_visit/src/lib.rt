@@ -4,11 +4,11 @@
 mod asking;
 mod buffered;
 mod each;
-mod stop;
+mod refused;
 mod visit;
 mod visitor;
 
 pub use asking::accept;
-pub use stop::{VisitStop, VisitorStop};
+pub use refused::{VisitRefused, VisitorRefused};
 pub use visit::visit_selected;
 pub use visitor::Visitor;

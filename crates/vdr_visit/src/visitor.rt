@@ -1,10 +1,10 @@
 ghost use Rattle.std.specs.Prelude.{◌≡◌, ◌∷◌, ◌++◌, ℕ, List, [], Err, OnOk};
 ghost use Rattle.vdr_terms.specs.Records.{Record as Entry};
-ghost use Rattle.vdr_visit.specs.Stops.{HasOutputCause, IfOwn};
-ghost use Rattle.vdr_visit.specs.declared.stop.VisitorStop.TheVariants.{Output};
+ghost use Rattle.vdr_visit.specs.Refusals.{HasOutputCause, IfOwn};
+ghost use Rattle.vdr_visit.specs.declared.refused.VisitorRefused.TheVariants.{Output};
 ghost use Rattle.vdr_visit.specs.Prints.{HasPrinted};
 
-use crate::VisitorStop;
+use crate::VisitorRefused;
 use vdr_entry::Record;
 use vdr_outside::Sink;
 
@@ -30,14 +30,14 @@ pub trait Visitor {
         &mut self,
         item: &Record,
         out: &mut O,
-    ) -> Result<(), VisitorStop<Self::Reason>>
+    ) -> Result<(), VisitorRefused<Self::Reason>>
         ensures has { (first : Self) (seen : List Entry) → has first seen self.old → OnOk result (has first (seen ++ item.now ∷ []) self.new) }
         ensures printed { (first : Self) (seen : List Entry) → has first seen self.old → HasPrinted (line first seen item.now) (O.taken out.old) (O.taken out.new) result }
         ensures stops { (first : Self) (seen : List Entry) → has first seen self.old → IfOwn result (λ reason. stops first (seen ++ item.now ∷ []) reason) }
         ensures cause { HasOutputCause (O.faults out.old) (O.faults out.new) (result ≡ Err Output) };
 
     /// Visits the end, behind the last record. Where it stops by itself it prints nothing.
-    fn finish<O: Sink>(&mut self, out: &mut O) -> Result<(), VisitorStop<Self::Reason>>
+    fn finish<O: Sink>(&mut self, out: &mut O) -> Result<(), VisitorRefused<Self::Reason>>
         ensures has { (first : Self) (seen : List Entry) → has first seen self.old → OnOk result (has first seen self.new) }
         ensures printed { (first : Self) (seen : List Entry) → has first seen self.old → HasPrinted (last first seen) (O.taken out.old) (O.taken out.new) result }
         ensures stops { (first : Self) (seen : List Entry) → has first seen self.old → IfOwn result (λ reason. stops first seen reason) }

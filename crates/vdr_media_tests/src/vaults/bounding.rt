@@ -1,104 +1,71 @@
-ghost use Rattle.std.specs.Prelude.{◌≡◌};
-ghost use Rattle.vdr_vault.specs.Vaults.{AreRings};
+ghost use Rattle.std.specs.Prelude.{◌≤◌};
+ghost use Rattle.vdr_terms.specs.Sizes.{batch_size};
 
-use super::playing::{BENCH, datagram, open};
-use arrayvec::ArrayVec;
+use super::playing::{datagram, save};
+use super::vault::VaultBench;
+use super::{BENCH, BENCH_SIZES, append, contents_of, formatted, ring_on, stopping};
 use std::alloc::Global;
 use std::process::Abort;
 use std::test::Fail;
-use vdr_config::{fits, read_config};
-use vdr_entry::{Medium, Query};
-use vdr_incident::{Save, Table};
-use vdr_media::format;
+use vdr_entry::{Medium, Query, Record};
 use vdr_memory::MemoryMedia;
 use vdr_outside::Media;
-use vdr_ring::{Pins, Ring};
-use vdr_vault::{Cursor, Members};
 
-// Formatted media, which count the bytes that are read of them.
-fn formatted(rt: &impl Abort, alloc: Global) -> Result<MemoryMedia, Fail> {
-    let mut contents = Vec::new(alloc);
-    contents.push(vec![in alloc; 0u8; 122_880]?)?;
-    contents.push(vec![in alloc; 0u8; 712_704]?)?;
-    assert!(rt; contents.len() <= 3);
-    let mut media = MemoryMedia::new(alloc, contents, Vec::new(alloc), None)?;
-    assert!(rt; media.count() == 2);
-    assert!(rt; format(alloc, &mut media, BENCH, false).is_ok());
-    Ok(media)
-}
-
-// Appends a segment of five records from this place on, with one tick, stamp and channel bits.
-fn append_segment<M: Media>(
-    rt: &impl Abort,
-    alloc: Global,
-    media: &mut M,
-    m: u8,
-    (place, tick, utc, bits): (u64, u64, i64, u64),
-) -> Result<(), Fail> {
-    let config = read_config(alloc, BENCH)?;
-    assert!(rt; media.count() == 2 && m < 2);
-    assert!(rt; fits(&config, media.size(0), media.size(1)).is_ok());
-    let Ok(mut ring) = Ring::open(alloc, media, m, &config) else {
-        return Err("the ring is not opened".into());
-    };
+// A batch of five records from this place on, with one tick, stamp and channel bits.
+fn five(rt: &impl Abort, segment: &(u64, u64, i64, u64)) -> [Record; 5]
+    ensures size { batch_size result ≤ 8_127 }
+{
+    let (place, tick, utc, bits) = *segment;
     assert!(rt; place < 100);
-    let batch = [
+    [
         datagram(rt, place, tick, utc, bits),
         datagram(rt, place + 1, tick, utc, bits),
         datagram(rt, place + 2, tick, utc, bits),
         datagram(rt, place + 3, tick, utc, bits),
         datagram(rt, place + 4, tick, utc, bits),
-    ];
-    match ring.append(media, &batch, &Pins::new()) {
-        Ok(()) => Ok(()),
-        Err(_) => Err("the batch is not appended".into()),
-    }
+    ]
 }
 
-// Appends three segments of five records each, of the seconds 0, 30 and 60, the stamps 1,000, 2,000 and 3,000, and the channels
-// 0, 1 and 2.
+// Place, tick, stamp and channels of three segments of five records each: of the seconds 0, 30 and 60, the stamps 1,000, 2,000 and 3,000,
+// and the channels 0, 1 and 2.
+const SEGMENTS: [(u64, u64, i64, u64); 3] = [
+    (0, 0, 1_000, 0b001),
+    (5, 30_000, 2_000, 0b010),
+    (10, 60_000, 3_000, 0b100),
+];
+
 fn append_all<M: Media>(rt: &impl Abort, alloc: Global, media: &mut M, m: u8) -> Result<(), Fail> {
-    append_segment(rt, alloc, media, m, (0, 0, 1_000, 0b001))?;
-    append_segment(rt, alloc, media, m, (5, 30_000, 2_000, 0b010))?;
-    append_segment(rt, alloc, media, m, (10, 60_000, 3_000, 0b100))
-}
-
-// Saves places 5 to 9, those of the second segment.
-fn save<M: Media>(rt: &impl Abort, media: &mut M) -> Result<(), Fail> {
-    assert!(rt; media.count() == 2 && media.size(1) == 712_704);
-    let Ok(mut table) = Table::read(media, 2) else {
-        return Err("the incidents are not read".into());
-    };
-    let mut label = ArrayVec::new();
-    label.push(b'x');
-    let save = Save {
-        label,
-        a: 5,
-        b: 9,
-        tick: 60_000,
-        utc: 3_000,
-    };
-    assert!(rt; table.save(media, &save) == Ok(1));
+    for segment in &SEGMENTS {
+        let mut ring = ring_on(rt, alloc, media, BENCH, m)?;
+        append(media, &mut ring, &five(rt, segment))?;
+    }
     Ok(())
 }
 
-// How many records a query gives.
-fn count<M: Media>(rt: &impl Abort, media: &mut M, members: &mut Members, query: &Query) -> u64
-    requires { AreRings members.old (M.disk media.old).sizes }
-{
-    let mut cursor = Cursor::new();
-    let mut found = members.first(media, query, &mut cursor);
-    let mut records = 0;
-    for _ in 0..20 {
-        if found != Ok(true) {
-            break;
+// Media with the three segments each, and a save of places 5 to 9, those of the second.
+fn recorded(rt: &impl Abort, alloc: Global) -> Result<MemoryMedia, Fail> {
+    let contents = contents_of(alloc, &formatted(rt, alloc, BENCH, BENCH_SIZES)?)?;
+    let mut media = stopping(rt, alloc, contents, None)?;
+    append_all(rt, alloc, &mut media, 0)?;
+    append_all(rt, alloc, &mut media, 1)?;
+    save(rt, &mut media, (5, 9, 60_000, 3_000))?;
+    Ok(media)
+}
+
+// How many records a query gives, and the vault.
+fn count<M: Media + Drop>(
+    rt: &impl Abort,
+    vault: VaultBench<M>,
+    query: Query,
+) -> (u64, VaultBench<M>) {
+    let mut play = vault.play(query);
+    for records in 0..20 {
+        if play.place(rt).is_none() {
+            return (records, play.end());
         }
-        assert!(rt; records < 20);
-        records += 1;
-        found = members.next(media, query, &mut cursor);
+        play.step();
     }
-    assert!(rt; found == Ok(false));
-    records
+    panic!(rt; "more than twenty records");
 }
 
 // The bytes of a segment.
@@ -120,13 +87,15 @@ const ROWS: [(Medium, Option<u8>, i64, i64, u64, (u64, u64)); 10] = [
     (Medium::Incident(1), Some(0), 0, 9_999, 0, (0, 0)),
 ];
 
+// How many bytes were read of the capsule and of the long-term medium.
+fn bytes_read(media: &MemoryMedia) -> (u64, u64) {
+    (media.bytes_read(0), media.bytes_read(1))
+}
+
 #[test]
 fn a_play_reads_the_segments_that_meet(rt: HostRuntime) -> Result<(), Fail> {
     let alloc = rt.alloc();
-    let mut media = formatted(&rt, alloc)?;
-    append_all(&rt, alloc, &mut media, 0)?;
-    append_all(&rt, alloc, &mut media, 1)?;
-    save(&rt, &mut media)?;
+    let mut media = recorded(&rt, alloc)?;
     for &(medium, channel, from, to, expected, (capsule, long_term)) in &ROWS {
         let query = Query {
             medium,
@@ -134,18 +103,16 @@ fn a_play_reads_the_segments_that_meet(rt: HostRuntime) -> Result<(), Fail> {
             from,
             to,
         };
-        let mut members = open(&rt, alloc, &mut media)?;
-        let before = (media.bytes_read(0), media.bytes_read(1));
-        let given = count(&rt, &mut media, &mut members, &query);
+        let vault = VaultBench::open(&rt, alloc, media)?;
+        let before = bytes_read(vault.media());
+        let (given, vault) = count(&rt, vault, query);
         assert!(rt; given == expected, "{query:?}");
-        assert!(rt;
-            media.bytes_read(0) == before.0.wrapping_add(capsule),
-            "{query:?}"
+        let read = (
+            before.0.wrapping_add(capsule),
+            before.1.wrapping_add(long_term),
         );
-        assert!(rt;
-            media.bytes_read(1) == before.1.wrapping_add(long_term),
-            "{query:?}"
-        );
+        assert!(rt; bytes_read(vault.media()) == read, "{query:?}");
+        media = vault.into_media();
     }
     Ok(())
 }

@@ -1,18 +1,13 @@
 // What records two runs are made of.
-ghost use Rattle.std.specs.Prelude.{◌≡◌, ◌≤◌, ◌<◌, ◌+◌, ◌^◌, ℕ, true};
-ghost use Rattle.vdr_terms.specs.Counting.{next_number};
-ghost use Rattle.vdr_outside.specs.Untold.{contents_alone};
-ghost use Rattle.vdr_vault.specs.Vaults.{AreRings};
-ghost use Rattle.vdr_recorder.specs.Making.{counted_of};
 
-use super::recording::{NONE, captured, formatted, open, stop, take_item};
+use super::bench::{Bench, Run};
+use super::playing::Play;
+use super::recording::{captured, formatted};
+use std::alloc::Global;
 use std::process::Abort;
 use std::test::Fail;
-use vdr_entry::{Content, Counts, Kind, Record};
-use vdr_memory::RamMedia;
+use vdr_entry::{Content, Kind, Record};
 use vdr_outside::Media;
-use vdr_recorder::{Medium, Query, Recording};
-use vdr_vault::{Cursor, Members};
 
 // The bench configuration, with two datagrams a second of NAVD, and a channel of NAVD's other datagrams and one of VDRD's images.
 const BENCH: &[u8] =
@@ -26,19 +21,6 @@ const STAMP: i64 = 1_704_067_260_000;
 const SMALL: &[u8] = b"AbCdE\0";
 
 const HEADING: &[u8] = b"UdPbC\0$GPHDT,123.456,T*32\r\n";
-
-const TWO_BAD: Counts = Counts {
-    full: 0,
-    rate: 0,
-    bad: 2,
-    large: 0,
-};
-
-// What VDRD's port, and no other, has missed at the close of the second run.
-const REST: [Counts; 16] = [
-    NONE, NONE, NONE, NONE, TWO_BAD, NONE, NONE, NONE, NONE, NONE, NONE, NONE, NONE, NONE, NONE,
-    NONE,
-];
 
 // What a record is: its kind and group, its bits, place, number and tick, and how many items it says were refused by the rate.
 type Row = (Kind, u8, [u64; 5]);
@@ -71,73 +53,42 @@ fn row(item: &Record) -> Row {
 }
 
 // The long-term medium has these records and no other.
-fn assert_made<M: Media>(rt: &impl Abort, media: &mut M, members: &mut Members)
-    requires { AreRings members.old (M.disk media.old).sizes }
-{
-    let query = Query {
-        medium: Medium::LongTerm,
-        channel: None,
-        from: 0,
-        to: i64::MAX,
-    };
-    let mut cursor = Cursor::new();
-    let mut found = members.first(media, &query, &mut cursor);
+fn assert_made<M: Media + Drop>(rt: &impl Abort, alloc: Global, media: M) -> Result<(), Fail> {
+    let mut play = Play::begin(rt, alloc, media)?;
     for (expected, utc) in &ROWS {
-        assert!(rt; found == Ok(true));
-        let Some(item) = cursor.item() else {
-            panic!(rt; "no record");
-        };
+        let item = play.item(rt);
         assert!(rt; row(item) == *expected && item.utc == *utc, "{expected:?}");
-        found = members.next(media, &query, &mut cursor);
+        play.step();
     }
-    assert!(rt; found == Ok(false));
+    play.assert_ended(rt);
+    Ok(())
 }
 
-// Closes a run in which VDRD's port has missed two items.
-fn stop_missing(rt: &impl Abort, media: &mut RamMedia, recording: &mut Recording)
-    requires rings { AreRings recording.old.members (contents_alone media.old).sizes }
-    requires open { recording.old.is_open ≡ true }
-    requires place { recording.old.maker.place ≤ 2 ^ 62 + 8 }
-    requires numbers { (g : ℕ) → g < 16 → next_number (counted_of recording.old.maker g).pending ≤ 4 }
-    ensures { AreRings recording.new.members (contents_alone media.new).sizes }
-{
-    assert!(rt; recording.config().groups[4].is_some());
-    assert!(rt; recording.stop(media, &REST).is_ok());
+// Records items of one stamp, which were received at these times.
+fn take_all<M: Media + Drop>(
+    rt: &impl Abort,
+    run: &mut Run<M>,
+    stamp: i64,
+    items: &[(u64, &[u8])],
+) {
+    for (number, (received, bytes)) in items.iter().enumerate() {
+        run.take(rt, captured(rt, number as u64, *received, stamp, *bytes));
+    }
 }
+
+const FIRST_ITEMS: [(u64, &[u8]); 2] = [(0, SMALL), (1_999, SMALL)];
+
+const SECOND_ITEMS: [(u64, &[u8]); 4] = [(0, HEADING), (0, SMALL), (999, SMALL), (1_000, SMALL)];
 
 #[test]
 fn two_runs_are_made_of_their_items(rt: HostRuntime) -> Result<(), Fail> {
     let alloc = rt.alloc();
-    let mut media = formatted(&rt, alloc, BENCH)?;
-    let mut recording = open(&rt, alloc, &mut media)?;
-    let Ok(()) = recording.start(&mut media) else {
-        return Err("no run is begun".into());
-    };
-    let (media_of, run) = (&mut media, &mut recording);
-    take_item(&rt, media_of, run, 0, captured(&rt, 0, 0, BEFORE, SMALL));
-    take_item(
-        &rt,
-        media_of,
-        run,
-        1,
-        captured(&rt, 1, 1_999, BEFORE, SMALL),
-    );
-    stop(&rt, media_of, run);
-    let mut recording = open(&rt, alloc, &mut media)?;
-    let Ok(()) = recording.start(&mut media) else {
-        return Err("no further run is begun".into());
-    };
-    let (media_of, run) = (&mut media, &mut recording);
-    take_item(&rt, media_of, run, 0, captured(&rt, 0, 0, STAMP, HEADING));
-    take_item(&rt, media_of, run, 1, captured(&rt, 1, 0, STAMP, SMALL));
-    take_item(&rt, media_of, run, 2, captured(&rt, 2, 999, STAMP, SMALL));
-    take_item(&rt, media_of, run, 3, captured(&rt, 3, 1_000, STAMP, SMALL));
-    assert!(rt; run.recorded(3) == (3, 1) && run.recorded(4) == (0, 0));
-    stop_missing(&rt, media_of, run);
-    assert!(rt; media.count() == 2);
-    let Ok(mut members) = Members::open(alloc, &mut media) else {
-        return Err("the media are not opened".into());
-    };
-    assert_made(&rt, &mut media, &mut members);
-    Ok(())
+    let mut run = Bench::open(&rt, alloc, formatted(&rt, alloc, BENCH)?)?.start(&rt);
+    take_all(&rt, &mut run, BEFORE, &FIRST_ITEMS);
+    let media = run.stop(&rt).into_media();
+    let mut run = Bench::open(&rt, alloc, media)?.start(&rt);
+    take_all(&rt, &mut run, STAMP, &SECOND_ITEMS);
+    assert!(rt; run.recorder().recorded(3) == (3, 1));
+    assert!(rt; run.recorder().recorded(4) == (0, 0));
+    assert_made(&rt, alloc, run.stop_bad(&rt).into_media())
 }

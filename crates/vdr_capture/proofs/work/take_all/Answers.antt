@@ -3,6 +3,7 @@ use Rattle.std.proofs.lemmas.Int.{ints}
 use Rattle.vdr_terms.specs.Stamps.{IsStamp}
 use Rattle.vdr_terms.specs.Records.{Item}
 use Rattle.vdr_terms.specs.Counting.{Tally}
+use Rattle.vdr_terms.proofs.Stamping.{stamp_kept}
 use Rattle.vdr_core.proofs.Counted.{length_snoc}
 use Rattle.vdr_intake.specs.Ends.{Feeding}
 use Rattle.vdr_outside.specs.Calls.{Asked, asked_again, other}
@@ -33,13 +34,6 @@ moved : (group : ℕ) (given : List Item) (received : ℕ) (utc utc' : ℤ) (byt
 moved group given received utc utc' bytes bytes' f f' t t' a b d e h =
     subst (λ (x : ℤ × List ℕ × Feeding × Tally). HasCaptured group (given ++ record { received = received; utc = x.0; bytes = x.1 } ∷ []) x.2.pushed x.2.full x.3)
     (λ i. (a i, b i, sym d i, sym e i)) h
-
--- a stamp is passed on as it is
-stamp_kept : (utc : ℤ) → IsStamp utc → to_z w64 (of_z w64 utc) ≡ utc
-stamp_kept utc h =
-    let whole = h.whole in
-    let in_time = h.in_time in
-    omega (arith, ints)
 
 pub loop-turn-preserved : goal.loop-turn-preserved
 loop-turn-preserved g c =

@@ -2,12 +2,13 @@ use Rattle.std.proofs.Common.{[], codes, refl, append_assoc}
 use Rattle.std.proofs.lemmas.Result.{on_ok_weaker}
 use Rattle.std.proofs.KnownBytes.{Appends-trans}
 use Rattle.vdr_entry.specs.Escape.{escaped}
-use Rattle.vdr_command.proofs.Lines.{front_first, front_later}
+use Rattle.vdr_play.proofs.Fronts.{front-first}
+use Rattle.vdr_command.proofs.Lines.{front_later}
 use Rattle.vdr_command.proofs.refusal.print_line.Goals as goal
 
 pub returns-in_err-write_all-clause-front : goal.returns-in_err-write_all-clause-front
 returns-in_err-write_all-clause-front g c =
-    front_first _ _ _ _ _ (append_assoc c.args.front.now (escaped c.args.text.now) (codes "\n")) c.in_err-write_all.ensures.front
+    front-first _ _ _ _ _ (append_assoc c.args.front.now (escaped c.args.text.now) (codes "\n")) c.in_err-write_all.ensures.front
 
 pub returns-in_err-print_escaped-clause-front : goal.returns-in_err-print_escaped-clause-front
 returns-in_err-print_escaped-clause-front g c =

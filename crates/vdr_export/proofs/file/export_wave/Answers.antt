@@ -23,7 +23,7 @@ returns-in_err-size-clause-looked g c =
 pub write_wave-requires-clause-asked : goal.write_wave-requires-clause-asked
 write_wave-requires-clause-asked g c =
     let read = c.wave_size.ensures.looked.read in
-    asked_again c.args.query.now (medium_of (asked c.args.query.now).medium) c.args.recording.now c.wave_size.new.recording _ _ read.members read.rings c.requires.asked
+    asked_again c.args.query.now (medium_of (asked c.args.query.now).medium) c.args.recorder.now c.wave_size.new.recorder _ _ read.vault read.rings c.requires.asked
 
 pub returns-clause-wave : goal.returns-clause-wave
 returns-clause-wave g c opening events placed told readable =

@@ -6,7 +6,7 @@ use Rattle.vdr_outside.specs.Writes.{AppendsFront}
 use Rattle.vdr_entry.specs.Queries.{asked}
 use Rattle.vdr_export.specs.Sounds.{frames_of, heard, sound}
 use Rattle.vdr_export.specs.Waves.{wave_header}
-use Rattle.vdr_export.proofs.Fronts.{front_first}
+use Rattle.vdr_visit.proofs.Printing.{front_of_whole}
 use Rattle.vdr_export.proofs.Passes.{wave_front, wave_written, whole_sound}
 use Rattle.vdr_export.proofs.Refusing.{looked_as, looked_nothing, output_after, output_as}
 use Rattle.vdr_export.proofs.Visited.{blames_media, blames_output, not_written_own, undamaged}
@@ -14,7 +14,7 @@ use Rattle.vdr_export.proofs.waves.write_wave.Goals as goal
 
 pub returns-in_default-clause-front : goal.returns-in_default-clause-front
 returns-in_default-clause-front g c opening events placed told readable =
-    front_first (g.O.Sink.taken c.args.out.now) (g.O.Sink.taken c.write_all.new.sink) (wave_header c.args.size.now) _
+    front_of_whole (g.O.Sink.taken c.args.out.now) (g.O.Sink.taken c.write_all.new.sink) (wave_header c.args.size.now) _
     (subst (λ (l : List ℕ). AppendsFront (g.O.Sink.taken c.args.out.now) (g.O.Sink.taken c.write_all.new.sink) l) (c.as_slice.ensures.value ∙ c.header_of.ensures) c.write_all.ensures.front)
 
 pub returns-in_default-clause-looked : goal.returns-in_default-clause-looked

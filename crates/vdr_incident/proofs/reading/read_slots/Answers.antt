@@ -5,10 +5,11 @@ use Rattle.vdr_outside.specs.Disk.{Image, content}
 use Rattle.vdr_outside.specs.Parts.{part}
 use Rattle.vdr_outside.proofs.Counts.{none_falls_join}
 use Rattle.vdr_outside.proofs.Moments.{unchanged_join}
+use Rattle.vdr_terms.proofs.Results.{same_err}
 use Rattle.vdr_incident.specs.Saves.{IsIncidentSlot}
 use Rattle.vdr_incident.specs.Tables.{place_of}
 use Rattle.vdr_incident.proofs.Holding.{refuses_here}
-use Rattle.vdr_incident.proofs.SlotBySlot.{same_err, counted_more, reads_more, slot_read}
+use Rattle.vdr_incident.proofs.SlotBySlot.{counted_more, reads_more, slot_read}
 use Rattle.vdr_incident.proofs.reading.read_slots.Goals as goal
 
 pub returns-in_err-saved-clause-damaged : goal.returns-in_err-saved-clause-damaged

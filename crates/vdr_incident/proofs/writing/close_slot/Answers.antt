@@ -1,4 +1,4 @@
-use Rattle.vdr_slots.proofs.Results.{on_ok_both}
+use Rattle.vdr_terms.proofs.Results.{on_ok_both}
 use Rattle.vdr_incident.proofs.Writes.{close_moments, close_settled}
 use Rattle.vdr_incident.proofs.writing.close_slot.Goals as goal
 

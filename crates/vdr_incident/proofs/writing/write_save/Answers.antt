@@ -1,4 +1,4 @@
-use Rattle.vdr_slots.proofs.Results.{on_ok_both}
+use Rattle.vdr_terms.proofs.Results.{on_ok_both}
 use Rattle.vdr_incident.proofs.Writes.{body_moments, gate_moments, gate_settled}
 use Rattle.vdr_incident.proofs.writing.write_save.Goals as goal
 

@@ -9,7 +9,8 @@ use Rattle.vdr_outside.proofs.Moments.{size_read}
 use Rattle.vdr_config.specs.Configuration.{Configuration}
 use Rattle.vdr_config.specs.Sizes.{sizes_of}
 use Rattle.vdr_config.specs.Grammar.{configuration}
-use Rattle.vdr_media.specs.Layout.{slot_count, superblock_bytes}
+use Rattle.vdr_terms.specs.Slots.{slot_count}
+use Rattle.vdr_media.specs.Layout.{superblock_bytes}
 use Rattle.vdr_media.specs.Writing.{HasClosedGates, IsLaidOut}
 use Rattle.vdr_media.proofs.Behind.{range_still, behind_join, behind_write, behind_sync}
 use Rattle.vdr_media.proofs.Causes.{cause_after}
@@ -67,14 +68,14 @@ returns-in_err-write_text-clause-writes g c = behind_join _ _ _ _ c.close_all_ga
 
 pub returns-in_err-write-clause-writes : goal.returns-in_err-write-clause-writes
 returns-in_err-write-clause-writes g c =
-    let plan = planned c.args.config.now c.args.m _ _ _ _ _ (ap (λ (x : Configuration). x.segment) c.config.view_is) c.config.invariant.segment_low c.config.invariant.segment_high c.requires.fits c.size-size.ensures c.slot_count-slots.ensures c.superblock_bytes-superblock.ensures in
+    let plan = planned c.args.config.now c.args.m _ _ _ _ _ (ap (λ (x : Configuration). x.segment) c.config.view_is) c.config.invariant.segment_low c.config.invariant.segment_high c.requires.fits c.size-size.ensures c.slot_count-slots.ensures.count c.superblock_bytes-superblock.ensures in
     let so_far = behind_join _ _ _ _ c.close_all_gates.ensures.writes c.write_text.ensures.writes in
     behind_join _ _ _ _ so_far
     (behind_write c.write.result _ _ _ _ _ (fields_fit _ _ _ _ _ _ _ plan c.requires.there so_far.sizes) (omega arith) c.write.ensures.time c.write.ensures.images c.write.ensures.reads c.write.ensures.torn c.write.ensures.sizes)
 
 pub returns-clause-writes : goal.returns-clause-writes
 returns-clause-writes g c =
-    let plan = planned c.args.config.now c.args.m _ _ _ _ _ (ap (λ (x : Configuration). x.segment) c.config.view_is) c.config.invariant.segment_low c.config.invariant.segment_high c.requires.fits c.size-size.ensures c.slot_count-slots.ensures c.superblock_bytes-superblock.ensures in
+    let plan = planned c.args.config.now c.args.m _ _ _ _ _ (ap (λ (x : Configuration). x.segment) c.config.view_is) c.config.invariant.segment_low c.config.invariant.segment_high c.requires.fits c.size-size.ensures c.slot_count-slots.ensures.count c.superblock_bytes-superblock.ensures in
     let so_far = behind_join _ _ _ _ c.close_all_gates.ensures.writes c.write_text.ensures.writes in
     behind_join _ _ _ _
     (behind_join _ _ _ _ so_far
@@ -83,7 +84,7 @@ returns-clause-writes g c =
 
 pub returns-clause-laid_out : goal.returns-clause-laid_out
 returns-clause-laid_out g c =
-    let plan = planned c.args.config.now c.args.m _ _ _ _ _ (ap (λ (x : Configuration). x.segment) c.config.view_is) c.config.invariant.segment_low c.config.invariant.segment_high c.requires.fits c.size-size.ensures c.slot_count-slots.ensures c.superblock_bytes-superblock.ensures in
+    let plan = planned c.args.config.now c.args.m _ _ _ _ _ (ap (λ (x : Configuration). x.segment) c.config.view_is) c.config.invariant.segment_low c.config.invariant.segment_high c.requires.fits c.size-size.ensures c.slot_count-slots.ensures.count c.superblock_bytes-superblock.ensures in
     on_ok_weaker c.sync.result (λ durable. record {
       durable = durable;
       reads = λ told.

@@ -1,6 +1,7 @@
 use Rattle.std.proofs.Common.{◌∙◌}
+use Rattle.vdr_terms.proofs.Results.{on_ok_both}
 use Rattle.vdr_media.proofs.Opening.{behind_closed, opening_meanwhile, opening_moments, opening_done}
-use Rattle.vdr_media.proofs.Causes.{cause_after, on_ok_both}
+use Rattle.vdr_media.proofs.Causes.{cause_after}
 use Rattle.vdr_media.proofs.laying.make_empty.Goals as goal
 
 pub returns-in_err-lay_out-clause-moments : goal.returns-in_err-lay_out-clause-moments

@@ -1,9 +1,9 @@
 use Rattle.std.proofs.Common.{◌≡◌, ◌↔◌, Bool, false, List, Option, IsTrue, refl, sym, ◌∙◌, ap, subst}
 use Rattle.std.proofs.lemmas.Result.{err_from_is_err_and}
 use Rattle.vdr_terms.specs.Records.{Record}
+use Rattle.vdr_terms.proofs.Results.{same_err}
 use Rattle.vdr_durability.specs.Readings.{comes_next}
 use Rattle.vdr_media.proofs.Two.{second_of}
-use Rattle.vdr_ring.proofs.Faults.{same_err}
 use Rattle.vdr_opening.specs.Answers.{IsMissing}
 use Rattle.vdr_opening.proofs.Calls.{reads_still}
 use Rattle.vdr_opening.proofs.Causes.{part_failed}

@@ -2,7 +2,8 @@ use Rattle.std.proofs.Common.{ℕ, List, None, inl, inr, sym, subst}
 use Rattle.std.proofs.lemmas.Result.{err_from_is_err_and}
 use Rattle.vdr_outside.proofs.Counts.{none_falls_join}
 use Rattle.vdr_media.proofs.Unformatted.{durable_still}
-use Rattle.vdr_ring.proofs.Faults.{same_err, no_fault}
+use Rattle.vdr_ring.proofs.Faults.{no_fault}
+use Rattle.vdr_terms.proofs.Results.{same_err}
 use Rattle.vdr_opening.specs.Media.{HasFront}
 use Rattle.vdr_opening.specs.Refusals.{RefusesConfiguration}
 use Rattle.vdr_opening.proofs.Calls.{unchanged_join, same_content}

@@ -2,7 +2,8 @@ use Rattle.std.proofs.Common.{ℕ, List, Some, inl, inr, sym, subst, refl}
 use Rattle.std.proofs.lemmas.Result.{err_from_is_err_and}
 use Rattle.vdr_outside.proofs.Counts.{none_falls_join}
 use Rattle.vdr_media.proofs.Unformatted.{durable_still}
-use Rattle.vdr_ring.proofs.Faults.{same_err, fault_after}
+use Rattle.vdr_ring.proofs.Faults.{fault_after}
+use Rattle.vdr_terms.proofs.Results.{same_err}
 use Rattle.vdr_opening.specs.Media.{HasFront}
 use Rattle.vdr_opening.specs.Refusals.{RefusesConfiguration}
 use Rattle.vdr_opening.proofs.Calls.{if_ok_both, unchanged_join, same_content}

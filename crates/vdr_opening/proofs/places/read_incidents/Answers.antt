@@ -2,8 +2,8 @@ use Rattle.std.proofs.Common.{ℕ, inl, ap, subst}
 use Rattle.std.proofs.lemmas.Result.{err_from_is_err_and}
 use Rattle.vdr_outside.specs.Disk.{content}
 use Rattle.vdr_config.specs.Configuration.{Configuration}
-use Rattle.vdr_ring.proofs.Faults.{same_err}
 use Rattle.vdr_incident.specs.Tables.{Refuses}
+use Rattle.vdr_terms.proofs.Results.{same_err}
 use Rattle.vdr_opening.proofs.places.read_incidents.Goals as goal
 
 pub returns-in_err-table-clause-damaged : goal.returns-in_err-table-clause-damaged

@@ -3,7 +3,7 @@ use Rattle.std.proofs.lemmas.Result.{err_from_is_err_and}
 use Rattle.vdr_outside.proofs.Counts.{none_falls_join}
 use Rattle.vdr_media.proofs.Two.{second_of}
 use Rattle.vdr_media.proofs.Unformatted.{durable_still}
-use Rattle.vdr_ring.proofs.Faults.{same_err}
+use Rattle.vdr_terms.proofs.Results.{same_err}
 use Rattle.vdr_opening.specs.Media.{reading_of}
 use Rattle.vdr_opening.proofs.Calls.{reads_still, unchanged_join}
 use Rattle.vdr_opening.proofs.Causes.{part_failed, part_passed, part_done}

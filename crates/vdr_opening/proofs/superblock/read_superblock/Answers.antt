@@ -8,7 +8,7 @@ use Rattle.vdr_opening.proofs.superblock.read_superblock.Goals as goal
 
 pub returns-in-Some-clause-legal : goal.returns-in-Some-clause-legal
 returns-in-Some-clause-legal g c told =
-    is_superblock _ _ _ _ _ (c.in_ok-read.ensures.bytes told) (size_read (g.M.Media.disk c.args.media.now) c.args.m told ∙ sym c.size-size.ensures) (omega (arith, c.if-size-lt-SEGMENTS_FROM.false)) c.in-Some.ensures.some
+    is_superblock _ _ _ _ _ (c.in_ok-read.ensures.bytes told) (size_read (g.M.Media.disk c.args.media.now) c.args.m told ∙ sym c.size-size.ensures) (omega (arith, c.if-size-lt-SLOTS_FROM.false)) c.in-Some.ensures.some
 
 pub returns-in-None-clause-damaged : goal.returns-in-None-clause-damaged
 returns-in-None-clause-damaged g c k offset e =

@@ -14,9 +14,9 @@ returns-then-bytes-clause-none c segment s =
 
 pub returns-then-ne-clause-none : goal.returns-then-ne-clause-none
 returns-then-ne-clause-none c =
-    says_none _ _ _ _ _ _ _ c.slot_count.ensures (c.as_slice.ensures ∙ c.superblock_bytes-legal.ensures) c.ne.ensures c.u32_at-segment.ensures c.if-ne.true
+    says_none _ _ _ _ _ _ _ c.slot_count.ensures.count (c.as_slice.ensures ∙ c.superblock_bytes-legal.ensures) c.ne.ensures c.u32_at-segment.ensures c.if-ne.true
 
 pub returns-clause-some : goal.returns-clause-some
 returns-clause-some c =
-    says _ _ _ _ _ _ _ c.slot_count.ensures (c.as_slice.ensures ∙ c.superblock_bytes-legal.ensures) c.ne.ensures c.requires c.if-bytes.false (omega (arith, c.if-segment-lt-SEGMENT_LOW.false))
+    says _ _ _ _ _ _ _ c.slot_count.ensures.count (c.as_slice.ensures ∙ c.superblock_bytes-legal.ensures) c.ne.ensures c.requires c.if-bytes.false (omega (arith, c.if-segment-lt-SEGMENT_LOW.false))
     (omega (arith, c.if-segment-gt-SEGMENT_HIGH.false)) c.if-ne.false

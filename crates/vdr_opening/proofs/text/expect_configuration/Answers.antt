@@ -1,10 +1,10 @@
 use Rattle.std.proofs.Common.{ℕ, List, get_or, Some, sym, ◌∙◌, ap, subst}
 use Rattle.std.proofs.lemmas.Result.{err_from_is_err_and}
 use Rattle.vdr_terms.specs.Needs.{Fits}
+use Rattle.vdr_terms.proofs.Results.{same_err}
 use Rattle.vdr_outside.specs.Disk.{content}
 use Rattle.vdr_outside.proofs.Moments.{size_read}
 use Rattle.vdr_config.specs.Sizes.{sizes_of}
-use Rattle.vdr_ring.proofs.Faults.{same_err}
 use Rattle.vdr_media.specs.Medium.{HoldsText}
 use Rattle.vdr_opening.specs.Refusals.{RefusesConfiguration}
 use Rattle.vdr_opening.proofs.Differing.{are_same, differ}

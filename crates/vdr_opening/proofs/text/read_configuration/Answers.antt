@@ -1,13 +1,13 @@
 use Rattle.std.proofs.Common.{◌≡◌, ℕ, List, get_or, None, Ok, sym, ◌∙◌, ap, subst}
 use Rattle.std.proofs.lemmas.Result.{err_from_is_err_and}
 use Rattle.vdr_terms.specs.Needs.{Fits}
+use Rattle.vdr_terms.proofs.Results.{same_err}
 use Rattle.vdr_outside.specs.Disk.{content}
 use Rattle.vdr_config.specs.Grammar.{configuration}
 use Rattle.vdr_config.specs.Sizes.{sizes_of}
 use Rattle.vdr_opening.specs.Refusals.{RefusesConfiguration}
 use Rattle.vdr_opening.proofs.Fronts.{named, refused_textless, refused_text, has_front, other_config}
 use Rattle.vdr_outside.proofs.Moments.{size_read}
-use Rattle.vdr_ring.proofs.Faults.{same_err}
 use Rattle.vdr_opening.proofs.text.read_configuration.Goals as goal
 
 pub returns-in_err-text-clause-damaged : goal.returns-in_err-text-clause-damaged

@@ -13,28 +13,28 @@ use Rattle.vdr_readout.proofs.ExportLemmas.{both_there, channel_exports, inciden
 use Rattle.vdr_readout.proofs.ReadLemmas.{wanted_so}
 use Rattle.vdr_readout.proofs.exporting.export.Goals as goal
 
-pub returns-in_err-recording-clause-ends : goal.returns-in_err-recording-clause-ends
-returns-in_err-recording-clause-ends g c =
+pub returns-in_err-recorder-clause-ends : goal.returns-in_err-recorder-clause-ends
+returns-in_err-recorder-clause-ends g c =
     let told = c.open.ensures in
     let p = err_from_is_err_and c.from_residual.result c.from_residual.ensures.1 in
     rw (p.1, p.2)
-    (opening_exports _ _ _ _ c.in_err-recording.field-0.0
-    (λ m offset e. let was = c.in_err-recording.was ∙ ap (λ (r : OpenRefused). Err r) e in let same = told.refused.untouched (inr (m, offset, was)) in (record { leaves = same.0; reads = same.1 }, told.refused.damaged m offset was))
+    (opening_exports _ _ _ _ c.in_err-recorder.field-0.0
+    (λ m offset e. let was = c.in_err-recorder.was ∙ ap (λ (r : OpenRefused). Err r) e in let same = told.refused.untouched (inr (m, offset, was)) in (record { leaves = same.0; reads = same.1 }, told.refused.damaged m offset was))
     refl
-    (refused_ends _ _ AreLooks _ _ c.open.result c.in_err-recording.field-0.0 no_looks c.in_err-recording.was
+    (refused_ends _ _ AreLooks _ _ c.open.result c.in_err-recorder.field-0.0 no_looks c.in_err-recorder.was
     told.refused.unformatted told.refused.damaged told.refused.untouched told.refused.blank told.writes.others told.writes.cause told.moments)
     told.missing)
 
 pub returns-in_default-clause-ends : goal.returns-in_default-clause-ends
 returns-in_default-clause-ends g c =
     let told = c.open.ensures in
-    channel_exports _ _ _ _ c.open.result c.in_ok-recording.recording c.in_ok-recording.was c.in_ok-recording.recording.members c.in_default.ensures.none c.in_ok-recording.ensures.opened.contents
+    channel_exports _ _ _ _ c.open.result c.in_ok-recorder.recorder c.in_ok-recorder.was c.in_ok-recorder.recorder.vault c.in_default.ensures.none c.in_ok-recorder.ensures.opened.contents
     told.writes.others told.moments (λ a b h k. (c.law_of_contents.ensures.config (g.M.Media.disk c.args.world.now.media).reads a b h k).0)
     c.report_channel.ensures told.missing
 
 pub returns-in_default-accept-clause-ends : goal.returns-in_default-accept-clause-ends
 returns-in_default-accept-clause-ends g c =
-    let told = c.in_ok-recording.ensures in
+    let told = c.in_ok-recorder.ensures in
     let old : Outside g.M.Media.tells g.M.Media.tells_images = record {
       input = record { left = g.I.Source.left c.args.world.now.input; faults = g.I.Source.faults c.args.world.now.input };
       output = record { taken = g.O.Sink.taken c.args.world.now.output; faults = g.O.Sink.faults c.args.world.now.output };
@@ -47,14 +47,14 @@ returns-in_default-accept-clause-ends g c =
     } in
     let wants = wanted_so _ _ _ _ _ (asked c.in-Some.query) c.in-Some.ensures.found.0 c.in-Some.ensures.found.1 in
     rw (c.id_of.ensures)
-    (incident_exports c.args.wish (plain_play c.args.wanted) old mid mid.media c.in_ok-recording.recording c.in_ok-recording.recording (asked c.in-Some.query) wants told.opened.works told.opened.contents told.opened.opened told.opened.readable
+    (incident_exports c.args.wish (plain_play c.args.wanted) old mid mid.media c.in_ok-recorder.recorder c.in_ok-recorder.recorder (asked c.in-Some.query) wants told.opened.works told.opened.contents told.opened.opened told.opened.readable
     c.open.ensures.writes.cause.later c.open.ensures.writes.others c.open.ensures.missing c.open.result c.open.ensures.moments
     c.accept.result _ c.accept.ensures c.in_default-accept.is
-    (looked_nothing (asked c.in-Some.query) c.in_ok-recording.recording (g.M.Media.disk c.open.new.media) (g.M.Media.bytes_read c.open.new.media) (g.M.Media.faults c.open.new.media) ⊥ (λ never. never) told.opened.rings) refl)
+    (looked_nothing (asked c.in-Some.query) c.in_ok-recorder.recorder (g.M.Media.disk c.open.new.media) (g.M.Media.bytes_read c.open.new.media) (g.M.Media.faults c.open.new.media) ⊥ (λ never. never) told.opened.rings) refl)
 
 pub returns-in_default-file_of-clause-ends : goal.returns-in_default-file_of-clause-ends
 returns-in_default-file_of-clause-ends g c =
-    let told = c.in_ok-recording.ensures in
+    let told = c.in_ok-recorder.ensures in
     let old : Outside g.M.Media.tells g.M.Media.tells_images = record {
       input = record { left = g.I.Source.left c.args.world.now.input; faults = g.I.Source.faults c.args.world.now.input };
       output = record { taken = g.O.Sink.taken c.args.world.now.output; faults = g.O.Sink.faults c.args.world.now.output };
@@ -67,20 +67,20 @@ returns-in_default-file_of-clause-ends g c =
     } in
     let wants = wanted_so _ _ _ _ _ (asked c.in-Some.query) c.in-Some.ensures.found.0 c.in-Some.ensures.found.1 in
     let there = both_there _ _ c.accept.result c.accept.ensures c.in-Ok.is in
-    kind_exports c.args.wish (plain_play c.args.wanted) old mid mid.media c.in_ok-recording.recording c.in_ok-recording.recording (asked c.in-Some.query) wants told.opened.works told.opened.contents told.opened.opened told.opened.readable
+    kind_exports c.args.wish (plain_play c.args.wanted) old mid mid.media c.in_ok-recorder.recorder c.in_ok-recorder.recorder (asked c.in-Some.query) wants told.opened.works told.opened.contents told.opened.opened told.opened.readable
     c.open.ensures.writes.cause.later c.open.ensures.writes.others c.open.ensures.missing c.open.result c.open.ensures.moments
     there.0 there.1 c.file_of.result (c.file_of.ensures ∙ ap (λ (d : Configuration). wished c.args.wish (kind_at d.channels c.in-Some.query.channel)) c.config.ensures) c.in_default-file_of.is
     (λ a b h k. (c.law_of_contents.ensures.config (g.M.Media.disk c.args.world.now.media).reads a b h k).0)
-    (looked_nothing (asked c.in-Some.query) c.in_ok-recording.recording (g.M.Media.disk c.open.new.media) (g.M.Media.bytes_read c.open.new.media) (g.M.Media.faults c.open.new.media) ⊥ (λ never. never) told.opened.rings) refl
+    (looked_nothing (asked c.in-Some.query) c.in_ok-recorder.recorder (g.M.Media.disk c.open.new.media) (g.M.Media.bytes_read c.open.new.media) (g.M.Media.faults c.open.new.media) ⊥ (λ never. never) told.opened.rings) refl
 
 pub export_file-written-requires : goal.export_file-written-requires
 export_file-written-requires g c =
     let there = both_there _ _ c.accept.result c.accept.ensures c.in-Ok.is in
-    record { asked = record { rings = c.in_ok-recording.ensures.opened.rings; channel = there.0; incident = there.1 } }
+    record { asked = record { rings = c.in_ok-recorder.ensures.opened.rings; channel = there.0; incident = there.1 } }
 
 pub returns-clause-ends : goal.returns-clause-ends
 returns-clause-ends g c =
-    let told = c.in_ok-recording.ensures in
+    let told = c.in_ok-recorder.ensures in
     let made = c.export_file-written.ensures in
     let old : Outside g.M.Media.tells g.M.Media.tells_images = record {
       input = record { left = g.I.Source.left c.args.world.now.input; faults = g.I.Source.faults c.args.world.now.input };
@@ -100,7 +100,7 @@ returns-clause-ends g c =
     } in
     let there = both_there _ _ c.accept.result c.accept.ensures c.in-Ok.is in
     rw c.exported.ensures
-    (made_exports c.args.wish (plain_play c.args.wanted) old new mid.media c.in_ok-recording.recording c.export_file-written.new.recording (asked c.in-Some.query) wants told.opened.works told.opened.contents told.opened.opened told.opened.readable
+    (made_exports c.args.wish (plain_play c.args.wanted) old new mid.media c.in_ok-recorder.recorder c.export_file-written.new.recorder (asked c.in-Some.query) wants told.opened.works told.opened.contents told.opened.opened told.opened.readable
     c.open.ensures.writes.cause.later c.open.ensures.writes.others
     (missing_looked (g.M.Media.disk c.args.world.now.media) (g.M.Media.disk c.open.new.media) (g.M.Media.disk c.export_file-written.new.media) c.open.ensures.missing made.looked.read.unchanged) c.open.result c.open.ensures.moments
     there.0 there.1 c.file_of.result (c.file_of.ensures ∙ ap (λ (d : Configuration). wished c.args.wish (kind_at d.channels c.in-Some.query.channel)) c.config.ensures) c.in-Some-file_of.file c.in-Some-file_of.is

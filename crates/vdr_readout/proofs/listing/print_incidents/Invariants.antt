@@ -5,6 +5,6 @@ use Rattle.vdr_readout.proofs.listing.print_incidents.Given as goal
 
 abbrev pub invariant-loop-before : goal.invariant-loop-before
 invariant-loop-before g l = record {
-  printed : Appends (g.O.Sink.taken l.initial.out) (g.O.Sink.taken l.out) (rows_to l.before l.recording.members.table);
+  printed : Appends (g.O.Sink.taken l.initial.out) (g.O.Sink.taken l.out) (rows_to l.before l.recorder.vault.table);
   later : g.O.Sink.faults l.initial.out ≤ g.O.Sink.faults l.out;
 }

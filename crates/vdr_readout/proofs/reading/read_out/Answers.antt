@@ -8,25 +8,25 @@ use Rattle.vdr_readout.specs.Reads.{AskedPlay, plain_play}
 use Rattle.vdr_readout.proofs.ReadLemmas.{channel_reads, never_damaged, opening_reads, read_ends, read_shows, wanted_so}
 use Rattle.vdr_readout.proofs.reading.read_out.Goals as goal
 
-pub returns-in_err-recording-clause-reads : goal.returns-in_err-recording-clause-reads
-returns-in_err-recording-clause-reads g c first had =
+pub returns-in_err-recorder-clause-reads : goal.returns-in_err-recorder-clause-reads
+returns-in_err-recorder-clause-reads g c first had =
     let told = c.open.ensures in
     let p = err_from_is_err_and c.from_residual.result c.from_residual.ensures.1 in
     rw (p.1, p.2)
-    (opening_reads _ _ _ _ _ _ _ _ c.in_err-recording.field-0.0 refl
-    (refused_ends _ _ AreLooks _ _ c.open.result c.in_err-recording.field-0.0 no_looks c.in_err-recording.was
+    (opening_reads _ _ _ _ _ _ _ _ c.in_err-recorder.field-0.0 refl
+    (refused_ends _ _ AreLooks _ _ c.open.result c.in_err-recorder.field-0.0 no_looks c.in_err-recorder.was
     told.refused.unformatted told.refused.damaged told.refused.untouched told.refused.blank told.writes.others told.writes.cause told.moments)
     told.missing)
 
 pub returns-in_default-clause-reads : goal.returns-in_default-clause-reads
 returns-in_default-clause-reads g c first had =
     let told = c.open.ensures in
-    channel_reads _ _ _ _ _ _ _ _ c.open.result c.in_ok-recording.recording c.in_ok-recording.was c.in_ok-recording.recording.members c.in_default.ensures.none c.in_ok-recording.ensures.opened.contents
+    channel_reads _ _ _ _ _ _ _ _ c.open.result c.in_ok-recorder.recorder c.in_ok-recorder.was c.in_ok-recorder.recorder.vault c.in_default.ensures.none c.in_ok-recorder.ensures.opened.contents
     told.writes.others told.moments c.report_channel.ensures told.missing
 
 pub returns-clause-reads : goal.returns-clause-reads
 returns-clause-reads g c first had =
-    let told = c.in_ok-recording.ensures in
+    let told = c.in_ok-recorder.ensures in
     let visit = c.visit-ended.ensures in
     let wanted : AskedPlay = plain_play c.args.wanted in
     let old : Outside g.M.Media.tells g.M.Media.tells_images = record {
@@ -50,13 +50,13 @@ returns-clause-reads g c first had =
     rw c.ended_by.ensures.is
     (record {
       shown =
-          read_shows wanted old.media mid.media new.media c.in_ok-recording.recording c.visit-ended.new.self (asked c.in-Some.query) c.visit-ended.result wants told.opened.works told.opened.contents told.opened.opened told.opened.readable
+          read_shows wanted old.media mid.media new.media c.in_ok-recorder.recorder c.visit-ended.new.self (asked c.in-Some.query) c.visit-ended.result wants told.opened.works told.opened.contents told.opened.opened told.opened.readable
           visit.accepted undamaged visit.looked c.open.ensures.writes.cause.later c.open.ensures.writes.others _ c.ended_by.ensures.own c.open.result c.open.ensures.moments
           (λ a b h k. (c.law_of_contents.ensures.config (g.M.Media.disk c.args.world.now.media).reads a b h k).0) _ _ _ _ old.output new.output visited
           (λ refused. let same = (visit.unread (inr refused)).3 in λ i. record { taken = g.O.Sink.taken (same i); faults = g.O.Sink.faults (same i) })
           visit.output.rose;
       media =
-          read_ends wanted old.media mid.media new.media c.in_ok-recording.recording c.visit-ended.new.self (asked c.in-Some.query) c.visit-ended.result wants told.opened.works told.opened.contents told.opened.opened told.opened.readable
+          read_ends wanted old.media mid.media new.media c.in_ok-recorder.recorder c.visit-ended.new.self (asked c.in-Some.query) c.visit-ended.result wants told.opened.works told.opened.contents told.opened.opened told.opened.readable
           visit.accepted undamaged visit.looked c.open.ensures.writes.cause.later c.open.ensures.writes.others _ c.ended_by.ensures.own c.open.result c.open.ensures.moments;
       missing = missing_looked (g.M.Media.disk c.args.world.now.media) (g.M.Media.disk c.open.new.media) (g.M.Media.disk c.visit-ended.new.media) c.open.ensures.missing visit.looked.read.unchanged;
     })

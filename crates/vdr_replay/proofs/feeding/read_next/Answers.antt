@@ -3,7 +3,7 @@ use Rattle.vdr_config.specs.Configuration.{Configuration}
 use Rattle.vdr_feed.specs.Reader.{GivesItem, Reading}
 use Rattle.vdr_feed.specs.declared.fault.FeedFault.{FeedFault}
 use Rattle.vdr_feed.specs.declared.item.Item.{Item as Held}
-use Rattle.vdr_replay.proofs.Held.{none_there}
+use Rattle.vdr_replay.proofs.Given.{none_there}
 use Rattle.vdr_replay.proofs.Reading.{ends_failed, ends_strange}
 use Rattle.vdr_replay.proofs.feeding.read_next.Goals as goal
 

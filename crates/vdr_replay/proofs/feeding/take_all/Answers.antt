@@ -18,7 +18,7 @@ loop-end-init g c = record {
     λ first h. h,
     c.requires.held,
     λ opening events t0 told h. takes_none opening [] _ events t0 _ _
-        (subst (λ (batch : List Captured). HasTaken opening [] batch events t0 c.args.recording.now (g.M.Media.disk c.args.media.now)) (sym c.requires.empty) h),
+        (subst (λ (batch : List Captured). HasTaken opening [] batch events t0 c.args.recorder.now (g.M.Media.disk c.args.media.now)) (sym c.requires.empty) h),
   );
   works = c.requires.works;
   opened = c.requires.open;
@@ -36,12 +36,12 @@ loop-end-preserved g c =
     let gave = c.in_default.ensures.gave in
     let some = w.1 c.requires.read.0 c.requires.read.1 in
     let few : length w.0 < longest_feed = omega (arith, gave.1.few, some.count, some.limit) in
-    let held = subst (λ (config : Configuration). HoldsFeed config w.0 c.loop-end.lanes c.loop-end.recording.maker) (sym c.loop-end.invariant.config) w.2 in
+    let held = subst (λ (config : Configuration). HoldsFeed config w.0 c.loop-end.lanes c.loop-end.recorder.maker) (sym c.loop-end.invariant.config) w.2 in
     record {
       walked = (
         w.0 ++ gave.0 ∷ [],
         λ first h. read_next first _ _ _ _ _ w.0 gave.0 (w.1 first h) gave.1 gave.2,
-        subst (λ (config : Configuration). HoldsFeed config (w.0 ++ gave.0 ∷ []) c.take_item.new.lanes c.take_item.new.recording.maker) (c.take_item.ensures.config ∙ c.loop-end.invariant.config)
+        subst (λ (config : Configuration). HoldsFeed config (w.0 ++ gave.0 ∷ []) c.take_item.new.lanes c.take_item.new.recorder.maker) (c.take_item.ensures.config ∙ c.loop-end.invariant.config)
             (c.in_ok-take_item.ensures.held w.0 gave.0 held few gave.1.holds),
         λ opening events t0 told h.
             let t = w.3 opening events t0 told h in

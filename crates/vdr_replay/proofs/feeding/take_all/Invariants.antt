@@ -14,13 +14,13 @@ abbrev pub invariant-loop-end : goal.invariant-loop-end
 invariant-loop-end g l = record {
   walked : (feed : List FeedItem)
       × ((first : Option (List ℕ)) → HasRead first (g.I.Source.left l.fn.input) l.fn.reader [] → HasRead first (g.I.Source.left l.input) l.reader feed)
-      × HoldsFeed l.fn.recording.members.config feed l.lanes l.recording.maker
-      × ((opening : Opening) (events : List Event) (t0 : ℕ) → g.M.Media.tells → HasTaken opening [] [] events t0 l.fn.recording (g.M.Media.disk l.fn.media)
-      → TakesOn opening feed l.lanes.batch.items events t0 l.recording (g.M.Media.disk l.fn.media) (g.M.Media.disk l.media));
-  works : l.recording.members.failed ≡ false;
-  opened : l.recording.is_open ≡ true;
-  config : l.recording.members.config ≡ l.fn.recording.members.config;
-  rings : AreRings l.recording.members (g.M.Media.disk l.media).sizes;
+      × HoldsFeed l.fn.recorder.vault.config feed l.lanes l.recorder.maker
+      × ((opening : Opening) (events : List Event) (t0 : ℕ) → g.M.Media.tells → HasTaken opening [] [] events t0 l.fn.recorder (g.M.Media.disk l.fn.media)
+      → TakesOn opening feed l.lanes.batch.items events t0 l.recorder (g.M.Media.disk l.fn.media) (g.M.Media.disk l.media));
+  works : l.recorder.vault.failed ≡ false;
+  opened : l.recorder.is_open ≡ true;
+  config : l.recorder.vault.config ≡ l.fn.recorder.vault.config;
+  rings : AreRings l.recorder.vault (g.M.Media.disk l.media).sizes;
   others : g.M.Media.tells → SameElsewhere (g.M.Media.disk l.fn.media).reads (g.M.Media.disk l.media).reads;
   sizes : (g.M.Media.disk l.media).sizes ≡ (g.M.Media.disk l.fn.media).sizes;
   falls : NoneFalls (g.M.Media.faults l.fn.media) (g.M.Media.faults l.media);

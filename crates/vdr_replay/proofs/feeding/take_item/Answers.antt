@@ -19,6 +19,6 @@ returns-clause-taken g c = λ opening feed x events t0 told holds held h.
 pub returns-clause-held : goal.returns-clause-held
 returns-clause-held g c = λ feed x h few holds.
     let held = c.in_ok-make_room.ensures.held feed h in
-    holds_more c.make_room.new.recording.members.config feed x c.args.item.now c.make_room.new.lanes _ c.make_room.new.recording.maker held few holds c.requires.legal.group
+    holds_more c.make_room.new.recorder.vault.config feed x c.args.item.now c.make_room.new.lanes _ c.make_room.new.recorder.maker held few holds c.requires.legal.group
     (subst (λ (config : Configuration). HasRate config.groups c.args.item.now.group) (sym c.make_room.ensures.config) c.requires.configured)
     (c.take.ensures.counts feed x held.counts holds) (c.take.ensures.batch feed x held.counts holds) c.take.ensures.room c.take.ensures.sized

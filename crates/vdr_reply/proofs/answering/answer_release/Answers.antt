@@ -6,7 +6,7 @@ pub returns-clause-answered : goal.returns-clause-answered
 returns-clause-answered g c = λ opening events t0 told h.
     let e = c.release.ensures in
     let works = c.requires.works in
-    release_answer opening events t0 c.args.recording.now (g.M.Media.disk c.args.media.now) h c.args.recording.now.members.config.channels _ c.of_release.result works c.release.new.self (g.M.Media.disk c.release.new.media)
+    release_answer opening events t0 c.args.recorder.now (g.M.Media.disk c.args.media.now) h c.args.recorder.now.vault.config.channels _ c.of_release.result works c.release.new.self (g.M.Media.disk c.release.new.media)
     c.args.id c.release.result c.of_release.ensures
     (λ saved some. e.event.released opening events t0 saved told works some h)
     (λ none. e.event.looked opening events t0 (inr none) h)

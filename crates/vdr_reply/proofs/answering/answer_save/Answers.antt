@@ -6,7 +6,7 @@ pub returns-clause-answered : goal.returns-clause-answered
 returns-clause-answered g c = λ opening events t0 told h.
     let e = c.save.ensures in
     let works = c.requires.works in
-    save_answer opening events t0 c.args.recording.now (g.M.Media.disk c.args.media.now) h c.args.recording.now.members.config.channels _ c.of_save.result works c.save.new.self (g.M.Media.disk c.save.new.media)
+    save_answer opening events t0 c.args.recorder.now (g.M.Media.disk c.args.media.now) h c.args.recorder.now.vault.config.channels _ c.of_save.result works c.save.new.self (g.M.Media.disk c.save.new.media)
     c.args.label.now c.save.result c.of_save.ensures
     (λ none undamaged. e.event.saved opening events t0 told works none undamaged h)
     (λ refused some. e.event.looked opening events t0 refused (inr some) h)

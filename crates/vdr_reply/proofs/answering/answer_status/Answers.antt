@@ -5,6 +5,6 @@ use Rattle.vdr_reply.proofs.answering.answer_status.Goals as goal
 
 pub returns : goal.returns
 returns g c = record {
-  answered = λ opening events t0 h. status_answer opening events t0 c.args.recording.now (g.M.Media.disk c.args._media.now) h c.args.recording.now.members.config.channels _ c.of_state.result c.requires.works
+  answered = λ opening events t0 h. status_answer opening events t0 c.args.recorder.now (g.M.Media.disk c.args._media.now) h c.args.recorder.now.vault.config.channels _ c.of_state.result c.requires.works
       (c.of_state.ensures ∙ (λ i. state_line (c.status.ensures.records i) (c.status.ensures.tick i) (c.status.ensures.incidents i)));
 }

@@ -7,13 +7,13 @@ use Rattle.vdr_outside.specs.Causes.{Rose}
 use Rattle.vdr_playback.specs.Playback.{selected}
 use Rattle.vdr_play.specs.Streams.{nothing_seen}
 use Rattle.vdr_play.specs.Texts.{records_text}
-use Rattle.vdr_visit.specs.Stops.{lacks_channel, lacks_incident}
-use Rattle.vdr_visit.specs.declared.stop.VisitStop.{VisitStop}
-use Rattle.vdr_visit.specs.declared.stop.VisitStop.TheVariants as plays
+use Rattle.vdr_visit.specs.Refusals.{lacks_channel, lacks_incident}
+use Rattle.vdr_visit.specs.declared.refused.VisitRefused.{VisitRefused}
+use Rattle.vdr_visit.specs.declared.refused.VisitRefused.TheVariants as plays
 use Rattle.vdr_recorder.proofs.Printing.{played_all, played_undamaged}
 use Rattle.vdr_ring.specs.Rings.{RingState}
 use Rattle.vdr_vault.specs.Plays.{ReadsOn, with_ring}
-use Rattle.vdr_vault.specs.Vaults.{MembersState}
+use Rattle.vdr_vault.specs.Vaults.{VaultState}
 use Rattle.vdr_vault.proofs.Playing.{stands_to_read}
 use Rattle.vdr_reply.specs.Orders.{query_of}
 use Rattle.vdr_reply.specs.Texts.{done_line}
@@ -21,15 +21,15 @@ use Rattle.vdr_reply.proofs.Played.{no_memory_answer, played_answer, unnamed_ans
 use Rattle.vdr_reply.proofs.playing.answer_play.Goals as goal
 
 -- a read leaves it as it is whether a write has failed
-failed_by : (b : Bool) (capsule long_term : MembersState) (failed : Bool) → capsule.failed ≡ failed → long_term.failed ≡ failed → (if b then capsule else long_term).failed ≡ failed
+failed_by : (b : Bool) (capsule long_term : VaultState) (failed : Bool) → capsule.failed ≡ failed → long_term.failed ≡ failed → (if b then capsule else long_term).failed ≡ failed
 failed_by true capsule long_term failed p q = p
 failed_by false capsule long_term failed p q = q
 
-reads_failed : (m : ℕ) (old new : MembersState) → ReadsOn m old new → new.failed ≡ old.failed
-reads_failed m old new is = ap (λ (x : MembersState). x.failed) is ∙ failed_by (m == 0) _ _ old.failed refl refl
+reads_failed : (m : ℕ) (old new : VaultState) → ReadsOn m old new → new.failed ≡ old.failed
+reads_failed m old new is = ap (λ (x : VaultState). x.failed) is ∙ failed_by (m == 0) _ _ old.failed refl refl
 
 -- the page after what was read
-page_after : {R : Type 0} (res : Result ⊤ (VisitStop R)) (begun page text : List ℕ) → OnOk res (Appends (Some begun) (Some page) text) → begun ≡ done_line → OnOk res (page ≡ done_line ++ text)
+page_after : {R : Type 0} (res : Result ⊤ (VisitRefused R)) (begun page text : List ℕ) → OnOk res (Appends (Some begun) (Some page) text) → begun ≡ done_line → OnOk res (page ≡ done_line ++ text)
 page_after (Ok x) begun page text more is = more ∙ ap (λ (l : List ℕ). l ++ text) is
 page_after (Err x) begun page text more is = tt
 
@@ -39,30 +39,30 @@ in_this_call failed rose works (inr is) = is
 
 pub returns-in_default-clause-answered : goal.returns-in_default-clause-answered
 returns-in_default-clause-answered g c = λ opening events t0 told h.
-    unnamed_answer opening events t0 c.args.recording.now (g.M.Media.disk c.args.media.now) h _ c.of_line.result c.requires.works c.args.wanted.medium c.args.wanted.name.now c.args.wanted.from c.args.wanted.to
+    unnamed_answer opening events t0 c.args.recorder.now (g.M.Media.disk c.args.media.now) h _ c.of_line.result c.requires.works c.args.wanted.medium c.args.wanted.name.now c.args.wanted.from c.args.wanted.to
     c.in_default.ensures.none c.of_line.ensures
 
 pub returns-in_default-begin-clause-answered : goal.returns-in_default-begin-clause-answered
 returns-in_default-begin-clause-answered g c = λ opening events t0 told h.
-    no_memory_answer opening events t0 c.args.recording.now (g.M.Media.disk c.args.media.now) h _ c.of_line-in_default-begin.result c.requires.works c.args.wanted.medium c.args.wanted.name.now c.args.wanted.from c.args.wanted.to
+    no_memory_answer opening events t0 c.args.recorder.now (g.M.Media.disk c.args.media.now) h _ c.of_line-in_default-begin.result c.requires.works c.args.wanted.medium c.args.wanted.name.now c.args.wanted.from c.args.wanted.to
     c.of_line-in_default-begin.ensures
 
 pub returns-clause-answered : goal.returns-clause-answered
 returns-clause-answered g c = λ opening events t0 told h.
     let e = c.play-played.ensures in
     let works = c.requires.works in
-    let channels = c.args.recording.now.members.config.channels in
+    let channels = c.args.recorder.now.vault.config.channels in
     let found = c.in-Some.ensures.found in
     let is = found.0 in
-    let readable = stands_to_read opening events c.args.recording.now.members (h.works works).placed (g.M.Media.disk c.args.media.now) (h.works works).stands in
-    played_answer opening events t0 c.args.recording.now (g.M.Media.disk c.args.media.now) h (Rose (sum (g.M.Media.faults c.args.media.now)) (sum (g.M.Media.faults c.play-played.new.media))) c.of_played.result works c.args.wanted.medium c.args.wanted.name.now c.args.wanted.from c.args.wanted.to
+    let readable = stands_to_read opening events c.args.recorder.now.vault (h.works works).placed (g.M.Media.disk c.args.media.now) (h.works works).stands in
+    played_answer opening events t0 c.args.recorder.now (g.M.Media.disk c.args.media.now) h (Rose (sum (g.M.Media.faults c.args.media.now)) (sum (g.M.Media.faults c.play-played.new.media))) c.of_played.result works c.args.wanted.medium c.args.wanted.name.now c.args.wanted.from c.args.wanted.to
     c.play-played.new.self (g.M.Media.disk c.play-played.new.media) c.play-played.result c.play-played.new.out.bytes.items c.of_played.ensures
     (e.looked.done opening events t0 h)
-    (reads_failed _ c.args.recording.now.members c.play-played.new.self.members e.looked.read.members ∙ works)
+    (reads_failed _ c.args.recorder.now.vault c.play-played.new.self.vault e.looked.read.vault ∙ works)
     found.1
     (λ refused. ap (λ (q : Query). lacks_channel (length channels) q.channel) (sym is) ∙ e.accepted.channel.0 refused)
-    (subst (λ (q : Query). (c.play-played.result ≡ Err plays.NoIncident) ↔ ((lacks_channel (length channels) q.channel ≡ false) × (lacks_incident c.args.recording.now.members.table q.medium ≡ true))) is e.accepted.incident)
+    (subst (λ (q : Query). (c.play-played.result ≡ Err plays.NoIncident) ↔ ((lacks_channel (length channels) q.channel ≡ false) × (lacks_incident c.args.recorder.now.vault.table q.medium ≡ true))) is e.accepted.incident)
     (subst (λ (q : Query). OnOk c.play-played.result (c.play-played.new.out.bytes.items ≡ done_line ++ records_text nothing_seen (selected opening events q))) is
     (page_after c.play-played.result c.in-Ok.page.bytes.items c.play-played.new.out.bytes.items _ (played_all opening events (h.works works).placed told readable e.played) c.in-Ok.ensures.text))
     (λ m offset. played_undamaged opening events (h.works works).placed told readable e.played m offset)
-    (λ fault. in_this_call c.args.recording.now.members.failed _ works (e.looked.cause.in_all fault))
+    (λ fault. in_this_call c.args.recorder.now.vault.failed _ works (e.looked.cause.in_all fault))

@@ -45,7 +45,7 @@ ends limit first before now r r' held w records p e told =
 
 pub loop-item-init : goal.loop-item-init
 loop-item-init g c = record {
-  walked = ([], read_first _ _ _ c.in-Ok.ensures.bytes (c.in-Ok.ensures.ready ∙ search rules), c.new-walk.ensures);
+  walked = ([], read_first _ _ _ c.in-Ok.ensures.bytes (c.in-Ok.ensures.ready ∙ search rules), c.in-Ok-new.ensures);
   later = search rules;
 }
 

@@ -4,9 +4,9 @@ use Rattle.vdr_outside.specs.Disk.{Image, content}
 use Rattle.vdr_outside.proofs.Counts.{none_falls_join}
 use Rattle.vdr_outside.proofs.Moments.{unchanged_join}
 use Rattle.vdr_slots.specs.Slots.{IsFront}
+use Rattle.vdr_terms.proofs.Results.{same_err}
 use Rattle.vdr_ring.specs.Opening.{front_bytes}
 use Rattle.vdr_ring.specs.Fronts.{TellFronts}
-use Rattle.vdr_ring.proofs.Faults.{same_err}
 use Rattle.vdr_ring.proofs.FrontLemmas.{slots_added, ascends_added, fronts_added, refuses_header}
 use Rattle.vdr_ring.proofs.fronts.read_fronts.Goals as goal
 

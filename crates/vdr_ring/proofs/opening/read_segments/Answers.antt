@@ -2,9 +2,9 @@ use Rattle.std.proofs.Common.{◌≡◌, List, [], length, All, inl, sym, ◌∙
 use Rattle.std.proofs.lemmas.Result.{err_from_is_err_and}
 use Rattle.vdr_outside.specs.Disk.{Image, content}
 use Rattle.vdr_outside.proofs.Moments.{size_read}
+use Rattle.vdr_terms.proofs.Results.{same_err}
 use Rattle.vdr_ring.specs.declared.entry.Entry.{Entry}
 use Rattle.vdr_ring.specs.Fronts.{AreSlots, IsSurveyed, BreaksAmong}
-use Rattle.vdr_ring.proofs.Faults.{same_err}
 use Rattle.vdr_ring.proofs.Reordering.{reordered, second_within, last_done}
 use Rattle.vdr_ring.proofs.Sequencing.{sequenced_slots}
 use Rattle.vdr_ring.proofs.Opened.{batch_refused, order_refused, found}

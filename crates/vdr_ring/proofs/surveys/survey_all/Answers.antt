@@ -5,8 +5,8 @@ use Rattle.std.proofs.lemmas.Result.{err_from_is_err_and}
 use Rattle.vdr_outside.specs.Disk.{Image, content}
 use Rattle.vdr_outside.proofs.Counts.{none_falls_join}
 use Rattle.vdr_outside.proofs.Moments.{unchanged_join}
+use Rattle.vdr_terms.proofs.Results.{same_err}
 use Rattle.vdr_ring.specs.Fronts.{head_of}
-use Rattle.vdr_ring.proofs.Faults.{same_err}
 use Rattle.vdr_ring.proofs.Surveying.{breaks_still, held_now, survey_still, breaks_among, surveyed_more}
 use Rattle.vdr_ring.proofs.surveys.survey_all.Goals as goal
 

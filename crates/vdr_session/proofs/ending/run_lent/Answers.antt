@@ -3,7 +3,7 @@ use Rattle.std.proofs.lemmas.Bool.{cases_Bool}
 use Rattle.vdr_terms.specs.Rates.{is_configured}
 use Rattle.vdr_config.specs.Sizes.{limits_in}
 use Rattle.vdr_capture.specs.declared.sums.Outcome.{Outcome}
-use Rattle.vdr_recorder.specs.Making.{rest_of}
+use Rattle.vdr_run.specs.Making.{rest_of}
 use Rattle.vdr_session.specs.declared.records.Began.TheVariants as starts
 use Rattle.vdr_outside.specs.declared.link.Link.{Ghosts as LinkTells}
 use Rattle.vdr_control.specs.Orders.{PlainOrder}
@@ -32,7 +32,7 @@ returns-in_default-began g c =
       ended = not_begun_ends g.P.Port c.args.turns c.args.memory.now.queues c.args.memory.now.takers c.record_lent-media.new.takers c.args.lanes.now
           c.record_lent-media.new.lanes
           (record { clock = g.O.Lent.clock; now = g.O.Lent.now; since = g.O.Lent.since; reads = g.O.Lent.reads; channels = g.O.Lent.channels }) g.O.Lent.began
-          g.O.Lent.rates g.O.Lent.room g.O.Lent.sizes g.O.Lent.faults p.0 c.in-Some.field-0.began c.in-Some.field-0.recording
+          g.O.Lent.rates g.O.Lent.room g.O.Lent.sizes g.O.Lent.faults p.0 c.in-Some.field-0.began c.in-Some.field-0.recorder
           (g.M.Media.disk c.record_lent-media.result.0.now) (g.M.Media.faults c.record_lent-media.result.0.now) p.1 p.2 p.4
           (beside_of g.L.Link (AnswersMark g.M.Media.tells g.O.Lent.began g.O.Lent.channels) c.args.turns c.args.desks.now c.record_lent-media.new.desks)
           p.3
@@ -55,19 +55,19 @@ stop-requires-clause-fits g c =
       quiet = stop_quiet g.P.Port c.args.turns c.args.memory.now.queues c.args.memory.now.takers c.record_lent-media.new.takers c.args.lanes.now
           c.record_lent-media.new.lanes
           (record { clock = g.O.Lent.clock; now = g.O.Lent.now; since = g.O.Lent.since; reads = g.O.Lent.reads; channels = g.O.Lent.channels })
-          g.O.Lent.began g.O.Lent.rates g.O.Lent.room g.O.Lent.sizes g.O.Lent.faults p.0 c.in-Some.field-0.began c.in-Some.field-0.recording
+          g.O.Lent.began g.O.Lent.rates g.O.Lent.room g.O.Lent.sizes g.O.Lent.faults p.0 c.in-Some.field-0.began c.in-Some.field-0.recorder
           (g.M.Media.disk c.record_lent-media.result.0.now) (g.M.Media.faults c.record_lent-media.result.0.now) p.1 p.2 p.4
           beside p.3 is (rest_of c.rest_of.result) c.rest_of.ensures sixteen c.requires.turns;
       place = stop_place g.P.Port c.args.turns c.args.memory.now.queues c.args.memory.now.takers c.record_lent-media.new.takers c.args.lanes.now
           c.record_lent-media.new.lanes
           (record { clock = g.O.Lent.clock; now = g.O.Lent.now; since = g.O.Lent.since; reads = g.O.Lent.reads; channels = g.O.Lent.channels })
-          g.O.Lent.began g.O.Lent.rates g.O.Lent.room g.O.Lent.sizes g.O.Lent.faults p.0 c.in-Some.field-0.began c.in-Some.field-0.recording
+          g.O.Lent.began g.O.Lent.rates g.O.Lent.room g.O.Lent.sizes g.O.Lent.faults p.0 c.in-Some.field-0.began c.in-Some.field-0.recorder
           (g.M.Media.disk c.record_lent-media.result.0.now) (g.M.Media.faults c.record_lent-media.result.0.now) p.1 p.2 p.4
           beside p.3 is (rest_of c.rest_of.result) c.rest_of.ensures sixteen c.requires.turns;
       numbers = stop_numbers g.P.Port c.args.turns c.args.memory.now.queues c.args.memory.now.takers c.record_lent-media.new.takers c.args.lanes.now
           c.record_lent-media.new.lanes
           (record { clock = g.O.Lent.clock; now = g.O.Lent.now; since = g.O.Lent.since; reads = g.O.Lent.reads; channels = g.O.Lent.channels })
-          g.O.Lent.began g.O.Lent.rates g.O.Lent.room g.O.Lent.sizes g.O.Lent.faults p.0 c.in-Some.field-0.began c.in-Some.field-0.recording
+          g.O.Lent.began g.O.Lent.rates g.O.Lent.room g.O.Lent.sizes g.O.Lent.faults p.0 c.in-Some.field-0.began c.in-Some.field-0.recorder
           (g.M.Media.disk c.record_lent-media.result.0.now) (g.M.Media.faults c.record_lent-media.result.0.now) p.1 p.2 p.4
           beside p.3 is (rest_of c.rest_of.result) c.rest_of.ensures sixteen c.requires.turns;
     }
@@ -89,20 +89,20 @@ returns-clause-ended g c =
           (done_ends g.P.Port c.args.turns c.args.memory.now.queues c.args.memory.now.takers c.record_lent-media.new.takers c.args.lanes.now
           c.record_lent-media.new.lanes
           (record { clock = g.O.Lent.clock; now = g.O.Lent.now; since = g.O.Lent.since; reads = g.O.Lent.reads; channels = g.O.Lent.channels }) g.O.Lent.began
-          g.O.Lent.rates g.O.Lent.room g.O.Lent.sizes g.O.Lent.faults p.0 c.in-Some.field-0.began c.in-Some.field-0.recording
+          g.O.Lent.rates g.O.Lent.room g.O.Lent.sizes g.O.Lent.faults p.0 c.in-Some.field-0.began c.in-Some.field-0.recorder
           (g.M.Media.disk c.record_lent-media.result.0.now) (g.M.Media.faults c.record_lent-media.result.0.now) p.1 p.2 p.4
           (beside_of g.L.Link (AnswersMark g.M.Media.tells g.O.Lent.began g.O.Lent.channels) c.args.turns c.args.desks.now c.record_lent-media.new.desks)
           p.3 is (rest_of c.rest_of.result) c.rest_of.ensures sixteen c.requires.turns c.stop.new.self (g.M.Media.disk c.stop.new.media)
           (g.M.Media.faults c.stop.new.media) e.writes.sizes e.writes.others e.writes.cause.later e.stopped e.counted
-          (⊎_elim (λ (fails : c.in-Some.field-0.recording.members.failed ≡ true). absurd (true≢false (sym (e.failing.failed fails).0)))
-          (λ (works : c.in-Some.field-0.recording.members.failed ≡ false). works) (cases_Bool c.in-Some.field-0.recording.members.failed)) e.failing.works))
+          (⊎_elim (λ (fails : c.in-Some.field-0.recorder.vault.failed ≡ true). absurd (true≢false (sym (e.failing.failed fails).0)))
+          (λ (works : c.in-Some.field-0.recorder.vault.failed ≡ false). works) (cases_Bool c.in-Some.field-0.recorder.vault.failed)) e.failing.works))
       | in-Err w ↦
           (let e = w.in-Err.ensures in
           subst ends (sym w.outcome-is)
           (fault_ends g.P.Port c.args.turns c.args.memory.now.queues c.args.memory.now.takers c.record_lent-media.new.takers c.args.lanes.now
           c.record_lent-media.new.lanes
           (record { clock = g.O.Lent.clock; now = g.O.Lent.now; since = g.O.Lent.since; reads = g.O.Lent.reads; channels = g.O.Lent.channels }) g.O.Lent.began
-          g.O.Lent.rates g.O.Lent.room g.O.Lent.sizes g.O.Lent.faults p.0 c.in-Some.field-0.began c.in-Some.field-0.recording
+          g.O.Lent.rates g.O.Lent.room g.O.Lent.sizes g.O.Lent.faults p.0 c.in-Some.field-0.began c.in-Some.field-0.recorder
           (g.M.Media.disk c.record_lent-media.result.0.now) (g.M.Media.faults c.record_lent-media.result.0.now) p.1 p.2 p.4
           (beside_of g.L.Link (AnswersMark g.M.Media.tells g.O.Lent.began g.O.Lent.channels) c.args.turns c.args.desks.now c.record_lent-media.new.desks)
           p.3 is (rest_of c.rest_of.result) c.rest_of.ensures sixteen c.requires.turns c.stop.new.self (g.M.Media.disk c.stop.new.media)

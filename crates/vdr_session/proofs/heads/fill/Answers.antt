@@ -2,9 +2,10 @@ use Rattle.std.proofs.Common.{◌≡◌, ◌<◌, ◌++◌, ℕ, List, Bool, Opt
 use Rattle.std.proofs.lemmas.List.{length-set}
 use Rattle.vdr_history.specs.Taken.{Captured as CapturedTold}
 use Rattle.vdr_pace.specs.Commits.{items_size}
+use Rattle.vdr_desk.proofs.Lists.{no_default}
 use Rattle.vdr_session.specs.Heads.{AreHeld, Steps}
 use Rattle.vdr_session.specs.Lanes.{AreMet, held}
-use Rattle.vdr_session.proofs.Popped.{met_after, no_default}
+use Rattle.vdr_session.proofs.Popped.{met_after}
 use Rattle.vdr_session.proofs.Holding.{held_after, joined_after, met_there, room_for, size_more, steps_there}
 use Rattle.vdr_session.proofs.heads.fill.Goals as goal
 

@@ -2,8 +2,8 @@ use Rattle.std.proofs.Common.{◌≡◌, ◌<◌, length, get_or, Option, None, 
 use Rattle.std.proofs.lemmas.List.{get_or-set_other, length-set}
 use Rattle.vdr_capture.specs.declared.lane.Lane.{Lane}
 use Rattle.vdr_intake.specs.Ends.{Feeding, QueueId, Taking}
+use Rattle.vdr_desk.proofs.Lists.{no_default, at_each}
 use Rattle.vdr_session.specs.Joins.{Joins}
-use Rattle.vdr_session.proofs.Popped.{at_each, no_default}
 use Rattle.vdr_session.proofs.joining.join_feeders.Goals as goal
 
 pub loop-group-preserved : goal.loop-group-preserved

@@ -4,13 +4,13 @@ use Rattle.vdr_session.proofs.lent.record_lent.Goals as goal
 
 pub under_latch-requires-clause-leaves : goal.under_latch-requires-clause-leaves
 under_latch-requires-clause-leaves g c = λ _ _. (
-  first_kept (record { clock = g.O.Lent.clock; now = g.O.Lent.now; since = g.O.Lent.since; reads = g.O.Lent.reads; channels = g.O.Lent.channels }) g.O.Lent.began g.O.Lent.rates g.O.Lent.room g.O.Lent.sizes g.O.Lent.faults c.args.recording (g.M.Media.disk c.args.media.now) (g.M.Media.faults c.args.media.now)
+  first_kept (record { clock = g.O.Lent.clock; now = g.O.Lent.now; since = g.O.Lent.since; reads = g.O.Lent.reads; channels = g.O.Lent.channels }) g.O.Lent.began g.O.Lent.rates g.O.Lent.room g.O.Lent.sizes g.O.Lent.faults c.args.recorder (g.M.Media.disk c.args.media.now) (g.M.Media.faults c.args.media.now)
       c.requires.config c.requires.channels c.requires.rings c.requires.new c.requires.sizes c.requires.faults c.requires.before c.requires.began,
   sym c.requires.name,
 )
 
 pub under_latch-requires-clause-fresh : goal.under_latch-requires-clause-fresh
-under_latch-requires-clause-fresh g c = λ _ _ history x k e. fresh_kept (record { clock = g.O.Lent.clock; now = g.O.Lent.now; since = g.O.Lent.since; reads = g.O.Lent.reads; channels = g.O.Lent.channels }) g.O.Lent.began g.O.Lent.rates g.O.Lent.room g.O.Lent.sizes g.O.Lent.faults history x.recording (g.M.Media.disk x.media.now) (g.M.Media.faults x.media.now) k.0 e
+under_latch-requires-clause-fresh g c = λ _ _ history x k e. fresh_kept (record { clock = g.O.Lent.clock; now = g.O.Lent.now; since = g.O.Lent.since; reads = g.O.Lent.reads; channels = g.O.Lent.channels }) g.O.Lent.began g.O.Lent.rates g.O.Lent.room g.O.Lent.sizes g.O.Lent.faults history x.recorder (g.M.Media.disk x.media.now) (g.M.Media.faults x.media.now) k.0 e
 
 pub under_latch-requires-clause-takes : goal.under_latch-requires-clause-takes
-under_latch-requires-clause-takes g c = λ _ _ history x k is. taking_kept (record { clock = g.O.Lent.clock; now = g.O.Lent.now; since = g.O.Lent.since; reads = g.O.Lent.reads; channels = g.O.Lent.channels }) g.O.Lent.began g.O.Lent.rates g.O.Lent.room g.O.Lent.sizes g.O.Lent.faults history x.recording (g.M.Media.disk x.media.now) (g.M.Media.faults x.media.now) k.0 is
+under_latch-requires-clause-takes g c = λ _ _ history x k is. taking_kept (record { clock = g.O.Lent.clock; now = g.O.Lent.now; since = g.O.Lent.since; reads = g.O.Lent.reads; channels = g.O.Lent.channels }) g.O.Lent.began g.O.Lent.rates g.O.Lent.room g.O.Lent.sizes g.O.Lent.faults history x.recorder (g.M.Media.disk x.media.now) (g.M.Media.faults x.media.now) k.0 is

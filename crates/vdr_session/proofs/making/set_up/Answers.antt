@@ -1,9 +1,9 @@
 use Rattle.std.proofs.Common.{◌≡◌, ◌<◌, false, length, get_or, ap, ◌∙◌, subst, arith}
 use Rattle.std.proofs.lemmas.List.{get_or-set_other, length-set}
 use Rattle.vdr_capture.specs.declared.lane.Lane.{Lane}
+use Rattle.vdr_desk.proofs.Lists.{no_default, at_each}
 use Rattle.vdr_session.specs.Ran.{IsSetUp}
 use Rattle.vdr_session.proofs.LanesRan.{set_up_each}
-use Rattle.vdr_session.proofs.Popped.{at_each, no_default}
 use Rattle.vdr_session.proofs.making.set_up.Goals as goal
 
 pub loop-group-preserved : goal.loop-group-preserved

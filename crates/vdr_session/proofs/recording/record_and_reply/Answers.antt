@@ -5,6 +5,7 @@ use Rattle.vdr_config.specs.Sizes.{limits_in}
 use Rattle.vdr_intake.specs.Ends.{QueueId}
 use Rattle.vdr_outside.specs.Disk.{content}
 use Rattle.vdr_capture.specs.declared.lane.Lane.{Lane}
+use Rattle.vdr_recorder.proofs.Admitting.{admits_all}
 use Rattle.vdr_session.specs.declared.session.SessionEnd.{SessionEnd}
 use Rattle.vdr_session.specs.Ran.{IsSetUp}
 use Rattle.std.specs.Prelude.{sum}
@@ -19,7 +20,7 @@ use Rattle.vdr_session.specs.Sessions.{SessionWith, is_closed}
 use Rattle.vdr_session.proofs.Replied.{desks_replied, desks_rested, desks_told, none_replied}
 use Rattle.vdr_session.proofs.Served.{ready_as}
 use Rattle.vdr_session.specs.Summing.{paired}
-use Rattle.vdr_session.proofs.Sessions.{admits_all, groups_of, no_memory_session, ports_memory, queues_some, session_of}
+use Rattle.vdr_session.proofs.Sessions.{groups_of, no_memory_session, ports_memory, queues_some, session_of}
 use Rattle.vdr_session.proofs.recording.record_and_reply.Goals as goal
 
 if_some : {T : Type 0} (P : T → Type 0) (o : Option T) (x : T) → o ≡ Some x → IfSome o P → P x
@@ -27,7 +28,7 @@ if_some {T} P o x is h = subst (λ (o : Option T). IfSome o P) is h
 
 pub run_lent-media-requires-clause-ready : goal.run_lent-media-requires-clause-ready
 run_lent-media-requires-clause-ready g c κs within k d small =
-    ready_as (λ _. get_or c.new-plan.result.configured k false) (λ n. is_configured (limits_in c.args.recording.members.config.groups n)) k (get_or c.in-Ok.memory.queues k None) (get_or c.in-Ok.memory.takers k None) (get_or c.new.new.lanes k d)
+    ready_as (λ _. get_or c.new-plan.result.configured k false) (λ n. is_configured (limits_in c.args.recorder.vault.config.groups n)) k (get_or c.in-Ok.memory.queues k None) (get_or c.in-Ok.memory.takers k None) (get_or c.new.new.lanes k d)
     (c.new-plan.ensures.configured k small ∙ ap (λ (x : Configuration). is_configured (limits_in x.groups k)) c.config.ensures) (c.in-Ok.ensures.set_up k d small).ready
 
 pub returns-in_default-clause-desks : goal.returns-in_default-clause-desks
@@ -41,24 +42,24 @@ returns-in_default-ended-clause-desks g c =
 
 pub returns-in_default-clause-session : goal.returns-in_default-clause-session
 returns-in_default-clause-session g c =
-    no_memory_session g.P.Port c.args.turns c.args.recording.members.config.queue c.args.recording.members.config.groups c.args.lanes.now c.new.new.lanes c.args.recording (g.M.Media.disk c.args.media.now) _
-    (DesksReplied g.L.Link c.args.turns c.args.recording.members.config.channels (Rose (sum (g.M.Media.faults c.args.media.now)) (sum (g.M.Media.faults c.args.media.now))) c.without_memory.result.outcome c.args.desks.now c.reset.new.desks)
+    no_memory_session g.P.Port c.args.turns c.args.recorder.vault.config.queue c.args.recorder.vault.config.groups c.args.lanes.now c.new.new.lanes c.args.recorder (g.M.Media.disk c.args.media.now) _
+    (DesksReplied g.L.Link c.args.turns c.args.recorder.vault.config.channels (Rose (sum (g.M.Media.faults c.args.media.now)) (sum (g.M.Media.faults c.args.media.now))) c.without_memory.result.outcome c.args.desks.now c.reset.new.desks)
     c.without_memory.ensures.outcome
-    (none_replied g.L.Link c.args.turns c.args.desks.now c.reset.new.desks c.without_memory.result.outcome c.reset.ensures.each c.reset.ensures.as_many (ap is_closed c.without_memory.ensures.outcome) c.args.recording.members.config.channels _)
+    (none_replied g.L.Link c.args.turns c.args.desks.now c.reset.new.desks c.without_memory.result.outcome c.reset.ensures.each c.reset.ensures.as_many (ap is_closed c.without_memory.ensures.outcome) c.args.recorder.vault.config.channels _)
 
 pub returns-in_default-ended-clause-session : goal.returns-in_default-ended-clause-session
 returns-in_default-ended-clause-session g c =
     let none : c.run_lent-media.result.1 ≡ None = search rules in
     let still = c.run_lent-media.ensures.refused none in
     let last = c.media-1.given.1 (sym c.run_lent-media.ensures.same) ∙ still.0 in
-    subst (λ (x : g.row.M.Denot × List (Desk g.row.L.Denot Mark)). SessionWith g.P.Port c.args.turns c.args.recording.members.config.queue c.args.recording.members.config.groups c.args.lanes.now c.run_lent-media.new.lanes c.args.recording
+    subst (λ (x : g.row.M.Denot × List (Desk g.row.L.Denot Mark)). SessionWith g.P.Port c.args.turns c.args.recorder.vault.config.queue c.args.recorder.vault.config.groups c.args.lanes.now c.run_lent-media.new.lanes c.args.recorder
     (g.M.Media.disk c.args.media.now) (g.M.Media.disk x.0) c.without_memory-in_default-ended.result
-    (DesksReplied g.L.Link c.args.turns c.args.recording.members.config.channels (Rose (sum (g.M.Media.faults c.args.media.now)) (sum (g.M.Media.faults x.0))) c.without_memory-in_default-ended.result.outcome c.args.desks.now x.1))
+    (DesksReplied g.L.Link c.args.turns c.args.recorder.vault.config.channels (Rose (sum (g.M.Media.faults c.args.media.now)) (sum (g.M.Media.faults x.0))) c.without_memory-in_default-ended.result.outcome c.args.desks.now x.1))
     (λ i. (sym last i, sym still.2 i))
-    (no_memory_session g.P.Port c.args.turns c.args.recording.members.config.queue c.args.recording.members.config.groups c.args.lanes.now c.run_lent-media.new.lanes c.args.recording (g.M.Media.disk c.args.media.now) _ _
+    (no_memory_session g.P.Port c.args.turns c.args.recorder.vault.config.queue c.args.recorder.vault.config.groups c.args.lanes.now c.run_lent-media.new.lanes c.args.recorder (g.M.Media.disk c.args.media.now) _ _
     c.without_memory-in_default-ended.ensures.outcome
     (none_replied g.L.Link c.args.turns c.args.desks.now c.reset.new.desks c.without_memory-in_default-ended.result.outcome c.reset.ensures.each c.reset.ensures.as_many (ap is_closed c.without_memory-in_default-ended.ensures.outcome)
-    c.args.recording.members.config.channels (Rose (sum (g.M.Media.faults c.args.media.now)) (sum (g.M.Media.faults c.args.media.now)))))
+    c.args.recorder.vault.config.channels (Rose (sum (g.M.Media.faults c.args.media.now)) (sum (g.M.Media.faults c.args.media.now)))))
 
 pub returns-in_default-ended-clause-memory : goal.returns-in_default-ended-clause-memory
 returns-in_default-ended-clause-memory g c = λ _.
@@ -71,18 +72,18 @@ returns-in_default-ended-clause-memory g c = λ _.
 pub returns-clause-session : goal.returns-clause-session
 returns-clause-session g c =
     let e = if_some _ c.run_lent-media.result.1 c.in-Some.field-0 c.in-Some.is c.run_lent-media.ensures.ended in
-    let config : c.config.result.now ≡ c.args.recording.members.config = c.config.ensures in
+    let config : c.config.result.now ≡ c.args.recorder.vault.config = c.config.ensures in
     let end : SessionEnd = record { outcome = c.with_failures.result; groups = c.sums.result; records = c.saturating_sub.result; intakes = c.intakes_of.result } in
     let capacity = c.new-plan.ensures.capacity.0 ∙ ap (λ (x : Configuration). x.queue) config in
     let queues = c.run_lent-media.ensures.queues in
-    subst (λ (m : g.row.M.Denot). SessionWith g.P.Port c.args.turns c.args.recording.members.config.queue c.args.recording.members.config.groups c.args.lanes.now c.run_lent-media.new.lanes c.args.recording
+    subst (λ (m : g.row.M.Denot). SessionWith g.P.Port c.args.turns c.args.recorder.vault.config.queue c.args.recorder.vault.config.groups c.args.lanes.now c.run_lent-media.new.lanes c.args.recorder
     (g.M.Media.disk c.args.media.now) (g.M.Media.disk m) end
-    (DesksReplied g.L.Link c.args.turns c.args.recording.members.config.channels (Rose (sum (g.M.Media.faults c.args.media.now)) (sum (g.M.Media.faults m))) c.with_failures.result c.args.desks.now c.run_lent-media.new.desks))
+    (DesksReplied g.L.Link c.args.turns c.args.recorder.vault.config.channels (Rose (sum (g.M.Media.faults c.args.media.now)) (sum (g.M.Media.faults m))) c.with_failures.result c.args.desks.now c.run_lent-media.new.desks))
     (sym (c.media-1.given.1 (sym c.run_lent-media.ensures.same)))
-    (session_of g.P.Port c.args.turns c.args.recording.members.config.queue c.args.recording.members.config.groups c.new-plan.result.configured c.in-Ok.memory.queues c.in-Ok.memory.takers c.run_lent-media.new.memory.takers
-    c.args.lanes.now c.new.new.lanes c.run_lent-media.new.lanes c.args.recording (g.M.Media.disk c.args.media.now) (g.M.Media.disk c.args.media.now).sizes (g.M.Media.faults c.args.media.now)
-    (λ began marks. DesksRan g.L.Link (AnswersMark g.M.Media.tells (λ opening t0. HasRecorded opening [] t0 c.args.recording (g.M.Media.disk c.args.media.now)) c.args.recording.members.config.channels) c.args.turns c.reset.new.desks c.run_lent-media.new.desks began marks)
-    c.in-Some.field-0.outcome c.in-Some.field-0.recording
+    (session_of g.P.Port c.args.turns c.args.recorder.vault.config.queue c.args.recorder.vault.config.groups c.new-plan.result.configured c.in-Ok.memory.queues c.in-Ok.memory.takers c.run_lent-media.new.memory.takers
+    c.args.lanes.now c.new.new.lanes c.run_lent-media.new.lanes c.args.recorder (g.M.Media.disk c.args.media.now) (g.M.Media.disk c.args.media.now).sizes (g.M.Media.faults c.args.media.now)
+    (λ began marks. DesksRan g.L.Link (AnswersMark g.M.Media.tells (λ opening t0. HasRecorded opening [] t0 c.args.recorder (g.M.Media.disk c.args.media.now)) c.args.recorder.vault.config.channels) c.args.turns c.reset.new.desks c.run_lent-media.new.desks began marks)
+    c.in-Some.field-0.outcome c.in-Some.field-0.recorder
     (g.M.Media.disk c.run_lent-media.result.0.now) (g.M.Media.faults c.run_lent-media.result.0.now) end
     (λ k small. c.new-plan.ensures.configured k small ∙ ap (λ (x : Configuration). is_configured (limits_in x.groups k)) config)
     (c.requires.lanes, search rules, search rules)
@@ -94,30 +95,30 @@ returns-clause-session g c =
     (c.saturating_sub.ensures ∙ (λ i. c.status.ensures.records i - c.status-first.ensures.records i))
     (λ k small. c.intakes_of.ensures.each k small ∙ ap (λ (qs : List (Option QueueId)). paired (get_or qs k None) (get_or c.run_lent-media.new.memory.takers k None)) queues)
     (λ k x small is. c.intakes_of.ensures.full k x small is)
-    (admits_all c.args.recording.members.config (subst IsConfiguration config c.new-plan.ensures.legal))
+    (admits_all c.args.recorder.vault.config (subst IsConfiguration config c.new-plan.ensures.legal))
     refl
     c.requires.new.1
-    (DesksReplied g.L.Link c.args.turns c.args.recording.members.config.channels (Rose (sum (g.M.Media.faults c.args.media.now)) (sum (g.M.Media.faults c.run_lent-media.result.0.now))) c.with_failures.result c.args.desks.now c.run_lent-media.new.desks)
+    (DesksReplied g.L.Link c.args.turns c.args.recorder.vault.config.channels (Rose (sum (g.M.Media.faults c.args.media.now)) (sum (g.M.Media.faults c.run_lent-media.result.0.now))) c.with_failures.result c.args.desks.now c.run_lent-media.new.desks)
     (λ told opening t0 h.
-    desks_replied g.L.Link c.args.turns g.M.Media.tells (λ opening t0. HasRecorded opening [] t0 c.args.recording (g.M.Media.disk c.args.media.now)) c.args.recording.members.config.channels c.args.desks.now c.reset.new.desks c.run_lent-media.new.desks
+    desks_replied g.L.Link c.args.turns g.M.Media.tells (λ opening t0. HasRecorded opening [] t0 c.args.recorder (g.M.Media.disk c.args.media.now)) c.args.recorder.vault.config.channels c.args.desks.now c.reset.new.desks c.run_lent-media.new.desks
     e.began e.marks c.in-Some.field-0.outcome c.with_failures.result c.reset.ensures.each c.reset.ensures.as_many e.besides e.told_as c.with_failures.ensures.told
-    (Rose (sum (g.M.Media.faults c.args.media.now)) (sum (g.M.Media.faults c.run_lent-media.result.0.now))) e.missed_rose _ t0 e.rest c.in-Some.field-0.recording (g.M.Media.disk c.run_lent-media.result.0.now) told opening h (e.told told opening t0 h).0))
+    (Rose (sum (g.M.Media.faults c.args.media.now)) (sum (g.M.Media.faults c.run_lent-media.result.0.now))) e.missed_rose _ t0 e.rest c.in-Some.field-0.recorder (g.M.Media.disk c.run_lent-media.result.0.now) told opening h (e.told told opening t0 h).0))
 
 pub returns-clause-desks : goal.returns-clause-desks
 returns-clause-desks g c =
     let e = if_some _ c.run_lent-media.result.1 c.in-Some.field-0 c.in-Some.is c.run_lent-media.ensures.ended in
-    desks_told g.L.Link c.args.turns g.M.Media.tells (λ opening t0. HasRecorded opening [] t0 c.args.recording (g.M.Media.disk c.args.media.now)) c.args.recording.members.config.channels c.args.desks.now c.reset.new.desks c.run_lent-media.new.desks
+    desks_told g.L.Link c.args.turns g.M.Media.tells (λ opening t0. HasRecorded opening [] t0 c.args.recorder (g.M.Media.disk c.args.media.now)) c.args.recorder.vault.config.channels c.args.desks.now c.reset.new.desks c.run_lent-media.new.desks
     e.began e.marks c.in-Some.field-0.outcome c.with_failures.result c.reset.ensures.each c.reset.ensures.as_many e.besides e.told_as c.with_failures.ensures.told
 
 pub returns-clause-groups : goal.returns-clause-groups
 returns-clause-groups g c =
     let e = if_some _ c.run_lent-media.result.1 c.in-Some.field-0 c.in-Some.is c.run_lent-media.ensures.ended in
-    let config : c.config.result.now ≡ c.args.recording.members.config = c.config.ensures in
+    let config : c.config.result.now ≡ c.args.recorder.vault.config = c.config.ensures in
     let end : SessionEnd = record { outcome = c.with_failures.result; groups = c.sums.result; records = c.saturating_sub.result; intakes = c.intakes_of.result } in
-    groups_of g.P.Port c.args.turns c.args.recording.members.config.queue c.args.recording.members.config.groups c.in-Ok.memory.queues c.args.lanes.now c.run_lent-media.new.lanes c.args.recording (g.M.Media.disk c.args.media.now) _ end _
+    groups_of g.P.Port c.args.turns c.args.recorder.vault.config.queue c.args.recorder.vault.config.groups c.in-Ok.memory.queues c.args.lanes.now c.run_lent-media.new.lanes c.args.recorder (g.M.Media.disk c.args.media.now) _ end _
     (returns-clause-session g c) (ports_memory c.in-Some.field-0.outcome c.with_failures.result e.began e.told_as c.with_failures.ensures.told) (search rules)
     (λ k small. c.sums.ensures.some k small ∙ ap (λ (qs : List (Option QueueId)). is_some (get_or qs k None)) c.run_lent-media.ensures.queues)
-    (λ k small. queues_some c.new-plan.result.configured c.args.recording.members.config.groups c.in-Ok.memory.queues c.in-Ok.memory.takers c.args.lanes.now c.new.new.lanes c.requires.lanes
+    (λ k small. queues_some c.new-plan.result.configured c.args.recorder.vault.config.groups c.in-Ok.memory.queues c.in-Ok.memory.takers c.args.lanes.now c.new.new.lanes c.requires.lanes
     (λ k small. c.new-plan.ensures.configured k small ∙ ap (λ (x : Configuration). is_configured (limits_in x.groups k)) config) (λ k d small. c.in-Ok.ensures.set_up k d small) k small)
 
 pub returns-clause-others : goal.returns-clause-others

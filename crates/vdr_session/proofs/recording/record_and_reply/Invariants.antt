@@ -5,14 +5,14 @@ use Rattle.vdr_session.proofs.recording.record_and_reply.Given as goal
 abbrev pub ghosts-run_lent : goal.ghosts-run_lent
 ghosts-run_lent g a = record {
   name = a.media.ghost_name;
-  began = λ opening t0. HasRecorded opening [] t0 a.recording (g.M.Media.disk a.media.now);
+  began = λ opening t0. HasRecorded opening [] t0 a.recorder (g.M.Media.disk a.media.now);
   clock = (g.M.Media.disk a.media.now).clock;
   now = (g.M.Media.disk a.media.now).now;
   since = (g.M.Media.disk a.media.now).since;
   reads = (g.M.Media.disk a.media.now).reads;
-  channels = a.recording.members.config.channels;
-  rates = a.recording.members.config.groups;
-  room = a.recording.members.config.batch;
+  channels = a.recorder.vault.config.channels;
+  rates = a.recorder.vault.config.groups;
+  room = a.recorder.vault.config.batch;
   sizes = (g.M.Media.disk a.media.now).sizes;
   faults = g.M.Media.faults a.media.now;
 }

@@ -3,8 +3,8 @@ use Rattle.std.proofs.lemmas.List.{get_or_read, get_or-set_other, get_or_past, l
 use Rattle.vdr_terms.specs.Records.{none_missed}
 use Rattle.vdr_intake.specs.Ends.{QueueId}
 use Rattle.vdr_capture.specs.declared.lane.Lane.{Lane}
+use Rattle.vdr_desk.proofs.Lists.{no_default, at_each}
 use Rattle.vdr_session.specs.Feeding.{RestIs}
-use Rattle.vdr_session.proofs.Popped.{at_each, no_default}
 use Rattle.vdr_session.proofs.summing.rest_of.Goals as goal
 
 pub loop-group-preserved : goal.loop-group-preserved

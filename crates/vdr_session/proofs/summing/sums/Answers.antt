@@ -2,8 +2,8 @@ use Rattle.std.proofs.Common.{◌≡◌, ◌<◌, Option, Some, None, is_some, t
 use Rattle.std.proofs.lemmas.List.{get_or_read, get_or-set_other, length-set}
 use Rattle.vdr_intake.specs.Ends.{QueueId}
 use Rattle.vdr_capture.specs.declared.lane.Lane.{Lane}
+use Rattle.vdr_desk.proofs.Lists.{no_default, at_each}
 use Rattle.vdr_session.specs.Summing.{summed}
-use Rattle.vdr_session.proofs.Popped.{at_each, no_default}
 use Rattle.vdr_session.proofs.summing.sums.Goals as goal
 
 pub loop-group-preserved : goal.loop-group-preserved

@@ -1,6 +1,6 @@
 use Rattle.std.proofs.Common.{Err, ap, refl, ◌∙◌}
 use Rattle.std.proofs.lemmas.Result.{err_from_is_err_and}
-use Rattle.vdr_replay.specs.declared.ended.ReplayStop.{ReplayStop}
+use Rattle.vdr_replay.specs.declared.ended.ReplayRefused.{ReplayRefused}
 use Rattle.vdr_tool.proofs.ReplayEndings.{replay_ends, replays_so, run_at_done, run_at_input, run_at_output, stop_at_input, stop_not_done, stop_not_output, tells_run, tells_stop}
 use Rattle.vdr_tool.proofs.replaying.answer_replay.Goals as goal
 
@@ -12,7 +12,7 @@ returns-in_err-run-clause-owed g c =
     rw (p.1, p.2)
     (replays_so _ _ _ c.replay.result (c.law_of_openings.ensures (g.M.Media.disk c.args.world.now.media).reads)
     (λ is. absurd (stop_not_done stop is)) (tells_stop c.replay.result stop _ _ c.in_err-run.was refl)
-    (λ is. told.input_failed (c.in_err-run.was ∙ ap (λ (s : ReplayStop). Err s) (stop_at_input stop is))) (λ is. absurd (stop_not_output stop is))
+    (λ is. told.input_failed (c.in_err-run.was ∙ ap (λ (s : ReplayRefused). Err s) (stop_at_input stop is))) (λ is. absurd (stop_not_output stop is))
     (replay_ends g.M.Media g.I.Source _ _ _ _ c.replay.result told))
 
 pub returns-clause-owed : goal.returns-clause-owed

@@ -10,72 +10,72 @@ use Rattle.vdr_command.proofs.OpenedLemmas.{done_is_begun, no_act, refused_ends}
 use Rattle.vdr_tool.proofs.SaveLemmas.{prints_as, saved_ends, unsaved_ends, unsaved_adds, unsaved_refused}
 use Rattle.vdr_tool.proofs.saving.save.Goals as goal
 
-pub returns-in_err-recording-clause-media : goal.returns-in_err-recording-clause-media
-returns-in_err-recording-clause-media g c =
+pub returns-in_err-recorder-clause-media : goal.returns-in_err-recorder-clause-media
+returns-in_err-recorder-clause-media g c =
     let told = c.open.ensures in
-    let refused = c.in_err-recording.field-0.0 in
+    let refused = c.in_err-recorder.field-0.0 in
     let label = c.args.label.now in
     let p = err_from_is_err_and c.from_residual.result c.from_residual.ensures.1 in
     rw (p.1, p.2)
     (refused_ends (CanSave label) (MetUnsound (g.M.Media.disk c.args.world.now.media) (CanSave label)) _ _ _ c.open.result refused
-    (no_act (SavesAs label) (g.M.Media.disk c.open.new.media).clock refused) c.in_err-recording.was
+    (no_act (SavesAs label) (g.M.Media.disk c.open.new.media).clock refused) c.in_err-recorder.was
     told.refused.unformatted told.refused.damaged told.refused.untouched told.refused.blank told.writes.others told.writes.cause told.moments)
 
 pub returns-in_err-id-clause-media : goal.returns-in_err-id-clause-media
 returns-in_err-id-clause-media g c =
-    let told = c.in_ok-recording.ensures in
+    let told = c.in_ok-recorder.ensures in
     let save = c.save.ensures in
     let old : MediaSeen g.M.Media.tells g.M.Media.tells_images = record { disk = g.M.Media.disk c.args.world.now.media; faults = g.M.Media.faults c.args.world.now.media; bytes_read = g.M.Media.bytes_read c.args.world.now.media } in
     let mid : MediaSeen g.M.Media.tells g.M.Media.tells_images = record { disk = g.M.Media.disk c.open.new.media; faults = g.M.Media.faults c.open.new.media; bytes_read = g.M.Media.bytes_read c.open.new.media } in
     let new : MediaSeen g.M.Media.tells g.M.Media.tells_images = record { disk = g.M.Media.disk c.save.new.media; faults = g.M.Media.faults c.save.new.media; bytes_read = g.M.Media.bytes_read c.save.new.media } in
     let p = err_from_is_err_and c.from_residual-in_err-id.result c.from_residual-in_err-id.ensures.1 in
     rw (p.1, p.2)
-    (unsaved_ends old mid new c.in_ok-recording.recording c.save.new.self
+    (unsaved_ends old mid new c.in_ok-recorder.recorder c.save.new.self
     told.opened.works told.opened.contents told.opened.opened c.open.ensures.writes.cause.later c.open.ensures.writes.others save.writes.others c.args.label.now c.save.result save.event.saved save.event.looked save.event.met_damage (λ refused works is. (save.refuses.refused refused works is).0) save.damage.undamaged
     c.open.result c.open.ensures.moments save.refuses.reason save.failing.fails save.writes.cause c.in_err-id.field-0.0 c.in_err-id.was)
 
 pub returns-in_err-id-clause-refused : goal.returns-in_err-id-clause-refused
 returns-in_err-id-clause-refused g c =
-    let told = c.in_ok-recording.ensures in
+    let told = c.in_ok-recorder.ensures in
     let save = c.save.ensures in
     let old : MediaSeen g.M.Media.tells g.M.Media.tells_images = record { disk = g.M.Media.disk c.args.world.now.media; faults = g.M.Media.faults c.args.world.now.media; bytes_read = g.M.Media.bytes_read c.args.world.now.media } in
     let mid : MediaSeen g.M.Media.tells g.M.Media.tells_images = record { disk = g.M.Media.disk c.open.new.media; faults = g.M.Media.faults c.open.new.media; bytes_read = g.M.Media.bytes_read c.open.new.media } in
     let new : MediaSeen g.M.Media.tells g.M.Media.tells_images = record { disk = g.M.Media.disk c.save.new.media; faults = g.M.Media.faults c.save.new.media; bytes_read = g.M.Media.bytes_read c.save.new.media } in
     let p = err_from_is_err_and c.from_residual-in_err-id.result c.from_residual-in_err-id.ensures.1 in
     rw (p.1, p.2)
-    (unsaved_refused old mid new c.in_ok-recording.recording c.save.new.self
+    (unsaved_refused old mid new c.in_ok-recorder.recorder c.save.new.self
     told.opened.works told.opened.contents told.opened.opened c.open.ensures.writes.cause.later c.open.ensures.writes.others save.writes.others c.args.label.now c.save.result save.event.saved save.event.looked save.event.met_damage (λ refused works is. (save.refuses.refused refused works is).0) save.damage.undamaged
     c.open.result c.open.ensures.moments save.refuses.reason save.failing.fails save.writes.cause c.in_err-id.field-0.0 c.in_err-id.was)
 
 pub returns-clause-media : goal.returns-clause-media
 returns-clause-media g c =
-    let told = c.in_ok-recording.ensures in
+    let told = c.in_ok-recorder.ensures in
     let save = c.save.ensures in
     let old : MediaSeen g.M.Media.tells g.M.Media.tells_images = record { disk = g.M.Media.disk c.args.world.now.media; faults = g.M.Media.faults c.args.world.now.media; bytes_read = g.M.Media.bytes_read c.args.world.now.media } in
     let mid : MediaSeen g.M.Media.tells g.M.Media.tells_images = record { disk = g.M.Media.disk c.open.new.media; faults = g.M.Media.faults c.open.new.media; bytes_read = g.M.Media.bytes_read c.open.new.media } in
     let new : MediaSeen g.M.Media.tells g.M.Media.tells_images = record { disk = g.M.Media.disk c.save.new.media; faults = g.M.Media.faults c.save.new.media; bytes_read = g.M.Media.bytes_read c.save.new.media } in
-    saved_ends old mid new c.in_ok-recording.recording c.save.new.self
+    saved_ends old mid new c.in_ok-recorder.recorder c.save.new.self
     told.opened.works told.opened.contents told.opened.opened c.open.ensures.writes.cause.later c.open.ensures.writes.others save.writes.others c.args.label.now c.save.result save.event.saved save.event.looked save.event.met_damage (λ refused works is. (save.refuses.refused refused works is).0) save.damage.undamaged
     c.open.result c.open.ensures.moments _ c.in_ok-id.id c.print_id.ensures.done c.in_ok-id.was save.failing.works
 
 pub returns-clause-printed : goal.returns-clause-printed
 returns-clause-printed g c = λ x t holds.
-    let read = c.in_ok-recording.ensures.opened.contents t in
+    let read = c.in_ok-recorder.ensures.opened.contents t in
     let table = read.5 ∙ c.law_of_contents.ensures.table (g.M.Media.disk c.args.world.now.media).reads read.1 x read.2 holds in
     let was : OutputSeen = record { taken = g.O.Sink.taken c.args.world.now.output; faults = g.O.Sink.faults c.args.world.now.output } in
     let next : OutputSeen = record { taken = g.O.Sink.taken c.print_id.new.output; faults = g.O.Sink.faults c.print_id.new.output } in
     prints_as (ending c.print_id.result) (id_line (Some c.in_ok-id.id)) (save_text x.table) was next
     (ap id_line (sym c.in_ok-id.ensures.incident.id ∙ ap (λ (slots : List (Option Incident)). option_map suc (position is_none slots)) table)) c.print_id.ensures.printed
 
-pub returns-in_err-recording-clause-missing : goal.returns-in_err-recording-clause-missing
-returns-in_err-recording-clause-missing g c = λ _. c.open.ensures.missing
+pub returns-in_err-recorder-clause-missing : goal.returns-in_err-recorder-clause-missing
+returns-in_err-recorder-clause-missing g c = λ _. c.open.ensures.missing
 
 pub returns-in_err-id-clause-missing : goal.returns-in_err-id-clause-missing
 returns-in_err-id-clause-missing g c =
     let save = c.save.ensures in
     let p = err_from_is_err_and c.from_residual-in_err-id.result c.from_residual-in_err-id.ensures.1 in
     rw (p.1, p.2)
-    (unsaved_adds (λ m. g.M.Media.disk m) (g.M.Media.disk c.args.world.now.media) c.open.new.media c.save.new.media c.in_ok-recording.recording.members c.args.label.now c.save.result c.in_err-id.field-0.0 c.in_err-id.was
+    (unsaved_adds (λ m. g.M.Media.disk m) (g.M.Media.disk c.args.world.now.media) c.open.new.media c.save.new.media c.in_ok-recorder.recorder.vault c.args.label.now c.save.result c.in_err-id.field-0.0 c.in_err-id.was
     c.open.ensures.missing save.refuses.reason (λ refused works is. (save.refuses.refused refused works is).2) (λ m offset is. (save.damage.damaged m offset is).0))
 
 pub returns-clause-missing : goal.returns-clause-missing

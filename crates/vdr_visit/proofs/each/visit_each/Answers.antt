@@ -32,7 +32,7 @@ returns-in_err-found-clause-visited g c first had =
 pub loop-found-init : goal.loop-found-init
 loop-found-init g c = record {
   rings = c.first.ensures.keeps.rings;
-  reads = c.first.ensures.keeps.members;
+  reads = c.first.ensures.keeps.vault;
   unchanged = c.first.ensures.keeps.unchanged;
   counts = c.first.ensures.reads.counts;
   later = c.first.ensures.reads.cause.later;
@@ -99,7 +99,7 @@ pub returns-in_err-found-2-clause-read : goal.returns-in_err-found-2-clause-read
 returns-in_err-found-2-clause-read g c =
     let i = c.loop-found.invariant in
     record {
-      members = reads_join (medium_of (asked_medium c.args.query.now.medium)) c.args.members.now c.loop-found.members c.next.new.self i.reads c.next.ensures.keeps.members;
+      vault = reads_join (medium_of (asked_medium c.args.query.now.medium)) c.args.vault.now c.loop-found.vault c.next.new.self i.reads c.next.ensures.keeps.vault;
       rings = c.next.ensures.keeps.rings;
       unchanged = unchanged_join (g.M.Media.disk c.args.media.now) (g.M.Media.disk c.loop-found.media) (g.M.Media.disk c.next.new.media) i.unchanged c.next.ensures.keeps.unchanged;
       counts = λ k other. c.next.ensures.reads.counts k other ∙ i.counts k other;
@@ -132,9 +132,9 @@ pub returns-in_err-found-2-clause-cause : goal.returns-in_err-found-2-clause-cau
 returns-in_err-found-2-clause-cause g c =
     let m = medium_of (asked_medium c.args.query.now.medium) in
     let p = err_from_is_err_and c.from_residual-in_err-found-2.result c.from_residual-in_err-found-2.ensures.1 in
-    let kept = reads_keep_failed m c.args.members.now c.loop-found.members c.loop-found.invariant.reads in
+    let kept = reads_keep_failed m c.args.vault.now c.loop-found.vault c.loop-found.invariant.reads in
     visit_cause c.in_err-found-2.field-0.0 c.next.result c.from_residual-in_err-found-2.result c.in_err-found-2.was
-    (answered c.in_err-found-2.field-0.0 p.0 c.from_residual-in_err-found-2.result p.1 p.2) m c.args.members.now.failed
+    (answered c.in_err-found-2.field-0.0 p.0 c.from_residual-in_err-found-2.result p.1 p.2) m c.args.vault.now.failed
     (g.M.Media.faults c.args.media.now) (g.M.Media.faults c.loop-found.media) (g.M.Media.faults c.next.new.media) c.loop-found.invariant.later
     (subst (λ (b : Bool). HasReadCause m b (g.M.Media.faults c.loop-found.media) (g.M.Media.faults c.next.new.media) c.next.result) kept c.next.ensures.reads.cause)
 
@@ -144,7 +144,7 @@ loop-found-preserved g c =
     let i = c.loop-found.invariant in
     record {
       rings = c.next.ensures.keeps.rings;
-      reads = reads_join m c.args.members.now c.loop-found.members c.next.new.self i.reads c.next.ensures.keeps.members;
+      reads = reads_join m c.args.vault.now c.loop-found.vault c.next.new.self i.reads c.next.ensures.keeps.vault;
       unchanged = unchanged_join (g.M.Media.disk c.args.media.now) (g.M.Media.disk c.loop-found.media) (g.M.Media.disk c.next.new.media) i.unchanged c.next.ensures.keeps.unchanged;
       counts = λ k other. c.next.ensures.reads.counts k other ∙ i.counts k other;
       later = none_falls_join (g.M.Media.faults c.args.media.now) (g.M.Media.faults c.loop-found.media) (g.M.Media.faults c.next.new.media) i.later c.next.ensures.reads.cause.later;
@@ -163,7 +163,7 @@ loop-found-preserved g c =
                 visited_next (v.3 opening events placed told readable) c.loop-found-test.true c.in-Some.item.now (sym c.in-Some.ensures) c.next.result c.next.new.cursor.visit.item
                 (AreToCome (asked c.args.query.now) c.next.new.self placed (g.M.Media.disk c.next.new.media) c.next.new.cursor)
                 (λ rs come. c.next.ensures.plays opening events placed rs told (i.readable opening events placed readable) come)
-                (selected_in_order opening events c.args.members.now placed (g.M.Media.disk c.args.media.now) readable c.args.query.now)
+                (selected_in_order opening events c.args.vault.now placed (g.M.Media.disk c.args.media.now) readable c.args.query.now)
                 c.in_ok-least.least c.in_ok-least.ensures.next c.in_ok-found-2.found c.in_ok-found-2.was,
           );
     }

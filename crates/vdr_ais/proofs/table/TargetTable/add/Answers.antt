@@ -1,11 +1,11 @@
 use Rattle.std.proofs.Common.{◌≡◌, ◌∙◌, ℤ, fold, sym, ap, subst, w64, to_z, of_z, FitsSigned}
 use Rattle.std.proofs.lemmas.Int.{to_z-of_z}
 use Rattle.vdr_terms.specs.Records.{Content, Record}
+use Rattle.vdr_terms.proofs.Stamping.{stamp_fits}
 use Rattle.vdr_ais.specs.Lines.{lines_in, lines_of}
 use Rattle.vdr_ais.specs.Pending.{Entries, HasRead}
 use Rattle.vdr_ais.specs.Tables.{Shows, Table, table_of}
 use Rattle.vdr_ais.specs.Targets.{Seen, with_line}
-use Rattle.vdr_ais.proofs.Shown.{stamp_fits}
 use Rattle.vdr_ais.proofs.table.TargetTable.add.Goals as goal
 
 pub returns-clause-added : goal.returns-clause-added

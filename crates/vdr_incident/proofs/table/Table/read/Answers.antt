@@ -1,5 +1,5 @@
 use Rattle.std.proofs.lemmas.Result.{err_from_is_err_and}
-use Rattle.vdr_incident.proofs.SlotBySlot.{same_err}
+use Rattle.vdr_terms.proofs.Results.{same_err}
 use Rattle.vdr_incident.proofs.table.Table.read.Goals as goal
 
 pub returns-in_err-saves-clause-damaged : goal.returns-in_err-saves-clause-damaged

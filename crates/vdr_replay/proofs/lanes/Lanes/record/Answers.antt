@@ -10,11 +10,11 @@ pub take_batch-requires-clause-fits : goal.take_batch-requires-clause-fits
 take_batch-requires-clause-fits g c =
     let feed = c.requires.held.0 in
     let held = c.requires.held.1 in
-    subst (λ (items : List Captured). FitBatch items c.args.recording.now) (sym c.as_slice.ensures) (record {
+    subst (λ (items : List Captured). FitBatch items c.args.recorder.now) (sym c.as_slice.ensures) (record {
       short = let size = held.batch.sized.size in let fits = held.batch.sized.fits in let room = held.batch.room in omega (arith, size, fits, room);
       configured = held.batch.configured;
       places = let place = held.fits.place in let few : length feed ≤ 4_294_967_295 = held.few in omega (arith, place, few);
-      numbers = λ n low. let fit = numbers_fit feed c.args.self.now.batch.items c.args.recording.now.maker held.fits held.few n low in omega (arith, fit);
+      numbers = λ n low. let fit = numbers_fit feed c.args.self.now.batch.items c.args.recorder.now.maker held.fits held.few n low in omega (arith, fit);
     })
 
 pub returns-in_err-take_batch-clause-broken : goal.returns-in_err-take_batch-clause-broken

@@ -3,6 +3,7 @@ use Rattle.std.specs.Vec.{with_items}
 use Rattle.std.proofs.lemmas.List.{with_items_is}
 use Rattle.std.proofs.lemmas.Result.{err_from_is_err_and}
 use Rattle.vdr_terms.specs.Needs.{slots_in}
+use Rattle.vdr_terms.proofs.Results.{same_err}
 use Rattle.vdr_outside.specs.Disk.{content}
 use Rattle.vdr_config.specs.Sizes.{sizes_of}
 use Rattle.vdr_index.specs.declared.known.Known.{Known}
@@ -11,7 +12,6 @@ use Rattle.vdr_ring.specs.Entries.{Describe}
 use Rattle.vdr_ring.specs.Indexed.{IsIndexed}
 use Rattle.vdr_ring.specs.Fronts.{Finds}
 use Rattle.vdr_ring.specs.Opening.{slot_bytes}
-use Rattle.vdr_ring.proofs.Faults.{same_err}
 use Rattle.vdr_ring.proofs.Shaping.{four_slots, refused_by, ring_reads}
 use Rattle.vdr_ring.proofs.Tabling.{slots_below}
 use Rattle.vdr_ring.proofs.ring.Ring.open.Goals as goal

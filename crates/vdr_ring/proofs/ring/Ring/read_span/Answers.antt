@@ -1,5 +1,5 @@
 use Rattle.std.proofs.Common.{rules}
-use Rattle.vdr_ring.specs.Cursors.{IsLoaded, Steps, slot_read}
+use Rattle.vdr_ring.specs.Visits.{IsLoaded, Steps, slot_read}
 use Rattle.vdr_slots.specs.Slots.{place_of}
 use Rattle.vdr_ring.proofs.Visiting.{step_visits, read_steps}
 use Rattle.vdr_ring.proofs.ring.Ring.read_span.Goals as goal

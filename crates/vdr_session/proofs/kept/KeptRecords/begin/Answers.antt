@@ -31,17 +31,17 @@ not_tick : Fault ≡ Tick → ⊥
 not_tick e = cc
 
 pub returns-in-Ok-clause-leaves : goal.returns-in-Ok-clause-leaves
-returns-in-Ok-clause-leaves g c = λ history h. (by_failed history h.0 (cases_Bool c.args.self.now.recording.members.failed), h.1)
+returns-in-Ok-clause-leaves g c = λ history h. (by_failed history h.0 (cases_Bool c.args.self.now.recorder.vault.failed), h.1)
   where
     by_failed : (history : List Mark) → IsKept (record { clock = g.O.Lent.clock; now = g.O.Lent.now; since = g.O.Lent.since; reads = g.O.Lent.reads; channels = g.O.Lent.channels }) g.O.Lent.began g.O.Lent.rates g.O.Lent.room g.O.Lent.sizes g.O.Lent.faults history
-        c.args.self.now.recording (g.M.Media.disk c.args.self.now.media.now) (g.M.Media.faults c.args.self.now.media.now)
-        → (c.args.self.now.recording.members.failed ≡ true) ⊎ (c.args.self.now.recording.members.failed ≡ false)
-        → IsKept (record { clock = g.O.Lent.clock; now = g.O.Lent.now; since = g.O.Lent.since; reads = g.O.Lent.reads; channels = g.O.Lent.channels }) g.O.Lent.began g.O.Lent.rates g.O.Lent.room g.O.Lent.sizes g.O.Lent.faults (history ++ start_mark c.args.self.now.recording c.start.new.self (g.M.Media.disk c.start.new.media).clock ∷ [])
+        c.args.self.now.recorder (g.M.Media.disk c.args.self.now.media.now) (g.M.Media.faults c.args.self.now.media.now)
+        → (c.args.self.now.recorder.vault.failed ≡ true) ⊎ (c.args.self.now.recorder.vault.failed ≡ false)
+        → IsKept (record { clock = g.O.Lent.clock; now = g.O.Lent.now; since = g.O.Lent.since; reads = g.O.Lent.reads; channels = g.O.Lent.channels }) g.O.Lent.began g.O.Lent.rates g.O.Lent.room g.O.Lent.sizes g.O.Lent.faults (history ++ start_mark c.args.self.now.recorder c.start.new.self (g.M.Media.disk c.start.new.media).clock ∷ [])
         c.start.new.self (g.M.Media.disk c.start.new.media) (g.M.Media.faults c.start.new.media)
     by_failed history k (inl fails) = absurd (ok_no_fault c.in-Ok.field-0 Fault (c.in-Ok.ensures.refuses.failed fails).0)
     by_failed history k (inr works) =
         start_kept (record { clock = g.O.Lent.clock; now = g.O.Lent.now; since = g.O.Lent.since; reads = g.O.Lent.reads; channels = g.O.Lent.channels }) g.O.Lent.began g.O.Lent.rates g.O.Lent.room g.O.Lent.sizes g.O.Lent.faults history
-        c.args.self.now.recording (g.M.Media.disk c.args.self.now.media.now) (g.M.Media.faults c.args.self.now.media.now) k
+        c.args.self.now.recorder (g.M.Media.disk c.args.self.now.media.now) (g.M.Media.faults c.args.self.now.media.now) k
         c.start.new.self (g.M.Media.disk c.start.new.media) (g.M.Media.faults c.start.new.media)
         (record {
           config = c.in-Ok.ensures.begins.config;
@@ -58,7 +58,7 @@ pub returns-in-Err-Place-clause-leaves : goal.returns-in-Err-Place-clause-leaves
 returns-in-Err-Place-clause-leaves g c = λ history h.
     let same = c.in-Err-Place.ensures.refuses.refused (inl (ap Err c.in-Err-Place.field-0-is)) in (
       start_look_kept (record { clock = g.O.Lent.clock; now = g.O.Lent.now; since = g.O.Lent.since; reads = g.O.Lent.reads; channels = g.O.Lent.channels }) g.O.Lent.began g.O.Lent.rates g.O.Lent.room g.O.Lent.sizes g.O.Lent.faults history
-          c.args.self.now.recording (g.M.Media.disk c.args.self.now.media.now) (g.M.Media.faults c.args.self.now.media.now) h.0
+          c.args.self.now.recorder (g.M.Media.disk c.args.self.now.media.now) (g.M.Media.faults c.args.self.now.media.now) h.0
           c.requires.closed c.start.new.self (g.M.Media.disk c.start.new.media) (g.M.Media.faults c.start.new.media)
           same.0 (ap g.M.Media.disk same.1) (ap g.M.Media.faults same.1),
       h.1,
@@ -68,31 +68,31 @@ pub returns-in-Err-Tick-clause-leaves : goal.returns-in-Err-Tick-clause-leaves
 returns-in-Err-Tick-clause-leaves g c = λ history h.
     let same = c.in-Err-Tick.ensures.refuses.refused (inr (ap Err c.in-Err-Tick.field-0-is)) in (
       start_look_kept (record { clock = g.O.Lent.clock; now = g.O.Lent.now; since = g.O.Lent.since; reads = g.O.Lent.reads; channels = g.O.Lent.channels }) g.O.Lent.began g.O.Lent.rates g.O.Lent.room g.O.Lent.sizes g.O.Lent.faults history
-          c.args.self.now.recording (g.M.Media.disk c.args.self.now.media.now) (g.M.Media.faults c.args.self.now.media.now) h.0
+          c.args.self.now.recorder (g.M.Media.disk c.args.self.now.media.now) (g.M.Media.faults c.args.self.now.media.now) h.0
           c.requires.closed c.start.new.self (g.M.Media.disk c.start.new.media) (g.M.Media.faults c.start.new.media)
           same.0 (ap g.M.Media.disk same.1) (ap g.M.Media.faults same.1),
       h.1,
     )
 
 pub returns-in-Err-Fault-clause-leaves : goal.returns-in-Err-Fault-clause-leaves
-returns-in-Err-Fault-clause-leaves g c = λ history h. (by_failed history h.0 (cases_Bool c.args.self.now.recording.members.failed), h.1)
+returns-in-Err-Fault-clause-leaves g c = λ history h. (by_failed history h.0 (cases_Bool c.args.self.now.recorder.vault.failed), h.1)
   where
     by_failed : (history : List Mark) → IsKept (record { clock = g.O.Lent.clock; now = g.O.Lent.now; since = g.O.Lent.since; reads = g.O.Lent.reads; channels = g.O.Lent.channels }) g.O.Lent.began g.O.Lent.rates g.O.Lent.room g.O.Lent.sizes g.O.Lent.faults history
-        c.args.self.now.recording (g.M.Media.disk c.args.self.now.media.now) (g.M.Media.faults c.args.self.now.media.now)
-        → (c.args.self.now.recording.members.failed ≡ true) ⊎ (c.args.self.now.recording.members.failed ≡ false)
-        → IsKept (record { clock = g.O.Lent.clock; now = g.O.Lent.now; since = g.O.Lent.since; reads = g.O.Lent.reads; channels = g.O.Lent.channels }) g.O.Lent.began g.O.Lent.rates g.O.Lent.room g.O.Lent.sizes g.O.Lent.faults (history ++ start_mark c.args.self.now.recording c.start.new.self (g.M.Media.disk c.start.new.media).clock ∷ [])
+        c.args.self.now.recorder (g.M.Media.disk c.args.self.now.media.now) (g.M.Media.faults c.args.self.now.media.now)
+        → (c.args.self.now.recorder.vault.failed ≡ true) ⊎ (c.args.self.now.recorder.vault.failed ≡ false)
+        → IsKept (record { clock = g.O.Lent.clock; now = g.O.Lent.now; since = g.O.Lent.since; reads = g.O.Lent.reads; channels = g.O.Lent.channels }) g.O.Lent.began g.O.Lent.rates g.O.Lent.room g.O.Lent.sizes g.O.Lent.faults (history ++ start_mark c.args.self.now.recorder c.start.new.self (g.M.Media.disk c.start.new.media).clock ∷ [])
         c.start.new.self (g.M.Media.disk c.start.new.media) (g.M.Media.faults c.start.new.media)
     by_failed history k (inl fails) =
         let same = c.in-Err-Fault.ensures.refuses.failed fails in
         start_look_kept (record { clock = g.O.Lent.clock; now = g.O.Lent.now; since = g.O.Lent.since; reads = g.O.Lent.reads; channels = g.O.Lent.channels }) g.O.Lent.began g.O.Lent.rates g.O.Lent.room g.O.Lent.sizes g.O.Lent.faults history
-        c.args.self.now.recording (g.M.Media.disk c.args.self.now.media.now) (g.M.Media.faults c.args.self.now.media.now) k
+        c.args.self.now.recorder (g.M.Media.disk c.args.self.now.media.now) (g.M.Media.faults c.args.self.now.media.now) k
         c.requires.closed c.start.new.self (g.M.Media.disk c.start.new.media) (g.M.Media.faults c.start.new.media)
         same.1 (ap g.M.Media.disk same.2) (ap g.M.Media.faults same.2)
     by_failed history k (inr works) =
         let is : Err c.in-Err-Fault.field-0 ≡ Err Fault = ap Err c.in-Err-Fault.field-0-is in
         let fails = c.in-Err-Fault.ensures.begins.fails is in
         start_kept (record { clock = g.O.Lent.clock; now = g.O.Lent.now; since = g.O.Lent.since; reads = g.O.Lent.reads; channels = g.O.Lent.channels }) g.O.Lent.began g.O.Lent.rates g.O.Lent.room g.O.Lent.sizes g.O.Lent.faults history
-        c.args.self.now.recording (g.M.Media.disk c.args.self.now.media.now) (g.M.Media.faults c.args.self.now.media.now) k
+        c.args.self.now.recorder (g.M.Media.disk c.args.self.now.media.now) (g.M.Media.faults c.args.self.now.media.now) k
         c.start.new.self (g.M.Media.disk c.start.new.media) (g.M.Media.faults c.start.new.media)
         (record {
           config = c.in-Err-Fault.ensures.begins.config;
@@ -123,27 +123,27 @@ fault_is_no_refusal (inr e) = cc
 
 pub returns-in-Ok-clause-means : goal.returns-in-Ok-clause-means
 returns-in-Ok-clause-means g c = λ history h idle. (
-  (λ told opening t0 b. by_failed (h.0.told told opening t0 b) idle (cases_Bool c.args.self.now.recording.members.failed)),
+  (λ told opening t0 b. by_failed (h.0.told told opening t0 b) idle (cases_Bool c.args.self.now.recorder.vault.failed)),
   (λ either. absurd (begun_is_no_refusal either)),
 )
   where
-    by_failed : {history : List Mark} {before : Before} {opening : Opening} {t0 : ℕ} → HasSession before opening history t0 c.args.self.now.recording (g.M.Media.disk c.args.self.now.media.now) → is_started history ≡ false
-        → (c.args.self.now.recording.members.failed ≡ true) ⊎ (c.args.self.now.recording.members.failed ≡ false) → MayBegin opening
+    by_failed : {history : List Mark} {before : Before} {opening : Opening} {t0 : ℕ} → HasSession before opening history t0 c.args.self.now.recorder (g.M.Media.disk c.args.self.now.media.now) → is_started history ≡ false
+        → (c.args.self.now.recorder.vault.failed ≡ true) ⊎ (c.args.self.now.recorder.vault.failed ≡ false) → MayBegin opening
     by_failed s idle (inl fails) = absurd (ok_no_fault c.in-Ok.field-0 Fault (c.in-Ok.ensures.refuses.failed fails).0)
     by_failed s idle (inr works) = may_begin s works idle (c.in-Ok.ensures.limits.place works) (c.in-Ok.ensures.limits.tick works) (ok_no_fault c.in-Ok.field-0 Place) (ok_no_fault c.in-Ok.field-0 Tick)
 
 pub returns-in-Err-Place-clause-means : goal.returns-in-Err-Place-clause-means
 returns-in-Err-Place-clause-means g c = λ history h idle.
-    let before : (P : Type 0) → (c.args.self.now.recording.members.failed ≡ false → P) → P =
-    λ P goes. works_before c.args.self.now.recording.members.failed c.in-Err-Place.field-0 P (λ fails. (c.in-Err-Place.ensures.refuses.failed fails).0) (λ e. not_place (e ∙ c.in-Err-Place.field-0-is)) goes in (
+    let before : (P : Type 0) → (c.args.self.now.recorder.vault.failed ≡ false → P) → P =
+    λ P goes. works_before c.args.self.now.recorder.vault.failed c.in-Err-Place.field-0 P (λ fails. (c.in-Err-Place.ensures.refuses.failed fails).0) (λ e. not_place (e ∙ c.in-Err-Place.field-0-is)) goes in (
       (λ told opening t0 b. before (2 ^ 62 ≤ opening.next_place) (λ works. no_place (h.0.told told opening t0 b) works idle ((c.in-Err-Place.ensures.limits.place works).0 (ap Err c.in-Err-Place.field-0-is)))),
       (λ either. before (has_fault history ≡ false) (λ works. no_fault history (h.0.stage.whole works))),
     )
 
 pub returns-in-Err-Tick-clause-means : goal.returns-in-Err-Tick-clause-means
 returns-in-Err-Tick-clause-means g c = λ history h idle.
-    let before : (P : Type 0) → (c.args.self.now.recording.members.failed ≡ false → P) → P =
-    λ P goes. works_before c.args.self.now.recording.members.failed c.in-Err-Tick.field-0 P (λ fails. (c.in-Err-Tick.ensures.refuses.failed fails).0) (λ e. not_tick (e ∙ c.in-Err-Tick.field-0-is)) goes in (
+    let before : (P : Type 0) → (c.args.self.now.recorder.vault.failed ≡ false → P) → P =
+    λ P goes. works_before c.args.self.now.recorder.vault.failed c.in-Err-Tick.field-0 P (λ fails. (c.in-Err-Tick.ensures.refuses.failed fails).0) (λ e. not_tick (e ∙ c.in-Err-Tick.field-0-is)) goes in (
       (λ told opening t0 b. before ((opening.next_place < 2 ^ 62) × (2 ^ 62 ≤ base_after opening.last)) (λ works. no_tick (h.0.told told opening t0 b) works idle ((c.in-Err-Tick.ensures.limits.tick works).0 (ap Err c.in-Err-Tick.field-0-is)))),
       (λ either. before (has_fault history ≡ false) (λ works. no_fault history (h.0.stage.whole works))),
     )

@@ -34,23 +34,23 @@ take_batch-requires-clause-fits g c =
     }
 
 pub returns-clause-leaves : goal.returns-clause-leaves
-returns-clause-leaves g c = λ history h. (by_failed history h.0 (cases_Bool c.args.self.now.recording.members.failed), h.1)
+returns-clause-leaves g c = λ history h. (by_failed history h.0 (cases_Bool c.args.self.now.recorder.vault.failed), h.1)
   where
-    by_failed : (history : List Mark) → (k : IsKept (record { clock = g.O.Lent.clock; now = g.O.Lent.now; since = g.O.Lent.since; reads = g.O.Lent.reads; channels = g.O.Lent.channels }) g.O.Lent.began g.O.Lent.rates g.O.Lent.room g.O.Lent.sizes g.O.Lent.faults history c.args.self.now.recording
+    by_failed : (history : List Mark) → (k : IsKept (record { clock = g.O.Lent.clock; now = g.O.Lent.now; since = g.O.Lent.since; reads = g.O.Lent.reads; channels = g.O.Lent.channels }) g.O.Lent.began g.O.Lent.rates g.O.Lent.room g.O.Lent.sizes g.O.Lent.faults history c.args.self.now.recorder
         (g.M.Media.disk c.args.self.now.media.now) (g.M.Media.faults c.args.self.now.media.now))
-        → (c.args.self.now.recording.members.failed ≡ true) ⊎ (c.args.self.now.recording.members.failed ≡ false)
+        → (c.args.self.now.recorder.vault.failed ≡ true) ⊎ (c.args.self.now.recorder.vault.failed ≡ false)
         → IsKept (record { clock = g.O.Lent.clock; now = g.O.Lent.now; since = g.O.Lent.since; reads = g.O.Lent.reads; channels = g.O.Lent.channels }) g.O.Lent.began g.O.Lent.rates g.O.Lent.room g.O.Lent.sizes g.O.Lent.faults
-        (history ++ batch_mark c.args.self.now.recording.members.failed c.args.items.now c.take_batch.new.self.members.failed (g.M.Media.disk c.take_batch.new.media).clock ∷ []) c.take_batch.new.self
+        (history ++ batch_mark c.args.self.now.recorder.vault.failed c.args.items.now c.take_batch.new.self.vault.failed (g.M.Media.disk c.take_batch.new.media).clock ∷ []) c.take_batch.new.self
         (g.M.Media.disk c.take_batch.new.media) (g.M.Media.faults c.take_batch.new.media)
     by_failed history k (inl fails) =
         let same = c.take_batch.ensures.failing.failed fails in
-        batch_look_kept (record { clock = g.O.Lent.clock; now = g.O.Lent.now; since = g.O.Lent.since; reads = g.O.Lent.reads; channels = g.O.Lent.channels }) g.O.Lent.began g.O.Lent.rates g.O.Lent.room g.O.Lent.sizes g.O.Lent.faults history c.args.self.now.recording
+        batch_look_kept (record { clock = g.O.Lent.clock; now = g.O.Lent.now; since = g.O.Lent.since; reads = g.O.Lent.reads; channels = g.O.Lent.channels }) g.O.Lent.began g.O.Lent.rates g.O.Lent.room g.O.Lent.sizes g.O.Lent.faults history c.args.self.now.recorder
         (g.M.Media.disk c.args.self.now.media.now) (g.M.Media.faults c.args.self.now.media.now) k c.args.items.now fails c.take_batch.new.self
         (g.M.Media.disk c.take_batch.new.media) (g.M.Media.faults c.take_batch.new.media)
         same.1 (ap g.M.Media.disk same.2) (ap g.M.Media.faults same.2)
     by_failed history k (inr works) =
         let e = c.take_batch.ensures in
-        batch_kept (record { clock = g.O.Lent.clock; now = g.O.Lent.now; since = g.O.Lent.since; reads = g.O.Lent.reads; channels = g.O.Lent.channels }) g.O.Lent.began g.O.Lent.rates g.O.Lent.room g.O.Lent.sizes g.O.Lent.faults history c.args.self.now.recording
+        batch_kept (record { clock = g.O.Lent.clock; now = g.O.Lent.now; since = g.O.Lent.since; reads = g.O.Lent.reads; channels = g.O.Lent.channels }) g.O.Lent.began g.O.Lent.rates g.O.Lent.room g.O.Lent.sizes g.O.Lent.faults history c.args.self.now.recorder
         (g.M.Media.disk c.args.self.now.media.now) (g.M.Media.faults c.args.self.now.media.now) k c.take_batch.new.self
         (g.M.Media.disk c.take_batch.new.media) (g.M.Media.faults c.take_batch.new.media)
         (record {
@@ -58,13 +58,13 @@ returns-clause-leaves g c = λ history h. (by_failed history h.0 (cases_Bool c.a
           rings = e.goes_on.rings;
           sizes = e.writes.sizes;
           later = e.writes.cause.later;
-          rose = λ fails. rose_of c.take_batch.result c.take_batch.new.self.members.failed
-              ((c.args.self.now.recording.members.failed ≡ true) ⊎ Rose (sum (g.M.Media.faults c.args.self.now.media.now)) (sum (g.M.Media.faults c.take_batch.new.media)))
+          rose = λ fails. rose_of c.take_batch.result c.take_batch.new.self.vault.failed
+              ((c.args.self.now.recorder.vault.failed ≡ true) ⊎ Rose (sum (g.M.Media.faults c.args.self.now.media.now)) (sum (g.M.Media.faults c.take_batch.new.media)))
               e.failing.works e.writes.cause.in_all fails;
           elsewhere = e.writes.others;
         })
         works c.args.items.now c.requires.1.open_is e.goes_on.stays_open e.goes_on.places e.goes_on.numbers (λ opening events t0 told has. e.taken opening events t0 told works has)
 
 pub returns-clause-mark : goal.returns-clause-mark
-returns-clause-mark g c = mark_is c.args.items.now c.args.self.now.recording.members.failed c.take_batch.new.self.members.failed (g.M.Media.disk c.take_batch.new.media).clock c.take_batch.result c.is_ok.result
+returns-clause-mark g c = mark_is c.args.items.now c.args.self.now.recorder.vault.failed c.take_batch.new.self.vault.failed (g.M.Media.disk c.take_batch.new.media).clock c.take_batch.result c.is_ok.result
     c.is_ok.ensures.value (λ fails. (c.take_batch.ensures.failing.failed fails).0) c.take_batch.ensures.failing.works c.take_batch.ensures.failing.fails

@@ -4,7 +4,7 @@ use Rattle.vdr_terms.specs.Rates.{is_configured, limit_of}
 use Rattle.vdr_terms.specs.declared.rate.Rate.{Rate}
 use Rattle.vdr_config.specs.Configuration.{Configuration}
 use Rattle.vdr_config.specs.Sizes.{limits_in}
-use Rattle.vdr_session.proofs.Popped.{at_each}
+use Rattle.vdr_desk.proofs.Lists.{at_each}
 use Rattle.vdr_session.proofs.plan.Plan.new.Goals as goal
 
 some_configured : (o : Option Rate) → is_some o ≡ is_configured (limit_of o)

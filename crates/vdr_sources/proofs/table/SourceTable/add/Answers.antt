@@ -2,9 +2,10 @@ use Rattle.std.proofs.Common.{◌≡◌, ◌∙◌, List, ℤ, fold, sym, ap, su
 use Rattle.std.proofs.lemmas.Int.{to_z-of_z}
 use Rattle.vdr_playback.specs.Sources.{Row, with_line}
 use Rattle.vdr_terms.specs.Records.{Record}
+use Rattle.vdr_terms.proofs.Stamping.{stamp_fits}
 use Rattle.vdr_sources.specs.Rows.{lines_at}
 use Rattle.vdr_sources.specs.Tables.{read_lines}
-use Rattle.vdr_sources.proofs.Lines.{of_record, stamp_fits}
+use Rattle.vdr_sources.proofs.Lines.{of_record}
 use Rattle.vdr_sources.proofs.table.SourceTable.add.Goals as goal
 
 pub returns-clause-added : goal.returns-clause-added

@@ -1,0 +1,6 @@
+pub mod Ordering
+pub mod Restoring
+pub mod Playing
+pub mod Resting
+pub mod Passing
+pub mod Headlines

@@ -1,0 +1,23 @@
+use Rattle.std.proofs.Common.{arith}
+use Rattle.vdr_pace.proofs.ItemSizes.{fit_few}
+use Rattle.vdr_recorder.proofs.Batches.{number_fits, taken_more}
+use Rattle.vdr_recorder.proofs.making.make.Goals as goal
+
+pub take-requires-clause-room : goal.take-requires-clause-room
+take-requires-clause-room c =
+    let taken = c.loop-item.invariant in
+    let few = taken.few in
+    let kept = taken.room in
+    let room = c.requires.room in
+    let test = c.loop-item-test.true in
+    let count = fit_few c.args.config.now.batch c.args.items.now c.requires.short in
+    omega (arith, few, kept, room, test, count)
+
+pub take-requires-clause-number : goal.take-requires-clause-number
+take-requires-clause-number c within =
+    number_fits c.args.config.now c.loop-item.item-index c.args.items.now c.item-item.result c.args.maker.now c.loop-item.maker c.loop-item.invariant c.loop-item-test.true c.item-item.is within (c.requires.numbers _ within)
+
+pub loop-item-preserved : goal.loop-item-preserved
+loop-item-preserved c =
+    taken_more c.args.config.now c.loop-item.item-index c.args.items.now c.item-item.result c.args.maker.now c.loop-item.maker c.loop-item.invariant c.loop-item-test.true c.item-item.is
+    c.take.new.maker c.take.ensures.one c.take.ensures.making

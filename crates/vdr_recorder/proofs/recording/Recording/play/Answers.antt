@@ -1,9 +1,0 @@
-use Rattle.std.proofs.Common.{refl}
-use Rattle.vdr_entry.specs.Queries.{asked}
-use Rattle.vdr_recorder.proofs.Printing.{played}
-use Rattle.vdr_recorder.proofs.recording.Recording.play.Goals as goal
-
-pub returns-clause-played : goal.returns-clause-played
-returns-clause-played g c =
-    played (asked c.args.query.now) c.args.self.now.members (g.M.Media.disk c.args.media.now) (g.O.Sink.taken c.args.out.now) (g.O.Sink.taken c.visit.new.out) c.visit.result c.new.result.tracks _ c.new.ensures
-    (c.visit.ensures.visited c.new.result refl)

@@ -1,8 +1,0 @@
-use Rattle.vdr_entry.specs.Queries.{asked}
-use Rattle.vdr_vault.specs.Vaults.{AreRings}
-use Rattle.vdr_vault.specs.Walks.{MayStep}
-use Rattle.vdr_vault.specs.Plays.{ring_for}
-use Rattle.vdr_recorder_tests.proofs.recordings.full.assert_made.Given as goal
-
-abbrev pub invariant-loop-place : goal.invariant-loop-place
-invariant-loop-place g l = AreRings l.members (g.M.Media.disk l.media).sizes × MayStep (ring_for l.members (asked l.query)) l.cursor

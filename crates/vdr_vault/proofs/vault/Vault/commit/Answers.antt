@@ -1,0 +1,45 @@
+use Rattle.std.proofs.Common.{sym, ap, ◌∙◌, w64, arith}
+use Rattle.std.proofs.lemmas.Int.{ints, to_z-of_z}
+use Rattle.std.proofs.lemmas.Result.{IfOk-from_err}
+use mir.Val.{SFits}
+use Rattle.vdr_terms.specs.Records.{Record}
+use Rattle.vdr_vault.specs.Vaults.{VaultState}
+use Rattle.vdr_vault.proofs.CommitAll.{gone_on, unfailed}
+use Rattle.vdr_vault.proofs.CommitStands.{told_last, told_next}
+use Rattle.vdr_vault.proofs.vault.Vault.commit.Goals as goal
+
+pub returns-in_err-append_to_both-clause-commits : goal.returns-in_err-append_to_both-clause-commits
+returns-in_err-append_to_both-clause-commits g c = rw (sym c.self.view_is) (λ opening events e taken placed told is stands may.
+    let made = c.append_to_both.ensures.commits opening events e taken placed told is (unfailed opening events _ placed (g.M.Media.disk c.args.media.now) c.if-self.false stands) may in
+    record { moments = made.moments; done = IfOk-from_err c.from_residual.result _ c.from_residual.ensures.0 })
+
+pub returns-clause-commits : goal.returns-clause-commits
+returns-clause-commits g c = rw (sym c.self.view_is) (λ opening events e taken placed told is stands may.
+    let stamp = c.newest.invariant.legal.utc in
+    let fits : SFits w64 c.newest.inside.utc = omega (arith, ints, stamp.whole, stamp.in_time) in
+    let made = c.append_to_both.ensures.commits opening events e taken placed told is (unfailed opening events _ placed (g.M.Media.disk c.args.media.now) c.if-self.false stands) may in
+    let at : VaultState = record {
+      config = c.self-2.inside.config;
+      capsule = c.self-2.inside.capsule;
+      long_term = c.self-2.inside.long_term;
+      table = c.self-2.inside.table;
+      next_place = c.self-2.inside.next_place;
+      last = c.self-2.inside.last;
+      failed = c.self-2.inside.failed;
+    } in
+    gone_on opening events e c.args.records.now placed at _ _ (g.M.Media.disk c.args.media.now) (g.M.Media.disk c.append_to_both.new.media) c.append_to_both.result _ c.in_ok-append_to_both.was
+    (told_next c.args.records.now c.index-records-records.result c.newest.inside.place c.requires.some c.index-records-records.is (ap (λ (r : Record). r.place) c.newest.view_is))
+    (told_last c.args.records.now c.index-records-records.result c.newest.inside.tick _ c.requires.some c.index-records-records.is
+    (ap (λ (r : Record). r.tick) c.newest.view_is) (to_z-of_z w64 c.newest.inside.utc fits ∙ ap (λ (r : Record). r.utc) c.newest.view_is))
+    (rw (sym c.self-2.view_is) at made))
+
+pub returns-clause-goes_on : goal.returns-clause-goes_on
+returns-clause-goes_on g c =
+    let stamp = c.newest.invariant.legal.utc in
+    let fits : SFits w64 c.newest.inside.utc = omega (arith, ints, stamp.whole, stamp.in_time) in
+    record {
+      next_place = told_next c.args.records.now c.index-records-records.result c.newest.inside.place c.requires.some c.index-records-records.is (ap (λ (r : Record). r.place) c.newest.view_is);
+      last = told_last c.args.records.now c.index-records-records.result c.newest.inside.tick _ c.requires.some c.index-records-records.is
+          (ap (λ (r : Record). r.tick) c.newest.view_is) (to_z-of_z w64 c.newest.inside.utc fits ∙ ap (λ (r : Record). r.utc) c.newest.view_is);
+      kept = tt;
+    }

@@ -1,0 +1,65 @@
+use Rattle.std.proofs.Common.{rules, inr, Option, Some, sym, ap, ◌∙◌, subst}
+use Rattle.std.proofs.lemmas.Bool.{false≢true}
+use Rattle.vdr_terms.specs.Queries.{Span}
+use Rattle.vdr_playback.specs.Playback.{medium_of}
+use Rattle.vdr_outside.proofs.Counts.{sum_rose}
+use Rattle.vdr_entry.specs.Queries.{asked, asked_medium}
+use Rattle.vdr_vault.specs.Vaults.{VaultState}
+use Rattle.vdr_index.specs.Indexes.{span_as}
+use Rattle.vdr_vault.specs.Walks.{AreLeft, slots_read}
+use Rattle.vdr_vault.specs.Plays.{ring_for}
+use Rattle.vdr_vault.proofs.Coming.{asked_two, gives_to_come, holds_on, none_to_come}
+use Rattle.vdr_vault.proofs.Playing.{both_read, readable_still, stands_still}
+use Rattle.vdr_vault.proofs.vault.Vault.next.Goals as goal
+
+pub returns-clause-plays : goal.returns-clause-plays
+returns-clause-plays g c opening events placed records told stands left =
+    let query = asked c.args.query.now in
+    let before = g.M.Media.disk c.args.media.now in
+    let now = g.M.Media.disk c.seek.new.media in
+    let m = medium_of (asked_medium c.args.query.now.medium) in
+    let both = both_read m c.args.self.now c.seek.new.self before now (asked_two c.args.query.now.medium) c.seek.ensures.vault c.seek.ensures.read in
+    let span = c.in-Some.ensures placed (λ k d within. (stands.media k d within).reads.table) in
+    let reads = (holds_on opening events c.args.self.now placed before stands c.args.query.now.medium).reads in
+    let is_left = subst (λ (o : Option Span). AreLeft (slots_read (ring_for c.args.self.now query) before) (placed m) query o c.args.cursor.now records) (sym span) left in
+    gives_to_come query c.args.self.now c.seek.new.self before now placed (Some (span_as c.in-Some.span)) c.seek.new.cursor records c.seek.result told both c.seek.ensures.read span
+    (c.seek.ensures.plays told (placed m) records reads is_left)
+
+pub returns-then-self-clause-plays : goal.returns-then-self-clause-plays
+returns-then-self-clause-plays g c opening events placed records told stands left =
+    absurd (false≢true (sym stands.working ∙ sym (ap (λ (s : VaultState). s.failed) c.self.view_is) ∙ c.if-self.true))
+
+pub returns-in_default-clause-plays : goal.returns-in_default-clause-plays
+returns-in_default-clause-plays g c opening events placed records told stands left =
+    none_to_come (asked c.args.query.now) c.args.self.now (g.M.Media.disk c.args.media.now) placed c.args.cursor.now c.new-in_default.result records
+    (sym (c.in_default.ensures placed (λ k d within. (stands.media k d within).reads.table))) c.new-in_default.ensures.standing c.new-in_default.ensures.item left
+
+pub returns-clause-keeps : goal.returns-clause-keeps
+returns-clause-keeps g c =
+    let before = g.M.Media.disk c.args.media.now in
+    let now = g.M.Media.disk c.seek.new.media in
+    let m = medium_of (asked_medium c.args.query.now.medium) in
+    let both = both_read m c.args.self.now c.seek.new.self before now (asked_two c.args.query.now.medium) c.seek.ensures.vault c.seek.ensures.read in
+    record {
+      vault = search rules;
+      rings = search rules;
+      stands = λ opening events placed stands. stands_still opening events placed c.args.self.now c.seek.new.self before now both stands;
+      readable = λ opening events placed readable. readable_still opening events placed c.args.self.now c.seek.new.self before now both readable;
+      unchanged = search rules;
+    }
+
+pub returns-clause-reads : goal.returns-clause-reads
+returns-clause-reads g c =
+    let later = c.seek.ensures.counts.later in
+    record {
+      failed = search rules;
+      counts = search rules;
+      damaged = search rules;
+      cause = record {
+        later = later;
+        on_medium = λ e. inr (c.seek.ensures.cause e);
+        in_all = λ e.
+            inr
+            (sum_rose (g.M.Media.faults c.args.media.now) (g.M.Media.faults c.seek.new.media) (medium_of (asked_medium c.args.query.now.medium)) later.same_media later.none_falls (c.seek.ensures.cause e));
+      };
+    }

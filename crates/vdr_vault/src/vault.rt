@@ -1,0 +1,49 @@
+ghost use Rattle.std.specs.Prelude.{◌≡◌, ℕ, List, option_map};
+ghost use Rattle.vdr_terms.specs.Records.{last};
+ghost use Rattle.vdr_durability.specs.Readings.{next_after};
+ghost use Rattle.vdr_ring.specs.Sequence.{Placed, all_records};
+ghost use Rattle.vdr_ring.specs.Rings.{HoldsPlaced, Tells};
+ghost use Rattle.vdr_vault.specs.Vaults.{tick_utc};
+
+use std::marker::Model;
+use vdr_config::Config;
+use vdr_incident::Table;
+use vdr_ring::Ring;
+
+/// The capsule and the long-term medium as they were opened, without the media themselves: the configuration, a ring on each, and the
+/// table of incident saves. After a fault of a write all its calls answer `Fault` and touch nothing, until the media are opened again.
+#[derive(Drop)]
+pub struct Vault {
+    pub(crate) config: Config,
+    pub(crate) capsule: Ring,
+    pub(crate) long_term: Ring,
+    pub(crate) table: Table,
+    // The place after the last record that both media have.
+    pub(crate) next_place: u64,
+    // Its tick and its stamp.
+    pub(crate) last: Option<(u64, i64)>,
+    pub(crate) failed: bool,
+}
+
+impl Model for Vault {
+    ghost use Rattle.std.specs.Prelude.{◌≡◌, length};
+    ghost use Rattle.vdr_vault.specs.Vaults.{VaultState};
+
+    ghost Value = { VaultState };
+
+    ghost view = { λ s. record { config = s.config; capsule = s.capsule; long_term = s.long_term; table = s.table; next_place = s.next_place; last = s.last; failed = s.failed } };
+
+    ghost invariant = { λ s. length s.table ≡ s.config.incident_slots };
+}
+
+/// Where a ring ends: the place after its last record, and tick and stamp of that record.
+pub(crate) fn ending(ring: &Ring) -> (u64, Option<(u64, i64)>)
+    ensures next_place { (placed : List Placed) (bytes : List ℕ) → Tells ring.now.slots placed ring.now.table
+        → HoldsPlaced ring.now.segment ring.now.slots placed bytes → result.0 ≡ next_after (last (all_records placed)) }
+    ensures last { (placed : List Placed) → Tells ring.now.slots placed ring.now.table → result.1 ≡ option_map tick_utc (last (all_records placed)) }
+{
+    match ring.last() {
+        Some((place, tick, utc)) => (place.saturating_add(1), Some((tick, utc))),
+        None => (0, None),
+    }
+}
