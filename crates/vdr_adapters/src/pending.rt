@@ -5,13 +5,10 @@ ghost use Rattle.vdr_outside.specs.Hears.{Hears, heard_answer};
 ghost use Rattle.vdr_outside.specs.declared.link.Heard.TheVariants.{Failed};
 
 use arrayvec::ArrayVec;
-use vdr_outside::Heard;
-
-/// How many bytes a line may have, without its CR and LF.
-const LONGEST: usize = 256;
+use vdr_outside::{Heard, LONGEST_LINE};
 
 /// How many bytes are gathered at most: a longest line with its CR, and a piece.
-const CAPACITY: usize = 2 * LONGEST + 1;
+const CAPACITY: usize = 2 * LONGEST_LINE + 1;
 
 #[derive(Drop)]
 pub(crate) struct Pending {
@@ -36,7 +33,7 @@ impl Pending {
 
     // Gathers a piece of at most 256 bytes. No LF is among those that were gathered before.
     pub(crate) fn push(&mut self, piece: &[u8]) {
-        if self.bytes.len() > LONGEST + 1 {
+        if self.bytes.len() > LONGEST_LINE + 1 {
             self.bytes.clear();
             self.is_long = true;
         }
@@ -44,7 +41,7 @@ impl Pending {
     }
 
     // Gives the next line that is whole, without its LF and without a CR before it. It is quiet where there is none.
-    pub(crate) fn line(&mut self, into: &mut ArrayVec<u8, LONGEST>) -> Heard
+    pub(crate) fn line(&mut self, into: &mut ArrayVec<u8, LONGEST_LINE>) -> Heard
         ensures heard { Hears None None result into.new.items }
         ensures going_on { heard_answer result ≡ other }
         ensures not_failed { result ≢ Failed }
@@ -67,17 +64,17 @@ impl Pending {
     }
 
     // Gives the line that ends here, unless it is too long.
-    fn give(&self, end: usize, into: &mut ArrayVec<u8, LONGEST>) -> bool
+    fn give(&self, end: usize, into: &mut ArrayVec<u8, LONGEST_LINE>) -> bool
         requires { end < length self.now.bytes.items }
         ensures none { result ≡ false → into.new.items ≡ [] }
-        ensures short { length into.new.items ≤ LONGEST }
+        ensures short { length into.new.items ≤ LONGEST_LINE }
     {
         into.clear();
         let line = match &self.bytes.as_slice()[..end] {
             [front @ .., b'\r'] => front,
             whole => whole,
         };
-        if self.is_long || line.len() > LONGEST {
+        if self.is_long || line.len() > LONGEST_LINE {
             return false;
         }
         let _ = into.try_extend_from_slice(line);

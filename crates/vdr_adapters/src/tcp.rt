@@ -12,7 +12,7 @@ use std::io::{Read, Write};
 use std::net::{Ipv4Addr, Net, SocketAddr, TcpListener, TcpStream};
 use std::time::{Clock, Duration};
 use std::{io, thread};
-use vdr_outside::{Failed, Heard, Link};
+use vdr_outside::{Failed, Heard, LONGEST_LINE, Link};
 
 /// The port on which an operator's orders come.
 const ORDERS: u16 = 61_450;
@@ -142,7 +142,7 @@ impl<'a, R: Net<Listener = TcpListener, Stream = TcpStream> + Clock + Eprint + D
     }
 
     // The next line that is there, or that comes in time.
-    fn next_line(&mut self, into: &mut ArrayVec<u8, 256>) -> Heard
+    fn next_line(&mut self, into: &mut ArrayVec<u8, LONGEST_LINE>) -> Heard
         ensures heard { Hears None None result into.new.items }
         ensures going_on { heard_answer result ≡ other }
         ensures not_failed { result ≢ HeardFailed }
@@ -197,7 +197,7 @@ impl<'a, R: Net<Listener = TcpListener, Stream = TcpStream> + Clock + Eprint + D
 
     ghost faults = { λ s. s.faults };
 
-    fn line(&mut self, into: &mut ArrayVec<u8, 256>) -> Heard {
+    fn line(&mut self, into: &mut ArrayVec<u8, LONGEST_LINE>) -> Heard {
         into.clear();
         if self.is_over() {
             self.calls.count_end();

@@ -9,7 +9,7 @@ use std::io;
 use std::io::ErrorKind;
 use std::net::{Ipv4Addr, Net, SocketAddr, UdpSocket};
 use std::time::{Clock, Duration};
-use vdr_outside::{Port, Taken};
+use vdr_outside::{LONGEST_TAKEN, Port, Taken};
 use vdr_terms::LAST_STAMP;
 
 /// The port of the first transmission group (IEC 61162-450). That of group g is g higher.
@@ -17,9 +17,6 @@ const FIRST_PORT: u16 = 60_001;
 
 /// How many milliseconds a take waits for a datagram.
 const WAIT: u64 = 50;
-
-/// One byte more than a datagram may have.
-const LONGEST: usize = 1473;
 
 /// The greatest `received`.
 const LAST_RECEIVED: u64 = (1 << 48) - 1;
@@ -101,10 +98,10 @@ impl<'a, R: Net + Clock + Eprint + Drop> UdpPort<'a, R> {
     }
 
     // Receives a datagram, if one comes in time and the alarm isn't raised.
-    fn receive(&mut self, into: &mut ArrayVec<u8, LONGEST>) -> io::Result<Came>
+    fn receive(&mut self, into: &mut ArrayVec<u8, LONGEST_TAKEN>) -> io::Result<Came>
         ensures none { IfOk result (λ came. came ≢ Datagram → into.new.items ≡ []) }
         ensures failed { OnErr result (into.new.items ≡ []) }
-        ensures short { length into.new.items ≤ LONGEST }
+        ensures short { length into.new.items ≤ LONGEST_TAKEN }
         ensures floor { self.new.floor ≡ self.old.floor }
         ensures calls { self.new.calls ≡ self.old.calls }
         ensures faults { self.new.faults ≡ self.old.faults }
@@ -117,7 +114,7 @@ impl<'a, R: Net + Clock + Eprint + Drop> UdpPort<'a, R> {
         let Some(socket) = &self.socket else {
             return Ok(Came::Nothing);
         };
-        let mut buffer = [0; LONGEST];
+        let mut buffer = [0; LONGEST_TAKEN];
         match socket.recv(&mut buffer) {
             Ok(count) => {
                 let _ = into.try_extend_from_slice(&buffer[..count]);
@@ -171,7 +168,7 @@ impl<'a, R: Net + Clock + Eprint + Drop> Port for UdpPort<'a, R> {
 
     ghost faults = { λ s. s.faults };
 
-    fn take(&mut self, into: &mut ArrayVec<u8, LONGEST>) -> Taken {
+    fn take(&mut self, into: &mut ArrayVec<u8, LONGEST_TAKEN>) -> Taken {
         match self.receive(into) {
             Ok(Came::Over) => {
                 self.calls.count_end();

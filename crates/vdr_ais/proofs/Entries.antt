@@ -1,5 +1,5 @@
 -- Entries in order of their keys: where a key stands, and what a look-up finds once one more entry is there.
-use Rattle.std.proofs.Common.{◌≡◌, ◌⊎◌, ◌<◌, ◌≤◌, ◌+◌, ◌∙◌, ℕ, zero, suc, Bool, true, false, cond, true≢false, List, [], ◌∷◌, length, get_or, set, unwrap_or, Some, None, refl, sym, ap, subst, arith, ⊎_elim, inl, inr, Ordering, Less, Equal, Greater, is_eq, Result, Ok, Err, IfOk, IfErr, filter, if◌then◌else◌}
+use Rattle.std.proofs.Common.{◌≡◌, ◌⊎◌, ◌<◌, ◌≤◌, ◌+◌, ◌∙◌, ℕ, zero, suc, Bool, true, false, cond, true≢false, List, [], ◌∷◌, length, get_or, set, Some, None, refl, sym, ap, subst, arith, ⊎_elim, inl, inr, Ordering, Less, Equal, Greater, is_eq, Result, Ok, Err, IfOk, IfErr, filter, if◌then◌else◌}
 use Rattle.std.specs.List.{AllByRecursion, insert, slice_get}
 use Rattle.std.specs.List.Sorted.{IsBinarySearchResult, IsNonDecreasingBy, IsSearchInRange, IsStrictlySortedBy}
 use Rattle.std.specs.Ordering.{match_ordering, ordering_index, ordering_reverse}
@@ -8,15 +8,9 @@ use Rattle.std.specs.Map.{keys_of, lookup}
 use Rattle.std.specs.BTreeMap.{insert_entry, is_at}
 use Rattle.std.proofs.lemmas.Bool.{cases_lt}
 use Rattle.std.proofs.lemmas.Cmp.{alike_right, tied_back}
-use Rattle.std.proofs.lemmas.Option.{get_or_from_slice_get, slice_get-get_or, slice_get_within}
+use Rattle.std.proofs.lemmas.Option.{get_or_from_slice_get, slice_get-get_or, slice_get_within, same_Some, none-some}
 use Rattle.std.proofs.lemmas.Map.Entries.{lookup_at_gap}
 use Rattle.vdr_ais.specs.Places.{ComesBehind, IsAt, IsGap}
-
-same_some : {X : Type 0} (x y : X) → Some x ≡ Some y → x ≡ y
-same_some x y e = ap (λ o. unwrap_or o x) e
-
-none_some : {X : Type 0} (x : X) → None ≡ Some x → ⊥
-none_some x e = cc
 
 same_twice : {Y : Type 0} (b c : Bool) (x y z : Y) → c ≡ b → cond b x z ≡ cond c x (cond b y z)
 same_twice true true x y z e = refl
@@ -40,16 +34,16 @@ module _ {K : Type 0} (cmp : K → K → Ordering) (total : IsTotalOrder cmp) wh
 module _ {K X : Type 0} (cmp : K → K → Ordering) where
   -- A fact of each key, at one of them.
   key_at : (P : K → Type 0) (es : List (K × X)) (i : ℕ) (e : K × X) → AllByRecursion P (keys_of es) → slice_get es i ≡ Some e → P e.0
-  key_at P [] i e all at = absurd (none_some e at)
-  key_at P (f ∷ es) zero e all at = subst P (ap (λ (x : K × X). x.0) (same_some f e at)) all.0
+  key_at P [] i e all at = absurd (none-some e at)
+  key_at P (f ∷ es) zero e all at = subst P (ap (λ (x : K × X). x.0) (same_Some f e at)) all.0
   key_at P (f ∷ es) (suc i) e all at = key_at P es i e all.1 at
 
   -- Keys in order by their places.
   sorted_at : (es : List (K × X)) → IsStrictlySortedBy cmp (keys_of es) → (i j : ℕ) (a b : K × X) → i < j → slice_get es i ≡ Some a → slice_get es j ≡ Some b → cmp a.0 b.0 ≡ Less
   unfolding IsStrictlySortedBy
-  sorted_at [] s i j a b lt p q = absurd (none_some a p)
+  sorted_at [] s i j a b lt p q = absurd (none-some a p)
   sorted_at (e ∷ es) s zero zero a b lt p q = absurd (omega (arith, lt))
-  sorted_at (e ∷ es) s zero (suc j) a b lt p q = ap (λ (x : K × X). cmp x.0 b.0) (sym (same_some e a p)) ∙ key_at (λ k. cmp e.0 k ≡ Less) es j b s.0 q
+  sorted_at (e ∷ es) s zero (suc j) a b lt p q = ap (λ (x : K × X). cmp x.0 b.0) (sym (same_Some e a p)) ∙ key_at (λ k. cmp e.0 k ≡ Less) es j b s.0 q
   sorted_at (e ∷ es) s (suc i) zero a b lt p q = absurd (omega (arith, lt))
   sorted_at (e ∷ es) s (suc i) (suc j) a b lt p q = sorted_at es s.1 i j a b (omega (arith, lt)) p q
 
@@ -61,9 +55,9 @@ module _ {K X : Type 0} (cmp : K → K → Ordering) where
 
   -- An entry of the key is there.
   put_over : (k : K) (v : X) (es : List (K × X)) (i : ℕ) (here : K × X) → ComesBehind (cmp k) es i → slice_get es i ≡ Some here → cmp k here.0 ≡ Equal → insert_entry cmp es k v ≡ set es i (here.0, v)
-  put_over k v [] i here behind at same = absurd (none_some here at)
+  put_over k v [] i here behind at same = absurd (none-some here at)
   put_over k v (e ∷ es) zero here behind at same =
-      let is = same_some e here at in
+      let is = same_Some e here at in
       put_step k v e es Equal (ap (λ (x : K × X). cmp k x.0) is ∙ same) ∙ ap (λ (x : K × X). (x.0, v) ∷ es) is
   put_over k v (e ∷ es) (suc i) here behind at same =
       put_step k v e es Greater (behind zero e (omega arith) refl) ∙ ap (λ (xs : List (K × X)). e ∷ xs) (put_over k v es i here (later_behind (cmp k) e es i behind) at same)
@@ -94,7 +88,7 @@ module _ {K X : Type 0} (cmp : K → K → Ordering) where
         cases = ⊎_elim (λ less. inr less) (λ most. inl (omega (arith, lt, most))) (cases_lt j m)
 
         same : j ≡ m → cmp k e.0 ≡ Greater
-        same p = ap (λ (x : K × X). cmp k x.0) (same_some e here (sym is ∙ (ap (slice_get es) p ∙ at))) ∙ more
+        same p = ap (λ (x : K × X). cmp k x.0) (same_Some e here (sym is ∙ (ap (slice_get es) p ∙ at))) ∙ more
 
         earlier : j < m → cmp k e.0 ≡ Greater
         earlier l = turned cmp total e.0 k Less (total.trans e.0 here.0 k (sorted_at es s j m e here l is at) (turned cmp total k here.0 Greater more))
@@ -104,7 +98,7 @@ module _ {K X : Type 0} (cmp : K → K → Ordering) where
 
     -- What stands at the place of a key.
     pub own_at : (k : K) (es : List (K × X)) (m : ℕ) (here e : K × X) (o : Ordering) → slice_get es m ≡ Some here → cmp k here.0 ≡ o → slice_get es m ≡ Some e → cmp k e.0 ≡ o
-    own_at k es m here e o at is found = ap (λ (x : K × X). cmp k x.0) (same_some e here (sym found ∙ at)) ∙ is
+    own_at k es m here e o at is found = ap (λ (x : K × X). cmp k x.0) (same_Some e here (sym found ∙ at)) ∙ is
 
     -- A look-up finds the value that was put there at its key, and else what it found before.
     pub lookup_with : (k q : K) (v : X) (es : List (K × X)) → lookup (is_at (cmp q)) (insert_entry cmp es k v) ≡ (if is_eq (cmp q k) then Some v else lookup (is_at (cmp q)) es)
@@ -145,8 +139,8 @@ module _ {K X : Type 0} (cmp : K → K → Ordering) where
     look_at k es i here p at = go es i p.behind at (p.here here at)
       where
         go : (es : List (K × X)) (i : ℕ) → ComesBehind (cmp k) es i → slice_get es i ≡ Some here → cmp k here.0 ≡ Equal → lookup (is_at (cmp k)) es ≡ Some here.1
-        go [] i behind at same = absurd (none_some here at)
-        go (e ∷ es) zero behind at same = let is = same_some e here at in look_step k e es Equal (ap (λ (x : K × X). cmp k x.0) is ∙ same) ∙ ap (λ (x : K × X). Some x.1) is
+        go [] i behind at same = absurd (none-some here at)
+        go (e ∷ es) zero behind at same = let is = same_Some e here at in look_step k e es Equal (ap (λ (x : K × X). cmp k x.0) is ∙ same) ∙ ap (λ (x : K × X). Some x.1) is
         go (e ∷ es) (suc i) behind at same = look_step k e es Greater (behind zero e (omega arith) refl) ∙ go es i (later_behind (cmp k) e es i behind) at same
 
     pub look_gap : (k : K) (es : List (K × X)) (i : ℕ) → IsStrictlySortedBy cmp (keys_of es) → IsGap (cmp k) es i → lookup (is_at (cmp k)) es ≡ None

@@ -1,11 +1,8 @@
 -- What a table shows once it has taken one more line.
-use Rattle.std.proofs.Common.{◌≡◌, ◌∙◌, ◌++◌, ℕ, ℤ, List, [], ◌∷◌, length, Option, Some, None, refl, sym, ap, subst, if◌then◌else◌, unwrap_or, codes, Ok, filter_map, All, fold, append_assoc, ◌+◌, arith, w64, FitsSigned}
+use Rattle.std.proofs.Common.{◌≡◌, ◌∙◌, ◌++◌, ℕ, ℤ, List, [], ◌∷◌, length, Option, Some, None, refl, sym, ap, subst, if◌then◌else◌, unwrap_or, codes, Ok, filter_map, All, fold, append_assoc, ◌+◌}
 use Rattle.std.specs.List.{cons_option}
 use Rattle.std.proofs.lemmas.List.{append-nil, length-append}
 use Rattle.std.proofs.lemmas.List.Elements.{All-nil, All-push}
-use Rattle.std.proofs.lemmas.Int.{ints}
-use Rattle.vdr_terms.specs.Stamps.{IsStamp}
-use Rattle.vdr_terms.proofs.Stamping.{stamp_fits}
 use Rattle.vdr_tag.specs.Values.{TagValues}
 use Rattle.vdr_sentence.specs.Refusals.{SentenceText}
 use Rattle.vdr_values.specs.Readings.{Reading, reading}

@@ -8,7 +8,7 @@ use Rattle.vdr_values.specs.declared.formatter.Formatter.{Formatter}
 use Rattle.vdr_values.specs.declared.formatter.Formatter.TheVariants.{Vdm, Vdo}
 use Rattle.vdr_values.specs.Readings.{Reading, reading}
 use Rattle.vdr_values.specs.Table.{row}
-use Rattle.vdr_values.specs.Values.{Value, value_at, Digits, Raw}
+use Rattle.vdr_values.specs.Values.{value_at, digits_in, raw_in}
 use Rattle.vdr_datagram.specs.Verdicts.{LineReading, line_spans}
 use Rattle.vdr_datagram.specs.Verdicts.LineReading.{Good, Tag, Sentence}
 use Rattle.vdr_ais.specs.Bits.{is_legal, six}
@@ -35,14 +35,6 @@ pub record Line : Type 0 where
   pub key : Key
   pub part : Part
 
-abbrev pub digits_in : Option Value → Option ℕ
-digits_in (Some (Digits n)) = Some n
-digits_in _ = None
-
-abbrev pub text_in : Option Value → Option (List ℕ)
-text_in (Some (Raw bytes)) = Some bytes
-text_in _ = None
-
 -- All four are there, and the payload is legal.
 abbrev pub part_from : (total number : Option ℕ) → (payload : Option (List ℕ)) → (fill : Option ℕ) → Option Part
 part_from (Some total) (Some number) (Some payload) (Some fill) =
@@ -59,9 +51,9 @@ abbrev pub line_of : (group : ℕ) (source : List ℕ) → Reading → Option Li
 line_of group source r =
     if carries r.formatter
     then option_map (λ part. record {
-      key = record { group = group; source = source; formatter = (row r.formatter).code; sequence = digits_in (value_at r.values 2); channel = unwrap_or (text_in (value_at r.values 3)) [] };
+      key = record { group = group; source = source; formatter = (row r.formatter).code; sequence = digits_in (value_at r.values 2); channel = unwrap_or (raw_in (value_at r.values 3)) [] };
       part = part;
-    }) (part_from (digits_in (value_at r.values 0)) (digits_in (value_at r.values 1)) (text_in (value_at r.values 4)) (digits_in (value_at r.values 5)))
+    }) (part_from (digits_in (value_at r.values 0)) (digits_in (value_at r.values 1)) (raw_in (value_at r.values 4)) (digits_in (value_at r.values 5)))
     else None
 
 -- The same of a sentence whose formatter is told besides. Where the reading has another the line carries no part.

@@ -1,10 +1,11 @@
 -- The table of ships that AIS messages report (this project's profile).
-use Rattle.std.specs.Prelude.{ℕ, ◌+◌, ◌-◌, ◌^◌, min, ℤ, pos, List, [], ◌∷◌, ◌++◌, length, fold, replicate, Option, Some, None, unwrap_or, codes, decimal, flat_map}
+use Rattle.std.specs.Prelude.{ℕ, ◌+◌, ◌-◌, ◌^◌, ℤ, pos, List, [], ◌∷◌, ◌++◌, length, fold, replicate, Option, Some, None, unwrap_or, codes, decimal, flat_map}
 use Rattle.std.specs.Fmt.{signed_decimal}
 use Rattle.std.specs.Ordering.{nat_cmp}
 use Rattle.std.specs.Map.{lookup}
 use Rattle.std.specs.BTreeMap.{insert_entry, is_at}
 use Rattle.vdr_terms.specs.Records.{Record}
+use Rattle.vdr_outside.specs.Calls.{one_more}
 use Rattle.vdr_entry.specs.Utc.{utc_text}
 use Rattle.vdr_ais.specs.Bits.{Message, bits_of}
 use Rattle.vdr_ais.specs.Lines.{Line, lines_of}
@@ -33,10 +34,6 @@ Ships = List (ℕ × Ship)
 -- A ship that has not reported.
 abbrev pub unknown : Ship
 unknown = record { utc = pos 0; reports = 0; place = None; name = [] }
-
--- One more, at most the greatest number of 64 bits.
-abbrev pub one_more : ℕ → ℕ
-one_more n = min (n + 1) (2 ^ 64 - 1)
 
 abbrev pub mmsi_of : Report → ℕ
 mmsi_of (Position mmsi latitude longitude speed course heading) = mmsi

@@ -1,9 +1,10 @@
 -- Numbers read and spelled.
 use Rattle.std.proofs.Common.{◌≡◌, ◌≤◌, ◌<◌, ◌+◌, ◌^◌, ℕ, zero, suc, List, [], ◌∷◌, ◌++◌, length, take, drop, refl, ap, ◌∙◌, sym, arith, lit<, w16, w32, w64}
 use Rattle.std.specs.Int.{from_le_bytes}
-use Rattle.std.proofs.lemmas.List.{take-append-le, take-append-drop, length-drop, length-take-le, drop-drop, take_all}
+use Rattle.std.proofs.lemmas.List.{take-append-le, take-append-drop, drop-drop, take_all}
 use Rattle.std.proofs.lemmas.Nat.{le_bytes_8, le_bytes_4, le_bytes_2, from_le_bytes-to_le_bytes_2, from_le_bytes-to_le_bytes_4, from_le_bytes-to_le_bytes_8}
 use Rattle.vdr_terms.specs.Legality.{IsBytes}
+use Rattle.vdr_terms.proofs.Bytes.{IsBytes-drop, IsBytes-take, part_long}
 use Rattle.vdr_bytes.specs.Numbers.{le_u16, le_u32, le_u64, u16_at, u32_at, u64_at}
 
 pub length-le_u16 : (n : ℕ) → length (le_u16 n) ≡ 2
@@ -20,17 +21,6 @@ length-le_u64 n = refl
 
 -- Parts of lists
 
-pub IsBytes-drop : (n : ℕ) (xs : List ℕ) → IsBytes xs → IsBytes (drop n xs)
-IsBytes-drop zero xs bytes i = bytes i
-IsBytes-drop (suc n) [] bytes i = lit< tt
-IsBytes-drop (suc n) (x ∷ xs) bytes i = IsBytes-drop n xs (λ j. bytes (suc j)) i
-
-pub IsBytes-take : (n : ℕ) (xs : List ℕ) → IsBytes xs → IsBytes (take n xs)
-IsBytes-take zero xs bytes i = lit< tt
-IsBytes-take (suc n) [] bytes i = lit< tt
-IsBytes-take (suc n) (x ∷ xs) bytes zero = bytes zero
-IsBytes-take (suc n) (x ∷ xs) bytes (suc i) = IsBytes-take n xs (λ j. bytes (suc j)) i
-
 pub drop-front : (n : ℕ) (xs ys : List ℕ) → length xs ≡ n → drop n (xs ++ ys) ≡ ys
 drop-front n [] ys e = let none : n ≡ 0 = omega (arith, e) in rw none refl
 drop-front zero (x ∷ xs) ys e = absurd (omega (arith, e))
@@ -45,9 +35,6 @@ part_after at n bytes part rest e long = (
   ap (λ (xs : List ℕ). take n xs) e ∙ take-front n part rest long,
   sym (drop-drop n at bytes) ∙ ap (λ (xs : List ℕ). drop n xs) e ∙ drop-front n part rest long,
 )
-
-pub part_long : (at n : ℕ) (bytes : List ℕ) → at + n ≤ length bytes → length (take n (drop at bytes)) ≡ n
-part_long at n bytes within = length-take-le n (drop at bytes) (grind (arith, length-drop at bytes, within))
 
 -- bytes from an offset on are a part and what follows it
 pub cut : (at n : ℕ) (bytes : List ℕ) → drop at bytes ≡ take n (drop at bytes) ++ drop (at + n) bytes

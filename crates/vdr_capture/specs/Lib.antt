@@ -3,3 +3,4 @@ pub mod Gives
 pub mod Items
 pub mod Captures
 pub mod Lanes
+pub mod Sums

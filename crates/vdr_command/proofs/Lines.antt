@@ -5,7 +5,6 @@ use Rattle.std.specs.Io.KnownBytes.{Appends}
 use Rattle.std.proofs.KnownBytes.{Appends-trans}
 use Rattle.vdr_outside.specs.Writes.{AppendsFront}
 use Rattle.vdr_config.specs.declared.bad.ConfigBad.{ConfigBad}
-use Rattle.vdr_play.proofs.Fronts.{front-first}
 use Rattle.vdr_command.specs.Refusals.{number_of, key_of, refusal_line}
 use Rattle.vdr_command.specs.StatusLine.{escaped_line}
 

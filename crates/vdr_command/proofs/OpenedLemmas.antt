@@ -199,7 +199,7 @@ module _ {tells tells_images : Type 0} where
   -- What the media read as after a call that was one event, where the vault goes on.
   pub reads_done : (x : Contents) (act : Act) (after : RecorderState) (t0 : ℕ) (mid new : Disk tells tells_images) (done : HasDone (opening_of x) [] t0 act after mid new) → after.vault.failed ≡ false → tells
       → ShowsHistory (opening_of x) (done.event ∷ []) new.reads
-  reads_done x act after t0 mid new done works t = let w = done.has.works works in stand_reads (opening_of x) (done.event ∷ []) after.vault w.placed new w.stands t
+  reads_done x act after t0 mid new done works t = let w = (done.has.works works).standing in stand_reads (opening_of x) (done.event ∷ []) after.vault w.placed new w.stands t
 
   -- A call of the recorder was one event on the media that were opened.
   pub kept_by_call : {T : Type 0} (x : Contents) → configuration x.text ≡ Ok x.config → WasRecorded x → (MayBe : List Event → Type 0) (status : Status) (old mid new : Disk tells tells_images) (result : Result T OpenRefused) (act : Act) → records_of_act act ≡ [] → (r after : RecorderState) (t0 : ℕ)

@@ -3,6 +3,7 @@ ghost use Rattle.vdr_config.specs.Sizes.{window_of};
 
 use crate::channel::Channel;
 use crate::profile::Profile;
+use crate::reading::SHIP_CAPSULE_SECONDS;
 use std::alloc::Global;
 use std::marker::Model;
 use vdr_terms::Rate;
@@ -55,7 +56,7 @@ impl Config {
     {
         Config {
             profile: Profile::Bench,
-            capsule_seconds: 172_800,
+            capsule_seconds: SHIP_CAPSULE_SECONDS,
             long_seconds: 2_592_000,
             incident_seconds: 1,
             incident_slots: 1,

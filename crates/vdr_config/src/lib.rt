@@ -24,5 +24,5 @@ pub use fit::{fits, needs};
 pub use law::law_of_ranges;
 pub use media::{Needs, TooSmall};
 pub use profile::Profile;
-pub use reading::read_config;
+pub use reading::{LONGEST_TEXT, SHIP_CAPSULE_SECONDS, read_config};
 pub use vdr_terms::Rate;

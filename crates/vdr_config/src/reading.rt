@@ -18,11 +18,11 @@ use crate::scope::Scope;
 use serde_json::Value;
 use std::alloc::Global;
 
-// The longest text: it has its place in the superblock of a medium.
-const LONGEST: usize = 16_380;
+/// The longest text of a configuration, in bytes: it has its place in the superblock of a medium (this project's profile).
+pub const LONGEST_TEXT: usize = 16_380;
 
-// 48 hours (IEC 61996-1, IMO MSC.333(90)).
-const SHIP_CAPSULE_SECONDS: u64 = 172_800;
+/// The shortest window of a ship's capsule, in seconds: 48 hours (IEC 61996-1, IMO MSC.333(90)).
+pub const SHIP_CAPSULE_SECONDS: u64 = 172_800;
 
 // 30 days (IEC 61996-1, IMO MSC.333(90)).
 const SHIP_LONG_SECONDS: u64 = 2_592_000;
@@ -148,7 +148,7 @@ pub fn read_config(alloc: Global, bytes: &[u8]) -> Result<Config, ConfigBad>
     ensures exact { Gives (λ c. c) result (configuration bytes.now) }
     ensures ship { IfOk result (λ c. is_ship c.profile ≡ true → HasShipWindows c) }
 {
-    if bytes.len() > LONGEST {
+    if bytes.len() > LONGEST_TEXT {
         return Err(ConfigBad::TooLong);
     }
     match Value::from_slice(alloc, bytes) {

@@ -2,15 +2,15 @@
 use Rattle.std.proofs.Common.{◌≤◌, ◌+◌, ℕ, List, [], ◌∷◌, ◌++◌, length, flat_map, cond, All, Option, Some, None, sym, subst, arith, append_assoc}
 use Rattle.std.proofs.lemmas.Bool.{cond_both}
 use Rattle.std.proofs.lemmas.List.Elements.{All-head, All-tail, All-nil, All-append}
-use Rattle.vdr_terms.specs.Records.{Record, last, last_after}
+use Rattle.vdr_terms.specs.Records.{Record, last}
 use Rattle.vdr_terms.specs.Order.{NeverFalls}
 use Rattle.vdr_terms.proofs.Running.{never_falls_behind}
-use Rattle.vdr_history.specs.Runs.{Stamp, RunStart, base_after, base_of}
+use Rattle.vdr_history.specs.Runs.{Stamp, RunStart, base_after, base_of, last_tick}
 use Rattle.vdr_history.specs.Histories.{Continues, stamp_of}
 use Rattle.vdr_history.specs.Shapes.{SaysMissed, NoEmptyGap}
 use Rattle.vdr_core.specs.Machine.{Plan, Ended, State, Step, opened, start_of, committed, after}
 use Rattle.vdr_core.specs.Law.{Admits, IsRun}
-use Rattle.vdr_core.specs.Ended.{place_after, stamp_after, last_tick, RunsFollow, RunsAreConsecutive, HasEnded, HistoryRunsOn}
+use Rattle.vdr_core.specs.Ended.{place_after, stamp_after, RunsFollow, RunsAreConsecutive, HasEnded, HistoryRunsOn}
 use Rattle.vdr_core.proofs.Places.{continues_append}
 use Rattle.vdr_core.proofs.Ticking.{lower}
 use Rattle.vdr_core.proofs.EmptyGaps.{made_say}

@@ -4,7 +4,6 @@ use Rattle.vdr_terms.specs.declared.counts.Counts.{Counts}
 use Rattle.vdr_terms.specs.Records.{Record}
 use Rattle.vdr_terms.specs.Channels.{Channels}
 use Rattle.std.specs.List.{AllByRecursion}
-use Rattle.vdr_terms.specs.Order.{NeverFalls}
 use Rattle.vdr_history.specs.Runs.{RunStart, TickOf, base_of}
 use Rattle.vdr_core.specs.Law.{FrontsOfRuns}
 use Rattle.vdr_history.specs.Histories.{Continues}

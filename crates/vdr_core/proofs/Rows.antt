@@ -4,14 +4,12 @@ use Rattle.vdr_terms.specs.Records.{Record, Item}
 use Rattle.vdr_terms.specs.Records.Content.{Start, Datagram, Gap, Stop}
 use Rattle.vdr_terms.specs.Rates.Limit.{AtMost}
 use Rattle.vdr_terms.specs.Channels.{no_channels}
+use Rattle.vdr_history.proofs.Rows.{small}
 use Rattle.vdr_core.specs.Machine.{Plan, Step, Ended, after, opened}
 use Rattle.vdr_core.specs.Machine.Step.{Take, Push, Full, Pop, Commit, CloseRun, Restart}
 
 abbrev plan : Plan
 plan = record { limits = λ g. AtMost (record { datagrams = 2; bytes = 200 }); channels = no_channels; capacity = 16 }
-
-abbrev small : List ℕ
-small = 65 ∷ 98 ∷ 67 ∷ 100 ∷ 69 ∷ 0 ∷ []
 
 abbrev item : ℕ → Item
 item k = record { received = 500 * k; utc = pos (500 * k); bytes = small }

@@ -1,9 +1,9 @@
 -- The runs of the machine: each began where the one before it ended, and has its shape, its sums and its full counts.
-use Rattle.std.specs.Prelude.{ℕ, ◌+◌, ◌≡◌, ⊤, Bool, true, false, List, [], ◌∷◌, ◌++◌, length, flat_map, All, Option, Some, None}
+use Rattle.std.specs.Prelude.{ℕ, ◌+◌, ◌≡◌, ⊤, Bool, true, false, List, [], ◌∷◌, ◌++◌, length, flat_map, All, Option}
 use Rattle.vdr_terms.specs.declared.counts.Counts.{Counts}
 use Rattle.vdr_terms.specs.Records.{last}
 use Rattle.vdr_terms.specs.Order.{NeverFalls}
-use Rattle.vdr_history.specs.Runs.{Stamp}
+use Rattle.vdr_history.specs.Runs.{Stamp, last_tick}
 use Rattle.vdr_history.specs.Taken.{Captured, of_group}
 use Rattle.vdr_history.specs.Histories.{Continues, records_of_act, stamp_of}
 use Rattle.vdr_history.specs.Sums.{Sums}
@@ -61,11 +61,6 @@ RunCountsFull capacity false run = ⊤
 
 abbrev pub AllRunsCountFull : Plan → State → Type 0
 AllRunsCountFull plan w = All (λ run. RunCountsFull plan.capacity run.closed run) w.ended
-
--- The tick of the last record, 0 where there is none.
-abbrev pub last_tick : Option Stamp → ℕ
-last_tick None = 0
-last_tick (Some stamp) = stamp.tick
 
 -- The records since the opening, over all runs: their places run on with none skipped, they have their bits, and their ticks don't fall.
 pub record HistoryRunsOn (plan : Plan) (opening : ℕ) (stamp : Option Stamp) (w : State) : Type 0 where

@@ -4,22 +4,15 @@ use Rattle.std.specs.List.{concat}
 use Rattle.std.proofs.lemmas.List.{append_assoc, append-nil, append_cancel_left, take-append-drop, take-append-le, length-append, length-take, length-drop, get_or-take, get_or-append-add}
 use Rattle.std.proofs.Math.Seq.{take-append_seam, get_or-append_seam}
 use Rattle.std.proofs.lemmas.Bool.{cases_lt, eq-eqb, eqb-true}
+use Rattle.vdr_terms.proofs.Somewhere.{same_rest}
 use Rattle.vdr_datagram.specs.Lines.{AreLines, HoldsNoOther, IsClosed, IsCutting, and_lines, cut, cut_behind, with_byte}
 
 -- ---- single lines
 
-rest_of : List ℕ → List ℕ
-rest_of [] = []
-rest_of (b ∷ bytes) = bytes
-
-rest-same : (x y : ℕ) (xs ys : List ℕ) → x ∷ xs ≡ y ∷ ys → xs ≡ ys
-unfolding rest_of
-rest-same x y xs ys e = ap rest_of e
-
 -- a byte more at the front of a line that holds no other, unless it begins a CR LF
 alone-cons : (x : ℕ) (line : List ℕ) → HoldsNoOther line → ((after : List ℕ) → x ∷ line ≡ 13 ∷ 10 ∷ after → ⊥) → HoldsNoOther (x ∷ line)
 alone-cons x line alone none [] after e = absurd (none after e)
-alone-cons x line alone none (y ∷ before) after e = alone before after (rest-same x y line (before ++ 13 ∷ 10 ∷ after) e)
+alone-cons x line alone none (y ∷ before) after e = alone before after (same_rest x y line (before ++ 13 ∷ 10 ∷ after) e)
 
 closed-more : (xs line : List ℕ) → IsClosed line → IsClosed (xs ++ line)
 closed-more xs line closed = (xs ++ closed.0, ap (λ (ys : List ℕ). xs ++ ys) closed.1 ∙ sym (append_assoc xs closed.0 (13 ∷ 10 ∷ [])))

@@ -1,4 +1,4 @@
-mod BitLemmas
+pub mod BitLemmas
 mod CutLemmas
 mod LineLemmas
 mod MarkLemmas

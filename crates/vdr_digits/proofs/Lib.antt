@@ -1,3 +1,4 @@
 pub mod DigitLemmas
 pub mod ChecksumLemmas
 pub mod HexLemmas
+pub mod Refusals

@@ -1,7 +1,7 @@
 -- A further run and the one before it are one history.
-use Rattle.std.proofs.Common.{ℕ, zero, suc, ◌<◌, ◌≤◌, List, [], ◌∷◌, ◌++◌, length, Bool, true, false, All, Contains, find, ◌==◌, if◌then◌else◌, set, is_none, position, option_map, slice_get, Option, Some, None, ◌≡◌, refl, sym, ap, ◌∙◌, subst, arith, append_assoc, append-nil, length-append}
+use Rattle.std.proofs.Common.{ℕ, suc, ◌<◌, ◌≤◌, List, [], ◌∷◌, ◌++◌, length, Bool, true, false, All, Contains, find, ◌==◌, if◌then◌else◌, is_none, position, option_map, slice_get, Option, Some, None, ◌≡◌, refl, sym, ap, ◌∙◌, subst, arith, append_assoc, append-nil, length-append}
 use Rattle.std.proofs.lemmas.Bool.{cond-true, cond_both, eq-eqb, eqb-true}
-use Rattle.std.proofs.lemmas.List.Elements.{All-nil, All-contains, All-weaker, All-set}
+use Rattle.std.proofs.lemmas.List.Elements.{All-nil, All-contains, All-weaker}
 use Rattle.std.proofs.lemmas.Grind.{flat_map-append}
 use Rattle.vdr_terms.specs.Records.{Record, last, last_after}
 use Rattle.vdr_terms.specs.Order.{AreInOrder}
@@ -16,7 +16,7 @@ use Rattle.vdr_retention.proofs.Retained.{append_keeps, append_keeps_places}
 use Rattle.vdr_durability.specs.Readings.{Reading, records_on, restored}
 use Rattle.vdr_durability.specs.Shown.{Shows, opened, pins_of, pins_on}
 use Rattle.vdr_durability.proofs.Reopened.{reopened_goes_on}
-use Rattle.vdr_durability.proofs.Shows.{OnSlot, all_records_with, incidents_with, pins_hold, recorded_with, slots_hold, saved_slot, slot_written}
+use Rattle.vdr_durability.proofs.Shows.{all_records_with, incidents_with, recorded_with, saved_slot, slot_written}
 use Rattle.vdr_durability.specs.FurtherRuns.{IsTwoRuns}
 
 -- What is held of what is held is held.

@@ -2,6 +2,7 @@
 use Rattle.std.proofs.Common.{ℕ, ◌<◌, List, [], ◌∷◌, ◌++◌, length, true, false, All, Contains, Option, Some, None, ◌≡◌, ◌⊎◌, inl, inr, ⊎_elim, refl, sym, ap, ◌∙◌, subst, append_assoc, append-nil, arith, true≢false}
 use Rattle.std.proofs.lemmas.Bool.{cases_Bool}
 use Rattle.std.proofs.lemmas.List.Elements.{All-nil, All-cons, All-head, All-tail, Contains-append_left}
+use Rattle.vdr_terms.proofs.Somewhere.{same_rest}
 use Rattle.vdr_terms.specs.Records.{Record, last}
 use Rattle.vdr_retention.proofs.Lists.{contains_here, contains_there}
 use Rattle.vdr_durability.specs.Readings.{Reading, AreLevel, EndBy, EndsMeet, EndsOff, IsPassedOn, ends_before, leading_batch}
@@ -78,9 +79,6 @@ record Behind (before after : List ℕ) (m : ℕ) : Type 0 where
 heads : (x y : ℕ) (xs ys : List ℕ) → x ∷ xs ≡ y ∷ ys → x ≡ y
 heads x y xs ys e = cc
 
-tails : (x y : ℕ) (xs ys : List ℕ) → x ∷ xs ≡ y ∷ ys → xs ≡ ys
-tails x y xs ys e = cc
-
 behind_more : (x y m : ℕ) (before after : List ℕ) → y ≡ x → Behind before after m → Behind (y ∷ before) (x ∷ after) m
 behind_more x y m before after e h = record { rest = h.rest; split = same x y before ((after ++ m ∷ []) ++ h.rest) e h.split }
   where
@@ -100,7 +98,7 @@ two_splits (x ∷ xs) m after (y ∷ ys) m' after' e =
     (λ (h : Behind ys xs m). inl (behind_more x y m ys xs (sym same) h))
     (λ (h : Behind xs ys m'). inr (behind_more y x m' xs ys same h))
     k))
-    (two_splits xs m after ys m' after' (tails x y (xs ++ m ∷ after) (ys ++ m' ∷ after') e))
+    (two_splits xs m after ys m' after' (same_rest x y (xs ++ m ∷ after) (ys ++ m' ∷ after') e))
 
 -- There is one such medium at most.
 pub one_off : (members : List ℕ) (reading : Reading) (m m' : ℕ) → EndsOff members reading m → EndsOff members reading m' → m ≡ m'

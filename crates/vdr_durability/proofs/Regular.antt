@@ -3,7 +3,6 @@ use Rattle.std.proofs.Common.{ℕ, suc, ◌<◌, ◌≤◌, List, [], ◌∷◌,
 use Rattle.std.proofs.lemmas.Bool.{and_parts, cases_Bool, cond-true, eqb-true}
 use Rattle.std.proofs.lemmas.List.Sums.{sum_by-cons, sum_by-append}
 use Rattle.std.proofs.lemmas.List.Elements.{All-nil, All-head, All-tail, All-append, All-contains, Contains-append_left, Contains-append_right, Contains-push}
-use Rattle.std.proofs.lemmas.Grind.{flat_map-append}
 use Rattle.vdr_terms.specs.Records.{Record, last}
 use Rattle.vdr_terms.specs.Sizes.{records_size}
 use Rattle.vdr_terms.specs.Order.{AreInOrder, NeverFalls, RunOn}

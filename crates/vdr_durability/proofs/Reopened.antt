@@ -1,12 +1,11 @@
 -- What a further run meets: its media show a prefix, and it goes on where this prefix ends.
 use Rattle.std.proofs.Common.{ℕ, zero, suc, ◌+◌, List, [], ◌∷◌, ◌++◌, length, Contains, Option, Some, None, ◌≡◌, refl, sym, ap, ◌∙◌, subst, arith, add-zero, append-nil, length-append, length-set}
 use Rattle.std.proofs.lemmas.List.Elements.{All-contains}
-use Rattle.vdr_terms.specs.Records.{Record, last_after, last}
+use Rattle.vdr_terms.specs.Records.{Record, last}
 use Rattle.vdr_terms.specs.Order.{AreInOrder, RunOn}
 use Rattle.vdr_terms.specs.Windows.{window}
-use Rattle.vdr_terms.specs.Channels.{Channels}
 use Rattle.vdr_terms.proofs.Running.{run_on_join, last_of_run}
-use Rattle.vdr_history.specs.Histories.{Act, Event, Incident, IsOpening, MayCome, MayFollow, Opening, Settings, Continues, all_records, incidents, last_stamp, next_place, recorded, records_of_act, stamp_of, table_after, table_along}
+use Rattle.vdr_history.specs.Histories.{Act, Event, Incident, IsOpening, MayCome, MayFollow, Opening, Settings, all_records, incidents, last_stamp, next_place, recorded, records_of_act, stamp_of, table_after, table_along}
 use Rattle.vdr_history.specs.Histories.Act.{Commit, Save, Release, Look}
 use Rattle.vdr_history.specs.Runs.{Stamp}
 use Rattle.vdr_history.proofs.Growing.{continues_run}

@@ -5,20 +5,15 @@ use Rattle.vdr_terms.specs.Records.{Record}
 use Rattle.vdr_terms.specs.Records.Content.{Stop}
 use Rattle.vdr_terms.specs.Channels.{no_channels}
 use Rattle.vdr_terms.specs.Rates.Limit.{Unlimited}
-use Rattle.vdr_history.specs.Histories.{Act, Event, Opening, PendingEnds, Settings, incidents}
+use Rattle.vdr_history.specs.Histories.{Event, Opening, PendingEnds, Settings, incidents}
 use Rattle.vdr_history.specs.Histories.Act.{Commit, Save, Release, Look}
+use Rattle.vdr_history.proofs.Checks.{at, pending}
 use Rattle.vdr_retention.specs.Layout.{Batches}
 use Rattle.vdr_retention.proofs.Lists.{contains_cases, contains_here, contains_there, none_contained}
 use Rattle.vdr_durability.specs.Keeping.{RiseTo, acknowledged, moment_of, moments}
 use Rattle.vdr_durability.specs.Readings.{EndsMeet, EndsOff, Reading, ends_before, records_on, restored}
 use Rattle.vdr_durability.specs.Shown.{RetainsOn, Shows, given_with, opened, pins_of}
 use Rattle.vdr_durability.proofs.Shows.{retains_itself}
-
-abbrev at : ℕ → Act → Event
-at moment act = record { act = act; moment = Some moment }
-
-abbrev pending : Event
-pending = record { act = Commit [] []; moment = None }
 
 -- Acknowledged at a time: the events up to the last that had returned.
 two_by_nine : acknowledged (at 7 Look ∷ at 9 Look ∷ at 12 Look ∷ []) 9 ≡ 2

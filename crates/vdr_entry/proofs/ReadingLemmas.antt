@@ -3,7 +3,8 @@ use Rattle.std.proofs.Common.{◌≡◌, ◌≤◌, ◌<◌, ◌+◌, ◌^◌, �
 use Rattle.std.specs.Prelude.{unsigned_abs}
 use Rattle.std.proofs.lemmas.List.{length-append, append_assoc}
 use Rattle.vdr_bytes.specs.Numbers.{le_u16, le_u64, u16_at, u64_at}
-use Rattle.vdr_bytes.proofs.NumberLemmas.{spelled_u16, spelled_u64, read_u16, read_u64, cut, part_long, part_after, u64_at-fits}
+use Rattle.vdr_terms.proofs.Bytes.{part_long}
+use Rattle.vdr_bytes.proofs.NumberLemmas.{spelled_u16, spelled_u64, read_u16, read_u64, cut, part_after, u64_at-fits}
 use Rattle.vdr_terms.specs.declared.counts.Counts.{Counts}
 use Rattle.vdr_terms.specs.Legality.{IsBytes, IsRecord, IsContent}
 use Rattle.vdr_terms.specs.Records.{Record, Content}

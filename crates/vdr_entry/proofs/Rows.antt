@@ -43,7 +43,7 @@ utc_last = refl
 -- Lines
 
 -- A record of group 3, whose tick and channel bits are in no line.
-abbrev navd : Content → (place number utc : ℕ) → Record
+abbrev pub navd : Content → (place number utc : ℕ) → Record
 navd content place number utc = record { content = content; group = 3; bits = 1; place = place; number = number; tick = 1000; utc = pos utc }
 
 -- A record of no group.

@@ -6,7 +6,7 @@ use Rattle.vdr_terms.specs.Records.{Record}
 use Rattle.vdr_history.specs.Histories.{Event, Opening}
 use Rattle.vdr_playback.specs.Playback.{selected}
 use Rattle.vdr_outside.specs.Disk.{Disk}
-use Rattle.vdr_ring.specs.Sequence.{Placed}
+use Rattle.vdr_directory.specs.Sequence.{Placed}
 use Rattle.vdr_vault.specs.Vaults.{IsReadable, VaultState}
 use Rattle.vdr_visit.specs.Visits.{HasVisited}
 use Rattle.vdr_visit.specs.declared.refused.VisitRefused.{VisitRefused}

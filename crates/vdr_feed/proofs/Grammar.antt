@@ -1,5 +1,5 @@
 -- How the bytes at hand tell what stands at the front of the bytes left.
-use Rattle.std.proofs.Common.{◌≡◌, ◌≤◌, ◌<◌, ◌+◌, ◌^◌, ◌||◌, ℕ, zero, suc, Bool, true, false, List, [], ◌∷◌, ◌++◌, length, take, drop, Option, None, Some, refl, ap, ◌∙◌, sym, subst, cond, arith, lit<, pos, w16, w64}
+use Rattle.std.proofs.Common.{◌≡◌, ◌≤◌, ◌<◌, ◌+◌, ◌^◌, ◌||◌, ℕ, suc, Bool, true, false, List, [], ◌∷◌, ◌++◌, length, take, drop, Option, None, Some, refl, ap, ◌∙◌, sym, subst, cond, arith, lit<, pos, w16, w64}
 use Rattle.std.specs.Prelude.{nat_le, nat_lt}
 use Rattle.std.specs.Int.{to_le_bytes, from_le_bytes}
 use Rattle.std.specs.Io.KnownBytes.{Consumes, IsAtEnd}
@@ -9,6 +9,7 @@ use Rattle.std.proofs.lemmas.Nat.{le_bytes_8, le_bytes_2}
 use Rattle.vdr_terms.specs.Records.{FeedItem}
 use Rattle.vdr_terms.specs.Stamps.{last_stamp}
 use Rattle.vdr_terms.specs.Legality.{IsBytes}
+use Rattle.vdr_terms.proofs.Bytes.{IsBytes-drop, IsBytes-take, part_long}
 use Rattle.vdr_feed.specs.Feed.{IsItem, group_in, received_in, utc_in, length_in, number_fault, head_fault, body_fault, first_of, fault_of, spelling, head}
 use Rattle.vdr_feed.specs.Reader.{IfKnown}
 
@@ -74,21 +75,6 @@ number_legal floor group received utc e =
     let order = cond_none (nat_lt received floor) 5 None known.1 in
     (ltb-false 15 group known.0, ltb-false received floor order.0, leb-false (2 ^ 48) received parts.0, ltb-false last_stamp utc parts.1)
 
--- parts of bytes are bytes
-pub bytes-drop : (n : ℕ) (xs : List ℕ) → IsBytes xs → IsBytes (drop n xs)
-bytes-drop zero xs b i = b i
-bytes-drop (suc n) [] b i = lit< tt
-bytes-drop (suc n) (x ∷ xs) b i = bytes-drop n xs (λ j. b (suc j)) i
-
-pub bytes-take : (n : ℕ) (xs : List ℕ) → IsBytes xs → IsBytes (take n xs)
-bytes-take zero xs b i = lit< tt
-bytes-take (suc n) [] b i = lit< tt
-bytes-take (suc n) (x ∷ xs) b zero = b zero
-bytes-take (suc n) (x ∷ xs) b (suc i) = bytes-take n xs (λ j. b (suc j)) i
-
-part_long : (n m : ℕ) (xs : List ℕ) → n + m ≤ length xs → length (take m (drop n xs)) ≡ m
-part_long n m xs within = length-take-le m (drop n xs) (grind (arith, length-drop n xs, within))
-
 -- a list is its part from n on and what follows it
 cut : (n m : ℕ) (xs : List ℕ) → drop n xs ≡ take m (drop n xs) ++ drop (n + m) xs
 cut n m xs = sym (take-append-drop m (drop n xs)) ∙ ap (λ (ys : List ℕ). take m (drop n xs) ++ ys) (drop-drop m n xs)
@@ -115,9 +101,9 @@ spelled g r u l = g ∷ (r ++ u ++ l)
 pub head_spelled : (h : List ℕ) → length h ≡ 19 → IsBytes h
     → h ≡ spelled (group_in h) (to_le_bytes w64 (received_in h)) (to_le_bytes w64 (utc_in h)) (to_le_bytes w16 (length_in h))
 head_spelled h long bytes =
-    let received : to_le_bytes w64 (received_in h) ≡ take 8 (drop 1 h) = le_bytes_8 (take 8 (drop 1 h)) (received_in h) (part_long 1 8 h (omega (arith, long))) (bytes-take 8 (drop 1 h) (bytes-drop 1 h bytes)) refl in
-    let utc : to_le_bytes w64 (utc_in h) ≡ take 8 (drop 9 h) = le_bytes_8 (take 8 (drop 9 h)) (utc_in h) (part_long 9 8 h (omega (arith, long))) (bytes-take 8 (drop 9 h) (bytes-drop 9 h bytes)) refl in
-    let len : to_le_bytes w16 (length_in h) ≡ take 2 (drop 17 h) = le_bytes_2 (take 2 (drop 17 h)) (length_in h) (part_long 17 2 h (omega (arith, long))) (bytes-take 2 (drop 17 h) (bytes-drop 17 h bytes)) refl in
+    let received : to_le_bytes w64 (received_in h) ≡ take 8 (drop 1 h) = le_bytes_8 (take 8 (drop 1 h)) (received_in h) (part_long 1 8 h (omega (arith, long))) (IsBytes-take 8 (drop 1 h) (IsBytes-drop 1 h bytes)) refl in
+    let utc : to_le_bytes w64 (utc_in h) ≡ take 8 (drop 9 h) = le_bytes_8 (take 8 (drop 9 h)) (utc_in h) (part_long 9 8 h (omega (arith, long))) (IsBytes-take 8 (drop 9 h) (IsBytes-drop 9 h bytes)) refl in
+    let len : to_le_bytes w16 (length_in h) ≡ take 2 (drop 17 h) = le_bytes_2 (take 2 (drop 17 h)) (length_in h) (part_long 17 2 h (omega (arith, long))) (IsBytes-take 2 (drop 17 h) (IsBytes-drop 17 h bytes)) refl in
     assembled h long
     ∙ ap (λ (r : List ℕ). spelled (group_in h) r (take 8 (drop 9 h)) (take 2 (drop 17 h))) (sym received)
     ∙ ap (λ (u : List ℕ). spelled (group_in h) (to_le_bytes w64 (received_in h)) u (take 2 (drop 17 h))) (sym utc)

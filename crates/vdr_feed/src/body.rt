@@ -6,13 +6,14 @@ ghost use Rattle.vdr_feed.specs.Body.{ReadsBody};
 ghost use Rattle.vdr_outside.specs.Filling.{ReadsFewer};
 
 use arrayvec::ArrayVec;
-use vdr_outside::{Failed, Source, fill};
-
-/// The most bytes of a body that are kept.
-pub(crate) const KEPT: usize = 1473;
+use vdr_outside::{Failed, LONGEST_TAKEN, Source, fill};
 
 // Passes over so many bytes, or fewer where the input ends. It says how many.
-fn skip<I: Source>(input: &mut I, count: usize, scratch: &mut [u8; KEPT]) -> Result<usize, Failed>
+fn skip<I: Source>(
+    input: &mut I,
+    count: usize,
+    scratch: &mut [u8; LONGEST_TAKEN],
+) -> Result<usize, Failed>
     ensures bytes { IfOk result (λ n. (bytes : List ℕ) × (length bytes ≡ n) × Consumes (I.left input.old) (I.left input.new) bytes) }
     ensures bound { IfOk result (λ n. n ≤ count) }
     ensures end { IfOk result (λ n. n < count → IsAtEnd (I.left input.new)) }
@@ -21,7 +22,7 @@ fn skip<I: Source>(input: &mut I, count: usize, scratch: &mut [u8; KEPT]) -> Res
 {
     let mut left = count;
     while left > 0 {
-        let piece = left.min(KEPT);
+        let piece = left.min(LONGEST_TAKEN);
         let got = fill(input, &mut scratch[..piece])?;
         left -= got;
         if got < piece {
@@ -32,7 +33,7 @@ fn skip<I: Source>(input: &mut I, count: usize, scratch: &mut [u8; KEPT]) -> Res
 }
 
 // Puts these bytes in the place of those that are held.
-fn refill(into: &mut ArrayVec<u8, KEPT>, bytes: &[u8])
+fn refill(into: &mut ArrayVec<u8, LONGEST_TAKEN>, bytes: &[u8])
     requires { length bytes.now ≤ 1473 }
     ensures { into.new.items ≡ bytes.now }
 {
@@ -45,14 +46,14 @@ fn refill(into: &mut ArrayVec<u8, KEPT>, bytes: &[u8])
 pub(crate) fn read_body<I: Source>(
     input: &mut I,
     len: usize,
-    scratch: &mut [u8; KEPT],
-    into: &mut ArrayVec<u8, KEPT>,
+    scratch: &mut [u8; LONGEST_TAKEN],
+    into: &mut ArrayVec<u8, LONGEST_TAKEN>,
 ) -> Result<bool, Failed>
     ensures body { IfOk result (λ whole. ReadsBody (I.left input.old) (I.left input.new) len whole into.new.items) }
     ensures part { OnErr result (ReadsFewer len (I.left input.old) (I.left input.new)) }
     ensures cause { HasCause (I.faults input.old) (I.faults input.new) result }
 {
-    let kept = len.min(KEPT);
+    let kept = len.min(LONGEST_TAKEN);
     let part = &mut scratch[..kept];
     let got = fill(input, part)?;
     if got < kept {

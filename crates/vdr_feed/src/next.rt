@@ -7,10 +7,10 @@ ghost use Rattle.vdr_feed.specs.Reader.{ReadsItem, IfKnown, IfIllegal};
 ghost use Rattle.vdr_feed.specs.declared.fault.ItemRefused.TheVariants.{Failed as ReadFailed};
 
 use crate::Item;
-use crate::body::{KEPT, read_body};
+use crate::body::read_body;
 use crate::fault::ItemRefused;
 use crate::head::{fault_of_head, length_of, received_of, utc_of};
-use vdr_outside::{Source, fill};
+use vdr_outside::{LONGEST_TAKEN, Source, fill};
 
 // Reads what stands where no further item may: nothing.
 fn read_past_limit<I: Source>(
@@ -43,7 +43,7 @@ pub(crate) fn read_item<I: Source>(
     count: u64,
     floor: u64,
     input: &mut I,
-    scratch: &mut [u8; KEPT],
+    scratch: &mut [u8; LONGEST_TAKEN],
     into: &mut Item,
 ) -> Result<Option<u16>, ItemRefused>
     ensures kept { IfOk result (λ len. len ≡ None → into.new ≡ into.old) }

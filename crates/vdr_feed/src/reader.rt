@@ -6,13 +6,12 @@ ghost use Rattle.vdr_feed.specs.Feed.{feed_header, fault_of};
 ghost use Rattle.vdr_feed.specs.declared.fault.FeedFault.{FeedFault as Stopped};
 ghost use Rattle.vdr_feed.specs.declared.fault.FeedFault.TheVariants.{Fault};
 
-use crate::body::KEPT;
 use crate::fault::ItemRefused;
 use crate::head::read_header;
 use crate::next::read_item;
 use crate::{FeedFault, Item};
 use std::marker::Model;
-use vdr_outside::Source;
+use vdr_outside::{LONGEST_TAKEN, Source};
 
 /// The greatest number of items of a feed that the recorder's programs read.
 pub const LONGEST_FEED: u64 = 4_294_967_295;
@@ -27,7 +26,7 @@ pub struct FeedReader {
     begun: bool,
     stopped: Option<FeedFault>,
     // Where a body is read. It takes no part in what the reader is.
-    scratch: [u8; KEPT],
+    scratch: [u8; LONGEST_TAKEN],
 }
 
 impl Model for FeedReader {
@@ -56,7 +55,7 @@ impl FeedReader {
             offset: 0,
             begun: false,
             stopped: None,
-            scratch: [0; KEPT],
+            scratch: [0; LONGEST_TAKEN],
         }
     }
 

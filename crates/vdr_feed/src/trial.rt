@@ -6,6 +6,7 @@ ghost use Rattle.vdr_feed.specs.Trial.{checked, trial_bytes, trial_heading, tria
 use crate::Item;
 use arrayvec::ArrayVec;
 use vdr_digits::{checksum, upper_digits};
+use vdr_outside::LONGEST_TAKEN;
 
 // The transmission group NAVD (IEC 61162-450).
 const NAVD: u8 = 3;
@@ -52,7 +53,7 @@ fn heading(tenths: u64) -> [u8; 13]
     ]
 }
 
-fn push_text(bytes: &mut ArrayVec<u8, 1473>, text: &[u8])
+fn push_text(bytes: &mut ArrayVec<u8, LONGEST_TAKEN>, text: &[u8])
     requires { length bytes.old.items + length text.now ≤ 1473 }
     ensures { bytes.new.items ≡ bytes.old.items ++ text.now }
 {
@@ -60,7 +61,7 @@ fn push_text(bytes: &mut ArrayVec<u8, 1473>, text: &[u8])
 }
 
 // Appends a text with its checksum.
-fn push_checked(bytes: &mut ArrayVec<u8, 1473>, text: &[u8])
+fn push_checked(bytes: &mut ArrayVec<u8, LONGEST_TAKEN>, text: &[u8])
     requires { length bytes.old.items + length text.now + 3 ≤ 1473 }
     ensures { bytes.new.items ≡ bytes.old.items ++ checked text.now }
 {
@@ -69,7 +70,7 @@ fn push_checked(bytes: &mut ArrayVec<u8, 1473>, text: &[u8])
     push_text(bytes, &upper_digits(checksum(text)));
 }
 
-fn fill_body(state: u32, index: u64, bytes: &mut ArrayVec<u8, 1473>)
+fn fill_body(state: u32, index: u64, bytes: &mut ArrayVec<u8, LONGEST_TAKEN>)
     ensures { bytes.new.items ≡ trial_bytes state index }
 {
     bytes.clear();

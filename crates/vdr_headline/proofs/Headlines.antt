@@ -76,16 +76,16 @@ module _ (x : Contents) (sound : AreSound x) where
   module _ {tells tells_images : Type 0} (t0 : ℕ) (r : RecorderState) (disk : Disk tells tells_images) (h : HasRecorded (opening_of x) [] t0 r disk) where
     lasts_meet : last ((opening_of x).records 1) ≡ last ((opening_of x).records 0)
     lasts_meet =
-        let stands = (h.works h.failed).stands in
-        let on : (m : ℕ) → Contains both m → HoldsHistory (opening_of x) [] r.vault.config m (ring_of r.vault m) ((h.works h.failed).placed m) disk =
-        λ m there. All-contains (λ m. HoldsHistory (opening_of x) [] r.vault.config m (ring_of r.vault m) ((h.works h.failed).placed m) disk) both m
+        let stands = (h.works h.failed).standing.stands in
+        let on : (m : ℕ) → Contains both m → HoldsHistory (opening_of x) [] r.vault.config m (ring_of r.vault m) ((h.works h.failed).standing.placed m) disk =
+        λ m there. All-contains (λ m. HoldsHistory (opening_of x) [] r.vault.config m (ring_of r.vault m) ((h.works h.failed).standing.placed m) disk) both m
         stands.media there in
         let capsule = on 0 (contains_here 0 (1 ∷ [])) in
         let long_term = on 1 (contains_there 0 (1 ∷ []) 1 (contains_here 1 [])) in
         ap last (sym (append-nil ((opening_of x).records 1)))
         ∙ sym long_term.retains.window.newest
-        ∙ one_end (cost (sizes_of r.vault.config)) (usable (sizes_of r.vault.config)) r.vault.config.batch ((h.works h.failed).placed 1)
-        ((h.works h.failed).placed 0)
+        ∙ one_end (cost (sizes_of r.vault.config)) (usable (sizes_of r.vault.config)) r.vault.config.batch ((h.works h.failed).standing.placed 1)
+        ((h.works h.failed).standing.placed 0)
         long_term.regular capsule.regular (stands.level 1 1 (omega arith))
         ∙ capsule.retains.window.newest
         ∙ ap last (append-nil ((opening_of x).records 0))

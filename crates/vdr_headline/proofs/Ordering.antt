@@ -6,14 +6,13 @@ use Rattle.vdr_terms.specs.Order.{AreInOrder, NeverFalls, RunOn}
 use Rattle.vdr_terms.specs.Records.{Record, last}
 use Rattle.vdr_history.specs.Histories.{Event, Opening, all_records, recorded, records_of_act, stamp_of}
 use Rattle.vdr_history.specs.RunStates.{IsRecorderHistory}
-use Rattle.vdr_history.specs.Runs.{Stamp}
+use Rattle.vdr_history.specs.Runs.{Stamp, last_tick}
 use Rattle.vdr_history.proofs.Growing.{continues_run}
 use Rattle.vdr_retention.specs.Regular.{FollowOn}
 use Rattle.vdr_retention.specs.Retention.{AreAmong}
 use Rattle.vdr_retention.proofs.Following.{follow_in_order}
 use Rattle.vdr_retention.proofs.Lists.{all_from, contains_here, contains_there}
 use Rattle.vdr_retention.proofs.Ordered.{by_place, parts_in_order, places_run}
-use Rattle.vdr_core.specs.Ended.{last_tick}
 use Rattle.vdr_core.proofs.MadeHistory.{made_runs_on}
 use Rattle.vdr_durability.specs.Readings.{next_after}
 use Rattle.vdr_durability.specs.Shown.{GoesOnFrom}

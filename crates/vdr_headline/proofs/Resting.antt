@@ -6,12 +6,12 @@ use Rattle.vdr_retention.specs.Retention.{Retains}
 use Rattle.vdr_durability.specs.Shown.{given_with, pins_on}
 use Rattle.vdr_outside.specs.Disk.{Disk, content}
 use Rattle.vdr_outside.proofs.Moments.{size_read}
-use Rattle.vdr_ring.specs.Sequence.{all_records}
+use Rattle.vdr_directory.specs.Sequence.{all_records}
 use Rattle.vdr_opening.specs.Media.{both, Contents, HoldsContents, IsMedium}
 use Rattle.vdr_vault.specs.Vaults.{HoldsHistory, VaultState, ShowsHistory, Stands, ring_of}
 use Rattle.vdr_vault.proofs.ShownHistory.{held_at, stands_sound}
 use Rattle.vdr_vault.proofs.ShownImages.{placed_there, shown_level}
-use Rattle.vdr_ring.specs.Sequence.{Placed}
+use Rattle.vdr_directory.specs.Sequence.{Placed}
 
 module _ {tells tells_images : Type 0} (opening : Opening) (events : List Event) (vault : VaultState) (placed : ℕ → List Placed) (disk : Disk tells tells_images)
     (stands : Stands opening events vault placed disk) (told : tells) where

@@ -11,7 +11,7 @@ use Rattle.vdr_history.proofs.Rows.{small, start, stop, data_at, gap_at}
 use Rattle.vdr_history.proofs.Checks.{at, fresh}
 use Rattle.vdr_history.proofs.RunChecks.{popped_at}
 
-abbrev one_refused : Counts
+abbrev pub one_refused : Counts
 one_refused = record { full = 0; rate = 1; bad = 0; large = 0 }
 
 -- Two datagrams a second: the third item is refused by the rate, so its commit has no record, and the fourth comes with its Gap.

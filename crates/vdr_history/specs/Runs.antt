@@ -14,6 +14,11 @@ pub record Stamp : Type 0 where
   pub tick : ℕ
   pub utc : ℤ
 
+-- The tick of the last record, 0 where there is none.
+abbrev pub last_tick : Option Stamp → ℕ
+last_tick None = 0
+last_tick (Some stamp) = stamp.tick
+
 -- The tick at which a run begins: the next whole second after the last record, 0 where nothing is recorded.
 abbrev pub base_after : Option Stamp → ℕ
 base_after None = 0

@@ -9,7 +9,8 @@ use Rattle.vdr_terms.specs.Legality.{IsBytes}
 use Rattle.vdr_terms.specs.Stamps.{IsStamp, last_stamp}
 use Rattle.vdr_history.specs.Histories.{Incident}
 use Rattle.vdr_bytes.specs.Numbers.{le_u64s, u64_at, Puts}
-use Rattle.vdr_bytes.proofs.NumberLemmas.{cut, take-front, part_long}
+use Rattle.vdr_terms.proofs.Bytes.{part_long}
+use Rattle.vdr_bytes.proofs.NumberLemmas.{cut, take-front}
 use Rattle.vdr_bytes.proofs.PutsLemmas.{length-le_u64s, puts-more}
 use Rattle.vdr_segment.proofs.NumberListLemmas.{u64s_at, spelled_u64s, read_u64s}
 use Rattle.vdr_terms.specs.Texts.{is_label}

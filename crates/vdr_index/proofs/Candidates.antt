@@ -1,27 +1,18 @@
 -- The first slot of the order that may answer, and that none does.
 use Rattle.std.proofs.Common.{◌≡◌, ◌⊎◌, ◌<◌, ◌≤◌, ◌+◌, ◌*◌, ◌^◌, ℕ, true, false, List, length, get_or, Option, Some, None, ⊎_elim, sym, ap, ◌∙◌, subst, arith}
 use Rattle.std.proofs.lemmas.Bool.{cases_order, cases_lt, cases_eq, false≢true}
-use Rattle.std.proofs.lemmas.Option.{slice_get_within, get_or_from_slice_get, same_Some}
+use Rattle.std.proofs.lemmas.Option.{same_Some}
 use Rattle.vdr_terms.specs.Queries.{Query, Span, meets}
 use Rattle.vdr_index.specs.declared.known.Known.{Known}
 use Rattle.vdr_index.specs.Indexes.{IsAbove, IsCandidate, Keeps, MayAnswer, summary_of}
 use Rattle.vdr_index.specs.Keys.{key_of, key_in, IsOrdered, NoneOf}
-use Rattle.vdr_index.proofs.Ranks.{Stands, place_of}
+use Rattle.vdr_index.proofs.Ranks.{Stands, place_of, keeps_lt, low_slot, key_kept}
 
 module _ (kept : List (Option Known)) (order : List ℕ) (o : IsOrdered kept order) (query : Query) (span : Span) (after : Option ℕ) (n : ℕ) (none : NoneOf kept order query span after n) where
-  keeps_lt : (slot : ℕ) (k : Known) → Keeps kept slot k → slot < length kept
-  keeps_lt slot k at = slice_get_within kept slot (Some k) at
-
-  low_slot : (slot : ℕ) (k : Known) → Keeps kept slot k → slot < 2 ^ 32
-  low_slot slot k at = let lt = keeps_lt slot k at in let few = o.few in omega (arith, lt, few)
-
-  key_kept : (slot : ℕ) (k : Known) → Keeps kept slot k → key_in kept slot ≡ k.seq * 2 ^ 32 + slot
-  key_kept slot k at = ap (key_of slot) (get_or_from_slice_get kept slot (Some k) None at)
-
   -- what may answer stands from n on
   behind : (slot : ℕ) (k : Known) → Keeps kept slot k → MayAnswer query span after k → (i : ℕ) × Stands kept order o slot i × (n ≤ i)
   behind slot k at may =
-      let p : (i : ℕ) × Stands kept order o slot i = place_of kept order o slot (keeps_lt slot k at) in
+      let p : (i : ℕ) × Stands kept order o slot i = place_of kept order o slot (keeps_lt kept order o slot k at) in
       ⊎_elim
       (λ (l : p.0 < n). absurd (none p.0 0 k l (subst (λ (j : ℕ). Keeps kept j k) (sym (p.1.is 0)) at) may))
       (λ (l : n ≤ p.0). let r : (i : ℕ) × Stands kept order o slot i × (n ≤ i) = (p.0, p.1, l) in r)
@@ -39,9 +30,9 @@ module _ (kept : List (Option Known)) (order : List ℕ) (o : IsOrdered kept ord
       let w : b.0 < length order = b.1.within in
       let l : n ≤ b.0 = b.2 in
       let high : key_in kept (get_or order n 0) ≡ 2 ^ 64 * 2 ^ 32 + here = ap (key_in kept) (is 0) ∙ ap (key_of here) clear in
-      let seq : key_in kept (get_or order b.0 0) ≡ k.seq * 2 ^ 32 + slot = ap (key_in kept) (b.1.is 0) ∙ key_kept slot k at in
+      let seq : key_in kept (get_or order b.0 0) ≡ k.seq * 2 ^ 32 + slot = ap (key_in kept) (b.1.is 0) ∙ key_kept kept order o slot k at in
       let low : k.seq < 2 ^ 64 = o.low slot k at in
-      let last : slot < 2 ^ 32 = low_slot slot k at in
+      let last : slot < 2 ^ 32 = low_slot kept order o slot k at in
       ⊎_elim
       (λ (same : n ≡ b.0). let e : key_in kept (get_or order n 0) ≡ key_in kept (get_or order b.0 0) = ap (λ (j : ℕ). key_in kept (get_or order j 0)) same in omega (arith, e, high, seq, low, last))
       (λ (h : (n < b.0) ⊎ (b.0 < n)). ⊎_elim
@@ -60,10 +51,10 @@ module _ (kept : List (Option Known)) (order : List ℕ) (o : IsOrdered kept ord
         let b = behind slot k at_k may in
         let w : b.0 < length order = b.1.within in
         let l : n ≤ b.0 = b.2 in
-        let mine_low : here < 2 ^ 32 = low_slot here known at in
-        let last : slot < 2 ^ 32 = low_slot slot k at_k in
-        let mine : key_in kept (get_or order n 0) ≡ known.seq * 2 ^ 32 + here = ap (key_in kept) (is 0) ∙ key_kept here known at in
-        let seq : key_in kept (get_or order b.0 0) ≡ k.seq * 2 ^ 32 + slot = ap (key_in kept) (b.1.is 0) ∙ key_kept slot k at_k in
+        let mine_low : here < 2 ^ 32 = low_slot kept order o here known at in
+        let last : slot < 2 ^ 32 = low_slot kept order o slot k at_k in
+        let mine : key_in kept (get_or order n 0) ≡ known.seq * 2 ^ 32 + here = ap (key_in kept) (is 0) ∙ key_kept kept order o here known at in
+        let seq : key_in kept (get_or order b.0 0) ≡ k.seq * 2 ^ 32 + slot = ap (key_in kept) (b.1.is 0) ∙ key_kept kept order o slot k at_k in
         ⊎_elim
         (λ (same : n ≡ b.0). let e : key_in kept (get_or order n 0) ≡ key_in kept (get_or order b.0 0) = ap (λ (j : ℕ). key_in kept (get_or order j 0)) same in omega (arith, e, mine, seq, mine_low, last))
         (λ (h : (n < b.0) ⊎ (b.0 < n)). ⊎_elim

@@ -1,7 +1,7 @@
 -- The order in which an index keeps the slots: those with a segment first, by sequence number and then by slot, and behind them
 -- those without, by slot.
 -- Of it public clauses cite `IsOrdered` alone.
-use Rattle.std.specs.Prelude.{◌≡◌, ◌<◌, ◌≤◌, ◌+◌, ◌-◌, ◌*◌, ◌^◌, ℕ, List, length, get_or, All, Contains, Option, Some, None}
+use Rattle.std.specs.Prelude.{◌≡◌, ◌<◌, ◌≤◌, ◌+◌, ◌-◌, ◌*◌, ◌^◌, ◌==◌, ℕ, Bool, true, not, List, length, get_or, All, Contains, Option, Some, None}
 use Rattle.vdr_index.specs.declared.known.Known.{Known}
 use Rattle.vdr_index.specs.Indexes.{Keeps, MayAnswer}
 use Rattle.vdr_terms.specs.Queries.{Query, Span}
@@ -44,6 +44,17 @@ pub record IsMoved (old new : List ℕ) (from to : ℕ) : Type 0 where
 -- None of the first n slots of an order may answer.
 abbrev pub NoneOf : List (Option Known) → List ℕ → Query → Span → Option ℕ → ℕ → Type 0
 NoneOf kept order query span after n = (i d : ℕ) (k : Known) → i < n → Keeps kept (get_or order i d) k → MayAnswer query span after k → ⊥
+
+-- The first n slots of an order have a segment, and the others are clear.
+pub record AreKept (kept : List (Option Known)) (order : List ℕ) (n : ℕ) : Type 0 where
+  pub within : n ≤ length order
+  pub front : (i d : ℕ) → i < n → (k : Known) × Keeps kept (get_or order i d) k
+  pub rest : (i d : ℕ) → n ≤ i → i < length order → get_or kept (get_or order i d) None ≡ None
+
+-- A slot is not this one, if one is given.
+abbrev pub is_other : Option ℕ → ℕ → Bool
+is_other None slot = true
+is_other (Some one) slot = not (slot == one)
 
 -- The numbers below n, in order.
 pub record AreNumbers (n : ℕ) (xs : List ℕ) : Type 0 where

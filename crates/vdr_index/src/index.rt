@@ -1,10 +1,10 @@
-ghost use Rattle.std.specs.Prelude.{◌≡◌, ◌<◌, ◌^◌, ℕ, length, replicate, set, get_or, option_map, Some, None, IfOk, IfSome, IfNone};
+ghost use Rattle.std.specs.Prelude.{◌≡◌, ◌≢◌, ◌<◌, ◌^◌, ℕ, length, replicate, set, get_or, option_map, Some, None, IfOk, IfSome, IfNone};
 ghost use Rattle.vdr_entry.specs.Queries.{asked};
 ghost use Rattle.vdr_index.specs.declared.known.Known.{Known as AKnown};
 ghost use Rattle.vdr_index.specs.Keys.{IsOrdered};
-ghost use Rattle.vdr_index.specs.Indexes.{Keeps, IsCandidate, MayAnswer, span_as};
+ghost use Rattle.vdr_index.specs.Indexes.{Keeps, IsAbove, IsCandidate, IsFirstClear, IsNewest, IsNextAbove, MayAnswer, span_as};
 
-use crate::keys::{candidate, numbers, places};
+use crate::keys::{candidate, first_clear, newest, next_above, numbers, places};
 use crate::moving::shift;
 use crate::{Known, NoMemory, Span};
 use std::alloc::Global;
@@ -91,6 +91,16 @@ impl Index {
         }
     }
 
+    /// What is known of the segment in a slot. None exactly where it is clear or there is no such slot. Takes no memory.
+    pub fn known(&self, slot: u32) -> Option<Known>
+        ensures { result ≡ get_or self.now slot None }
+    {
+        match self.kept.get(slot as usize) {
+            Some(known) => *known,
+            None => None,
+        }
+    }
+
     /// All slots: those with a segment first, in order of sequence number, and then the clear ones, in order of slot. Takes no
     /// memory.
     pub fn in_order(&self) -> &[u32]
@@ -109,5 +119,34 @@ impl Index {
         ensures none { IfNone result ((slot : ℕ) (k : AKnown) → Keeps self.now slot k → MayAnswer (asked query.now) (span_as span.now) after k → ⊥) }
     {
         candidate(&self.kept, &self.order, query, *span, after)
+    }
+
+    /// The slot of the segment of least sequence number above `after`. None exactly where there is none. Takes no memory, and looks
+    /// it up.
+    pub fn next_above(&self, after: Option<u64>) -> Option<u32>
+        ensures within { IfSome result (λ slot. slot < length self.now) }
+        ensures some { IfSome result (IsNextAbove self.now after) }
+        ensures none { IfNone result ((slot : ℕ) (k : AKnown) → Keeps self.now slot k → IsAbove after k.seq → ⊥) }
+    {
+        next_above(&self.kept, &self.order, after)
+    }
+
+    /// The slot of the segment of greatest sequence number. None exactly where all slots are clear. Takes no memory, and looks it
+    /// up.
+    pub fn newest(&self) -> Option<u32>
+        ensures within { IfSome result (λ slot. slot < length self.now) }
+        ensures some { IfSome result (IsNewest self.now) }
+        ensures none { IfNone result ((slot : ℕ) (k : AKnown) → Keeps self.now slot k → ⊥) }
+    {
+        newest(&self.kept, &self.order)
+    }
+
+    /// The least clear slot but this one. None exactly where no other is clear. Takes no memory, and looks it up.
+    pub fn first_clear(&self, but: Option<u32>) -> Option<u32>
+        ensures within { IfSome result (λ slot. slot < length self.now) }
+        ensures some { IfSome result (IsFirstClear self.now but) }
+        ensures none { IfNone result ((j : ℕ) → j < length self.now → but ≢ Some j → get_or self.now j None ≢ None) }
+    {
+        first_clear(&self.kept, &self.order, but)
     }
 }

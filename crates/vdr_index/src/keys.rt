@@ -1,10 +1,10 @@
 // The order in which an index keeps its slots.
-ghost use Rattle.std.specs.Prelude.{◌≡◌, ◌<◌, ◌≤◌, ◌*◌, ◌^◌, ℕ, List, length, get_or, set, Some, None, IfOk, IfSome, IfNone};
+ghost use Rattle.std.specs.Prelude.{◌≡◌, ◌≢◌, ◌<◌, ◌≤◌, ◌*◌, ◌^◌, ℕ, List, length, drop, find, get_or, set, Some, None, IfOk, IfSome, IfNone};
 ghost use Rattle.vdr_terms.specs.Queries.{Query as AQuery, Span as ASpan};
 ghost use Rattle.vdr_entry.specs.Queries.{asked};
 ghost use Rattle.vdr_index.specs.declared.known.Known.{Known as AKnown};
-ghost use Rattle.vdr_index.specs.Indexes.{IsAbove, IsCandidate, Keeps, MayAnswer, span_as};
-ghost use Rattle.vdr_index.specs.Keys.{key_of, key_in, Rises, IsRank, IsOrdered, IsMoved, NoneOf, AreNumbers};
+ghost use Rattle.vdr_index.specs.Indexes.{IsAbove, IsCandidate, IsFirstClear, IsNewest, IsNextAbove, Keeps, MayAnswer, span_as};
+ghost use Rattle.vdr_index.specs.Keys.{key_of, key_in, Rises, IsRank, IsOrdered, IsMoved, NoneOf, AreKept, AreNumbers, is_other};
 
 use crate::span::meets;
 use crate::{Known, Span};
@@ -71,6 +71,7 @@ fn passed(kept: &[Option<Known>], order: &[u32], after: Option<u64>) -> usize
     requires { IsOrdered kept.now order.now }
     ensures within { result ≤ length order.now }
     ensures passed { (query : AQuery) (span : ASpan) → NoneOf kept.now order.now query span after result }
+    ensures below { (i d : ℕ) (k : AKnown) → i < result → Keeps kept.now (get_or order.now i d) k → IsAbove after k.seq → ⊥ }
     ensures above { (i d : ℕ) (k : AKnown) → result ≤ i → i < length order.now → Keeps kept.now (get_or order.now i d) k → IsAbove after k.seq }
 {
     match after {
@@ -102,6 +103,72 @@ pub(crate) fn candidate(
         }
     }
     None
+}
+
+// The slot of the segment of least sequence number above `after`.
+pub(crate) fn next_above(kept: &[Option<Known>], order: &[u32], after: Option<u64>) -> Option<u32>
+    requires { IsOrdered kept.now order.now }
+    ensures within { IfSome result (λ slot. slot < length kept.now) }
+    ensures some { IfSome result (IsNextAbove kept.now after) }
+    ensures none { IfNone result ((slot : ℕ) (k : AKnown) → Keeps kept.now slot k → IsAbove after k.seq → ⊥) }
+{
+    let index = passed(kept, order, after);
+    if index == order.len() {
+        return None;
+    }
+    let slot = order[index];
+    match kept[slot as usize] {
+        Some(_) => Some(slot),
+        None => None,
+    }
+}
+
+// How many slots have a segment.
+fn count_kept(kept: &[Option<Known>], order: &[u32]) -> usize
+    requires { IsOrdered kept.now order.now }
+    ensures { AreKept kept.now order.now result }
+{
+    rank(kept, order, front_of(1 << 64))
+}
+
+// The slot of the segment of greatest sequence number.
+pub(crate) fn newest(kept: &[Option<Known>], order: &[u32]) -> Option<u32>
+    requires { IsOrdered kept.now order.now }
+    ensures within { IfSome result (λ slot. slot < length kept.now) }
+    ensures some { IfSome result (IsNewest kept.now) }
+    ensures none { IfNone result ((slot : ℕ) (k : AKnown) → Keeps kept.now slot k → ⊥) }
+{
+    let count = count_kept(kept, order);
+    if count == 0 {
+        return None;
+    }
+    Some(order[count - 1])
+}
+
+fn is_other(slot: u32, but: Option<u32>) -> bool
+    ensures { result ≡ is_other but slot }
+{
+    match but {
+        None => true,
+        Some(one) => slot != one,
+    }
+}
+
+// The first of these slots but this one.
+fn first_but(slots: &[u32], but: Option<u32>) -> Option<u32>
+    ensures { result ≡ find (is_other but) slots.now }
+{
+    slots.iter().copied().find(|slot| is_other(*slot, but))
+}
+
+// The least clear slot but this one.
+pub(crate) fn first_clear(kept: &[Option<Known>], order: &[u32], but: Option<u32>) -> Option<u32>
+    requires { IsOrdered kept.now order.now }
+    ensures within { IfSome result (λ slot. slot < length kept.now) }
+    ensures some { IfSome result (IsFirstClear kept.now but) }
+    ensures none { IfNone result ((j : ℕ) → j < length kept.now → but ≢ Some j → get_or kept.now j None ≢ None) }
+{
+    first_but(&order[count_kept(kept, order)..], but)
 }
 
 // The numbers below n.

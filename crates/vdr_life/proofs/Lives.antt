@@ -23,7 +23,7 @@ use Rattle.vdr_config.specs.Sizes.{window_of}
 use Rattle.vdr_config.proofs.Ranges.{ranges_of}
 use Rattle.vdr_media.specs.Formatted.{IsEmptyHistory}
 use Rattle.vdr_media.proofs.Two.{all_two}
-use Rattle.vdr_ring.specs.Sequence.{batches_in}
+use Rattle.vdr_directory.specs.Sequence.{batches_in}
 use Rattle.vdr_opening.specs.Media.{both, Contents, HoldsContents, nothing_on, opening_of, reading_of}
 use Rattle.vdr_opening.specs.Settings.{settings_of}
 use Rattle.vdr_opening.proofs.ContentsHeld.{are_legal, one_capsule, one_configured_text, one_incidents, one_long_term}

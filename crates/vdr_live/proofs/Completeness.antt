@@ -22,7 +22,7 @@ use Rattle.vdr_command.specs.declared.status.Status.{Status}
 use Rattle.vdr_command.specs.declared.status.Status.TheVariants.{Done, MediaFault, PortFault, LinkFault, OutputFault, NoMemory, Place, Tick}
 use Rattle.vdr_vault.proofs.OpenMoments.{never_both}
 use Rattle.vdr_command.proofs.OpenedCompleteness.{damaged_alike}
-use Rattle.vdr_live.specs.Links.{AsksLinks, LinkIn, LinkSeen, NoLinkFailed, WasAnswered}
+use Rattle.vdr_live.specs.Links.{AsksLinks, LinkSeen, NoLinkFailed, WasAnswered}
 use Rattle.vdr_live.specs.Ports.{AsksPorts, NoPortFailed, PortIn, PortSeen}
 use Rattle.vdr_live.specs.Recordings.{IfLinkFault, IfPortFault, IsNotOpened, IsRecorded, PrintsSession, RecordingEnds, Records, RecordsAll, Surroundings, TellsSession}
 

@@ -1,5 +1,5 @@
 -- What a session says of its desks, said of what their links tell.
-use Rattle.std.proofs.Common.{◌≡◌, ◌≢◌, ◌⊎◌, inl, inr, ◌<◌, ◌++◌, ◌∷◌, ℕ, Bool, true, false, List, [], length, map, get_or, Option, Some, None, refl, sym, ap, ◌∙◌, subst, arith}
+use Rattle.std.proofs.Common.{◌≡◌, ◌≢◌, ◌⊎◌, inl, inr, ◌<◌, ◌++◌, ◌∷◌, ℕ, Bool, true, false, List, [], length, map, get_or, Option, None, refl, sym, ap, ◌∙◌, subst, arith}
 use Rattle.std.proofs.lemmas.List.{get_or-map, length-map}
 use Rattle.vdr_history.specs.Histories.{Event, Opening}
 use Rattle.vdr_outside.specs.declared.link.Link.{Ghosts as LinkTells}
@@ -17,7 +17,7 @@ use Rattle.vdr_session.proofs.Replied.{answer_so}
 use Rattle.vdr_session.specs.declared.mark.Mark.{Mark}
 use Rattle.vdr_session.specs.Desks.{DesksReplied, DesksTold, FailureTold, HasSpoken}
 use Rattle.vdr_session.specs.Sessions.{is_closed}
-use Rattle.vdr_live.specs.Links.{AreReplied, AsksLinks, LinkIn, LinkSeen, TellsLinkFailure, WasAnswered, as_seen, seen_link, seen_links}
+use Rattle.vdr_live.specs.Links.{AreReplied, AsksLinks, LinkIn, LinkSeen, TellsLinkFailure, as_seen, seen_link, seen_links}
 use Rattle.vdr_live.proofs.PortLemmas.{first_of}
 
 -- A reply, with another cause of a fault

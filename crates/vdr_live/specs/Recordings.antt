@@ -15,7 +15,6 @@ use Rattle.vdr_vault.specs.Calls.{SameElsewhere}
 use Rattle.vdr_capture.specs.declared.sums.Outcome.{Outcome}
 use Rattle.vdr_capture.specs.declared.sums.Outcome.TheVariants as outcomes
 use Rattle.vdr_session.specs.Sessions.{HasGroups, is_closed}
-use Rattle.vdr_session.specs.Standing.{MayBegin}
 use Rattle.vdr_session.specs.declared.session.SessionEnd.{SessionEnd}
 use Rattle.vdr_command.specs.Endings.{IsDone}
 use Rattle.vdr_command.specs.Opened.{IsLegibleWith, MediaEnds, WasRecorded}
@@ -24,6 +23,7 @@ use Rattle.vdr_command.specs.Outside.{MediaFailed, MediaSeen, NothingFailed, Out
 use Rattle.vdr_tool.specs.Summaries.{summary_text}
 use Rattle.vdr_command.specs.declared.status.Status.{Status}
 use Rattle.vdr_command.specs.declared.status.Status.TheVariants.{Done, Unformatted, Damaged, MediaFault, PortFault, LinkFault, OutputFault, NoMemory, Place, Tick}
+use Rattle.vdr_recorder.specs.Refusals.{MayBegin}
 use Rattle.vdr_live.specs.Headline.{SessionHeadline}
 use Rattle.vdr_live.specs.Links.{AsksLinks, LinkSeen, NoLinkFailed}
 use Rattle.vdr_live.specs.Ports.{AsksPorts, NoPortFailed, PortSeen}

@@ -5,7 +5,15 @@ use Rattle.vdr_command.specs.Endings.{WritesLine}
 use Rattle.vdr_command.specs.Outside.{OutputSeen}
 use Rattle.vdr_tool.specs.Runs.{Runs}
 use Rattle.vdr_command.specs.declared.status.Status.{Status}
+use Rattle.vdr_command.specs.declared.status.Status.TheVariants.{Words}
 use Rattle.vdr_live.specs.Recordings.{AsksRecord, Records, Surroundings}
+
+-- `record` reads no input, and only `record` asks the ports and the links.
+pub record RecordsAlone {I P L : Type 0} (words : List (String Global)) (input now : I) (ports ports_now : P) (links links_now : L) (status : Status) : Type 0 where
+  -- its words are told from those that ask for nothing
+  pub live : (turns : ℕ) → AsksRecord words turns → (status ≡ Words → ⊥) × (now ≡ input)
+  -- all other words leave the ports and the links as they are
+  pub others : ((turns : ℕ) → AsksRecord words turns → ⊥) → (ports_now ≡ ports) × (links_now ≡ links)
 
 module _ {tells tells_images : Type 0} where
   -- The recording was done, and then the line of its status was written.

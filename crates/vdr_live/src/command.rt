@@ -1,18 +1,10 @@
-ghost use Rattle.std.specs.Prelude.{◌≡◌, ◌≤◌, ◌<◌, ◌^◌, ◌⊎◌, ℕ, List, length};
-ghost use Rattle.vdr_history.specs.Histories.{Event};
-ghost use Rattle.vdr_outside.specs.Disk.{Image};
-ghost use Rattle.vdr_config.specs.Configuration.{Configuration};
-ghost use Rattle.vdr_life.specs.Lives.{Life, LivesOn};
-ghost use Rattle.vdr_life.specs.Ours.{AreOurs, RestAs, StayOurs};
+ghost use Rattle.std.specs.Prelude.{◌≤◌, ◌<◌, ◌^◌, length};
 ghost use Rattle.vdr_session.specs.Calls.{AreByGroup};
-ghost use Rattle.vdr_tool.specs.Commands.{Asked};
-ghost use Rattle.vdr_tool.specs.Lives.{FormatsNothing, StartsSynced};
-ghost use Rattle.vdr_tool.specs.Runs.{Asks, page};
-ghost use Rattle.vdr_command.specs.declared.status.Status.TheVariants.{Words};
+ghost use Rattle.vdr_tool.specs.Lives.{KeepsLife};
+ghost use Rattle.vdr_tool.specs.Runs.{Asks, TouchesAsked};
 ghost use Rattle.vdr_live.specs.Links.{seen_links};
 ghost use Rattle.vdr_live.specs.Ports.{seen_ports};
-ghost use Rattle.vdr_live.specs.Recordings.{AsksRecord};
-ghost use Rattle.vdr_live.specs.Runs.{RunsAll};
+ghost use Rattle.vdr_live.specs.Runs.{RecordsAlone, RunsAll};
 
 use crate::recording::answer_record;
 use crate::turns::turns_of;
@@ -61,17 +53,11 @@ pub fn run<
         (record { alone = at world.new; ports = seen_ports P.Port lanes.new; links = seen_links L.Link desks.new }) result }
 
     // Only a command that reads it touches the input, only one that uses them the media, and only `record` the ports and the links.
-    ensures live { (turns : ℕ) → AsksRecord words.now turns → (result ≡ Words → ⊥) × (world.new.input ≡ world.old.input) }
-    ensures others { ((turns : ℕ) → AsksRecord words.now turns → ⊥) → (lanes.new ≡ lanes.old) × (desks.new ≡ desks.old) }
-    ensures unread { (command : Asked) → Asks words.now command → (page command).reads_input ⊎ (world.new.input ≡ world.old.input) }
-    ensures untouched { (command : Asked) → Asks words.now command → (page command).uses_media ⊎ (world.new.media ≡ world.old.media) }
-    ensures none { result ≡ Words → (world.new.input ≡ world.old.input) × (world.new.media ≡ world.old.media) }
+    ensures touches { TouchesAsked words.now world.old.input world.new.input world.old.media world.new.media result }
+    ensures alone { RecordsAlone words.now world.old.input world.new.input lanes.old lanes.new desks.old desks.new result }
 
     // Media of this product stay so at every moment, and where nothing is formatted their life goes on.
-    ensures lives { M.tells_images → ((command : Asked) → Asks words.now command → StartsSynced command (M.disk world.old.media)) → AreOurs (M.disk world.old.media)
-        → StayOurs (M.disk world.old.media) (M.disk world.new.media) }
-    ensures life { (c : Configuration) (text : List ℕ) (all : List Event) (image : Image) → M.tells_images → ((command : Asked) → Asks words.now command → FormatsNothing command)
-        → RestAs image (M.disk world.old.media) → Life c text all image → LivesOn c text all (M.disk world.old.media) (M.disk world.new.media) }
+    ensures lives { KeepsLife (Asks words.now) (M.disk world.old.media) (M.disk world.new.media) }
 {
     let Some(turns) = turns_of(words) else {
         return run_alone(alloc, words, world);

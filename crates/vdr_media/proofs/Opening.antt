@@ -2,6 +2,7 @@
 use Rattle.std.proofs.Common.{◌≡◌, ◌≢◌, inl, inr, ℕ, List, [], ◌∷◌, length, Option, Some, sym, subst, arith}
 use Rattle.std.specs.Prelude.{⊤}
 use Rattle.std.proofs.lemmas.Bool.{cases_eq}
+use Rattle.std.proofs.lemmas.Option.{same_Some}
 use Rattle.vdr_segment.specs.Gates.{open_gate}
 use Rattle.vdr_outside.specs.Disk.{Disk, Durable, Overwritten, content, over}
 use Rattle.vdr_outside.specs.Moments.{AtEachMoment, ChangesOnly, Settled}
@@ -13,14 +14,11 @@ use Rattle.vdr_media.specs.Medium.{IsEmptyMedium}
 use Rattle.vdr_media.specs.Writing.{WritesBehindGate, IsLaidOut, ClosedOrEmpty, HasClosedGate}
 use Rattle.vdr_media.proofs.Closing.{closed_by}
 
-same_byte : (a b : ℕ) → ◌≡◌ {A = Option ℕ} (Some a) (Some b) → a ≡ b
-same_byte a b e = cc
-
 -- any other byte closes the gate
 pub closed_first : (b : List ℕ) (y : ℕ) → y ≢ open_gate → IsClosedAt (over b 0 (y ∷ [])) 0
 closed_first [] y ne opened = let none : ⊥ = cc in absurd none
-closed_first (a ∷ []) y ne opened = ne (same_byte y open_gate opened)
-closed_first (a ∷ c ∷ b) y ne opened = ne (same_byte y open_gate opened)
+closed_first (a ∷ []) y ne opened = ne (same_Some y open_gate opened)
+closed_first (a ∷ c ∷ b) y ne opened = ne (same_Some y open_gate opened)
 
 -- whatever the gate's byte is
 pub either : (m : ℕ) (c : Configuration) (text b x : List ℕ) → length x ≡ 1 → IsLaidOut m c text b → ClosedOrEmpty m c text (over b 0 x)

@@ -1,6 +1,8 @@
 use vdr_entry::{Record, Summary};
 use vdr_segment::write_batch;
-use vdr_survey::{Extent, Position, Survey, law_of_positions, law_of_surveys, step, survey};
+use vdr_survey::{
+    Extent, Position, Survey, law_of_positions, law_of_surveys, step, summary_with, survey,
+};
 
 /// The second batch begins at 163 and ends at 212, where a closed gate stands.
 const SEGMENT_SIZE: usize = 220;
@@ -25,7 +27,7 @@ const SUMMARY: Summary = Summary {
 };
 
 /// A segment of a Start and a Datagram (places 40 and 41, ticks 1,000 and 1,300), and a batch of a Stop (place 42, tick 1,400).
-fn two_batches() -> ([u8; SEGMENT_SIZE], Survey) {
+fn two_batches() -> ([u8; SEGMENT_SIZE], Summary) {
     let first = [
         Record::start(7, 40, 1000, UTC),
         Record::datagram(3, 5, 41, 0, 1300, UTC + 300, b"AbCdE\0"),
@@ -34,7 +36,7 @@ fn two_batches() -> ([u8; SEGMENT_SIZE], Survey) {
     let mut segment = [0; SEGMENT_SIZE];
     let end = 64 + write_batch(&first, &mut segment[64..]);
     write_batch(&second, &mut segment[end..]);
-    let written = Survey::empty().extended(40, &first).extended(40, &second);
+    let written = summary_with(Some(summary_with(None, &first)), &second);
     (segment, written)
 }
 
@@ -51,7 +53,7 @@ fn a_survey_tells_end_extent_and_order(rt: HostRuntime) {
         in_order: false,
         ..whole
     };
-    assert!(rt; written == whole);
+    assert!(rt; written == SUMMARY);
     for (at, byte, want) in [
         (0, 0xff, Ok(whole)),
         (64, 0, Ok(Survey::empty())),

@@ -3,7 +3,7 @@ use Rattle.std.specs.Prelude.{ℕ, ◌+◌, ◌-◌, ◌^◌, min}
 use Rattle.vdr_memory.specs.declared.call.Work.{Work}
 use Rattle.vdr_memory.specs.declared.call.Work.TheVariants.{Write, Sync}
 use Rattle.vdr_memory.specs.declared.counts.CallCounts.{CallCounts}
-use Rattle.vdr_memory.specs.Calls.{one_more}
+use Rattle.vdr_outside.specs.Calls.{one_more}
 
 -- All calls. It is also the number of the next one.
 abbrev pub total : CallCounts → ℕ

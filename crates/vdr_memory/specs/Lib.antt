@@ -1,5 +1,4 @@
 -- What contracts see of objects in memory.
-pub mod Calls
 pub mod Sinks
 pub mod Sources
 pub mod Contents

@@ -1,7 +1,6 @@
 -- Links in memory.
 use Rattle.std.specs.Prelude.{◌≡◌, ◌↔◌, ℕ, List, [], ◌++◌, Contains}
 use Rattle.vdr_outside.specs.Calls.{Asked}
-use Rattle.vdr_outside.specs.Hears.{bare}
 use Rattle.vdr_outside.specs.declared.link.Heard.{Heard}
 use Rattle.vdr_outside.specs.declared.link.Heard.TheVariants.{Quiet, Ended, Failed}
 

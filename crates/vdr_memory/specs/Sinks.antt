@@ -1,6 +1,6 @@
 -- A sink in memory.
 use Rattle.std.specs.Prelude.{◌≡◌, ℕ, List, ◌++◌}
-use Rattle.vdr_memory.specs.Calls.{one_more}
+use Rattle.vdr_outside.specs.Calls.{one_more}
 
 pub record SinkInMemory : Type 0 where
   pub taken : List ℕ  -- the bytes taken

@@ -1,6 +1,6 @@
 -- A source in memory.
 use Rattle.std.specs.Prelude.{ℕ, List, length, drop, min}
-use Rattle.vdr_memory.specs.Calls.{one_more}
+use Rattle.vdr_outside.specs.Calls.{one_more}
 
 pub record SourceInMemory : Type 0 where
   pub left : List ℕ  -- the bytes not yet given

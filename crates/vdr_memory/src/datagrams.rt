@@ -7,10 +7,7 @@ ghost use Rattle.vdr_memory.specs.Ports.{NeverFalls, standing_of};
 use crate::PortItem;
 use arrayvec::ArrayVec;
 use std::marker::Model;
-use vdr_outside::Taken;
-
-/// One byte more than a datagram may have, which shows that it is too long.
-const LONGEST: usize = 1473;
+use vdr_outside::{LONGEST_TAKEN, Taken};
 
 #[derive(Drop)]
 pub(crate) struct Datagrams {
@@ -59,7 +56,7 @@ impl Datagrams {
     }
 
     // Gives the next one, if any is left.
-    pub(crate) fn give(&mut self, into: &mut ArrayVec<u8, LONGEST>) -> Taken
+    pub(crate) fn give(&mut self, into: &mut ArrayVec<u8, LONGEST_TAKEN>) -> Taken
         ensures took { Takes (standing_of self.old) (standing_of self.new) result into.new.items }
         ensures ended { (result ≡ Ended) ↔ (self.old.left ≡ []) }
         ensures not_quiet { result ≢ Quiet }
@@ -71,7 +68,7 @@ impl Datagrams {
         }
         let item = &self.items[self.given];
         let (received, utc) = (item.received, item.utc);
-        let count = item.bytes.len().min(LONGEST);
+        let count = item.bytes.len().min(LONGEST_TAKEN);
         let _ = into.try_extend_from_slice(&item.bytes[..count]);
         self.given += 1;
         self.floor = received;

@@ -12,7 +12,7 @@ use arrayvec::ArrayVec;
 use std::marker::Model;
 use std::thread;
 use std::time::{Clock, Duration};
-use vdr_outside::{Port, Taken};
+use vdr_outside::{LONGEST_TAKEN, Port, Taken};
 
 /// How many milliseconds it waits where it is quiet.
 const WAIT: u64 = 1;
@@ -84,7 +84,7 @@ impl<C: Clock> GatedPort<C> {
     }
 
     // Answers a take that is not counted yet.
-    fn answer(&mut self, into: &mut ArrayVec<u8, 1473>) -> Taken
+    fn answer(&mut self, into: &mut ArrayVec<u8, LONGEST_TAKEN>) -> Taken
         ensures took { Takes (standing_of self.old.datagrams) (standing_of self.new.datagrams) result into.new.items }
         ensures quiet { result ≡ Quiet → self.old.at_once ≤ length self.old.datagrams.taken }
         ensures ended { result ≡ Ended → self.old.datagrams.left ≡ [] }
@@ -116,7 +116,7 @@ impl<C: Clock> Port for GatedPort<C> {
     ghost faults = { λ s. s.asked.failures };
 
     /// It is quiet only once it gave those that it gives at once, and ended only where no item is left.
-    fn take(&mut self, into: &mut ArrayVec<u8, 1473>) -> Taken
+    fn take(&mut self, into: &mut ArrayVec<u8, LONGEST_TAKEN>) -> Taken
         ensures took { Takes (standing_of self.old.datagrams) (standing_of self.new.datagrams) result into.new.items }
         ensures quiet { result ≡ Quiet → self.old.at_once ≤ length self.old.datagrams.taken }
         ensures ended { result ≡ Ended → self.old.datagrams.left ≡ [] }

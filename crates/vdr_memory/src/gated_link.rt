@@ -12,7 +12,7 @@ use arrayvec::ArrayVec;
 use std::marker::Model;
 use std::thread;
 use std::time::{Clock, Duration};
-use vdr_outside::{Failed, Heard, Link};
+use vdr_outside::{Failed, Heard, LONGEST_LINE, Link};
 
 /// How many milliseconds it waits between two lines.
 const WAIT: u64 = 1;
@@ -85,7 +85,7 @@ impl<C: Clock> Link for GatedLink<C> {
     ghost faults = { λ s. s.asked.failures };
 
     /// Ends exactly where the reply to the last line begins as it has to. Else it gives the line `STATUS`, and no reply to it is known.
-    fn line(&mut self, into: &mut ArrayVec<u8, 256>) -> Heard
+    fn line(&mut self, into: &mut ArrayVec<u8, LONGEST_LINE>) -> Heard
         ensures heard { Hears None None result into.new.items }
         ensures ends { (result ≡ Ended) ↔ Begins self.old.awaited self.old.answer }
         ensures asks { (result ≡ Ended) ⊎ ((result ≡ Line) × (into.new.items ≡ codes "STATUS") × (self.new.answer ≡ [])) }

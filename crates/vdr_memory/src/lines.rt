@@ -5,10 +5,7 @@ ghost use Rattle.vdr_outside.specs.declared.link.Heard.TheVariants.{Quiet, Ended
 
 use arrayvec::ArrayVec;
 use std::marker::Model;
-use vdr_outside::Heard;
-
-/// How many bytes a line may have.
-const LONGEST: usize = 256;
+use vdr_outside::{Heard, LONGEST_LINE};
 
 /// A line that a link in memory is to give, without its LF.
 #[derive(Drop)]
@@ -65,7 +62,7 @@ impl Lines {
     }
 
     // Gives the next one, if any is left.
-    pub(crate) fn give(&mut self, into: &mut ArrayVec<u8, LONGEST>) -> Heard
+    pub(crate) fn give(&mut self, into: &mut ArrayVec<u8, LONGEST_LINE>) -> Heard
         ensures heard { Hears (Some self.old) (Some self.new) result into.new.items }
         ensures ended { (result ≡ Ended) ↔ (self.old ≡ []) }
         ensures not_quiet { result ≢ Quiet }
@@ -76,7 +73,7 @@ impl Lines {
             return Heard::Ended;
         }
         let line = without_cr(self.lines[self.given].bytes.as_slice());
-        let is_long = line.len() > LONGEST;
+        let is_long = line.len() > LONGEST_LINE;
         if !is_long {
             let _ = into.try_extend_from_slice(line);
         }

@@ -5,7 +5,7 @@ ghost use Rattle.vdr_outside.specs.Causes.{HasCause, Rose};
 ghost use Rattle.vdr_outside.specs.Hears.{Hears, heard_answer};
 ghost use Rattle.vdr_outside.specs.Writes.{AppendsFront};
 ghost use Rattle.vdr_outside.specs.declared.link.Heard.TheVariants.{Failed as HeardFailed};
-ghost use Rattle.vdr_memory.specs.Calls.{one_more};
+ghost use Rattle.vdr_outside.specs.Calls.{one_more};
 ghost use Rattle.vdr_memory.specs.Links.{AnswersLine};
 ghost use Rattle.vdr_memory.specs.Ports.{never_asked};
 
@@ -15,7 +15,7 @@ use crate::lines::Lines;
 use arrayvec::ArrayVec;
 use std::alloc::Global;
 use std::marker::Model;
-use vdr_outside::{Failed, Heard, Link};
+use vdr_outside::{Failed, Heard, LONGEST_LINE, Link};
 
 /// Which calls of a link in memory do what, each by its number from 0.
 #[derive(Drop)]
@@ -109,7 +109,7 @@ impl MemoryLink {
     }
 
     // Answers a call for a line that is not counted yet.
-    fn answer(&mut self, into: &mut ArrayVec<u8, 256>) -> Heard
+    fn answer(&mut self, into: &mut ArrayVec<u8, LONGEST_LINE>) -> Heard
         ensures heard { Hears (Some self.old.left) (Some self.new.left) result into.new.items }
         ensures answers { AnswersLine self.old result }
         ensures rest { self.new ≡ record self.old { left = self.new.left } }
@@ -137,7 +137,7 @@ impl Link for MemoryLink {
 
     /// Fails exactly where the number of the call is listed as failing, else is quiet exactly where it is listed as quiet,
     /// and else is ended exactly where no line is left.
-    fn line(&mut self, into: &mut ArrayVec<u8, 256>) -> Heard
+    fn line(&mut self, into: &mut ArrayVec<u8, LONGEST_LINE>) -> Heard
         ensures heard { Hears (Some self.old.left) (Some self.new.left) result into.new.items }
         ensures replied { self.new.replied ≡ self.old.replied }
         ensures asked { self.new.asked ≡ asked_again self.old.asked (heard_answer result) }

@@ -10,7 +10,7 @@ use crate::asked::Asked;
 use crate::datagrams::Datagrams;
 use arrayvec::ArrayVec;
 use std::marker::Model;
-use vdr_outside::{Port, Taken};
+use vdr_outside::{LONGEST_TAKEN, Port, Taken};
 
 /// A port over a list of datagrams. It fails and is quiet at the calls that it is told.
 #[derive(Drop)]
@@ -66,7 +66,7 @@ impl MemoryPort {
     }
 
     // Answers a take that is not counted yet.
-    fn answer(&mut self, into: &mut ArrayVec<u8, 1473>) -> Taken
+    fn answer(&mut self, into: &mut ArrayVec<u8, LONGEST_TAKEN>) -> Taken
         ensures took { Takes (standing_of self.old.datagrams) (standing_of self.new.datagrams) result into.new.items }
         ensures answers { Answers self.old result }
         ensures rest { self.new ≡ record self.old { datagrams = self.new.datagrams } }
@@ -94,7 +94,7 @@ impl Port for MemoryPort {
 
     /// Fails exactly where the number of the take is listed as failing, else is quiet exactly where it is listed as quiet,
     /// and else is ended exactly where no item is left.
-    fn take(&mut self, into: &mut ArrayVec<u8, 1473>) -> Taken
+    fn take(&mut self, into: &mut ArrayVec<u8, LONGEST_TAKEN>) -> Taken
         ensures took { Takes (standing_of self.old.datagrams) (standing_of self.new.datagrams) result into.new.items }
         ensures answers { Answers self.old result }
         ensures rest { self.new ≡ record self.old { datagrams = self.new.datagrams; asked = asked_again self.old.asked (answer_of result) } }

@@ -1,26 +1,14 @@
 -- What a meter knows of records to which others are added.
-use Rattle.std.proofs.Common.{◌≡◌, ◌≢◌, ◌≤◌, ◌<◌, ◌+◌, ◌==◌, ◌&&◌, ℕ, suc, Bool, true, false, cond, List, [], ◌∷◌, ◌++◌, length, sum, filter, refl, sym, ap, ◌∙◌, subst, arith, length-append, inl, inr, eq-eqb, Option, replicate}
+use Rattle.std.proofs.Common.{◌≡◌, ◌≢◌, ◌≤◌, ◌<◌, ◌+◌, ◌==◌, ◌&&◌, ℕ, suc, Bool, true, false, cond, List, [], ◌∷◌, ◌++◌, length, sum, refl, sym, ap, ◌∙◌, subst, arith, length-append, inl, inr, eq-eqb, Option, replicate}
 use Rattle.std.proofs.lemmas.Bool.{cond-false, ne_eqb, cases_eq}
-use Rattle.std.proofs.lemmas.List.{map-append, append-nil, get_or-replicate}
+use Rattle.std.proofs.lemmas.List.{append-nil, get_or-replicate}
 use Rattle.std.proofs.lemmas.List.Sums.{sum_by-append}
-use Rattle.std.proofs.lemmas.List.Elements.{filter-append}
 use Rattle.vdr_terms.specs.declared.rate.Rate.{Rate}
-use Rattle.vdr_terms.specs.Records.{Record, second, payload_of, is_datagram, datagrams_of}
+use Rattle.vdr_terms.specs.Records.{Record, second, payload_of, is_datagram}
 use Rattle.vdr_terms.specs.Rates.{lengths_in}
+use Rattle.vdr_terms.proofs.Lengths.{lengths_in-append}
 use Rattle.vdr_meter.specs.declared.meter.Used.{Used}
 use Rattle.vdr_meter.specs.Metering.{Metering, Measures, HasNoDatagram, IsDatagramOf, used_in, nothing}
-
-abbrev of_group : ℕ → Record → Bool
-of_group g r = is_datagram r.content && (r.group == g)
-
-abbrev size_of : Record → ℕ
-size_of r = length (payload_of r.content)
-
--- Lengths are those of the first records and then of the others.
-pub lengths_in-append : (g s : ℕ) (xs ys : List Record) → lengths_in g s (xs ++ ys) ≡ lengths_in g s xs ++ lengths_in g s ys
-lengths_in-append g s xs ys =
-    rw (filter-append (of_group g) xs ys, filter-append (λ (r : Record). second r.tick == s) (datagrams_of g xs) (datagrams_of g ys))
-    (map-append size_of (filter (λ (r : Record). second r.tick == s) (datagrams_of g xs)) (filter (λ (r : Record). second r.tick == s) (datagrams_of g ys)))
 
 no_lengths_at : (g s : ℕ) (r : Record) (rs : List Record) → is_datagram r.content ≡ false → lengths_in g s rs ≡ [] → lengths_in g s (r ∷ rs) ≡ []
 no_lengths_at g s r rs none rest = rw none rest

@@ -4,10 +4,11 @@ use Rattle.vdr_history.specs.Histories.{Incident}
 use Rattle.vdr_durability.specs.Readings.{EndsMeet, EndsOff}
 use Rattle.vdr_outside.specs.Disk.{Disk, Unchanged, content}
 use Rattle.vdr_config.specs.Configuration.{Configuration}
-use Rattle.vdr_ring.specs.Order.{AreInOrder}
-use Rattle.vdr_ring.specs.Rings.{RingState, Tells}
+use Rattle.vdr_directory.specs.Order.{AreInOrder}
+use Rattle.vdr_directory.specs.Holds.{Tells}
+use Rattle.vdr_ring.specs.Rings.{RingState}
 use Rattle.vdr_ring.specs.Rings as rings
-use Rattle.vdr_ring.specs.Sequence.{Placed}
+use Rattle.vdr_directory.specs.Sequence.{Placed}
 use Rattle.vdr_incident.specs.Tables.{HoldsTable}
 use Rattle.vdr_incident.specs.Tables as incidents
 use Rattle.vdr_opening.specs.Media.{both, AreThere, IsMedium, reading_of}
@@ -34,18 +35,18 @@ module _ {tells tells_images : Type 0} (start one : Disk tells tells_images) (fi
 
     pub incidents_refused : (m offset : ℕ) → m ≡ 1
         → incidents.Refuses c.incident_slots (content two.reads 1) offset
-        ⊎ ((placed : List Placed) → Tells long_term.slots placed long_term.table → AreInOrder placed → LacksPlacesAt c.incident_slots placed (content two.reads 1) offset)
+        ⊎ ((placed : List Placed) → Tells long_term.slots placed long_term.directory → AreInOrder placed → LacksPlacesAt c.incident_slots placed (content two.reads 1) offset)
         → IsRefused start.reads m offset
     incidents_refused m offset is (inl refuses) =
         refused_incidents start.reads c text first capsule_legal second long_term_legal m offset is (subst (λ (l : List ℕ). incidents.Refuses c.incident_slots l offset) (same_content 1 start two both_read told) refuses)
     incidents_refused m offset is (inr lacks) =
         refused_places start.reads c text first capsule_legal second long_term_legal m offset is
-        (subst (λ (l : List ℕ). LacksPlacesAt c.incident_slots second l offset) (same_content 1 start two both_read told) (lacks second on_long_term.reads.table on_long_term.reads.order))
+        (subst (λ (l : List ℕ). LacksPlacesAt c.incident_slots second l offset) (same_content 1 start two both_read told) (lacks second on_long_term.reads.directory on_long_term.reads.order))
 
     module _ (three : Disk tells tells_images) (third_read : Unchanged two three) (table : List (Option Incident)) (holds : HoldsTable c.incident_slots table (content two.reads 1))
-        (there : (placed : List Placed) → Tells long_term.slots placed long_term.table → AreInOrder placed → AreThere table placed) where
+        (there : (placed : List Placed) → Tells long_term.slots placed long_term.directory → AreInOrder placed → AreThere table placed) where
       there_then : AreThere table second
-      there_then = there second on_long_term.reads.table on_long_term.reads.order
+      there_then = there second on_long_term.reads.directory on_long_term.reads.order
 
       pub ends_refused : (m offset : ℕ) → (m ≡ 1) × (offset ≡ 0) × EndsOff both (reading_of (contents_of c text first second table)) 1 → IsRefused start.reads m offset
       ends_refused m offset off =

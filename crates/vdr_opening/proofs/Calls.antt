@@ -3,9 +3,10 @@ use Rattle.std.proofs.Common.{◌≡◌, ℕ, List, Result, Ok, Err, IfOk, sym, 
 use Rattle.vdr_outside.specs.Disk.{Disk, Image, Unchanged, content}
 use Rattle.vdr_outside.specs.Parts.{part}
 use Rattle.vdr_slots.specs.Slots.{place_of}
-use Rattle.vdr_ring.specs.Rings.{HoldsPlaced, RingState}
+use Rattle.vdr_directory.specs.Holds.{HoldsPlaced}
+use Rattle.vdr_ring.specs.Rings.{RingState}
 use Rattle.vdr_ring.specs.Rings as rings
-use Rattle.vdr_ring.specs.Sequence.{Placed}
+use Rattle.vdr_directory.specs.Sequence.{Placed}
 use Rattle.vdr_media.proofs.Unformatted.{durable_still}
 
 -- two facts of a success make a third
@@ -32,6 +33,6 @@ module _ {tells tells_images : Type 0} where
       reads = λ told. subst (HoldsPlaced ring.segment ring.slots placed) (sym (same_content ring.medium old new same told)) (r.settled.reads told);
     };
     order = r.order;
-    table = r.table;
+    directory = r.directory;
     loaded = λ j is told. r.loaded j is told ∙ ap (λ (l : List ℕ). part l (place_of ring.segment j) ring.segment) (sym (same_content ring.medium old new same told));
   }

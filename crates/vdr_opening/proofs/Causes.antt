@@ -6,7 +6,7 @@ use Rattle.vdr_outside.specs.declared.fault.PartRefused.{PartRefused}
 use Rattle.vdr_outside.specs.declared.fault.PartRefused.TheVariants.{Fault}
 use Rattle.vdr_outside.specs.declared.fault.PartRefused.TheVariants as parts
 use Rattle.vdr_outside.proofs.Counts.{none_falls_join, rose_after, sum_rose}
-use Rattle.vdr_ring.specs.Opening.{HasFaultCause}
+use Rattle.vdr_directory.specs.Opening.{HasFaultCause}
 use Rattle.vdr_terms.proofs.Results.{same_err}
 use Rattle.vdr_opening.specs.Media.{both}
 use Rattle.vdr_opening.specs.declared.refused.OpenRefused.{OpenRefused}

@@ -7,9 +7,9 @@ use Rattle.vdr_outside.specs.Disk.{Image, content}
 use Rattle.vdr_outside.specs.Parts.{part}
 use Rattle.vdr_segment.specs.Segments.{Segment}
 use Rattle.vdr_slots.proofs.Holding.{one_holding}
-use Rattle.vdr_ring.specs.Sequence.{Placed, AreInSequence}
-use Rattle.vdr_ring.specs.Rings.{HoldsPlaced}
-use Rattle.vdr_ring.proofs.Placing.{one_sequence}
+use Rattle.vdr_directory.specs.Sequence.{Placed, AreInSequence}
+use Rattle.vdr_directory.specs.Holds.{HoldsPlaced}
+use Rattle.vdr_directory.proofs.Placing.{one_sequence}
 use Rattle.vdr_incident.specs.Tables.{HoldsTable}
 use Rattle.vdr_incident.proofs.Holding.{one_table}
 use Rattle.vdr_config.specs.Configuration.{Configuration}

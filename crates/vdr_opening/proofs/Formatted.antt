@@ -12,9 +12,9 @@ use Rattle.vdr_config.specs.Configuration.{Configuration}
 use Rattle.vdr_config.specs.Sizes.{sizes_of}
 use Rattle.vdr_config.proofs.Ranges.{ranges_of}
 use Rattle.vdr_segment.specs.Segments.{IsSlot, Segment}
-use Rattle.vdr_ring.specs.Lookup.{HoldAll}
-use Rattle.vdr_ring.specs.Rings.{HoldsPlaced}
-use Rattle.vdr_ring.specs.Sequence.{Placed}
+use Rattle.vdr_directory.specs.Lookup.{HoldAll}
+use Rattle.vdr_directory.specs.Holds.{HoldsPlaced}
+use Rattle.vdr_directory.specs.Sequence.{Placed}
 use Rattle.vdr_incident.specs.Saves.{IsIncidentSlot}
 use Rattle.vdr_incident.specs.Tables.{HoldsTable}
 use Rattle.vdr_media.specs.Formatted.{IsEmptyHistory}

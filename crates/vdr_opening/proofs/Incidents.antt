@@ -4,8 +4,8 @@ use Rattle.std.specs.Prelude.{option_and_then}
 use Rattle.std.proofs.lemmas.List.{take-append-drop, length-take-le, get_or-take}
 use Rattle.std.proofs.lemmas.Option.{slice_get-get_or}
 use Rattle.vdr_history.specs.Histories.{Incident, live}
-use Rattle.vdr_ring.specs.Sequence.{Placed}
-use Rattle.vdr_ring.specs.Lookup.{HoldAll}
+use Rattle.vdr_directory.specs.Sequence.{Placed}
+use Rattle.vdr_directory.specs.Lookup.{HoldAll}
 use Rattle.vdr_opening.specs.Media.{AreThere}
 use Rattle.vdr_opening.specs.Parts.{IsThere, LacksPlaces}
 

@@ -7,7 +7,7 @@ use Rattle.vdr_terms.specs.Records.{Record, last}
 use Rattle.vdr_retention.specs.Layout.{segment_records}
 use Rattle.vdr_durability.specs.Readings.{EndsMeet, EndsOff, Reading, comes_next, ends_before}
 use Rattle.vdr_ring.specs.Lasts.{batch_or_none}
-use Rattle.vdr_ring.specs.Sequence.{Placed, all_records, batches_in, batches_of}
+use Rattle.vdr_directory.specs.Sequence.{Placed, all_records, batches_in, batches_of}
 use Rattle.vdr_media.proofs.Two.{all_two}
 use Rattle.vdr_opening.specs.Media.{both}
 use Rattle.vdr_opening.specs.Answers.{IsMissing}

@@ -2,9 +2,9 @@
 use Rattle.std.proofs.Common.{◌≡◌, ℕ, List, [], ◌∷◌, length, All, Option, Some, None, inl, inr, sym, ◌∙◌, subst, arith}
 use Rattle.std.proofs.lemmas.List.Elements.{All-head, All-tail}
 use Rattle.vdr_outside.specs.Disk.{Image, content}
-use Rattle.vdr_ring.specs.Sequence.{Placed}
-use Rattle.vdr_ring.specs.Opening.{Refuses}
-use Rattle.vdr_ring.proofs.OneAnswer.{never_refused, one_refusal}
+use Rattle.vdr_directory.specs.Sequence.{Placed}
+use Rattle.vdr_directory.specs.Opening.{Refuses}
+use Rattle.vdr_directory.proofs.OneAnswer.{never_refused, one_refusal}
 use Rattle.vdr_config.specs.Configuration.{Configuration}
 use Rattle.vdr_terms.specs.Slots.{slot_count}
 use Rattle.vdr_opening.specs.Media.{both, HasFront, IsMedium}

@@ -1,29 +1,26 @@
 -- Opening has one answer: each part is tested behind those that are legal, so that no two parts are the first that is not.
-use Rattle.std.proofs.Common.{◌≡◌, ◌⊎◌, ℕ, List, ◌∷◌, [], ◌++◌, length, All, IfSome, Option, Some, None, inl, inr, refl, sym, ap, ◌∙◌, subst, arith}
+use Rattle.std.proofs.Common.{◌≡◌, ◌⊎◌, ℕ, List, ◌∷◌, [], ◌++◌, length, All, Option, Some, None, inl, inr, refl, sym, ap, ◌∙◌, subst, arith}
 use Rattle.std.proofs.lemmas.List.Elements.{All-contains, All-head, All-tail, Contains-append_right}
 use Rattle.vdr_history.specs.Histories.{Incident}
 use Rattle.vdr_retention.proofs.Lists.{contains_here}
 use Rattle.vdr_durability.specs.Readings.{EndsMeet, EndsOff}
 use Rattle.vdr_durability.proofs.Meeting.{none_off, one_off}
 use Rattle.vdr_outside.specs.Disk.{Image, content}
-use Rattle.vdr_ring.specs.Sequence.{Placed, batches_in}
-use Rattle.vdr_ring.specs.Lookup.{HoldAll}
+use Rattle.vdr_directory.specs.Sequence.{Placed, batches_in}
+use Rattle.vdr_directory.specs.Lookup.{HoldAll}
 use Rattle.vdr_incident.specs.Tables.{HoldsTable, place_of}
 use Rattle.vdr_incident.specs.Tables as incidents
 use Rattle.vdr_incident.proofs.Holding.{held_not_refused as table_not_refused, one_refused}
 use Rattle.vdr_config.specs.Configuration.{Configuration}
 use Rattle.vdr_media.proofs.Two.{all_two}
 use Rattle.vdr_opening.specs.Media.{both, AreThere, Contents, HoldsContents, reading_of}
+use Rattle.vdr_opening.specs.Parts.{IsThere}
 use Rattle.vdr_opening.specs.Refusals.{RefusesFrom, AreLegal, RefusesIncidents, RefusesPlaces, RefusesEnds, IsRefused}
 use Rattle.vdr_opening.proofs.ContentsHeld.{are_legal, one_config, one_capsule, one_long_term, one_incidents}
 use Rattle.vdr_opening.proofs.RefusalMedia.{from_once, media_legal}
 use Rattle.vdr_opening.proofs.RefusalEnds.{same_off}
 
 -- The incidents
-
--- All places of a slot's incident stand in these segments.
-abbrev IsThere : List Placed → Option Incident → Type 0
-IsThere placed slot = IfSome slot (λ incident. HoldAll incident.a incident.b placed)
 
 -- The first slot of a table that fails a test stands at one index.
 one_index : (P : Option Incident → Type 0) (b c : List (Option Incident)) (x y : Option Incident) (a d : List (Option Incident))

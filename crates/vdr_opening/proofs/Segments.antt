@@ -5,10 +5,11 @@ use Rattle.vdr_outside.specs.Disk.{Disk, Unchanged, content}
 use Rattle.vdr_outside.proofs.Moments.{size_read}
 use Rattle.vdr_config.specs.Configuration.{Configuration}
 use Rattle.vdr_config.specs.Sizes.{sizes_of}
-use Rattle.vdr_ring.specs.Opening.{Refuses}
-use Rattle.vdr_ring.specs.Rings.{HoldsPlaced, RingState}
+use Rattle.vdr_directory.specs.Opening.{Refuses}
+use Rattle.vdr_directory.specs.Holds.{HoldsPlaced}
+use Rattle.vdr_ring.specs.Rings.{RingState}
 use Rattle.vdr_ring.specs.Rings as rings
-use Rattle.vdr_ring.specs.Sequence.{Placed}
+use Rattle.vdr_directory.specs.Sequence.{Placed}
 use Rattle.vdr_terms.specs.Slots.{slot_count}
 use Rattle.vdr_opening.specs.Media.{HasFront}
 use Rattle.vdr_opening.specs.Refusals.{IsSameText, RefusesSegments}

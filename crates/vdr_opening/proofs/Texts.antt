@@ -3,7 +3,7 @@ use Rattle.std.proofs.Common.{◌≡◌, ◌+◌, ◌-◌, ◌<◌, ◌≤◌, �
 use Rattle.std.proofs.lemmas.List.{append-nil, drop_all}
 use Rattle.vdr_terms.specs.Legality.{IsBytes}
 use Rattle.vdr_bytes.specs.Numbers.{le_u32, u32_at}
-use Rattle.vdr_bytes.proofs.NumberLemmas.{read_u32, spelled_u32, take-front}
+use Rattle.vdr_bytes.proofs.NumberLemmas.{spelled_u32, take-front}
 use Rattle.vdr_outside.specs.Parts.{part}
 use Rattle.vdr_media.specs.Medium.{HoldsText}
 use Rattle.vdr_opening.proofs.ContentsHeld.{number_read}

@@ -4,7 +4,7 @@ use Rattle.vdr_history.specs.Histories.{Incident}
 use Rattle.vdr_durability.specs.Readings.{EndsOff}
 use Rattle.vdr_outside.specs.Disk.{Image, content}
 use Rattle.vdr_config.specs.Configuration.{Configuration}
-use Rattle.vdr_ring.specs.Sequence.{Placed}
+use Rattle.vdr_directory.specs.Sequence.{Placed}
 use Rattle.vdr_incident.specs.Tables.{HoldsTable}
 use Rattle.vdr_incident.specs.Tables as incidents
 use Rattle.vdr_media.proofs.Two.{all_two}

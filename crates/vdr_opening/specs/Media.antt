@@ -7,10 +7,10 @@ use Rattle.vdr_outside.specs.Disk.{Image, content}
 use Rattle.vdr_config.specs.Configuration.{Configuration}
 use Rattle.vdr_terms.specs.Slots.{slot_count}
 use Rattle.vdr_media.specs.Medium.{IsSuperblock, HoldsConfiguration}
-use Rattle.vdr_ring.specs.Sequence.{Placed, batches_in}
-use Rattle.vdr_ring.specs.Order.{AreInOrder}
-use Rattle.vdr_ring.specs.Rings.{HoldsPlaced}
-use Rattle.vdr_ring.specs.Lookup.{HoldAll}
+use Rattle.vdr_directory.specs.Sequence.{Placed, batches_in}
+use Rattle.vdr_directory.specs.Order.{AreInOrder}
+use Rattle.vdr_directory.specs.Holds.{HoldsPlaced}
+use Rattle.vdr_directory.specs.Lookup.{HoldAll}
 use Rattle.vdr_incident.specs.Tables.{HoldsTable}
 use Rattle.vdr_opening.specs.Settings.{settings_of}
 

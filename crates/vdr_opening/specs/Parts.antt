@@ -7,10 +7,10 @@ use Rattle.vdr_outside.specs.declared.fault.PartRefused.{PartRefused}
 use Rattle.vdr_outside.specs.declared.fault.PartRefused.TheVariants as parts
 use Rattle.vdr_config.specs.Configuration.{Configuration}
 use Rattle.vdr_segment.specs.Gates.{IsOpenAt}
-use Rattle.vdr_ring.specs.Lookup.{HoldAll}
+use Rattle.vdr_directory.specs.Lookup.{HoldAll}
 use Rattle.vdr_ring.specs.Rings.{RingState}
 use Rattle.vdr_ring.specs.Rings as rings
-use Rattle.vdr_ring.specs.Sequence.{Placed}
+use Rattle.vdr_directory.specs.Sequence.{Placed}
 use Rattle.vdr_incident.specs.Tables.{HoldsTable, place_of}
 use Rattle.vdr_terms.specs.Slots.{slot_count}
 use Rattle.vdr_media.specs.Layout.{superblock_bytes}

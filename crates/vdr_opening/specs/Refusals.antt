@@ -9,9 +9,9 @@ use Rattle.vdr_config.specs.Configuration.{Configuration}
 use Rattle.vdr_terms.specs.Slots.{slot_count}
 use Rattle.vdr_media.specs.Layout.{text_from}
 use Rattle.vdr_media.specs.Medium.{IsSuperblock}
-use Rattle.vdr_ring.specs.Sequence.{Placed}
-use Rattle.vdr_ring.specs.Lookup.{HoldAll}
-use Rattle.vdr_ring.specs.Opening.{Refuses}
+use Rattle.vdr_directory.specs.Sequence.{Placed}
+use Rattle.vdr_directory.specs.Lookup.{HoldAll}
+use Rattle.vdr_directory.specs.Opening.{Refuses}
 use Rattle.vdr_incident.specs.Tables.{HoldsTable, place_of}
 use Rattle.vdr_incident.specs.Tables as incidents
 use Rattle.vdr_opening.specs.Media.{both, HasFront, IsMedium, Contents, HoldsContents, reading_of}

@@ -5,8 +5,9 @@ ghost use Rattle.vdr_terms.specs.Sizes.{batch_size};
 ghost use Rattle.vdr_durability.specs.Readings.{EndsMeet, EndsOff, Reading, comes_next};
 ghost use Rattle.vdr_outside.specs.Disk.{Unchanged};
 ghost use Rattle.vdr_outside.specs.declared.fault.PartRefused.TheVariants.{Damaged};
-ghost use Rattle.vdr_ring.specs.Rings.{HasMedium, Reads, Tells};
-ghost use Rattle.vdr_ring.specs.Sequence.{Placed, all_records, batches_in};
+ghost use Rattle.vdr_directory.specs.Holds.{Tells};
+ghost use Rattle.vdr_ring.specs.Rings.{HasMedium, Reads};
+ghost use Rattle.vdr_directory.specs.Sequence.{Placed, all_records, batches_in};
 ghost use Rattle.vdr_opening.specs.Media.{both};
 ghost use Rattle.vdr_opening.specs.Answers.{IsMissing};
 ghost use Rattle.vdr_opening.specs.Parts.{HasPartCause};
@@ -20,7 +21,7 @@ use vdr_ring::Ring;
 // Whether a batch may come next on the ring's medium: it begins at the place after the last record, at place 0 where there is none, and
 // no earlier than that record.
 fn follows(batch: &[Record], ring: &Ring) -> bool
-    ensures { (placed : List Placed) → Tells ring.now.slots placed ring.now.table → result ≡ comes_next (last (all_records placed)) batch.now }
+    ensures { (placed : List Placed) → Tells ring.now.slots placed ring.now.directory → result ≡ comes_next (last (all_records placed)) batch.now }
 {
     let Some(first) = batch.first() else {
         return false;

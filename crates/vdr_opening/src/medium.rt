@@ -3,8 +3,8 @@ ghost use Rattle.std.specs.Prelude.{◌≡◌, ◌≤◌, ℕ, List, length, Ok,
 ghost use Rattle.vdr_outside.specs.Disk.{Durable, Unchanged, content};
 ghost use Rattle.vdr_outside.specs.declared.fault.PartRefused.TheVariants.{Damaged};
 ghost use Rattle.vdr_config.specs.Grammar.{configuration};
-ghost use Rattle.vdr_ring.specs.Opening.{HasFaultCause};
-ghost use Rattle.vdr_ring.specs.Sequence.{Placed};
+ghost use Rattle.vdr_directory.specs.Opening.{HasFaultCause};
+ghost use Rattle.vdr_directory.specs.Sequence.{Placed};
 ghost use Rattle.vdr_opening.specs.Refusals.{RefusesMedium};
 ghost use Rattle.vdr_opening.specs.Answers.{IsRingOf};
 ghost use Rattle.vdr_opening.specs.Parts.{ReadsMedium};

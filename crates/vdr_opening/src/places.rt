@@ -3,10 +3,10 @@ ghost use Rattle.std.specs.Prelude.{◌≡◌, ◌⊎◌, ◌↔◌, ℕ, suc, L
 ghost use Rattle.vdr_history.specs.Histories.{live};
 ghost use Rattle.vdr_outside.specs.Disk.{Unchanged, content};
 ghost use Rattle.vdr_outside.specs.declared.fault.PartRefused.TheVariants.{Damaged};
-ghost use Rattle.vdr_ring.specs.Opening.{HasFaultCause};
-ghost use Rattle.vdr_ring.specs.Order.{AreInOrder};
-ghost use Rattle.vdr_ring.specs.Rings.{Tells};
-ghost use Rattle.vdr_ring.specs.Sequence.{Placed};
+ghost use Rattle.vdr_directory.specs.Opening.{HasFaultCause};
+ghost use Rattle.vdr_directory.specs.Order.{AreInOrder};
+ghost use Rattle.vdr_directory.specs.Holds.{Tells};
+ghost use Rattle.vdr_directory.specs.Sequence.{Placed};
 ghost use Rattle.vdr_incident.specs.Tables.{HasIncidents, HoldsTable, Refuses, place_of};
 ghost use Rattle.vdr_opening.specs.Media.{AreThere};
 ghost use Rattle.vdr_opening.specs.Parts.{IsThere, LacksPlaces, LacksPlacesAt};
@@ -19,7 +19,7 @@ use vdr_terms::{INCIDENT_SIZE, INCIDENTS_FROM};
 
 // Whether an incident slot is free, or all places of its incident stand in segments of the ring.
 fn is_there(table: &Table, slot: u8, long_term: &Ring) -> bool
-    ensures { (placed : List Placed) → Tells long_term.now.slots placed long_term.now.table → AreInOrder placed
+    ensures { (placed : List Placed) → Tells long_term.now.slots placed long_term.now.directory → AreInOrder placed
         → IsTrue result ↔ IsThere placed (live table.now (suc slot)) }
 {
     match table.live(slot as u32 + 1) {
@@ -31,8 +31,8 @@ fn is_there(table: &Table, slot: u8, long_term: &Ring) -> bool
 // The first of so many incident slots whose places are not all there.
 fn first_without_places(table: &Table, slots: u8, long_term: &Ring) -> Option<u8>
     requires { length table.now ≡ slots }
-    ensures none { IfNone result ((placed : List Placed) → Tells long_term.now.slots placed long_term.now.table → AreInOrder placed → AreThere table.now placed) }
-    ensures some { IfSome result (λ slot. (placed : List Placed) → Tells long_term.now.slots placed long_term.now.table → AreInOrder placed
+    ensures none { IfNone result ((placed : List Placed) → Tells long_term.now.slots placed long_term.now.directory → AreInOrder placed → AreThere table.now placed) }
+    ensures some { IfSome result (λ slot. (placed : List Placed) → Tells long_term.now.slots placed long_term.now.directory → AreInOrder placed
         → LacksPlaces table.now placed slot) }
 {
     for slot in 0..slots {
@@ -53,10 +53,10 @@ pub(crate) fn read_incidents<M: Media>(
     requires { HasIncidents (M.disk media.old).sizes }
     ensures table { IfOk result (λ table. M.tells → HoldsTable config.now.incident_slots table (content (M.disk media.old).reads 1)) }
     ensures size { IfOk result (λ table. length table ≡ config.now.incident_slots) }
-    ensures there { IfOk result (λ table. (placed : List Placed) → Tells long_term.now.slots placed long_term.now.table → AreInOrder placed → AreThere table placed) }
+    ensures there { IfOk result (λ table. (placed : List Placed) → Tells long_term.now.slots placed long_term.now.directory → AreInOrder placed → AreThere table placed) }
     ensures damaged { (k offset : ℕ) → result ≡ Err (Damaged k offset) → (k ≡ 1)
         × (M.tells → Refuses config.now.incident_slots (content (M.disk media.old).reads 1) offset
-        ⊎ ((placed : List Placed) → Tells long_term.now.slots placed long_term.now.table → AreInOrder placed
+        ⊎ ((placed : List Placed) → Tells long_term.now.slots placed long_term.now.directory → AreInOrder placed
         → LacksPlacesAt config.now.incident_slots placed (content (M.disk media.old).reads 1) offset)) }
     ensures unchanged { Unchanged (M.disk media.old) (M.disk media.new) }
     ensures cause { HasFaultCause 1 (M.faults media.old) (M.faults media.new) result }

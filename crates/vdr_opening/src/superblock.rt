@@ -2,7 +2,7 @@
 ghost use Rattle.std.specs.Prelude.{◌≡◌, ◌<◌, ◌≤◌, ℕ, length, get_or, drop, Err, IfOk, IfSome, IfNone};
 ghost use Rattle.vdr_outside.specs.Disk.{Unchanged, content};
 ghost use Rattle.vdr_outside.specs.declared.fault.PartRefused.TheVariants.{Damaged};
-ghost use Rattle.vdr_ring.specs.Opening.{HasFaultCause};
+ghost use Rattle.vdr_directory.specs.Opening.{HasFaultCause};
 ghost use Rattle.vdr_media.specs.Medium.{IsSuperblock};
 ghost use Rattle.vdr_opening.specs.Refusals.{RefusesSuperblock};
 ghost use Rattle.vdr_opening.specs.Parts.{SaysSegment};

@@ -8,7 +8,7 @@ ghost use Rattle.vdr_outside.specs.declared.fault.PartRefused.TheVariants.{Damag
 ghost use Rattle.vdr_config.specs.Configuration.{Configuration};
 ghost use Rattle.vdr_config.specs.Grammar.{configuration};
 ghost use Rattle.vdr_config.specs.Sizes.{sizes_of};
-ghost use Rattle.vdr_ring.specs.Opening.{HasFaultCause};
+ghost use Rattle.vdr_directory.specs.Opening.{HasFaultCause};
 ghost use Rattle.vdr_media.specs.Layout.{text_from};
 ghost use Rattle.vdr_media.specs.Medium.{HoldsText, IsSuperblock};
 ghost use Rattle.vdr_opening.specs.Media.{HasFront};
@@ -17,13 +17,13 @@ ghost use Rattle.vdr_opening.specs.Parts.{HasRoomBefore};
 
 use std::alloc::Global;
 use vdr_bytes::u32_at;
-use vdr_config::{Config, ConfigBad, needs, read_config};
+use vdr_config::{Config, ConfigBad, LONGEST_TEXT, needs, read_config};
 use vdr_media::TEXT_FROM;
 use vdr_outside::{Media, PartRefused};
 use vdr_terms::slot_count;
 
 // The longest text, in bytes: behind its length it ends where the next part begins.
-const LONGEST: u32 = 16_380;
+const LONGEST: u32 = LONGEST_TEXT as u32;
 
 /// The configuration that a medium holds, and its text.
 #[derive(Drop)]

@@ -10,6 +10,9 @@ ghost use Rattle.vdr_outside.specs.declared.link.Heard.TheVariants.{Failed as He
 use crate::Failed;
 use arrayvec::ArrayVec;
 
+/// The most bytes that a line may have.
+pub const LONGEST_LINE: usize = 256;
+
 /// What a call for a line answers.
 #[derive(Clone, Copy, Debug, PartialEq, Eq, Drop)]
 pub enum Heard {
@@ -40,7 +43,7 @@ pub trait Link {
     ghost faults: { Self → ℕ };
 
     /// Empties the buffer and gives the next line, without its LF and without a CR before it.
-    fn line(&mut self, into: &mut ArrayVec<u8, 256>) -> Heard
+    fn line(&mut self, into: &mut ArrayVec<u8, LONGEST_LINE>) -> Heard
         ensures heard { Hears (left self.old) (left self.new) result into.new.items }
         ensures replied { Keeps (replied self.old) (replied self.new) }
         ensures asked { asked self.new ≡ asked_again (asked self.old) (heard_answer result) }

@@ -6,6 +6,9 @@ ghost use Rattle.vdr_outside.specs.declared.port.Taken.TheVariants.{Failed};
 
 use arrayvec::ArrayVec;
 
+/// The most bytes that a take gives: one more than the 1,472 that a datagram may have, which shows that it is too long.
+pub const LONGEST_TAKEN: usize = 1473;
+
 /// What a take answers.
 #[derive(Clone, Copy, Debug, PartialEq, Eq, Drop)]
 pub enum Taken {
@@ -33,7 +36,7 @@ pub trait Port {
 
     /// Empties the buffer and gives the next datagram. Of one that is longer than 1,472 bytes, the most that a datagram may
     /// have, it gives the first 1,473, which shows that it is.
-    fn take(&mut self, into: &mut ArrayVec<u8, 1473>) -> Taken
+    fn take(&mut self, into: &mut ArrayVec<u8, LONGEST_TAKEN>) -> Taken
         ensures took { Takes (standing self.old) (standing self.new) result into.new.items }
         ensures asked { asked self.new ≡ asked_again (asked self.old) (answer_of result) }
         ensures later { faults self.old ≤ faults self.new }

@@ -1,12 +1,10 @@
 -- What follows a recorder's records follows the last of them.
 use Rattle.std.proofs.Common.{ℕ, suc, List, [], ◌∷◌, ◌++◌, Option, Some, None, ◌≡◌, sym, ap, subst, arith, append-nil}
 use Rattle.vdr_terms.specs.Records.{Record, last, last_after}
-use Rattle.vdr_terms.specs.Channels.{Channels}
 use Rattle.vdr_terms.specs.Order.{NeverFalls, RunOn}
-use Rattle.vdr_history.specs.Runs.{RunStart, Stamp}
+use Rattle.vdr_history.specs.Runs.{RunStart, Stamp, last_tick}
 use Rattle.vdr_history.specs.Histories.{Continues, stamp_of}
 use Rattle.vdr_history.proofs.Growing.{continues_run}
-use Rattle.vdr_core.specs.Ended.{last_tick}
 use Rattle.vdr_core.proofs.Ticking.{lower}
 use Rattle.vdr_retention.specs.Regular.{FollowOn}
 use Rattle.vdr_retention.proofs.Lists.{last_behind}

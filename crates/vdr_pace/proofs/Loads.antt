@@ -1,14 +1,13 @@
 -- The records of a run are charged no more in a second than the rates of its groups allow.
 use Rattle.std.proofs.Common.{ℕ, zero, suc, ◌+◌, ◌*◌, ◌<◌, ◌≤◌, ℤ, List, [], ◌∷◌, ◌++◌, length, map, filter, sum, sum_by, Bool, true, false, true≢false, ◌&&◌, ◌==◌, nat_lt, nat_le, if◌then◌else◌, ◌≡◌, ◌⊎◌, inl, inr, ⊎_elim, refl, sym, ap, ◌∙◌, subst, arith, append-nil, length-append}
 use Rattle.std.specs.Prelude.{⊤}
-use Rattle.std.proofs.lemmas.List.{map-append}
-use Rattle.std.proofs.lemmas.List.Elements.{filter-append}
 use Rattle.std.proofs.lemmas.List.Sums.{sum_by-append}
 use Rattle.std.proofs.lemmas.Bool.{cases_eq, cases_Bool, and_parts, cond-true, cond-false, eq-eqb, eqb-true, ne_eqb, ltb-true, leb-true}
 use Rattle.vdr_terms.specs.declared.counts.Counts.{Counts}
-use Rattle.vdr_terms.specs.Records.{Record, total, second, payload_of, is_datagram, datagrams_of}
+use Rattle.vdr_terms.specs.Records.{Record, total, second, payload_of, is_datagram}
 use Rattle.vdr_terms.specs.Rates.{Limit, is_configured, lengths_in, has_room}
 use Rattle.vdr_terms.specs.Rates.Limit.{NotConfigured, Unlimited, AtMost}
+use Rattle.vdr_terms.proofs.Lengths.{lengths_in-append}
 use Rattle.vdr_terms.specs.Counting.{Pending, with_missed}
 use Rattle.vdr_history.specs.Runs.{RunStart, base_of}
 use Rattle.vdr_history.specs.Taken.{Captured}
@@ -39,15 +38,9 @@ over_bump (suc n) f g k x l h e =
     below : (k ≡ n → ⊥) → k < suc n → k < n
     below ne l = omega (arith, ne, l)
 
-lengths_append : (g s : ℕ) (xs ys : List Record) → lengths_in g s (xs ++ ys) ≡ lengths_in g s xs ++ lengths_in g s ys
-lengths_append g s xs ys =
-    ap (λ (rs : List Record). map (λ r. length (payload_of r.content)) (filter (λ r. second r.tick == s) rs)) (filter-append (λ r. is_datagram r.content && r.group == g) xs ys)
-    ∙ (ap (λ (rs : List Record). map (λ r. length (payload_of r.content)) rs) (filter-append (λ r. second r.tick == s) (datagrams_of g xs) (datagrams_of g ys))
-    ∙ map-append (λ r. length (payload_of r.content)) (filter (λ r. second r.tick == s) (datagrams_of g xs)) (filter (λ r. second r.tick == s) (datagrams_of g ys)))
-
 load_append : (g s : ℕ) (xs ys : List Record) → load g s (xs ++ ys) ≡ load g s xs + load g s ys
 load_append g s xs ys =
-    let e = lengths_append g s xs ys in
+    let e = lengths_in-append g s xs ys in
     let a = ap length e ∙ length-append (lengths_in g s xs) (lengths_in g s ys) in
     let b = ap sum e ∙ sum_by-append (λ x. x) (lengths_in g s xs) (lengths_in g s ys) in
     omega (arith, a, b)
@@ -143,9 +136,9 @@ module _ (start : RunStart) (n : ℕ) (below : (g : ℕ) → is_configured (star
 
   more_lengths : (g s : ℕ) → lengths_in g s (r.made ++ (gap ++ datagram ∷ [])) ≡ lengths_in g s r.made ++ lengths_in g s (datagram ∷ [])
   more_lengths g s =
-      lengths_append g s r.made (gap ++ datagram ∷ [])
+      lengths_in-append g s r.made (gap ++ datagram ∷ [])
       ∙ ap (λ (xs : List ℕ). lengths_in g s r.made ++ xs)
-      (lengths_append g s gap (datagram ∷ [])
+      (lengths_in-append g s gap (datagram ∷ [])
       ∙ ap (λ (xs : List ℕ). xs ++ lengths_in g s (datagram ∷ [])) (gap_lengths start c.group g s (next_in start r.made) p.first tick c.utc p.missed (total p.missed)))
 
   took_within : AreWithin start r.made → AreWithin start (took start r c).made

@@ -11,12 +11,11 @@ use Rattle.vdr_terms.specs.Sizes.{records_size}
 use Rattle.vdr_terms.specs.Order.{AreInOrder, NeverFalls}
 use Rattle.vdr_terms.specs.Needs.{Sizes, cost}
 use Rattle.vdr_terms.specs.Rates.{Limit}
-use Rattle.vdr_history.specs.Runs.{RunStart, Stamp}
+use Rattle.vdr_history.specs.Runs.{RunStart, Stamp, last_tick}
 use Rattle.vdr_history.specs.Taken.{Captured}
 use Rattle.vdr_history.specs.Histories.{Act, Continues, records_of_act, stamp_of}
 use Rattle.vdr_history.specs.Histories.Act.{Commit, Save, Release, Look}
 use Rattle.vdr_history.specs.RunStates.{RunState, after_act, between_runs, state_along, BeginsWith, IsMadeIn, AreMadeFrom}
-use Rattle.vdr_core.specs.Ended.{last_tick}
 use Rattle.vdr_core.proofs.MadeHistory.{made_runs_on}
 use Rattle.vdr_retention.specs.Layout.{Batches, batch_size_at, records_in, segment_records, batches_in}
 use Rattle.vdr_retention.specs.Regular.{FollowOn, IsPaced}

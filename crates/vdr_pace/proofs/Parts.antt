@@ -4,11 +4,10 @@ use mathlib.Core.List.Sublistᴰ
 use mathlib.Core.Logic.{∥∥₁_elim}
 use Rattle.std.proofs.Math.Bridge.{le_prop}
 use Rattle.std.proofs.Common.{ℕ, ◌<◌, ◌≤◌, List, [], ◌∷◌, ◌++◌, length, sum_by, ◌≡◌, ⊎_elim, refl, sym, ap, ◌∙◌, arith}
-use Rattle.std.proofs.lemmas.Grind.{flat_map-append}
 use Rattle.std.proofs.lemmas.List.Sums.{sum_by-cons, sum_by-append}
 use Rattle.vdr_terms.specs.Records.{Record, last}
-use Rattle.vdr_retention.specs.Layout.{Batches, batch_size_at, batches_size_at, records_in, segment_records, batches_in}
-use Rattle.vdr_retention.proofs.Lists.{last_behind, records_of_batches}
+use Rattle.vdr_retention.specs.Layout.{Batches, batch_size_at, batches_size_at, batches_in}
+use Rattle.vdr_retention.proofs.Lists.{last_behind}
 
 part_of : {X : Type 0} (f : X → ℕ) (xs ys : List X) → Sublistᴰ xs ys → sum_by f xs ≤ sum_by f ys
 part_of f xs [] d = let a = ap (sum_by f) (Sublistᴰ.eq-nil d) in omega (arith, a)

@@ -9,7 +9,7 @@ use Rattle.vdr_terms.specs.Records.{Record, total, second, last, last_after}
 use Rattle.vdr_terms.specs.Order.{NeverFalls}
 use Rattle.vdr_terms.specs.Needs.{Sizes, cost}
 use Rattle.vdr_terms.specs.Rates.{Limit, is_configured}
-use Rattle.vdr_history.specs.Runs.{RunStart, Stamp, base_after, base_of}
+use Rattle.vdr_history.specs.Runs.{RunStart, Stamp, base_after, base_of, last_tick}
 use Rattle.vdr_history.specs.Taken.{Captured}
 use Rattle.vdr_history.specs.Histories.{Act, records_of_act, stamp_of}
 use Rattle.vdr_history.specs.Histories.Act.{Commit, Save, Release, Look}
@@ -17,7 +17,6 @@ use Rattle.vdr_history.specs.Recorder.{begun, tick_of, recorder_after, gaps_belo
 use Rattle.vdr_history.specs.RunStates.{RunState, begin_run, end_run, next_start, after_commit, recorder_in, BeginsWith}
 use Rattle.vdr_history.specs.Shapes.{AreInside}
 use Rattle.vdr_core.specs.Commits.{ComeNext}
-use Rattle.vdr_core.specs.Ended.{last_tick}
 use Rattle.vdr_core.proofs.Commits.{further_items, closes}
 use Rattle.vdr_core.proofs.RecorderHistory.{inside_begins_none, ends_with}
 use Rattle.vdr_core.proofs.Ticking.{closing_ticks}

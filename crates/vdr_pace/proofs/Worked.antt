@@ -1,9 +1,8 @@
 -- Worked examples: a run at two datagrams a second, its batches, and what they take of each second.
 use mathlib.Core.List.Sublist
 use Rattle.std.specs.Prelude.{slice_index_or}
-use Rattle.std.proofs.Common.{◌≡◌, ◌/◌, ℕ, suc, List, [], ◌∷◌, map, length, sum_by, All, Option, Some, None, inl, inr, refl, ap, arith}
+use Rattle.std.proofs.Common.{◌≡◌, ◌/◌, ℕ, suc, List, [], ◌∷◌, map, sum_by, All, Option, Some, None, inl, inr, refl, ap, arith}
 use Rattle.std.proofs.lemmas.List.Elements.{All-cons, All-nil}
-use Rattle.vdr_terms.specs.declared.counts.Counts.{Counts}
 use Rattle.vdr_terms.specs.declared.rate.Rate.{Rate}
 use Rattle.vdr_terms.specs.Records.{Record}
 use Rattle.vdr_terms.specs.Needs.{Sizes, cost}
@@ -14,6 +13,7 @@ use Rattle.vdr_history.specs.Taken.{Captured}
 use Rattle.vdr_history.specs.Histories.{Act, records_of_act}
 use Rattle.vdr_history.specs.Histories.Act.{Commit, Save}
 use Rattle.vdr_history.proofs.Rows.{small, start, data_at, gap_at}
+use Rattle.vdr_history.proofs.StateChecks.{one_refused}
 use Rattle.vdr_history.proofs.RunChecks.{popped_at}
 use Rattle.vdr_retention.specs.Layout.{Batches, batch_size_at}
 use Rattle.vdr_pace.specs.Commits.{IsFit, TakesItems, AreDoneFrom, items_size, largest_item}
@@ -35,9 +35,6 @@ a_second = refl
 -- A batch of so many bytes has room for five items of any length, and for a close.
 five_items : 8192 / largest_item ≡ 5
 five_items = refl
-
-abbrev one_refused : Counts
-one_refused = record { full = 0; rate = 1; bad = 0; large = 0 }
 
 -- Start; two items; a save; a third item, which the rate refuses; a fourth in the next second, with the Gap before it; the close.
 abbrev open_acts : List Act

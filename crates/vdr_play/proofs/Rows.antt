@@ -1,8 +1,8 @@
 -- Worked examples, computed.
-use Rattle.std.proofs.Common.{◌≡◌, refl, List, ℕ, pos, [], ◌∷◌, ◌++◌}
+use Rattle.std.proofs.Common.{◌≡◌, refl, List, ℕ, [], ◌∷◌, ◌++◌}
 use Rattle.std.specs.Prelude.{codes}
 use Rattle.std.specs.Fmt.{digits}
-use Rattle.vdr_terms.specs.Records.{Record, Content}
+use Rattle.vdr_terms.specs.Records.{Content}
 use Rattle.vdr_terms.specs.Records.Content.{Start, Datagram, Gap, Stop}
 use Rattle.vdr_sentence.specs.Refusals.{body, body_refusal, frame_refusal, reading as sentence_reading}
 use Rattle.vdr_tag.specs.Items.{items_refusal}
@@ -10,6 +10,7 @@ use Rattle.vdr_tag.specs.Blocks.{block_refusal, block_values}
 use Rattle.vdr_tag.specs.Fronts.{reading as tag_reading}
 use Rattle.vdr_datagram.specs.Lines.{cut}
 use Rattle.vdr_entry.specs.Lines.{record_line}
+use Rattle.vdr_entry.proofs.Rows.{navd}
 use Rattle.vdr_entry.specs.Utc.{utc_text, date_text, time_text, year_after, month_after}
 use Rattle.vdr_values.specs.Readings.{reading}
 use Rattle.vdr_values.specs.Texts.{reading_text, millionths_text, fraction_text}
@@ -47,10 +48,6 @@ other_contents :
     × (content_text nothing_seen Stop ≡ [])
 unfolding cut image_in header_at
 other_contents = (refl, refl, refl, refl, refl, refl)
-
--- A record of group 3, whose tick and channel bits are in no line.
-abbrev navd : Content → (place number utc : ℕ) → Record
-navd content place number utc = record { content = content; group = 3; bits = 1; place = place; number = number; tick = 1000; utc = pos utc }
 
 record_of_sentence : record_text nothing_seen (navd (sentences (codes "\\s:GP0001,n:7*10\\$GPHDT,123.456,T*32\r\n")) 1 0 1_704_067_200_000)
     ≡ codes "1 NAVD 0 2024-01-01T00:00:00.000Z data 44 UdPbC<00>\\s:GP0001,n:7*10\\$GPHDT,123.456,T*32<0d><0a>\n  good GP0001 7 GPHDT heading 123.456\n"

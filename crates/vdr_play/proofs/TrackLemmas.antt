@@ -1,5 +1,5 @@
 -- What stands under a datagram of an image or of sound, and what was seen after it.
-use Rattle.std.proofs.Common.{◌≡◌, ℕ, List, Option, Some, sym, ap, ◌∙◌}
+use Rattle.std.proofs.Common.{◌≡◌, ℕ, List, Option, Some, ap, ◌∙◌}
 use Rattle.std.specs.Prelude.{option_map}
 use Rattle.vdr_datagram.specs.Tokens.{token}
 use Rattle.vdr_datagram.specs.declared.tokens.Token.{Token}

@@ -1,5 +1,5 @@
 -- What a record is printed as: its line, and under a datagram's what the datagram holds (this project's profile).
-use Rattle.std.specs.Prelude.{ℕ, List, [], ◌∷◌, ◌++◌, codes}
+use Rattle.std.specs.Prelude.{ℕ, List, [], ◌∷◌, ◌++◌}
 use Rattle.std.specs.List.{flat_map}
 use Rattle.vdr_terms.specs.Records.{Record, Content}
 use Rattle.vdr_terms.specs.Records.Content.{Start, Datagram, Gap, Stop}

@@ -1,9 +1,10 @@
 -- The act of an order may come.
 use Rattle.std.proofs.Common.{ℕ, ◌<◌, List, [], ◌∷◌, ◌++◌, Bool, true, false, Contains, slice_get, option_map, Option, Some, None, ◌≡◌, refl, sym, ◌∙◌, arith}
+use Rattle.std.proofs.lemmas.Option.{none-some}
 use Rattle.vdr_terms.specs.Records.{Record, last, last_after}
 use Rattle.vdr_terms.specs.Windows.{HasWindowPlaces, window}
 use Rattle.vdr_history.specs.Runs.{Stamp}
-use Rattle.vdr_history.specs.Histories.{Act, Event, Opening, MayCome, all_records, incidents, last_stamp, live, recorded, records_of_act, stamp_of}
+use Rattle.vdr_history.specs.Histories.{Event, Opening, MayCome, all_records, incidents, last_stamp, live, recorded, records_of_act, stamp_of}
 use Rattle.vdr_history.specs.Histories as histories
 use Rattle.vdr_retention.proofs.Lists.{last_contained, none_contained}
 use Rattle.vdr_retention.proofs.Retained.{in_the_window}
@@ -11,9 +12,6 @@ use Rattle.vdr_terms.specs.Texts.{is_label}
 use Rattle.vdr_playback.specs.Replies.{LongTermHasTheLast, Order, Reply, act_of, free_id, place_or_0, release_reply, reply, save_reply}
 use Rattle.vdr_playback.specs.Replies.Order.{Status, Save, Release, Play}
 use Rattle.vdr_playback.specs.Replies.Reply.{State, Saved, Released, Played, NoLabel, NothingToSave, TableFull, NoChannel, NoMedium, NoIncident, Failed}
-
-no_stamp : {X : Type 0} (x : X) → None ≡ Some x → ⊥
-no_stamp x e = cc
 
 -- a window of records has a first one
 window_places : (seconds : ℕ) → 0 < seconds → (rs : List Record) → (last rs ≡ None → ⊥)
@@ -35,9 +33,9 @@ module _ (opening : Opening) (events : List Event) (some : 0 < opening.settings.
   has_records stamp e = go (opening.records 1) (recorded events) ends e
     where
       go : (there more : List Record) → opening.last ≡ stamp_of (last there) None → stamp_of (last more) opening.last ≡ Some stamp → last (there ++ more) ≡ None → ⊥
-      go [] [] o e n = no_stamp stamp (sym o ∙ e)
-      go [] (x ∷ xs) o e n = no_stamp (last_after x xs) (sym n)
-      go (x ∷ xs) more o e n = no_stamp (last_after x (xs ++ more)) (sym n)
+      go [] [] o e n = none-some stamp (sym o ∙ e)
+      go [] (x ∷ xs) o e n = none-some (last_after x xs) (sym n)
+      go (x ∷ xs) more o e n = none-some (last_after x (xs ++ more)) (sym n)
 
   pub may_come : (media : List ℕ) (order : Order) → MayCome opening events (act_of opening events order (reply media opening events order))
   may_come media Status = tt

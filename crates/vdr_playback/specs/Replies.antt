@@ -1,13 +1,13 @@
 -- What the orders of control lines are answered, and the events that they are (this project's profile). How an answer is
 -- spelled, and what a link is sent where the media fail in the middle of it, is the grammar's of control lines.
-use Rattle.std.specs.Prelude.{ℕ, suc, ◌≡◌, Bool, true, false, List, length, count_by, is_some, is_none, position, slice_get, option_map, ◌==◌, Option, Some, None}
+use Rattle.std.specs.Prelude.{ℕ, suc, ◌≡◌, Bool, true, false, List, count_by, is_some, is_none, position, slice_get, option_map, ◌==◌, Option, Some, None}
 use Rattle.std.specs.List.{list_any}
 use Rattle.vdr_terms.specs.Texts.{is_label}
 use Rattle.vdr_terms.specs.Records.{Record, last}
 use Rattle.vdr_terms.specs.Windows.{window}
 use Rattle.vdr_terms.specs.Queries.{Medium, Query}
 use Rattle.vdr_terms.specs.Queries.Medium.{WindowOf, Incident}
-use Rattle.vdr_history.specs.Runs.{Stamp}
+use Rattle.vdr_history.specs.Runs.{Stamp, last_tick}
 use Rattle.vdr_history.specs.Histories.{Act, Event, Opening, all_records, incidents, last_stamp, live, next_place, stamp_of}
 use Rattle.vdr_history.specs.Histories as histories
 use Rattle.vdr_playback.specs.Playback.{selected}
@@ -35,10 +35,6 @@ pub data Reply : Type 0 where
 -- The id of the next save, None where each slot is live.
 abbrev pub free_id : Opening → List Event → Option ℕ
 free_id opening events = option_map suc (position is_none (incidents opening events))
-
-abbrev pub tick_or_0 : Option Stamp → ℕ
-tick_or_0 None = 0
-tick_or_0 (Some stamp) = stamp.tick
 
 -- By its cases in order: no legal label, nothing recorded, no free slot.
 abbrev pub save_reply : Bool → Option Stamp → Option ℕ → Reply
@@ -68,7 +64,7 @@ refusal_of (Incident id) = NoIncident
 
 -- The answer to an order after these events, where the recorder has these media.
 abbrev pub reply : List ℕ → Opening → List Event → Order → Reply
-reply media opening events Status = State (next_place opening events) (tick_or_0 (last_stamp opening events)) (count_by is_some (incidents opening events))
+reply media opening events Status = State (next_place opening events) (last_tick (last_stamp opening events)) (count_by is_some (incidents opening events))
 reply media opening events (Save label) = save_reply (is_label label) (last_stamp opening events) (free_id opening events)
 reply media opening events (Release id) = release_reply (live (incidents opening events) id)
 reply media opening events (Play named query) =

@@ -3,7 +3,6 @@ use Rattle.std.proofs.Common.{◌≡◌, inl, inr, ⊎_elim, ℕ, List, Option, 
 use Rattle.vdr_history.specs.Histories as histories
 use Rattle.vdr_config.specs.Configuration.{Configuration}
 use Rattle.vdr_opening.specs.Media.{Contents, HoldsContents}
-use Rattle.vdr_export.specs.declared.file.File.{File}
 use Rattle.vdr_export.specs.declared.refused.ExportRefused.{ExportRefused}
 use Rattle.vdr_export.specs.declared.refused.ExportRefused.TheVariants as exports
 use Rattle.vdr_command.specs.Opened.{OneAnswer}
@@ -12,7 +11,7 @@ use Rattle.vdr_command.specs.declared.status.Status.{Status}
 use Rattle.vdr_command.specs.declared.status.Status.TheVariants.{Done, Words, Config, Small, Unformatted, Formatted, Damaged, MediaFault, PortFault, LinkFault, InputFault, OutputFault, NoMemory, Feed, NoChannel, NoIncident, SaveRefused, Place, Tick, ExportKind, ExportNothing, ExportMixed, ExportLong, ExportPart}
 use Rattle.vdr_command.proofs.OpenedCompleteness.{damaged_refused, legible_refused, memory_refused, unformatted_refused}
 use Rattle.vdr_readout.specs.Exports.{ExportEnds, ExportsAll, IfRefusal, IsJudged, file_in, made_of, status_of_export}
-use Rattle.vdr_readout.specs.Reads.{AskedPlay, CanPlay, LacksChannel, LacksIncident}
+use Rattle.vdr_readout.specs.Reads.{AskedPlay, LacksChannel, LacksIncident}
 use Rattle.vdr_readout.specs.declared.exporting.Wish.{Wish}
 use Rattle.vdr_readout.proofs.PlayCompleteness.{not_live, one_id}
 

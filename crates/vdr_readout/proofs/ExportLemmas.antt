@@ -4,14 +4,14 @@ use Rattle.std.specs.Bool.{⊤}
 use Rattle.std.specs.Prelude.{IfErr, bytes_eq}
 use Rattle.std.proofs.KnownBytes.{Appends-nil}
 use Rattle.vdr_terms.specs.Queries.{Query}
-use Rattle.vdr_history.specs.Histories.{Event, Opening, live}
+use Rattle.vdr_history.specs.Histories.{Event, Opening}
 use Rattle.vdr_history.specs.Histories as histories
 use Rattle.vdr_durability.specs.Readings.{AreLevel, EndsMeet}
 use Rattle.vdr_playback.specs.Playback.{selected}
 use Rattle.vdr_outside.specs.Causes.{NoneFalls}
 use Rattle.vdr_outside.specs.Disk.{SameBut}
 use Rattle.vdr_config.specs.Configuration.{Configuration}
-use Rattle.vdr_ring.specs.Sequence.{Placed}
+use Rattle.vdr_directory.specs.Sequence.{Placed}
 use Rattle.vdr_opening.specs.Media.{both, Contents, HoldsContents, opening_of, reading_of}
 use Rattle.vdr_opening.specs.declared.refused.OpenRefused.{OpenRefused}
 use Rattle.vdr_opening.specs.declared.refused.OpenRefused.TheVariants as openings
@@ -19,7 +19,7 @@ use Rattle.vdr_recorder.specs.Looks.{HasLooked}
 use Rattle.vdr_recorder.specs.Recordings.{HasRecorded, RecorderState}
 use Rattle.vdr_vault.proofs.Playing.{stands_to_read}
 use Rattle.vdr_vault.specs.Openings.{OpensAtEachMoment}
-use Rattle.vdr_vault.specs.Vaults.{AreRings, IsReadable, VaultState, ShowsHistory}
+use Rattle.vdr_vault.specs.Vaults.{IsReadable, VaultState, ShowsHistory}
 use Rattle.vdr_visit.specs.Refusals.{HasOutputCause, IsAccepted, lacks_channel, lacks_incident, unanswered}
 use Rattle.vdr_visit.specs.declared.refused.VisitRefused.{VisitRefused}
 use Rattle.vdr_visit.specs.declared.refused.VisitRefused.TheVariants as stops
@@ -27,17 +27,16 @@ use Rattle.vdr_export.specs.Answers.{FileEnds, IsFileRefusal, MayBeBegun, file_o
 use Rattle.vdr_export.specs.declared.file.File.{File}
 use Rattle.vdr_export.specs.declared.refused.ExportRefused.{ExportRefused}
 use Rattle.vdr_export.specs.declared.refused.ExportRefused.TheVariants as exports
-use Rattle.vdr_export.proofs.Refusing.{looked_as, looked_nothing}
-use Rattle.vdr_command.specs.Endings.{IsWorkDone}
+use Rattle.vdr_export.proofs.Refusing.{looked_as}
 use Rattle.vdr_command.specs.Opened.{AddsMissing, AreLooks, IfDamaged, IsLegibleWith, IsRefusedAt, MediaEnds, PrintsText, WasRecorded}
-use Rattle.vdr_command.specs.Outside.{MediaSeen, OutputFailed, OutputSeen, Outside, PrintsFront, Writes}
+use Rattle.vdr_command.specs.Outside.{MediaSeen, OutputSeen, Outside, PrintsFront, Writes}
 use Rattle.vdr_command.specs.StatusLine.{channel_line}
 use Rattle.vdr_command.specs.Statuses.{status_of_opening}
 use Rattle.vdr_command.specs.declared.status.Status.{Status}
 use Rattle.vdr_command.specs.declared.status.Status.TheVariants as ends
 use Rattle.vdr_command.proofs.OpenedLemmas.{OpenedOn, legible_so}
 use Rattle.vdr_readout.specs.Exports.{CanExport, ExportEnds, IfRefusal, IsJudged, IsExportStatus, WritesFile, file_in, kind_at, made_of, status_of_export, wished}
-use Rattle.vdr_readout.specs.Reads.{AskedPlay, CanBeRead, CanPlay, IfItself, IsOwnStatus, LacksChannel, LacksIncident, MetUnreadable, PlayEnds, all_records, channel_asked, channel_in, id_of, query_of, records_asked, status_by}
+use Rattle.vdr_readout.specs.Reads.{AskedPlay, CanBeRead, CanPlay, IfItself, IsOwnStatus, LacksChannel, LacksIncident, MetUnreadable, PlayEnds, all_records, channel_in, id_of, query_of, records_asked, status_by}
 use Rattle.vdr_readout.specs.declared.exporting.Wish.{Wish}
 use Rattle.vdr_readout.specs.declared.exporting.Wish.TheVariants.{Sound, Picture}
 use Rattle.vdr_readout.proofs.FileLemmas.{as_visit, damage_as, fault_as, may_write, not_asked, of_damage, output_as, own_status, undamaged, writes_so}
@@ -154,7 +153,7 @@ module _ {tells tells_images : Type 0} (wish : Wish) (asked : AskedPlay) (old ne
     to_read : (x : Contents) → tells → HoldsContents old.media.disk.reads x → CanBeRead x → (placed : ℕ → List Placed) × IsReadable (opening_of x) [] r.vault placed mid.disk
     to_read x t holds (inl sound) =
         let has = opened x t holds sound in
-        let work = has.3.works works in
+        let work = (has.3.works works).standing in
         (work.placed, stands_to_read (opening_of x) [] r.vault work.placed mid.disk work.stands)
     to_read x t holds (inr level) = (x.placed, readable x t holds level)
 

@@ -1,5 +1,6 @@
 pub mod ListLemmas
 pub mod PlayCompleteness
+pub mod OwnStatuses
 pub mod ReadLemmas
 pub mod Rows
 pub mod PlayLemmas

@@ -18,7 +18,7 @@ use Rattle.vdr_config.specs.Configuration.{Configuration}
 use Rattle.vdr_entry.specs.Queries.{asked_medium}
 use Rattle.vdr_entry.specs.declared.query.Medium.{Medium as Played}
 use Rattle.vdr_entry.specs.declared.query.Medium.TheVariants.{Capsule, LongTerm, Incident}
-use Rattle.vdr_ring.specs.Sequence.{Placed}
+use Rattle.vdr_directory.specs.Sequence.{Placed}
 use Rattle.vdr_opening.specs.Media.{both, Contents, HoldsContents, opening_of, reading_of}
 use Rattle.vdr_opening.specs.declared.refused.OpenRefused.{OpenRefused}
 use Rattle.vdr_opening.specs.declared.refused.OpenRefused.TheVariants as openings
@@ -29,23 +29,23 @@ use Rattle.vdr_vault.proofs.OpenMoments.{never_both}
 use Rattle.vdr_vault.proofs.Playing.{stands_to_read}
 use Rattle.vdr_vault.proofs.ShownHistory.{stands_silent, stands_still}
 use Rattle.vdr_vault.specs.Vaults.{IsReadable, VaultState, ShowsHistory, Stands}
-use Rattle.vdr_command.specs.Opened.{AddsMissing, AreLooks, IfDamaged, IfNoIncident, IsLegibleWith, KeepsContents, MediaEnds, WasRecorded}
-use Rattle.vdr_command.specs.Endings.{IsWorkDone}
+use Rattle.vdr_command.specs.Opened.{AddsMissing, AreLooks, IsLegibleWith, KeepsContents, MediaEnds, WasRecorded}
 use Rattle.vdr_command.specs.Statuses.{status_of_opening}
-use Rattle.vdr_command.specs.Outside.{MediaSeen, Outside, OutputFailed, OutputSeen, Prints, PrintsFront, Writes}
+use Rattle.vdr_command.specs.Outside.{MediaSeen, Outside, OutputFailed, OutputSeen, PrintsFront, Writes}
 use Rattle.vdr_command.specs.StatusLine.{channel_line}
 use Rattle.vdr_visit.proofs.Channels.{has_number, number_if, position_within}
-use Rattle.vdr_visit.specs.Prints.{text_of, whole_text}
+use Rattle.vdr_visit.specs.Prints.{whole_text}
 use Rattle.vdr_visit.specs.Refusals.{IsAccepted, lacks_channel, lacks_incident}
 use Rattle.vdr_visit.specs.Visits.{AreVisited, HasMade, HasVisited}
 use Rattle.vdr_visit.specs.declared.refused.VisitRefused.{VisitRefused}
 use Rattle.vdr_visit.specs.declared.refused.VisitRefused.TheVariants as stops
-use Rattle.vdr_readout.specs.Reads.{AreAsked, AreFirst, AskedPlay, CanBeRead, CanPlay, IfItself, IsCutOff, IsOwnStatus, LacksChannel, LacksIncident, MetUnreadable, PlayEnds, ReadsOut, ShowsReading, StoppedItself, channel_asked, channel_in, all_records, id_of, query_of, records_asked, status_by}
+use Rattle.vdr_readout.specs.Reads.{AskedPlay, CanBeRead, CanPlay, IfItself, IsOwnStatus, LacksChannel, LacksIncident, MetUnreadable, PlayEnds, ReadsOut, ShowsReading, StoppedItself, channel_asked, channel_in, all_records, id_of, query_of, records_asked, status_by}
 use Rattle.vdr_command.specs.declared.status.Status.{Status}
 use Rattle.vdr_command.specs.declared.status.Status.TheVariants.{Done, Words, Config, Small, Unformatted, Formatted, Damaged, MediaFault, PortFault, LinkFault, InputFault, OutputFault, NoMemory, Feed, NoChannel, NoIncident, SaveRefused, Place, Tick, ExportKind, ExportNothing, ExportMixed, ExportLong, ExportPart}
 use Rattle.vdr_headline.proofs.Playing.{config_read}
 use Rattle.vdr_headline.proofs.Resting.{stand_reads}
 use Rattle.vdr_command.proofs.OpenedLemmas.{OpenedOn, kept_by_call, kept_opened, legible_so, no_looks, one_look, worked_ends}
+use Rattle.vdr_readout.proofs.OwnStatuses.{own_status}
 
 none_of : {A : Type 0} (o : Option A) → is_none o ≡ true → o ≡ None
 none_of None e = refl
@@ -71,33 +71,6 @@ medium_is table (Incident id) e = refl
 pub asked_within : (c : Configuration) (name : List ℕ) → lacks_channel (length c.channels) (channel_asked c name) ≡ false
 asked_within c name = has_number (length c.channels) (channel_asked c name)
     (λ k is. position_within (λ channel. bytes_eq channel.name name) c.channels k (number_if (bytes_eq name all_records) (channel_in c name) k is))
-
--- A visitor's own status says nothing of the media.
-own_status : (status : Status) (P : ℕ → ℕ → Type 0) (Q : ℕ → Type 0) → IsOwnStatus status → IfDamaged status P × IfNoIncident status Q × (IsWorkDone status → ⊥)
-own_status Done P Q own = absurd own
-own_status Words P Q own = absurd own
-own_status (Config n) P Q own = (tt, tt, λ done. done)
-own_status (Small small) P Q own = (tt, tt, λ done. done)
-own_status Unformatted P Q own = absurd own
-own_status Formatted P Q own = (tt, tt, λ done. done)
-own_status (Damaged k at) P Q own = absurd own
-own_status MediaFault P Q own = absurd own
-own_status (PortFault group) P Q own = (tt, tt, λ done. done)
-own_status (LinkFault link) P Q own = (tt, tt, λ done. done)
-own_status InputFault P Q own = (tt, tt, λ done. done)
-own_status OutputFault P Q own = absurd own
-own_status NoMemory P Q own = (tt, tt, λ done. done)
-own_status (Feed n at) P Q own = (tt, tt, λ done. done)
-own_status NoChannel P Q own = absurd own
-own_status (NoIncident id) P Q own = absurd own
-own_status (SaveRefused cause) P Q own = (tt, tt, λ done. done)
-own_status Place P Q own = (tt, tt, λ done. done)
-own_status Tick P Q own = (tt, tt, λ done. done)
-own_status ExportKind P Q own = (tt, tt, λ done. done)
-own_status ExportNothing P Q own = (tt, tt, λ done. done)
-own_status (ExportMixed place) P Q own = (tt, tt, λ done. done)
-own_status ExportLong P Q own = (tt, tt, λ done. done)
-own_status (ExportPart number) P Q own = (tt, tt, λ done. done)
 
 module _ {tells tells_images : Type 0} where
   -- A play ends so where it is not of its own refusals.
@@ -230,7 +203,7 @@ module _ {tells tells_images R : Type 0} (asked : AskedPlay) (old mid new : Medi
   standing : (x : Contents) → tells → HoldsContents old.disk.reads x → WasRecorded x → (placed : ℕ → List Placed) × Stands (opening_of x) [] r.vault placed mid.disk
   standing x t holds regular =
       let has = opened x t holds regular in
-      let work = has.3.works works in
+      let work = (has.3.works works).standing in
       (work.placed, work.stands)
 
   -- What can be read can be read by the vault.

@@ -1,5 +1,5 @@
 -- What `sources` prints and answers (this project's profile; sources and line counts after the TAG blocks of IEC 61162-450).
-use Rattle.std.specs.Prelude.{◌≡◌, ◌∷◌, pos, List, [], codes, ⊤}
+use Rattle.std.specs.Prelude.{◌≡◌, ◌∷◌, pos, [], codes, ⊤}
 use Rattle.vdr_terms.specs.Stamps.{last_stamp}
 use Rattle.vdr_entry.specs.declared.query.Medium.{Medium}
 use Rattle.vdr_control.specs.Plays.{IsMedium, medium_word}

@@ -1,7 +1,7 @@
 -- What a maker has taken of a batch, item by item.
 use Rattle.std.proofs.Common.{◌≡◌, ◌≢◌, ◌≤◌, ◌<◌, ◌+◌, ◌*◌, ◌^◌, ℕ, List, [], ◌∷◌, ◌++◌, length, take, drop, sum_by, ◌==◌, get_or, refl, sym, ap, ◌∙◌, subst, arith, ⊎_elim, append_assoc, zero-add}
 use Rattle.std.proofs.lemmas.Bool.{cases_eq, eq-eqb, ne_eqb, cond-true, cond-false}
-use Rattle.std.proofs.lemmas.List.{take_more, take-append-drop}
+use Rattle.std.proofs.lemmas.List.{take_all, take_more, take-append-drop}
 use Rattle.std.proofs.lemmas.List.Sums.{sum_by-append}
 use Rattle.std.proofs.lemmas.List.Elements.{filter-append}
 use Rattle.vdr_terms.specs.Records.{Record, total}
@@ -13,18 +13,29 @@ use Rattle.vdr_history.specs.Recorder.{recorder_after}
 use Rattle.vdr_run.specs.declared.maker.Maker.{Maker}
 use Rattle.vdr_run.specs.Accounts.{Counted}
 use Rattle.vdr_run.specs.Making.{counted_of, Makes, IsMaking, TakesOne}
-use Rattle.vdr_recorder.specs.Making.{numbers_of}
+use Rattle.vdr_run.specs.Meters.{rates_of}
+use Rattle.vdr_recorder.specs.Making.{MakesBy, numbers_of}
 
 -- The maker has taken k of these items since it had made nothing of them.
 pub record HasTaken (config : Configuration) (k : ℕ) (items : List Captured) (before after : Maker) : Type 0 where
   pub making : (start : RunStart) (popped : List Captured) → Makes config start popped before
       → IsMaking config start (popped ++ take k items) (recorder_after start popped).made after
+  pub rates : rates_of after.meter ≡ rates_of before.meter
   pub place : after.place ≡ before.place + length after.records.items
   pub few : length after.records.items ≤ 2 * k
   pub numbers : (g : ℕ) → g < 16 → next_number (counted_of after g).pending ≡ next_number (counted_of before g).pending + numbers_of g (take k items)
   pub room : before.records.capacity ≤ after.records.capacity
 
-numbers_append : (g : ℕ) (xs ys : List Captured) → numbers_of g (xs ++ ys) ≡ numbers_of g xs + numbers_of g ys
+-- All of them were taken.
+pub makes_all : (config : Configuration) (k : ℕ) (items : List Captured) (before after : Maker) → length items ≤ k → HasTaken config k items before after → (start : RunStart) (popped : List Captured)
+    → MakesBy config start popped before → MakesBy config start (popped ++ items) after
+makes_all config k items before after all h start popped m = record {
+  makes = subst (λ (xs : List Captured). Makes config start (popped ++ xs) after) (take_all k items (omega (arith, all))) (h.making start popped m.makes).makes;
+  limits = m.limits;
+  rates = h.rates ∙ m.rates;
+}
+
+pub numbers_append : (g : ℕ) (xs ys : List Captured) → numbers_of g (xs ++ ys) ≡ numbers_of g xs + numbers_of g ys
 numbers_append g xs ys = ap (sum_by (λ (c : Captured). total c.missed + 1)) (filter-append (λ (c : Captured). c.group == g) xs ys)
     ∙ sum_by-append (λ (c : Captured). total c.missed + 1) (of_group g xs) (of_group g ys)
 
@@ -83,6 +94,7 @@ module _ (config : Configuration) (k : ℕ) (items : List Captured) (c : Capture
           subst (λ (xs : List Captured). IsMaking config start xs (recorder_after start popped).made after)
           (append_assoc popped (take k items) (c ∷ []) ∙ ap (λ (xs : List Captured). popped ++ xs) (sym next))
           (goes start (popped ++ take k items) (recorder_after start popped).made (h.making start popped makes));
+      rates = one.rates ∙ h.rates;
       place = let a = one.place in let b = h.place in omega (arith, a, b);
       few = let a = one.records in let b = h.few in omega (arith, a, b);
       numbers = λ g l. ⊎_elim

@@ -20,7 +20,7 @@ use Rattle.vdr_pace.specs.Commits.{IsDoneIn, closing_size}
 use Rattle.vdr_pace.specs.Media.{IsAppended, IsMediumOf, state_after}
 use Rattle.vdr_pace.proofs.Media.{appended, is_paced, silent}
 use Rattle.vdr_media.proofs.Two.{all_two}
-use Rattle.vdr_ring.specs.Sequence.{Placed, segments_in}
+use Rattle.vdr_directory.specs.Sequence.{Placed, segments_in}
 use Rattle.vdr_opening.specs.Media.{both}
 use Rattle.vdr_vault.specs.Calls.{Commits, MayCommit}
 use Rattle.vdr_vault.specs.Vaults.{VaultState, ShowsHistory, Stands}

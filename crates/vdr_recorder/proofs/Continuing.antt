@@ -1,17 +1,13 @@
 -- A recorder's history grows by one event, and what it leaves of its runs.
-use Rattle.std.proofs.Common.{◌≡◌, ◌≢◌, ◌+◌, ℕ, suc, List, [], ◌∷◌, ◌++◌, length, flat_map, Bool, true, false, if◌then◌else◌, Option, Some, None, option_map, refl, sym, ap, ◌∙◌, subst, arith, append-nil, length-append}
+use Rattle.std.proofs.Common.{◌≡◌, ◌≢◌, ◌+◌, ℕ, List, [], ◌∷◌, ◌++◌, length, flat_map, Bool, true, false, if◌then◌else◌, Option, Some, None, option_map, refl, sym, ap, ◌∙◌, subst, arith, append-nil, length-append}
 use Rattle.std.proofs.lemmas.List.Elements.{All-nil, All-cons, All-head, All-tail}
 use Rattle.std.proofs.lemmas.Grind.{flat_map-append}
-use Rattle.vdr_terms.specs.Channels.{Channels}
-use Rattle.vdr_terms.specs.Order.{RunOn}
-use Rattle.vdr_terms.specs.Records.{Record, last, last_after}
+use Rattle.vdr_terms.specs.Records.{Record, last}
 use Rattle.vdr_terms.specs.Rates.{Limit}
-use Rattle.vdr_history.specs.Runs.{Stamp}
 use Rattle.vdr_history.specs.Taken.{Captured}
 use Rattle.vdr_history.specs.Histories.{Act, Event, Opening, Continues, EndsBy, done, done_from, incidents, next_place, last_stamp, recorded, records_of_act, stamp_of}
 use Rattle.vdr_history.specs.Histories.Act.{Commit, Save, Release, Look}
 use Rattle.vdr_history.specs.RunStates.{RunState, AreMadeFrom, IsMadeIn, IsRecorderHistory, after_act, begin_run, has_failed, next_start, state_along, state_left, state_opened}
-use Rattle.vdr_history.proofs.Growing.{continues_run}
 use Rattle.vdr_core.proofs.MadeHistory.{made_runs_on}
 use Rattle.vdr_core.proofs.Commits.{continues_back}
 use Rattle.vdr_core.proofs.RecorderHistory.{stamp_append, made_snoc}
@@ -22,7 +18,7 @@ use Rattle.vdr_pace.specs.Commits.{IsDoneIn}
 use Rattle.vdr_pace.specs.Media.{state_after}
 use Rattle.vdr_pace.proofs.Media.{all_made}
 use Rattle.vdr_outside.specs.Disk.{Disk}
-use Rattle.vdr_ring.specs.Sequence.{Placed}
+use Rattle.vdr_directory.specs.Sequence.{Placed}
 use Rattle.vdr_vault.specs.Vaults.{VaultState, Stands, of_stamp}
 use Rattle.vdr_recorder.specs.Recordings.{TellsLeft, acts_of, start_of_opening}
 

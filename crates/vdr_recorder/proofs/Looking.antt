@@ -17,7 +17,7 @@ use Rattle.vdr_config.specs.Configuration.{Configuration}
 use Rattle.vdr_config.specs.Sizes.{sizes_of}
 use Rattle.vdr_pace.specs.Media.{IsMediumOf}
 use Rattle.vdr_pace.proofs.Media.{silent}
-use Rattle.vdr_ring.specs.Sequence.{Placed, segments_in}
+use Rattle.vdr_directory.specs.Sequence.{Placed, segments_in}
 use Rattle.vdr_opening.specs.Media.{both}
 use Rattle.vdr_vault.specs.Vaults.{VaultState, ShowsHistory, Stands}
 use Rattle.vdr_vault.proofs.ShownHistory.{stand_shows, stands_silent}
@@ -25,7 +25,7 @@ use Rattle.vdr_visit.specs.Refusals.{HasVisitCause}
 use Rattle.vdr_visit.specs.Visits.{HasOnlyRead}
 use Rattle.vdr_visit.proofs.Reading.{cause_join, only_read_join, reads_keep, reads_keep_failed}
 use Rattle.vdr_recorder.specs.Looks.{HasLooked}
-use Rattle.vdr_run.specs.Making.{Makes}
+use Rattle.vdr_recorder.specs.Making.{MakesBy}
 use Rattle.vdr_recorder.specs.Recordings.{HasDone, HasRecorded, IsWorking, RecorderState, TellsLeft, acts_of, start_of_opening}
 use Rattle.vdr_recorder.proofs.Continuing.{acts_with, fails_with, has_moment, left_with, made_looks, told_at_rest, told_without, whole_with}
 
@@ -58,21 +58,24 @@ module _ {tells tells_images : Type 0} (opening : Opening) (events : List Event)
 
   working : after.failed ≡ false → IsWorking opening (events ++ look ∷ []) (record r { vault = after }) new
   working goes =
-      let v = h.works (sym failed_is ∙ goes) in
+      let w = h.works (sym failed_is ∙ goes) in
+      let v = w.standing in
       let left : state_left opening (events ++ look ∷ []) ≡ state_left opening events = left_with opening events look (whole goes) (has_moment after.failed new.clock look.moment refl goes) in
       record {
-        placed = v.placed;
-        first = v.first;
-        stands = stands_silent opening events look refl refl after v.placed new (stands v.placed v.stands);
-        media = All-weaker
-            (λ m. IsMediumOf (sizes_of r.vault.config) (start_of_opening opening) (segments_in (v.first m)) (acts_of events) (segments_in (v.placed m)))
-            (λ m. IsMediumOf (sizes_of after.config) (start_of_opening opening) (segments_in (v.first m)) (acts_of (events ++ look ∷ [])) (segments_in (v.placed m)))
-            (λ m k. subst (λ (x : Configuration × List Act). IsMediumOf (sizes_of x.0) (start_of_opening opening) (segments_in (v.first m)) x.1 (segments_in (v.placed m)))
-            (λ i. (sym config_is i, sym (acts_with events look) i))
-            (silent (sizes_of r.vault.config) (start_of_opening opening) (segments_in (v.first m)) (acts_of events) (segments_in (v.placed m)) Look k tt refl))
-            both v.media;
-        open_is = v.open_is ∙ sym (ap (λ (s : RunState). s.is_open) left);
-        makes = λ opened. subst (λ (x : Configuration × RunState). Makes x.0 x.1.start x.1.popped r.maker) (λ i. (sym config_is i, sym left i)) (v.makes opened);
+        standing = record {
+          placed = v.placed;
+          first = v.first;
+          stands = stands_silent opening events look refl refl after v.placed new (stands v.placed v.stands);
+          media = All-weaker
+              (λ m. IsMediumOf (sizes_of r.vault.config) (start_of_opening opening) (segments_in (v.first m)) (acts_of events) (segments_in (v.placed m)))
+              (λ m. IsMediumOf (sizes_of after.config) (start_of_opening opening) (segments_in (v.first m)) (acts_of (events ++ look ∷ [])) (segments_in (v.placed m)))
+              (λ m k. subst (λ (x : Configuration × List Act). IsMediumOf (sizes_of x.0) (start_of_opening opening) (segments_in (v.first m)) x.1 (segments_in (v.placed m)))
+              (λ i. (sym config_is i, sym (acts_with events look) i))
+              (silent (sizes_of r.vault.config) (start_of_opening opening) (segments_in (v.first m)) (acts_of events) (segments_in (v.placed m)) Look k tt refl))
+              both v.media;
+        };
+        open_is = w.open_is ∙ sym (ap (λ (s : RunState). s.is_open) left);
+        makes = λ opened. subst (λ (x : Configuration × RunState). MakesBy x.0 x.1.start x.1.popped r.maker) (λ i. (sym config_is i, sym left i)) (w.makes opened);
       }
 
   grows : (after.failed ≡ true) ⊎ (after.failed ≡ false) → IsHistory opening (events ++ look ∷ []) × Keeps (ShowsHistory opening) (events ++ look ∷ []) t0 new
@@ -83,12 +86,12 @@ module _ {tells tells_images : Type 0} (opening : Opening) (events : List Event)
   grows (inr goes) = (
     history_grows opening events look h.history (whole goes) tt (subst (λ (o : Option ℕ). EndsBy o Look [] (Unit {0})) (sym (a_moment goes)) tt),
     keeps_done (ShowsHistory opening) events t0 look old new h.kept (whole goes) (moments_still old new (ShowsEither (ShowsHistory opening) events look old.now) same (λ i now. inl now)) (a_moment goes)
-        (λ image now. stand_shows opening (events ++ look ∷ []) after (working goes).placed new (working goes).stands image now),
+        (λ image now. stand_shows opening (events ++ look ∷ []) after (working goes).standing.placed new (working goes).standing.stands image now),
   )
 
   told_after : (after.failed ≡ true) ⊎ (after.failed ≡ false) → TellsLeft opening (events ++ look ∷ []) after
   told_after (inl fails) = told_without opening events look r.vault after (no_moment fails) h.told place_is last_is table_is
-  told_after (inr goes) = told_at_rest opening (events ++ look ∷ []) (whole_with events look (whole goes) (has_moment after.failed new.clock look.moment refl goes)) after (working goes).placed new (working goes).stands
+  told_after (inr goes) = told_at_rest opening (events ++ look ∷ []) (whole_with events look (whole goes) (has_moment after.failed new.clock look.moment refl goes)) after (working goes).standing.placed new (working goes).standing.stands
 
   -- A call that reads, or none.
   pub look_done : HasDone opening events t0 Look (record r { vault = after }) old new

@@ -1,61 +1,32 @@
 -- A recorder that was opened has an empty history over its opening.
-use Rattle.std.proofs.Common.{◌≡◌, ◌≢◌, ◌<◌, ◌≤◌, ℕ, List, [], ◌∷◌, length, sum_by, All, zero, suc, true, false, Option, Some, None, Result, Ok, Err, inl, inr, refl, sym, ap, ◌∙◌, subst, arith, append-nil, length-append, true≢false}
-use Rattle.std.proofs.lemmas.List.Elements.{All-nil, All-cons, All-head, All-tail, All-append, All-weaker}
+use Rattle.std.proofs.Common.{◌≡◌, ◌≢◌, ◌<◌, ◌≤◌, ℕ, List, [], ◌∷◌, sum_by, zero, suc, true, false, Option, Some, None, Result, Ok, Err, inl, inr, refl, sym, ap, ◌∙◌, subst, arith, true≢false}
+use Rattle.std.proofs.lemmas.List.Elements.{All-nil, All-cons, All-head, All-tail}
 use Rattle.vdr_terms.specs.Needs.{cost, usable}
 use Rattle.vdr_terms.specs.Order.{AreInOrder}
 use Rattle.vdr_terms.specs.Records.{Record, last}
-use Rattle.vdr_terms.specs.Sizes.{records_size}
 use Rattle.vdr_history.specs.Histories.{Event, Opening, Settings, stamp_of}
 use Rattle.vdr_history.specs.Runs.{RunStart}
-use Rattle.vdr_retention.specs.Layout.{Batches, batches_size_at, records_in, segment_records}
+use Rattle.vdr_retention.specs.Layout.{Batches, batches_size_at, records_in}
 use Rattle.vdr_durability.specs.Readings.{EndBy, EndsMeet, Reading, ends_before, leading_batch, next_after}
 use Rattle.vdr_durability.specs.Keeping.{Keeps}
 use Rattle.vdr_outside.specs.Disk.{Disk, Image}
 use Rattle.vdr_config.specs.Sizes.{sizes_of}
 use Rattle.vdr_pace.specs.Media.{EndsBefore, IsMediumOf}
 use Rattle.vdr_pace.proofs.Media.{at_opening}
-use Rattle.vdr_pace.proofs.Parts.{same_last}
 use Rattle.vdr_media.proofs.Two.{all_two}
-use Rattle.vdr_ring.specs.Sequence.{Placed, all_records, batches_in, batches_of, segments_in}
+use Rattle.vdr_directory.specs.Sequence.{Placed, all_records, batches_in, segments_in}
 use Rattle.vdr_ring.specs.Regularity.{AreRegular}
 use Rattle.vdr_opening.specs.Media.{Contents, both, reading_of}
 use Rattle.vdr_opening.specs.declared.refused.OpenRefused.{OpenRefused}
 use Rattle.vdr_vault.specs.Openings.{GoesOnSynced, OpensAtEachMoment}
 use Rattle.vdr_vault.specs.Vaults.{VaultState, ShowsHistory, Stands}
 use Rattle.vdr_vault.proofs.ShownImages.{records_are}
+use Rattle.vdr_vault.proofs.CommitReady.{last_of, last_by_batch, regular_batches}
 use Rattle.vdr_recorder.specs.Recordings.{HasRecorded, start_of_opening}
 use Rattle.vdr_run.specs.declared.maker.Maker.{Maker}
 use Rattle.vdr_recorder.proofs.Continuing.{told_at_rest}
 
--- The last record of batches that are not empty is that of the last batch.
-last_in : Option (List Record) → Option Record
-last_in None = None
-last_in (Some batch) = last batch
-
-last_of_batches : (bs : Batches) → All (λ b. 0 < length b) bs → last (segment_records bs) ≡ last_in (last bs)
-unfolding last_in
-last_of_batches [] some = refl
-last_of_batches (b ∷ []) some = ap last (append-nil b)
-last_of_batches (b ∷ (c ∷ cs)) some =
-    let more = All-tail (λ (b : List Record). 0 < length b) b (c ∷ cs) some in
-    let first = All-head (λ (b : List Record). 0 < length b) c cs more in
-    let sum = length-append c (segment_records cs) in
-    same_last b [] (segment_records (c ∷ cs)) (omega (arith, first, sum)) ∙ last_of_batches (c ∷ cs) more
-
--- No batch of a regular medium is empty.
-flat_some : (batch : ℕ) (placed : List Placed) → All (λ segment. All (λ b. (0 < length b) × (records_size b ≤ batch)) segment) (segments_in placed) → All (λ b. 0 < length b) (batches_in placed)
-flat_some batch [] h = All-nil (λ b. 0 < length b)
-flat_some batch (p ∷ ps) h =
-    All-append (λ b. 0 < length b) (batches_of p) (batches_in ps)
-    (All-weaker (λ b. (0 < length b) × (records_size b ≤ batch)) (λ b. 0 < length b) (λ b k. k.0) (batches_of p)
-    (All-head (λ segment. All (λ b. (0 < length b) × (records_size b ≤ batch)) segment) (batches_of p) (segments_in ps) h))
-    (flat_some batch ps (All-tail (λ segment. All (λ b. (0 < length b) × (records_size b ≤ batch)) segment) (batches_of p) (segments_in ps) h))
-
 module _ (cost usable batch : ℕ) (placed : List Placed) where
-  regular_some : AreRegular cost usable batch placed → All (λ b. 0 < length b) (batches_in placed)
-  regular_some (inl none) = subst (λ (ps : List Placed). All (λ b. 0 < length b) (batches_in ps)) (sym none) (All-nil (λ b. 0 < length b))
-  regular_some (inr k) = flat_some batch placed (subst (λ (segments : List Batches). All (λ segment. All (λ b. (0 < length b) × (records_size b ≤ batch)) segment) segments) (sym k.2) k.3.batches)
-
   regular_order : AreRegular cost usable batch placed → AreInOrder (records_in (segments_in placed))
   regular_order (inl none) = subst (λ (ps : List Placed). AreInOrder (records_in (segments_in ps))) (sym none) tt
   regular_order (inr k) = subst (λ (segments : List Batches). AreInOrder (records_in segments)) (sym k.2) k.3.order
@@ -140,9 +111,9 @@ module _ {tells tells_images : Type 0} (opening : Opening) (vault : VaultState) 
   same_end : last (all_records (placed 1)) ≡ last (all_records (placed 0))
   same_end =
       ap last (sym (records_are (placed 1)))
-      ∙ last_of_batches (batches_in (placed 1)) (regular_some (cost (sizes_of vault.config)) (usable (sizes_of vault.config)) vault.config.batch (placed 1) (regular_on 1 (omega arith)))
-      ∙ ap last_in (stands.level 1 1 (omega arith))
-      ∙ sym (last_of_batches (batches_in (placed 0)) (regular_some (cost (sizes_of vault.config)) (usable (sizes_of vault.config)) vault.config.batch (placed 0) (regular_on 0 (omega arith))))
+      ∙ last_by_batch (batches_in (placed 1)) (regular_batches (cost (sizes_of vault.config)) (usable (sizes_of vault.config)) vault.config.batch (placed 1) (regular_on 1 (omega arith)))
+      ∙ ap last_of (stands.level 1 1 (omega arith))
+      ∙ sym (last_by_batch (batches_in (placed 0)) (regular_batches (cost (sizes_of vault.config)) (usable (sizes_of vault.config)) vault.config.batch (placed 0) (regular_on 0 (omega arith))))
       ∙ ap last (records_are (placed 0))
 
   medium_opened : (m : ℕ) → AreRegular (cost (sizes_of vault.config)) (usable (sizes_of vault.config)) vault.config.batch (placed m) → EndsBefore (start_of_opening opening) (last (all_records (placed m)))
@@ -163,12 +134,14 @@ module _ {tells tells_images : Type 0} (opening : Opening) (vault : VaultState) 
     told = told_at_rest opening [] (All-nil (λ (e : Event). e.moment ≢ None)) vault placed disk stands;
     kept = keeps_synced (ShowsHistory opening) t0 disk low shown;
     works = λ works. record {
-      placed = placed;
-      first = placed;
-      stands = stands;
-      media = all_two (λ m. IsMediumOf (sizes_of vault.config) (start_of_opening opening) (segments_in (placed m)) [] (segments_in (placed m)))
-          (medium_opened 0 (regular_on 0 (omega arith)) ends_first)
-          (medium_opened 1 (regular_on 1 (omega arith)) (subst (EndsBefore (start_of_opening opening)) (sym same_end) ends_first));
+      standing = record {
+        placed = placed;
+        first = placed;
+        stands = stands;
+        media = all_two (λ m. IsMediumOf (sizes_of vault.config) (start_of_opening opening) (segments_in (placed m)) [] (segments_in (placed m)))
+            (medium_opened 0 (regular_on 0 (omega arith)) ends_first)
+            (medium_opened 1 (regular_on 1 (omega arith)) (subst (EndsBefore (start_of_opening opening)) (sym same_end) ends_first));
+      };
       open_is = refl;
       makes = λ opened. absurd (true≢false (sym opened));
     };

@@ -10,7 +10,7 @@ use Rattle.vdr_playback.specs.Playback.{selected}
 use Rattle.vdr_playback.specs.Sources.{Row}
 use Rattle.vdr_outside.specs.Disk.{Disk}
 use Rattle.vdr_outside.specs.Writes.{AppendsFront}
-use Rattle.vdr_ring.specs.Sequence.{Placed}
+use Rattle.vdr_directory.specs.Sequence.{Placed}
 use Rattle.vdr_play.specs.Streams.{Seen, nothing_seen, seen_after}
 use Rattle.vdr_play.specs.Texts.{record_text, records_text, seen_by}
 use Rattle.vdr_sources.specs.Tables.{sources_of, sources_text, with_record}

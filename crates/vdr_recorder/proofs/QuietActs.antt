@@ -12,7 +12,7 @@ use Rattle.vdr_config.specs.Sizes.{sizes_of}
 use Rattle.vdr_pace.specs.Commits.{IsDoneIn}
 use Rattle.vdr_pace.specs.Media.{IsMediumOf, state_after}
 use Rattle.vdr_pace.proofs.Media.{silent}
-use Rattle.vdr_ring.specs.Sequence.{segments_in}
+use Rattle.vdr_directory.specs.Sequence.{segments_in}
 use Rattle.vdr_incident.specs.declared.refused.ReleaseRefused.{ReleaseRefused}
 use Rattle.vdr_incident.specs.declared.refused.ReleaseRefused.TheVariants as releases
 use Rattle.vdr_opening.specs.Media.{both}
@@ -20,7 +20,7 @@ use Rattle.vdr_vault.specs.Saves.{Does, Saves, save_refusal}
 use Rattle.vdr_vault.specs.Vaults.{VaultState, ShowsHistory, Stands}
 use Rattle.vdr_vault.specs.declared.refused.SaveRefused.{SaveRefused}
 use Rattle.vdr_vault.specs.declared.refused.SaveRefused.TheVariants as saves
-use Rattle.vdr_run.specs.Making.{Makes}
+use Rattle.vdr_recorder.specs.Making.{MakesBy}
 use Rattle.vdr_recorder.specs.Recordings.{HasDone, HasKept, HasRecorded, IsStanding, KeepsEvent, RecorderState, acts_of, start_of_opening}
 use Rattle.vdr_recorder.proofs.Answering.{same_disk}
 use Rattle.vdr_recorder.proofs.Continuing.{acts_with}
@@ -103,10 +103,10 @@ module _ {tells tells_images : Type 0} (opening : Opening) (events : List Event)
     event_of act = event opening events t0 r.vault old kept works act after new
 
     module _ (act : Act) (quiet : IsQuiet act) (may : MayCome opening events act) (moments : Extends (ShowsHistory opening) events (event_of act) old new)
-        (stands : after.failed ≡ false → Stands opening (events ++ event_of act ∷ []) after (h.works works).placed new) (table_is : after.failed ≡ true → after.table ≡ r.vault.table) where
+        (stands : after.failed ≡ false → Stands opening (events ++ event_of act ∷ []) after (h.works works).standing.placed new) (table_is : after.failed ≡ true → after.table ≡ r.vault.table) where
       standing : after.failed ≡ false → IsStanding opening (events ++ event_of act ∷ []) after new
       standing goes =
-          let v = h.works works in
+          let v = (h.works works).standing in
           record {
             placed = v.placed;
             first = v.first;
@@ -129,11 +129,11 @@ module _ {tells tells_images : Type 0} (opening : Opening) (events : List Event)
       quiet_done : HasDone opening events t0 act (record r { vault = after }) old new
       quiet_done = has_done opening events t0 r old h works act (record r { vault = after }) new event_keeps (λ goes. (
         (h.works works).open_is ∙ ap (λ (s : RunState). s.is_open) (sym (quiet.stays (state_left opening events))),
-        λ opened. subst (λ (x : Configuration × RunState). Makes x.0 x.1.start x.1.popped r.maker) (λ i. (sym config_is i, sym (quiet.stays (state_left opening events)) i)) ((h.works works).makes opened),
+        λ opened. subst (λ (x : Configuration × RunState). MakesBy x.0 x.1.start x.1.popped r.maker) (λ i. (sym config_is i, sym (quiet.stays (state_left opening events)) i)) ((h.works works).makes opened),
       ))
 
     -- A save that nothing stands in the way of.
-    pub save_done : (label : List ℕ) (result : Result ℕ SaveRefused) (s : Saves opening events label (h.works works).placed after old new result) → save_refusal label r.vault ≡ None
+    pub save_done : (label : List ℕ) (result : Result ℕ SaveRefused) (s : Saves opening events label (h.works works).standing.placed after old new result) → save_refusal label r.vault ≡ None
         → ((refused : SaveRefused) → result ≡ Err refused → (refused ≡ saves.Label) ⊎ ((refused ≡ saves.Nothing) ⊎ (refused ≡ saves.TableFull))
         → (r.vault.failed ≡ false) × (save_refusal label r.vault ≡ Some refused))
         → ((m offset : ℕ) → result ≡ Err (saves.Damaged m offset) → ⊥) → (result ≡ Err saves.Fault → after.failed ≡ true) → ((result ≡ Err saves.Fault → ⊥) → after.failed ≡ false)
@@ -141,7 +141,7 @@ module _ {tells tells_images : Type 0} (opening : Opening) (events : List Event)
     save_done label result s free reason undamaged fails goes table =
         let does = s.does (event_of (Save s.id label s.a s.b)) refl in
         quiet_done (Save s.id label s.a s.b) (saves_quietly s.id label s.a s.b) s.may_come does.moments
-        (done_where result after.failed (Stands opening (events ++ event_of (Save s.id label s.a s.b) ∷ []) after (h.works works).placed new) does.done none)
+        (done_where result after.failed (Stands opening (events ++ event_of (Save s.id label s.a s.b) ∷ []) after (h.works works).standing.placed new) does.done none)
         (kept_where result saves.Fault after.failed (after.table ≡ r.vault.table) goes table)
       where
         none : (refused : SaveRefused) → result ≡ Err refused → after.failed ≡ false → ⊥
@@ -153,13 +153,13 @@ module _ {tells tells_images : Type 0} (opening : Opening) (events : List Event)
 
     -- A release of a live save.
     pub release_done : (id : ℕ) (saved : Incident) (result : Result (Unit {0}) ReleaseRefused) → live r.vault.table id ≡ Some saved
-        → ((e : Event) → e.act ≡ Release id → Does opening events e (h.works works).placed after old new result)
+        → ((e : Event) → e.act ≡ Release id → Does opening events e (h.works works).standing.placed after old new result)
         → (result ≡ Err releases.NoSuch → (r.vault.failed ≡ false) × (live r.vault.table id ≡ None)) → (result ≡ Err releases.Fault → after.failed ≡ true)
         → ((result ≡ Err releases.Fault → ⊥) → after.failed ≡ false) → OnErr result (after.table ≡ r.vault.table) → HasDone opening events t0 (Release id) (record r { vault = after }) old new
     release_done id saved result has does reason fails goes table =
         let d = does (event_of (Release id)) refl in
-        quiet_done (Release id) (releases_quietly id) (saved, subst (λ table. live table id ≡ Some saved) (h.works works).stands.incidents_are has) d.moments
-        (done_where result after.failed (Stands opening (events ++ event_of (Release id) ∷ []) after (h.works works).placed new) d.done none)
+        quiet_done (Release id) (releases_quietly id) (saved, subst (λ table. live table id ≡ Some saved) (h.works works).standing.stands.incidents_are has) d.moments
+        (done_where result after.failed (Stands opening (events ++ event_of (Release id) ∷ []) after (h.works works).standing.placed new) d.done none)
         (kept_where result releases.Fault after.failed (after.table ≡ r.vault.table) goes table)
       where
         none : (refused : ReleaseRefused) → result ≡ Err refused → after.failed ≡ false → ⊥

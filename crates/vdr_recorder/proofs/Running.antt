@@ -25,7 +25,8 @@ use Rattle.vdr_config.specs.Configuration.{Configuration}
 use Rattle.vdr_config.specs.Sizes.{limits_in}
 use Rattle.vdr_pace.specs.Commits.{IsDoneIn, IsFit, items_size}
 use Rattle.vdr_pace.proofs.ItemSizes.{closes_size, made_size}
-use Rattle.vdr_run.specs.Making.{Makes, closing_by, rest_of}
+use Rattle.vdr_run.specs.Making.{closing_by, rest_of}
+use Rattle.vdr_recorder.specs.Making.{MakesBy}
 use Rattle.vdr_recorder.specs.Recordings.{HasDone, HasKept, HasRecorded, KeepsEvent, RecorderState}
 use Rattle.vdr_recorder.proofs.Continuing.{has_moment, left_with}
 
@@ -89,7 +90,7 @@ module _ {tells tells_images : Type 0} (opening : Opening) (events : List Event)
     failed = h.failed;
     told = h.told;
     kept = h.kept;
-    works = λ works. record { placed = (h.works works).placed; first = (h.works works).first; stands = (h.works works).stands; media = (h.works works).media };
+    works = λ works. (h.works works).standing;
   }
 
   module _ (works : r.vault.failed ≡ false) where
@@ -97,12 +98,12 @@ module _ {tells tells_images : Type 0} (opening : Opening) (events : List Event)
     whole = (whole_has_not_failed events).1 (sym h.failed ∙ works)
 
     pub limits_are : (limits_in r.vault.config.groups) ≡ opening.settings.limits
-    limits_are = sym (ap (λ (s : Settings). s.limits) (h.works works).stands.settings)
+    limits_are = sym (ap (λ (s : Settings). s.limits) (h.works works).standing.stands.settings)
 
     -- The vault's part and the maker's make the whole.
     pub has_done : (act : Act) (after : RecorderState) (new : Disk tells tells_images) → KeepsEvent opening events t0 act after.vault old new
         → (after.vault.failed ≡ false → (after.is_open ≡ (after_act (state_left opening events) act).is_open)
-        × (after.is_open ≡ true → Makes after.vault.config (after_act (state_left opening events) act).start (after_act (state_left opening events) act).popped after.maker))
+        × (after.is_open ≡ true → MakesBy after.vault.config (after_act (state_left opening events) act).start (after_act (state_left opening events) act).popped after.maker))
         → HasDone opening events t0 act after old new
     has_done act after new k makes = record {
       event = k.event;
@@ -115,12 +116,9 @@ module _ {tells tells_images : Type 0} (opening : Opening) (events : List Event)
         told = k.has.told;
         kept = k.has.kept;
         works = λ goes. record {
-          placed = (k.has.works goes).placed;
-          first = (k.has.works goes).first;
-          stands = (k.has.works goes).stands;
-          media = (k.has.works goes).media;
+          standing = k.has.works goes;
           open_is = (makes goes).0 ∙ sym (ap (λ (s : RunState). s.is_open) (left goes));
-          makes = λ opened. subst (λ (s : RunState). Makes after.vault.config s.start s.popped after.maker) (sym (left goes)) ((makes goes).1 opened);
+          makes = λ opened. subst (λ (s : RunState). MakesBy after.vault.config s.start s.popped after.maker) (sym (left goes)) ((makes goes).1 opened);
         };
       };
       passes = k.passes;
@@ -131,7 +129,7 @@ module _ {tells tells_images : Type 0} (opening : Opening) (events : List Event)
 
     -- A batch of items.
     module _ (opened : r.is_open ≡ true) where
-      pub makes_now : Makes r.vault.config (state_left opening events).start (state_left opening events).popped r.maker
+      pub makes_now : MakesBy r.vault.config (state_left opening events).start (state_left opening events).popped r.maker
       makes_now = (h.works works).makes opened
 
       pub open_now : (state_left opening events).is_open ≡ true
@@ -149,14 +147,14 @@ module _ {tells tells_images : Type 0} (opening : Opening) (events : List Event)
       pub batch_done : (items : List Captured) (after : RecorderState) (new : Disk tells tells_images) (records : List Record)
           → (recorder_after (state_left opening events).start ((state_left opening events).popped ++ items)).made ≡ (recorder_in (state_left opening events)).made ++ records
           → KeepsEvent opening events t0 (Commit records items) after.vault old new → after.is_open ≡ true
-          → Makes after.vault.config (state_left opening events).start ((state_left opening events).popped ++ items) after.maker
+          → MakesBy after.vault.config (state_left opening events).start ((state_left opening events).popped ++ items) after.maker
           → HasDone opening events t0 (Commit records items) after old new
       batch_done items after new records made k is_open makes =
           let inside = (further_items (state_left opening events).start (state_left opening events).popped items records made).1 in
           let on = going_on (state_left opening events) records items (inside_begins_none records inside) (inside_ends_none records inside) in
           has_done (Commit records items) after new k (λ goes. (
             is_open ∙ sym open_now ∙ sym on.0,
-            λ again. subst (λ (x : RunStart × List Captured). Makes after.vault.config x.0 x.1 after.maker) (λ i. (sym on.1 i, sym on.2 i)) makes,
+            λ again. subst (λ (x : RunStart × List Captured). MakesBy after.vault.config x.0 x.1 after.maker) (λ i. (sym on.1 i, sym on.2 i)) makes,
           ))
 
       -- The close.

@@ -1,6 +1,6 @@
 -- A run's Start is an event of the recorder's history.
 use Rattle.std.proofs.Common.{◌≡◌, ◌≤◌, ◌^◌, ℕ, ℤ, List, [], ◌∷◌, All, true, false, Option, Some, None, Result, Ok, Err, IfSome, option_map, inl, inr, refl, sym, ap, ◌∙◌, subst, arith}
-use Rattle.std.proofs.lemmas.List.Elements.{All-nil, All-head, All-tail, All-append, All-contains}
+use Rattle.std.proofs.lemmas.List.Elements.{All-contains}
 use Rattle.vdr_terms.specs.Legality.{IsRecord}
 use Rattle.vdr_terms.specs.Records.{Record, last}
 use Rattle.vdr_terms.specs.Stamps.{IsStamp}
@@ -9,22 +9,21 @@ use Rattle.vdr_history.specs.Histories.Act.{Commit}
 use Rattle.vdr_history.specs.Recorder.{begun}
 use Rattle.vdr_history.specs.RunStates.{next_start, state_left}
 use Rattle.vdr_history.specs.Runs.{RunStart, Stamp, base_after}
-use Rattle.vdr_retention.specs.Layout.{Batches, segment_records}
 use Rattle.vdr_retention.proofs.Lists.{last_contained}
 use Rattle.vdr_durability.specs.Keeping.{IsWhole}
 use Rattle.vdr_durability.proofs.Whole.{whole_has_not_failed}
 use Rattle.vdr_outside.specs.Disk.{Disk, content}
-use Rattle.vdr_segment.specs.Batches.{IsBatch}
 use Rattle.vdr_config.specs.Configuration.{Configuration}
 use Rattle.vdr_config.specs.Sizes.{limits_in}
 use Rattle.vdr_datagram.specs.Channels.{channels_of}
 use Rattle.vdr_pace.specs.Commits.{IsDoneIn}
-use Rattle.vdr_ring.specs.Sequence.{Placed, all_records, batches_of}
-use Rattle.vdr_ring.specs.Rings.{HoldsPlaced}
+use Rattle.vdr_directory.specs.Sequence.{all_records}
+use Rattle.vdr_directory.specs.Holds.{HoldsPlaced}
 use Rattle.vdr_ring.proofs.Beginning.{legal_batches}
 use Rattle.vdr_vault.specs.Vaults.{VaultState, of_stamp, tick_utc}
 use Rattle.vdr_vault.proofs.ShownHistory.{held_at}
-use Rattle.vdr_run.specs.Making.{Makes}
+use Rattle.vdr_vault.proofs.ShownPlaces.{all_legal}
+use Rattle.vdr_recorder.specs.Making.{MakesBy}
 use Rattle.vdr_recorder.specs.Recordings.{HasDone, HasRecorded, KeepsEvent, RecorderState}
 use Rattle.vdr_recorder.specs.declared.run.StartRefused.{StartRefused}
 use Rattle.vdr_recorder.specs.declared.run.StartRefused.TheVariants.{Place, Tick, Fault}
@@ -32,18 +31,6 @@ use Rattle.vdr_run.specs.Starts.{start_with}
 use Rattle.vdr_run.specs.Starts as starts
 use Rattle.vdr_recorder.proofs.Continuing.{left_channels, left_limits, left_stamp}
 use Rattle.vdr_recorder.proofs.Running.{has_done}
-
--- The records of a medium are legal.
-legal_records : (batches : Batches) → All IsBatch batches → All IsRecord (segment_records batches)
-legal_records [] h = All-nil IsRecord
-legal_records (b ∷ batches) h = All-append IsRecord b (segment_records batches) (All-head IsBatch b batches h).legal (legal_records batches (All-tail IsBatch b batches h))
-
-all_legal : (placed : List Placed) → All (λ p. All IsBatch (batches_of p)) placed → All IsRecord (all_records placed)
-all_legal [] h = All-nil IsRecord
-all_legal (p ∷ placed) h =
-    All-append IsRecord (segment_records (batches_of p)) (all_records placed)
-    (legal_records (batches_of p) (All-head (λ p. All IsBatch (batches_of p)) p placed h))
-    (all_legal placed (All-tail (λ p. All IsBatch (batches_of p)) p placed h))
 
 -- What a vault tells of the last record.
 abbrev told_of : Option Record → Option (ℕ × ℤ)
@@ -53,9 +40,10 @@ told_stamp : (o : Option Record) → option_map of_stamp (stamp_of o None) ≡ t
 told_stamp None = refl
 told_stamp (Some r) = refl
 
-back : (o : Option Stamp) → option_map starts.stamp_of (option_map of_stamp o) ≡ o
-back None = refl
-back (Some stamp) = refl
+-- What a vault tells of a stamp is read back.
+pub same_stamp : (o : Option Stamp) → option_map starts.stamp_of (option_map of_stamp o) ≡ o
+same_stamp None = refl
+same_stamp (Some stamp) = refl
 
 last_legal : (records : List Record) → All IsRecord records → IfSome (told_of (last records)) (λ told. IsStamp told.1)
 last_legal records legal = go (last records) refl
@@ -65,19 +53,19 @@ last_legal records legal = go (last records) refl
     go (Some r) e = (All-contains IsRecord records r legal (last_contained records r e)).utc
 
 module _ {tells tells_images : Type 0} (opening : Opening) (events : List Event) (t0 : ℕ) (r : RecorderState) (old : Disk tells tells_images) (h : HasRecorded opening events t0 r old) (works : r.vault.failed ≡ false) where
-  held : tells → HoldsPlaced r.vault.capsule.segment r.vault.capsule.slots ((h.works works).placed 0) (content old.reads 0)
-  held told = held_at opening events r.vault.config 0 r.vault.capsule ((h.works works).placed 0) old ((h.works works).stands.media 0 0 (omega arith)) told
+  held : tells → HoldsPlaced r.vault.capsule.segment r.vault.capsule.slots ((h.works works).standing.placed 0) (content old.reads 0)
+  held told = held_at opening events r.vault.config 0 r.vault.capsule ((h.works works).standing.placed 0) old ((h.works works).standing.stands.media 0 0 (omega arith)) told
 
   -- The vault tells the last stamp of the history.
   pub stamp_is : option_map starts.stamp_of r.vault.last ≡ last_stamp opening events
-  stamp_is = ap (option_map starts.stamp_of) (h.works works).stands.newest ∙ back (last_stamp opening events)
+  stamp_is = ap (option_map starts.stamp_of) (h.works works).standing.stands.newest ∙ same_stamp (last_stamp opening events)
 
-  newest_is : r.vault.last ≡ told_of (last (all_records ((h.works works).placed 0)))
-  newest_is = (h.works works).stands.newest ∙ ap (option_map of_stamp) (h.works works).stands.stamp ∙ told_stamp (last (all_records ((h.works works).placed 0)))
+  newest_is : r.vault.last ≡ told_of (last (all_records ((h.works works).standing.placed 0)))
+  newest_is = (h.works works).standing.stands.newest ∙ ap (option_map of_stamp) (h.works works).standing.stands.stamp ∙ told_stamp (last (all_records ((h.works works).standing.placed 0)))
 
   stamp_legal : tells → IfSome r.vault.last (λ told. IsStamp told.1)
   stamp_legal tells = subst (λ (o : Option (ℕ × ℤ)). IfSome o (λ told. IsStamp told.1)) (sym newest_is)
-      (last_legal (all_records ((h.works works).placed 0)) (all_legal ((h.works works).placed 0) (legal_batches r.vault.capsule.segment r.vault.capsule.slots ((h.works works).placed 0) (content old.reads 0) (held tells))))
+      (last_legal (all_records ((h.works works).standing.placed 0)) (all_legal ((h.works works).standing.placed 0) (legal_batches r.vault.capsule.segment r.vault.capsule.slots ((h.works works).standing.placed 0) (content old.reads 0) (held tells))))
 
   whole : IsWhole events
   whole = (whole_has_not_failed events).1 (sym h.failed ∙ works)
@@ -85,7 +73,7 @@ module _ {tells tells_images : Type 0} (opening : Opening) (events : List Event)
   -- So the maker begins the run that comes next.
   begins_next : start_with r.vault.config r.vault.next_place r.vault.last ≡ next_start (state_left opening events)
   begins_next =
-      let settings = (h.works works).stands.settings in
+      let settings = (h.works works).standing.stands.settings in
       let limits : limits_in r.vault.config.groups ≡ (state_left opening events).start.limits = sym (ap (λ (s : Settings). s.limits) settings) ∙ sym (left_limits opening events whole) in
       let channels : channels_of r.vault.config ≡ (state_left opening events).start.channels = sym (ap (λ (s : Settings). s.channels) settings) ∙ sym (left_channels opening events whole) in
       let here : r.vault.next_place ≡ (state_left opening events).place = h.told.place in
@@ -114,7 +102,7 @@ module _ {tells tells_images : Type 0} (opening : Opening) (events : List Event)
 
   pub start_done : (after : RecorderState) (new : Disk tells tells_images)
       → KeepsEvent opening events t0 (Commit (begun (next_start (state_left opening events))).made []) after.vault old new
-      → (after.vault.failed ≡ false → (after.is_open ≡ true) × Makes after.vault.config (next_start (state_left opening events)) [] after.maker)
+      → (after.vault.failed ≡ false → (after.is_open ≡ true) × MakesBy after.vault.config (next_start (state_left opening events)) [] after.maker)
       → HasDone opening events t0 (Commit (begun (next_start (state_left opening events))).made []) after old new
   start_done after new k begins = has_done opening events t0 r old h works (Commit (begun (next_start (state_left opening events))).made []) after new k (λ goes. ((begins goes).0, λ again. (begins goes).1))
 

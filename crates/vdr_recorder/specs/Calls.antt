@@ -1,5 +1,5 @@
 -- What each call of a recorder on its media is, what it refuses, and what it keeps.
-use Rattle.std.specs.Prelude.{◌≡◌, ◌≤◌, ◌<◌, ◌⊎◌, ◌↔◌, ◌+◌, ◌*◌, ◌^◌, ℕ, List, [], Bool, true, false, length, All, Option, Some, None, option_map, Result, Err, IfOk, OnErr, OnOk, ⊤}
+use Rattle.std.specs.Prelude.{◌≡◌, ◌≤◌, ◌<◌, ◌⊎◌, ◌↔◌, ◌+◌, ◌*◌, ◌^◌, ℕ, List, [], Bool, true, false, length, All, Some, None, option_map, Result, Err, IfOk, OnErr, OnOk, ⊤}
 use Rattle.vdr_terms.specs.declared.counts.Counts.{Counts}
 use Rattle.vdr_terms.specs.Counting.{next_number}
 use Rattle.vdr_terms.specs.Rates.{is_configured}

@@ -1,12 +1,22 @@
--- A batch of items, and the maker's room for its records.
-use Rattle.std.specs.Prelude.{ℕ, ◌+◌, ◌*◌, ◌/◌, ◌≤◌, ◌<◌, ◌^◌, List, sum_by}
+-- What a recorder keeps of its maker: the run of its configuration, and the room for the records of a batch.
+use Rattle.std.specs.Prelude.{ℕ, ◌≡◌, ◌+◌, ◌*◌, ◌/◌, ◌≤◌, ◌<◌, ◌^◌, List, Some, sum_by}
 use Rattle.vdr_terms.specs.Records.{total}
 use Rattle.vdr_terms.specs.Counting.{next_number}
 use Rattle.vdr_config.specs.Configuration.{Configuration}
+use Rattle.vdr_config.specs.Sizes.{limits_in}
+use Rattle.vdr_history.specs.Runs.{RunStart}
 use Rattle.vdr_history.specs.Taken.{Captured, of_group}
 use Rattle.vdr_pace.specs.Commits.{least_item}
-use Rattle.vdr_run.specs.Making.{counted_of}
+use Rattle.vdr_run.specs.Making.{Makes, counted_of}
+use Rattle.vdr_run.specs.Meters.{rates_of}
 use Rattle.vdr_run.specs.declared.maker.Maker.{Maker}
+
+-- It has taken these items in a run that began so, and each group is limited by its rate of the configuration: the run's limits are these,
+-- and there is a meter of these rates.
+pub record MakesBy (config : Configuration) (start : RunStart) (popped : List Captured) (maker : Maker) : Type 0 where
+  pub makes : Makes config start popped maker
+  pub limits : start.limits ≡ limits_in config.groups
+  pub rates : rates_of maker.meter ≡ Some config.groups
 
 -- The buffer has room for the records of as many items as a batch may have: two of each.
 abbrev pub HasRoom : Configuration → Maker → Type 0

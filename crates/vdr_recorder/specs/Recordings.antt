@@ -10,12 +10,11 @@ use Rattle.vdr_outside.specs.Disk.{Disk}
 use Rattle.vdr_outside.specs.Moments.{AtEachMoment}
 use Rattle.vdr_config.specs.Configuration.{IsConfiguration}
 use Rattle.vdr_config.specs.Sizes.{sizes_of}
-use Rattle.vdr_ring.specs.Sequence.{Placed, segments_in}
+use Rattle.vdr_directory.specs.Sequence.{Placed, segments_in}
 use Rattle.vdr_opening.specs.Media.{both}
 use Rattle.vdr_vault.specs.Vaults.{VaultState, ShowsHistory, Stands, of_stamp}
 use Rattle.vdr_run.specs.declared.maker.Maker.{Maker}
-use Rattle.vdr_run.specs.Making.{Makes}
-use Rattle.vdr_recorder.specs.Making.{HasRoom}
+use Rattle.vdr_recorder.specs.Making.{HasRoom, MakesBy}
 
 -- A recorder without its media: the vault, what the present run has counted, and whether a run is open.
 pub record RecorderState : Type 0 where
@@ -27,7 +26,7 @@ pub record RecorderState : Type 0 where
 pub record IsReady (r : RecorderState) : Type 0 where
   pub legal : IsConfiguration r.vault.config
   pub room : HasRoom r.vault.config r.maker
-  pub makes : r.is_open ≡ true → (start : RunStart) × (popped : List Captured) × Makes r.vault.config start popped r.maker
+  pub makes : r.is_open ≡ true → (start : RunStart) × (popped : List Captured) × MakesBy r.vault.config start popped r.maker
 
 -- How the first run of an opening begins.
 abbrev pub start_of_opening : Opening → RunStart
@@ -44,37 +43,6 @@ pub record TellsLeft (opening : Opening) (events : List Event) (vault : VaultSta
   pub table : vault.table ≡ incidents opening (done events)
 
 module _ {tells tells_images : Type 0} where
-  -- The vault stands after these events, each medium has what a recorder's batches make of it, and the maker has counted the run
-  -- that is open.
-  pub record IsWorking (opening : Opening) (events : List Event) (r : RecorderState) (disk : Disk tells tells_images) : Type 0 where
-    pub placed : ℕ → List Placed
-    pub first : ℕ → List Placed  -- as the media were opened
-    pub stands : Stands opening events r.vault placed disk
-    pub media : All (λ m. IsMediumOf (sizes_of r.vault.config) (start_of_opening opening) (segments_in (first m)) (acts_of events) (segments_in (placed m))) both
-    pub open_is : r.is_open ≡ (state_left opening events).is_open
-    pub makes : r.is_open ≡ true → Makes r.vault.config (state_left opening events).start (state_left opening events).popped r.maker
-
-  -- The events are a recorder's history, and the media keep it since t0.
-  pub record HasRecorded (opening : Opening) (events : List Event) (t0 : ℕ) (r : RecorderState) (disk : Disk tells tells_images) : Type 0 where
-    pub history : IsHistory opening events
-    pub made : IsRecorderHistory opening events
-    pub failed : r.vault.failed ≡ has_failed events
-    pub told : TellsLeft opening events r.vault
-    pub kept : Keeps (ShowsHistory opening) events t0 disk
-    pub works : r.vault.failed ≡ false → IsWorking opening events r disk
-
-  -- At every moment a stop leaves what it might have left before, or what shows the first of these events.
-  abbrev pub Passes : Opening → List Event → Disk tells tells_images → Disk tells tells_images → Type 0
-  Passes opening events old new = AtEachMoment old new (λ image. old.now image ⊎ ShowsPrefix (ShowsHistory opening) events 0 image)
-
-  -- A call was one event: this act, at the clock of its return, or pending where it met a fault.
-  pub record HasDone (opening : Opening) (events : List Event) (t0 : ℕ) (act : Act) (r : RecorderState) (old new : Disk tells tells_images) : Type 0 where
-    pub event : Event
-    pub act_is : event.act ≡ act
-    pub moment_is : event.moment ≡ moment_of r.vault.failed new.clock
-    pub has : HasRecorded opening (events ++ event ∷ []) t0 r new
-    pub passes : Passes opening (events ++ event ∷ []) old new
-
   -- The vault stands after these events, and each medium has what a recorder's batches make of it.
   pub record IsStanding (opening : Opening) (events : List Event) (vault : VaultState) (disk : Disk tells tells_images) : Type 0 where
     pub placed : ℕ → List Placed
@@ -82,19 +50,47 @@ module _ {tells tells_images : Type 0} where
     pub stands : Stands opening events vault placed disk
     pub media : All (λ m. IsMediumOf (sizes_of vault.config) (start_of_opening opening) (segments_in (first m)) (acts_of events) (segments_in (placed m))) both
 
-  -- What the vault and its media have of a recorder's history.
-  pub record HasKept (opening : Opening) (events : List Event) (t0 : ℕ) (vault : VaultState) (disk : Disk tells tells_images) : Type 0 where
+  -- So it does, and the maker has counted the run that is open.
+  pub record IsWorking (opening : Opening) (events : List Event) (r : RecorderState) (disk : Disk tells tells_images) : Type 0 where
+    pub standing : IsStanding opening events r.vault disk
+    pub open_is : r.is_open ≡ (state_left opening events).is_open
+    pub makes : r.is_open ≡ true → MakesBy r.vault.config (state_left opening events).start (state_left opening events).popped r.maker
+
+  -- The events are a recorder's history, and the media keep it since t0. The vault of this state tells of it, and where no write has failed
+  -- the state works on it.
+  pub record HasHistory {S : Type 0} (vault_of : S → VaultState) (s : S) (opening : Opening) (events : List Event) (t0 : ℕ) (disk : Disk tells tells_images) (works_on : S → Type 0) : Type 0 where
     pub history : IsHistory opening events
     pub made : IsRecorderHistory opening events
-    pub failed : vault.failed ≡ has_failed events
-    pub told : TellsLeft opening events vault
+    pub failed : (vault_of s).failed ≡ has_failed events
+    pub told : TellsLeft opening events (vault_of s)
     pub kept : Keeps (ShowsHistory opening) events t0 disk
-    pub works : vault.failed ≡ false → IsStanding opening events vault disk
+    pub works : (vault_of s).failed ≡ false → works_on s
 
-  -- What they have of it after a call that was one event.
-  pub record KeepsEvent (opening : Opening) (events : List Event) (t0 : ℕ) (act : Act) (vault : VaultState) (old new : Disk tells tells_images) : Type 0 where
+  -- A recorder has recorded these events.
+  abbrev pub HasRecorded : Opening → List Event → ℕ → RecorderState → Disk tells tells_images → Type 0
+  HasRecorded opening events t0 r disk = HasHistory (λ (r : RecorderState). r.vault) r opening events t0 disk (λ (r : RecorderState). IsWorking opening events r disk)
+
+  -- What the vault and its media have of them.
+  abbrev pub HasKept : Opening → List Event → ℕ → VaultState → Disk tells tells_images → Type 0
+  HasKept opening events t0 vault disk = HasHistory (λ (vault : VaultState). vault) vault opening events t0 disk (λ (vault : VaultState). IsStanding opening events vault disk)
+
+  -- At every moment a stop leaves what it might have left before, or what shows the first of these events.
+  abbrev pub Passes : Opening → List Event → Disk tells tells_images → Disk tells tells_images → Type 0
+  Passes opening events old new = AtEachMoment old new (λ image. old.now image ⊎ ShowsPrefix (ShowsHistory opening) events 0 image)
+
+  -- A call was one event: this act, at the clock of its return, or pending where the vault of this state met a fault. This holds of the events
+  -- with it.
+  pub record IsOneEvent {S : Type 0} (vault_of : S → VaultState) (s : S) (opening : Opening) (events : List Event) (act : Act) (old new : Disk tells tells_images) (has_with : List Event → S → Type 0) : Type 0 where
     pub event : Event
     pub act_is : event.act ≡ act
-    pub moment_is : event.moment ≡ moment_of vault.failed new.clock
-    pub has : HasKept opening (events ++ event ∷ []) t0 vault new
+    pub moment_is : event.moment ≡ moment_of (vault_of s).failed new.clock
+    pub has : has_with (events ++ event ∷ []) s
     pub passes : Passes opening (events ++ event ∷ []) old new
+
+  -- A recorder has recorded it.
+  abbrev pub HasDone : Opening → List Event → ℕ → Act → RecorderState → Disk tells tells_images → Disk tells tells_images → Type 0
+  HasDone opening events t0 act r old new = IsOneEvent (λ (r : RecorderState). r.vault) r opening events act old new (λ (events : List Event) (r : RecorderState). HasRecorded opening events t0 r new)
+
+  -- The vault and its media have it.
+  abbrev pub KeepsEvent : Opening → List Event → ℕ → Act → VaultState → Disk tells tells_images → Disk tells tells_images → Type 0
+  KeepsEvent opening events t0 act vault old new = IsOneEvent (λ (vault : VaultState). vault) vault opening events act old new (λ (events : List Event) (vault : VaultState). HasKept opening events t0 vault new)

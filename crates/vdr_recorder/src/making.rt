@@ -9,7 +9,7 @@ ghost use Rattle.vdr_history.specs.Recorder.{recorder_after, begun};
 ghost use Rattle.vdr_pace.specs.Commits.{items_size};
 ghost use Rattle.vdr_run.specs.Making.{IsMaking, Makes, TakesOne, counted_of};
 ghost use Rattle.vdr_run.specs.Starts.{stamp_of, start_with};
-ghost use Rattle.vdr_recorder.specs.Making.{HasRoom, NumbersFit, numbers_of};
+ghost use Rattle.vdr_recorder.specs.Making.{HasRoom, MakesBy, NumbersFit, numbers_of};
 
 use std::alloc::{AllocError, Global};
 use vdr_config::Config;
@@ -32,7 +32,7 @@ pub(crate) fn start_run(maker: &mut Maker, config: &Config, place: u64, last: Op
     requires place { place < 2 ^ 62 }
     requires base { base_after (option_map stamp_of last) < 2 ^ 62 }
     requires utc { IfSome last (λ told. IsStamp told.1) }
-    ensures makes { Makes config.now (start_with config.now place last) [] maker.new }
+    ensures makes { MakesBy config.now (start_with config.now place last) [] maker.new }
     ensures place { maker.new.place ≡ place + 1 }
     ensures numbers { (g : ℕ) → g < 16 → next_number (counted_of maker.new g).pending ≡ 0 }
     ensures records { maker.new.records.items ≡ (begun (start_with config.now place last)).made }
@@ -66,8 +66,8 @@ pub(crate) fn make(maker: &mut Maker, config: &Config, items: &[Captured])
     requires short { items_size items.now ≤ config.now.batch }
     requires places { maker.old.place + 2 * length items.now < 2 ^ 63 }
     requires numbers { NumbersFit maker.old items.now }
-    ensures makes { (start : RunStart) (popped : List CapturedTold) → Makes config.now start popped maker.old
-        → Makes config.now start (popped ++ items.now) maker.new }
+    ensures makes { (start : RunStart) (popped : List CapturedTold) → MakesBy config.now start popped maker.old
+        → MakesBy config.now start (popped ++ items.now) maker.new }
     ensures records { (start : RunStart) (popped : List CapturedTold) → Makes config.now start popped maker.old
         → (recorder_after start (popped ++ items.now)).made ≡ (recorder_after start popped).made ++ maker.new.records.items }
     ensures place { maker.new.place ≡ maker.old.place + length maker.new.records.items }

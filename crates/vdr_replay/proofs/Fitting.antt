@@ -1,8 +1,8 @@
 -- What is counted of a feed fits the recorder.
 use Rattle.std.proofs.Common.{◌≡◌, ◌≤◌, ◌<◌, ◌+◌, ◌^◌, ℕ, List, [], ◌∷◌, ◌++◌, length, sum_by, All, Bool, true, false, ◌==◌, refl, sym, ap, ◌∙◌, subst, arith, ⊎_elim, add-zero, length-append}
 use Rattle.std.proofs.lemmas.Bool.{cases_eq, cond-true, cond-false, eq-eqb, ne_eqb}
-use Rattle.std.proofs.lemmas.List.Sums.{sum_by-append, sum_by-cons}
-use Rattle.std.proofs.lemmas.List.Elements.{All-nil, All-cons, All-append, filter-append}
+use Rattle.std.proofs.lemmas.List.Sums.{sum_by-cons}
+use Rattle.std.proofs.lemmas.List.Elements.{All-nil, All-cons, All-append}
 use Rattle.vdr_terms.specs.declared.datagram.Verdict.{Verdict}
 use Rattle.vdr_terms.specs.declared.datagram.Verdict.TheVariants.{Yes, Bad, Large}
 use Rattle.vdr_terms.specs.Counting.{Tally, next_number}
@@ -10,7 +10,7 @@ use Rattle.vdr_terms.specs.Datagrams.{verdict, is_yes}
 use Rattle.vdr_terms.specs.Rates.{is_configured}
 use Rattle.vdr_terms.specs.Records.{FeedItem, total}
 use Rattle.vdr_history.specs.Feed.{items_of}
-use Rattle.vdr_history.specs.Taken.{Captured, of_group}
+use Rattle.vdr_history.specs.Taken.{Captured}
 use Rattle.vdr_core.specs.Replay.{captured_after, captured_if, missed_with, rest_after}
 use Rattle.vdr_core.proofs.OneMore.{goes_on}
 use Rattle.vdr_core.proofs.Counted.{length_snoc}
@@ -20,6 +20,7 @@ use Rattle.vdr_feed.specs.Kept.{Holds}
 use Rattle.vdr_feed.specs.declared.item.Item.{Item as Held}
 use Rattle.vdr_run.specs.Making.{counted_of}
 use Rattle.vdr_recorder.specs.Making.{numbers_of}
+use Rattle.vdr_recorder.proofs.Batches.{numbers_append}
 use Rattle.vdr_run.specs.declared.maker.Maker.{Maker}
 use Rattle.vdr_replay.specs.declared.lanes.Lanes.{Lanes}
 use Rattle.vdr_feed.specs.Feed.{longest_feed}
@@ -30,11 +31,6 @@ use Rattle.vdr_run.proofs.Given.{fewer, no_start, tally_other}
 use Rattle.vdr_replay.proofs.Given.{rated}
 
 -- What fits the recorder
-
-of_group_append : (g : ℕ) (xs ys : List Captured) → numbers_of g (xs ++ ys) ≡ numbers_of g xs + numbers_of g ys
-of_group_append g xs ys =
-    ap (λ (cs : List Captured). sum_by (λ (c : Captured). total c.missed + 1) cs) (filter-append (λ (c : Captured). c.group == g) xs ys)
-    ∙ sum_by-append (λ (c : Captured). total c.missed + 1) (of_group g xs) (of_group g ys)
 
 numbers_own : (g : ℕ) (c : Captured) → c.group ≡ g → numbers_of g (c ∷ []) ≡ total c.missed + 1
 numbers_own g c e =
@@ -52,7 +48,7 @@ module _ (feed : List FeedItem) (x : FeedItem) (batch : List Captured) (maker : 
       let n = (goes_on no_start feed x).own_count in
       let m : rest_after (feed ++ x ∷ []) x.group ≡ missed_with v (rest_after feed x.group) = (goes_on no_start feed x).own_missed ∙ ap (λ (v : Verdict). missed_with v (rest_after feed x.group)) e in
       let t : total (rest_after (feed ++ x ∷ []) x.group) ≡ total (missed_with v (rest_after feed x.group)) = ap total m in
-      let a : numbers_of x.group (batch ++ captured_if (is_yes v) feed x) ≡ numbers_of x.group batch + numbers_of x.group (captured_if (is_yes v) feed x) = of_group_append x.group batch (captured_if (is_yes v) feed x) in
+      let a : numbers_of x.group (batch ++ captured_if (is_yes v) feed x) ≡ numbers_of x.group batch + numbers_of x.group (captured_if (is_yes v) feed x) = numbers_append x.group batch (captured_if (is_yes v) feed x) in
       let b : numbers_of x.group (captured_if (is_yes v) feed x) + total (missed_with v (rest_after feed x.group)) ≡ total (rest_after feed x.group) + 1 = sums v in
       omega (arith, k, n, t, a, b)
     where
@@ -67,7 +63,7 @@ module _ (feed : List FeedItem) (x : FeedItem) (batch : List Captured) (maker : 
       let k = h.numbers g low in
       let n : length (items_of g (feed ++ x ∷ [])) ≡ length (items_of g feed) = ap (λ (t : Tally). t.taken) (tally_other feed x g ne) in
       let t : total (rest_after (feed ++ x ∷ []) g) ≡ total (rest_after feed g) = ap (λ (t : Tally). total t.missed) (tally_other feed x g ne) in
-      let a = of_group_append g batch (captured_if b feed x) in
+      let a = numbers_append g batch (captured_if b feed x) in
       let c = none b in
       omega (arith, k, n, t, a, c)
     where

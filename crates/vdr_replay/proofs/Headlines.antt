@@ -70,7 +70,7 @@ module _ {tells tells_images : Type 0} (x : Contents) (bytes : List ℕ) (now : 
       records = h.closes.made;
       accounts = closed_accounts (start_of_opening (opening_of x)) h.feed (recorded h.closes.more) admits h.low h.closes.made;
       reads = λ told is.
-          let w = h.closes.has.works h.works in
+          let w = (h.closes.has.works h.works).standing in
           plays x reads h.closes.more (order_after x sound t0 _ mid opened h.closes.more h.closes.has.made) new.reads (stand_reads (opening_of x) h.closes.more after.vault w.placed new w.stands told);
     })
 

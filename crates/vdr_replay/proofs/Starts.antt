@@ -1,5 +1,5 @@
 -- How a run begins, or is refused, and what it comes to.
-use Rattle.std.proofs.Common.{◌≡◌, ◌⊎◌, ◌↔◌, inl, inr, ◌-◌, ◌<◌, ◌≤◌, ◌^◌, ℕ, ℤ, List, [], length, false, Option, Some, None, option_map, Result, Ok, Err, ⊎_elim, refl, sym, ap, ◌∙◌, subst, arith}
+use Rattle.std.proofs.Common.{◌≡◌, ◌⊎◌, ◌↔◌, inl, inr, ◌-◌, ◌<◌, ◌≤◌, ◌^◌, ℕ, ℤ, List, [], length, false, Option, option_map, Result, Ok, Err, ⊎_elim, sym, ap, ◌∙◌, subst, arith}
 use Rattle.std.proofs.lemmas.Bool.{cases_lt}
 use Rattle.std.proofs.lemmas.List.Elements.{All-nil}
 use Rattle.vdr_terms.specs.declared.rate.Rate.{Rate}
@@ -9,7 +9,7 @@ use Rattle.vdr_history.specs.Histories.{Opening}
 use Rattle.vdr_history.specs.Histories.Act.{Commit}
 use Rattle.vdr_history.specs.Recorder.{begun}
 use Rattle.vdr_history.specs.RunStates.{next_start, state_left}
-use Rattle.vdr_history.specs.Runs.{Stamp, base_after}
+use Rattle.vdr_history.specs.Runs.{base_after}
 use Rattle.vdr_durability.proofs.Whole.{whole_has_not_failed}
 use Rattle.vdr_outside.specs.Disk.{Disk}
 use Rattle.vdr_feed.specs.Reader.{Reading}
@@ -19,10 +19,12 @@ use Rattle.vdr_run.specs.Starts.{stamp_of}
 use Rattle.vdr_recorder.specs.declared.run.StartRefused.{StartRefused}
 use Rattle.vdr_recorder.specs.declared.run.StartRefused.TheVariants as refusals
 use Rattle.vdr_recorder.proofs.Continuing.{left_place}
+use Rattle.vdr_recorder.specs.Refusals.{MayBegin}
+use Rattle.vdr_recorder.proofs.Starting.{same_stamp}
 use Rattle.vdr_config.specs.Configuration.{Configuration}
 use Rattle.vdr_feed.specs.Reader.{IfKnown}
 use Rattle.vdr_opening.specs.Media.{Contents, opening_of}
-use Rattle.vdr_replay.specs.Answers.{Decides, MayBegin, RefusesRun}
+use Rattle.vdr_replay.specs.Answers.{Decides, RefusesRun}
 use Rattle.vdr_replay.specs.Feeding.{AreConfigured, HasRate, ReadsFeed}
 use Rattle.vdr_replay.specs.Ran.{DecidesRun, HasNotBegun, Runs}
 use Rattle.vdr_feed.specs.Progress.{HasRead}
@@ -37,10 +39,6 @@ use Rattle.vdr_replay.proofs.Reading.{reached}
 
 abbrev pub Started : Type 0
 Started = Result (Unit {0}) StartRefused
-
-same_stamp : (o : Option Stamp) → option_map stamp_of (option_map of_stamp o) ≡ o
-same_stamp None = refl
-same_stamp (Some s) = refl
 
 fault_is_no_place : (start : Started) → start ≡ Err refusals.Fault → start ≡ Err refusals.Place → ⊥
 fault_is_no_place start a b = cc

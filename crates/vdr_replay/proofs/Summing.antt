@@ -13,8 +13,8 @@ use Rattle.vdr_core.specs.Summary.{CloseAddsUp}
 use Rattle.vdr_core.proofs.RunSums.{close_adds_up, feed_sums}
 use Rattle.vdr_core.proofs.Feeding.{counts_path, is_replay}
 use Rattle.vdr_capture.specs.declared.sums.GroupSums.{GroupSums}
+use Rattle.vdr_capture.specs.Sums.{sums_of}
 use Rattle.vdr_run.specs.Given.{tally_after}
-use Rattle.vdr_replay.specs.Summary.{sums_of}
 use Rattle.vdr_run.proofs.Given.{no_rate, of_groups}
 
 sums_path : (s t : GroupSums) → s.taken ≡ t.taken → s.recorded ≡ t.recorded → s.counts ≡ t.counts → s ≡ t

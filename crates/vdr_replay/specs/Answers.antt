@@ -2,7 +2,6 @@
 use Rattle.std.specs.Prelude.{◌≡◌, ◌≢◌, ◌≤◌, ◌<◌, ◌^◌, ◌⊎◌, ℕ, List, length, take, get_or, sum, Any, Option, Result, Ok, Err, ⊤}
 use Rattle.vdr_terms.specs.Records.{FeedItem}
 use Rattle.vdr_history.specs.Feed.{items_of, feed_records}
-use Rattle.vdr_history.specs.Histories.{Opening}
 use Rattle.vdr_history.specs.Runs.{base_after}
 use Rattle.vdr_durability.specs.Readings.{EndsMeet}
 use Rattle.vdr_outside.specs.Causes.{NoneFalls, Rose}
@@ -13,6 +12,7 @@ use Rattle.vdr_feed.specs.Reader.{IfKnown}
 use Rattle.vdr_media.specs.Formatted.{IsFormatted}
 use Rattle.vdr_opening.specs.Media.{both, Contents, HoldsContents, opening_of, reading_of}
 use Rattle.vdr_recorder.specs.Recordings.{start_of_opening}
+use Rattle.vdr_recorder.specs.Refusals.{MayBegin}
 use Rattle.vdr_replay.specs.declared.ended.Replayed.{Replayed}
 use Rattle.vdr_replay.specs.declared.ended.ReplayRefused.{ReplayRefused}
 use Rattle.vdr_replay.specs.declared.ended.ReplayRefused.TheVariants.{NoMemory, Input, Refused, NotFormatted, Damaged, Place, Tick, Media}
@@ -20,11 +20,6 @@ use Rattle.vdr_replay.specs.Feeding.{AreConfigured, ReadsFeed}
 use Rattle.vdr_replay.specs.Headline.{NothingIsRecorded, ReplayHeadline}
 use Rattle.vdr_replay.specs.Headline.RunEnd.{Closed, Broken}
 use Rattle.vdr_replay.specs.Summary.{AreSums}
-
--- A run may begin: its first place and its base are below 2^62.
-pub record MayBegin (opening : Opening) : Type 0 where
-  pub place : opening.next_place < 2 ^ 62
-  pub base : base_after opening.last < 2 ^ 62
 
 module _ {tells tells_images : Type 0} (x : Contents) (bytes : List ℕ) (now : Option (List ℕ)) (rose : Type 0) (before after : Disk tells tells_images) where
   -- The feed up to its end, or to what was refused or failed, is recorded as one run that was closed.

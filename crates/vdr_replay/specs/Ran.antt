@@ -9,8 +9,8 @@ use Rattle.vdr_outside.specs.Disk.{Disk}
 use Rattle.vdr_feed.specs.Feed.{Reaches, longest_feed}
 use Rattle.vdr_feed.specs.Reader.{IfKnown, Reading}
 use Rattle.vdr_recorder.specs.Recordings.{HasRecorded, Passes, RecorderState, start_of_opening}
+use Rattle.vdr_recorder.specs.Refusals.{MayBegin}
 use Rattle.vdr_run.specs.Starts.{stamp_of}
-use Rattle.vdr_replay.specs.Answers.{MayBegin}
 use Rattle.vdr_replay.specs.Feeding.{AreConfigured, ReadsFeed}
 use Rattle.vdr_feed.specs.Progress.{HasRead}
 use Rattle.vdr_replay.specs.Summary.{AreSums}

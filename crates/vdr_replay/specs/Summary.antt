@@ -2,12 +2,8 @@
 use Rattle.std.specs.Prelude.{◌≡◌, ◌<◌, ℕ, List, length, slice_index_or, Option, Some, None}
 use Rattle.vdr_terms.specs.declared.rate.Rate.{Rate}
 use Rattle.vdr_terms.specs.Records.{Record, Item}
-use Rattle.vdr_history.specs.Sums.{missed_in, recorded_in}
 use Rattle.vdr_capture.specs.declared.sums.GroupSums.{GroupSums}
-
--- What a group's port gave, what of it is recorded, and what the Gaps say was missed.
-abbrev pub sums_of : (g : ℕ) → List Item → List Record → GroupSums
-sums_of g given run = record { taken = length given; recorded = recorded_in g run; counts = missed_in g run }
+use Rattle.vdr_capture.specs.Sums.{sums_of}
 
 -- The sums of each configured group, by its number.
 abbrev pub sums_if : Option Rate → GroupSums → Option GroupSums

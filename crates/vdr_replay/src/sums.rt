@@ -6,7 +6,8 @@ ghost use Rattle.vdr_history.specs.Runs.{RunStart};
 ghost use Rattle.vdr_core.specs.Replay.{taken_of};
 ghost use Rattle.vdr_run.specs.Making.{CountsItems};
 ghost use Rattle.vdr_run.specs.Given.{CountsFeed, tally_after};
-ghost use Rattle.vdr_replay.specs.Summary.{AreSums, sums_of};
+ghost use Rattle.vdr_capture.specs.Sums.{sums_of};
+ghost use Rattle.vdr_replay.specs.Summary.{AreSums};
 
 use crate::lanes::Lanes;
 use vdr_capture::GroupSums;

@@ -1,15 +1,14 @@
 -- What the recorder's answers come to as replies of its history.
 use Rattle.std.proofs.Common.{◌≡◌, ◌⊎◌, inl, inr, ◌++◌, ◌∷◌, ◌&&◌, not, ℕ, Bool, true, false, true≢false, List, [], Option, Some, None, Result, Ok, Err, cond, refl, sym, ap, ◌∙◌, subst}
-use Rattle.std.specs.Prelude.{IfOk, codes, count_by, is_none, is_some, option_map, position, suc, ⊤}
+use Rattle.std.specs.Prelude.{IfOk, count_by, is_none, is_some, option_map, position, suc, ⊤}
 use Rattle.std.proofs.lemmas.Bool.{cond-false, cond-true}
 use Rattle.vdr_history.specs.Histories.{Act, Event, Incident, MayCome, Opening, incidents, last_stamp, live, next_place}
 use Rattle.vdr_history.specs.Histories.Act.{Look, Release, Save}
-use Rattle.vdr_history.specs.Runs.{Stamp}
-use Rattle.vdr_core.specs.Ended.{last_tick}
+use Rattle.vdr_history.specs.Runs.{Stamp, last_tick}
 use Rattle.vdr_durability.specs.Keeping.{moment_of}
-use Rattle.vdr_playback.specs.Replies.{Reply, act_of, answer_before, free_id, release_reply, reply, save_of, save_reply, tick_or_0}
+use Rattle.vdr_playback.specs.Replies.{Reply, act_of, answer_before, release_reply, reply, save_of, save_reply}
 use Rattle.vdr_playback.specs.Replies as replies
-use Rattle.vdr_playback.specs.Replies.Reply.{State, Saved, Released, NoLabel, NothingToSave, TableFull, NoIncident, Failed}
+use Rattle.vdr_playback.specs.Replies.Reply.{Saved, NoLabel, NothingToSave, TableFull, Failed}
 use Rattle.vdr_terms.specs.Texts.{is_label}
 use Rattle.vdr_incident.specs.declared.refused.ReleaseRefused.{ReleaseRefused}
 use Rattle.vdr_incident.specs.declared.refused.ReleaseRefused.TheVariants as releases
@@ -26,9 +25,9 @@ use Rattle.vdr_recorder.specs.Recordings.{HasDone, HasRecorded, RecorderState}
 use Rattle.vdr_run.specs.Starts.{stamp_of}
 use Rattle.vdr_recorder.proofs.Answering.{same_disk}
 use Rattle.vdr_recorder.proofs.Looking.{look_done}
-use Rattle.vdr_reply.specs.Answers.{HasAnswered, IsAnswer, Spells}
+use Rattle.vdr_reply.specs.Answers.{HasAnswered, Spells}
 use Rattle.vdr_reply.specs.Orders.{changes, granted_act, id_or_0, is_granted, order_of}
-use Rattle.vdr_reply.specs.Texts.{done_line, fault_line, id_line, release_line, save_line, state_line, text_of}
+use Rattle.vdr_reply.specs.Texts.{fault_line, id_line, release_line, save_line, state_line, text_of}
 use Rattle.vdr_reply.proofs.Coming.{come_last, same_some, save_is}
 
 -- a reply, as the media work or have failed by then
@@ -41,7 +40,7 @@ said_failed failed clock answer fails = ap (λ (b : Bool). answer_before (moment
 no_moment : (failed : Bool) (clock : ℕ) → failed ≡ true → moment_of failed clock ≡ None
 no_moment failed clock fails = ap (λ (b : Bool). moment_of b clock) fails
 
-tick_is : (o : Option Stamp) → last_tick (option_map stamp_of (option_map of_stamp o)) ≡ tick_or_0 o
+tick_is : (o : Option Stamp) → last_tick (option_map stamp_of (option_map of_stamp o)) ≡ last_tick o
 tick_is None = refl
 tick_is (Some s) = refl
 
@@ -101,8 +100,8 @@ module _ {tells tells_images : Type 0} (opening : Opening) (events : List Event)
       spelled (PlayOrder medium name from to) e = inl (is ∙ ap text_of (sym e))
 
   module _ (works : r.vault.failed ≡ false) where
-    stands : Stands opening events r.vault (h.works works).placed old
-    stands = (h.works works).stands
+    stands : Stands opening events r.vault (h.works works).standing.placed old
+    stands = (h.works works).standing.stands
 
     unchanged : (order : PlainOrder) → is_granted order r.vault ≡ false → changes order r.vault ≡ false
     unchanged order none = ap (λ (b : Bool). not b && is_granted order r.vault) works ∙ none
@@ -114,7 +113,7 @@ module _ {tells tells_images : Type 0} (opening : Opening) (events : List Event)
         → HasAnswered channels met_fault opening events t0 StatusOrder text r r old old
     status_answer is = still_answer StatusOrder (unchanged StatusOrder refl) (inl refl) (is ∙ told ∙ ap text_of (sym (said_working r.vault.failed old.clock (reply both opening events replies.Order.Status) works)))
       where
-        tick : last_tick (option_map stamp_of r.vault.last) ≡ tick_or_0 (last_stamp opening events)
+        tick : last_tick (option_map stamp_of r.vault.last) ≡ last_tick (last_stamp opening events)
         tick = ap (λ (o : Option (ℕ × _)). last_tick (option_map stamp_of o)) stands.newest ∙ tick_is (last_stamp opening events)
 
         told : state_line r.vault.next_place (last_tick (option_map stamp_of r.vault.last)) (count_by is_some r.vault.table) ≡ text_of (reply both opening events replies.Order.Status)

@@ -1,9 +1,9 @@
 -- What a save that came after these events keeps.
-use Rattle.std.proofs.Common.{◌≡◌, ℕ, List, [], ◌∷◌, ◌++◌, Option, Some, None, refl, sym, ap, ◌∙◌, subst, append-nil, append_assoc}
-use Rattle.std.specs.Prelude.{option_map, slice_get, suc, position, is_none}
+use Rattle.std.proofs.Common.{◌≡◌, ℕ, List, [], ◌∷◌, ◌++◌, Option, Some, None, sym, ap, ◌∙◌, subst, append-nil, append_assoc}
+use Rattle.std.specs.Prelude.{option_map, slice_get}
 use Rattle.vdr_terms.specs.Records.{Record, last}
 use Rattle.vdr_terms.specs.Windows.{window}
-use Rattle.vdr_history.specs.Histories.{Act, Event, MayCome, MayFollow, Opening, all_records, incidents}
+use Rattle.vdr_history.specs.Histories.{Act, Event, MayCome, MayFollow, Opening, all_records}
 use Rattle.vdr_playback.specs.Replies.{free_id, place_or_0, save_of}
 use Rattle.vdr_reply.specs.Orders.{id_or_0}
 

@@ -1,17 +1,14 @@
 -- What a play comes to as a reply of the history.
-use Rattle.std.proofs.Common.{◌≡◌, ◌⊎◌, inl, inr, ◌↔◌, ◌++◌, ◌&&◌, not, ℕ, ℤ, Bool, true, false, true≢false, List, Option, Some, None, Result, Ok, Err, length, refl, sym, ap, ◌∙◌, subst}
+use Rattle.std.proofs.Common.{◌≡◌, ◌⊎◌, inl, inr, ◌↔◌, ◌++◌, ◌&&◌, not, ℕ, ℤ, Bool, true, false, true≢false, List, Option, Some, None, Result, Ok, Err, length, refl, sym, ap, ◌∙◌}
 use Rattle.std.specs.Prelude.{bytes_eq, codes, is_none, is_some, OnOk, ⊤}
-use Rattle.std.specs.Io.KnownBytes.{Appends}
-use Rattle.std.proofs.lemmas.Bool.{cases_Bool}
 use Rattle.vdr_terms.specs.Queries.{Query}
 use Rattle.vdr_terms.specs.Records.{Record}
-use Rattle.vdr_history.specs.Histories.{Act, Event, Incident, Opening, incidents, live}
+use Rattle.vdr_history.specs.Histories.{Event, Incident, Opening, incidents, live}
 use Rattle.vdr_history.specs.Histories.Act.{Look}
 use Rattle.vdr_durability.specs.Keeping.{moment_of}
 use Rattle.vdr_playback.specs.Playback.{selected}
 use Rattle.vdr_playback.specs.Replies.{Reply, answer_before, is_there, play_reply, refusal_of, reply}
-use Rattle.vdr_playback.specs.Replies as replies
-use Rattle.vdr_playback.specs.Replies.Reply.{NoChannel, NoIncident, NoMedium}
+use Rattle.vdr_playback.specs.Replies.Reply.{NoChannel, NoIncident}
 use Rattle.vdr_play.specs.Streams.{nothing_seen}
 use Rattle.vdr_play.specs.Texts.{records_text}
 use Rattle.vdr_outside.specs.Disk.{Disk}
@@ -21,7 +18,7 @@ use Rattle.vdr_entry.specs.declared.query.Medium.{Medium}
 use Rattle.vdr_entry.specs.declared.query.Medium.TheVariants.{Capsule, LongTerm, Incident as AnIncident}
 use Rattle.vdr_opening.specs.Media.{both}
 use Rattle.vdr_control.specs.Orders.{PlainOrder}
-use Rattle.vdr_control.specs.Orders.PlainOrder.{Status as StatusOrder, Save as SaveOrder, Release as ReleaseOrder, Play as PlayOrder}
+use Rattle.vdr_control.specs.Orders.PlainOrder.{Play as PlayOrder}
 use Rattle.vdr_recorder.specs.Recordings.{HasDone, HasRecorded, RecorderState}
 use Rattle.vdr_visit.proofs.Channels.{has_number, number_if, position_within}
 use Rattle.vdr_visit.specs.Refusals.{lacks_channel, lacks_incident}
@@ -29,10 +26,10 @@ use Rattle.vdr_visit.specs.declared.refused.VisitRefused.{VisitRefused}
 use Rattle.vdr_visit.specs.declared.refused.VisitRefused.TheVariants as plays
 use Rattle.vdr_reply.specs.Answers.{HasAnswered, Spells}
 use Rattle.vdr_reply.specs.Orders.{channel_in, is_every, is_named, order_of, query_of}
-use Rattle.vdr_reply.specs.Texts.{IsPlayed, done_line, fault_line, memory_line, not_there_line, page_text, text_of}
+use Rattle.vdr_reply.specs.Texts.{IsPlayed, done_line, memory_line, not_there_line, page_text, text_of}
 use Rattle.vdr_reply.proofs.Answered.{looked_answer, said_working, still_answer}
 
-and_false : (b : Bool) → (not b && false) ≡ false
+pub and_false : (b : Bool) → (not b && false) ≡ false
 and_false true = refl
 and_false false = refl
 
@@ -104,7 +101,7 @@ module _ {tells tells_images : Type 0} (opening : Opening) (events : List Event)
       (spelled played refl is printed)
     where
       table_is : r.vault.table ≡ incidents opening events
-      table_is = (h.works works).stands.incidents_are
+      table_is = (h.works works).standing.stands.incidents_are
 
       said : answer_before (moment_of after.vault.failed new.clock) answer ≡ play_reply true (is_there both opening events query.medium) (refusal_of query.medium) (selected opening events query)
       said = said_working after.vault.failed new.clock answer goes ∙ ap (λ (b : Bool). play_reply b (is_there both opening events query.medium) (refusal_of query.medium) (selected opening events query)) named

@@ -1,5 +1,5 @@
 -- The orders of lines as the history knows them, and what they change (this project's profile).
-use Rattle.std.specs.Prelude.{ℕ, ℤ, List, Bool, true, false, ◌&&◌, ◌||◌, not, is_some, is_none, position, bytes_eq, codes, if◌then◌else◌, cond, Option, Some, None}
+use Rattle.std.specs.Prelude.{ℕ, ℤ, List, Bool, false, ◌&&◌, ◌||◌, not, is_some, is_none, position, bytes_eq, codes, if◌then◌else◌, Option, Some, None}
 use Rattle.vdr_terms.specs.Queries.{Query}
 use Rattle.vdr_history.specs.Histories.{Act, Event, Opening, live}
 use Rattle.vdr_playback.specs.Replies as replies

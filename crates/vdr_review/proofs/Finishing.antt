@@ -8,6 +8,7 @@ use Rattle.vdr_terms.specs.Rates.{Limit}
 use Rattle.vdr_terms.specs.Windows.{in_window, window, window_before}
 use Rattle.vdr_history.specs.Recorder.{closing, gaps_below, stop_of}
 use Rattle.vdr_core.specs.Replay.{fed, rest_after, taken_of, IsReplay}
+use Rattle.vdr_core.proofs.Meter.{last_snoc}
 use Rattle.vdr_run.specs.Making.{closing_by, rest_of}
 use Rattle.vdr_review.specs.declared.walk.Walk.{Walk}
 use Rattle.vdr_review.specs.Review.{review_start, review_seconds, reviewed}
@@ -34,14 +35,6 @@ none_left now (r ∷ rs) old =
   where
     out : second r.tick + review_seconds ≤ now → in_window (second r.tick) now review_seconds ≡ false
     out l = le-ltb now (second r.tick + review_seconds) l
-
-last_snoc : {A : Type 0} (xs : List A) (x : A) → last (xs ++ x ∷ []) ≡ Some x
-last_snoc [] x = refl
-last_snoc {A} (y ∷ ys) x = ap Some (go y ys)
-  where
-    go : (y : A) (ys : List A) → last_after y (ys ++ x ∷ []) ≡ x
-    go y [] = refl
-    go y (z ∷ zs) = go z zs
 
 abbrev in_it : ℕ → Record → Bool
 in_it now r = in_window (second r.tick) now review_seconds

@@ -13,13 +13,11 @@ use crate::kept::Kept;
 use std::alloc::{AllocError, Global};
 use std::collections::VecDeque;
 use std::marker::Model;
+use vdr_config::SHIP_CAPSULE_SECONDS;
 use vdr_entry::Record;
 use vdr_outside::{Failed, Printable, Sink};
 use vdr_play::{Tracks, print_record};
 use vdr_window::in_window;
-
-/// The seconds of a review: 48 hours, as the fixed medium keeps them (IEC 61996-1).
-pub(crate) const SECONDS: u64 = 172_800;
 
 /// The records in their order, without those that left the window for good.
 #[derive(Drop)]
@@ -49,7 +47,7 @@ fn print_shown<O: Sink>(
 fn has_left(kept: &Kept, last: u64) -> bool
     ensures { IsTrue result ↔ (second kept.now.tick + review_seconds ≤ last) }
 {
-    !in_window(kept.second(), last, SECONDS)
+    !in_window(kept.second(), last, SHIP_CAPSULE_SECONDS)
 }
 
 impl Model for Window {

@@ -1,24 +1,22 @@
 -- Which segment a query is asked of next, by what the index keeps.
 use Rattle.std.proofs.Common.{◌≡◌, ◌≢◌, ◌<◌, ℕ, Bool, true, false, List, [], ◌∷◌, get_or, slice_get, All, Contains, Option, Some, None, ⊎_elim, refl, sym, ap, ◌∙◌, subst, arith}
-use Rattle.std.specs.Prelude.{Any, option_map}
+use Rattle.std.specs.Prelude.{option_map}
 use Rattle.std.proofs.lemmas.Option.{none-some, same_Some, get_or_from_slice_get}
 use Rattle.std.proofs.lemmas.List.Elements.{All-nil, All-contains}
 use Rattle.vdr_terms.specs.Records.{Record, second}
 use Rattle.vdr_terms.specs.Order.{RunOn}
 use Rattle.vdr_terms.specs.Queries.{Query, Span, IsSummary, meets}
 use Rattle.vdr_entry.specs.declared.summary.Summary.{Summary}
-use Rattle.vdr_retention.proofs.Lists.{none_contained, contains_cases, all_from}
+use Rattle.vdr_retention.proofs.Lists.{all_from}
 use Rattle.vdr_retention.proofs.Summed.{one_of}
-use Rattle.vdr_survey.proofs.JoinLemmas.{one_summarised}
 use Rattle.vdr_index.specs.declared.known.Known.{Known}
 use Rattle.vdr_index.specs.Indexes.{IsCandidate, IsWithin, Keeps, MayAnswer, summary_of}
 use Rattle.vdr_index.specs.Indexes as indexes
-use Rattle.vdr_index.proofs.Ranks.{keeps_at}
-use Rattle.vdr_ring.specs.Sequence.{Placed, records_of, seq_of}
-use Rattle.vdr_ring.specs.Order.{HasNone, RunsOn, AreInPlace, AreInOrder}
-use Rattle.vdr_ring.specs.Lookup.{IsAbove}
-use Rattle.vdr_ring.specs.Indexed.{IsKnown, IsKnownAs, IsIndexed, Meets, IsNextToMeet, HasNoneSelected, is_selected}
-use Rattle.vdr_ring.proofs.Telling.{any_or_none}
+use Rattle.vdr_directory.specs.Sequence.{Placed, records_of, seq_of}
+use Rattle.vdr_directory.specs.Order.{RunsOn, AreInOrder}
+use Rattle.vdr_index.specs.Indexes.{IsAbove}
+use Rattle.vdr_directory.specs.Indexed.{IsKnown, IsKnownAs, IsIndexed, Meets, IsNextToMeet, HasNoneSelected, is_selected}
+use Rattle.vdr_directory.proofs.Known.{placed_at, kept_of, runs_on}
 
 -- above, in the words of the index
 
@@ -30,27 +28,7 @@ pub above_ring : (o : Option ℕ) (n : ℕ) → indexes.IsAbove o n → IsAbove 
 above_ring None n h = tt
 above_ring (Some m) n h = h
 
--- What is known of a segment is one
-
-some_record : (p : Placed) (k : Known) → IsKnown p k → HasNone p → ⊥
-some_record p k is none =
-    none-some k.summary.first_second (subst (λ (rs : List Record). option_map (λ r. second r.tick) (slice_get rs 0) ≡ Some k.summary.first_second) none is.summary.first_second)
-
-one_known : (p : Placed) (k l : Known) → IsKnown p k → IsKnown p l → k ≡ l
-one_known p k l a b = by_fields k l (a.seq ∙ sym b.seq) (a.first ∙ sym b.first)
-    (same_Some k.summary l.summary (one_summarised (records_of p) (Some k.summary) (Some l.summary) a.summary b.summary))
-  where
-    by_fields : (k l : Known) → k.seq ≡ l.seq → k.first ≡ l.first → k.summary ≡ l.summary → k ≡ l
-    by_fields k l e f g = λ i. record { seq = e i; first = f i; summary = g i }
-
 -- A record of a segment is within what is known of it
-
-runs_on : (o : Option Placed) (ps : List Placed) → AreInPlace o ps → (p : Placed) → Contains ps p → RunsOn p
-runs_on o [] h p m = absurd (none_contained p m)
-runs_on o (x ∷ xs) h p m = ⊎_elim
-    (λ (e : x ≡ p). subst RunsOn e h.0.runs_on)
-    (λ (k : Contains xs p). runs_on (Some x) xs h.1 p k)
-    (contains_cases x xs p m)
 
 first_place : (first : ℕ) (rs : List Record) (s : ℕ) → RunOn first rs → option_map (λ r. second r.tick) (slice_get rs 0) ≡ Some s → option_map (λ r. r.place) (slice_get rs 0) ≡ Some first
 first_place first [] s h is = absurd (none-some s is)
@@ -77,40 +55,19 @@ abbrev pub LeavesOut : Type 0
 LeavesOut = (query : Query) (span : Span) (k : Known) (records : List Record) → All (IsWithin k) records → meets query span (summary_of k) ≡ false → All (λ r. is_selected query span r ≡ false) records
 
 module _ (query : Query) (span : Span) (after : Option ℕ) (count : ℕ) (placed : List Placed) (index : List (Option Known)) (x : IsIndexed count placed index) where
-  -- the segment in a slot of which something is known
-  placed_at : (slot : ℕ) (k : Known) → Keeps index slot k → (p : Placed) × Contains placed p × (p.slot ≡ slot) × IsKnown p k
-  placed_at slot k at =
-      let is : get_or index slot None ≡ Some k = get_or_from_slice_get index slot (Some k) None at in
-      ⊎_elim
-      (λ (h : Any (λ p. p.slot ≡ slot) placed).
-      let p : Placed = h.1 in
-      let m : Contains placed p = (h.0, h.2, h.3) in
-      let known = All-contains (λ p. IsKnownAs p (get_or index p.slot None)) placed p x.kept m in
-      let r : (p : Placed) × Contains placed p × (p.slot ≡ slot) × IsKnown p k = (p, m, h.4, subst (IsKnownAs p) (ap (λ (j : ℕ). get_or index j None) h.4 ∙ is) known) in r)
-      (λ (h : All (λ p. p.slot ≢ slot) placed). absurd (none-some k (sym (x.clear slot h) ∙ is)))
-      (any_or_none placed slot)
-
-  -- what is known of a segment is kept in its slot
-  kept_of : (p : Placed) (k : Known) → Contains placed p → IsKnown p k → Keeps index p.slot k
-  kept_of p k m is = keeps_at index p.slot k (go (get_or index p.slot None) (All-contains (λ p. IsKnownAs p (get_or index p.slot None)) placed p x.kept m))
-    where
-      go : (o : Option Known) → IsKnownAs p o → o ≡ Some k
-      go None none = absurd (some_record p k is none)
-      go (Some l) there = ap (λ (y : Known). Some y) (one_known p l k there is)
-
   may_answer : (p : Placed) (k : Known) → IsKnown p k → IsAbove after (seq_of p) → meets query span (summary_of k) ≡ true → MayAnswer query span after k
   may_answer p k is up meets_it = record { above = subst (indexes.IsAbove after) (sym is.seq) (above_index after (seq_of p) up); meets_it = meets_it }
 
   pub found_next : (slot seq : ℕ) → (c : IsCandidate index query span after slot) → seq ≡ c.known.seq → (p : Placed) × IsNextToMeet query span after placed p × (slot ≡ p.slot) × (seq ≡ seq_of p)
   found_next slot seq c is =
-      let p = placed_at slot c.known c.there in (
+      let p = placed_at count placed index x slot c.known c.there in (
         p.0,
         record {
           there = p.1;
           above = above_ring after (seq_of p.0) (subst (indexes.IsAbove after) p.3.seq c.may.above);
           meets_it = record { known = c.known; is = p.3; meets_it = c.may.meets_it };
           least = λ q m up meet.
-              let le = c.least q.slot meet.known (kept_of q meet.known m meet.is) (may_answer q meet.known meet.is up meet.meets_it) in
+              let le = c.least q.slot meet.known (kept_of count placed index x q meet.known m meet.is) (may_answer q meet.known meet.is up meet.meets_it) in
               let a = p.3.seq in let b = meet.is.seq in omega (arith, le, a, b);
         },
         sym p.2,
@@ -118,7 +75,7 @@ module _ (query : Query) (span : Span) (after : Option ℕ) (count : ℕ) (place
       )
 
   pub none_meets : ((slot : ℕ) (k : Known) → Keeps index slot k → MayAnswer query span after k → ⊥) → (p : Placed) → Contains placed p → IsAbove after (seq_of p) → Meets query span p → ⊥
-  none_meets none p m up meet = none p.slot meet.known (kept_of p meet.known m meet.is) (may_answer p meet.known meet.is up meet.meets_it)
+  none_meets none p m up meet = none p.slot meet.known (kept_of count placed index x p meet.known m meet.is) (may_answer p meet.known meet.is up meet.meets_it)
 
   -- a segment that doesn't meet has no record that is selected
   left_out : LeavesOut → (order : AreInOrder placed) (q : Placed) → Contains placed q → (Meets query span q → ⊥) → HasNoneSelected query span q
@@ -138,7 +95,7 @@ module _ (query : Query) (span : Span) (after : Option ℕ) (count : ℕ) (place
   pub passed_some : LeavesOut → (slot seq : ℕ) (c : IsCandidate index query span after slot) → seq ≡ c.known.seq → AreInOrder placed → (q : Placed) → Contains placed q → IsAbove after (seq_of q) → seq_of q < seq
       → HasNoneSelected query span q
   passed_some law slot seq c is order q m up lt = left_out law order q m (λ meet.
-      let le = c.least q.slot meet.known (kept_of q meet.known m meet.is) (may_answer q meet.known meet.is up meet.meets_it) in
+      let le = c.least q.slot meet.known (kept_of count placed index x q meet.known m meet.is) (may_answer q meet.known meet.is up meet.meets_it) in
       let b = meet.is.seq in omega (arith, le, is, b, lt))
 
 -- what the index answers of a candidate's slot

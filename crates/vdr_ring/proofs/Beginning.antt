@@ -1,10 +1,8 @@
 -- A medium at every moment until a segment is begun.
-use Rattle.std.proofs.Common.{◌≡◌, ◌<◌, ◌≤◌, ◌+◌, ℕ, List, [], ◌∷◌, ◌++◌, length, slice_get, All, Contains, Option, Some, None, inl, inr, ⊎_elim, refl, sym, ap, ◌∙◌, subst, arith, length-set}
-use Rattle.std.specs.Prelude.{Any}
-use Rattle.std.proofs.lemmas.List.{get_or_append_left, length-append, length_push}
+use Rattle.std.proofs.Common.{◌≡◌, ◌≢◌, ◌<◌, ◌≤◌, ◌+◌, ℕ, List, [], ◌∷◌, ◌++◌, length, slice_get, All, Contains, Option, Some, None, inl, inr, ⊎_elim, refl, sym, ap, ◌∙◌, subst, arith, length-set}
 use Rattle.std.proofs.lemmas.List.Elements.{All-contains, Contains-append_left, Contains-append_right, Contains-append_cases}
 use Rattle.vdr_terms.specs.Records.{Record, last}
-use Rattle.vdr_terms.proofs.Somewhere.{any_there, any_left, any_right}
+use Rattle.vdr_terms.proofs.Somewhere.{any_left, any_right}
 use Rattle.vdr_outside.specs.Disk.{Disk}
 use Rattle.vdr_outside.specs.Moments.{ChangesOnly, Settled}
 use Rattle.vdr_outside.proofs.Moments.{changes_weaken, changes_join}
@@ -13,18 +11,20 @@ use Rattle.vdr_segment.specs.Segments.{Segment}
 use Rattle.vdr_slots.specs.Slots.{HoldsSlots, HoldsEither, slots_begun}
 use Rattle.vdr_slots.proofs.Holding.{slot_of}
 use Rattle.vdr_retention.specs.Retention.{Pin}
-use Rattle.vdr_retention.proofs.Lists.{contains_there, all_from, last_behind}
-use Rattle.vdr_ring.specs.declared.entry.Entry.{Entry}
-use Rattle.vdr_ring.specs.Sequence.{Placed, seq_of, batches_of, AreInSequence}
-use Rattle.vdr_ring.specs.Order.{AreInOrder}
-use Rattle.vdr_ring.specs.Tables.{TableState, begun_entry}
-use Rattle.vdr_ring.specs.Rings.{RingState, HoldsPlaced, HoldsAny, IsSameRing, Tells}
-use Rattle.vdr_ring.specs.Stages.{IsLeastClosed, Stages, BeginsAnew, next_seq, new_segment, with_batch_in}
+use Rattle.vdr_retention.proofs.Lists.{contains_there, all_from}
+use Rattle.vdr_directory.specs.declared.newest.Newest.{Newest}
+use Rattle.vdr_directory.specs.Sequence.{Placed, seq_of, batches_of, AreInSequence}
+use Rattle.vdr_directory.specs.Order.{AreInOrder}
+use Rattle.vdr_directory.specs.Directories.{DirectoryState}
+use Rattle.vdr_directory.specs.Holds.{HoldsPlaced, HoldsAny, Tells}
+use Rattle.vdr_ring.specs.Rings.{RingState, IsSameRing}
+use Rattle.vdr_directory.specs.Growing.{next_seq, new_segment, with_batch_in}
+use Rattle.vdr_ring.specs.Stages.{Stages, BeginsAnew}
 use Rattle.vdr_ring.specs.Appends.{MayCome, HasNoRoom, LeavesFree, IsFree, IsReady}
-use Rattle.vdr_ring.proofs.Placing.{begin_in_sequence, slot_closed}
-use Rattle.vdr_ring.proofs.Numbering.{seqs_below}
+use Rattle.vdr_directory.proofs.Placing.{begin_in_sequence, slot_closed}
+use Rattle.vdr_directory.proofs.Numbering.{seqs_below}
 use Rattle.vdr_ring.proofs.Staging.{victim_split, Finds, begins_anew}
-use Rattle.vdr_ring.proofs.Telling.{begins_with, least_closed, tells_begun}
+use Rattle.vdr_directory.proofs.Telling.{tells_begun}
 use Rattle.vdr_ring.proofs.Freeing.{holds_either, settled_slots, settled_placed}
 
 -- Some of more
@@ -62,6 +62,12 @@ pub begins : (size count seconds : ℕ) (pins : List Pin) (placed : List Placed)
     → HasNoRoom size placed records → BeginsAnew size count seconds pins placed first records (stages_begun closed (next_segment placed slot first) records)
 begins size count seconds pins placed first records slot closed leaves no_room = record { no_room = no_room; slot = slot; place = leaves; begun = refl; done = refl }
 
+-- What the directory keeps of a segment that is begun.
+pub begun_table : (t u : DirectoryState) (n : Newest) (slot slot' seq first : ℕ) → u ≡ record t { newest = Some n } → n ≡ record { slot = slot; seq = seq; first = first; end = 64 } → slot ≡ slot'
+    → u ≡ record t { newest = Some (record { slot = slot'; seq = seq; first = first; end = 64 }) }
+begun_table t u n slot slot' seq first is begun same =
+    is ∙ ap (λ (m : Newest). record t { newest = Some m }) (begun ∙ ap (λ (j : ℕ). record { slot = j; seq = seq; first = first; end = 64 }) same)
+
 module _ {tells tells_images : Type 0} where
   pub settled_at : (m n segment segment' count count' : ℕ) (placed : List Placed) (d : Disk tells tells_images) → n ≡ m → segment' ≡ segment → count' ≡ count
       → Settled n (HoldsPlaced segment' count' placed) d → Settled m (HoldsPlaced segment count placed) d
@@ -75,8 +81,8 @@ module _ {tells tells_images : Type 0} where
       changes_weaken m _ (HoldsAny segment count (placed ∷ closed ∷ begun ∷ [])) old mid moments (λ b h. any_left (λ (ps : List Placed). HoldsPlaced segment count ps b) (placed ∷ closed ∷ []) (begun ∷ []) h)
 
   -- The segment is begun.
-  module _ (m segment count seconds : ℕ) (pins : List Pin) (placed : List Placed) (slot seq first : ℕ) (closed : List Placed) (t : TableState) (old mid new : Disk tells tells_images) (told : tells)
-      (s : Settled m (HoldsPlaced segment count closed) mid) (tell : Tells count closed t) (first_closed : slice_get t.closed 0 ≡ Some slot) (leaves : LeavesFree count seconds pins placed slot closed)
+  module _ (m segment count seconds : ℕ) (pins : List Pin) (placed : List Placed) (slot seq first : ℕ) (closed : List Placed) (t : DirectoryState) (old mid new : Disk tells tells_images) (told : tells)
+      (s : Settled m (HoldsPlaced segment count closed) mid) (tell : Tells count closed t) (within : slot < count) (apart : All (λ p. p.slot ≢ slot) closed) (leaves : LeavesFree count seconds pins placed slot closed)
       (order : AreInOrder placed) (seq_is : seq ≡ next_seq (last placed)) where
     abbrev slots : List (Option Segment)
     slots = (s.reads told).slots
@@ -85,10 +91,7 @@ module _ {tells tells_images : Type 0} where
     every = (s.reads told).all_slots
 
     free : slice_get slots slot ≡ Some None
-    free =
-        let k : IsLeastClosed count closed slot = least_closed count closed t slot tell first_closed in
-        let w = k.within in
-        slot_closed slots closed slot (s.reads told).sequence (omega (arith, w, every)) k.closed
+    free = slot_closed slots closed slot (s.reads told).sequence (omega (arith, within, every)) apart
 
     sequence : AreInSequence (slots_begun slots slot seq first) (closed ++ new_segment slot seq first ∷ [])
     sequence = begin_in_sequence slots closed slot seq first (s.reads told).sequence free
@@ -110,15 +113,13 @@ module _ {tells tells_images : Type 0} where
         (λ b h. any_right (λ (ps : List Placed). HoldsPlaced segment count ps b) (placed ∷ []) (closed ∷ (closed ++ new_segment slot seq first ∷ []) ∷ [])
         (holds_either segment count slots (slots_begun slots slot seq first) closed (closed ++ new_segment slot seq first ∷ []) b (s.reads told).sequence sequence every every_begun h))))
 
-    pub begun_stands : (u : TableState) → ((slot : ℕ) (rest : List ℕ) → t.closed ≡ slot ∷ rest → (u.opened ≡ t.opened ++ begun_entry slot seq first ∷ []) × (u.closed ≡ rest)) → u.index ≡ t.index
+    pub begun_stands : (u : DirectoryState) → u ≡ record t { newest = Some (record { slot = slot; seq = seq; first = first; end = 64 }) }
         → ((slots : List (Option Segment)) → Settled m (HoldsSlots segment slots) mid → slice_get slots slot ≡ Some None → Settled m (HoldsSlots segment (slots_begun slots slot seq first)) new)
         → Settled m (HoldsPlaced segment count (closed ++ next_segment placed slot first ∷ [])) new × Tells count (closed ++ next_segment placed slot first ∷ []) u
-    begun_stands u table same settled =
-        let b = begins_with t.closed slot first_closed in
-        let k = table slot b.rest b.is in
+    begun_stands u directory settled =
         subst (λ (n : ℕ). Settled m (HoldsPlaced segment count (closed ++ new_segment slot n first ∷ [])) new × Tells count (closed ++ new_segment slot n first ∷ []) u) seq_is (
           settled_placed m segment count (slots_begun slots slot seq first) (closed ++ new_segment slot seq first ∷ []) new sequence every_begun (settled slots (settled_slots m segment count closed mid s told) free),
-          tells_begun count closed slot seq first b.rest t u tell b.is k.0 k.1 same,
+          tells_begun count closed slot seq first t u tell apart directory,
         )
 
   -- With the batch it is in order.
@@ -142,33 +143,19 @@ module _ {tells tells_images : Type 0} where
       } in
       (begins_anew segment count seconds pins h.slots placed first records stages finds b).done_order
 
--- The ring keeps its number of slots.
-pub begun_count : (t u : TableState) (seq first : ℕ) → 0 < length t.closed → ((slot : ℕ) (rest : List ℕ) → t.closed ≡ slot ∷ rest → (u.opened ≡ t.opened ++ begun_entry slot seq first ∷ []) × (u.closed ≡ rest))
-    → (length u.opened + length u.closed ≡ length t.opened + length t.closed) × (e : Entry) × (last u.opened ≡ Some e) × (e.survey.end ≡ 64)
-begun_count t u seq first some table = go t.closed refl some
-  where
-    go : (xs : List ℕ) → t.closed ≡ xs → 0 < length t.closed → (length u.opened + length u.closed ≡ length t.opened + length t.closed) × (e : Entry) × (last u.opened ≡ Some e) × (e.survey.end ≡ 64)
-    go [] is some = let k = ap length is in absurd (omega (arith, k, some))
-    go (slot ∷ rest) is some =
-        let k = table slot rest is in
-        let a = ap length k.0 in
-        let b = ap length k.1 in
-        let c = ap length is in
-        let d = length_push t.opened (begun_entry slot seq first) in
-        (omega (arith, a, b, c, d), begun_entry slot seq first, ap last k.0 ∙ last_behind t.opened (begun_entry slot seq first) [], refl)
-
 module _ {tells tells_images : Type 0} where
   -- What a free slot tells, of the ring before.
   pub free_at : (r q : RingState) (slot : ℕ) (closed : List Placed) (d : Disk tells tells_images) → IsSameRing r q → IsFree q slot closed d
-      → Settled r.medium (HoldsPlaced r.segment r.slots closed) d × Tells r.slots closed q.table × (slice_get q.table.closed 0 ≡ Some slot)
+      → Settled r.medium (HoldsPlaced r.segment r.slots closed) d × Tells r.slots closed q.directory × (slot < r.slots) × All (λ p. p.slot ≢ slot) closed
   free_at r q slot closed d same free = (
     settled_at r.medium q.medium r.segment q.segment r.slots q.slots closed d same.medium same.segment same.slots free.stands.settled,
-    subst (λ (n : ℕ). Tells n closed q.table) same.slots free.stands.table,
-    free.first,
+    subst (λ (n : ℕ). Tells n closed q.directory) same.slots free.stands.directory,
+    subst (λ (n : ℕ). slot < n) same.slots free.within,
+    free.free,
   )
 
   pub ready_at : (r q : RingState) (closed : List Placed) (new : Placed) (records : List Record) (d : Disk tells tells_images) → IsSameRing r q
-      → Settled r.medium (HoldsPlaced r.segment r.slots (closed ++ new ∷ [])) d × Tells r.slots (closed ++ new ∷ []) q.table → AreInOrder (closed ++ with_batch_in new records ∷ [])
+      → Settled r.medium (HoldsPlaced r.segment r.slots (closed ++ new ∷ [])) d × Tells r.slots (closed ++ new ∷ []) q.directory → AreInOrder (closed ++ with_batch_in new records ∷ [])
       → IsReady q records (stages_begun closed new records) d
   ready_at r q closed new records d same stands order = record {
     older = closed;
@@ -177,7 +164,7 @@ module _ {tells tells_images : Type 0} where
     done = refl;
     stands = record {
       settled = settled_at q.medium r.medium q.segment r.segment q.slots r.slots (closed ++ new ∷ []) d (sym same.medium) (sym same.segment) (sym same.slots) stands.0;
-      table = subst (λ (n : ℕ). Tells n (closed ++ new ∷ []) q.table) (sym same.slots) stands.1;
+      directory = subst (λ (n : ℕ). Tells n (closed ++ new ∷ []) q.directory) (sym same.slots) stands.1;
     };
     order = order;
   }

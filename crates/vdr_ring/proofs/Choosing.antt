@@ -1,133 +1,49 @@
--- The segment that goes, by the entries of the table.
-use Rattle.std.proofs.Common.{◌≡◌, ℕ, ◌+◌, ◌↔◌, ⊎_elim, Bool, true, false, not, ◌&&◌, ◌||◌, List, [], ◌∷◌, ◌++◌, length, map, position, All, Contains, IsTrue, Option, Some, None, nat_lt, nat_le, refl, sym, ap, ◌∙◌, subst, arith, add-zero}
-use Rattle.std.specs.Bool.{⊤}
-use Rattle.std.specs.Option.{IfSome, IfNone}
-use Rattle.std.specs.List.{list_all, position_from}
-use Rattle.std.proofs.lemmas.Bool.{cases_Bool, cond-true, cond-false, true≢false}
-use Rattle.std.proofs.lemmas.Option.{none-some, same_Some}
-use Rattle.std.proofs.lemmas.Grind.{common_steps}
-use Rattle.std.proofs.lemmas.List.Elements.{All-nil, All-cons}
+-- The segment that goes, by what the index knows of it.
+use Rattle.std.proofs.Common.{◌≡◌, ◌↔◌, ◌<◌, ◌+◌, ◌&&◌, ℕ, Bool, true, false, nat_le, List, [], ◌∷◌, ◌++◌, length, map, get_or, slice_get, All, Contains, IsTrue, Option, Some, None, option_map, inl, inr, ⊎_elim, refl, sym, ap, ◌∙◌, subst, arith}
+use Rattle.std.specs.List.{list_all}
+use Rattle.std.proofs.lemmas.Bool.{lt-ltb}
 use Rattle.std.proofs.lemmas.List.Folds.{list_all-map}
-use Rattle.std.proofs.lemmas.Iterator.Adapters.{position_from-zero}
-use Rattle.vdr_terms.specs.Records.{Record, second}
-use Rattle.vdr_retention.specs.Retention.{Pin, AreAmong}
-use Rattle.vdr_retention.specs.Victims.{IsExtent, IsLastSecond, MayGo, is_apart, may_go_by_numbers}
-use Rattle.vdr_retention.proofs.Lists.{none_contained, contains_here, contains_there, contains_cases}
+use Rattle.std.proofs.lemmas.Option.{none-some, same_Some, get_or_from_slice_get, slice_get_within}
+use Rattle.std.proofs.lemmas.List.Elements.{All-nil, All-contains, Contains-append_left}
+use Rattle.vdr_terms.specs.Records.{Record, second, last}
+use Rattle.vdr_terms.specs.Order.{RunOn}
+use Rattle.vdr_terms.specs.Windows.{window}
+use Rattle.vdr_retention.specs.Retention.{Pin, AreAmong, AreOutside, HaveNoPlace, within}
+use Rattle.vdr_retention.specs.Victims.{IsExtent, IsLastSecond, MayGo, is_apart}
+use Rattle.vdr_retention.proofs.Lists.{none_contained, contains_here, contains_there, contains_cases, last_contained, all_from}
 use Rattle.vdr_retention.proofs.Needed.{segment_among}
 use Rattle.vdr_retention.proofs.Choice.{may_go_by_numbers-decides}
-use Rattle.vdr_survey.specs.declared.extent.Extent.{Extent as SurveyExtent}
-use Rattle.vdr_survey.specs.Extents.{extent_of}
-use Rattle.vdr_ring.specs.declared.entry.Entry.{Entry}
+use Rattle.vdr_index.specs.declared.known.Known.{Known}
+use Rattle.vdr_index.specs.Indexes.{IsAbove, IsFirst, IsNextAbove, Keeps, passes_by}
+use Rattle.vdr_directory.specs.declared.newest.Newest.{Newest}
 use Rattle.vdr_ring.specs.declared.pins.Pin.{Pin as KeptPin}
-use Rattle.vdr_ring.specs.Sequence.{Placed, first_of, batches_of, records_of, segments_in, batches_in, all_records}
-use Rattle.vdr_ring.specs.Order.{RunsOn, AreInPlace, AreInOrder}
-use Rattle.vdr_ring.specs.Entries.{Describes, Describe}
-use Rattle.vdr_ring.specs.Stages.{IsOldest}
-use Rattle.vdr_ring.specs.Candidates.{pin_of, known_by, known_of, second_in}
-use Rattle.vdr_ring.proofs.Reaches.{known_is_extent, last_second_is}
+use Rattle.vdr_directory.specs.Sequence.{Placed, seq_of, batches_of, records_of, segments_in, all_records}
+use Rattle.vdr_directory.specs.Order.{HasNone, RunsOn, AreInOrder}
+use Rattle.vdr_directory.specs.Directories.{DirectoryState, newest_of}
+use Rattle.vdr_directory.specs.Holds.{Tells}
+use Rattle.vdr_directory.specs.Closed.{IsFull}
+use Rattle.vdr_ring.specs.Stages.{IsOldest, IsVictim}
+use Rattle.vdr_ring.specs.Candidates.{goes, known_of, pin_of}
+use Rattle.vdr_directory.specs.Indexed.{IsKnown}
+use Rattle.vdr_directory.proofs.Known.{IsInIndex, IsEarlier, Splits, in_index, not_before_empty, placed_at, runs_on, split_at}
+use Rattle.vdr_directory.proofs.Telling.{empty_told, newest_told}
 
--- By what the code tests
+-- What is known of a segment is what retention knows it by.
 
-none_pinned : (first : ℕ) (pins : List Pin) → true ≡ list_all (is_apart (known_by first None)) pins
-none_pinned first [] = refl
-none_pinned first (pin ∷ pins) = none_pinned first pins
+positive : (rs : List Record) (s : ℕ) → option_map (λ r. second r.tick) (slice_get rs 0) ≡ Some s → 0 < length rs
+positive [] s is = absurd (none-some s is)
+positive (r ∷ rs) s is = omega arith
 
-pub goes_without_records : (seconds : ℕ) (pins : List Pin) (medium_second first : ℕ) (o : Option SurveyExtent) → o ≡ None → true ≡ may_go_by_numbers seconds pins medium_second (known_by first o)
-goes_without_records seconds pins medium_second first o e =
-    none_pinned first pins ∙ ap (λ (o : Option SurveyExtent). may_go_by_numbers seconds pins medium_second (known_by first o)) (sym e)
+last_second : (rs : List Record) (s : ℕ) → option_map (λ r. second r.tick) (last rs) ≡ Some s → IsLastSecond s rs
+last_second rs s is newest e = same_Some s (second newest.tick) (sym is ∙ ap (option_map (λ (r : Record). second r.tick)) e)
 
-not_behind : (a b : ℕ) → not (nat_lt a b) ≡ nat_le b a
-not_behind a b = grind (arith, common_steps)
-
-pub goes_by_test : (seconds : ℕ) (pins : List KeptPin) (held : List Pin) (medium_second first : ℕ) (o : Option SurveyExtent) (x : SurveyExtent) (recent apart : Bool) → map pin_of pins ≡ held → o ≡ Some x
-    → recent ≡ nat_lt medium_second (second x.last_tick + seconds) → apart ≡ list_all (λ pin. nat_lt pin.b pin.a || (nat_lt pin.b first || nat_lt x.last_place pin.a)) pins
-    → (not recent && apart) ≡ may_go_by_numbers seconds held medium_second (known_by first o)
-goes_by_test seconds pins held medium_second first o x recent apart are e r a =
-    ap (λ (b : Bool). not b && apart) r
-    ∙ ap (λ (b : Bool). b && apart) (not_behind medium_second (second x.last_tick + seconds))
-    ∙ ap (λ (b : Bool). nat_le (second x.last_tick + seconds) medium_second && b) (a ∙ sym (list_all-map (is_apart (known_by first (Some x))) pin_of pins))
-    ∙ ap (λ (ps : List Pin). may_go_by_numbers seconds ps medium_second (known_by first (Some x))) are
-    ∙ ap (λ (o : Option SurveyExtent). may_go_by_numbers seconds held medium_second (known_by first o)) (sym e)
-
--- Of each described segment the test is the definition
-
-pub candidate_by_test : (seconds : ℕ) (pins : List Pin) (medium_second : ℕ) (held : List Record) (p : Placed) (e : Entry) → Describes p e → RunsOn p → AreAmong (records_of p) held → IsLastSecond medium_second held
-    → IsTrue (may_go_by_numbers seconds pins medium_second (known_of e)) ↔ MayGo seconds pins held (batches_of p)
-candidate_by_test seconds pins medium_second held p e h runs among lasts =
-    may_go_by_numbers-decides seconds pins held (batches_of p) medium_second (known_of e)
-    (subst (λ (first : ℕ). IsExtent (known_by first e.survey.extent) (records_of p)) (sym h.first) (known_is_extent (first_of p) (batches_of p) e.survey.extent h.survey.extent runs.places))
-    runs.ticks among lasts
-
--- The first that passes
-
--- the split of a list at the first of its elements that may go
-record IsFirst (MayGoes : Placed → Type 0) (placed before : List Placed) (victim : Placed) (after : List Placed) : Type 0 where
-  split : placed ≡ before ++ victim ∷ after
-  may_go : MayGoes victim
-  none_before : All (λ p. MayGoes p → ⊥) before
-
-Decides : (Entry → Bool) → (Placed → Type 0) → List Placed → List Entry → Type 0
-Decides test MayGoes [] [] = ⊤
-Decides test MayGoes [] (e ∷ es) = ⊥
-Decides test MayGoes (p ∷ ps) [] = ⊥
-Decides test MayGoes (p ∷ ps) (e ∷ es) = (IsTrue (test e) ↔ MayGoes p) × Decides test MayGoes ps es
-
-module _ (test : Entry → Bool) (MayGoes : Placed → Type 0) where
-  first_passes : (n i : ℕ) (placed : List Placed) (es : List Entry) → Decides test MayGoes placed es → position_from test n es ≡ Some i
-      → (before : List Placed) × (victim : Placed) × (after : List Placed) × (n + length before ≡ i) × IsFirst MayGoes placed before victim after
-  unfolding Decides
-  first_passes n i [] [] d e = absurd (none-some i e)
-  first_passes n i [] (x ∷ xs) d e = absurd d
-  first_passes n i (p ∷ ps) [] d e = absurd d
-  first_passes n i (p ∷ ps) (x ∷ xs) d e =
-      ⊎_elim
-      (λ (t : test x ≡ true). (
-        [],
-        p,
-        ps,
-        add-zero n ∙ same_Some n i (sym (cond-true (test x) (Some n) (position_from test (n + 1) xs) t) ∙ e),
-        record { split = refl; may_go = d.0.0 t; none_before = All-nil (λ p. MayGoes p → ⊥) },
-      ))
-      (λ (t : test x ≡ false).
-      let k = first_passes (n + 1) i ps xs d.1 (sym (cond-false (test x) (Some n) (position_from test (n + 1) xs) t) ∙ e) in
-      let at = k.3 in (
-        p ∷ k.0,
-        k.1,
-        k.2,
-        omega (arith, at),
-        record {
-          split = ap (λ (rest : List Placed). p ∷ rest) k.4.split;
-          may_go = k.4.may_go;
-          none_before = All-cons (λ p. MayGoes p → ⊥) p k.0 (λ go. true≢false (sym (d.0.1 go) ∙ t)) k.4.none_before;
-        },
-      ))
-      (cases_Bool (test x))
-
-  none_passes : (n : ℕ) (placed : List Placed) (es : List Entry) → Decides test MayGoes placed es → position_from test n es ≡ None → All (λ p. MayGoes p → ⊥) placed
-  unfolding Decides
-  none_passes n [] [] d e = All-nil (λ p. MayGoes p → ⊥)
-  none_passes n [] (x ∷ xs) d e = absurd d
-  none_passes n (p ∷ ps) [] d e = absurd d
-  none_passes n (p ∷ ps) (x ∷ xs) d e =
-      ⊎_elim
-      (λ (t : test x ≡ true). absurd (none-some n (sym e ∙ cond-true (test x) (Some n) (position_from test (n + 1) xs) t)))
-      (λ (t : test x ≡ false). All-cons (λ p. MayGoes p → ⊥) p ps (λ go. true≢false (sym (d.0.1 go) ∙ t))
-      (none_passes (n + 1) ps xs d.1 (sym (cond-false (test x) (Some n) (position_from test (n + 1) xs) t) ∙ e)))
-      (cases_Bool (test x))
-
--- Of the segments of a medium
-
-module _ (seconds : ℕ) (pins : List Pin) (medium_second : ℕ) where
-  decides_behind : (held : List Record) (o : Option Placed) (placed : List Placed) (es : List Entry) → Describe placed es → AreInPlace o placed → ((p : Placed) → Contains placed p → AreAmong (records_of p) held)
-      → IsLastSecond medium_second held → Decides (λ e. may_go_by_numbers seconds pins medium_second (known_of e)) (λ p. MayGo seconds pins held (batches_of p)) placed es
-  unfolding Decides
-  decides_behind held o [] [] h order among lasts = tt
-  decides_behind held o [] (e ∷ es) h order among lasts = absurd h
-  decides_behind held o (p ∷ ps) [] h order among lasts = absurd h
-  decides_behind held o (p ∷ ps) (e ∷ es) h order among lasts = (
-    candidate_by_test seconds pins medium_second held p e h.0 order.0.runs_on (among p (contains_here p ps)) lasts,
-    decides_behind held (Some p) ps es h.1 order.1 (λ q m. among q (contains_there p ps q m)) lasts,
-  )
+known_is_extent : (p : Placed) (k : Known) → IsKnown p k → RunsOn p → IsExtent (known_of k) (records_of p)
+known_is_extent p k is runs = record {
+  some = sym (lt-ltb 0 (length (records_of p)) (positive (records_of p) k.summary.first_second is.summary.first_second));
+  places = subst (λ (n : ℕ). RunOn n (records_of p)) (sym is.first) runs.places;
+  ends = ap (λ (n : ℕ). k.first + n) is.count;
+  seconds = last_second (records_of p) k.summary.last_second is.summary.last_second;
+}
 
 own_records : (placed : List Placed) (p : Placed) → Contains placed p → AreAmong (records_of p) (all_records placed)
 own_records placed p m = segment_among (segments_in placed) (batches_of p) (contains_map placed p m)
@@ -140,33 +56,122 @@ own_records placed p m = segment_among (segments_in placed) (batches_of p) (cont
         (λ (k : Contains xs p). contains_there (batches_of x) (segments_in xs) (batches_of p) (contains_map xs p k))
         (contains_cases x xs p m)
 
--- What the code tests of each entry, where the medium's records reach so far.
-abbrev Test : ℕ → List Pin → Option SurveyExtent → Entry → Bool
-Test seconds pins o e = may_go_by_numbers seconds pins (second_in o) (known_of e)
+-- by what the code tests
+pub goes_by_test : (seconds : ℕ) (pins : List KeptPin) (held : List Pin) (medium_second : ℕ) (k : Known) (o : Option Known) (old apart : Bool) → map pin_of pins ≡ held → o ≡ Some k
+    → old ≡ nat_le (k.summary.last_second + seconds) medium_second → old ≡ true → apart ≡ list_all (λ pin. is_apart (known_of k) (pin_of pin)) pins → apart ≡ passes_by (goes seconds held medium_second) o
+goes_by_test seconds pins held medium_second k o old apart are is e so a =
+    a ∙ sym (list_all-map (is_apart (known_of k)) pin_of pins) ∙ ap (list_all (is_apart (known_of k))) are
+    ∙ ap (λ (b : Bool). b && list_all (is_apart (known_of k)) held) (sym (sym e ∙ so)) ∙ ap (passes_by (goes seconds held medium_second)) (sym is)
 
-module _ (seconds : ℕ) (pins : List Pin) (placed : List Placed) (es : List Entry) (h : Describe placed es) (order : AreInOrder placed) (o : Option SurveyExtent) (reach : o ≡ extent_of (batches_in placed)) where
-  decides : Decides (Test seconds pins o) (λ p. MayGo seconds pins (all_records placed) (batches_of p)) placed es
-  decides = decides_behind seconds pins (second_in o) (all_records placed) None placed es h order (own_records placed) (last_second_is placed o reach)
+pub first_within : (index : List (Option Known)) (test : Known → Bool) (slot : ℕ) → IsFirst index test slot → slot < length index
+first_within index test slot f = slice_get_within index slot (Some f.known) f.there
 
-  oldest_of : (i : ℕ) → position (Test seconds pins o) es ≡ Some i
-      → (before : List Placed) × (victim : Placed) × (after : List Placed) × (length before ≡ i) × IsOldest seconds pins placed before victim after
-  oldest_of i e =
-      let k = first_passes (Test seconds pins o) (λ p. MayGo seconds pins (all_records placed) (batches_of p)) 0 i placed es decides (sym (position_from-zero (Test seconds pins o) es) ∙ e) in
-      let at = k.3 in
-      (k.0, k.1, k.2, omega (arith, at), record { split = k.4.split; may_go = k.4.may_go; none_before = k.4.none_before })
+-- A segment without records may always go.
+empty_goes : (seconds : ℕ) (pins : List Pin) (held : List Record) (p : Placed) → HasNone p → MayGo seconds pins held (batches_of p)
+empty_goes seconds pins held p none = record {
+  old = subst (AreOutside seconds held) (sym none) (All-nil (λ (r : Record). Contains (window seconds held) r → ⊥));
+  free = all_from (λ pin. HaveNoPlace pin.a pin.b (records_of p)) pins (λ pin m. subst (HaveNoPlace pin.a pin.b) (sym none) (All-nil (λ r. within pin.a pin.b r ≡ false)));
+}
 
-  none_of : position (Test seconds pins o) es ≡ None → All (λ p. MayGo seconds pins (all_records placed) (batches_of p) → ⊥) placed
-  none_of e =
-      none_passes (Test seconds pins o) (λ p. MayGo seconds pins (all_records placed) (batches_of p)) 0 placed es decides (sym (position_from-zero (Test seconds pins o) es) ∙ e)
+module _ (seconds : ℕ) (pins : List Pin) (s count : ℕ) (placed : List Placed) (t : DirectoryState) (tells : Tells count placed t) (order : AreInOrder placed) (lasts : IsLastSecond s (all_records placed)) where
+  decides : (p : Placed) (k : Known) → Contains placed p → IsKnown p k → IsTrue (goes seconds pins s k) ↔ MayGo seconds pins (all_records placed) (batches_of p)
+  decides p k m is =
+      let runs = runs_on None placed order p m in
+      may_go_by_numbers-decides seconds pins (all_records placed) (batches_of p) s (known_of k) (known_is_extent p k is runs) runs.ticks (own_records placed p m) lasts
 
-module _ (seconds : ℕ) (pins : List Pin) (es : List Entry) (o : Option SurveyExtent) (reach : (placed : List Placed) → Describe placed es → o ≡ extent_of (batches_in placed)) where
-  pub oldest_at : (r : Option ℕ) → r ≡ position (Test seconds pins o) es
-      → IfSome r (λ i. (placed : List Placed) → Describe placed es → AreInOrder placed
-      → (before : List Placed) × (victim : Placed) × (after : List Placed) × (length before ≡ i) × IsOldest seconds pins placed before victim after)
-  oldest_at None e = tt
-  oldest_at (Some i) e = λ placed h order. oldest_of seconds pins placed es h order o (reach placed h) i (sym e)
+  -- none before this one may go
+  none_before : (p : Placed) → Contains placed p → (sp : Splits placed p) → ((other : ℕ) (l : Known) → Keeps t.index other l → goes seconds pins s l ≡ true → l.seq < seq_of p → ⊥)
+      → All (λ q. MayGo seconds pins (all_records placed) (batches_of q) → ⊥) sp.before
+  none_before p m sp least = all_from (λ q. MayGo seconds pins (all_records placed) (batches_of q) → ⊥) sp.before (λ q n may.
+      let there : Contains placed q = subst (λ (ps : List Placed). Contains ps q) (sym sp.split) (Contains-append_left sp.before (p ∷ sp.after) q n) in
+      let earlier : IsEarlier q p = All-contains (λ q. IsEarlier q p) sp.before q sp.earlier n in
+      go q there earlier may (in_index count placed t.index tells.index q there))
+    where
+      go : (q : Placed) → Contains placed q → IsEarlier q p → MayGo seconds pins (all_records placed) (batches_of q) → IsInIndex t.index q → ⊥
+      go q there earlier may (inl (none, at)) = not_before_empty placed order p q m there earlier none
+      go q there earlier may (inr (l, at, is)) = let lt = earlier.0 in let seq = is.seq in least q.slot l at ((decides q l there is).1 may) (omega (arith, lt, seq))
 
-  pub none_at : (r : Option ℕ) → r ≡ position (Test seconds pins o) es
-      → IfNone r ((placed : List Placed) → Describe placed es → AreInOrder placed → All (λ p. MayGo seconds pins (all_records placed) (batches_of p) → ⊥) placed)
-  none_at None e = λ placed h order. none_of seconds pins placed es h order o (reach placed h) (sym e)
-  none_at (Some i) e = tt
+  pub oldest_first : (slot : ℕ) → IsFirst t.index (goes seconds pins s) slot → (before : List Placed) × (victim : Placed) × (after : List Placed) × IsOldest seconds pins placed before victim after × (slot ≡ victim.slot)
+  oldest_first slot f =
+      let p = placed_at count placed t.index tells.index slot f.known f.there in
+      let sp = split_at None placed order p.0 p.1 in
+      let seq = p.3.seq in (
+        sp.before,
+        p.0,
+        sp.after,
+        record {
+          split = sp.split;
+          may_go = (decides p.0 f.known p.1 p.3).0 f.passed;
+          none_before = none_before p.0 p.1 sp (λ other l at passes lt. let le = f.least other l at passes in omega (arith, le, lt, seq));
+        },
+        sym p.2,
+      )
+
+  pub oldest_empty : (n : Newest) → ((slot : ℕ) (k : Known) → Keeps t.index slot k → goes seconds pins s k ≡ true → ⊥) → t.newest ≡ Some n → get_or t.index n.slot None ≡ None
+      → (before : List Placed) × (victim : Placed) × (after : List Placed) × IsOldest seconds pins placed before victim after × (n.slot ≡ victim.slot)
+  oldest_empty n none is clear =
+      let p = newest_told count placed t tells n is in
+      let m : Contains placed p.0 = last_contained placed p.0 p.1 in
+      let slot : n.slot ≡ p.0.slot = ap (λ (n : Newest). n.slot) p.2 in
+      let sp = split_at None placed order p.0 m in (
+        sp.before,
+        p.0,
+        sp.after,
+        record {
+          split = sp.split;
+          may_go = empty_goes seconds pins (all_records placed) p.0 (empty p.0 (ap (λ (j : ℕ). get_or t.index j None) (sym slot) ∙ clear) (in_index count placed t.index tells.index p.0 m));
+          none_before = none_before p.0 m sp (λ other l at passes lt. none other l at passes);
+        },
+        slot,
+      )
+    where
+      empty : (p : Placed) → get_or t.index p.slot None ≡ None → IsInIndex t.index p → HasNone p
+      empty p clear (inl (none, at)) = none
+      empty p clear (inr (k, at, is)) = absurd (none-some k (sym clear ∙ get_or_from_slice_get t.index p.slot (Some k) None at))
+
+  pub none_goes : ((slot : ℕ) (k : Known) → Keeps t.index slot k → goes seconds pins s k ≡ true → ⊥) → ((n : Newest) → t.newest ≡ Some n → (k : Known) × (get_or t.index n.slot None ≡ Some k))
+      → All (λ p. MayGo seconds pins (all_records placed) (batches_of p) → ⊥) placed
+  none_goes none some = all_from (λ p. MayGo seconds pins (all_records placed) (batches_of p) → ⊥) placed (λ p m may. go p m may (in_index count placed t.index tells.index p m))
+    where
+      go : (p : Placed) → Contains placed p → MayGo seconds pins (all_records placed) (batches_of p) → IsInIndex t.index p → ⊥
+      go p m may (inl (empty, at)) = let k = some (newest_of p) (empty_told count placed t tells order p m empty) in none-some k.0 (sym at ∙ k.1)
+      go p m may (inr (k, at, is)) = none p.slot k at ((decides p k m is).1 may)
+
+-- Where none may go, it is the oldest of all.
+module _ (seconds count : ℕ) (pins : List Pin) (placed : List Placed) (t : DirectoryState) (tells : Tells count placed t) (order : AreInOrder placed)
+    (none : All (λ p. MayGo seconds pins (all_records placed) (batches_of p) → ⊥) placed) where
+  in_it : (p : Placed) → Contains placed p → (k : Known) × Keeps t.index p.slot k × IsKnown p k
+  in_it p m = go (in_index count placed t.index tells.index p m)
+    where
+      go : IsInIndex t.index p → (k : Known) × Keeps t.index p.slot k × IsKnown p k
+      go (inl (empty, at)) = absurd (All-contains (λ p. MayGo seconds pins (all_records placed) (batches_of p) → ⊥) placed p none m (empty_goes seconds pins (all_records placed) p empty))
+      go (inr k) = k
+
+  pub forced : (slot : ℕ) → IsNextAbove t.index None slot → (before : List Placed) × (victim : Placed) × (after : List Placed) × IsVictim seconds pins placed before victim after × (slot ≡ victim.slot)
+  forced slot f =
+      let p = placed_at count placed t.index tells.index slot f.known f.there in
+      let sp = split_at None placed order p.0 p.1 in
+      let first : sp.before ≡ [] = none_earlier p.0 p.3.seq sp sp.before refl in (
+        sp.before,
+        p.0,
+        sp.after,
+        inr (first, record { split = sp.split ∙ ap (λ (qs : List Placed). qs ++ p.0 ∷ sp.after) first; none = none }),
+        sym p.2,
+      )
+    where
+      none_earlier : (p : Placed) → f.known.seq ≡ seq_of p → (sp : Splits placed p) → (qs : List Placed) → sp.before ≡ qs → sp.before ≡ []
+      none_earlier p seq sp [] is = is
+      none_earlier p seq sp (q ∷ qs) is =
+          let n : Contains sp.before q = subst (λ (ps : List Placed). Contains ps q) (sym is) (contains_here q qs) in
+          let there : Contains placed q = subst (λ (ps : List Placed). Contains ps q) (sym sp.split) (Contains-append_left sp.before (p ∷ sp.after) q n) in
+          let k = in_it q there in
+          let le = f.least q.slot k.0 k.1 tt in
+          let lt = (All-contains (λ q. IsEarlier q p) sp.before q sp.earlier n).0 in
+          let seq_q = k.2.seq in absurd (omega (arith, le, lt, seq, seq_q))
+
+  pub none_forced : ((slot : ℕ) (k : Known) → Keeps t.index slot k → IsAbove None k.seq → ⊥) → 0 < count → IsFull count placed → ⊥
+  none_forced empty some full = go placed refl
+    where
+      go : (ps : List Placed) → placed ≡ ps → ⊥
+      go [] is = let e = ap length is in omega (arith, e, full, some)
+      go (p ∷ ps) is = let k = in_it p (subst (λ (qs : List Placed). Contains qs p) (sym is) (contains_here p ps)) in empty p.slot k.0 k.1 tt

@@ -6,7 +6,7 @@ use Rattle.vdr_outside.specs.declared.fault.PartRefused.{PartRefused}
 use Rattle.vdr_outside.specs.declared.fault.PartRefused.TheVariants.{Fault}
 use Rattle.vdr_outside.proofs.Counts.{rose_after, none_falls_join}
 use Rattle.vdr_terms.proofs.Results.{same_err}
-use Rattle.vdr_ring.specs.Opening.{HasFaultCause}
+use Rattle.vdr_directory.specs.Opening.{HasFaultCause}
 
 -- calls that succeeded, and then one more
 pub fault_after : {T : Type 0} (m : ℕ) (a b c : List ℕ) (r : Result T PartRefused) → NoneFalls a b → HasFaultCause m b c r → HasFaultCause m a c r

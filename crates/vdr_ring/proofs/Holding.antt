@@ -1,132 +1,139 @@
--- Which places stand in segments, found by a walk over a table's entries.
-use Rattle.std.proofs.Common.{◌≡◌, ◌<◌, ◌≤◌, ◌⊎◌, inl, inr, ⊎_elim, ℕ, zero, suc, ◌+◌, List, [], ◌∷◌, length, get_or, drop, Option, Some, None, refl, sym, ◌∙◌, ap, subst, arith}
-use Rattle.std.specs.Prelude.{◌↔◌, Any}
-use Rattle.std.proofs.Math.Seq.{drop-nil}
-use Rattle.vdr_terms.proofs.Somewhere.{any_cases, any_here, any_there, any_none}
-use Rattle.vdr_ring.specs.declared.entry.Entry.{Entry}
-use Rattle.vdr_ring.specs.Sequence.{Placed, first_of}
-use Rattle.vdr_ring.specs.Order.{next_place, RunsOn, AreInPlace, AreInOrder, HasPlace}
-use Rattle.vdr_ring.specs.Entries.{Describes, Describe}
-use Rattle.vdr_ring.specs.Lookup.{HoldAll}
-use Rattle.vdr_ring.proofs.Indexing.{lt_or_le}
+-- Which places stand in segments, found by a walk over an index in its order.
+use Rattle.std.proofs.Common.{◌≡◌, ◌↔◌, ◌<◌, ◌≤◌, ◌⊎◌, inl, inr, ⊎_elim, ℕ, ◌+◌, List, length, get_or, Contains, Option, Some, None, sym, ◌∙◌, ap, subst, arith}
+use Rattle.std.specs.Prelude.{Any}
+use Rattle.std.proofs.lemmas.Bool.{cases_eq, cases_lt}
+use Rattle.std.proofs.lemmas.Option.{none-some, same_Some, get_or_from_slice_get}
+use Rattle.std.proofs.lemmas.List.{get_or_default}
+use Rattle.vdr_index.specs.declared.known.Known.{Known}
+use Rattle.vdr_index.specs.Indexes.{Keeps}
+use Rattle.vdr_index.specs.Keys.{IsOrdered}
+use Rattle.vdr_index.proofs.Ranks.{Stands, keeps_at, keeps_lt, one_place, place_of, seqs_rise}
+use Rattle.vdr_directory.specs.Sequence.{Placed, first_of}
+use Rattle.vdr_directory.specs.Order.{AreInOrder, HasPlace}
+use Rattle.vdr_directory.specs.Lookup.{HoldAll}
+use Rattle.vdr_directory.specs.Indexed.{IsKnown, IsIndexed}
+use Rattle.vdr_directory.proofs.Known.{IsInIndex, IsEarlier, in_index, placed_at, which_first}
 
--- One segment and those behind it
+-- The segment of which this is known has the place.
+abbrev pub KnownHas : Known → ℕ → Type 0
+KnownHas k place = (k.first ≤ place) × (place < k.first + k.summary.count)
 
-places_behind : (q : Placed) (ps : List Placed) (place : ℕ) → AreInPlace (Some q) ps → Any (HasPlace place) ps → next_place q ≤ place
-places_behind q [] place h any = absurd (any_none (HasPlace place) any)
-places_behind q (p ∷ ps) place h any =
-    let a : next_place q ≤ first_of p = h.0.follows.place in
-    ⊎_elim
-    (λ (k : HasPlace place p). let b = k.from in let c : next_place q ≤ place = omega (arith, a, b) in c)
-    (λ (k : Any (HasPlace place) ps). let b = places_behind p ps place h.1 k in let c : next_place q ≤ place = omega (arith, a, b) in c)
-    (any_cases (HasPlace place) p ps any)
+has_by : (p : Placed) (k : Known) (place : ℕ) → IsKnown p k → KnownHas k place → HasPlace place p
+has_by p k place is h = let f = is.first in let c = is.count in let a = h.0 in let b = h.1 in record { from = omega (arith, f, a); below = omega (arith, f, c, b) }
 
-module _ (o : Option Placed) (p : Placed) (ps : List Placed) (order : AreInPlace o (p ∷ ps)) (place b : ℕ) (le : place ≤ b) where
-  -- it has all of them
-  all_here : HasPlace place p → b < next_place p → HoldAll place b (p ∷ ps)
-  all_here here end k from to = let f = here.from in any_here (HasPlace k) p ps (record { from = omega (arith, f, from); below = omega (arith, to, end) })
+-- What was found of the first i slots: the places before this one stand in segments, and none of theirs has this one.
+pub record LeftAt (a place : ℕ) (placed : List Placed) (order : List ℕ) (i : ℕ) : Type 0 where
+  pub before : (k : ℕ) → a ≤ k → k < place → Any (HasPlace k) placed
+  pub none : (j d : ℕ) (p : Placed) → j < i → Contains placed p → p.slot ≡ get_or order j d → HasPlace place p → ⊥
 
-  -- it has them up to its end
-  some_here : HasPlace place p → HoldAll place b (p ∷ ps) ↔ HoldAll (next_place p) b ps
-  some_here here = (
-    λ all k from to. ⊎_elim
-        (λ (x : HasPlace k p). absurd (let y = x.below in omega (arith, y, from)))
-        (λ (x : Any (HasPlace k) ps). x)
-        (any_cases (HasPlace k) p ps (all k (let y = here.below in omega (arith, y, from)) to)),
-    λ rest k from to. ⊎_elim
-        (λ (lt : k < next_place p). let f = here.from in any_here (HasPlace k) p ps (record { from = omega (arith, f, from); below = lt }))
-        (λ (ge : next_place p ≤ k). any_there (HasPlace k) p ps (rest k ge to))
-        (lt_or_le k (next_place p)),
-  )
+abbrev pub HasLeft : (a place : ℕ) (index : List (Option Known)) (order : List ℕ) (i : ℕ) → Type 0
+HasLeft a place index order i = (count : ℕ) (placed : List Placed) → IsIndexed count placed index → AreInOrder placed → LeftAt a place placed order i
 
-  -- it lacks the first of them
-  none_here : (HasPlace place p → ⊥) → HoldAll place b (p ∷ ps) ↔ HoldAll place b ps
-  none_here not = (
-    λ all k from to. ⊎_elim
-        (λ (x : HasPlace k p). absurd (missing all k x from))
-        (λ (x : Any (HasPlace k) ps). x)
-        (any_cases (HasPlace k) p ps (all k from to)),
-    λ rest k from to. any_there (HasPlace k) p ps (rest k from to),
-  )
+pub left_all : (a : ℕ) (index : List (Option Known)) (order : List ℕ) → HasLeft a a index order 0
+left_all a index order count placed x in_order = record { before = λ k from to. absurd (omega (arith, from, to)); none = λ j d p lt m at has. absurd (omega (arith, lt)) }
+
+module _ (index : List (Option Known)) (order : List ℕ) (o : IsOrdered index order) (a place b i : ℕ) (within : i < length order) (left : HasLeft a place index order i) where
+  abbrev here : ℕ
+  here = get_or order i 0
+
+  one_more : (count : ℕ) (placed : List Placed) → IsIndexed count placed index → AreInOrder placed → ((p : Placed) → Contains placed p → p.slot ≡ here → HasPlace place p → ⊥) → LeftAt a place placed order (i + 1)
+  one_more count placed x in_order not =
+      let l = left count placed x in_order in
+      record {
+        before = l.before;
+        none = λ j d p lt m at has. ⊎_elim
+            (λ (e : j ≡ i). not p m (at ∙ ap (λ (n : ℕ). get_or order n d) e ∙ get_or_default order i d 0 within) has)
+            (λ (ne : j ≡ i → ⊥). l.none j d p (omega (arith, lt, ne)) m at has)
+            (cases_eq j i);
+      }
+
+  -- the slot is clear
+  pub left_clear : get_or index here None ≡ None → HasLeft a place index order (i + 1)
+  left_clear clear count placed x in_order = one_more count placed x in_order (λ p m at has. go p at has (in_index count placed index x p m))
     where
-      missing : HoldAll place b (p ∷ ps) → (k : ℕ) → HasPlace k p → place ≤ k → ⊥
-      missing all k x from =
-          ⊎_elim
-          (λ (y : HasPlace place p). not y)
-          (λ (y : Any (HasPlace place) ps).
-          let behind = places_behind p ps place order.1 y in
-          let c = x.below in
-          let bad : ⊥ = omega (arith, behind, c, from) in
-          bad)
-          (any_cases (HasPlace place) p ps (all place (omega arith) le))
+      go : (p : Placed) → p.slot ≡ here → HasPlace place p → IsInIndex index p → ⊥
+      go p at has (inl (none, gone)) = let e = ap length none in let f = has.from in let c = has.below in omega (arith, e, f, c)
+      go p at has (inr (k, there, is)) = none-some k (sym clear ∙ ap (λ (j : ℕ). get_or index j None) (sym at) ∙ get_or_from_slice_get index p.slot (Some k) None there)
 
--- The walk: at each index the rest has to hold the places that are left.
-abbrev pub HasLeft : (a place b : ℕ) (entries : List Entry) (i : ℕ) → Type 0
-HasLeft a place b entries i = (placed : List Placed) → Describe placed entries → AreInOrder placed → HoldAll a b placed ↔ HoldAll place b (drop i placed)
+  module _ (k : Known) (at : get_or index here None ≡ Some k) where
+    there : Keeps index here k
+    there = keeps_at index here k at
 
-record Stands (placed : List Placed) (i : ℕ) (e : Entry) : Type 0 where
-  p : Placed
-  rest : List Placed
-  split : drop i placed ≡ p ∷ rest
-  behind : drop (i + 1) placed ≡ rest
-  described : Describes p e
-  before : Option Placed
-  order : AreInPlace before (p ∷ rest)
+    -- what is known of it is known of the segment in the slot
+    is_of : (j count : ℕ) (placed : List Placed) → IsIndexed count placed index → (p : Placed) → Contains placed p → p.slot ≡ here → HasPlace j p → KnownHas k j
+    is_of j count placed x p m slot has = go (in_index count placed index x p m)
+      where
+        go : IsInIndex index p → KnownHas k j
+        go (inl (none, clear)) = absurd (none-some k (sym clear ∙ ap (λ (j : ℕ). get_or index j None) slot ∙ at))
+        go (inr (l, kept, is)) =
+            let same : l ≡ k = same_Some l k (sym (get_or_from_slice_get index p.slot (Some l) None kept) ∙ ap (λ (j : ℕ). get_or index j None) slot ∙ at) in
+            let f : l.first ≡ first_of p = is.first in
+            let c = is.count in
+            let from = has.from in
+            let below = has.below in
+            subst (λ (k : Known). KnownHas k j) same (omega (arith, f, from), omega (arith, f, c, below))
 
-stands_at : (o : Option Placed) (placed : List Placed) (entries : List Entry) (i : ℕ) (d : Entry) → i < length entries → Describe placed entries → AreInPlace o placed → Stands placed i (get_or entries i d)
-stands_at o [] [] i d within h order = absurd (omega (arith, within))
-stands_at o [] (x ∷ xs) i d within h order = absurd h
-stands_at o (p ∷ ps) [] i d within h order = absurd h
-stands_at o (p ∷ ps) (x ∷ xs) zero d within h order = record { p = p; rest = ps; split = refl; behind = refl; described = h.0; before = o; order = order }
-stands_at o (p ∷ ps) (x ∷ xs) (suc i) d within h order =
-    let s = stands_at (Some p) ps xs i d (omega (arith, within)) h.1 order.1 in
-    record {
-      p = s.p;
-      rest = s.rest;
-      split = s.split;
-      behind = (let e : suc i + 1 ≡ suc (i + 1) = omega arith in ap (λ (n : ℕ). drop n (p ∷ ps)) e) ∙ s.behind;
-      described = s.described;
-      before = s.before;
-      order = s.order;
+    pub left_still : (KnownHas k place → ⊥) → HasLeft a place index order (i + 1)
+    left_still not count placed x in_order = one_more count placed x in_order (λ p m slot has. not (is_of place count placed x p m slot has))
+
+    -- it has the place, and all up to its last one
+    up_to : (count : ℕ) (placed : List Placed) (x : IsIndexed count placed index) → AreInOrder placed → KnownHas k place → (j : ℕ) → a ≤ j → j < k.first + k.summary.count → Any (HasPlace j) placed
+    up_to count placed x in_order has j from to = ⊎_elim
+        (λ (lt : j < place). (left count placed x in_order).before j from lt)
+        (λ (le : place ≤ j). let low = has.0 in anywhere (has_by p.0 k j p.3 (omega (arith, low, le), to)))
+        (cases_lt j place)
+      where
+        p : (p : Placed) × Contains placed p × (p.slot ≡ here) × IsKnown p k
+        p = placed_at count placed index x here k there
+
+        anywhere : HasPlace j p.0 → Any (HasPlace j) placed
+        anywhere h = let m = p.1 in (m.0, p.0, m.1, m.2, h)
+
+    pub left_found : KnownHas k place → place ≤ b → KnownHas k b → (count : ℕ) (placed : List Placed) → IsIndexed count placed index → AreInOrder placed → HoldAll a b placed
+    left_found has le end count placed x in_order j from to = up_to count placed x in_order has j from (let e = end.1 in omega (arith, to, e))
+
+    pub left_next : KnownHas k place → HasLeft a (k.first + k.summary.count) index order (i + 1)
+    left_next has count placed x in_order = record {
+      before = λ j from to. up_to count placed x in_order has j from to;
+      none = λ j d q lt m slot holds. ⊎_elim
+          (λ (e : j ≡ i). let bad = (is_of (k.first + k.summary.count) count placed x q m (slot ∙ ap (λ (n : ℕ). get_or order n d) e ∙ get_or_default order i d 0 within) holds).1 in omega (arith, bad))
+          (λ (ne : j ≡ i → ⊥). sooner count placed x in_order q m (in_index count placed index x q m) j d (omega (arith, lt, ne)) slot holds)
+          (cases_eq j i);
     }
+      where
+        sooner : (count : ℕ) (placed : List Placed) → (x : IsIndexed count placed index) → AreInOrder placed → (q : Placed) → Contains placed q → IsInIndex index q → (j d : ℕ) → j < i → q.slot ≡ get_or order j d → HasPlace (k.first + k.summary.count) q → ⊥
+        sooner count placed x in_order q m (inl (none, clear)) j d lt slot holds = let e = ap length none in let f = holds.from in let c = holds.below in omega (arith, e, f, c)
+        sooner count placed x in_order q m (inr (l, kept, is)) j d lt slot holds =
+            let p = placed_at count placed index x here k there in
+            let stands_j : Stands index order o q.slot j = record { within = omega (arith, lt, within); is = λ e. get_or_default order j e d (omega (arith, lt, within)) ∙ sym slot } in
+            let stands_i : Stands index order o here i = record { within = within; is = λ e. get_or_default order i e 0 within } in
+            let le : l.seq ≤ k.seq = seqs_rise index order o j i q.slot here l k stands_j stands_i (omega (arith, lt)) kept there in
+            ⊎_elim
+            (λ (e : p.0 ≡ q).
+            let same : j ≡ i = one_place index order o here j i (subst (λ (s : ℕ). Stands index order o s j) (sym (ap (λ (r : Placed). r.slot) e) ∙ p.2) stands_j) stands_i in omega (arith, same, lt))
+            (λ (h : IsEarlier q p.0 ⊎ IsEarlier p.0 q). ⊎_elim
+            (λ (s : IsEarlier q p.0).
+            let end = s.1 in
+            let below = holds.below in
+            let first = p.3.first in omega (arith, end, below, first))
+            (λ (s : IsEarlier p.0 q).
+            let seqs = s.0 in
+            let mine = p.3.seq in
+            let theirs = is.seq in omega (arith, seqs, mine, theirs, le))
+            h)
+            (which_first placed in_order p.0 q p.1 m)
 
-module _ (a place b : ℕ) (entries : List Entry) (i : ℕ) (d : Entry) (within : i < length entries) (le : place ≤ b) (left : HasLeft a place b entries i) where
-  pub left_here : (last : ℕ) → b ≤ last → ((p : Placed) → Describes p (get_or entries i d) → RunsOn p → HasPlace place p × (suc last ≡ next_place p))
-      → (placed : List Placed) → Describe placed entries → AreInOrder placed → HoldAll a b placed
-  left_here last end here placed h order =
-      let s = stands_at None placed entries i d within h order in
-      let k = here s.p s.described s.order.0.runs_on in
-      let n = k.1 in
-      (left placed h order).1 (subst (HoldAll place b) (sym s.split) (all_here s.before s.p s.rest s.order place b le k.0 (omega (arith, end, n))))
-
-  -- with the place behind the segment's last one, or with the same place
-  left_from : (next : ℕ) → ((placed : List Placed) (s : Stands placed i (get_or entries i d)) → HoldAll place b (s.p ∷ s.rest) ↔ HoldAll next b s.rest) → HasLeft a next b entries (i + 1)
-  left_from next same placed h order =
-      let s = stands_at None placed entries i d within h order in
-      let l = left placed h order in
-      let m = same placed s in (
-        λ all. subst (HoldAll next b) (sym s.behind) (m.0 (subst (HoldAll place b) s.split (l.0 all))),
-        λ rest. l.1 (subst (HoldAll place b) (sym s.split) (m.1 (subst (HoldAll next b) s.behind rest))),
-      )
-
-  pub left_next : (last : ℕ) → last < b → ((p : Placed) → Describes p (get_or entries i d) → RunsOn p → HasPlace place p × (suc last ≡ next_place p)) → HasLeft a (last + 1) b entries (i + 1)
-  left_next last end here =
-      left_from (last + 1) (λ placed s.
-      let k = here s.p s.described s.order.0.runs_on in
-      let n = k.1 in
-      subst (λ (j : ℕ). HoldAll place b (s.p ∷ s.rest) ↔ HoldAll j b s.rest) (omega (arith, n)) (some_here s.before s.p s.rest s.order place b le k.0))
-
-  pub left_still : ((p : Placed) → Describes p (get_or entries i d) → RunsOn p → HasPlace place p → ⊥) → HasLeft a place b entries (i + 1)
-  left_still none =
-      left_from place (λ placed s. none_here s.before s.p s.rest s.order place b le (none s.p s.described s.order.0.runs_on))
-
-none_past : (placed : List Placed) (entries : List Entry) (i : ℕ) → Describe placed entries → length entries ≤ i → drop i placed ≡ []
-none_past [] entries i h past = drop-nil i
-none_past (p ∷ ps) [] i h past = absurd h
-none_past (p ∷ ps) (e ∷ es) zero h past = absurd (omega (arith, past))
-none_past (p ∷ ps) (e ∷ es) (suc i) h past = none_past ps es i h.1 (omega (arith, past))
-
-pub left_done : (a place b : ℕ) (entries : List Entry) (i : ℕ) → place ≤ b → length entries ≤ i → HasLeft a place b entries i
-    → (placed : List Placed) → Describe placed entries → AreInOrder placed → HoldAll a b placed → ⊥
-left_done a place b entries i le past left placed h order all =
-    any_none (HasPlace place) (subst (HoldAll place b) (none_past placed entries i h past) ((left placed h order).0 all) place (omega arith) le)
+-- none has the place that is left
+pub left_done : (index : List (Option Known)) (order : List ℕ) → IsOrdered index order → (a place b i : ℕ) → a ≤ place → place ≤ b → length order ≤ i → HasLeft a place index order i
+    → (count : ℕ) (placed : List Placed) → IsIndexed count placed index → AreInOrder placed → HoldAll a b placed → ⊥
+left_done index order o a place b i from le past left count placed x in_order all =
+    let h = all place from le in
+    let m : Contains placed h.1 = (h.0, h.2, h.3) in
+    go h.1 m h.4 (in_index count placed index x h.1 m)
+  where
+    go : (p : Placed) → Contains placed p → HasPlace place p → IsInIndex index p → ⊥
+    go p m has (inl (none, clear)) = let e = ap length none in let f = has.from in let c = has.below in omega (arith, e, f, c)
+    go p m has (inr (k, kept, is)) =
+        let s = place_of index order o p.slot (keeps_lt index order o p.slot k kept) in
+        let lt : s.0 < length order = s.1.within in
+        (left count placed x in_order).none s.0 0 p (omega (arith, lt, past)) m (sym (s.1.is 0)) has

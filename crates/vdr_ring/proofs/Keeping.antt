@@ -1,6 +1,6 @@
 -- An append that a configuration allows keeps the window and the pinned records at every moment.
-use Rattle.std.proofs.Common.{◌≡◌, ◌⊎◌, inl, inr, ⊎_elim, ℕ, zero, suc, ◌+◌, ◌≤◌, List, [], ◌∷◌, ◌++◌, Result, Ok, Err, OnOk, refl, sym, subst, arith}
-use Rattle.std.specs.Prelude.{Any, ⊤}
+use Rattle.std.proofs.Common.{◌≡◌, ◌⊎◌, inl, inr, ⊎_elim, ℕ, ◌+◌, ◌≤◌, List, [], ◌∷◌, ◌++◌, Result, Ok, Err, OnOk, refl, sym, subst, arith}
+use Rattle.std.specs.Prelude.{⊤}
 use Rattle.vdr_terms.specs.Records.{Record}
 use Rattle.vdr_terms.specs.Needs.{Sizes, cost, usable}
 use Rattle.vdr_outside.specs.Disk.{Disk}
@@ -8,10 +8,12 @@ use Rattle.vdr_terms.specs.Sizes.{batch_size}
 use Rattle.vdr_terms.proofs.Somewhere.{any_cases, any_none}
 use Rattle.vdr_segment.specs.Batches.{IsBatch}
 use Rattle.vdr_retention.specs.Retention.{Pin, Retains}
-use Rattle.vdr_ring.specs.Sequence.{Placed, all_records, batches_in}
-use Rattle.vdr_ring.specs.Order.{AreInOrder}
-use Rattle.vdr_ring.specs.Rings.{RingState, HoldsPlaced, HoldsAny, Reads}
-use Rattle.vdr_ring.specs.Stages.{AreStages, Stages, Continues}
+use Rattle.vdr_directory.specs.Sequence.{Placed, all_records, batches_in}
+use Rattle.vdr_directory.specs.Order.{AreInOrder}
+use Rattle.vdr_directory.specs.Holds.{HoldsPlaced, HoldsAny}
+use Rattle.vdr_ring.specs.Rings.{RingState, Reads}
+use Rattle.vdr_directory.specs.Growing.{Continues}
+use Rattle.vdr_ring.specs.Stages.{AreStages, Stages}
 use Rattle.vdr_ring.specs.Regularity.{AreRegular, IsAllowed, MissOneAtMost}
 use Rattle.vdr_ring.specs.Keeping.{IsKept, HasKept}
 use Rattle.vdr_ring.proofs.Staging.{stages_in_order}

@@ -1,12 +1,8 @@
 -- The last batch of a segment as it is walked over and read, and of a medium.
-use Rattle.std.proofs.Common.{◌≡◌, ◌≢◌, ◌<◌, ◌≤◌, ◌+◌, ◌-◌, ℕ, Bool, true, false, cond, List, [], ◌∷◌, ◌++◌, length, take, drop, reverse, All, Contains, Option, Some, None, Bor, option_map, find, is_some, slice_get, refl, sym, ap, ◌∙◌, subst, arith, append-nil}
-use Rattle.std.specs.Option.{option_or}
+use Rattle.std.proofs.Common.{◌≡◌, ◌≢◌, ◌<◌, ◌≤◌, ◌+◌, ◌-◌, ℕ, List, [], ◌∷◌, ◌++◌, length, take, drop, All, Some, slice_get, refl, sym, ap, ◌∙◌, subst, arith, append-nil}
 use Rattle.std.proofs.lemmas.List.{append_assoc, length-drop, length-take}
 use Rattle.std.proofs.lemmas.List.Elements.{All-nil, All-contains, All-head, All-tail}
-use Rattle.std.proofs.lemmas.Grind.{reverse_onto}
-use Rattle.std.proofs.lemmas.List.Folds.{find-append}
 use Rattle.std.proofs.lemmas.List.Sums.{sum_by-cons, sum_by_push}
-use Rattle.std.proofs.lemmas.Option.{none-some, same_Some}
 use Rattle.vdr_terms.specs.Records.{Record, last, last_after}
 use Rattle.vdr_terms.specs.Legality.{IsRecord}
 use Rattle.vdr_terms.specs.Sizes.{record_size, records_size, batch_size}
@@ -22,19 +18,14 @@ use Rattle.vdr_segment.specs.declared.step.Walk.TheVariants.{Batch}
 use Rattle.vdr_segment.proofs.WalkLemmas.{first_begins, records_behind, begun_size}
 use Rattle.vdr_segment.proofs.BatchListLemmas.{one_batches}
 use Rattle.vdr_slots.proofs.Holding.{slot_of}
-use Rattle.vdr_survey.specs.declared.extent.Extent.{Extent}
-use Rattle.vdr_survey.specs.Extents.{extent_of}
 use Rattle.vdr_survey.specs.Surveys.{BreaksAt}
 use Rattle.vdr_survey.proofs.SpanLemmas.{Front, front_none, front_more, span_records, never_both}
-use Rattle.vdr_retention.proofs.Lists.{contains_here, contains_there, last_behind}
-use Rattle.vdr_ring.specs.declared.entry.Entry.{Entry}
-use Rattle.vdr_ring.specs.Sequence.{Placed, batches_of, batches_in}
-use Rattle.vdr_ring.specs.Entries.{Describe}
-use Rattle.vdr_ring.specs.Candidates.{has_records}
-use Rattle.vdr_ring.specs.Rings.{RingState, HoldsPlaced, Reads}
+use Rattle.vdr_retention.proofs.Lists.{last_behind}
+use Rattle.vdr_directory.specs.Sequence.{Placed, batches_of, batches_in}
+use Rattle.vdr_directory.specs.Holds.{HoldsPlaced}
+use Rattle.vdr_ring.specs.Rings.{RingState, Reads}
 use Rattle.vdr_ring.specs.Visits.{IsLoaded}
 use Rattle.vdr_ring.specs.Lasts.{batch_or_none, AreOfBatch, IsLastSlot}
-use Rattle.vdr_ring.proofs.Ends.{none_recorded}
 
 -- The batches that were walked over, the last of which has these bytes of records.
 pub record Walked (segment : List ℕ) (end : ℕ) (bytes : List ℕ) : Type 0 where
@@ -106,74 +97,6 @@ batch_fits bytes [] room fits size some = absurd (some refl)
 batch_fits [] (r ∷ rs) room fits size some = let none : ⊥ = omega (arith, size, sum_by-cons record_size r rs) in absurd none
 batch_fits (x ∷ xs) (r ∷ rs) room fits size some = let high = fits (λ none. omega (arith, ap length none)) in omega (arith, high, size)
 
--- Which segment has the last batch
-
-find_reversed : (e : Entry) (es : List Entry) → find has_records (reverse (e ∷ es)) ≡ option_or (find has_records (reverse es)) (cond (has_records e) (Some e) None)
-find_reversed e es = ap (find has_records) (reverse_onto es e []) ∙ find-append has_records (reverse es) (e ∷ [])
-
--- what holds of all entries holds of the one that is found
-pub found_has : (P : Entry → Type 0) (es : List Entry) → All P es → (x : Entry) → find has_records (reverse es) ≡ Some x → P x
-found_has P [] all x is = absurd (none-some x is)
-found_has P (e ∷ es) all x is = go (find has_records (reverse es)) (found_has P es (All-tail P e es all)) (sym (find_reversed e es) ∙ is)
-  where
-    here : (b : Bool) → cond b (Some e) None ≡ Some x → P x
-    here true same = subst P (same_Some e x same) (All-head P e es all)
-    here false same = absurd (none-some x same)
-
-    go : (o : Option Entry) → ((y : Entry) → o ≡ Some y → P y) → option_or o (cond (has_records e) (Some e) None) ≡ Some x → P x
-    go None more same = here (has_records e) same
-    go (Some y) more same = more x same
-
-none_left : (bs : List (List Record)) → All IsBatch bs → extent_of bs ≡ None → bs ≡ []
-none_left [] legal none = refl
-none_left ([] ∷ bs) legal none = absurd (let k = (All-head IsBatch [] bs legal).some in omega (arith, k))
-none_left ((r ∷ rs) ∷ bs) legal none = absurd (let k = ap length (none_recorded ((r ∷ rs) ∷ bs) none).0 in omega (arith, k))
-
-one_left : (bs : List (List Record)) (x : Extent) → extent_of bs ≡ Some x → (b : List Record) × (last bs ≡ Some b)
-one_left [] x some = absurd (none-some x some)
-one_left (b ∷ bs) x some = (last_after b bs, refl)
-
-last_with_more : (xs ys : List (List Record)) (b : List Record) → last ys ≡ Some b → last (xs ++ ys) ≡ Some b
-last_with_more xs [] b is = absurd (none-some b is)
-last_with_more xs (y ∷ ys) b is = last_behind xs y ys ∙ is
-
--- the last batch of all is that of the segment of this entry, or there is none
-abbrev Ends : List Placed → Option Entry → Type 0
-Ends placed None = batches_in placed ≡ []
-Ends placed (Some e) = (p : Placed) × Contains placed p × (p.slot ≡ e.slot) × (b : List Record) × (last (batches_of p) ≡ Some b) × (last (batches_in placed) ≡ Some b)
-
-ends_found : (placed : List Placed) (es : List Entry) → Describe placed es → All (λ p. All IsBatch (batches_of p)) placed → Ends placed (find has_records (reverse es))
-ends_found [] [] h legal = refl
-ends_found [] (e ∷ es) h legal = absurd h
-ends_found (p ∷ ps) [] h legal = absurd h
-ends_found (p ∷ ps) (e ∷ es) h legal =
-    subst (Ends (p ∷ ps)) (sym (find_reversed e es)) (more (find has_records (reverse es)) (ends_found ps es h.1 (All-tail (λ p. All IsBatch (batches_of p)) p ps legal)))
-  where
-    alone : batches_in ps ≡ [] → batches_in (p ∷ ps) ≡ batches_of p
-    alone none = ap (λ (bs : List (List Record)). batches_of p ++ bs) none ∙ append-nil (batches_of p)
-
-    here : batches_in ps ≡ [] → (o : Option Extent) → e.survey.extent ≡ o → Ends (p ∷ ps) (cond (is_some o) (Some e) None)
-    here none None is = alone none ∙ none_left (batches_of p) (All-head (λ p. All IsBatch (batches_of p)) p ps legal) (sym h.0.survey.extent ∙ is)
-    here none (Some x) is =
-        let k = one_left (batches_of p) x (sym h.0.survey.extent ∙ is) in
-        (p, contains_here p ps, sym h.0.slot, k.0, k.1, ap last (alone none) ∙ k.1)
-
-    more : (o : Option Entry) → Ends ps o → Ends (p ∷ ps) (option_or o (cond (has_records e) (Some e) None))
-    more None none = here none e.survey.extent refl
-    more (Some f) k = (k.0, contains_there p ps k.0 k.1, k.2, k.3, k.4, last_with_more (batches_of p) (batches_in ps) k.3 k.5)
-
-pub last_slot_none : (placed : List Placed) (es : List Entry) → find has_records (reverse es) ≡ None → Describe placed es → All (λ p. All IsBatch (batches_of p)) placed → IsLastSlot placed None
-last_slot_none placed es none h legal = ap last (subst (Ends placed) none (ends_found placed es h legal))
-
-pub last_slot_some : (placed : List Placed) (es : List Entry) (e : Entry) → find has_records (reverse es) ≡ Some e → Describe placed es → All (λ p. All IsBatch (batches_of p)) placed → IsLastSlot placed (Some e.slot)
-last_slot_some placed es e some h legal =
-    let k = subst (Ends placed) some (ends_found placed es h legal) in
-    (k.0, k.1, k.2, k.5 ∙ sym k.4)
-
--- what was found among entries
-pub find_told : (found there : Option (Bor Entry)) (o : Option Entry) → option_map (λ e. e.now) found ≡ o → found ≡ there → o ≡ option_map (λ e. e.now) there
-find_told found there o is same = sym is ∙ ap (λ (r : Option (Bor Entry)). option_map (λ e. e.now) r) same
-
 -- The slot that is loaded
 
 -- its segment's batches are one list
@@ -187,7 +110,7 @@ module _ {tells tells_images : Type 0} (ring now : RingState) (placed : List Pla
   reads_on = subst (λ (r : RingState). Reads r placed read) (sym same) (record {
     settled = settled_still ring.medium (HoldsPlaced ring.segment ring.slots placed) disk read unchanged reads.settled;
     order = reads.order;
-    table = reads.table;
+    directory = reads.directory;
     loaded = subst (λ (r : RingState). IsLoaded r read) same (loaded reads.loaded);
   })
 

@@ -5,11 +5,11 @@ use Rattle.vdr_terms.specs.Records.{Record, last_after, last}
 use Rattle.vdr_terms.specs.Order.{RunOn, NeverFalls, AreInOrder as RecordsAreInOrder}
 use Rattle.vdr_retention.proofs.Lists.{none_contained, ticks_from}
 use Rattle.vdr_retention.proofs.Ordered.{places_run, run_on_in_order, append_in_order as join_in_order}
-use Rattle.vdr_ring.specs.Sequence.{Placed, first_of, records_of, all_records}
-use Rattle.vdr_ring.specs.Order.{next_place, HasNone, Follows, MayPrecede, AreInPlace, AreInOrder}
-use Rattle.vdr_ring.specs.Stages.{next_of, tick_of}
-use Rattle.vdr_ring.proofs.Runs.{last_behind_some, after_last, ticks_to_last, ticks_on, first_to_last}
-use Rattle.vdr_ring.proofs.Ordering.{has_records}
+use Rattle.vdr_directory.specs.Sequence.{Placed, first_of, records_of, all_records}
+use Rattle.vdr_directory.specs.Order.{next_place, HasNone, Follows, MayPrecede, AreInPlace, AreInOrder}
+use Rattle.vdr_directory.specs.Growing.{next_of, tick_of}
+use Rattle.vdr_directory.proofs.Runs.{last_behind_some, after_last, ticks_to_last, ticks_on, first_to_last}
+use Rattle.vdr_directory.proofs.Ordering.{has_records}
 
 -- All records are in order
 

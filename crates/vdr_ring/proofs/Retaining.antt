@@ -16,8 +16,10 @@ use Rattle.vdr_retention.proofs.Appended.{batch_retains, begin_retains, close_re
 use Rattle.vdr_retention.proofs.Paced.{append_stays_regular, begin_stays_paced, begin_stays_regular, full_where_unfit, remove_stays_regular}
 use Rattle.vdr_retention.proofs.Needed.{one_victim}
 use Rattle.vdr_retention.proofs.Victims.{medium_has_victim}
-use Rattle.vdr_ring.specs.Sequence.{Placed, batches_of, segments_in, all_records}
-use Rattle.vdr_ring.specs.Stages.{AreStages, BeginsAnew, GoesOn, HasRoom, IsFull, IsLeastClosed, IsOldest, IsVictim, Stages, new_segment, next_seq, with_batch_in}
+use Rattle.vdr_directory.specs.Sequence.{Placed, batches_of, segments_in, all_records}
+use Rattle.vdr_directory.specs.Closed.{IsFull, IsLeastClosed}
+use Rattle.vdr_directory.specs.Growing.{new_segment, next_seq, with_batch_in}
+use Rattle.vdr_ring.specs.Stages.{AreStages, BeginsAnew, GoesOn, HasRoom, IsOldest, IsVictim, Stages}
 use Rattle.vdr_ring.specs.Regularity.{AreRegular, IsAllowed}
 
 -- Segments, as placed and as batches

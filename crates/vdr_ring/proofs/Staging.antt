@@ -13,17 +13,19 @@ use Rattle.vdr_retention.specs.Layout.{segment_records}
 use Rattle.vdr_retention.specs.Retention.{Pin, AreOutside}
 use Rattle.vdr_retention.proofs.Lists.{last_behind, last_contained}
 use Rattle.vdr_retention.proofs.Retained.{in_the_window}
-use Rattle.vdr_ring.specs.Sequence.{Placed, seq_of, batches_of, records_of, all_records, AreInSequence}
-use Rattle.vdr_ring.specs.Order.{AreInOrder}
-use Rattle.vdr_ring.specs.Stages.{IsFull, IsLeastClosed, IsVictim, next_seq, HasRoom, new_segment, with_batch_in, Stages, GoesOn, BeginsAnew, AreStages, next_of, tick_of, Continues}
-use Rattle.vdr_ring.proofs.Runs.{nil_from_last}
-use Rattle.vdr_ring.proofs.Placing.{append_in_sequence, close_in_sequence, begin_in_sequence, slot_closed}
-use Rattle.vdr_ring.proofs.Ordering.{NewestHasRecords, append_in_order, close_in_order, begin_in_order, begin_with_batch_in_order, last_in_newest}
-use Rattle.vdr_ring.proofs.Numbering.{seqs_below, next_seq_low}
+use Rattle.vdr_directory.specs.Sequence.{Placed, seq_of, batches_of, records_of, all_records, AreInSequence}
+use Rattle.vdr_directory.specs.Order.{AreInOrder}
+use Rattle.vdr_directory.specs.Closed.{IsFull, IsLeastClosed}
+use Rattle.vdr_directory.specs.Growing.{next_seq, new_segment, with_batch_in, next_of, tick_of, Continues}
+use Rattle.vdr_ring.specs.Stages.{IsVictim, HasRoom, Stages, GoesOn, BeginsAnew, AreStages}
+use Rattle.vdr_directory.proofs.Runs.{nil_from_last}
+use Rattle.vdr_directory.proofs.Placing.{append_in_sequence, close_in_sequence, begin_in_sequence, slot_closed}
+use Rattle.vdr_directory.proofs.Ordering.{NewestHasRecords, append_in_order, close_in_order, begin_in_order, begin_with_batch_in_order, last_in_newest}
+use Rattle.vdr_directory.proofs.Numbering.{seqs_below, next_seq_low}
 
 -- The newest segment, where it has no room
 
-no_batches : (bs : List (List Record)) → All IsBatch bs → segment_records bs ≡ [] → bs ≡ []
+pub no_batches : (bs : List (List Record)) → All IsBatch bs → segment_records bs ≡ [] → bs ≡ []
 no_batches [] legal e = refl
 no_batches (b ∷ bs) legal e =
     let k : IsBatch b = All-head IsBatch b bs legal in

@@ -16,13 +16,13 @@ use Rattle.vdr_survey.specs.Selections.{is_selected}
 use Rattle.vdr_survey.proofs.StepLemmas.{left_none, front_ahead, none_ahead}
 use Rattle.vdr_slots.specs.Slots.{place_of}
 use Rattle.vdr_slots.proofs.Holding.{slot_of}
-use Rattle.vdr_ring.specs.Sequence.{Placed, records_of}
+use Rattle.vdr_directory.specs.Sequence.{Placed, records_of}
 use Rattle.vdr_ring.specs.Rings.{RingState, Reads}
-use Rattle.vdr_ring.specs.Opening.{slot_bytes}
+use Rattle.vdr_directory.specs.Opening.{slot_bytes}
 use Rattle.vdr_ring.specs.Visits.{slot_read, VisitState, without_item, position_within, position_in, Steps, StepsFrom, IsAhead, AreAhead, Visits, IsLoaded}
 use Rattle.vdr_ring.specs.declared.refused.ReadRefused.{ReadRefused}
 use Rattle.vdr_ring.specs.declared.refused.ReadRefused.TheVariants.{Fault, Damaged}
-use Rattle.vdr_ring.proofs.Placing.{slot_closed}
+use Rattle.vdr_directory.proofs.Placing.{slot_closed}
 
 -- Where a step begins
 

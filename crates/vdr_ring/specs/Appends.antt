@@ -1,21 +1,24 @@
 -- What the steps of an append find and leave. No public clause cites it.
-use Rattle.std.specs.Prelude.{◌≡◌, ◌⊎◌, ◌≤◌, ◌+◌, ℕ, List, [], ◌∷◌, ◌++◌, slice_get, Option, Some, None}
+use Rattle.std.specs.Prelude.{◌≡◌, ◌≢◌, ◌⊎◌, ◌<◌, ◌≤◌, ◌+◌, ℕ, List, [], ◌∷◌, ◌++◌, All, Option, Some, None}
 use Rattle.vdr_terms.specs.Records.{Record, last}
 use Rattle.vdr_terms.specs.Sizes.{batch_size}
 use Rattle.vdr_outside.specs.Disk.{Disk, Rises}
 use Rattle.vdr_outside.specs.Moments.{Settled}
 use Rattle.vdr_segment.specs.Batches.{IsBatch}
 use Rattle.vdr_retention.specs.Retention.{Pin}
-use Rattle.vdr_ring.specs.declared.entry.Entry.{Entry}
-use Rattle.vdr_ring.specs.Sequence.{Placed}
-use Rattle.vdr_ring.specs.Order.{AreInOrder}
-use Rattle.vdr_ring.specs.Rings.{RingState, HoldsPlaced, Tells}
-use Rattle.vdr_ring.specs.Stages.{IsFull, IsLeastClosed, IsVictim, HasRoom, with_batch_in, Stages, Continues}
+use Rattle.vdr_directory.specs.declared.newest.Newest.{Newest}
+use Rattle.vdr_directory.specs.Sequence.{Placed}
+use Rattle.vdr_directory.specs.Order.{AreInOrder}
+use Rattle.vdr_directory.specs.Holds.{HoldsPlaced, Tells}
+use Rattle.vdr_ring.specs.Rings.{RingState}
+use Rattle.vdr_directory.specs.Closed.{IsFull, IsLeastClosed}
+use Rattle.vdr_directory.specs.Growing.{with_batch_in, Continues}
+use Rattle.vdr_ring.specs.Stages.{IsVictim, HasRoom, Stages}
 
 -- The segment has room behind its batches for so many bytes and the gate that closes them.
-abbrev pub HasRoomFor : (segment size : ℕ) → Option Entry → Type 0
+abbrev pub HasRoomFor : (segment size : ℕ) → Option Newest → Type 0
 HasRoomFor segment size None = ⊥
-HasRoomFor segment size (Some e) = e.survey.end + size + 1 ≤ segment
+HasRoomFor segment size (Some n) = n.end + size + 1 ≤ segment
 
 -- A legal batch that goes on where the medium ends, and fits a new segment.
 pub record MayCome (size : ℕ) (placed : List Placed) (first : ℕ) (records : List Record) : Type 0 where
@@ -38,15 +41,16 @@ module _ {tells tells_images : Type 0} where
   abbrev pub RisesOrStays : Disk tells tells_images → Disk tells tells_images → Type 0
   RisesOrStays old new = Rises old new ⊎ (new.clock ≡ old.clock)
 
-  -- The ring's medium reads as these segments, a stop leaves it so, and the table tells of them.
+  -- The ring's medium reads as these segments, a stop leaves it so, and the directory tells of them.
   pub record Stands (ring : RingState) (placed : List Placed) (disk : Disk tells tells_images) : Type 0 where
     pub settled : Settled ring.medium (HoldsPlaced ring.segment ring.slots placed) disk
-    pub table : Tells ring.slots placed ring.table
+    pub directory : Tells ring.slots placed ring.directory
 
   -- A slot is free for the next segment.
   pub record IsFree (ring : RingState) (slot : ℕ) (closed : List Placed) (disk : Disk tells tells_images) : Type 0 where
     pub stands : Stands ring closed disk
-    pub first : slice_get ring.table.closed 0 ≡ Some slot
+    pub within : slot < ring.slots
+    pub free : All (λ p. p.slot ≢ slot) closed
 
   -- The newest segment is the one into which the batch goes.
   pub record IsReady (ring : RingState) (records : List Record) (stages : Stages) (disk : Disk tells tells_images) : Type 0 where

@@ -11,10 +11,10 @@ use Rattle.vdr_outside.specs.Causes.{NoneFalls, Rose, counted}
 use Rattle.vdr_outside.specs.Disk.{Unchanged, content}
 use Rattle.vdr_slots.specs.Slots.{place_of}
 use Rattle.vdr_survey.specs.declared.selection.Selection.{Selection}
-use Rattle.vdr_ring.specs.Sequence.{Placed, batches_in}
+use Rattle.vdr_directory.specs.Sequence.{Placed, batches_in}
 use Rattle.vdr_ring.specs.Rings.{HasMedium, Reads, RingState}
 use Rattle.vdr_ring.specs.Visits.{AreAhead, VisitState, IsLoaded, StandsIn, Steps, Visits, slot_read}
-use Rattle.vdr_ring.specs.Fronts.{BreaksIn}
+use Rattle.vdr_directory.specs.Fronts.{BreaksIn}
 use Rattle.vdr_ring.specs.Lasts.{batch_or_none}
 use Rattle.vdr_ring.specs.declared.refused.ReadRefused.{ReadRefused}
 use Rattle.vdr_ring.specs.declared.refused.ReadRefused.TheVariants.{Damaged}

@@ -4,9 +4,10 @@ use Rattle.vdr_terms.specs.Records.{Record}
 use Rattle.vdr_terms.specs.Needs.{Sizes, cost, usable}
 use Rattle.vdr_outside.specs.Disk.{Disk}
 use Rattle.vdr_retention.specs.Retention.{Pin, Retains}
-use Rattle.vdr_ring.specs.Sequence.{Placed, batches_in, all_records}
-use Rattle.vdr_ring.specs.Order.{AreInOrder}
-use Rattle.vdr_ring.specs.Rings.{RingState, HoldsPlaced, Reads}
+use Rattle.vdr_directory.specs.Sequence.{Placed, batches_in, all_records}
+use Rattle.vdr_directory.specs.Order.{AreInOrder}
+use Rattle.vdr_directory.specs.Holds.{HoldsPlaced}
+use Rattle.vdr_ring.specs.Rings.{RingState, Reads}
 use Rattle.vdr_ring.specs.Regularity.{AreRegular, MissOneAtMost}
 
 -- Whole batches that the medium had, all but those of one segment at the most, with the new one behind them or without.

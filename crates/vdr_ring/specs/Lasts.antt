@@ -2,7 +2,7 @@
 use Rattle.std.specs.Prelude.{◌≡◌, ℕ, List, [], ◌∷◌, Contains, Option, Some, None}
 use Rattle.vdr_terms.specs.Records.{Record, last}
 use Rattle.vdr_segment.specs.Batches.{AreRecords}
-use Rattle.vdr_ring.specs.Sequence.{Placed, batches_of, batches_in}
+use Rattle.vdr_directory.specs.Sequence.{Placed, batches_of, batches_in}
 
 -- A batch, or none where there is no record.
 abbrev pub batch_or_none : List Record → Option (List Record)

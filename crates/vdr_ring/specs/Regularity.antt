@@ -6,7 +6,7 @@ use Rattle.vdr_retention.specs.Layout.{Batches}
 use Rattle.vdr_retention.specs.Regular.{IsPaced, IsRegular}
 use Rattle.vdr_retention.specs.Retention.{Pin}
 use Rattle.vdr_retention.specs.Victims.{ArePinsOf}
-use Rattle.vdr_ring.specs.Sequence.{Placed, segments_in, all_records}
+use Rattle.vdr_directory.specs.Sequence.{Placed, segments_in, all_records}
 
 -- A medium without segments is regular, and so is one whose older segments are well filled beside its newest.
 abbrev pub AreRegular : (cost usable batch : ℕ) → List Placed → Type 0

@@ -1,22 +1,13 @@
 -- What a medium holds at each stage of an append.
-use Rattle.std.specs.Prelude.{◌≡◌, ◌≢◌, ◌⊎◌, ◌<◌, ◌≤◌, ◌+◌, ℕ, suc, List, [], ◌∷◌, ◌++◌, length, Any, All, Option, Some, None}
+use Rattle.std.specs.Prelude.{◌≡◌, ◌≢◌, ◌⊎◌, ◌<◌, ◌≤◌, ◌+◌, ℕ, List, [], ◌∷◌, ◌++◌, All, Some}
 use Rattle.vdr_terms.specs.Records.{Record, last}
-use Rattle.vdr_terms.specs.Order.{RunOn, NeverFalls}
 use Rattle.vdr_terms.specs.Sizes.{batch_size}
-use Rattle.vdr_segment.specs.Segments.{end_of, with_batch}
+use Rattle.vdr_segment.specs.Segments.{end_of}
 use Rattle.vdr_retention.specs.Retention.{Pin}
 use Rattle.vdr_retention.specs.Victims.{MayGo}
-use Rattle.vdr_ring.specs.Sequence.{Placed, seq_of, batches_of, all_records}
-use Rattle.vdr_ring.specs.Order.{next_place}
-
--- There are as many open segments as slots.
-abbrev pub IsFull : ℕ → List Placed → Type 0
-IsFull count placed = length placed ≡ count
-
-pub record IsLeastClosed (count : ℕ) (placed : List Placed) (slot : ℕ) : Type 0 where
-  pub within : slot < count
-  pub closed : All (λ p. p.slot ≢ slot) placed
-  pub least : (j : ℕ) → j < slot → Any (λ p. p.slot ≡ j) placed
+use Rattle.vdr_directory.specs.Sequence.{Placed, batches_of, all_records}
+use Rattle.vdr_directory.specs.Closed.{IsFull, IsLeastClosed}
+use Rattle.vdr_directory.specs.Growing.{new_segment, next_seq, with_batch_in}
 
 -- The one of least sequence number that may go.
 pub record IsOldest (seconds : ℕ) (pins : List Pin) (placed : List Placed) (before : List Placed) (victim : Placed) (after : List Placed) : Type 0 where
@@ -39,21 +30,9 @@ IsNextSlot count seconds pins placed slot =
     IsLeastClosed count placed slot
     ⊎ (IsFull count placed × (before : List Placed) × (victim : Placed) × (after : List Placed) × IsVictim seconds pins placed before victim after × (slot ≡ victim.slot))
 
--- One above the greatest sequence number, 0 where there is no segment.
-abbrev pub next_seq : Option Placed → ℕ
-next_seq None = 0
-next_seq (Some p) = suc (seq_of p)
-
 -- The batch has room behind those of the segment, with the gate that closes it.
 abbrev pub HasRoom : ℕ → Placed → List Record → Type 0
 HasRoom size p records = end_of p.segment + batch_size records + 1 ≤ size
-
--- A segment without records in a slot.
-abbrev pub new_segment : (slot seq first : ℕ) → Placed
-new_segment slot seq first = record { slot = slot; segment = record { header = record { seq = seq; first = first; summary = None }; batches = [] } }
-
-abbrev pub with_batch_in : Placed → List Record → Placed
-with_batch_in p records = record { slot = p.slot; segment = with_batch p.segment records }
 
 -- What each stage of an append leaves: as it was; with the victim closed; with a new segment begun; with the batch.
 pub record Stages : Type 0 where
@@ -82,19 +61,3 @@ pub record BeginsAnew (size count seconds : ℕ) (pins : List Pin) (placed : Lis
 
 abbrev pub AreStages : (size count seconds : ℕ) (pins : List Pin) (placed : List Placed) (first : ℕ) (records : List Record) → Stages → Type 0
 AreStages size count seconds pins placed first records stages = GoesOn size placed records stages ⊎ BeginsAnew size count seconds pins placed first records stages
-
--- The records that a medium goes on with.
-abbrev pub next_of : Option Placed → ℕ
-next_of None = 0
-next_of (Some p) = next_place p
-
-abbrev pub tick_of : Option Record → ℕ
-tick_of None = 0
-tick_of (Some r) = r.tick
-
--- The records go on where the medium ends, from this place on. On a medium without a segment they may begin anywhere.
-pub record Continues (placed : List Placed) (first : ℕ) (records : List Record) : Type 0 where
-  pub some : records ≢ []
-  pub from : (p : Placed) → last placed ≡ Some p → first ≡ next_place p
-  pub places : RunOn first records
-  pub ticks : NeverFalls (tick_of (last (all_records placed))) records

@@ -7,9 +7,9 @@ use Rattle.vdr_survey.specs.declared.position.Position.{Position}
 use Rattle.vdr_survey.specs.declared.selection.Selection.{Selection}
 use Rattle.vdr_survey.specs.Selections.{Passes, StartsSelected, is_selected}
 use Rattle.vdr_survey.specs.Positions.{front, IsAt, HasAhead, IsBrokenAt, StepsOver}
-use Rattle.vdr_ring.specs.Sequence.{Placed, records_of}
+use Rattle.vdr_directory.specs.Sequence.{Placed, records_of}
 use Rattle.vdr_ring.specs.Rings.{RingState}
-use Rattle.vdr_ring.specs.Opening.{slot_bytes}
+use Rattle.vdr_directory.specs.Opening.{slot_bytes}
 use Rattle.vdr_ring.specs.declared.refused.ReadRefused.{ReadRefused}
 use Rattle.vdr_ring.specs.declared.refused.ReadRefused.TheVariants.{Fault, Damaged}
 

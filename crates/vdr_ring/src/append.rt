@@ -6,9 +6,11 @@ ghost use Rattle.vdr_outside.specs.Frames.{WritesTo};
 ghost use Rattle.vdr_outside.specs.Moments.{ChangesOnly};
 ghost use Rattle.vdr_retention.specs.Retention.{Retains};
 ghost use Rattle.vdr_slots.specs.Writes.{KeepsFront};
-ghost use Rattle.vdr_ring.specs.Sequence.{Placed, all_records};
-ghost use Rattle.vdr_ring.specs.Rings.{HasMedium, HoldsAny, Reads, StaysOnMedium};
-ghost use Rattle.vdr_ring.specs.Stages.{AreStages, Continues, Stages};
+ghost use Rattle.vdr_directory.specs.Sequence.{Placed, all_records};
+ghost use Rattle.vdr_directory.specs.Holds.{HoldsAny};
+ghost use Rattle.vdr_ring.specs.Rings.{HasMedium, Reads, StaysOnMedium};
+ghost use Rattle.vdr_directory.specs.Growing.{Continues};
+ghost use Rattle.vdr_ring.specs.Stages.{AreStages, Stages};
 ghost use Rattle.vdr_ring.specs.Regularity.{IsAllowed};
 ghost use Rattle.vdr_ring.specs.Keeping.{HasKept, IsKept};
 

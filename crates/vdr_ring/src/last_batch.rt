@@ -8,14 +8,15 @@ ghost use Rattle.vdr_segment.specs.Batches.{AreRecords, IsBatch};
 ghost use Rattle.vdr_segment.specs.Segments.{AreBatches};
 ghost use Rattle.vdr_survey.specs.Surveys.{BreaksAt};
 ghost use Rattle.vdr_slots.specs.Slots.{place_of};
-ghost use Rattle.vdr_ring.specs.Sequence.{Placed};
-ghost use Rattle.vdr_ring.specs.Rings.{HasMedium, Tells};
-ghost use Rattle.vdr_ring.specs.Opening.{HasFaultCause};
+ghost use Rattle.vdr_directory.specs.Sequence.{Placed};
+ghost use Rattle.vdr_directory.specs.Order.{AreInOrder};
+ghost use Rattle.vdr_directory.specs.Holds.{Tells};
+ghost use Rattle.vdr_ring.specs.Rings.{HasMedium};
+ghost use Rattle.vdr_directory.specs.Opening.{HasFaultCause};
 ghost use Rattle.vdr_ring.specs.Lasts.{batch_or_none, AreOfBatch, IsLastSlot};
 ghost use Rattle.vdr_ring.specs.Calls.{GivesLastBatch, OnlyReads};
 
 use crate::Ring;
-use crate::choice::last_with_records;
 use std::alloc::{AllocError, Global};
 use vdr_entry::{Record, read_record};
 use vdr_outside::{Media, PartRefused};
@@ -61,11 +62,10 @@ impl Ring {
     // The slot of the last segment that has records.
     fn last_slot(&self) -> Option<u32>
         ensures within { IfSome result (λ slot. slot < self.now.slots) }
-        ensures found { (placed : List Placed) → Tells self.now.slots placed self.now.table → All (λ p. All IsBatch p.segment.batches) placed
+        ensures found { (placed : List Placed) → Tells self.now.slots placed self.now.directory → AreInOrder placed → All (λ p. All IsBatch p.segment.batches) placed
             → IsLastSlot placed result }
     {
-        let entry = last_with_records(self.table.opened())?;
-        Some(entry.slot)
+        self.directory.index().newest()
     }
 
     // The records of the last batch of the segment that is loaded, which stands in this slot.

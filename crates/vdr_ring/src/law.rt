@@ -2,11 +2,9 @@ ghost use Rattle.std.specs.Prelude.{◌≡◌, ◌≢◌, ◌≤◌, [], ◌∷�
 ghost use Rattle.vdr_terms.specs.Needs.{Sizes, cost, usable};
 ghost use Rattle.vdr_terms.specs.Records.{Record};
 ghost use Rattle.vdr_retention.specs.Retention.{Pin, Retains};
-ghost use Rattle.vdr_ring.specs.Sequence.{Placed, all_records, batches_in};
-ghost use Rattle.vdr_ring.specs.Order.{AreInOrder};
-ghost use Rattle.vdr_ring.specs.Rings.{HoldsPlaced};
-ghost use Rattle.vdr_ring.specs.Opening.{Refuses};
-ghost use Rattle.vdr_ring.specs.Stages.{AreStages, IsFull, IsOldest, IsVictim, Stages};
+ghost use Rattle.vdr_directory.specs.Sequence.{Placed, all_records, batches_in};
+ghost use Rattle.vdr_directory.specs.Closed.{IsFull};
+ghost use Rattle.vdr_ring.specs.Stages.{AreStages, IsOldest, IsVictim, Stages};
 ghost use Rattle.vdr_ring.specs.Regularity.{AreRegular, IsAllowed, MissOneAtMost};
 
 /// What a ring retains of all the records that it was given, at each stage of an append that its configuration allows: of
@@ -33,12 +31,4 @@ pub fn law_of_stages()
     ensures batches { (size count seconds : ℕ) (pins : List Pin) (placed : List Placed) (first : ℕ) (records : List Record) (stages : Stages)
         → AreStages size count seconds pins placed first records stages
         → MissOneAtMost stages.closed placed × (batches_in stages.begun ≡ batches_in stages.closed) × (batches_in stages.done ≡ batches_in stages.closed ++ records ∷ []) }
-{}
-
-/// Opening a medium has one answer: one that holds segments in a legal order is not refused, and one that is refused is
-/// refused at one offset.
-pub fn law_of_opening()
-    ensures either { (segment count offset : ℕ) (placed : List Placed) (bytes : List ℕ) → 64 ≤ segment → HoldsPlaced segment count placed bytes → AreInOrder placed
-        → Refuses segment count bytes offset → ⊥ }
-    ensures offset { (segment count m n : ℕ) (bytes : List ℕ) → 64 ≤ segment → Refuses segment count bytes m → Refuses segment count bytes n → m ≡ n }
 {}

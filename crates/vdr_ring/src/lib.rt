@@ -4,25 +4,19 @@
 mod append;
 mod appending;
 mod choice;
-mod entry;
-mod fronts;
-mod known;
 mod last_batch;
 mod law;
 mod lookup;
 mod meeting;
 mod opening;
-mod order;
 mod pins;
 mod questions;
 mod reading;
 mod refused;
 mod ring;
-mod surveys;
-mod table;
 mod visit;
 
-pub use law::{law_of_opening, law_of_stages};
+pub use law::law_of_stages;
 pub use pins::Pins;
 pub use refused::ReadRefused;
 pub use ring::Ring;

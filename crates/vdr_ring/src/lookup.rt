@@ -1,104 +1,91 @@
-ghost use Rattle.std.specs.Prelude.{◌≡◌, ◌≤◌, ◌<◌, ◌↔◌, suc, List, length, IsTrue, IfSome, IfNone, Contains, find, option_map};
-ghost use Rattle.std.specs.List.{AllWithin};
-ghost use Rattle.std.specs.List.Sorted.{IsNonDecreasingBy};
-ghost use Rattle.vdr_ring.specs.Sequence.{Placed, all_records, seq_of};
-ghost use Rattle.vdr_ring.specs.Order.{RunsOn, AreInOrder, HasPlace, next_place};
-ghost use Rattle.vdr_ring.specs.Entries.{Describes, Describe};
-ghost use Rattle.vdr_ring.specs.Lookup.{AreEarlier, IsAbove, IsFirstSince, IsNext, HoldAll, reaches};
+// What a ring's index tells of where places and seconds stand.
+ghost use Rattle.std.specs.Prelude.{◌≡◌, ◌<◌, ◌≤◌, ◌+◌, ◌↔◌, ℕ, true, List, get_or, IsTrue, IfSome, IfNone, None, find};
+ghost use Rattle.vdr_index.specs.declared.known.Known.{Known as AKnown};
+ghost use Rattle.vdr_index.specs.Indexes.{IsFirst, Keeps, passes_by};
+ghost use Rattle.vdr_directory.specs.Sequence.{Placed};
+ghost use Rattle.vdr_directory.specs.Order.{AreInOrder};
+ghost use Rattle.vdr_directory.specs.Indexed.{IsIndexed};
+ghost use Rattle.vdr_index.specs.Indexes.{IsAbove};
+ghost use Rattle.vdr_directory.specs.Lookup.{HoldAll, ends_since};
 
-use crate::entry::Entry;
+use vdr_index::{Index, Known};
 
-// How many segments have a sequence number that is not above this one.
-fn count_up_to(entries: &[Entry], after: u64) -> usize
-    ensures within { result ≤ length entries.now }
-    ensures found { IsNonDecreasingBy (λ e. e.seq) entries.now
-        → AllWithin (λ e. e.seq ≤ after) entries.now 0 result × AllWithin (λ e. after < e.seq) entries.now result (length entries.now) }
-{
-    entries.partition_point(|entry| entry.seq <= after)
-}
-
-// The index of the first segment whose sequence number is above `after`.
-fn first_above(entries: &[Entry], after: Option<u64>) -> usize
-    ensures within { result ≤ length entries.now }
-    ensures found { IsNonDecreasingBy (λ e. e.seq) entries.now
-        → AllWithin (λ e. IsAbove after e.seq → ⊥) entries.now 0 result × AllWithin (λ e. IsAbove after e.seq) entries.now result (length entries.now) }
+// Where no number is given, each is above.
+pub(crate) fn is_above(seq: u64, after: Option<u64>) -> bool
+    ensures { IsTrue result ↔ IsAbove after seq }
 {
     match after {
-        None => 0,
-        Some(seq) => count_up_to(entries, seq),
+        None => true,
+        Some(after) => after < seq,
     }
 }
 
-// The segment of least sequence number above `after`.
-pub(crate) fn next_above(entries: &[Entry], after: Option<u64>) -> Option<&Entry>
-    ensures among { IfSome result (λ e. Contains entries.now e.now) }
-    ensures some { IfSome result (λ e. (placed : List Placed) → Describe placed entries.now → AreInOrder placed
-        → (p : Placed) × IsNext after placed p × Describes p e.now) }
-    ensures none { IfNone result ((placed : List Placed) → Describe placed entries.now → AreInOrder placed
-        → (p : Placed) → Contains placed p → IsAbove after (seq_of p) → ⊥) }
+// A slot that has a segment, and the segment's sequence number.
+pub(crate) fn with_seq(index: &Index, slot: u32) -> (u32, u64)
+    requires { (k : AKnown) × Keeps index.now slot k }
+    ensures slot { result.0 ≡ slot }
+    ensures seq { (k : AKnown) → Keeps index.now slot k → result.1 ≡ k.seq }
 {
-    let index = first_above(entries, after);
-    if index == entries.len() {
-        return None;
-    }
-    Some(&entries[index])
+    let Some(known) = index.known(slot) else {
+        unreachable!()
+    };
+    (slot, known.seq)
 }
 
-// The last place of a segment that has this place.
-fn last_place_from(entry: &Entry, place: u64) -> Option<u64>
-    ensures some { IfSome result (λ last. (p : Placed) → Describes p entry.now → RunsOn p → HasPlace place p × (suc last ≡ next_place p)) }
-    ensures none { IfNone result ((p : Placed) → Describes p entry.now → RunsOn p → HasPlace place p → ⊥) }
+// Whether the segment of which this is known has this place. No sum is taken: what is known are any numbers.
+fn has_place(known: Known, place: u64) -> bool
+    ensures { IsTrue result ↔ ((known.first ≤ place) × (place < known.first + known.summary.count)) }
 {
-    let last = entry.survey.extent?.last_place;
-    if place < entry.first || last < place {
-        return None;
-    }
-    Some(last)
+    known.first <= place && place - known.first < known.summary.count as u64
 }
 
-// Whether all places from a to b stand in these segments.
-pub(crate) fn holds_all(entries: &[Entry], a: u64, b: u64) -> bool
-    ensures { (placed : List Placed) → Describe placed entries.now → AreInOrder placed → IsTrue result ↔ HoldAll a b placed }
+// Whether all places from a to b stand in the segments of an index.
+pub(crate) fn holds_all(index: &Index, a: u64, b: u64) -> bool
+    ensures { (count : ℕ) (placed : List Placed) → IsIndexed count placed index.now → AreInOrder placed → IsTrue result ↔ HoldAll a b placed }
 {
     if a > b {
         return true;
     }
+    let order = index.in_order();
     let mut place = a;
-    for entry in entries {
-        let Some(last) = last_place_from(entry, place) else {
+    for slot in order {
+        let Some(known) = index.known(*slot) else {
             continue;
         };
-        if b <= last {
+        if !has_place(known, place) {
+            continue;
+        }
+        if has_place(known, b) {
             return true;
         }
-        place = last + 1;
+        place = known.first + known.summary.count as u64;
     }
     false
 }
 
-// Whether a segment has a record of this second of recording time or a later one.
-fn reaches(entry: &Entry, since: u64) -> bool
-    ensures { result ≡ reaches since entry.now }
+// Whether a segment of which this is known has a record of this second of recording time or a later one.
+fn reaches(known: Option<Known>, since: u64) -> bool
+    ensures { result ≡ passes_by (ends_since since) known }
 {
-    match entry.survey.extent {
-        Some(extent) => since <= extent.last_tick / 1000,
+    match known {
+        Some(known) => since <= known.summary.last_second,
         None => false,
     }
 }
 
-fn first_that_reaches(entries: &[Entry], since: u64) -> Option<&Entry>
-    ensures found { option_map (λ e. e.now) result ≡ find (reaches since) entries.now }
-    ensures among { IfSome result (λ e. Contains entries.now e.now) }
+fn first_that_reaches(index: &Index, slots: &[u32], since: u64) -> Option<u32>
+    ensures { result ≡ find (λ j. passes_by (ends_since since) (get_or index.now j None)) slots.now }
 {
-    entries.iter().find(|entry| reaches(entry, since))
+    slots
+        .iter()
+        .copied()
+        .find(|slot| reaches(index.known(*slot), since))
 }
 
-// The first segment with a record of this second or a later one.
-pub(crate) fn first_since(entries: &[Entry], since: u64) -> Option<&Entry>
-    ensures among { IfSome result (λ e. Contains entries.now e.now) }
-    ensures some { IfSome result (λ e. (placed : List Placed) → Describe placed entries.now → AreInOrder placed
-        → (p : Placed) × IsFirstSince since placed p × Describes p e.now) }
-    ensures none { IfNone result ((placed : List Placed) → Describe placed entries.now → AreInOrder placed → AreEarlier since (all_records placed)) }
+// The slot of the first segment with a record of this second or a later one.
+pub(crate) fn first_since(index: &Index, since: u64) -> Option<u32>
+    ensures some { IfSome result (IsFirst index.now (ends_since since)) }
+    ensures none { IfNone result ((slot : ℕ) (k : AKnown) → Keeps index.now slot k → ends_since since k ≡ true → ⊥) }
 {
-    first_that_reaches(entries, since)
+    first_that_reaches(index, index.in_order(), since)
 }

@@ -2,11 +2,11 @@
 ghost use Rattle.std.specs.Prelude.{◌≡◌, ◌<◌, List, Contains, IfSome, IfNone};
 ghost use Rattle.vdr_entry.specs.Queries.{asked};
 ghost use Rattle.vdr_index.specs.Indexes.{span_as};
-ghost use Rattle.vdr_ring.specs.Sequence.{Placed, seq_of};
-ghost use Rattle.vdr_ring.specs.Order.{AreInOrder};
-ghost use Rattle.vdr_ring.specs.Rings.{Tells};
-ghost use Rattle.vdr_ring.specs.Lookup.{IsAbove};
-ghost use Rattle.vdr_ring.specs.Indexed.{HasNoneSelected, IsNextToMeet, Meets};
+ghost use Rattle.vdr_directory.specs.Sequence.{Placed, seq_of};
+ghost use Rattle.vdr_directory.specs.Order.{AreInOrder};
+ghost use Rattle.vdr_directory.specs.Holds.{Tells};
+ghost use Rattle.vdr_index.specs.Indexes.{IsAbove};
+ghost use Rattle.vdr_directory.specs.Indexed.{HasNoneSelected, IsNextToMeet, Meets};
 
 use crate::Ring;
 use vdr_entry::Query;
@@ -25,16 +25,16 @@ impl Ring {
     ) -> Option<(u32, u64)>
         ensures within { IfSome result (λ found. found.0 < self.now.slots) }
         ensures above { IfSome result (λ found. IsAbove after found.1) }
-        ensures some { IfSome result (λ found. (placed : List Placed) → Tells self.now.slots placed self.now.table
+        ensures some { IfSome result (λ found. (placed : List Placed) → Tells self.now.slots placed self.now.directory
             → (p : Placed) × IsNextToMeet (asked query.now) (span_as span.now) after placed p × (found.0 ≡ p.slot) × (found.1 ≡ seq_of p)) }
-        ensures none { IfNone result ((placed : List Placed) → Tells self.now.slots placed self.now.table
+        ensures none { IfNone result ((placed : List Placed) → Tells self.now.slots placed self.now.directory
             → (p : Placed) → Contains placed p → IsAbove after (seq_of p) → Meets (asked query.now) (span_as span.now) p → ⊥) }
-        ensures passed_over { (placed : List Placed) → Tells self.now.slots placed self.now.table → AreInOrder placed
+        ensures passed_over { (placed : List Placed) → Tells self.now.slots placed self.now.directory → AreInOrder placed
             → (q : Placed) → Contains placed q → IsAbove after (seq_of q) → IfSome result (λ found. seq_of q < found.1)
             → HasNoneSelected (asked query.now) (span_as span.now) q }
     {
         law_of_candidates();
-        let index = self.table.index();
+        let index = self.directory.index();
         let slot = index.next_candidate(query, span, after)?;
         let Some((seq, _, _)) = index.get(slot) else {
             unreachable!()

@@ -1,22 +1,16 @@
-ghost use Rattle.std.specs.Prelude.{◌≡◌, ◌+◌, ◌*◌, ◌<◌, ◌≤◌, ℕ, List, length, get_or, IfOk, Some};
+ghost use Rattle.std.specs.Prelude.{◌≡◌, ◌+◌, ◌*◌, ◌<◌, ◌≤◌, ℕ, List, length, get_or, IfOk};
 ghost use Rattle.vdr_terms.specs.Needs.{Fits, slots_in};
 ghost use Rattle.vdr_outside.specs.Disk.{Durable, Unchanged, content};
 ghost use Rattle.vdr_outside.specs.declared.fault.PartRefused.TheVariants.{Damaged};
 ghost use Rattle.vdr_config.specs.Sizes.{sizes_of, window_of};
-ghost use Rattle.vdr_slots.specs.Areas.{HasRoom};
-ghost use Rattle.vdr_ring.specs.Sequence.{Placed};
+ghost use Rattle.vdr_directory.specs.Sequence.{Placed};
 ghost use Rattle.vdr_ring.specs.Rings.{HasMedium, Reads};
-ghost use Rattle.vdr_ring.specs.Opening.{HasFaultCause, Refuses, slot_bytes};
-ghost use Rattle.vdr_ring.specs.Fronts.{AreSlots, Finds};
+ghost use Rattle.vdr_directory.specs.Opening.{HasFaultCause, Refuses};
 
 use crate::Ring;
-use crate::fronts::{Fronts, read_fronts};
-use crate::known::index_of;
-use crate::order::first_break;
-use crate::surveys::{sort_by_seq, survey_all};
-use crate::table::Table;
 use std::alloc::Global;
 use vdr_config::Config;
+use vdr_directory::{Directory, read_segments};
 use vdr_outside::{Media, PartRefused};
 use vdr_slots::Area;
 use vdr_terms::slot_count;
@@ -48,44 +42,13 @@ fn seconds_of(config: &Config, m: u8) -> u64
     }
 }
 
-// Reads the medium's segments, in order of sequence number, and its closed slots, and answers besides the slot whose bytes the buffer
-// holds then. The buffer has room for a segment.
-fn read_segments<M: Media>(
-    alloc: Global,
-    media: &mut M,
-    area: Area,
-    buffer: &mut [u8],
-) -> Result<(Fronts, Option<u32>), PartRefused>
-    requires room { HasRoom area (M.disk media.old).sizes }
-    requires whole { length buffer.old ≡ area.segment }
-    ensures slots { IfOk result (λ x. AreSlots area.slots x.0.opened.items x.0.closed.items) }
-    ensures found { IfOk result (λ x. M.tells → Finds area.segment area.slots (content (M.disk media.old).reads area.medium) x.0.opened.items x.0.closed.items) }
-    ensures held { IfOk result (λ x. M.tells → (slot : ℕ) → x.1 ≡ Some slot
-        → buffer.new ≡ slot_bytes area.segment slot (content (M.disk media.old).reads area.medium)) }
-    ensures damaged { (k offset : ℕ) → result ≡ Err (Damaged k offset) → (k ≡ area.medium)
-        × (M.tells → Refuses area.segment area.slots (content (M.disk media.old).reads area.medium) offset) }
-    ensures unchanged { Unchanged (M.disk media.old) (M.disk media.new) }
-    ensures cause { HasFaultCause area.medium (M.faults media.old) (M.faults media.new) result }
-{
-    let mut fronts = read_fronts(alloc, media, area)?;
-    sort_by_seq(&mut fronts.opened);
-    let held = survey_all(media, area, &mut fronts.opened, buffer)?;
-    if let Some(index) = first_break(&fronts.opened) {
-        return Err(PartRefused::Damaged {
-            medium: area.medium,
-            offset: area.place_of(fronts.opened[index].slot),
-        });
-    }
-    Ok((fronts, held))
-}
-
 impl Ring {
     /// Reads medium m whole and opens it as a ring. It writes nothing.
     ///
     /// `Damaged` names the medium and the first part of it that is not legal, by where that begins, in bytes: first the slots,
     /// in their order, by their headers; then the segments, in order of sequence number, by their batches; then the segments
-    /// in that order by how each stands among the others (this project's profile). `NoMemory`: there was no room for the table,
-    /// its index or one segment. `Fault`: a read failed, and the count of faults of this medium rose.
+    /// in that order by how each stands among the others (this project's profile). `NoMemory`: there was no room for the directory
+    /// or one segment. `Fault`: a read failed, and the count of faults of this medium rose.
     pub fn open<M: Media>(
         alloc: Global,
         media: &mut M,
@@ -107,17 +70,14 @@ impl Ring {
         let Ok(mut buffer) = vec![in alloc; 0; area.segment as usize] else {
             return Err(PartRefused::NoMemory);
         };
-        let (Fronts { opened, closed }, loaded) = read_segments(alloc, media, area, &mut buffer)?;
-        let Ok(index) = index_of(alloc, area.slots, &opened) else {
-            return Err(PartRefused::NoMemory);
-        };
-        let Ok(table) = Table::new(opened, &closed, index) else {
+        let (opened, loaded) = read_segments(alloc, media, area, &mut buffer)?;
+        let Ok(directory) = Directory::of(alloc, area.slots, &opened) else {
             return Err(PartRefused::NoMemory);
         };
         Ok(Ring {
             area,
             seconds: seconds_of(config, m),
-            table,
+            directory,
             buffer,
             loaded,
         })

@@ -1,65 +1,71 @@
-// What a ring answers from its table, without reading the medium.
+// What a ring answers from its directory, without reading the medium.
 ghost use Rattle.std.specs.Prelude.{◌≡◌, ◌<◌, ◌↔◌, List, Contains, IsTrue, IfSome, IfNone, option_map};
 ghost use Rattle.vdr_terms.specs.Records.{last};
 ghost use Rattle.vdr_survey.specs.Extents.{first_records};
-ghost use Rattle.vdr_ring.specs.Sequence.{Placed, seq_of, batches_in, all_records};
-ghost use Rattle.vdr_ring.specs.Order.{AreInOrder};
-ghost use Rattle.vdr_ring.specs.Rings.{Tells};
-ghost use Rattle.vdr_ring.specs.Lookup.{AreEarlier, IsAbove, IsFirstSince, IsNext, HoldAll};
+ghost use Rattle.vdr_directory.specs.Sequence.{Placed, seq_of, batches_in, all_records};
+ghost use Rattle.vdr_directory.specs.Order.{AreInOrder};
+ghost use Rattle.vdr_directory.specs.Holds.{Tells};
+ghost use Rattle.vdr_index.specs.Indexes.{IsAbove};
+ghost use Rattle.vdr_directory.specs.Lookup.{AreEarlier, IsFirstSince, IsNext, HoldAll};
 
 use crate::Ring;
-use crate::choice::last_extent;
-use crate::lookup::{first_since, holds_all, next_above};
+use crate::lookup::{first_since, holds_all, is_above, with_seq};
 
 impl Ring {
     /// Of the last record the place, the tick in milliseconds, and the stamp in milliseconds since 1970. None exactly where
     /// the medium has no record.
     pub fn last(&self) -> Option<(u64, u64, i64)>
-        ensures { (placed : List Placed) → Tells self.now.slots placed self.now.table → result ≡ option_map (λ r. (r.place, r.tick, r.utc)) (last (all_records placed)) }
+        ensures { (placed : List Placed) → Tells self.now.slots placed self.now.directory → result ≡ option_map (λ r. (r.place, r.tick, r.utc)) (last (all_records placed)) }
     {
-        last_extent(self.table.opened()).map(|extent| (
-            extent.last_place,
-            extent.last_tick,
-            extent.last_utc,
-        ))
+        self.directory
+            .ending()
+            .map(|ending| (ending.place, ending.tick, ending.utc))
     }
 
     /// The place of the first record of the last batch. None exactly where the medium has no record.
     pub fn last_batch(&self) -> Option<u64>
-        ensures { (placed : List Placed) → Tells self.now.slots placed self.now.table → result ≡ option_map (λ r. r.place) (last (first_records (batches_in placed))) }
+        ensures { (placed : List Placed) → Tells self.now.slots placed self.now.directory → result ≡ option_map (λ r. r.place) (last (first_records (batches_in placed))) }
     {
-        last_extent(self.table.opened()).map(|extent| extent.last_batch)
+        self.directory.ending().map(|ending| ending.batch)
     }
 
     /// The open slot whose segment has the least sequence number above `after`, and that number. Where no number is given,
     /// it is the oldest segment's. None exactly where none is above.
     pub fn next_slot(&self, after: Option<u64>) -> Option<(u32, u64)>
         ensures within { IfSome result (λ found. found.0 < self.now.slots) }
-        ensures some { IfSome result (λ found. (placed : List Placed) → Tells self.now.slots placed self.now.table → AreInOrder placed
+        ensures some { IfSome result (λ found. (placed : List Placed) → Tells self.now.slots placed self.now.directory → AreInOrder placed
             → (p : Placed) × IsNext after placed p × (found.0 ≡ p.slot) × (found.1 ≡ seq_of p)) }
-        ensures none { IfNone result ((placed : List Placed) → Tells self.now.slots placed self.now.table → AreInOrder placed
+        ensures none { IfNone result ((placed : List Placed) → Tells self.now.slots placed self.now.directory → AreInOrder placed
             → (p : Placed) → Contains placed p → IsAbove after (seq_of p) → ⊥) }
     {
-        let entry = next_above(self.table.opened(), after)?;
-        Some((entry.slot, entry.seq))
+        let index = self.directory.index();
+        if let Some(slot) = index.next_above(after) {
+            return Some(with_seq(index, slot));
+        }
+        let newest = self.directory.empty_newest()?;
+        if !is_above(newest.seq, after) {
+            return None;
+        }
+        Some((newest.slot, newest.seq))
     }
 
     /// The open slot of the first segment with a record of this second of recording time or a later one, and the segment's
     /// sequence number. None exactly where all records are of earlier seconds.
     pub fn first_since(&self, second: u64) -> Option<(u32, u64)>
         ensures within { IfSome result (λ found. found.0 < self.now.slots) }
-        ensures some { IfSome result (λ found. (placed : List Placed) → Tells self.now.slots placed self.now.table → AreInOrder placed
+        ensures some { IfSome result (λ found. (placed : List Placed) → Tells self.now.slots placed self.now.directory → AreInOrder placed
             → (p : Placed) × IsFirstSince second placed p × (found.0 ≡ p.slot) × (found.1 ≡ seq_of p)) }
-        ensures none { IfNone result ((placed : List Placed) → Tells self.now.slots placed self.now.table → AreInOrder placed → AreEarlier second (all_records placed)) }
+        ensures none { IfNone result ((placed : List Placed) → Tells self.now.slots placed self.now.directory → AreInOrder placed → AreEarlier second (all_records placed)) }
     {
-        let entry = first_since(self.table.opened(), second)?;
-        Some((entry.slot, entry.seq))
+        let index = self.directory.index();
+        let slot = first_since(index, second)?;
+        Some(with_seq(index, slot))
     }
 
     /// Whether all places from a to b stand in open segments, as they do where b is below a.
     pub fn holds(&self, a: u64, b: u64) -> bool
-        ensures { (placed : List Placed) → Tells self.now.slots placed self.now.table → AreInOrder placed → IsTrue result ↔ HoldAll a b placed }
+        ensures { (placed : List Placed) → Tells self.now.slots placed self.now.directory → AreInOrder placed → IsTrue result ↔ HoldAll a b placed }
     {
-        holds_all(self.table.opened(), a, b)
+        holds_all(self.directory.index(), a, b)
     }
 }

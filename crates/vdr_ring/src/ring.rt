@@ -1,15 +1,15 @@
-use crate::table::Table;
 use std::marker::Model;
+use vdr_directory::Directory;
 use vdr_slots::Area;
 
-/// One medium as a ring of segments. Its type keeps that the table has an entry for each slot, of which there are at least four, that the buffer has room for a
+/// One medium as a ring of segments. Its type keeps that its directory has a place for each slot, of which there are at least four, that the buffer has room for a
 /// segment, and that the window is 1 to 31,536,000 seconds.
 #[derive(Drop)]
 pub struct Ring {
     pub(crate) area: Area,
     // The window, in seconds.
     pub(crate) seconds: u64,
-    pub(crate) table: Table,
+    pub(crate) directory: Directory,
     // The bytes of one segment: of the batch that is written, or of the slot that is read.
     pub(crate) buffer: Vec<u8>,
     // The slot whose bytes the buffer holds.
@@ -19,11 +19,11 @@ pub struct Ring {
 impl Model for Ring {
     ghost use Rattle.std.specs.Prelude.{◌≡◌, ◌≤◌, length};
     ghost use Rattle.vdr_ring.specs.Rings.{RingState};
-    ghost use Rattle.vdr_ring.specs.Tables.{count_of};
+    ghost use Rattle.vdr_directory.specs.Directories.{count_of};
 
     ghost Value = { RingState };
 
-    ghost view = { λ r. record { medium = r.area.medium; segment = r.area.segment; slots = r.area.slots; seconds = r.seconds; table = r.table; buffer = r.buffer.items; loaded = r.loaded } };
+    ghost view = { λ r. record { medium = r.area.medium; segment = r.area.segment; slots = r.area.slots; seconds = r.seconds; directory = r.directory; buffer = r.buffer.items; loaded = r.loaded } };
 
-    ghost invariant = { λ r. (count_of r.table ≡ r.area.slots) × (length r.buffer.items ≡ r.area.segment) × (4 ≤ r.area.slots) × (1 ≤ r.seconds) × (r.seconds ≤ 31_536_000) };
+    ghost invariant = { λ r. (count_of r.directory ≡ r.area.slots) × (length r.buffer.items ≡ r.area.segment) × (4 ≤ r.area.slots) × (1 ≤ r.seconds) × (r.seconds ≤ 31_536_000) };
 }

@@ -4,14 +4,11 @@ use Rattle.std.proofs.lemmas.List.{length-map}
 use mir.Val.{bool_byte}
 use Rattle.vdr_terms.specs.Channels.{group_bits}
 use Rattle.vdr_config.specs.Configuration.{Selector}
+use Rattle.vdr_datagram.proofs.BitLemmas.{byte_le}
 
 flag_le : (b : Bool) → (if b then 1 else 0) ≤ 1
 flag_le true = omega arith
 flag_le false = omega arith
-
-pub byte_le : (b : Bool) → bool_byte b ≤ 1
-byte_le true = omega arith
-byte_le false = omega arith
 
 bits_lt : (groups : List ℕ) (g : ℕ) → group_bits groups g < 2 ^ length groups
 bits_lt [] g = omega arith

@@ -1,5 +1,5 @@
 -- One more item of a feed is counted as the definition counts it.
-use Rattle.std.proofs.Common.{◌≡◌, ◌≢◌, ◌≤◌, ◌<◌, ◌+◌, ◌^◌, ℕ, suc, List, [], ◌∷◌, ◌++◌, length, take, map, filter, count_by, All, Bool, true, false, if◌then◌else◌, ◌==◌, fold, None, Some, slice_index_or, slice_set, refl, sym, ap, ◌∙◌, subst, arith, ⊎_elim, append-nil, append_assoc, length-set, get_or-set_same, get_or-set_other}
+use Rattle.std.proofs.Common.{◌≡◌, ◌≢◌, ◌≤◌, ◌<◌, ◌+◌, ◌^◌, ℕ, suc, List, [], ◌∷◌, ◌++◌, length, take, map, filter, count_by, All, Bool, true, false, if◌then◌else◌, ◌==◌, fold, None, Some, slice_index_or, slice_set, refl, sym, ap, ◌∙◌, subst, arith, ⊎_elim, append-nil, append_assoc, length-set, get_or-set_same, get_or-set_other, Option}
 use Rattle.std.proofs.lemmas.Bool.{cases_eq, cases_lt, cond-false, cond-true, lt-ltb, ne_eqb}
 use Rattle.std.proofs.lemmas.List.{get_or_default, length-take-le, take_all}
 use Rattle.std.proofs.lemmas.List.Elements.{All-nil, All-cons, All-head, All-tail}
@@ -21,6 +21,7 @@ use Rattle.vdr_core.proofs.Counted.{count_no, count_yes}
 use Rattle.vdr_core.proofs.Feeding.{counts_path, items_other, items_own}
 use Rattle.vdr_feed.specs.Feed.{longest_feed}
 use Rattle.vdr_feed.specs.Kept.{Holds}
+use Rattle.vdr_feed.specs.Reader.{GivesItem, Reading}
 use Rattle.vdr_feed.specs.declared.item.Item.{Item as Held}
 use Rattle.vdr_run.specs.declared.ports.Ports.{Ports}
 use Rattle.vdr_run.specs.Given.{CountsFeed, pushed_as, tally_after, tally_of, totals_of}
@@ -230,3 +231,8 @@ rests feed ports rest counts low sixteen each = λ i g. at g i
         (λ (l : g < 16). each g l ∙ ap (λ (t : Tally). t.missed) (counts.each g l))
         (λ (h : 16 ≤ g). get_or-eq_default rest none_missed (omega (arith, sixteen, h)) ∙ sym (high_group feed g low h))
         (cases_lt g 16)
+
+-- What a reader gives where it answers that there is an item.
+pub gave_true : (before now : Option (List ℕ)) (r r' : Reading) (held : Held) (b : Bool) → b ≡ true → GivesItem before now r r' held b → GivesItem before now r r' held true
+gave_true before now r r' held true is p = p
+gave_true before now r r' held false is p = let none : ⊥ = cc in absurd none

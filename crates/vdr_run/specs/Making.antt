@@ -13,7 +13,7 @@ use Rattle.vdr_history.specs.Sums.{recorded_in, counted_by}
 use Rattle.vdr_run.specs.Accounts.{Counted, nothing_counted, with_recorded, with_rest, gap_after, gap_records, item_records}
 use Rattle.vdr_run.specs.declared.maker.ItemHead.{ItemHead}
 use Rattle.vdr_run.specs.declared.maker.Maker.{Maker}
-use Rattle.vdr_run.specs.Meters.{IsMetered}
+use Rattle.vdr_run.specs.Meters.{IsMetered, rates_of}
 
 -- What the maker has counted of a group.
 abbrev pub counted_of : Maker → ℕ → Counted
@@ -88,8 +88,11 @@ pub record IsMaking (config : Configuration) (start : RunStart) (popped : List C
   pub makes : Makes config start popped maker
   pub ends : EndsWithBuffer start popped before maker
 
--- An item was taken: so much it takes of the maker's room.
+-- An item was taken: so much it takes of the maker's room. The run began as before, by the same rates, and its tick does not fall.
 pub record TakesOne (before after : Maker) (c : Captured) : Type 0 where
+  pub base : after.base ≡ before.base
+  pub later : before.greatest ≤ after.greatest
+  pub rates : rates_of after.meter ≡ rates_of before.meter
   pub place : after.place + length before.records.items ≡ before.place + length after.records.items
   pub records : length after.records.items ≤ length before.records.items + 2
   pub room : before.records.capacity ≤ after.records.capacity

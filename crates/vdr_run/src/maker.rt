@@ -1,10 +1,9 @@
 // The records of a run, as they are made of its items.
-ghost use Rattle.std.specs.Prelude.{◌≡◌, ◌≤◌, ◌<◌, ◌+◌, ◌*◌, ◌^◌, ℕ, [], ◌∷◌, ◌++◌, List, length, replicate, max, IfOk, IfSome, option_map};
+ghost use Rattle.std.specs.Prelude.{◌≡◌, ◌≤◌, ◌<◌, ◌+◌, ◌*◌, ◌^◌, ℕ, [], ◌∷◌, ◌++◌, List, length, replicate, max, IfOk, IfSome};
 ghost use Rattle.vdr_terms.specs.declared.datagram.Verdict.TheVariants.{Yes};
 ghost use Rattle.vdr_terms.specs.Datagrams.{verdict};
 ghost use Rattle.vdr_terms.specs.Records.{Record as Told, second, total};
 ghost use Rattle.vdr_terms.specs.Counting.{next_number};
-ghost use Rattle.vdr_terms.specs.Rates.{Limit};
 ghost use Rattle.vdr_terms.specs.Stamps.{IsStamp};
 ghost use Rattle.vdr_datagram.specs.Channels.{channels_of};
 ghost use Rattle.vdr_history.specs.Runs.{RunStart, base_after};
@@ -12,10 +11,8 @@ ghost use Rattle.vdr_history.specs.Taken.{Captured as CapturedTold};
 ghost use Rattle.vdr_history.specs.Recorder.{recorder_after, begun};
 ghost use Rattle.vdr_history.specs.Sums.{recorded_in, missed_in, counted_by};
 ghost use Rattle.vdr_config.specs.Configuration.{Configuration};
-ghost use Rattle.vdr_meter.specs.Metering.{HasNoDatagram};
 ghost use Rattle.vdr_run.specs.Accounts.{nothing_counted, gap_records, datagram_record};
-ghost use Rattle.vdr_run.specs.Meters.{IsMetered, second_of};
-ghost use Rattle.vdr_run.specs.Starts.{begin_at, stamp_of};
+ghost use Rattle.vdr_run.specs.Meters.{second_of};
 
 use crate::account::Account;
 use crate::bits::{gap_bits, marker_bits};
@@ -78,6 +75,7 @@ fn accounts() -> [Account; 16]
 }
 
 impl Maker {
+    ghost use Rattle.vdr_run.specs.Calls.{BeginsAt, FitsRun, FitsStart, HasRoomFor};
     ghost use Rattle.vdr_run.specs.Making.{Makes, CountsItems, TakesOne, counted_of, closing_by, run_closed_by, rest_of, item_told};
     ghost use Rattle.vdr_run.specs.Making.{Adds, IsMaking, RecordsItem, ClosesBelow};
 
@@ -107,16 +105,8 @@ impl Maker {
         place: u64,
         last: Option<(u64, i64)>,
     )
-        requires place { place < 2 ^ 62 }
-        requires base { base_after (option_map stamp_of last) < 2 ^ 62 }
-        requires utc { IfSome last (λ told. IsStamp told.1) }
-        requires meter { second_of meter ≡ 0 }
-        ensures makes { (limits : ℕ → Limit) → ((made : List Told) → HasNoDatagram made → IsMetered limits meter made)
-            → Makes config.now (begin_at limits (channels_of config.now) place last) [] self.new }
-        ensures place { self.new.place ≡ place + 1 }
-        ensures numbers { (g : ℕ) → g < 16 → next_number (counted_of self.new g).pending ≡ 0 }
-        ensures records { (limits : ℕ → Limit) → self.new.records.items ≡ (begun (begin_at limits (channels_of config.now) place last)).made }
-        ensures room { self.new.records.capacity ≡ self.old.records.capacity }
+        requires { FitsStart meter place last }
+        ensures { BeginsAt config.now meter place last self.old self.new }
     {
         self.base = base_after(last);
         self.greatest = 0;
@@ -144,19 +134,11 @@ impl Maker {
     /// Takes an item: it is recorded, behind a Gap if its group has missed anything since its last Datagram, or counted as refused by its
     /// rate. What is made stands behind what was made before.
     pub fn take(&mut self, config: &Config, item: ItemHead, bytes: &[u8])
-        requires group { item.group < 16 }
-        requires received { item.received < 2 ^ 48 }
-        requires stamp { IsStamp item.utc }
-        requires not_by_rate { item.missed.rate ≡ 0 }
-        requires recordable { verdict bytes.now ≡ Yes }
-        requires room { length self.old.records.items + 2 ≤ self.old.records.capacity }
-        requires place { self.old.place + 2 < 2 ^ 63 }
-        requires number { next_number (counted_of self.old item.group).pending + total item.missed + 1 < 2 ^ 63 }
+        requires fits { FitsRun item bytes.now }
+        requires room { HasRoomFor self.old item }
         ensures making { (start : RunStart) (popped : List CapturedTold) (before : List Told) → IsMaking config.now start popped before self.old
             → IsMaking config.now start (popped ++ item_told item bytes.now ∷ []) before self.new }
         ensures one { TakesOne self.old self.new (item_told item bytes.now) }
-        ensures base { self.new.base ≡ self.old.base }
-        ensures later { self.old.greatest ≤ self.new.greatest }
     {
         law_of_sums();
         self.greatest = self.greatest.max(item.received);

@@ -4,7 +4,7 @@ ghost use Rattle.vdr_terms.specs.Records.{second};
 ghost use Rattle.vdr_history.specs.Runs.{RunStart};
 ghost use Rattle.vdr_history.specs.Taken.{Captured};
 ghost use Rattle.vdr_history.specs.Recorder.{Recorder, took, tick_with, admits};
-ghost use Rattle.vdr_run.specs.Meters.{IsMetered, second_of};
+ghost use Rattle.vdr_run.specs.Meters.{IsMetered, rates_of, second_of};
 
 use vdr_meter::Meter;
 
@@ -16,6 +16,7 @@ pub(crate) fn admit(meter: &mut Option<Meter>, group: u8, tick: u64, len: u16) -
         → c.group ≡ group → tick_with start r c ≡ tick → length c.bytes ≡ len → result ≡ admits start r c }
     ensures measures { (start : RunStart) (r : Recorder) (c : Captured) → IsMetered start.limits meter.old r.made
         → c.group ≡ group → tick_with start r c ≡ tick → length c.bytes ≡ len → IsMetered start.limits meter.new (took start r c).made }
+    ensures rates { rates_of meter.new ≡ rates_of meter.old }
     ensures forward { second_of meter.new ≤ second tick }
 {
     match meter {

@@ -5,7 +5,8 @@ use Rattle.std.proofs.lemmas.Int.{of_z-to_z}
 use Rattle.std.proofs.lemmas.List.{length-append, append_assoc, drop_all}
 use Rattle.vdr_terms.specs.Legality.{IsBytes}
 use Rattle.vdr_bytes.specs.Numbers.{le_u32, le_u64s, u32_at, Puts}
-use Rattle.vdr_bytes.proofs.NumberLemmas.{length-le_u32, spelled_u32, part_long, take-front, drop-front, cut}
+use Rattle.vdr_terms.proofs.Bytes.{part_long}
+use Rattle.vdr_bytes.proofs.NumberLemmas.{length-le_u32, spelled_u32, take-front, drop-front, cut}
 use Rattle.vdr_bytes.proofs.PutsLemmas.{length-le_u64s, puts-more, puts-whole}
 use Rattle.vdr_entry.specs.declared.summary.Summary.{Summary}
 use Rattle.vdr_segment.specs.declared.header.Header.{Header}

@@ -9,7 +9,8 @@ use Rattle.vdr_terms.specs.Legality.{IsBytes, IsRecord}
 use Rattle.vdr_terms.specs.Records.{Record}
 use Rattle.vdr_terms.specs.Sizes.{record_size, records_size, batch_size}
 use Rattle.vdr_bytes.specs.Numbers.{le_u32, u32_at}
-use Rattle.vdr_bytes.proofs.NumberLemmas.{spelled_u32, read_u32, cut, part_long, drop-front, take-front}
+use Rattle.vdr_terms.proofs.Bytes.{part_long}
+use Rattle.vdr_bytes.proofs.NumberLemmas.{spelled_u32, read_u32, cut, drop-front, take-front}
 use Rattle.vdr_entry.specs.Reading.{Begins}
 use Rattle.vdr_entry.specs.Spelling.{record_bytes, records_bytes}
 use Rattle.vdr_entry.proofs.SpellingLemmas.{length-record_bytes}
@@ -34,7 +35,7 @@ begun_size bytes after r g = omega (arith, ap length g.spelled, length-append (r
 pub records_behind : (bytes : List ℕ) (r : Record) (rs : List Record) → AreRecords bytes (r ∷ rs) → AreRecords (drop (record_size r) bytes) rs
 records_behind bytes r rs a = record { legal = All-tail IsRecord r rs a.legal; spelled = begun_behind bytes (records_bytes rs) r (first_begins bytes r rs a) }
 
-records_before : (bytes after : List ℕ) (r : Record) (rs : List Record) → Begins bytes r after → AreRecords (drop (record_size r) bytes) rs → AreRecords bytes (r ∷ rs)
+pub records_before : (bytes after : List ℕ) (r : Record) (rs : List Record) → Begins bytes r after → AreRecords (drop (record_size r) bytes) rs → AreRecords bytes (r ∷ rs)
 records_before bytes after r rs g a = record {
   legal = All-cons IsRecord r rs g.legal a.legal;
   spelled = g.spelled ∙ ap (λ (xs : List ℕ). record_bytes r ++ xs) (sym (begun_behind bytes after r g) ∙ a.spelled);

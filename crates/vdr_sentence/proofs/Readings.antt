@@ -6,6 +6,7 @@ use Rattle.std.proofs.lemmas.List.{take-append-drop, drop_more, at_drop_all, get
 use Rattle.std.proofs.Math.Seq.{take-append_seam, get_or-append_seam}
 use Rattle.vdr_digits.specs.Checksum.{checksum, written, covered}
 use Rattle.vdr_digits.proofs.ChecksumLemmas.{HasField-from_written, written-from_HasField, covered-from_HasField}
+use Rattle.vdr_digits.proofs.Refusals.{row_none}
 use Rattle.vdr_sentence.specs.declared.bad.Bad.{Bad}
 use Rattle.vdr_sentence.specs.declared.bad.Bad.TheVariants.{Start, Length, Character, Address, Wrong}
 use Rattle.vdr_sentence.specs.Characters.{is_start, is_body_character, each_passes}
@@ -13,11 +14,6 @@ use Rattle.vdr_sentence.specs.Addresses.{is_address, address_of}
 use Rattle.vdr_sentence.specs.Sentences.{IsContent, IsSentence}
 use Rattle.vdr_sentence.specs.Refusals.{SentenceText, body, body_refusal, checksum_refusal, ends_line, first_refusal, frame_refusal, reading, unless_refused}
 use Rattle.vdr_sentence.proofs.Bodies.{characters_of_content, characters_of_body, address_of-before_star}
-
--- A row of a table of refusals that does not hold.
-pub row_none : {X : Type 0} (t : Bool) (bad : X) (others : Option X) → cond t (Some bad) others ≡ None → (t ≡ false) × (others ≡ None)
-row_none true bad others h = absurd (cc)
-row_none false bad others h = (refl, h)
 
 -- What no refusal by the frame says.
 pub record IsFramed (bytes : List ℕ) : Type 0 where

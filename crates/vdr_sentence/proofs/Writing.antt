@@ -3,12 +3,12 @@ use Rattle.std.proofs.Common.{◌≡◌, ◌++◌, ◌∙◌, ◌/◌, ◌%◌, 
 use Rattle.std.proofs.lemmas.Bool.{not-false, ltb-false}
 use Rattle.vdr_digits.specs.Digits.{hex_byte, upper_digit}
 use Rattle.vdr_digits.specs.Checksum.{checksum}
+use Rattle.vdr_digits.proofs.Refusals.{row_none}
 use Rattle.vdr_sentence.specs.declared.bad.Bad.TheVariants.{Start, Length, Character, Address}
 use Rattle.vdr_sentence.specs.Characters.{is_start, is_character, each_passes}
 use Rattle.vdr_sentence.specs.Addresses.{is_address, address_of}
 use Rattle.vdr_sentence.specs.Sentences.{IsContent, IsSentence, written_text}
 use Rattle.vdr_sentence.specs.Refusals.{writing_refusal}
-use Rattle.vdr_sentence.proofs.Readings.{row_none}
 
 pub IsContent-from_none : (start : ℕ) (content : List ℕ) → writing_refusal start content ≡ None → IsContent start content
 unfolding writing_refusal

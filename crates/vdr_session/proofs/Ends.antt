@@ -33,13 +33,14 @@ use Rattle.vdr_capture.specs.declared.sums.Outcome.TheVariants.{Done, MediaFault
 use Rattle.vdr_capture.specs.Gives.{EndsBy}
 use Rattle.vdr_vault.specs.Calls.{SameElsewhere}
 use Rattle.vdr_run.specs.Making.{CountsItems, counted_of}
-use Rattle.vdr_recorder.specs.Recordings.{HasDone, HasRecorded, RecorderState}
+use Rattle.vdr_recorder.specs.Recordings.{HasDone, HasRecorded, RecorderState, start_of_opening}
+use Rattle.vdr_recorder.proofs.Batches.{numbers_append}
 use Rattle.vdr_session.specs.declared.mark.Mark.{Mark}
 use Rattle.vdr_session.specs.declared.records.Began.{Began}
 use Rattle.vdr_session.specs.declared.records.Began.TheVariants.{Begun, Place, Tick, Fault}
 use Rattle.vdr_session.specs.Closed.{HasClosed, RanLanes}
 use Rattle.vdr_session.specs.Ended.{EndsRun, HasEnded, IsToldAs}
-use Rattle.vdr_session.specs.Events.{events_of, start_of}
+use Rattle.vdr_session.specs.Events.{events_of}
 use Rattle.vdr_session.specs.Feeding.{AreMissed, RestIs}
 use Rattle.vdr_session.specs.Lanes.{IsMet}
 use Rattle.vdr_session.specs.Marks.{has_fault, taken_in}
@@ -49,8 +50,8 @@ use Rattle.vdr_session.proofs.Closes.{closes_session}
 use Rattle.vdr_session.proofs.Faults.{all_there, no_fault, whole_along}
 use Rattle.vdr_session.proofs.LanesRan.{first_of}
 use Rattle.vdr_session.proofs.Marked.{known_popped, runs_popped}
-use Rattle.vdr_session.proofs.Numbered.{items_few, numbers_append, numbers_small}
-use Rattle.vdr_session.proofs.Steps.{begun_whole}
+use Rattle.vdr_session.proofs.Numbered.{items_few, numbers_small}
+use Rattle.vdr_session.proofs.MarkLemmas.{begun_whole}
 
 -- What is told of a run that was not begun is not that it was closed, and a fault of the media is told of a fault alone.
 not_done : (began : Began) (outcome : Outcome) → (began ≡ Begun → ⊥) → IsToldAs began outcome → outcome ≡ Done → ⊥
@@ -199,7 +200,7 @@ module _ {P : Type 0} (port_tells : PortTells P) {tells tells_images : Type 0} (
       closes outcome goes works opening t0 told s =
           let run = closes_session before opening marks t0 rest r after disk end s works ran.begun (sym (begun_whole marks (k.stage.whole works)) ∙ ran.begun) (stopped opening (events_of opening marks) t0 told works s.has) in
           let at_ = s.begun works ran.begun in
-          let makes = (s.has.works works).makes stage.0 in
+          let makes = ((s.has.works works).makes stage.0).makes in
           record {
             events = events_of opening marks ++ run.event ∷ [];
             behind = run.event ∷ [];
@@ -208,7 +209,7 @@ module _ {P : Type 0} (port_tells : PortTells P) {tells tells_images : Type 0} (
             passes = run.passes;
             pending = ⊎_elim (λ (on : after.vault.failed ≡ false). inl ((whole_has_not_failed (events_of opening marks ++ run.event ∷ [])).1 (sym run.has.failed ∙ on))) (λ (e : outcome ≡ MediaFault). inr e) goes;
             records = inr (run.made, ran.begun, works_here works);
-            closed = λ _. (run.made, counted (start_of opening) (taken_in marks) (subst (λ (x : RunStart × List Captured). CountsItems x.0 x.1 r.maker) (λ i. (at_.0 i, at_.1 i)) makes.counts));
+            closed = λ _. (run.made, counted (start_of_opening opening) (taken_in marks) (subst (λ (x : RunStart × List Captured). CountsItems x.0 x.1 r.maker) (λ i. (at_.0 i, at_.1 i)) makes.counts));
           }
 
       ends_as : (outcome : Outcome) → (outcome ≡ Done) ⊎ (outcome ≡ MediaFault) → (outcome ≡ Done → (r.vault.failed ≡ false) × (after.vault.failed ≡ false)) → (outcome ≡ MediaFault → (r.vault.failed ≡ true) ⊎ Rose (sum now) (sum later))

@@ -9,11 +9,13 @@ pub mod Gathered
 pub mod LanesRan
 pub mod LanesFed
 pub mod Numbered
+pub mod MarkLemmas
 pub mod Steps
 pub mod Orders
 pub mod Starts
 pub mod Faults
 pub mod Closes
 pub mod Ends
+pub mod SessionHistory
 pub mod Sessions
 pub mod Replied

@@ -1,5 +1,5 @@
 -- A recorder under the latch after the order of a desk.
-use Rattle.std.proofs.Common.{◌≡◌, ◌⊎◌, inl, inr, ◌+◌, ◌-◌, ◌^◌, ◌++◌, ◌∷◌, ◌&&◌, not, is_some, ℕ, Bool, true, false, true≢false, List, [], length, cond, refl, sym, ap, ◌∙◌, subst, arith}
+use Rattle.std.proofs.Common.{◌≡◌, ◌⊎◌, inl, inr, ◌+◌, ◌-◌, ◌^◌, ◌++◌, ◌∷◌, ◌&&◌, is_some, ℕ, Bool, true, false, true≢false, List, [], length, cond, refl, sym, ap, ◌∙◌, subst, arith}
 use Rattle.std.specs.Prelude.{min, sum}
 use Rattle.std.proofs.lemmas.Bool.{cases_Bool, le-leb, leb-true}
 use Rattle.vdr_terms.specs.Counting.{next_number}
@@ -22,13 +22,15 @@ use Rattle.vdr_recorder.specs.Recordings.{HasDone, HasRecorded, RecorderState}
 use Rattle.vdr_recorder.proofs.Continuing.{has_moment}
 use Rattle.vdr_reply.specs.Answers.{HasAnswered, IsAnswer, LeavesRest, Spells}
 use Rattle.vdr_reply.specs.Orders.{changes, granted_act}
+use Rattle.vdr_reply.proofs.Played.{and_false}
 use Rattle.vdr_session.specs.declared.mark.Did.TheVariants as dids
 use Rattle.vdr_session.specs.declared.mark.Mark.{Mark}
 use Rattle.vdr_session.specs.Answering.{AnswersMark, did_for, order_mark, rose_in}
 use Rattle.vdr_session.specs.Events.{act_of, event_of, events_of}
 use Rattle.vdr_session.specs.Marks.{begins, leads, misses, taken_by, taken_in}
 use Rattle.vdr_session.specs.Standing.{Before, IsKept}
-use Rattle.vdr_session.proofs.Steps.{StaysHome, all_more, begun_none, kept_by, started_same, still_session, taken_same_by}
+use Rattle.vdr_session.proofs.MarkLemmas.{all_more, begun_none, started_same, taken_same_by}
+use Rattle.vdr_session.proofs.Steps.{StaysHome, kept_by, still_session}
 
 -- an order begins nothing, takes nothing and doesn't lead
 begins_none : (b c : Bool) (order : PlainOrder) → begins (cond b (did_for order) (cond c dids.Miss dids.Look)) ≡ false
@@ -91,10 +93,6 @@ leaves_state opening events true Status t = refl
 leaves_state opening events true (Save label) t = refl
 leaves_state opening events true (Release id) t = refl
 leaves_state opening events true (Play medium name from to) t = refl
-
-and_false : (b : Bool) → (not b && false) ≡ false
-and_false true = refl
-and_false false = refl
 
 -- with another cause of a fault, which counts for a play alone
 spelled_so : (A B : Type 0) (order : PlainOrder) (vault : VaultState) (reply : Reply) (text : List ℕ) → (changes order vault ≡ false → A → B) → Spells A order reply text → Spells B order reply text

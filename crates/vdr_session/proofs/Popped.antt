@@ -1,11 +1,10 @@
 -- The takers, as one of them pops.
-use Rattle.std.proofs.Common.{◌≡◌, ◌<◌, ◌++◌, ◌==◌, ℕ, zero, suc, Bool, List, [], ◌∷◌, All, IfSome, Option, Some, None, length, get_or, set, ⊎_elim, refl, sym, ap, ◌∙◌, subst, append_assoc, arith}
+use Rattle.std.proofs.Common.{◌≡◌, ◌<◌, ◌++◌, ◌==◌, ℕ, Bool, List, [], ◌∷◌, All, IfSome, Option, Some, None, length, get_or, set, ⊎_elim, refl, sym, ap, ◌∙◌, subst, append_assoc, arith}
 use Rattle.std.proofs.lemmas.List.{get_or-set_same, get_or-set_other}
 use Rattle.std.proofs.lemmas.List.Elements.{All-head, All-tail, filter-append}
 use Rattle.std.proofs.lemmas.Bool.{cond-true, cases_eq, cond-false, eq-eqb, ne_eqb}
 use Rattle.vdr_history.specs.Taken.{Captured, of_group}
 use Rattle.vdr_intake.specs.Ends.{QueueId, Taking, Feeding}
-use Rattle.vdr_desk.proofs.Lists.{no_default, at_each}
 use Rattle.vdr_session.specs.Lanes.{AreMet, IsFront, IsMet}
 
 pub of_own : (g : ℕ) (items : List Captured) → All (λ c. c.group ≡ g) items → of_group g items ≡ items
@@ -48,3 +47,7 @@ pub front_more : (joined : Option Feeding) (old : List Captured) (c : Captured) 
     → IfSome joined (λ feeder. (rest : List Captured) × (feeder.pushed ≡ old ++ c ∷ rest)) → IsFront new joined
 front_more None old c new e h = tt
 front_more (Some feeder) old c new e h = (h.0, h.1 ∙ sym (append_assoc old (c ∷ []) h.0) ∙ ap (λ (xs : List Captured). xs ++ h.0) (sym e))
+
+-- What holds of what there is.
+pub if_some : {T : Type 0} (P : T → Type 0) (o : Option T) (x : T) → o ≡ Some x → IfSome o P → P x
+if_some {T} P o x is h = subst (λ (o : Option T). IfSome o P) is h

@@ -29,7 +29,7 @@ use Rattle.vdr_session.specs.Events.{event_of, events_along, events_of}
 use Rattle.vdr_session.specs.Marks.{has_missed, misses, taken_by, taken_in}
 use Rattle.vdr_session.specs.Sessions.{is_closed}
 use Rattle.vdr_session.specs.Standing.{Before}
-use Rattle.vdr_session.proofs.Sessions.{closed_is_done}
+use Rattle.vdr_session.proofs.SessionHistory.{closed_is_done}
 use Rattle.vdr_session.proofs.Told.{events_more}
 
 -- the history of marks is a front of that of more

@@ -1,22 +1,19 @@
 -- What the answer of a start means for the opening.
-use Rattle.std.proofs.Common.{◌≡◌, ◌↔◌, ◌<◌, ◌≤◌, ◌^◌, ℕ, ℤ, false, Option, Some, None, option_map, Result, Err, ⊎_elim, refl, sym, ap, ◌∙◌, subst, arith, List}
+use Rattle.std.proofs.Common.{◌≡◌, ◌↔◌, ◌<◌, ◌≤◌, ◌^◌, ℕ, ℤ, false, Option, option_map, Result, Err, ⊎_elim, sym, ap, ◌∙◌, subst, arith, List}
 use Rattle.std.proofs.lemmas.Bool.{cases_lt}
 use Rattle.vdr_history.specs.Histories.{Opening}
-use Rattle.vdr_history.specs.Runs.{RunStart, Stamp, base_after}
+use Rattle.vdr_history.specs.Runs.{RunStart, base_after}
 use Rattle.vdr_history.specs.RunStates.{state_left}
 use Rattle.vdr_outside.specs.Disk.{Disk}
-use Rattle.vdr_vault.specs.Vaults.{of_stamp}
 use Rattle.vdr_recorder.specs.Recordings.{RecorderState}
 use Rattle.vdr_run.specs.Starts.{stamp_of}
 use Rattle.vdr_recorder.specs.declared.run.StartRefused.{StartRefused}
 use Rattle.vdr_recorder.specs.declared.run.StartRefused.TheVariants.{Place, Tick}
+use Rattle.vdr_recorder.specs.Refusals.{MayBegin}
+use Rattle.vdr_recorder.proofs.Starting.{same_stamp}
 use Rattle.vdr_session.specs.declared.mark.Mark.{Mark}
 use Rattle.vdr_session.specs.Events.{events_of, is_started}
-use Rattle.vdr_session.specs.Standing.{Before, HasSession, MayBegin}
-
-same_stamp : (o : Option Stamp) → option_map stamp_of (option_map of_stamp o) ≡ o
-same_stamp None = refl
-same_stamp (Some s) = refl
+use Rattle.vdr_session.specs.Standing.{Before, HasSession}
 
 module _ {tells tells_images : Type 0} {before : Before} {opening : Opening} {marks : List Mark} {t0 : ℕ} {r : RecorderState} {disk : Disk tells tells_images}
     (s : HasSession before opening marks t0 r disk) (works : r.vault.failed ≡ false) (idle : is_started marks ≡ false) where

@@ -1,12 +1,10 @@
 -- A recorder under the latch after one more mark.
-use Rattle.std.proofs.Common.{◌≡◌, ◌≢◌, ◌⊎◌, inl, inr, ◌<◌, ◌≤◌, ◌+◌, ◌*◌, ◌^◌, ◌++◌, ◌&&◌, ◌||◌, ℕ, Bool, true, false, true≢false, List, [], ◌∷◌, All, Option, Some, None, length, drop, filter, is_some, cond, not, if◌then◌else◌, ⊎_elim, refl, sym, ap, ◌∙◌, subst, arith, append-nil, append_assoc}
-use Rattle.std.specs.Prelude.{sum, Result, Ok, Err, OnOk, OnErr, IsErr, is_ok}
+use Rattle.std.proofs.Common.{◌≡◌, ◌≢◌, ◌⊎◌, inl, inr, ◌<◌, ◌≤◌, ◌+◌, ◌*◌, ◌^◌, ◌++◌, ◌&&◌, ◌||◌, ℕ, Bool, true, false, true≢false, List, [], ◌∷◌, Option, None, length, filter, is_some, if◌then◌else◌, ⊎_elim, refl, sym, ap, ◌∙◌, subst, arith, append-nil}
+use Rattle.std.specs.Prelude.{sum}
 use Rattle.std.proofs.lemmas.Bool.{cases_Bool, cond-false, cond-true}
 use Rattle.std.proofs.lemmas.Grind.{flat_map-append}
 use Rattle.std.proofs.lemmas.List.{length-append}
-use Rattle.std.proofs.lemmas.List.Elements.{All-cons, All-head, All-nil, All-tail}
-use Rattle.std.proofs.lemmas.List.Folds.{list_any-append}
-use Rattle.std.proofs.Math.Seq.{drop-append_seam}
+use Rattle.std.proofs.lemmas.List.Elements.{All-nil}
 use Rattle.vdr_terms.specs.Counting.{next_number}
 use Rattle.vdr_terms.specs.Records.{Record}
 use Rattle.vdr_terms.specs.declared.rate.Rate.{Rate}
@@ -28,82 +26,21 @@ use Rattle.vdr_vault.specs.Calls.{SameElsewhere}
 use Rattle.vdr_vault.specs.Vaults.{AreRings, ShowsHistory}
 use Rattle.vdr_run.specs.Making.{counted_of}
 use Rattle.vdr_recorder.specs.Making.{numbers_of}
-use Rattle.vdr_recorder.specs.Recordings.{HasDone, HasRecorded, Passes, RecorderState}
+use Rattle.vdr_recorder.specs.Recordings.{HasDone, HasRecorded, Passes, RecorderState, start_of_opening}
 use Rattle.vdr_recorder.proofs.Answering.{same_disk}
 use Rattle.vdr_recorder.proofs.Continuing.{has_moment, left_with}
 use Rattle.vdr_recorder.proofs.Looking.{look_done}
+use Rattle.vdr_recorder.proofs.Batches.{numbers_append}
 use Rattle.vdr_session.specs.declared.mark.Did.{Did}
 use Rattle.vdr_session.specs.declared.mark.Did.TheVariants.{Begin, Take, Look}
 use Rattle.vdr_session.specs.declared.mark.Mark.{Mark}
-use Rattle.vdr_session.specs.Events.{act_of, added_records, event_of, events_of, is_started, run_records, start_of}
-use Rattle.vdr_session.specs.Marks.{IsMarkOf, begins, has_missed, is_begun, is_leading, misses, taken_by, taken_in}
+use Rattle.vdr_session.specs.Events.{act_of, added_records, event_of, events_of, is_started, run_records}
+use Rattle.vdr_session.specs.Marks.{begins, has_missed, is_begun, is_leading, misses, taken_by, taken_in}
 use Rattle.vdr_session.specs.Standing.{AreFew, Before, HasSession, IsAt, IsFresh, IsKept, IsTaking, PassesSince, batch_mark, start_mark}
 use Rattle.vdr_session.proofs.Faults.{none_leads}
 use Rattle.vdr_session.proofs.Marked.{taken_more}
-use Rattle.vdr_session.proofs.Numbered.{numbers_append}
 use Rattle.vdr_session.proofs.Told.{events_more}
-
--- booleans
-or_none : (b : Bool) → (b || false) ≡ b
-or_none true = refl
-or_none false = refl
-
-and_true : (b c : Bool) → c ≡ true → (b && c) ≡ b
-and_true true c e = e
-and_true false c e = refl
-
-some_true : {X : Type 0} (o : Option X) → o ≢ None → is_some o ≡ true
-some_true None ne = absurd (ne refl)
-some_true (Some x) ne = refl
-
--- one more mark
-pub started_more : (marks : List Mark) (m : Mark) → is_started (marks ++ m ∷ []) ≡ (is_started marks || begins m.did)
-started_more marks m = list_any-append (λ (m : Mark). begins m.did) marks (m ∷ []) ∙ ap (λ (b : Bool). is_started marks || b) (or_none (begins m.did))
-
-pub begun_grows : (marks : List Mark) (m : Mark) → is_begun (marks ++ m ∷ []) ≡ (is_begun marks || (begins m.did && is_some m.moment))
-begun_grows marks m = list_any-append (λ (m : Mark). begins m.did && is_some m.moment) marks (m ∷ []) ∙ ap (λ (b : Bool). is_begun marks || b) (or_none (begins m.did && is_some m.moment))
-
-missed_more : (marks : List Mark) (m : Mark) → has_missed (marks ++ m ∷ []) ≡ (has_missed marks || misses m.did)
-missed_more marks m = list_any-append (λ (m : Mark). misses m.did) marks (m ∷ []) ∙ ap (λ (b : Bool). has_missed marks || b) (or_none (misses m.did))
-
-pub all_more : (marks : List Mark) (m : Mark) → All (λ m. m.moment ≢ None) marks → m.moment ≢ None → All (λ m. m.moment ≢ None) (marks ++ m ∷ [])
-all_more [] m all some = All-cons (λ (m : Mark). m.moment ≢ None) m [] some (All-nil (λ (m : Mark). m.moment ≢ None))
-all_more (x ∷ xs) m all some =
-    All-cons (λ (m : Mark). m.moment ≢ None) x (xs ++ m ∷ []) (All-head (λ (m : Mark). m.moment ≢ None) x xs all) (all_more xs m (All-tail (λ (m : Mark). m.moment ≢ None) x xs all) some)
-
--- where no mark met a fault, a run that was started was begun
-pub begun_whole : (marks : List Mark) → All (λ m. m.moment ≢ None) marks → is_begun marks ≡ is_started marks
-begun_whole [] all = refl
-begun_whole (m ∷ marks) all = λ i. and_true (begins m.did) (is_some m.moment) (some_true m.moment (All-head (λ (m : Mark). m.moment ≢ None) m marks all)) i
-    || begun_whole marks (All-tail (λ (m : Mark). m.moment ≢ None) m marks all) i
-
--- a mark that begins nothing, and one that takes nothing
-pub started_same : (marks : List Mark) (m : Mark) → begins m.did ≡ false → is_started (marks ++ m ∷ []) ≡ is_started marks
-started_same marks m none = started_more marks m ∙ ap (λ (b : Bool). is_started marks || b) none ∙ or_none (is_started marks)
-
-pub begun_none : (marks : List Mark) (m : Mark) → (begins m.did && is_some m.moment) ≡ false → is_begun (marks ++ m ∷ []) ≡ is_begun marks
-begun_none marks m none = begun_grows marks m ∙ ap (λ (b : Bool). is_begun marks || b) none ∙ or_none (is_begun marks)
-
-pub taken_same_by : (marks : List Mark) (m : Mark) → taken_by m.did ≡ [] → taken_in (marks ++ m ∷ []) ≡ taken_in marks
-taken_same_by marks m none = taken_more marks m ∙ ap (λ (xs : List Captured). taken_in marks ++ xs) none ∙ append-nil (taken_in marks)
-
-no_moment : (failed : Bool) (clock : ℕ) → failed ≡ true → is_some (moment_of failed clock) ≡ false
-no_moment failed clock fails = ap (λ (b : Bool). is_some (moment_of b clock)) fails
-
--- what was made is a front of what is made with further items
-pub added : (start : RunStart) (taken items : List Captured) (records : List Record) → (recorder_after start (taken ++ items)).made ≡ (recorder_after start taken).made ++ records
-    → added_records start taken items ≡ records
-added start taken items records made =
-    ap (drop (length (recorder_after start taken).made)) made ∙ drop-append_seam (recorder_after start taken).made records
-
-front_shown : {shows : List Event → Image → Type 0} (events more : List Event) (least : ℕ) (image : Image) → ShowsPrefix shows events least image → ShowsPrefix shows (events ++ more) least image
-front_shown events more least image h = record {
-  first = h.first;
-  rest = h.rest ++ more;
-  split = ap (λ (es : List Event). es ++ more) h.split ∙ append_assoc h.first h.rest more;
-  enough = h.enough;
-  shown = h.shown;
-}
+use Rattle.vdr_session.proofs.MarkLemmas.{added, all_more, begin_told, begun_none, begun_whole, front_shown, look_told, missed_more, no_moment, started_more, started_same, taken_same_by}
 
 abbrev Possible : Before → Opening → List Event → Image → Type 0
 Possible before opening es i = before.now i ⊎ ShowsPrefix (ShowsHistory opening) es 0 i
@@ -167,7 +104,7 @@ module _ {tells tells_images : Type 0} (before : Before) (opening : Opening) whe
       made = recorded_more
           ∙ ap (λ (rs : List Record). run_records opening marks ++ rs) records_none
           ∙ append-nil (run_records opening marks)
-          ∙ (λ i. if (sym (started_same marks m begins_none) i) then (recorder_after (start_of opening) (sym (taken_same_by marks m takes_none) i)).made else []);
+          ∙ (λ i. if (sym (started_same marks m begins_none) i) then (recorder_after (start_of_opening opening) (sym (taken_same_by marks m takes_none) i)).made else []);
       begun = λ goes is.
           let left = left_more goes ∙ leaves (state_left opening events) in
           let was = s.begun (lasts goes) (sym (begun_none marks m (ap (λ (b : Bool). b && is_some m.moment) begins_none)) ∙ is) in
@@ -179,7 +116,7 @@ module _ {tells tells_images : Type 0} (before : Before) (opening : Opening) whe
     -- the mark began the run
     pub begun_session : m.did ≡ Begin → r.vault.failed ≡ false → is_started marks ≡ false → taken_in marks ≡ [] → HasSession before opening (marks ++ m ∷ []) t0 after new
     begun_session did_is works idle none =
-        let act_is : act_of opening (taken_in marks) events m.did ≡ Commit (begun (start_of opening)).made [] = ap (act_of opening (taken_in marks) events) did_is in
+        let act_is : act_of opening (taken_in marks) events m.did ≡ Commit (begun (start_of_opening opening)).made [] = ap (act_of opening (taken_in marks) events) did_is in
         let begins_is : begins m.did ≡ true = ap begins did_is in
         let takes_none : taken_by m.did ≡ [] = ap taken_by did_is in
         let taken : taken_in (marks ++ m ∷ []) ≡ [] = taken_same_by marks m takes_none ∙ none in
@@ -187,8 +124,8 @@ module _ {tells tells_images : Type 0} (before : Before) (opening : Opening) whe
         record {
           has = has_more;
           made = recorded_more
-              ∙ (λ i. (if idle i then (recorder_after (start_of opening) (taken_in marks)).made else []) ++ records_of_act (act_is i))
-              ∙ (λ i. if (sym started i) then (recorder_after (start_of opening) (sym taken i)).made else []);
+              ∙ (λ i. (if idle i then (recorder_after (start_of_opening opening) (taken_in marks)).made else []) ++ records_of_act (act_is i))
+              ∙ (λ i. if (sym started i) then (recorder_after (start_of_opening opening) (sym taken i)).made else []);
           begun = λ goes is.
               let left = left_more goes ∙ ap (after_act (state_left opening events)) act_is in
               (ap (λ (t : RunState). t.start) left ∙ s.next works idle, ap (λ (t : RunState). t.popped) left ∙ sym taken);
@@ -198,79 +135,35 @@ module _ {tells tells_images : Type 0} (before : Before) (opening : Opening) whe
 
     -- the mark took items
     pub taken_session : (items : List Captured) → m.did ≡ Take items → is_started marks ≡ true
-        → (recorder_after (start_of opening) (taken_in marks ++ items)).made ≡ (recorder_after (start_of opening) (taken_in marks)).made ++ added_records (start_of opening) (taken_in marks) items
+        → (recorder_after (start_of_opening opening) (taken_in marks ++ items)).made ≡ (recorder_after (start_of_opening opening) (taken_in marks)).made ++ added_records (start_of_opening opening) (taken_in marks) items
         → (after.vault.failed ≡ false → is_begun marks ≡ true) → HasSession before opening (marks ++ m ∷ []) t0 after new
     taken_session items did_is started made was_begun =
-        let act_is : act_of opening (taken_in marks) events m.did ≡ Commit (added_records (start_of opening) (taken_in marks) items) items = ap (act_of opening (taken_in marks) events) did_is in
+        let act_is : act_of opening (taken_in marks) events m.did ≡ Commit (added_records (start_of_opening opening) (taken_in marks) items) items = ap (act_of opening (taken_in marks) events) did_is in
         let begins_none : begins m.did ≡ false = ap begins did_is in
         let taken : taken_in (marks ++ m ∷ []) ≡ taken_in marks ++ items = taken_more marks m ∙ ap (λ (did : Did). taken_in marks ++ taken_by did) did_is in
         let still : is_started (marks ++ m ∷ []) ≡ true = started_same marks m begins_none ∙ started in
-        let none_begins : begin_run (added_records (start_of opening) (taken_in marks) items) ≡ false =
-        inside_begins_none (added_records (start_of opening) (taken_in marks) items) (further_items (start_of opening) (taken_in marks) items (added_records (start_of opening) (taken_in marks) items) made).1 in
+        let none_begins : begin_run (added_records (start_of_opening opening) (taken_in marks) items) ≡ false =
+        inside_begins_none (added_records (start_of_opening opening) (taken_in marks) items) (further_items (start_of_opening opening) (taken_in marks) items (added_records (start_of_opening opening) (taken_in marks) items) made).1 in
         record {
           has = has_more;
           made = recorded_more
-              ∙ (λ i. (if started i then (recorder_after (start_of opening) (taken_in marks)).made else []) ++ records_of_act (act_is i))
+              ∙ (λ i. (if started i then (recorder_after (start_of_opening opening) (taken_in marks)).made else []) ++ records_of_act (act_is i))
               ∙ sym made
-              ∙ (λ i. if (sym still i) then (recorder_after (start_of opening) (sym taken i)).made else []);
+              ∙ (λ i. if (sym still i) then (recorder_after (start_of_opening opening) (sym taken i)).made else []);
           begun = λ goes is.
               let left = left_more goes ∙ ap (after_act (state_left opening events)) act_is in
               let was = s.begun (lasts goes) (was_begun goes) in (
                 ap (λ (t : RunState). t.start) left
-                    ∙ cond-false (begin_run (added_records (start_of opening) (taken_in marks) items)) (next_start (state_left opening events)) (state_left opening events).start none_begins
+                    ∙ cond-false (begin_run (added_records (start_of_opening opening) (taken_in marks) items)) (next_start (state_left opening events)) (state_left opening events).start none_begins
                     ∙ was.0,
                 ap (λ (t : RunState). t.popped) left
-                    ∙ cond-false (begin_run (added_records (start_of opening) (taken_in marks) items)) items ((state_left opening events).popped ++ items) none_begins
+                    ∙ cond-false (begin_run (added_records (start_of_opening opening) (taken_in marks) items)) items ((state_left opening events).popped ++ items) none_begins
                     ∙ ap (λ (xs : List Captured). xs ++ items) was.1
                     ∙ sym taken,
               );
           next = λ goes none_started. absurd (true≢false (sym still ∙ none_started));
           passes = since_more;
         }
-
--- the marks of a start and of a batch
-begin_told : (r after : RecorderState) → r.vault.failed ≡ false → (after.is_open ≡ true) ⊎ (after.vault.failed ≡ true)
-    → cond r.vault.failed Look (cond after.is_open Begin (cond after.vault.failed Begin Look)) ≡ Begin
-begin_told r after works (inl opened) =
-    cond-false r.vault.failed Look (cond after.is_open Begin (cond after.vault.failed Begin Look)) works
-    ∙ cond-true after.is_open Begin (cond after.vault.failed Begin Look) opened
-begin_told r after works (inr fails) =
-    cond-false r.vault.failed Look (cond after.is_open Begin (cond after.vault.failed Begin Look)) works
-    ∙ ap (λ (did : Did). cond after.is_open Begin did) (cond-true after.vault.failed Begin Look fails)
-    ∙ both after.is_open
-  where
-    both : (b : Bool) → cond b Begin Begin ≡ Begin
-    both true = refl
-    both false = refl
-
-look_told : (r : RecorderState) → r.is_open ≡ false → (r.vault.failed ≡ true) ⊎ (r.vault.failed ≡ false) → cond r.vault.failed Look (cond r.is_open Begin (cond r.vault.failed Begin Look)) ≡ Look
-look_told r closed (inl fails) = cond-true r.vault.failed Look (cond r.is_open Begin (cond r.vault.failed Begin Look)) fails
-look_told r closed (inr works) =
-    cond-false r.vault.failed Look (cond r.is_open Begin (cond r.vault.failed Begin Look)) works
-    ∙ cond-false r.is_open Begin (cond r.vault.failed Begin Look) closed
-    ∙ cond-false r.vault.failed Begin Look works
-
--- a batch is taken whole where it was taken at all
-moment_told : (after : Bool) (clock : ℕ) (b : Bool) → after ≡ b → not b ≡ is_some (moment_of after clock)
-moment_told after clock true e = sym (ap (λ (b : Bool). is_some (moment_of b clock)) e)
-moment_told after clock false e = sym (ap (λ (b : Bool). is_some (moment_of b clock)) e)
-
-works_told : {T E : Type 0} (after : Bool) (clock : ℕ) (result : Result T E) → OnOk result (after ≡ false) → OnErr result (after ≡ true) → is_ok result ≡ is_some (moment_of after clock)
-works_told after clock (Ok x) goes fails = moment_told after clock false goes
-works_told after clock (Err e) goes fails = moment_told after clock true fails
-
-pub mark_is : {T E : Type 0} (items : List Captured) (failed after : Bool) (clock : ℕ) (result : Result T E) (works : Bool) → works ≡ is_ok result → (failed ≡ true → IsErr result)
-    → OnOk result (after ≡ false) → OnErr result (after ≡ true) → IsMarkOf items works (batch_mark failed items after clock)
-mark_is items false after clock result works is none goes fails =
-    record { lost = []; split = sym (append-nil items); whole = λ good. refl; told = is ∙ works_told after clock result goes fails }
-mark_is items true after clock (Ok x) works is none goes fails = absurd (true≢false (sym (none refl)))
-mark_is items true after clock (Err e) works is none goes fails =
-    record { lost = items; split = refl; whole = λ good. absurd (true≢false (sym good ∙ is)); told = is ∙ moment_told after clock true fails }
-
--- a fault after a call has its cause
-pub rose_of : {T E : Type 0} (result : Result T E) (fails_after : Bool) (P : Type 0) → OnOk result (fails_after ≡ false) → OnErr result P → fails_after ≡ true → P
-rose_of (Ok x) b P works cause fails = absurd (true≢false (sym fails ∙ works))
-rose_of (Err e) b P works cause fails = cause
 
 -- What a call leaves at home.
 pub record StaysHome {tells tells_images : Type 0} (r : RecorderState) (old : Disk tells tells_images) (was : List ℕ) (after : RecorderState) (new : Disk tells tells_images) (now : List ℕ) : Type 0 where
@@ -440,13 +333,13 @@ module _ {tells tells_images : Type 0} (before : Before) (began : Opening → �
           let s = k.told told opening t0 b in
           let at_ = s.begun works is_begun_now in
           let d = done opening (events_of opening marks) t0 told s.has in
-          let made : (recorder_after (start_of opening) (taken_in marks ++ items)).made ≡ (recorder_after (start_of opening) (taken_in marks)).made ++ d.0 =
+          let made : (recorder_after (start_of_opening opening) (taken_in marks ++ items)).made ≡ (recorder_after (start_of_opening opening) (taken_in marks)).made ++ d.0 =
           subst (λ (x : RunStart × List Captured). (recorder_after x.0 (x.1 ++ items)).made ≡ (recorder_after x.0 x.1).made ++ d.0) (λ i. (at_.0 i, at_.1 i)) d.1 in
-          let same : added_records (start_of opening) (taken_in marks) items ≡ d.0 = added (start_of opening) (taken_in marks) items d.0 made in
+          let same : added_records (start_of_opening opening) (taken_in marks) items ≡ d.0 = added (start_of_opening opening) (taken_in marks) items d.0 made in
           taken_session before opening marks t0 r old s take_mark after new
           (subst (λ (rs : List Record). HasDone opening (events_of opening marks) t0 (Commit rs items) after old new) (sym same) d.2)
           refl (λ goes. works) items refl started
-          (made ∙ ap (λ (rs : List Record). (recorder_after (start_of opening) (taken_in marks)).made ++ rs) (sym same))
+          (made ∙ ap (λ (rs : List Record). (recorder_after (start_of_opening opening) (taken_in marks)).made ++ rs) (sym same))
           (λ goes. is_begun_now))
 
       pub batch_kept : r.is_open ≡ true → after.is_open ≡ true → after.maker.place ≤ r.maker.place + 2 * length items

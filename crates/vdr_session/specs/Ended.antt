@@ -14,13 +14,13 @@ use Rattle.vdr_capture.specs.declared.lane.Lane.{Lane}
 use Rattle.vdr_capture.specs.declared.sums.Outcome.{Outcome}
 use Rattle.vdr_capture.specs.declared.sums.Outcome.TheVariants as outcomes
 use Rattle.vdr_run.specs.Making.{CountsItems}
-use Rattle.vdr_recorder.specs.Recordings.{HasRecorded, RecorderState}
+use Rattle.vdr_recorder.specs.Recordings.{HasRecorded, RecorderState, start_of_opening}
 use Rattle.vdr_session.specs.declared.mark.Mark.{Mark}
 use Rattle.vdr_session.specs.declared.records.Began.{Began}
 use Rattle.vdr_session.specs.declared.records.Began.TheVariants.{Begun, Place, Tick, Fault}
 use Rattle.vdr_session.specs.Closed.{HasClosed}
 use Rattle.vdr_session.specs.Feeding.{AreMissed}
-use Rattle.vdr_session.specs.Events.{events_of, run_records, start_of}
+use Rattle.vdr_session.specs.Events.{events_of, run_records}
 use Rattle.vdr_session.specs.Marks.{has_fault, has_missed, is_begun, taken_in}
 use Rattle.vdr_session.specs.Standing.{Before, PassesSince, StartMeans}
 
@@ -45,8 +45,8 @@ module _ {tells tells_images : Type 0} where
     pub passes : PassesSince before opening events disk
     pub pending : IsWhole events ⊎ (outcome ≡ outcomes.MediaFault)
     pub records : (recorded events ≡ run_records opening marks)
-        ⊎ ((recorded events ≡ closed_run (start_of opening) (taken_in marks) rest) × (is_begun marks ≡ true) × (has_fault marks ≡ false))
-    pub closed : outcome ≡ outcomes.Done → (recorded events ≡ closed_run (start_of opening) (taken_in marks) rest) × CountsItems (start_of opening) (taken_in marks) r.maker
+        ⊎ ((recorded events ≡ closed_run (start_of_opening opening) (taken_in marks) rest) × (is_begun marks ≡ true) × (has_fault marks ≡ false))
+    pub closed : outcome ≡ outcomes.Done → (recorded events ≡ closed_run (start_of_opening opening) (taken_in marks) rest) × CountsItems (start_of_opening opening) (taken_in marks) r.maker
 
   -- The session ended so.
   pub record HasEnded {P : Type 0} (port_tells : PortTells P) (turns : ℕ) (configured : ℕ → Bool) (queues : List (Option QueueId)) (takers_before takers_after : List (Option Taking)) (old new : List (Lane P))

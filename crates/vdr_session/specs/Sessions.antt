@@ -11,7 +11,6 @@ use Rattle.vdr_history.specs.Histories.{Event, IsHistory, Opening, recorded}
 use Rattle.vdr_history.specs.Recorder.{closed_run, recorder_after}
 use Rattle.vdr_history.specs.RunStates.{IsRecorderHistory}
 use Rattle.vdr_history.specs.Runs.{RunStart, base_of}
-use Rattle.vdr_history.specs.Sums.{missed_in, recorded_in}
 use Rattle.vdr_history.specs.Taken.{AllFeed, Captured}
 use Rattle.vdr_durability.specs.Keeping.{IsWhole, Keeps}
 use Rattle.vdr_intake.specs.Ends.{QueueId, Taking, full_of}
@@ -24,10 +23,12 @@ use Rattle.vdr_capture.specs.declared.lane.Lane.{Lane}
 use Rattle.vdr_capture.specs.declared.sums.GroupSums.{GroupSums}
 use Rattle.vdr_capture.specs.declared.sums.Outcome.{Outcome}
 use Rattle.vdr_capture.specs.declared.sums.Outcome.TheVariants.{Done, NoMemory, Place, Tick, MediaFault, PortFault, LinkFault}
+use Rattle.vdr_capture.specs.Sums.{sums_of}
 use Rattle.vdr_recorder.specs.Recordings.{HasRecorded, Passes, RecorderState, start_of_opening}
+use Rattle.vdr_recorder.specs.Refusals.{MayBegin}
 use Rattle.vdr_session.specs.declared.session.SessionEnd.{SessionEnd}
 use Rattle.vdr_session.specs.Ran.{PortRan, PortRests}
-use Rattle.vdr_session.specs.Standing.{MayBegin, StartMeans}
+use Rattle.vdr_session.specs.Standing.{StartMeans}
 use Rattle.vdr_session.specs.declared.records.Began.TheVariants as starts
 
 -- How far the run came, by what was told
@@ -101,10 +102,6 @@ LaneTold tells turns capacity true g (Some rate) (Some intake) port lane given r
 LaneTold tells turns capacity false g (Some rate) (Some intake) port lane given rest = (intake.0.group ≡ g) × (intake.0.capacity ≡ capacity) × PortRests port lane.port given rest
 
 -- The sums
-
--- What a group's port gave, what of it is recorded, and what the Gaps say was missed.
-abbrev pub sums_of : (g : ℕ) → List Item → List Record → GroupSums
-sums_of g given run = record { taken = length given; recorded = recorded_in g run; counts = missed_in g run }
 
 -- The sums of each configured group, by its number.
 abbrev pub AreSums : List (Option Rate) → (ℕ → List Item) → List Record → List (Option GroupSums) → Type 0

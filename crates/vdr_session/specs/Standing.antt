@@ -14,12 +14,13 @@ use Rattle.vdr_vault.specs.Calls.{SameElsewhere}
 use Rattle.vdr_vault.specs.Vaults.{AreRings, ShowsHistory}
 use Rattle.vdr_run.specs.Making.{counted_of}
 use Rattle.vdr_recorder.specs.Making.{numbers_of}
-use Rattle.vdr_recorder.specs.Recordings.{HasRecorded, RecorderState}
+use Rattle.vdr_recorder.specs.Recordings.{HasRecorded, RecorderState, start_of_opening}
+use Rattle.vdr_recorder.specs.Refusals.{MayBegin}
 use Rattle.vdr_session.specs.declared.mark.Mark.{Mark}
 use Rattle.vdr_session.specs.declared.mark.Did.TheVariants.{Begin, Take, Look}
 use Rattle.vdr_session.specs.declared.records.Began.{Began}
 use Rattle.vdr_session.specs.declared.records.Began.TheVariants.{Begun, Place, Tick, Fault}
-use Rattle.vdr_session.specs.Events.{events_of, is_started, run_records, start_of}
+use Rattle.vdr_session.specs.Events.{events_of, is_started, run_records}
 use Rattle.vdr_session.specs.Marks.{has_missed, is_begun, taken_in}
 
 -- The places and numbers of the run stay small: an item takes two places at most, and its numbers.
@@ -41,11 +42,6 @@ pub record Before : Type 1 where
   pub reads : Image  -- what the media read as, where that is told
   pub channels : List Selector  -- of the configuration
 
--- A run may begin: its first place and its base are below 2^62.
-pub record MayBegin (opening : Opening) : Type 0 where
-  pub place : opening.next_place < 2 ^ 62
-  pub base : base_after opening.last < 2 ^ 62
-
 -- What it means that a start was answered so.
 abbrev pub StartMeans : Opening → Began → Type 0
 StartMeans opening Begun = MayBegin opening
@@ -65,8 +61,8 @@ module _ {tells tells_images : Type 0} where
     pub has : HasRecorded opening (events_of opening marks) t0 r disk
     pub made : recorded (events_of opening marks) ≡ run_records opening marks
     pub begun : r.vault.failed ≡ false → is_begun marks ≡ true
-        → ((state_left opening (events_of opening marks)).start ≡ start_of opening) × ((state_left opening (events_of opening marks)).popped ≡ taken_in marks)
-    pub next : r.vault.failed ≡ false → is_started marks ≡ false → next_start (state_left opening (events_of opening marks)) ≡ start_of opening
+        → ((state_left opening (events_of opening marks)).start ≡ start_of_opening opening) × ((state_left opening (events_of opening marks)).popped ≡ taken_in marks)
+    pub next : r.vault.failed ≡ false → is_started marks ≡ false → next_start (state_left opening (events_of opening marks)) ≡ start_of_opening opening
     pub passes : PassesSince before opening (events_of opening marks) disk
 
   -- What holds of it and its media at home.

@@ -13,7 +13,7 @@ use std::sync::Wait;
 use std::thread::Threads;
 use vdr_capture::Lane;
 use vdr_desk::Desk;
-use vdr_outside::{Failed, Heard, Link, Media, Port};
+use vdr_outside::{Failed, Heard, LONGEST_LINE, Link, Media, Port};
 use vdr_recorder::Recorder;
 
 /// A link with no line. There is none in a session over ports alone.
@@ -34,7 +34,7 @@ impl Link for NoLine {
 
     ghost faults = { λ _. 0 };
 
-    fn line(&mut self, into: &mut ArrayVec<u8, 256>) -> Heard {
+    fn line(&mut self, into: &mut ArrayVec<u8, LONGEST_LINE>) -> Heard {
         into.clear();
         self.calls = self.calls.saturating_add(1);
         Heard::Ended

@@ -6,26 +6,20 @@ use Rattle.std.specs.Ordering.{ordering_reverse}
 use Rattle.std.proofs.lemmas.Bool.{cases_lt}
 use Rattle.std.proofs.lemmas.List.Elements.{All-cons, All-head, All-nil, All-tail}
 use Rattle.std.proofs.lemmas.List.Sums.{fold-append}
-use Rattle.std.proofs.lemmas.Option.{get_or_from_slice_get, slice_get_read, slice_get_within}
+use Rattle.std.proofs.lemmas.Option.{get_or_from_slice_get, slice_get_read, slice_get_within, same_Some, none-some}
 use Rattle.vdr_playback.specs.Sources.{AreSorted, Line, Row, Source, first_row, one_line, put_line, source_cmp, with_line}
 use Rattle.vdr_playback.proofs.SourceOrder.{before_both, one_where, turned}
 use Rattle.vdr_playback.proofs.Tables.{are_rows}
 use Rattle.vdr_sources.specs.Rows.{ComesBefore, ComesBehind, IsAt, IsGap, IsTable}
 
-same_some : {X : Type 0} (x y : X) → Some x ≡ Some y → x ≡ y
-same_some x y e = ap (λ o. unwrap_or o x) e
-
-none_some : {X : Type 0} (x : X) → None ≡ Some x → ⊥
-none_some x e = cc
-
 -- Sorted rows by their places.
 sorted_at : (rows : List Row) → AreSorted rows → (i j : ℕ) (a b : Row) → i < j → slice_get rows i ≡ Some a → slice_get rows j ≡ Some b → source_cmp a.source b.source ≡ Less
-sorted_at [] h i j a b lt p q = absurd (none_some a p)
+sorted_at [] h i j a b lt p q = absurd (none-some a p)
 sorted_at (r ∷ rs) h zero zero a b lt p q = absurd (omega (arith, lt))
 sorted_at (r ∷ rs) h zero (suc j) a b lt p q =
     let at : source_cmp r.source (slice_index_or rs j b).source ≡ Less = h.0 j b (slice_get_within rs j b q) in
     let is : slice_index_or rs j b ≡ b = get_or_from_slice_get rs j b b q in
-    sym (ap (λ (x : Row). source_cmp x.source b.source) (same_some r a p)) ∙ (sym (ap (λ (x : Row). source_cmp r.source x.source) is) ∙ at)
+    sym (ap (λ (x : Row). source_cmp x.source b.source) (same_Some r a p)) ∙ (sym (ap (λ (x : Row). source_cmp r.source x.source) is) ∙ at)
 sorted_at (r ∷ rs) h (suc i) zero a b lt p q = absurd (omega (arith, lt))
 sorted_at (r ∷ rs) h (suc i) (suc j) a b lt p q = sorted_at rs h.1 i j a b (omega (arith, lt)) p q
 
@@ -38,7 +32,7 @@ behind_more s rows sorted m here at more j row lt is = ⊎_elim same earlier cas
     cases = ⊎_elim (λ less. inr less) (λ most. inl (omega (arith, lt, most))) (cases_lt j m)
 
     same : j ≡ m → source_cmp s row.source ≡ Greater
-    same e = ap (λ (x : Row). source_cmp s x.source) (same_some row here (sym is ∙ (ap (slice_get rows) e ∙ at))) ∙ more
+    same e = ap (λ (x : Row). source_cmp s x.source) (same_Some row here (sym is ∙ (ap (slice_get rows) e ∙ at))) ∙ more
 
     earlier : j < m → source_cmp s row.source ≡ Greater
     earlier l =
@@ -55,7 +49,7 @@ behind_own s rows sorted m here at same j row lt is =
 -- The source of the row at a place.
 pub own_at : (s : Source) (rows : List Row) (m : ℕ) (here row : Row) (o : Ordering) → slice_get rows m ≡ Some here → source_cmp s here.source ≡ o → slice_get rows m ≡ Some row
     → source_cmp s row.source ≡ o
-own_at s rows m here row o at is found = ap (λ (x : Row). source_cmp s x.source) (same_some row here (sym found ∙ at)) ∙ is
+own_at s rows m here row o at is found = ap (λ (x : Row). source_cmp s x.source) (same_Some row here (sym found ∙ at)) ∙ is
 
 step_of : (o : Ordering) (r : Row) (rs : List Row) (l : Line) → source_cmp l.source r.source ≡ o → with_line (r ∷ rs) l ≡ put_line o r rs l (with_line rs l)
 step_of o r rs l e = ap (λ (o : Ordering). put_line o r rs l (with_line rs l)) e
@@ -66,9 +60,9 @@ later_behind s r rs i h j row lt is = h (suc j) row (omega (arith, lt)) is
 -- A line of a source that has a row.
 pub put_more : (l : Line) (rows : List Row) (i : ℕ) (here : Row) → ComesBehind l.source i rows → slice_get rows i ≡ Some here → source_cmp l.source here.source ≡ Equal
     → with_line rows l ≡ slice_set rows i (one_line here l)
-put_more l [] i here behind at same = absurd (none_some here at)
+put_more l [] i here behind at same = absurd (none-some here at)
 put_more l (r ∷ rs) zero here behind at same =
-    let is = same_some r here at in
+    let is = same_Some r here at in
     step_of Equal r rs l (ap (λ (x : Row). source_cmp l.source x.source) is ∙ same) ∙ ap (λ (x : Row). one_line x l ∷ rs) is
 put_more l (r ∷ rs) (suc i) here behind at same =
     step_of Greater r rs l (behind zero r (omega arith) refl) ∙ ap (λ (xs : List Row). r ∷ xs) (put_more l rs i here (later_behind l.source r rs i behind) at same)

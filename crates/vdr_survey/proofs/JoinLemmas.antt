@@ -1,18 +1,18 @@
 -- The summary of records and of more behind them, and that records have one.
-use Rattle.std.proofs.Common.{◌≡◌, ◌⊎◌, ◌+◌, ◌/◌, ◌%◌, ◌^◌, ◌==◌, ◌||◌, ℕ, zero, suc, ℤ, true, pos, negsuc, ◌<◌, List, [], ◌∷◌, ◌++◌, length, slice_get, All, Any, Option, Some, None, inl, inr, ⊎_elim, refl, sym, ap, ◌∙◌, subst, arith, length-append}
+use Rattle.std.proofs.Common.{◌≡◌, ◌⊎◌, ◌+◌, ◌/◌, ◌%◌, ◌^◌, ◌==◌, ◌||◌, ℕ, zero, suc, ℤ, true, pos, negsuc, ◌<◌, List, [], ◌∷◌, ◌++◌, slice_get, All, Any, Option, Some, None, inl, inr, ⊎_elim, refl, sym, ap, ◌∙◌, subst, arith, length-append}
 use Rattle.std.specs.Prelude.{bit_or, int_le, option_map, max, min}
 use Rattle.std.specs.List.{list_any}
 use Rattle.std.specs.Int.{bit_at}
 use Rattle.std.proofs.lemmas.Nat.Bits.{bit_at_or, bit_at-lt, same_from_bits}
 use Rattle.std.proofs.lemmas.List.Folds.{list_any-append}
 use Rattle.std.proofs.lemmas.List.Elements.{All-append, All-weaker}
-use Rattle.std.proofs.lemmas.List.{get_or_append_left, get_or-append-add}
-use Rattle.std.proofs.lemmas.Bool.{cases_eq, true≢false, leb-true, le-leb}
+use Rattle.std.proofs.lemmas.Bool.{cases_eq, true≢false, leb-true}
 use Rattle.std.proofs.lemmas.Option.{none-some, same_Some}
-use Rattle.vdr_terms.specs.Records.{Record, second, last, last_after}
+use Rattle.vdr_terms.specs.Records.{Record, second, last}
 use Rattle.vdr_terms.specs.Queries.{has_channel}
 use Rattle.vdr_terms.proofs.Running.{last_join}
 use Rattle.vdr_terms.proofs.Somewhere.{any_left, any_right}
+use Rattle.vdr_terms.proofs.Meeting.{int_le_trans}
 use Rattle.vdr_entry.specs.declared.summary.Summary.{Summary}
 use Rattle.vdr_survey.specs.Summaries.{IsSummaryOf, Summarises, greatest_count}
 
@@ -31,15 +31,6 @@ pub has_or : (k a b : ℕ) → has_channel (Some k) (bit_or a b) ≡ (has_channe
 has_or k a b = ap (λ (n : ℕ). n == 1) (bit_at_or a b k) ∙ either_bit (bit_at a k) (bit_at b k) (two (a / 2 ^ k)) (two (b / 2 ^ k))
 
 -- Stamps
-
-int_le_trans : (a b c : ℤ) → int_le a b ≡ true → int_le b c ≡ true → int_le a c ≡ true
-int_le_trans (pos a) (pos b) (pos c) p q = let x = leb-true a b p in let y = leb-true b c q in le-leb a c (omega (arith, x, y))
-int_le_trans (pos a) (pos b) (negsuc c) p q = absurd (true≢false (sym q))
-int_le_trans (pos a) (negsuc b) c p q = absurd (true≢false (sym p))
-int_le_trans (negsuc a) (pos b) (pos c) p q = refl
-int_le_trans (negsuc a) (pos b) (negsuc c) p q = absurd (true≢false (sym q))
-int_le_trans (negsuc a) (negsuc b) (pos c) p q = refl
-int_le_trans (negsuc a) (negsuc b) (negsuc c) p q = let x = leb-true b a p in let y = leb-true c b q in le-leb c a (omega (arith, x, y))
 
 abbrev Within : (l g : ℤ) → Record → Type 0
 Within l g r = (int_le l r.utc ≡ true) × (int_le r.utc g ≡ true)

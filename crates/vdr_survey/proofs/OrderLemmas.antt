@@ -2,7 +2,6 @@
 use Rattle.std.proofs.Common.{◌≡◌, ◌≤◌, ℕ, suc, List, [], ◌∷◌, ◌++◌, refl, ap, ◌∙◌, sym, subst, arith}
 use Rattle.vdr_terms.specs.Records.{Record, last_after}
 use Rattle.vdr_terms.specs.Order.{RunOn, NeverFalls}
-use Rattle.vdr_terms.proofs.Running.{last_join}
 use Rattle.vdr_survey.specs.Stretches.{mark_of, Follows, AreInOrderFrom}
 
 run_join : (p : ℕ) (x : Record) (xs : List Record) (y : Record) (ys : List Record) → RunOn p (x ∷ xs) → y.place ≡ suc (last_after x xs).place → RunOn y.place (y ∷ ys) → RunOn p ((x ∷ xs) ++ y ∷ ys)

@@ -2,17 +2,17 @@
 use Rattle.std.proofs.Common.{◌≡◌, ◌≤◌, ◌<◌, ◌+◌, ◌-◌, ℕ, List, [], ◌∷◌, ◌++◌, length, take, drop, refl, ap, ◌∙◌, sym, subst, arith}
 use Rattle.std.specs.Prelude.{◌↔◌}
 use Rattle.std.proofs.lemmas.List.{length-take, length-drop, drop-take, drop-drop}
-use Rattle.std.proofs.lemmas.List.Elements.{All-nil, All-cons}
+use Rattle.std.proofs.lemmas.List.Elements.{All-nil}
 use Rattle.vdr_terms.specs.Legality.{IsRecord}
 use Rattle.vdr_terms.specs.Records.{Record}
 use Rattle.vdr_terms.specs.Sizes.{record_size}
 use Rattle.vdr_entry.specs.Reading.{Begins}
-use Rattle.vdr_entry.specs.Spelling.{record_bytes, records_bytes}
+use Rattle.vdr_entry.specs.Spelling.{records_bytes}
 use Rattle.vdr_segment.specs.declared.step.Walk.TheVariants.{Batch, End, Broken}
 use Rattle.vdr_segment.specs.Batches.{AreRecords}
 use Rattle.vdr_segment.specs.Segments.{AreBatches}
 use Rattle.vdr_segment.specs.Walks.{Walks}
-use Rattle.vdr_segment.proofs.WalkLemmas.{first_begins, begun_size, begun_behind}
+use Rattle.vdr_segment.proofs.WalkLemmas.{first_begins, begun_size, records_before}
 use Rattle.vdr_segment.proofs.BatchListLemmas.{one_records, one_batch, one_batches, walk_tells, none_stand}
 use Rattle.vdr_survey.specs.declared.position.Position.{Position}
 use Rattle.vdr_survey.specs.Extents.{records_in}
@@ -60,13 +60,6 @@ one_ahead segment p rs qs h k =
     ∙ ap (λ (bs : List (List Record)). k.left ++ records_in bs) (one_batches _ h.batches k.batches h.behind k.behind) ∙ sym k.are
 
 -- A step within a batch
-
--- a record at the front and records behind it
-records_before : (bytes after : List ℕ) (r : Record) (rs : List Record) → Begins bytes r after → AreRecords (drop (record_size r) bytes) rs → AreRecords bytes (r ∷ rs)
-records_before bytes after r rs g a = record {
-  legal = All-cons IsRecord r rs g.legal a.legal;
-  spelled = g.spelled ∙ ap (λ (xs : List ℕ). record_bytes r ++ xs) (sym (begun_behind bytes after r g) ∙ a.spelled);
-}
 
 -- the bytes of a batch behind a record
 span_behind : (segment : List ℕ) (at to size : ℕ) → at + size ≤ to → drop size (take (to - at) (drop at segment)) ≡ take (to - (at + size)) (drop (at + size) segment)

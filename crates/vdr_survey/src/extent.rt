@@ -1,13 +1,13 @@
-ghost use Rattle.std.specs.Prelude.{◌≡◌, ◌↔◌, ◌<◌, ◌+◌, ◌^◌, ◌∷◌, [], ◌++◌, ℕ, List, length, IsTrue};
+ghost use Rattle.std.specs.Prelude.{◌≡◌, ◌↔◌, ◌+◌, ◌∷◌, [], ◌++◌, ℕ, List, IsTrue};
 ghost use Rattle.vdr_terms.specs.Records.{Record as Entry};
-ghost use Rattle.vdr_terms.specs.Sizes.{batch_size, records_size};
+ghost use Rattle.vdr_terms.specs.Sizes.{batch_size};
 ghost use Rattle.vdr_survey.specs.Stretches.{ComesTo, GoesOn, grown};
 ghost use Rattle.vdr_survey.specs.Surveys.{Surveys};
 
-use crate::stretch::{Mark, Stretch, stretch_of};
+use crate::stretch::{Mark, Stretch};
 use crate::summary::grown_summary;
-use vdr_entry::{Record, Summary};
-use vdr_segment::{BATCH_HEAD, HEADER_SIZE};
+use vdr_entry::Summary;
+use vdr_segment::HEADER_SIZE;
 
 /// From where to where the records of some batches reach.
 #[derive(Clone, Copy, Debug, PartialEq, Eq, Drop)]
@@ -49,14 +49,6 @@ pub struct Survey {
     pub summary: Option<Summary>,
 }
 
-// How many bytes the records take.
-fn size_of_all(records: &[Record]) -> usize
-    requires { records_size records.now < 2 ^ 64 }
-    ensures { result ≡ records_size records.now }
-{
-    records.iter().map(|item| item.size()).sum()
-}
-
 // A record goes on from where the extent ends, or is the first one and has the first place.
 fn goes_on(extent: Option<Extent>, first: u64, next: Mark) -> bool
     ensures { IsTrue result ↔ GoesOn first extent next }
@@ -93,18 +85,6 @@ impl Survey {
             in_order: true,
             summary: None,
         }
-    }
-
-    /// The survey with one batch more, of these records, in a segment whose first place is `first`. A batch takes five bytes
-    /// besides its records.
-    pub fn extended(self, first: u64, records: &[Record]) -> Survey
-        requires some { 0 < length records.now }
-        requires fits { self.end + batch_size records.now < 2 ^ 64 }
-        ensures end { result.end ≡ self.end + batch_size records.now }
-        ensures survey { (batches : List (List Entry)) → Surveys first batches self → Surveys first (batches ++ records.now ∷ []) result }
-    {
-        let end = self.end + BATCH_HEAD + size_of_all(records);
-        self.joined(first, stretch_of(records), end)
     }
 
     // Places and ticks are in order with those of the stretch behind.

@@ -18,4 +18,5 @@ pub use passing::pass_by;
 pub use position::Position;
 pub use selection::Selection;
 pub use stepping::step;
+pub use stretch::summary_with;
 pub use surveying::survey;

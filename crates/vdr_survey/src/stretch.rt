@@ -3,11 +3,11 @@ ghost use Rattle.vdr_terms.specs.Records.{Record as Entry};
 ghost use Rattle.vdr_terms.specs.Sizes.{record_size};
 ghost use Rattle.vdr_entry.specs.Reading.{Begins};
 ghost use Rattle.vdr_segment.specs.Batches.{AreRecords};
-ghost use Rattle.vdr_survey.specs.Summaries.{IsSummaryOf};
+ghost use Rattle.vdr_survey.specs.Summaries.{IsSummaryOf, Summarises};
 ghost use Rattle.vdr_survey.specs.Stretches.{mark_of, Follows, ComesTo};
 
 use crate::head::head_at;
-use crate::summary::{joined_summary, summary_of_one};
+use crate::summary::{grown_summary, joined_summary, summary_of_one};
 use vdr_entry::{Record, Summary};
 
 /// What is kept of a record: its place, its tick in milliseconds, and its stamp in milliseconds since 1970.
@@ -89,6 +89,14 @@ pub(crate) fn stretch_of(records: &[Record]) -> Stretch
         stretch = stretch.with(mark_of(item), summary_of(item));
     }
     stretch
+}
+
+/// The summary of records, of which there may be none, and of these behind them, at least one.
+pub fn summary_with(before: Option<Summary>, records: &[Record]) -> Summary
+    requires { 0 < length records.now }
+    ensures { (others : List Entry) → Summarises others before → IsSummaryOf (others ++ records.now) result }
+{
+    grown_summary(before, stretch_of(records).summary)
 }
 
 // What is kept of the record at the front of the bytes, its summary, and how many bytes it takes. That there is one is not

@@ -9,6 +9,7 @@ use Rattle.std.proofs.lemmas.List.Folds.{length-prefix_len}
 use Rattle.std.proofs.lemmas.List.Sums.{passes_at_first, split_at_first, list_all-from_AllPass, AllPass-from_list_all, prefix_len_is, prefix_len_passes}
 use Rattle.vdr_digits.specs.Checksum.{checksum, covered, written}
 use Rattle.vdr_digits.proofs.ChecksumLemmas.{HasField-from_written, written-from_HasField, covered-from_HasField}
+use Rattle.vdr_digits.proofs.Refusals.{row_none}
 use Rattle.vdr_tag.specs.declared.bad.BadTag.{BadTag}
 use Rattle.vdr_tag.specs.declared.bad.BadTag.TheVariants.{Wrong, Field, Value}
 use Rattle.vdr_tag.specs.Values.{TagValues, all_said, code_named, said_by}
@@ -109,11 +110,6 @@ AreRead-from_items (item ∷ parts) (v ∷ said) h =
       accepted = λ i. is_some (one.said i) && others.accepted i;
       values = λ i. cons_option (one.said i) (others.values i);
     }
-
--- The first row of a table of refusals does not hold.
-row_none : {X : Type 0} (t : Bool) (bad : X) (others : Option X) → cond t (Some bad) others ≡ None → (t ≡ false) × (others ≡ None)
-row_none true bad others h = absurd (cc)
-row_none false bad others h = (refl, h)
 
 -- A block with no refusal has the checksum of its text, and its items have none.
 checked_none : (sum : Option ℕ) (computed : ℕ) (others : Option BadTag) → checked sum computed others ≡ None → (sum ≡ Some computed) × (others ≡ None)

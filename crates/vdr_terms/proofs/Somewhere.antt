@@ -1,5 +1,5 @@
 -- Where of a list some element is so.
-use Rattle.std.proofs.Common.{zero, suc, ◌+◌, ◌⊎◌, inl, inr, List, [], ◌∷◌, ◌++◌, length, refl, sym, ◌∙◌, subst, arith, Any, length-append}
+use Rattle.std.proofs.Common.{◌≡◌, zero, suc, ◌+◌, ◌⊎◌, inl, inr, List, [], ◌∷◌, ◌++◌, length, refl, sym, ◌∙◌, subst, arith, Any, length-append}
 use Rattle.std.proofs.lemmas.List.{get_or_append_left, get_or-append-add}
 
 pub any_cases : {X : Type 0} (P : X → Type 0) (x : X) (xs : List X) → Any P (x ∷ xs) → P x ⊎ Any P xs
@@ -24,3 +24,7 @@ pub any_right : {X : Type 0} (P : X → Type 0) (xs ys : List X) → Any P ys �
 any_right P xs ys h =
     let lt = h.2 in
     (length xs + h.0, h.1, omega (arith, lt, length-append xs ys), get_or-append-add xs ys h.0 h.1 ∙ h.3, h.4)
+
+-- What stands behind the first.
+pub same_rest : {X : Type 0} (x y : X) (xs ys : List X) → x ∷ xs ≡ y ∷ ys → xs ≡ ys
+same_rest x y xs ys e = cc

@@ -14,7 +14,7 @@ use Rattle.vdr_entry.specs.declared.query.Medium.TheVariants.{Capsule, LongTerm}
 use Rattle.vdr_history.specs.Histories.{Event, Opening}
 use Rattle.vdr_history.specs.Histories as histories
 use Rattle.vdr_playback.specs.Playback.{selected}
-use Rattle.vdr_ring.specs.Sequence.{Placed}
+use Rattle.vdr_directory.specs.Sequence.{Placed}
 use Rattle.vdr_opening.specs.Media.{both, Contents, HoldsContents, opening_of, reading_of}
 use Rattle.vdr_opening.specs.Refusals.{IsRefused}
 use Rattle.vdr_opening.specs.declared.refused.OpenRefused.{OpenRefused}
@@ -99,11 +99,6 @@ open_own image law x holds meet openings.NotFormatted result is unformatted dama
 open_own image law x holds meet (openings.Damaged m offset) result is unformatted damaged = absurd (law.either x m offset holds meet (damaged m offset is).1)
 open_own image law x holds meet openings.Fault result is unformatted damaged = tt
 
--- The media had not failed before, so that a fault has its cause in the call.
-pub rose_in : (failed : Bool) (rose : Type 0) → failed ≡ false → (failed ≡ true) ⊎ rose → rose
-rose_in failed rose works (inl is) = let clash : false ≡ true = sym works ∙ is in let none : ⊥ = cc in absurd none
-rose_in failed rose works (inr is) = is
-
 module _ {tells tells_images : Type 0} where
   -- What a look is said to have been answered.
   pub looked_as : (query : Query) (r s : RecorderState) (old new : Disk tells tells_images) (read_before read_now faults_before faults_now : List ℕ) (first second : Type 0)
@@ -135,7 +130,7 @@ module _ {tells tells_images : Type 0} (old mid : Disk tells tells_images) (r : 
   standing : (placed : ℕ → List Placed) × Stands (opening_of x) [] r.vault placed mid
   standing =
       let has = opened x told holds sound in
-      let work = has.3.works works in
+      let work = (has.3.works works).standing in
       (work.placed, work.stands)
 
   to_read : IsReadable (opening_of x) [] r.vault standing.0 mid

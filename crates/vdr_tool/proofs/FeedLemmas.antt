@@ -1,5 +1,5 @@
 -- A feed is recorded up to one place: its end, what is refused there, or an item of a group that is not configured.
-use Rattle.std.proofs.Common.{◌≡◌, ◌≤◌, ◌<◌, ◌+◌, ◌⊎◌, inl, inr, ℕ, suc, List, [], ◌∷◌, ◌++◌, length, take, drop, Option, None, Some, refl, ap, ◌∙◌, sym, subst}
+use Rattle.std.proofs.Common.{◌≡◌, ◌≤◌, ◌<◌, ◌+◌, ◌⊎◌, inl, inr, ℕ, suc, List, [], ◌∷◌, ◌++◌, length, Option, None, Some, refl, ap, ◌∙◌, sym, subst}
 use Rattle.std.proofs.Common.{arith, append_assoc, append-nil, length-append}
 use Rattle.std.specs.List.{flat_map}
 use Rattle.std.proofs.lemmas.Grind.{flat_map-append}
@@ -8,7 +8,7 @@ use Rattle.vdr_terms.specs.Records.{FeedItem}
 use Rattle.vdr_terms.specs.declared.rate.Rate.{Rate}
 use Rattle.vdr_feed.specs.Feed.{feed, feed_header, spelling, AreItems, IsItem, received_after, fault_of, Reaches, IsFeed, IsRefusedAfter, longest_feed}
 use Rattle.vdr_feed.proofs.Spelled.{same_item, no_fault}
-use Rattle.vdr_feed.proofs.Unique.{behind, begins}
+use Rattle.vdr_feed.proofs.Unique.{behind}
 use Rattle.vdr_replay.specs.Feeding.{AreConfigured, HasRate, RefusesGroup, RefusesNext}
 
 -- Here stands an item of a group that is not configured.

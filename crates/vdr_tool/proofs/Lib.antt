@@ -11,6 +11,7 @@ pub mod SaveLemmas
 pub mod Summing
 pub mod Texts
 pub mod TrialEnds
+pub mod TrialStatuses
 pub mod TrialLemmas
 pub mod TrialRuns
 pub mod WordLemmas

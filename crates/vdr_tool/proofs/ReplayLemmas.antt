@@ -17,8 +17,8 @@ use Rattle.vdr_media.specs.Formatted.{IsFormatted, IsUnformatted}
 use Rattle.vdr_opening.specs.Media.{both, Contents, HoldsContents, opening_of}
 use Rattle.vdr_opening.specs.Refusals.{IsRefused}
 use Rattle.vdr_config.specs.Configuration.{Configuration}
-use Rattle.vdr_ring.specs.Sequence.{Placed, batches_in}
-use Rattle.vdr_replay.specs.Answers.{Decides, IfOpened, MayBegin, TellsHeader}
+use Rattle.vdr_directory.specs.Sequence.{Placed, batches_in}
+use Rattle.vdr_replay.specs.Answers.{Decides, IfOpened, TellsHeader}
 use Rattle.vdr_replay.specs.Feeding.{AreConfigured, ReadsFeed, RefusesNext}
 use Rattle.vdr_replay.specs.declared.ended.FeedEnd.{FeedEnd}
 use Rattle.vdr_replay.specs.declared.ended.FeedEnd.TheVariants as ends
@@ -29,6 +29,7 @@ use Rattle.vdr_command.specs.Endings.{IsDone, IsRefusal}
 use Rattle.vdr_command.specs.Opened.{IsLegibleWith, OneAnswer}
 use Rattle.vdr_command.specs.Outside.{MediaFailed, MediaSeen, OutputSeen}
 use Rattle.vdr_command.specs.StatusLine.{Wrote}
+use Rattle.vdr_recorder.specs.Refusals.{MayBegin}
 use Rattle.vdr_tool.specs.Summaries.{summary_text}
 use Rattle.vdr_tool.specs.Replays.{PrintsRun, ReplayEnds, ReplaysAll, TellsRun}
 use Rattle.vdr_command.specs.Statuses.{status_of_replay}

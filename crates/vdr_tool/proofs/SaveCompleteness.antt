@@ -4,7 +4,7 @@ use Rattle.std.proofs.lemmas.List.Elements.{All-head}
 use Rattle.vdr_terms.specs.Records.{last}
 use Rattle.vdr_history.specs.Histories.{Event, Incident, live}
 use Rattle.vdr_outside.specs.Disk.{Image, content}
-use Rattle.vdr_ring.specs.Sequence.{Placed, all_records}
+use Rattle.vdr_directory.specs.Sequence.{Placed, all_records}
 use Rattle.vdr_opening.specs.Media.{Contents, HoldsContents, IsMedium}
 use Rattle.vdr_vault.specs.Vaults.{tick_utc}
 use Rattle.vdr_vault.proofs.OpenContents.{newest_opened}

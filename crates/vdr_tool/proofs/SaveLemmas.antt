@@ -11,7 +11,7 @@ use Rattle.vdr_outside.proofs.Counts.{rose_after, sum_not_less}
 use Rattle.vdr_terms.specs.Texts.{is_label}
 use Rattle.vdr_incident.specs.declared.refused.ReleaseRefused.{ReleaseRefused}
 use Rattle.vdr_incident.specs.declared.refused.ReleaseRefused.TheVariants as releases
-use Rattle.vdr_ring.specs.Sequence.{Placed}
+use Rattle.vdr_directory.specs.Sequence.{Placed}
 use Rattle.vdr_opening.specs.Media.{both, Contents, HoldsContents, opening_of, reading_of}
 use Rattle.vdr_opening.specs.declared.refused.OpenRefused.{OpenRefused}
 use Rattle.vdr_opening.specs.declared.refused.OpenRefused.TheVariants as openings
@@ -101,7 +101,7 @@ module _ {tells tells_images : Type 0} (old mid new : MediaSeen tells tells_imag
       (cause.in_all is)
 
   standing : (x : Contents) → tells → HoldsContents old.disk.reads x → WasRecorded x → (placed : ℕ → List Placed) × Stands (opening_of x) [] r.vault placed mid.disk
-  standing x t holds regular = let work = (opened x t holds regular).3.works works in (work.placed, work.stands)
+  standing x t holds regular = let work = ((opened x t holds regular).3.works works).standing in (work.placed, work.stands)
 
   module _ (label : List ℕ) (saved : Result ℕ Refused)
       (saves_so : (opening : Opening) (events : List Event) (t0 : ℕ) → tells → r.vault.failed ≡ false → save_refusal label r.vault ≡ None → ((m offset : ℕ) → saved ≡ Err (saves.Damaged m offset) → ⊥)

@@ -34,7 +34,8 @@ use Rattle.vdr_tool.specs.declared.trying.Ran.{Ran}
 use Rattle.vdr_tool.specs.declared.trying.Tally.{Tally}
 use Rattle.vdr_tool.specs.declared.trying.Windows.{Windows}
 use Rattle.vdr_tool.proofs.FormatLemmas.{one_configuration, one_small}
-use Rattle.vdr_tool.proofs.TrialLemmas.{Lives, RanOn, RecordsItems, bench_reads, elsewhere, empty_now, empty_read, has_room, joined, lived_all, nothing_ran, own_after, own_not_other, ran_on, reopened, reopened_shows, run_not_formatted, run_not_small, run_trial, stop_prints, stop_status, stop_undone, was_unformatted}
+use Rattle.vdr_tool.proofs.TrialStatuses.{own_after, own_not_other, run_not_formatted, run_not_small, run_trial, stop_prints, stop_status, stop_undone}
+use Rattle.vdr_tool.proofs.TrialLemmas.{Lives, RanOn, RecordsItems, bench_reads, elsewhere, empty_now, empty_read, has_room, joined, lived_all, nothing_ran, ran_on, reopened, reopened_shows, was_unformatted}
 
 window_short : (o : Option Record) (seconds : ℕ) (records : List Record) → length (window_before o seconds records) ≤ length records
 window_short None seconds records = omega arith

@@ -6,6 +6,7 @@ use Rattle.vdr_terms.specs.Records.{FeedItem}
 use Rattle.vdr_history.specs.Feed.{feed_records, items_of}
 use Rattle.vdr_history.specs.Runs.{base_after}
 use Rattle.vdr_capture.specs.declared.sums.GroupSums.{GroupSums}
+use Rattle.vdr_capture.specs.Sums.{sums_of}
 use Rattle.vdr_outside.specs.Disk.{Disk}
 use Rattle.vdr_feed.specs.Feed.{IsFeed, longest_feed}
 use Rattle.vdr_feed.specs.Law.{OneFeed}
@@ -20,7 +21,6 @@ use Rattle.vdr_replay.specs.Answers.{Answers, IsRecorded, TellsHeader}
 use Rattle.vdr_replay.specs.Feeding.{AreConfigured, HasRate, ReadsFeed}
 use Rattle.vdr_replay.specs.Headline.{ReplayHeadline}
 use Rattle.vdr_replay.specs.Headline.RunEnd.{Closed}
-use Rattle.vdr_replay.specs.Summary.{sums_of}
 use Rattle.vdr_replay.specs.declared.ended.FeedEnd.{FeedEnd}
 use Rattle.vdr_replay.specs.declared.ended.FeedEnd.TheVariants as ends
 use Rattle.vdr_replay.specs.declared.ended.Replayed.{Replayed}

@@ -1,6 +1,7 @@
 -- Words that ask for a play.
-use Rattle.std.proofs.Common.{◌≡◌, ◌∷◌, length, ⊎_elim, inr, ◌⊎◌, ℕ, ℤ, List, [], Option, Some, None, true, false, codes, inl, refl, sym, ap, subst, ◌∙◌}
+use Rattle.std.proofs.Common.{◌≡◌, ◌∷◌, length, ⊎_elim, inr, ◌⊎◌, ℕ, ℤ, List, [], Option, Some, None, true, false, codes, inl, refl, sym, ap, subst, ◌∙◌, ◌≢◌, Bool}
 use Rattle.std.specs.Prelude.{option_map, pos}
+use Rattle.std.specs.Bool.{MatchBool}
 use Rattle.vdr_terms.specs.Stamps.{last_stamp}
 use Rattle.vdr_entry.specs.declared.query.Medium.{Medium}
 use Rattle.vdr_control.specs.Orders.{PlainOrder}
@@ -132,3 +133,8 @@ words_counted texts (Trial seed count) s = inr (inr (inl (ap (λ (l : List (List
 pub no_count : (n : ℕ) → IsCount n → (n ≡ 1 → ⊥) → (n ≡ 2 → ⊥) → (n ≡ 3 → ⊥) → (n ≡ 5 → ⊥) → (n ≡ 7 → ⊥) → ⊥
 no_count n count one two three five seven =
     ⊎_elim one (λ rest. ⊎_elim two (λ more. ⊎_elim three (λ last. ⊎_elim five seven last) more) rest) count
+
+-- Texts that are told apart are no same texts.
+pub not_other : (xs ys : List ℕ) (r : Bool) → r ≡ false → MatchBool r (xs ≡ ys) (xs ≢ ys) → xs ≢ ys
+not_other xs ys true e told = let none : ⊥ = cc in absurd none
+not_other xs ys false e told = told

@@ -1,6 +1,10 @@
--- What a life of the media asks of the moment at which a command begins (this project's profile).
-use Rattle.std.specs.Prelude.{⊤}
-use Rattle.vdr_outside.specs.Disk.{Disk, Durable}
+-- What a life of the media asks of the moment at which a command begins, and what the command leaves of it (this project's profile).
+use Rattle.std.specs.Prelude.{ℕ, List, ⊤}
+use Rattle.vdr_history.specs.Histories.{Event}
+use Rattle.vdr_outside.specs.Disk.{Disk, Durable, Image}
+use Rattle.vdr_config.specs.Configuration.{Configuration}
+use Rattle.vdr_life.specs.Lives.{Life, LivesOn}
+use Rattle.vdr_life.specs.Ours.{AreOurs, RestAs, StayOurs}
 use Rattle.vdr_tool.specs.Commands.{Asked}
 use Rattle.vdr_tool.specs.Commands.Asked.{Review, Check, Format, Replay, Play, Incidents, Save, Release, Sources, Watch, Targets, Wav, Picture, Trial}
 
@@ -38,3 +42,13 @@ FormatsNothing (Wav asked) = ⊤
 FormatsNothing (Picture asked block) = ⊤
 FormatsNothing (Trial seed count) = ⊥
 FormatsNothing (Targets medium at) = ⊤
+
+-- What is kept of the media's life, whichever command it is of these.
+pub record KeepsLife {tells tells_images : Type 0} (asked : Asked → Type 0) (old new : Disk tells tells_images) : Type 0 where
+  -- media of this product, never formatted or formatted by it and then used, stay so: each image that a stop may leave is unformatted, or
+  -- legible and sound
+  pub ours : tells_images → ((command : Asked) → asked command → StartsSynced command old) → AreOurs old → StayOurs old new
+  -- and where nothing is formatted their life goes on: what was done on them since they were formatted, and then one list of events, of which
+  -- a stop leaves the first
+  pub life : (c : Configuration) (text : List ℕ) (all : List Event) (image : Image) → tells_images → ((command : Asked) → asked command → FormatsNothing command)
+      → RestAs image old → Life c text all image → LivesOn c text all old new

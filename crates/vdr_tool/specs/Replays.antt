@@ -12,7 +12,7 @@ use Rattle.vdr_opening.specs.Media.{both, Contents, HoldsContents, opening_of, r
 use Rattle.vdr_opening.specs.Refusals.{IsRefused}
 use Rattle.vdr_vault.specs.Calls.{SameElsewhere}
 use Rattle.vdr_vault.specs.Openings.{LeavesAll}
-use Rattle.vdr_replay.specs.Answers.{Answers, Decides, EndsAtHeader, HasReplayCause, IfOpened, MayBegin, RefusesMedia, RefusesRun, TellsHeader}
+use Rattle.vdr_replay.specs.Answers.{Answers, Decides, EndsAtHeader, HasReplayCause, IfOpened, RefusesMedia, RefusesRun, TellsHeader}
 use Rattle.vdr_replay.specs.Headline.{LeavesHistory}
 use Rattle.vdr_replay.specs.Feeding.{AreConfigured, RefusesNext}
 use Rattle.vdr_replay.specs.declared.ended.FeedEnd.{FeedEnd}
@@ -24,6 +24,7 @@ use Rattle.vdr_command.specs.Endings.{IsDone, IsRefusal}
 use Rattle.vdr_command.specs.Opened.{AddsMissing, IsLegibleWith, IsUntouched, WasRecorded}
 use Rattle.vdr_command.specs.Outside.{AreLeftAlone, InputFailed, MediaFailed, MediaSeen, NothingFailed, OutputFailed, OutputSeen, Outside, Prints, PrintsFront, Writes}
 use Rattle.vdr_command.specs.Promises.{Promise}
+use Rattle.vdr_recorder.specs.Refusals.{MayBegin}
 use Rattle.vdr_tool.specs.Summaries.{summary_text}
 use Rattle.vdr_command.specs.Statuses.{status_of_replay}
 use Rattle.vdr_command.specs.declared.status.Status.{Status}

@@ -1,5 +1,5 @@
 -- What `run` promises: each command has its page, and its row here.
-use Rattle.std.specs.Prelude.{◌≡◌, ◌≤◌, ℕ, List, String, map, string_bytes}
+use Rattle.std.specs.Prelude.{◌≡◌, ◌≤◌, ◌⊎◌, ℕ, List, String, map, string_bytes}
 use Rattle.std.specs.declared.alloc.Global.{Global}
 use Rattle.vdr_tool.specs.Checks.{checking}
 use Rattle.vdr_tool.specs.Commands.{Asked}
@@ -45,6 +45,15 @@ pub record Spells (texts : List (List ℕ)) (command : Asked) : Type 0 where
 
 abbrev pub Asks : List (String Global) → Asked → Type 0
 Asks words command = Spells (map string_bytes words) command
+
+-- Only what the words ask for was touched.
+pub record TouchesAsked {I M : Type 0} (words : List (String Global)) (input now : I) (media next : M) (status : Status) : Type 0 where
+  -- only a command that reads it touches the input
+  pub unread : (command : Asked) → Asks words command → (page command).reads_input ⊎ (now ≡ input)
+  -- and only one that uses them the media
+  pub untouched : (command : Asked) → Asks words command → (page command).uses_media ⊎ (next ≡ media)
+  -- words that ask for nothing touch neither
+  pub none : status ≡ Words → (now ≡ input) × (next ≡ media)
 
 module _ {tells tells_images : Type 0} where
   -- The command did what it owes, and then the line of its status was written.

@@ -11,6 +11,7 @@ use Rattle.vdr_history.specs.Feed.{feed_records, items_of}
 use Rattle.vdr_history.specs.Histories.{Event, IsHistory, recorded}
 use Rattle.vdr_history.specs.Runs.{RunStart}
 use Rattle.vdr_capture.specs.declared.sums.GroupSums.{GroupSums}
+use Rattle.vdr_capture.specs.Sums.{sums_of}
 use Rattle.vdr_durability.specs.Keeping.{IsWhole, Keeps, ShowsPrefix}
 use Rattle.vdr_outside.specs.Disk.{Disk, Durable, Unchanged}
 use Rattle.vdr_outside.specs.Moments.{AtEachMoment}
@@ -28,7 +29,6 @@ use Rattle.vdr_opening.specs.Media.{Contents, nothing_on, opening_of}
 use Rattle.vdr_recorder.specs.Recordings.{start_of_opening}
 use Rattle.vdr_replay.specs.Headline.{AccountBy, RecordsAre, RunEnd}
 use Rattle.vdr_replay.specs.Headline.RunEnd.{NotStarted, Closed, Broken}
-use Rattle.vdr_replay.specs.Summary.{sums_of}
 use Rattle.vdr_life.specs.Lives.{Life}
 use Rattle.vdr_command.specs.Endings.{IsDone, IsWorkDone}
 use Rattle.vdr_command.specs.Opened.{PrintsText}

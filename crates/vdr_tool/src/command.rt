@@ -1,13 +1,8 @@
-ghost use Rattle.std.specs.Prelude.{◌≡◌, ◌≤◌, ◌⊎◌, ℕ, List, length};
-ghost use Rattle.vdr_history.specs.Histories.{Event};
-ghost use Rattle.vdr_outside.specs.Disk.{Image};
-ghost use Rattle.vdr_config.specs.Configuration.{Configuration};
-ghost use Rattle.vdr_life.specs.Lives.{Life, LivesOn};
-ghost use Rattle.vdr_life.specs.Ours.{AreOurs, RestAs, StayOurs};
-ghost use Rattle.vdr_tool.specs.Commands.{Asked, plain};
+ghost use Rattle.std.specs.Prelude.{◌≡◌, ◌≤◌, ◌⊎◌, length};
+ghost use Rattle.vdr_tool.specs.Commands.{plain};
 ghost use Rattle.vdr_command.specs.Endings.{ending};
-ghost use Rattle.vdr_tool.specs.Lives.{FormatsNothing, StartsSynced};
-ghost use Rattle.vdr_tool.specs.Runs.{Asks, Runs, page};
+ghost use Rattle.vdr_tool.specs.Lives.{KeepsLife};
+ghost use Rattle.vdr_tool.specs.Runs.{Asks, Runs, TouchesAsked, page};
 ghost use Rattle.vdr_command.specs.declared.status.Status.TheVariants.{Words};
 
 use crate::checking::answer_check;
@@ -109,19 +104,10 @@ pub fn run_alone<I: Source + Drop, O: Sink + Drop, M: Media + Drop>(
     ensures runs { let at = ⟦<World<I, O, M> as Outer>⟧.outside in Runs words.now (at world.old) (at world.new) result }
 
     // Only a command that reads it touches the input, and only one that uses them the media.
-    ensures unread { (command : Asked) → Asks words.now command → (page command).reads_input ⊎ (world.new.input ≡ world.old.input) }
-    ensures untouched { (command : Asked) → Asks words.now command → (page command).uses_media ⊎ (world.new.media ≡ world.old.media) }
-    ensures none { result ≡ Words → (world.new.input ≡ world.old.input) × (world.new.media ≡ world.old.media) }
+    ensures touches { TouchesAsked words.now world.old.input world.new.input world.old.media world.new.media result }
 
-    // Media of this product, never formatted or formatted by it and then used, stay so: each image that a stop may leave is unformatted, or
-    // legible and sound.
-    ensures lives { M.tells_images → ((command : Asked) → Asks words.now command → StartsSynced command (M.disk world.old.media)) → AreOurs (M.disk world.old.media)
-        → StayOurs (M.disk world.old.media) (M.disk world.new.media) }
-
-    // And where nothing is formatted their life goes on: what was done on them since they were formatted, and then one list of events, of
-    // which a stop leaves the first.
-    ensures life { (c : Configuration) (text : List ℕ) (all : List Event) (image : Image) → M.tells_images → ((command : Asked) → Asks words.now command → FormatsNothing command)
-        → RestAs image (M.disk world.old.media) → Life c text all image → LivesOn c text all (M.disk world.old.media) (M.disk world.new.media) }
+    // Media of this product stay so at every moment, and where nothing is formatted their life goes on.
+    ensures lives { KeepsLife (Asks words.now) (M.disk world.old.media) (M.disk world.new.media) }
 {
     let Some(command) = command_of(words) else {
         report(Status::Words, &mut world.output);

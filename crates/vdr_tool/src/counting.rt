@@ -7,7 +7,7 @@ ghost use Rattle.vdr_outside.specs.Causes.{NoneFalls, Rose};
 ghost use Rattle.vdr_outside.specs.Disk.{SameBut};
 ghost use Rattle.vdr_entry.specs.Queries.{asked_medium};
 ghost use Rattle.vdr_entry.specs.declared.query.Medium.TheVariants.{Capsule as TheCapsule, LongTerm as TheLongTerm};
-ghost use Rattle.vdr_ring.specs.Sequence.{Placed};
+ghost use Rattle.vdr_directory.specs.Sequence.{Placed};
 ghost use Rattle.vdr_opening.specs.Media.{Contents, HoldsContents, both, reading_of};
 ghost use Rattle.vdr_vault.specs.Regularity.{AreSound};
 ghost use Rattle.vdr_vault.specs.Vaults.{AreRings, IsReadable};

@@ -1,8 +1,9 @@
 -- What is left of the generated feed, as its items are spelled and given.
-use Rattle.std.proofs.Common.{◌≡◌, ◌≤◌, ◌<◌, ◌+◌, ◌-◌, ◌⊎◌, ◌++◌, min, ⊎_elim, ℕ, suc, List, [], arith, take, drop, length, refl, sym, ap, ◌∙◌, append_assoc}
+use Rattle.std.proofs.Common.{◌≡◌, ◌≤◌, ◌<◌, ◌+◌, ◌-◌, ◌⊎◌, ◌++◌, min, ⊎_elim, ℕ, suc, List, [], arith, take, drop, length, refl, ap, ◌∙◌, append_assoc}
 use Rattle.std.proofs.lemmas.Grind.{common_steps}
-use Rattle.std.proofs.lemmas.List.{take-append-drop, take_at, take_rest, length-take-le, length-drop, length-take, length-append, drop-drop, drop_all}
+use Rattle.std.proofs.lemmas.List.{length-drop, length-take, length-append, drop_all}
 use Rattle.std.specs.List.{flat_map}
+use Rattle.vdr_outside.proofs.Pieces.{gave_of}
 use Rattle.vdr_feed.specs.Feed.{spelling}
 use Rattle.vdr_feed.specs.Trial.{trial_item, trial_state}
 use Rattle.vdr_trial.specs.Generated.{items_from}
@@ -19,16 +20,7 @@ next_of given piece count state index all more =
 pub gave : (s slice part rest tail : List ℕ) (given n : ℕ) → n ≤ length (drop given s) → slice ≡ s → part ≡ take n (take (length slice - given) (drop given slice))
     → drop given s ++ tail ≡ take n (part ++ rest) ++ (drop (given + n) s ++ tail)
 gave s slice part rest tail given n within same is =
-    let part_is : part ≡ take n (drop given s) = is ∙ rw take_rest (ap (λ (l : List ℕ). take n (drop given l)) same) in
-    let long : length part ≡ n = ap (λ (l : List ℕ). length l) part_is ∙ length-take-le n (drop given s) within in
-    let both : drop given s ≡ take n (part ++ rest) ++ drop (given + n) s = rw (take_at part rest n long, part_is, ← drop-drop n given s) (sym (take-append-drop n (drop given s))) in
-    ap (λ (l : List ℕ). l ++ tail) both ∙ append_assoc (take n (part ++ rest)) (drop (given + n) s) tail
-
--- No more is given than is left of the piece.
-pub count_is : (s slice : List ℕ) (given first n : ℕ) → slice ≡ s → n ≡ min first (length (take (length slice - given) (drop given slice))) → n ≡ min first (length (drop given s))
-count_is s slice given first n same is =
-    is ∙ ap (λ (l : List ℕ). min first (length (take (length l - given) (drop given l)))) same
-    ∙ ap (λ (k : ℕ). min first k) (grind (arith, common_steps, length-take, length-drop))
+    ap (λ (l : List ℕ). l ++ tail) (gave_of s slice part rest given n within same is) ∙ append_assoc (take n (part ++ rest)) (drop (given + n) s) tail
 
 -- Into a buffer with room nothing is given only where nothing is left.
 pub gave_none : (s into part tail : List ℕ) (given n : ℕ) → n ≡ min (length into) (length (drop given s)) → length part ≡ length (take n into) → n ≡ 0 → 0 < length (part ++ drop n into)

@@ -4,7 +4,7 @@ use Rattle.std.proofs.lemmas.Bool.{ne_eqb}
 use Rattle.vdr_sentence.specs.Fields.{field, fields}
 use Rattle.vdr_values.specs.Values.{Value}
 use Rattle.vdr_values.specs.Forms.{Form, Raw, field_value}
-use Rattle.vdr_values.specs.Meanings.{AreRead, IsFirstBad, Says}
+use Rattle.vdr_values.specs.Meanings.{AreRead, IsFirstBad}
 use Rattle.vdr_values.specs.Readings.{read_along, then_values}
 use Rattle.vdr_values.proofs.Along.{Values}
 use Rattle.vdr_values.proofs.Cuts.{fields-first}

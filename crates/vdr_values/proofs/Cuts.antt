@@ -1,5 +1,5 @@
 -- The fields of a text that is cut at its commas.
-use Rattle.std.proofs.Common.{◌≡◌, ◌≤◌, ◌∙◌, ◌+◌, ℕ, suc, Bool, true, false, cond, not, List, [], ◌∷◌, length, take, drop, refl, sym, ap, arith, eqb}
+use Rattle.std.proofs.Common.{◌≡◌, ◌≤◌, ◌∙◌, ◌+◌, ℕ, suc, Bool, true, false, List, [], ◌∷◌, length, take, drop, refl, sym, ap, arith, eqb}
 use Rattle.std.specs.List.{onto_first, position_or_len}
 use Rattle.vdr_sentence.specs.Fields.{fields}
 use Rattle.vdr_sentence.proofs.Bodies.{take_one_more}

@@ -1,7 +1,6 @@
 -- The values of a reading have the kinds of their forms.
-use Rattle.std.proofs.Common.{◌≡◌, ◌∙◌, ℕ, suc, Bool, true, false, ◌&&◌, List, [], ◌∷◌, sum_by, leb, Option, Some, None, refl, sym, ap}
+use Rattle.std.proofs.Common.{◌≡◌, ◌∙◌, ℕ, true, ◌&&◌, List, [], ◌∷◌, sum_by, leb, Option, Some, None, refl, ap}
 use Rattle.std.proofs.lemmas.Bool.{and_parts}
-use Rattle.vdr_values.specs.declared.formatter.Formatter.{Formatter}
 use Rattle.vdr_values.specs.Values.{Value, value_at, Number, Time, Angle, Digits, Letter, Raw}
 use Rattle.vdr_values.specs.Forms.{Form}
 use Rattle.vdr_values.specs.Forms as form

@@ -1,5 +1,5 @@
 -- What was read is legal.
-use Rattle.std.proofs.Common.{◌≡◌, ◌≤◌, ◌+◌, ◌∙◌, ℕ, Bool, true, false, cond, ◌&&◌, List, [], ◌∷◌, length, drop, sum_by, option_and_then, option_map, Option, Some, None, Result, Ok, Err, refl, sym, ap, subst, arith, eqb, leb}
+use Rattle.std.proofs.Common.{◌≡◌, ◌≤◌, ◌+◌, ◌∙◌, ℕ, Bool, true, false, cond, ◌&&◌, List, [], ◌∷◌, length, drop, sum_by, option_and_then, option_map, Option, Some, None, Result, Ok, Err, refl, sym, ap, subst, arith, eqb}
 use Rattle.std.specs.List.{onto_first}
 use Rattle.std.proofs.lemmas.Bool.{le-leb}
 use Rattle.std.proofs.lemmas.List.Sums.{sum_by-cons}

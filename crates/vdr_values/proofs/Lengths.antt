@@ -1,14 +1,12 @@
 -- How long the texts of values are.
-use Rattle.std.proofs.Common.{◌≡◌, ◌≤◌, ◌<◌, ◌+◌, ◌-◌, ◌*◌, ◌/◌, ◌%◌, ◌^◌, ℕ, Bool, true, false, cond, not, ◌&&◌, List, [], ◌∷◌, ◌++◌, length, codes, decimal, Option, Some, None, refl, sym, ap, subst, arith, length-append, eqb, leb, ltb}
-use Rattle.std.specs.List.{list_all}
+use Rattle.std.proofs.Common.{◌≡◌, ◌≤◌, ◌<◌, ◌+◌, ◌-◌, ◌*◌, ◌/◌, ◌%◌, ◌^◌, ℕ, Bool, true, false, cond, not, ◌&&◌, List, [], ◌∷◌, ◌++◌, length, codes, decimal, Option, Some, None, arith, length-append, eqb}
 use Rattle.std.proofs.Math.Nat.{pow-le-pow_right}
 use Rattle.std.proofs.lemmas.Bool.{ltb-true, leb-true, and_parts}
 use Rattle.std.proofs.lemmas.Fmt.{length-decimal-le}
-use Rattle.std.proofs.lemmas.List.Concat.{flat_map-cons}
 use Rattle.vdr_entry.specs.Escape.{escaped, escaped_byte, is_plain, hex_digit}
 use Rattle.vdr_entry.specs.Utc.{last_digits}
 use Rattle.vdr_values.specs.Values.{Value, Number, Time, Angle, Digits, Letter, Raw}
-use Rattle.vdr_values.specs.Forms.{Form, is_sound, suits}
+use Rattle.vdr_values.specs.Forms.{Form, is_sound}
 use Rattle.vdr_values.specs.Forms as forms
 use Rattle.vdr_values.specs.Readings.{raw_size, suits_field}
 use Rattle.vdr_values.specs.Texts.{field_text, fraction_text, millionths_text, sign_text, trimmed, value_text}

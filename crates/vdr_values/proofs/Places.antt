@@ -1,5 +1,5 @@
 -- The place of the first byte that passes, and texts that are parted there.
-use Rattle.std.proofs.Common.{◌≡◌, ◌≤◌, ◌+◌, ◌∙◌, ℕ, Bool, true, false, List, length, take, drop, cond, Option, Some, None, option_map, unwrap_or, refl, sym, ap, arith, ltb, position}
+use Rattle.std.proofs.Common.{◌≡◌, ◌≤◌, ◌+◌, ◌∙◌, ℕ, Bool, true, false, List, length, take, drop, cond, Option, Some, None, option_map, unwrap_or, refl, ap, arith, ltb, position}
 use Rattle.std.specs.List.{position_or_len}
 use Rattle.std.proofs.lemmas.Bool.{ltb-false}
 use Rattle.std.proofs.lemmas.List.{drop-drop}

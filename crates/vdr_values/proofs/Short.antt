@@ -1,5 +1,5 @@
 -- The text of a legal reading has at most 400 bytes.
-use Rattle.std.proofs.Common.{◌≡◌, ◌≤◌, ◌<◌, ◌+◌, ◌∙◌, ℕ, zero, suc, Bool, true, false, ◌&&◌, List, [], ◌∷◌, length, sum_by, get_or, Option, Some, None, refl, sym, ap, arith, length-append, leb}
+use Rattle.std.proofs.Common.{◌≡◌, ◌≤◌, ◌<◌, ◌+◌, ◌∙◌, ℕ, zero, suc, true, ◌&&◌, List, [], ◌∷◌, length, sum_by, get_or, Option, refl, arith, length-append, leb}
 use Rattle.std.specs.List.{list_all}
 use Rattle.std.proofs.lemmas.Bool.{leb-true, and_parts}
 use Rattle.std.proofs.lemmas.List.Sums.{sum_by-cons}
@@ -7,9 +7,9 @@ use Rattle.vdr_values.specs.declared.formatter.Formatter.{Formatter}
 use Rattle.vdr_values.specs.declared.formatter.Formatter.TheVariants.{Hdt, Ths, Rot, Rsa, Dpt, Mwv, Vtg, Gll, Zda, Rpm, Hbt, Alr, Vdm, Vdo}
 use Rattle.vdr_values.specs.Values.{Value, value_at}
 use Rattle.vdr_values.specs.Forms.{Form, Raw, is_sound}
-use Rattle.vdr_values.specs.Readings.{Reading, each_suits, is_legal, raw_size, suits_field}
+use Rattle.vdr_values.specs.Readings.{Reading, each_suits, is_legal, raw_size}
 use Rattle.vdr_values.specs.Table.{row}
-use Rattle.vdr_values.specs.Texts.{field_text, piece, reading_text, text_along}
+use Rattle.vdr_values.specs.Texts.{field_text, piece, text_along}
 use Rattle.vdr_values.proofs.Along.{Values}
 use Rattle.vdr_values.proofs.Lengths.{field-short, most}
 

@@ -3,7 +3,7 @@ use Rattle.std.specs.Prelude.{ℕ, ◌+◌, Bool, true, false, ◌&&◌, nat_le,
 use Rattle.vdr_sentence.specs.Addresses.{address_of}
 use Rattle.vdr_sentence.specs.Fields.{fields}
 use Rattle.vdr_values.specs.declared.formatter.Formatter.{Formatter}
-use Rattle.vdr_values.specs.Values.{Value, Number, Time, Angle, Digits, Letter, Raw}
+use Rattle.vdr_values.specs.Values.{Value, Raw}
 use Rattle.vdr_values.specs.Forms.{Form, field_value, suits}
 use Rattle.vdr_values.specs.Table.{row, formatter_of}
 

@@ -1,5 +1,5 @@
 -- What stays on the long-term medium while one incident slot is written.
-use Rattle.std.proofs.Common.{◌≡◌, inl, inr, ◌<◌, ◌≤◌, ◌+◌, ℕ, List, length, take, slice_get, [], ◌∷◌, Option, refl, sym, ap, ◌∙◌, subst, arith}
+use Rattle.std.proofs.Common.{◌≡◌, inl, inr, ◌<◌, ◌≤◌, ◌+◌, ℕ, List, length, [], ◌∷◌, sym, ap, ◌∙◌, subst, arith}
 use Rattle.vdr_terms.specs.Needs.{Fits}
 use Rattle.vdr_outside.specs.Parts.{part}
 use Rattle.vdr_config.specs.Configuration.{Configuration}
@@ -7,8 +7,8 @@ use Rattle.vdr_config.specs.Sizes.{sizes_of}
 use Rattle.vdr_terms.specs.Slots.{slot_count}
 use Rattle.vdr_media.specs.Layout.{superblock_bytes, text_from}
 use Rattle.vdr_media.specs.Medium.{IsSuperblock}
-use Rattle.vdr_ring.specs.Sequence.{Placed}
-use Rattle.vdr_ring.specs.Rings.{HoldsPlaced}
+use Rattle.vdr_directory.specs.Sequence.{Placed}
+use Rattle.vdr_directory.specs.Holds.{HoldsPlaced}
 use Rattle.vdr_incident.specs.Tables.{SameBesideSlot}
 use Rattle.vdr_incident.proofs.Beside.{byte_beside, segments_beside}
 use Rattle.vdr_opening.specs.Media.{HasFront, IsMedium}

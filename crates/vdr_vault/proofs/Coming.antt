@@ -15,7 +15,7 @@ use Rattle.vdr_entry.specs.declared.query.Medium.{Medium as Played}
 use Rattle.vdr_entry.specs.declared.query.Query.{Query as Asked}
 use Rattle.vdr_entry.specs.declared.query.Medium.TheVariants.{Capsule, LongTerm, Incident as PlayedIncident}
 use Rattle.vdr_config.specs.Sizes.{window_of}
-use Rattle.vdr_ring.specs.Sequence.{Placed, all_records}
+use Rattle.vdr_directory.specs.Sequence.{Placed, all_records}
 use Rattle.vdr_ring.specs.Rings.{RingState}
 use Rattle.vdr_ring.specs.declared.refused.ReadRefused.{ReadRefused}
 use Rattle.vdr_ring.proofs.Medium.{in_order_records}

@@ -1,5 +1,5 @@
 -- Pinned places while segments go and come.
-use Rattle.std.proofs.Common.{◌≡◌, ◌⊎◌, inl, inr, ⊎_elim, ℕ, zero, suc, ◌+◌, ◌<◌, ◌≤◌, List, [], ◌∷◌, ◌++◌, length, true, false, Contains, Option, Some, None, refl, sym, ap, ◌∙◌, subst, arith, length-append}
+use Rattle.std.proofs.Common.{◌≡◌, ◌⊎◌, inl, inr, ⊎_elim, ℕ, suc, ◌+◌, ◌<◌, ◌≤◌, List, [], ◌∷◌, ◌++◌, length, true, false, Contains, Option, Some, None, refl, sym, ap, ◌∙◌, arith, length-append}
 use Rattle.std.specs.Prelude.{Any}
 use Rattle.std.proofs.lemmas.Bool.{and_from, cases_eq, le-leb}
 use Rattle.std.proofs.lemmas.List.Elements.{All-contains, Contains-append_left, Contains-append_right}
@@ -10,11 +10,11 @@ use Rattle.vdr_retention.specs.Layout.{segment_records}
 use Rattle.vdr_retention.specs.Retention.{Pin, HaveNoPlace, within}
 use Rattle.vdr_retention.specs.Victims.{MayGo}
 use Rattle.vdr_retention.proofs.Lists.{contains_here, contains_there}
-use Rattle.vdr_ring.specs.Sequence.{Placed, all_records, batches_of, first_of, records_of}
-use Rattle.vdr_ring.specs.Order.{HasPlace, RunsOn, IsInPlace, AreInPlace, AreInOrder}
-use Rattle.vdr_ring.specs.Lookup.{HoldAll}
-use Rattle.vdr_ring.specs.Stages.{with_batch_in}
-use Rattle.vdr_ring.proofs.Ordering.{records_with_batch}
+use Rattle.vdr_directory.specs.Sequence.{Placed, all_records, batches_of, first_of, records_of}
+use Rattle.vdr_directory.specs.Order.{HasPlace, RunsOn, IsInPlace, AreInPlace, AreInOrder}
+use Rattle.vdr_directory.specs.Lookup.{HoldAll}
+use Rattle.vdr_directory.specs.Growing.{with_batch_in}
+use Rattle.vdr_directory.proofs.Ordering.{records_with_batch}
 
 -- All places of each of these pins stand in the segments.
 abbrev pub HoldPins : List Pin → List Placed → Type 0

@@ -20,14 +20,14 @@ use Rattle.vdr_outside.specs.Disk.{Disk}
 use Rattle.vdr_outside.proofs.Moments.{size_read}
 use Rattle.vdr_config.specs.Configuration.{Configuration, IsConfiguration}
 use Rattle.vdr_config.specs.Sizes.{sizes_of, window_of}
-use Rattle.vdr_ring.specs.Sequence.{Placed, all_records, batches_in, batches_of, segments_in}
-use Rattle.vdr_ring.specs.Order.{AreInOrder}
-use Rattle.vdr_ring.specs.Lookup.{HoldAll}
+use Rattle.vdr_directory.specs.Sequence.{Placed, all_records, batches_in, batches_of, segments_in}
+use Rattle.vdr_directory.specs.Order.{AreInOrder}
+use Rattle.vdr_directory.specs.Lookup.{HoldAll}
 use Rattle.vdr_ring.specs.Regularity.{AreRegular}
 use Rattle.vdr_ring.specs.Rings.{RingState}
-use Rattle.vdr_ring.specs.Stages.{Continues, next_of, tick_of}
+use Rattle.vdr_directory.specs.Growing.{Continues, next_of, tick_of}
 use Rattle.vdr_ring.proofs.Medium.{next_after_last, place_after}
-use Rattle.vdr_ring.proofs.Runs.{nil_from_last}
+use Rattle.vdr_directory.proofs.Runs.{nil_from_last}
 use Rattle.vdr_opening.specs.Media.{AreThere}
 use Rattle.vdr_opening.specs.Settings.{settings_of}
 use Rattle.vdr_vault.specs.Vaults.{HoldsHistory}
@@ -37,10 +37,10 @@ use Rattle.vdr_vault.proofs.ShownImages.{records_are}
 
 -- The last record is that of the last batch
 
-abbrev IsSome : List Record → Type 0
+abbrev pub IsSome : List Record → Type 0
 IsSome b = 0 < length b
 
-abbrev last_of : Option (List Record) → Option Record
+abbrev pub last_of : Option (List Record) → Option Record
 last_of None = None
 last_of (Some b) = last b
 
@@ -49,14 +49,14 @@ some_batches [] h = All-nil IsSome
 some_batches (p ∷ ps) h = All-append IsSome (batches_of p) (batches_in ps) (All-head (λ segment. All IsSome segment) (batches_of p) (segments_in ps) h) (some_batches ps (All-tail (λ segment. All IsSome segment) (batches_of p) (segments_in ps) h))
 
 -- no batch of a regular medium is empty
-regular_batches : (cost usable batch : ℕ) (placed : List Placed) → AreRegular cost usable batch placed → All IsSome (batches_in placed)
+pub regular_batches : (cost usable batch : ℕ) (placed : List Placed) → AreRegular cost usable batch placed → All IsSome (batches_in placed)
 regular_batches cost usable batch placed (inl e) = subst (λ (ps : List Placed). All IsSome (batches_in ps)) (sym e) (All-nil IsSome)
 regular_batches cost usable batch placed (inr (older, newest, e, h)) =
     some_batches placed (subst (All (λ (segment : Batches). All IsSome segment)) (sym e)
     (All-weaker (λ segment. All (λ b. (0 < length b) × (records_size b ≤ batch)) segment) (λ segment. All IsSome segment)
     (λ segment k. All-weaker (λ b. (0 < length b) × (records_size b ≤ batch)) IsSome (λ b l. l.0) segment k) (older ++ newest ∷ []) h.batches))
 
-last_by_batch : (bs : Batches) → All IsSome bs → last (segment_records bs) ≡ last_of (last bs)
+pub last_by_batch : (bs : Batches) → All IsSome bs → last (segment_records bs) ≡ last_of (last bs)
 last_by_batch bs some = go (last bs) refl
   where
     go : (o : Option (List Record)) → last bs ≡ o → last (segment_records bs) ≡ last_of o

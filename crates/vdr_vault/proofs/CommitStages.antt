@@ -19,12 +19,13 @@ use Rattle.vdr_retention.proofs.Ordered.{parts_in_order}
 use Rattle.vdr_retention.proofs.Following.{follow_in_order}
 use Rattle.vdr_durability.proofs.Restored.{all_with}
 use Rattle.vdr_pace.specs.Media.{IsAppended}
-use Rattle.vdr_ring.specs.Sequence.{Placed, all_records, batches_in, batches_of, records_of, segments_in}
-use Rattle.vdr_ring.specs.Order.{AreInOrder, HasNone, MayPrecede}
-use Rattle.vdr_ring.specs.Stages.{AreStages, Stages, new_segment, next_seq, with_batch_in}
+use Rattle.vdr_directory.specs.Sequence.{Placed, all_records, batches_in, batches_of, records_of, segments_in}
+use Rattle.vdr_directory.specs.Order.{AreInOrder, HasNone, MayPrecede}
+use Rattle.vdr_directory.specs.Growing.{new_segment, next_seq, with_batch_in}
+use Rattle.vdr_ring.specs.Stages.{AreStages, Stages}
 use Rattle.vdr_ring.specs.Regularity.{AreRegular, IsAllowed}
 use Rattle.vdr_ring.proofs.Medium.{in_order_records}
-use Rattle.vdr_ring.proofs.Ordering.{has_records}
+use Rattle.vdr_directory.proofs.Ordering.{has_records}
 use Rattle.vdr_ring.proofs.Retaining.{begun_retains, closed_retains, done_retains, stages_regular, victim_is_oldest}
 use Rattle.vdr_vault.proofs.CommitPins.{HoldPins, pins_begun, pins_stay, pins_with_batch, place_recorded, victim_in_place}
 use Rattle.vdr_vault.proofs.ShownImages.{records_are}

@@ -1,7 +1,6 @@
 -- A vault stands with a batch, once both media have it.
 use Rattle.std.proofs.Common.{◌≡◌, ◌≢◌, ◌+◌, ◌-◌, ◌<◌, ℕ, ℤ, suc, List, [], ◌∷◌, ◌++◌, length, get_or, Option, Some, None, option_map, refl, sym, ap, ◌∙◌, subst, arith, length-append}
 use Rattle.std.proofs.lemmas.Option.{none-some}
-use Rattle.vdr_terms.specs.Needs.{slots_in}
 use Rattle.vdr_terms.specs.Order.{AreInOrder, RunOn}
 use Rattle.vdr_terms.specs.Records.{Record, last}
 use Rattle.vdr_history.specs.Histories.{Act, Event, Incident, Opening, all_records as all_given, incidents, last_stamp, next_place, recorded, records_of_act, stamp_of, table_after}
@@ -21,11 +20,12 @@ use Rattle.vdr_outside.proofs.Moments.{settled_other}
 use Rattle.vdr_config.specs.Configuration.{Configuration}
 use Rattle.vdr_config.specs.Sizes.{sizes_of}
 use Rattle.vdr_slots.specs.Slots.{SameFront, place_of}
-use Rattle.vdr_ring.specs.Sequence.{Placed, all_records}
-use Rattle.vdr_ring.specs.Rings.{RingState, HasMedium, HoldsPlaced, IsSameRing}
+use Rattle.vdr_directory.specs.Sequence.{Placed, all_records}
+use Rattle.vdr_directory.specs.Holds.{HoldsPlaced}
+use Rattle.vdr_ring.specs.Rings.{RingState}
 use Rattle.vdr_ring.specs.Rings as rings
-use Rattle.vdr_ring.proofs.NextSegment.{last_index}
-use Rattle.vdr_ring.proofs.Runs.{after_last}
+use Rattle.vdr_directory.proofs.Runs.{last_index}
+use Rattle.vdr_directory.proofs.Runs.{after_last}
 use Rattle.vdr_opening.specs.Media.{HasFront}
 use Rattle.vdr_opening.specs.Answers.{IsRingOf}
 use Rattle.vdr_durability.specs.Soundness.{IsUnbroken}
@@ -72,18 +72,12 @@ module _ (opening : Opening) (events : List Event) (e : Event) (records : List R
   -- A medium with the batch
   module _ {tells tells_images : Type 0} where
     pub history_done : (c : Configuration) (m : ℕ) (ring new_ring : RingState) (placed now : List Placed) (old new : Disk tells tells_images) → HoldsHistory opening events c m ring placed old
-        → new.sizes ≡ old.sizes → IsSameRing ring new_ring → HasMedium new_ring new.sizes → rings.Reads new_ring now new → (tells → SameFront (content old.reads m) (content new.reads m))
+        → IsRingOf c new.sizes m new_ring → rings.Reads new_ring now new → (tells → SameFront (content old.reads m) (content new.reads m))
         → ring.seconds ≡ opening.settings.seconds m → 0 < opening.settings.seconds m → FollowOn (last (given_with opening events m)) records
         → IsAfter (sizes_of c) m ring.seconds (pins_on m (incidents opening events)) (given_with opening events m) records placed now
         → HoldsHistory opening (events ++ e ∷ []) c m new_ring now new
-    history_done c m ring new_ring placed now old new h sizes same room reads front window some follow after = record {
-      is_its = record {
-        medium = same.medium ∙ h.is_its.medium;
-        segment = same.segment ∙ h.is_its.segment;
-        slots = same.slots ∙ h.is_its.slots ∙ ap (λ (s : List ℕ). slots_in (sizes_of c) (get_or s m 0)) (sym sizes);
-        seconds = same.seconds ∙ h.is_its.seconds;
-        room = room;
-      };
+    history_done c m ring new_ring placed now old new h its reads front window some follow after = record {
+      is_its = its;
       reads = reads;
       front = λ told. front_stays (content old.reads m) (content new.reads m) (front told) m c opening.settings.text (h.front told);
       regular = after.regular;
@@ -103,7 +97,7 @@ history_meanwhile opening events c m k ring placed P old new ne moments others s
   reads = record {
     settled = settled_other m ring.medium P (HoldsPlaced ring.segment ring.slots placed) old new differs moments others h.reads.settled;
     order = h.reads.order;
-    table = h.reads.table;
+    directory = h.reads.directory;
     loaded = λ j is told. h.reads.loaded j is told ∙ ap (λ (bytes : List ℕ). part bytes (place_of ring.segment j) ring.segment) (sym (others told ring.medium differs));
   };
   front = λ told. subst (HasFront k c opening.settings.text) (sym (others told k ne)) (h.front told);

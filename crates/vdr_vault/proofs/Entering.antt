@@ -8,10 +8,10 @@ use Rattle.vdr_terms.specs.Records.{Record}
 use Rattle.vdr_terms.specs.Queries.{Query, Span}
 use Rattle.vdr_playback.specs.Playback.{found}
 use Rattle.vdr_retention.proofs.Lists.{none_contained, contains_here, contains_there, contains_cases}
-use Rattle.vdr_ring.specs.Sequence.{Placed, seq_of, records_of, all_records}
-use Rattle.vdr_ring.specs.Order.{AreInPlace, AreInOrder}
-use Rattle.vdr_ring.specs.Lookup.{IsAbove}
-use Rattle.vdr_ring.specs.Indexed.{HasNoneSelected, is_selected}
+use Rattle.vdr_directory.specs.Sequence.{Placed, seq_of, records_of, all_records}
+use Rattle.vdr_directory.specs.Order.{AreInPlace, AreInOrder}
+use Rattle.vdr_index.specs.Indexes.{IsAbove}
+use Rattle.vdr_directory.specs.Indexed.{HasNoneSelected, is_selected}
 use Rattle.vdr_ring.specs.Visits as visits
 use Rattle.vdr_vault.specs.declared.cursor.Standing.{Standing}
 use Rattle.vdr_vault.specs.Walks.{CursorState, Slots, IsWithin, IsBefore, IsBehind, AreAhead, AreLeft, AreLeftBehind, seq_in}

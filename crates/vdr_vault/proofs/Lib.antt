@@ -24,6 +24,9 @@ pub mod CommitStands
 pub mod CommitAll
 pub mod CommitCalls
 pub mod Passing
+pub mod Walked
+pub mod Appended
+pub mod Passed
 pub mod Stepping
 pub mod Playing
 pub mod Coming

@@ -1,6 +1,6 @@
 -- Causes of faults over the calls of an opening.
-use Rattle.std.proofs.Common.{◌≡◌, ℕ, List, [], ◌∷◌, get_or, Result, Ok, Err, refl, sym, subst}
-use Rattle.std.specs.Prelude.{Any, IsErrOf, sum}
+use Rattle.std.proofs.Common.{◌≡◌, ℕ, List, [], ◌∷◌, get_or, Result, Ok, Err, refl, subst}
+use Rattle.std.specs.Prelude.{Any, IsErrOf}
 use Rattle.vdr_outside.specs.Causes.{HasCauseOn, NoneFalls, Rose}
 use Rattle.vdr_outside.proofs.Counts.{none_falls_join, none_fell, on_err, rose_after, sum_rose}
 use Rattle.vdr_opening.specs.declared.refused.OpenRefused.{OpenRefused}

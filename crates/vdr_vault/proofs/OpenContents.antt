@@ -13,8 +13,8 @@ use Rattle.vdr_durability.proofs.Shows.{opened_shows, retains_itself}
 use Rattle.vdr_outside.specs.Disk.{Disk, Durable, Image, content}
 use Rattle.vdr_config.specs.Sizes.{window_of}
 use Rattle.vdr_media.proofs.Two.{all_two}
-use Rattle.vdr_ring.specs.Sequence.{Placed, all_records, batches_in}
-use Rattle.vdr_ring.specs.Order.{AreInOrder}
+use Rattle.vdr_directory.specs.Sequence.{Placed, all_records, batches_in}
+use Rattle.vdr_directory.specs.Order.{AreInOrder}
 use Rattle.vdr_ring.proofs.Medium.{in_order_records}
 use Rattle.vdr_ring.specs.Rings as rings
 use Rattle.vdr_incident.specs.Tables.{HoldsTable}

@@ -15,9 +15,10 @@ use Rattle.vdr_outside.specs.Disk.{Disk, Durable, Image, SameBut, Unchanged}
 use Rattle.vdr_outside.specs.Moments.{AtEachMoment}
 use Rattle.vdr_outside.proofs.Moments.{moments_and_reads, moments_join, moments_none, moments_weaken}
 use Rattle.vdr_media.specs.Formatted.{IsFormatted, IsUnformatted}
-use Rattle.vdr_ring.specs.Sequence.{Placed, all_records, batches_in}
+use Rattle.vdr_directory.specs.Sequence.{Placed, all_records, batches_in}
 use Rattle.vdr_ring.proofs.Medium.{in_order_records}
-use Rattle.vdr_ring.specs.Rings.{HoldsPlaced, RingState, Tells}
+use Rattle.vdr_directory.specs.Holds.{HoldsPlaced, Tells}
+use Rattle.vdr_ring.specs.Rings.{RingState}
 use Rattle.vdr_ring.specs.Rings as rings
 use Rattle.vdr_opening.specs.Settings.{settings_of}
 use Rattle.vdr_opening.specs.Media.{both, Contents, HoldsContents, opening_of, reading_of}
@@ -115,8 +116,8 @@ module _ {tells tells_images : Type 0} where
 
   -- What a ring tells of its end, of the contents that the media hold.
   pub goes_on : (x : Contents) (vault : VaultState) (missing : List Record) (disk : Disk tells tells_images) → tells → IsOpened (opened_with vault missing) x disk
-      → ((placed : List Placed) (bytes : List ℕ) → Tells vault.capsule.slots placed vault.capsule.table → HoldsPlaced vault.capsule.segment vault.capsule.slots placed bytes
+      → ((placed : List Placed) (bytes : List ℕ) → Tells vault.capsule.slots placed vault.capsule.directory → HoldsPlaced vault.capsule.segment vault.capsule.slots placed bytes
       → vault.next_place ≡ next_after (last (all_records placed)))
-      → ((placed : List Placed) → Tells vault.capsule.slots placed vault.capsule.table → vault.last ≡ option_map tick_utc (last (all_records placed)))
+      → ((placed : List Placed) → Tells vault.capsule.slots placed vault.capsule.directory → vault.last ≡ option_map tick_utc (last (all_records placed)))
       → GoesOnBehind x vault
-  goes_on x vault missing disk told o next newest = record { place = next (x.placed 0) _ o.capsule.table (o.capsule.settled.reads told); newest = newest (x.placed 0) o.capsule.table }
+  goes_on x vault missing disk told o next newest = record { place = next (x.placed 0) _ o.capsule.directory (o.capsule.settled.reads told); newest = newest (x.placed 0) o.capsule.directory }

@@ -4,7 +4,7 @@ use Rattle.vdr_outside.specs.Disk.{Disk, Image, Unchanged, content}
 use Rattle.vdr_outside.proofs.Counts.{none_fell, none_falls_join}
 use Rattle.vdr_outside.proofs.Moments.{unchanged_join}
 use Rattle.vdr_ring.specs.Rings.{RingState, HasMedium}
-use Rattle.vdr_ring.specs.Opening.{slot_bytes}
+use Rattle.vdr_directory.specs.Opening.{slot_bytes}
 use Rattle.vdr_vault.specs.Walks.{CountsOn, HasRead, slots_read}
 
 pub counts_first : (m : ℕ) (read faults : List ℕ) → CountsOn m read read faults faults

@@ -9,9 +9,10 @@ use Rattle.vdr_config.specs.Configuration.{Configuration}
 use Rattle.vdr_config.specs.Sizes.{sizes_of}
 use Rattle.vdr_terms.specs.Needs.{slots_in}
 use Rattle.vdr_media.proofs.Two.{all_two}
-use Rattle.vdr_ring.specs.Sequence.{Placed}
-use Rattle.vdr_ring.specs.Rings.{RingState, HoldsPlaced, Reads}
-use Rattle.vdr_ring.specs.Opening.{slot_bytes}
+use Rattle.vdr_directory.specs.Sequence.{Placed}
+use Rattle.vdr_directory.specs.Holds.{HoldsPlaced}
+use Rattle.vdr_ring.specs.Rings.{RingState, Reads}
+use Rattle.vdr_directory.specs.Opening.{slot_bytes}
 use Rattle.vdr_incident.specs.Tables.{HoldsTable}
 use Rattle.std.proofs.lemmas.List.Elements.{All-weaker}
 use Rattle.vdr_opening.specs.Media.{HasFront, both}
@@ -33,7 +34,7 @@ module _ {tells tells_images : Type 0} where
   reads_still ring placed before now same reads = record {
     settled = settled_still ring.medium (HoldsPlaced ring.segment ring.slots placed) before now same reads.settled;
     order = reads.order;
-    table = reads.table;
+    directory = reads.directory;
     loaded = λ j at told.
         subst (λ (i : Image). ring.buffer ≡ part (content i ring.medium) (place_of ring.segment j) ring.segment) (sym (same.reads told)) (reads.loaded j at told);
   }

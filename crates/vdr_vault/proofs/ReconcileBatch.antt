@@ -8,9 +8,9 @@ use Rattle.vdr_segment.specs.Batches.{IsBatch}
 use Rattle.vdr_retention.specs.Layout.{Batches, segment_records}
 use Rattle.vdr_retention.proofs.Lists.{contains_cases, last_contained, none_contained}
 use Rattle.vdr_durability.specs.Readings.{begins_at}
-use Rattle.vdr_ring.specs.Sequence.{Placed, batches_in, batches_of, first_of}
-use Rattle.vdr_ring.specs.Order.{AreInOrder, AreInPlace}
-use Rattle.vdr_ring.specs.Rings.{HoldsPlaced}
+use Rattle.vdr_directory.specs.Sequence.{Placed, batches_in, batches_of, first_of}
+use Rattle.vdr_directory.specs.Order.{AreInOrder, AreInPlace}
+use Rattle.vdr_directory.specs.Holds.{HoldsPlaced}
 use Rattle.vdr_ring.proofs.Beginning.{legal_batches}
 
 run_front : (place : ℕ) (xs ys : List Record) → RunOn place (xs ++ ys) → RunOn place xs

@@ -1,13 +1,12 @@
 -- Regular contents are regular media by the segments of each.
-use Rattle.std.proofs.Common.{◌≡◌, inl, inr, ℕ, zero, suc, ◌<◌, ◌≤◌, List, [], length, map, true, All, Some, sym, ap, ◌∙◌, subst, arith}
+use Rattle.std.proofs.Common.{◌≡◌, inl, inr, ℕ, zero, suc, ◌<◌, ◌≤◌, List, [], length, true, All, Some, sym, ap, ◌∙◌, subst, arith}
 use Rattle.std.proofs.lemmas.List.Elements.{All-nil, All-cons}
 use Rattle.vdr_terms.specs.Records.{Record}
 use Rattle.vdr_terms.specs.Sizes.{records_size}
 use Rattle.vdr_terms.specs.Order.{RunOn}
-use Rattle.vdr_terms.specs.Needs.{Sizes, cost, usable}
+use Rattle.vdr_terms.specs.Needs.{cost, usable}
 use Rattle.vdr_retention.specs.Layout.{Batches, batches_in as all_batches, batches_size, records_in}
 use Rattle.vdr_retention.specs.Regular.{IsPaced, IsRegular}
-use Rattle.vdr_retention.specs.Retention.{Pin}
 use Rattle.vdr_retention.specs.Victims.{ArePinsOf}
 use Rattle.vdr_durability.specs.Readings.{ends_before, leading_batch}
 use Rattle.vdr_durability.specs.Regularity.{IsRegularMember, Layout, segments_of}
@@ -16,7 +15,7 @@ use Rattle.vdr_durability.specs.Shown.{pins_on}
 use Rattle.vdr_durability.proofs.Regular.{lacked_is_paced, pins_allowed}
 use Rattle.vdr_config.specs.Sizes.{sizes_of}
 use Rattle.vdr_media.proofs.Two.{all_two}
-use Rattle.vdr_ring.specs.Sequence.{Placed, all_records, batches_in, segments_in}
+use Rattle.vdr_directory.specs.Sequence.{Placed, all_records, batches_in, segments_in}
 use Rattle.vdr_ring.specs.Regularity.{AreRegular}
 use Rattle.vdr_opening.specs.Media.{both, Contents, reading_of}
 use Rattle.vdr_vault.specs.Regularity.{AreRegularMedia, IsRegularMedium}

@@ -1,31 +1,27 @@
 -- What the long-term medium has while the batch that it lacks is appended to it.
-use Rattle.std.proofs.Common.{◌≡◌, inl, inr, ⊎_elim, ℕ, zero, suc, ◌+◌, ◌<◌, ◌≤◌, List, [], ◌∷◌, ◌++◌, length, get_or, true, All, Some, ◌==◌, refl, sym, ap, ◌∙◌, subst, arith}
-use Rattle.std.specs.Prelude.{Any}
-use Rattle.std.proofs.lemmas.Bool.{and_parts, cond_both}
+use Rattle.std.proofs.Common.{◌≡◌, ⊎_elim, ℕ, ◌+◌, ◌<◌, ◌≤◌, List, [], ◌∷◌, ◌++◌, true, All, Some, ◌==◌, refl, sym, ap, ◌∙◌, subst, arith, ◌⊎◌}
 use Rattle.vdr_terms.specs.Records.{Record, last}
 use Rattle.vdr_terms.specs.Needs.{cost, needed_slots, slots_in, usable}
 use Rattle.vdr_terms.specs.Order.{RunOn}
-use Rattle.vdr_terms.specs.Sizes.{batch_size}
 use Rattle.vdr_retention.specs.Regular.{FollowOn}
 use Rattle.vdr_retention.specs.Retention.{Retains}
 use Rattle.vdr_retention.specs.Victims.{ArePinsOf}
-use Rattle.vdr_durability.specs.Readings.{IsPassedOn, comes_next, ends_before, next_after, records_on, restored}
+use Rattle.vdr_durability.specs.Readings.{ends_before, records_on, restored}
 use Rattle.vdr_durability.specs.Shown.{pins_of, pins_on}
 use Rattle.vdr_durability.proofs.Shows.{retains_itself}
-use Rattle.vdr_outside.specs.Disk.{Disk, Durable, Image, content}
-use Rattle.vdr_outside.specs.Moments.{AtEachMoment, Changed, ChangesOnly}
-use Rattle.vdr_outside.proofs.Moments.{moments_weaken, size_read}
-use Rattle.vdr_config.specs.Configuration.{Configuration, IsConfiguration}
+use Rattle.vdr_outside.specs.Disk.{Disk, Image, content}
+use Rattle.vdr_outside.specs.Moments.{Changed}
+use Rattle.vdr_outside.proofs.Moments.{size_read}
 use Rattle.vdr_config.specs.Sizes.{sizes_of, window_of}
 use Rattle.vdr_media.proofs.Two.{all_two}
 use Rattle.vdr_slots.specs.Slots.{SameFront}
-use Rattle.vdr_ring.specs.Sequence.{Placed, all_records, batches_in, segments_in}
-use Rattle.vdr_ring.specs.Order.{AreInOrder}
-use Rattle.vdr_ring.specs.Rings.{RingState, HoldsAny, HoldsPlaced}
+use Rattle.vdr_directory.specs.Sequence.{Placed, all_records, batches_in}
+use Rattle.vdr_directory.specs.Order.{AreInOrder}
+use Rattle.vdr_directory.specs.Holds.{HoldsPlaced}
+use Rattle.vdr_ring.specs.Rings.{RingState}
 use Rattle.vdr_ring.specs.Regularity.{AreRegular}
-use Rattle.vdr_ring.specs.Stages.{AreStages, Continues, Stages}
-use Rattle.vdr_opening.specs.Media.{both, Contents, HasFront, HoldsContents, IsMedium, opening_of, reading_of}
-use Rattle.vdr_opening.specs.Answers.{IsRingOf}
+use Rattle.vdr_ring.specs.Stages.{AreStages, Stages}
+use Rattle.vdr_opening.specs.Media.{both, Contents, HoldsContents, IsMedium, opening_of, reading_of}
 use Rattle.vdr_opening.proofs.Meeting.{all_one}
 use Rattle.vdr_vault.specs.Vaults.{ShowsHistory}
 use Rattle.vdr_durability.specs.Soundness.{IsUnbroken}
@@ -35,15 +31,16 @@ use Rattle.vdr_retention.proofs.Following.{follow_in_order}
 use Rattle.vdr_vault.proofs.Sounding.{IsSoundAlone, no_pins, sound_level, sound_passed, unbroken_waiting}
 use Rattle.vdr_durability.proofs.Unbroken.{unbroken_held}
 use Rattle.vdr_vault.proofs.ShownFronts.{front_stays, table_stays}
-use Rattle.vdr_vault.proofs.ShownImages.{placed_there, records_are}
+use Rattle.vdr_vault.proofs.ShownImages.{placed_there}
 use Rattle.vdr_vault.proofs.CommitPins.{HoldPins}
 use Rattle.vdr_vault.proofs.CommitReady.{are_there, pins_there, windowed}
-use Rattle.vdr_vault.proofs.CommitStages.{IsAfter, IsBefore, IsReady, StaysRegular, begun_before, begun_stays, closed_before, closed_stays, done_after, placed_before, placed_stays}
-use Rattle.vdr_vault.proofs.CommitMoments.{changes_both, zero_one}
+use Rattle.vdr_vault.proofs.CommitStages.{IsAfter, IsReady, StaysRegular, done_after}
+use Rattle.vdr_media.proofs.Formats.{zero_one}
+use Rattle.vdr_vault.proofs.CommitMoments.{before_of}
 use Rattle.vdr_vault.proofs.ReconcileBatch.{last_runs_on}
 use Rattle.vdr_vault.proofs.ReconcileLayouts.{missing_is_paced, pins_read, segments_read}
-use Rattle.vdr_vault.proofs.ReconcileWithin.{Lacks, any_of_four, first_place, lacked_follows, lacked_orders}
-use Rattle.vdr_vault.proofs.ReconcileShown.{AreOpened, capsule_restored, leads, long_term_restored, opened_shown, still_waits, waiting_shown, with_long_term, with_placed}
+use Rattle.vdr_vault.proofs.ReconcileWithin.{HasIt, Lacks, LacksIt, first_place, lacked_follows, lacked_order, lacked_orders}
+use Rattle.vdr_vault.proofs.ReconcileShown.{AreOpened, capsule_restored, long_term_restored, opened_shown, still_waits, waiting_shown, with_long_term, with_placed}
 
 module _ {tells tells_images : Type 0} (x : Contents) (batch : List Record) (ring : RingState) (disk : Disk tells tells_images) (h : Lacks x batch ring disk) (sound : AreSound x) where
   order_at : All (λ m. AreInOrder (x.placed m)) both
@@ -126,28 +123,6 @@ module _ {tells tells_images : Type 0} (x : Contents) (batch : List Record) (rin
       there = are_there x.table stages.done done.pinned;
     }
 
-    -- What an image of a stage holds.
-    stage_held : (now : List Placed) → AreInOrder now → HoldPins (pins_of x.table) now → (i : Image) → Changed 1 (λ b. HoldsAny ring.segment ring.slots (x.placed 1 ∷ stages.closed ∷ stages.begun ∷ stages.done ∷ []) b × SameFront (content disk.reads 1) b) disk.now i
-        → HoldsPlaced ring.segment ring.slots now (content i 1) → HoldsContents i (with_placed x (with_long_term x.placed now))
-    stage_held now order pinned i c held = record {
-      media = all_two (λ m. IsMedium m x.config x.text (with_long_term x.placed now m) (content i m))
-          (subst (IsMedium 0 x.config x.text (x.placed 0)) (sym (c.others 0 zero_one ∙ h.capsule.each c.image c.was)) (h.holds.media 0 0 (omega arith)))
-          (record {
-            front = front_stays (content disk.reads 1) (content i 1) c.has.1 1 x.config x.text (h.holds.media 1 1 (omega arith)).front;
-            segments = record { holds = placed_there x.config disk.sizes 1 ring now (content i 1) h.is_its (c.has.1.size ∙ size_read disk 1 h.told) held; order = order };
-          });
-      table = table_stays (content disk.reads 1) (content i 1) c.has.1 x.config.incident_slots x.table h.ranges.slots_high h.holds.table;
-      there = are_there x.table now pinned;
-    }
-
-    before_shown : (now : List Placed) → AreInOrder now → IsBefore ring.seconds (pins_of x.table) (all_records (x.placed 1)) (x.placed 1) now → StaysRegular (sizes_of x.config) 1 (pins_of x.table) batch now → (i : Image)
-        → Changed 1 (λ b. HoldsAny ring.segment ring.slots (x.placed 1 ∷ stages.closed ∷ stages.begun ∷ stages.done ∷ []) b × SameFront (content disk.reads 1) b) disk.now i
-        → HoldsPlaced ring.segment ring.slots now (content i 1) → ShowsHistory (opening_of x) [] i
-    before_shown now order k stays i c held = waiting_shown x batch h.passed follow now retained i (waiting_sound now order retained stays) (stage_held now order k.pinned i c held)
-      where
-        retained : Retains (window_of x.config 1) (pins_of x.table) (all_records (x.placed 1)) (all_records now)
-        retained = subst (λ (n : ℕ). Retains n (pins_of x.table) (all_records (x.placed 1)) (all_records now)) h.is_its.seconds k.retains
-
     done_sound : AreSound (with_placed x (with_long_term x.placed stages.done))
     done_sound = sound_level (with_placed x (with_long_term x.placed stages.done)) done_opened.level done_opened.order capsule_sound
         (record {
@@ -158,13 +133,29 @@ module _ {tells tells_images : Type 0} (x : Contents) (batch : List Record) (rin
               (subst (λ (n : ℕ). Retains n (pins_of x.table) (all_records (x.placed 1) ++ batch) (all_records stages.done)) h.is_its.seconds done.retains).window unbroken_with;
         })
 
-    -- At every moment they show what was opened.
-    pub appending_shown : (new : Disk tells tells_images) → ChangesOnly 1 (HoldsAny ring.segment ring.slots (x.placed 1 ∷ stages.closed ∷ stages.begun ∷ stages.done ∷ [])) disk new
-        → ChangesOnly 1 (SameFront (content disk.reads 1)) disk new → AtEachMoment disk new (ShowsHistory (opening_of x) [])
-    appending_shown new slots front = moments_weaken disk new _ _ (changes_both 1 _ _ disk new slots front) (λ i c.
-        any_of_four (λ ps. HoldsPlaced ring.segment ring.slots ps (content i 1)) (ShowsHistory (opening_of x) [] i) (x.placed 1) stages.closed stages.begun stages.done
-        (before_shown (x.placed 1) ready.order (placed_before _ _ _ _ _ _ _ _ _ (first_place x) ready stages are) (placed_stays _ _ _ _ _ _ _ _ _ ready) i c)
-        (before_shown stages.closed orders.0 (closed_before _ _ _ _ _ _ _ _ _ (first_place x) ready stages are) (closed_stays _ _ _ _ _ _ _ _ _ (first_place x) ready stages are) i c)
-        (before_shown stages.begun orders.1 (begun_before _ _ _ _ _ _ _ _ _ (first_place x) ready stages are) (begun_stays _ _ _ _ _ _ _ _ _ (first_place x) ready stages are) i c)
-        (λ held. opened_shown x (with_long_term x.placed stages.done) i done_opened done_sound (stage_held stages.done orders.2 done.pinned i c held))
-        c.has.0)
+  -- What an image holds then.
+  held : (now : List Placed) → AreInOrder now → HoldPins (pins_of x.table) now → (i : Image) → Changed 1 (λ b. LacksIt x batch ring disk h b ⊎ HasIt x batch ring disk h b) disk.now i → SameFront (content disk.reads 1) (content i 1)
+      → HoldsPlaced ring.segment ring.slots now (content i 1) → HoldsContents i (with_placed x (with_long_term x.placed now))
+  held now order pinned i c front holds = record {
+    media = all_two (λ m. IsMedium m x.config x.text (with_long_term x.placed now m) (content i m))
+        (subst (IsMedium 0 x.config x.text (x.placed 0)) (sym (c.others 0 zero_one ∙ h.capsule.each c.image c.was)) (h.holds.media 0 0 (omega arith)))
+        (record {
+          front = front_stays (content disk.reads 1) (content i 1) front 1 x.config x.text (h.holds.media 1 1 (omega arith)).front;
+          segments = record { holds = placed_there x.config disk.sizes 1 ring now (content i 1) h.is_its (front.size ∙ size_read disk 1 h.told) holds; order = order };
+        });
+    table = table_stays (content disk.reads 1) (content i 1) front x.config.incident_slots x.table h.ranges.slots_high h.holds.table;
+    there = are_there x.table now pinned;
+  }
+
+  -- At every moment they show what was opened.
+  pub appending_shown : (i : Image) → Changed 1 (λ b. LacksIt x batch ring disk h b ⊎ HasIt x batch ring disk h b) disk.now i → ShowsHistory (opening_of x) [] i
+  appending_shown i c = ⊎_elim
+      (λ (l : LacksIt x batch ring disk h (content i 1)).
+      let b = before_of (sizes_of x.config) 1 ring (pins_of x.table) (all_records (x.placed 1)) batch (x.placed 1) (first_place x) ready (content disk.reads 1) (content i 1)
+      (record { now = l.now; holds = l.holds; stage = l.stage; order = λ o. lacked_order x batch ring disk h (content i 1) l; front = l.front }) in
+      let retained = subst (λ (n : ℕ). Retains n (pins_of x.table) (all_records (x.placed 1)) (all_records b.now)) h.is_its.seconds b.before.retains in
+      waiting_shown x batch h.passed follow b.now retained i (waiting_sound b.now b.order retained b.stays) (held b.now b.order b.before.pinned i c l.front b.holds))
+      (λ (d : HasIt x batch ring disk h (content i 1)).
+      opened_shown x (with_long_term x.placed d.stages.done) i (done_opened d.stages d.are) (done_sound d.stages d.are)
+      (held d.stages.done (orders d.stages d.are).2 (done d.stages d.are).pinned i c d.front d.holds))
+      c.has

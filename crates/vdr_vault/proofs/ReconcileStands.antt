@@ -1,6 +1,5 @@
 -- How the vault stands once media are opened.
-use Rattle.std.proofs.Common.{◌≡◌, ◌≢◌, ℕ, ◌+◌, List, [], length, All, Option, None, option_map, false, refl, sym, ap, ◌∙◌, subst, arith, append-nil}
-use Rattle.std.proofs.lemmas.List.Elements.{All-weaker}
+use Rattle.std.proofs.Common.{◌≡◌, ◌≢◌, ℕ, ◌+◌, List, [], length, All, Option, None, option_map, false, sym, ap, ◌∙◌, subst, arith, append-nil}
 use Rattle.vdr_terms.specs.Records.{Record, last}
 use Rattle.vdr_terms.specs.Order.{AreInOrder}
 use Rattle.vdr_terms.specs.Needs.{cost, usable}
@@ -9,15 +8,10 @@ use Rattle.vdr_retention.specs.Retention.{Retains}
 use Rattle.vdr_retention.specs.Victims.{ArePinsOf}
 use Rattle.vdr_durability.specs.Readings.{next_after, records_on, restored}
 use Rattle.vdr_durability.specs.Shown.{given_with, pins_on}
-use Rattle.vdr_outside.specs.Disk.{Disk, SameBut, content}
-use Rattle.vdr_outside.specs.Moments.{ChangesOnly}
-use Rattle.vdr_outside.specs.Parts.{part}
-use Rattle.vdr_outside.proofs.Moments.{settled_other}
+use Rattle.vdr_outside.specs.Disk.{Disk, content}
 use Rattle.vdr_config.specs.Configuration.{Configuration}
 use Rattle.vdr_config.specs.Sizes.{sizes_of, window_of}
-use Rattle.vdr_slots.specs.Slots.{place_of}
-use Rattle.vdr_ring.specs.Sequence.{Placed, all_records}
-use Rattle.vdr_ring.specs.Rings.{RingState, HoldsPlaced}
+use Rattle.vdr_directory.specs.Sequence.{Placed, all_records}
 use Rattle.vdr_ring.specs.Rings as rings
 use Rattle.vdr_ring.specs.Regularity.{AreRegular}
 use Rattle.vdr_incident.specs.Tables.{HoldsTable}
@@ -32,16 +26,6 @@ use Rattle.vdr_vault.proofs.ShownPlaces.{stamp_told}
 use Rattle.vdr_media.proofs.Two.{all_two}
 
 module _ {tells tells_images : Type 0} where
-  -- A ring reads its medium as before while another one changes.
-  pub reads_beside : (ring : RingState) (placed : List Placed) (m : ℕ) (P : List ℕ → Type 0) (old new : Disk tells tells_images) → ring.medium ≢ m → ChangesOnly m P old new → (tells → SameBut m old.reads new.reads)
-      → rings.Reads ring placed old → rings.Reads ring placed new
-  reads_beside ring placed m P old new other changes same h = record {
-    settled = settled_other m ring.medium P (HoldsPlaced ring.segment ring.slots placed) old new other changes same h.settled;
-    order = h.order;
-    table = h.table;
-    loaded = λ j is told. h.loaded j is told ∙ ap (λ (b : List ℕ). part b (place_of ring.segment j) ring.segment) (sym (same told ring.medium other));
-  }
-
   -- What the vault reads of the media.
   pub record ReadsVault (x : Contents) (vault : VaultState) (placed : ℕ → List Placed) (disk : Disk tells tells_images) : Type 0 where
     pub working : vault.failed ≡ false

@@ -1,5 +1,5 @@
 -- What the long-term medium holds while the batch that it lacks is appended to it, whether the media are sound or not.
-use Rattle.std.proofs.Common.{◌≡◌, inl, inr, ⊎_elim, ℕ, zero, suc, ◌+◌, ◌<◌, ◌≤◌, List, [], ◌∷◌, ◌++◌, length, true, All, Contains, Option, Some, None, refl, sym, ap, ◌∙◌, subst, arith}
+use Rattle.std.proofs.Common.{◌≡◌, inl, inr, ⊎_elim, ℕ, zero, suc, ◌+◌, ◌<◌, ◌≤◌, List, [], ◌∷◌, ◌++◌, length, true, Contains, Option, Some, None, refl, sym, ap, ◌∙◌, subst, arith, false, ◌⊎◌}
 use Rattle.std.specs.Prelude.{Any}
 use Rattle.std.proofs.lemmas.Bool.{and_parts, leb-true, true≢false}
 use Rattle.std.proofs.lemmas.List.Elements.{Contains-append_cases}
@@ -14,16 +14,18 @@ use Rattle.vdr_retention.proofs.Lists.{contains_cases, last_contained, none_cont
 use Rattle.vdr_durability.specs.Readings.{EndsMeet, IsPassedOn, begins_at, begins_since, comes_next, ends_before, next_after}
 use Rattle.vdr_durability.specs.Shown.{pins_of}
 use Rattle.vdr_outside.specs.Disk.{Disk, Durable, Image, content}
-use Rattle.vdr_outside.specs.Moments.{AtEachMoment, Changed, ChangesOnly}
-use Rattle.vdr_outside.proofs.Moments.{moments_weaken, size_read}
+use Rattle.vdr_outside.specs.Moments.{Changed}
+use Rattle.vdr_outside.proofs.Moments.{size_read}
 use Rattle.vdr_config.specs.Configuration.{IsConfiguration}
 use Rattle.vdr_config.specs.Sizes.{sizes_of}
 use Rattle.vdr_media.proofs.Two.{all_two}
 use Rattle.vdr_slots.specs.Slots.{SameFront}
-use Rattle.vdr_ring.specs.Sequence.{Placed, all_records, batches_in, batches_of}
-use Rattle.vdr_ring.specs.Order.{AreInOrder, AreInPlace}
-use Rattle.vdr_ring.specs.Rings.{RingState, HoldsAny, HoldsPlaced}
-use Rattle.vdr_ring.specs.Stages.{AreStages, Continues, Stages}
+use Rattle.vdr_directory.specs.Sequence.{Placed, all_records, batches_in, batches_of}
+use Rattle.vdr_directory.specs.Order.{AreInOrder, AreInPlace}
+use Rattle.vdr_directory.specs.Holds.{HoldsPlaced}
+use Rattle.vdr_ring.specs.Rings.{RingState}
+use Rattle.vdr_directory.specs.Growing.{Continues}
+use Rattle.vdr_ring.specs.Stages.{AreStages, Stages}
 use Rattle.vdr_ring.specs.Regularity.{MissOneAtMost}
 use Rattle.vdr_ring.specs.Keeping.{AreWhole}
 use Rattle.vdr_ring.proofs.Beginning.{legal_batches}
@@ -35,7 +37,8 @@ use Rattle.vdr_vault.specs.Openings.{EndsWithin}
 use Rattle.vdr_vault.proofs.ShownFronts.{front_stays, table_stays}
 use Rattle.vdr_vault.proofs.ShownImages.{placed_there, records_are}
 use Rattle.vdr_vault.proofs.CommitReady.{begins_first, continues, windowed}
-use Rattle.vdr_vault.proofs.CommitMoments.{changes_both, zero_one}
+use Rattle.vdr_media.proofs.Formats.{zero_one}
+use Rattle.vdr_vault.specs.Passes.{Has, Lacks as Waiting}
 use Rattle.vdr_vault.proofs.ReconcileBatch.{last_is_legal, last_runs_on, runs_from}
 
 -- The ticks of a legal medium's last batch never fall
@@ -179,31 +182,52 @@ module _ {tells tells_images : Type 0} (x : Contents) (batch : List Record) (rin
         }) are in
         (found.0, found.1 (begins_first (x.placed 1) (first_place x) refl), found.2)
 
-    -- What an image of a stage holds
-    stage_within : (now : List Placed) → AreInOrder now → AreWhole (x.placed 1) now batch → (i : Image)
-        → Changed 1 (λ b. HoldsAny ring.segment ring.slots (x.placed 1 ∷ stages.closed ∷ stages.begun ∷ stages.done ∷ []) b × SameFront (content disk.reads 1) b) disk.now i
-        → HoldsPlaced ring.segment ring.slots now (content i 1) → EndsWithin x i
-    stage_within now in_order whole i c held = record {
-      capsule = subst (IsMedium 0 x.config x.text (x.placed 0)) (sym (c.others 0 zero_one ∙ h.capsule.each c.image c.was)) (h.holds.media 0 0 (omega arith));
-      now = now;
-      long_term = record {
-        front = front_stays (content disk.reads 1) (content i 1) c.has.1 1 x.config x.text (h.holds.media 1 1 (omega arith)).front;
-        segments = record { holds = placed_there x.config disk.sizes 1 ring now (content i 1) h.is_its (c.has.1.size ∙ size_read disk 1 h.told) held; order = in_order };
-      };
-      table = table_stays (content disk.reads 1) (content i 1) c.has.1 x.config.incident_slots x.table h.ranges.slots_high h.holds.table;
-      missing = batch;
-      lacks = inr h.passed;
-      whole = whole;
-    }
+  -- What the long-term medium has of the batch, in an image.
+  abbrev pub LacksIt : List ℕ → Type 0
+  LacksIt bytes = Waiting false ring (pins_of x.table) (x.placed 1) (first_place x) batch (content disk.reads 1) bytes
 
-    -- Whole batches stand there at every moment.
-    pub appending_within : (batches : MissOneAtMost stages.closed (x.placed 1) × (batches_in stages.begun ≡ batches_in stages.closed) × (batches_in stages.done ≡ batches_in stages.closed ++ batch ∷ []))
-        → (new : Disk tells tells_images) → ChangesOnly 1 (HoldsAny ring.segment ring.slots (x.placed 1 ∷ stages.closed ∷ stages.begun ∷ stages.done ∷ [])) disk new
-        → ChangesOnly 1 (SameFront (content disk.reads 1)) disk new → AtEachMoment disk new (EndsWithin x)
-    appending_within batches new slots front = moments_weaken disk new _ _ (changes_both 1 _ _ disk new slots front) (λ i c.
-        any_of_four (λ ps. HoldsPlaced ring.segment ring.slots ps (content i 1)) (EndsWithin x i) (x.placed 1) stages.closed stages.begun stages.done
-        (stage_within (x.placed 1) order (record { kept = x.placed 1; missing = inl refl; batches = inl refl }) i c)
-        (stage_within stages.closed lacked_orders.0 (record { kept = stages.closed; missing = batches.0; batches = inl refl }) i c)
-        (stage_within stages.begun lacked_orders.1 (record { kept = stages.closed; missing = batches.0; batches = inl batches.1 }) i c)
-        (stage_within stages.done lacked_orders.2 (record { kept = stages.closed; missing = batches.0; batches = inr batches.2 }) i c)
-        c.has.0)
+  abbrev pub HasIt : List ℕ → Type 0
+  HasIt bytes = Has false ring (pins_of x.table) (x.placed 1) (first_place x) batch (content disk.reads 1) bytes
+
+  pub lacked_order : (bytes : List ℕ) (l : LacksIt bytes) → AreInOrder l.now
+  lacked_order bytes l = ⊎_elim
+      (λ (e : l.now ≡ x.placed 1). subst AreInOrder (sym e) order)
+      (λ s. ⊎_elim (λ (e : l.now ≡ s.0.closed). subst AreInOrder (sym e) (lacked_orders s.0 s.1).0) (λ (e : l.now ≡ s.0.begun). subst AreInOrder (sym e) (lacked_orders s.0 s.1).1) s.2)
+      l.stage
+
+  within_so : (now : List Placed) → AreInOrder now → AreWhole (x.placed 1) now batch → (i : Image) → Changed 1 (λ b. LacksIt b ⊎ HasIt b) disk.now i → SameFront (content disk.reads 1) (content i 1)
+      → HoldsPlaced ring.segment ring.slots now (content i 1) → EndsWithin x i
+  within_so now in_order whole i c front held = record {
+    capsule = subst (IsMedium 0 x.config x.text (x.placed 0)) (sym (c.others 0 zero_one ∙ h.capsule.each c.image c.was)) (h.holds.media 0 0 (omega arith));
+    now = now;
+    long_term = record {
+      front = front_stays (content disk.reads 1) (content i 1) front 1 x.config x.text (h.holds.media 1 1 (omega arith)).front;
+      segments = record { holds = placed_there x.config disk.sizes 1 ring now (content i 1) h.is_its (front.size ∙ size_read disk 1 h.told) held; order = in_order };
+    };
+    table = table_stays (content disk.reads 1) (content i 1) front x.config.incident_slots x.table h.ranges.slots_high h.holds.table;
+    missing = batch;
+    lacks = inr h.passed;
+    whole = whole;
+  }
+
+  -- Whole batches stand there at every moment.
+  pub appending_within :
+      ((stages : Stages) → AreStages ring.segment ring.slots ring.seconds (pins_of x.table) (x.placed 1) (first_place x) batch stages
+      → MissOneAtMost stages.closed (x.placed 1) × (batches_in stages.begun ≡ batches_in stages.closed) × (batches_in stages.done ≡ batches_in stages.closed ++ batch ∷ []))
+      → (i : Image) → Changed 1 (λ b. LacksIt b ⊎ HasIt b) disk.now i → EndsWithin x i
+  appending_within batches i c = ⊎_elim
+      (λ (l : LacksIt (content i 1)). within_so l.now (lacked_order (content i 1) l) (whole l) i c l.front l.holds)
+      (λ (d : HasIt (content i 1)).
+      let b = batches d.stages d.are in within_so d.stages.done (lacked_orders d.stages d.are).2 (record { kept = d.stages.closed; missing = b.0; batches = inr b.2 }) i c d.front d.holds)
+      c.has
+    where
+      whole : (l : LacksIt (content i 1)) → AreWhole (x.placed 1) l.now batch
+      whole l = ⊎_elim
+          (λ (e : l.now ≡ x.placed 1). record { kept = x.placed 1; missing = inl refl; batches = inl (ap batches_in e) })
+          (λ s.
+          let b = batches s.0 s.1 in
+          ⊎_elim
+          (λ (e : l.now ≡ s.0.closed). record { kept = s.0.closed; missing = b.0; batches = inl (ap batches_in e) })
+          (λ (e : l.now ≡ s.0.begun). record { kept = s.0.closed; missing = b.0; batches = inl (ap batches_in e ∙ b.1) })
+          s.2)
+          l.stage

@@ -1,6 +1,6 @@
 -- What a refusal of a call below is passed on as.
-use Rattle.std.proofs.Common.{◌≡◌, ◌⊎◌, inr, ℕ, Bool, false, true, List, get_or, Result, Err, refl, sym, ap, ◌∙◌, subst, arith}
-use Rattle.std.specs.Prelude.{IsErrAnd, sum}
+use Rattle.std.proofs.Common.{◌≡◌, ◌⊎◌, inr, ℕ, false, List, get_or, Result, Err, refl, sym, ap, ◌∙◌, subst, arith}
+use Rattle.std.specs.Prelude.{IsErrAnd}
 use Rattle.std.proofs.lemmas.Result.{err_from_is_err_and}
 use Rattle.vdr_outside.specs.Causes.{NoneFalls, Rose}
 use Rattle.vdr_outside.proofs.Counts.{none_falls_join, sum_rose}

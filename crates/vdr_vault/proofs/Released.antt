@@ -2,20 +2,19 @@
 use Rattle.std.proofs.Common.{◌≡◌, ◌<◌, ◌≤◌, ◌-◌, ℕ, zero, suc, List, [], ◌∷◌, ◌++◌, Option, None, Some, Result, OnOk, refl, sym, ap, ◌∙◌, subst, arith}
 use Rattle.std.specs.Prelude.{⊤}
 use Rattle.std.proofs.lemmas.Option.{none-some}
-use Rattle.std.proofs.lemmas.Result.{on_ok_weaker}
-use Rattle.vdr_history.specs.Histories.{Act, Event, Incident, Opening, all_records, incidents, live, records_of_act, table_after, with_slot}
+use Rattle.vdr_history.specs.Histories.{Event, Incident, Opening, all_records, incidents, live, records_of_act, table_after, with_slot}
 use Rattle.vdr_history.specs.Histories.Act.{Release}
 use Rattle.vdr_durability.proofs.Shows.{incidents_with}
 use Rattle.vdr_outside.specs.Disk.{Disk, SameBut, content}
 use Rattle.vdr_outside.specs.Moments.{ChangesOnly, Settled}
 use Rattle.vdr_config.specs.Configuration.{IsConfiguration}
 use Rattle.vdr_incident.specs.Tables.{HoldsBeside, HoldsEither, HoldsTable}
-use Rattle.vdr_ring.specs.Sequence.{Placed}
+use Rattle.vdr_directory.specs.Sequence.{Placed}
 use Rattle.vdr_terms.proofs.Results.{on_ok_both}
 use Rattle.vdr_vault.specs.Saves.{Does}
 use Rattle.vdr_vault.specs.Vaults.{VaultState, Stands}
 use Rattle.vdr_vault.proofs.ShownHistory.{durable_at}
-use Rattle.vdr_vault.proofs.SlotKept.{MayStand, live_within, slot_written}
+use Rattle.vdr_vault.proofs.SlotKept.{live_within, slot_written}
 use Rattle.vdr_vault.proofs.SlotWritten.{IsWritten, written_moments, written_stands}
 
 module _ {tells tells_images : Type 0} (opening : Opening) (events : List Event) (vault : VaultState) (placed : ℕ → List Placed) (old : Disk tells tells_images)

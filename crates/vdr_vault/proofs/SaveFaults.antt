@@ -1,12 +1,11 @@
 -- When a call on the table of incidents answers a fault, and what the vault knows of it then.
-use Rattle.std.proofs.Common.{◌≡◌, ◌⊎◌, inr, ℕ, Bool, true, false, List, [], ◌∷◌, ◌++◌, get_or, Result, Ok, Err, OnOk, sym, ap, ◌∙◌, subst}
-use Rattle.std.specs.Prelude.{sum}
+use Rattle.std.proofs.Common.{◌≡◌, ◌⊎◌, inr, ℕ, Bool, false, List, [], ◌∷◌, ◌++◌, get_or, Result, Ok, Err, OnOk, sym, ap, ◌∙◌, subst}
 use Rattle.std.specs.Result.{result_eq}
 use Rattle.vdr_history.specs.Histories.{Event, Opening}
 use Rattle.vdr_outside.specs.Causes.{NoneFalls, Rose}
 use Rattle.vdr_outside.specs.Disk.{Disk}
 use Rattle.vdr_outside.proofs.Counts.{sum_rose}
-use Rattle.vdr_ring.specs.Sequence.{Placed}
+use Rattle.vdr_directory.specs.Sequence.{Placed}
 use Rattle.vdr_terms.proofs.Results.{on_ok_both}
 use Rattle.vdr_vault.specs.Saves.{Does, HasFaultOn, Saves}
 use Rattle.vdr_vault.specs.declared.refused.SaveRefused.{SaveRefused}

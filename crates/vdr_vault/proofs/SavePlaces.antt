@@ -1,5 +1,5 @@
 -- The places of an incident, and what of them stands on the long-term medium.
-use Rattle.std.proofs.Common.{◌≡◌, ◌⊎◌, inl, inr, ⊎_elim, ◌<◌, ◌≤◌, ◌+◌, ◌==◌, ℕ, zero, suc, Bool, true, false, cond, List, [], ◌∷◌, ◌++◌, length, find, slice_get, option_map, Option, Some, None, refl, sym, ap, ◌∙◌, subst, arith}
+use Rattle.std.proofs.Common.{◌≡◌, ◌⊎◌, ⊎_elim, ◌<◌, ◌≤◌, ◌+◌, ◌==◌, ℕ, List, [], ◌∷◌, ◌++◌, find, slice_get, option_map, Option, Some, None, refl, sym, ap, ◌∙◌, subst, arith}
 use Rattle.std.specs.Prelude.{Any, Contains}
 use Rattle.std.proofs.lemmas.Bool.{and_parts, cond-true, cond-false, eq-eqb, leb-true, ne_eqb}
 use Rattle.std.proofs.lemmas.List.Elements.{All-contains, Contains-append_cases}
@@ -10,12 +10,12 @@ use Rattle.vdr_terms.specs.Windows.{window}
 use Rattle.vdr_terms.proofs.Somewhere.{any_left, any_right}
 use Rattle.vdr_retention.specs.Retention.{at_places, within}
 use Rattle.vdr_retention.specs.Victims.{SpansAtMost}
-use Rattle.vdr_retention.proofs.Lists.{contains_cases, contains_here, contains_there, filter_test, filter_was, last_contained, none_contained}
+use Rattle.vdr_retention.proofs.Lists.{contains_here, filter_test, filter_was, last_contained, none_contained}
 use Rattle.vdr_retention.proofs.Ordered.{by_place, no_later, places_run}
 use Rattle.vdr_retention.proofs.Retained.{in_the_window, recent}
-use Rattle.vdr_ring.specs.Lookup.{HoldAll}
-use Rattle.vdr_ring.specs.Order.{AreInOrder, AreInPlace, HasPlace}
-use Rattle.vdr_ring.specs.Sequence.{Placed, all_records, first_of, records_of}
+use Rattle.vdr_directory.specs.Lookup.{HoldAll}
+use Rattle.vdr_directory.specs.Order.{AreInOrder, AreInPlace, HasPlace}
+use Rattle.vdr_directory.specs.Sequence.{Placed, all_records, first_of, records_of}
 use Rattle.vdr_durability.specs.Soundness.{IsUnbroken}
 use Rattle.vdr_vault.specs.Saves.{first_in_window}
 use Rattle.vdr_vault.proofs.CommitPins.{any_one, record_at}

@@ -1,18 +1,19 @@
 -- A save before its first read, after it, and at its write.
-use Rattle.std.proofs.Common.{◌≡◌, ◌-◌, ◌/◌, ℕ, ℤ, suc, List, option_map, Option, None, Some, Result, Ok, Err, OnOk, refl, sym, ap, ◌∙◌, subst, arith}
+use Rattle.std.proofs.Common.{◌≡◌, ◌-◌, ◌/◌, ℕ, ℤ, suc, List, option_map, Option, None, Some, Result, OnOk, sym, ap, ◌∙◌, subst, arith}
 use Rattle.std.specs.Prelude.{IfOk, IsErr, is_none, position}
 use Rattle.vdr_terms.specs.Records.{Record, last, second}
 use Rattle.vdr_history.specs.Histories.{Event, Incident, Opening, with_slot, Settings}
 use Rattle.vdr_durability.specs.Shown.{given_with}
 use Rattle.vdr_outside.specs.Disk.{Disk, SameBut, Unchanged, content}
 use Rattle.vdr_outside.specs.Moments.{ChangesOnly, Settled}
-use Rattle.vdr_config.specs.Configuration.{Configuration, IsConfiguration}
+use Rattle.vdr_config.specs.Configuration.{IsConfiguration}
 use Rattle.vdr_incident.specs.Saves.{IsSave}
 use Rattle.vdr_incident.specs.Tables.{HoldsBeside, HoldsEither, HoldsTable}
-use Rattle.vdr_ring.specs.Sequence.{Placed, all_records}
-use Rattle.vdr_ring.specs.Order.{AreInOrder}
-use Rattle.vdr_ring.specs.Lookup.{HoldAll}
-use Rattle.vdr_ring.specs.Rings.{Reads, Tells}
+use Rattle.vdr_directory.specs.Sequence.{Placed, all_records}
+use Rattle.vdr_directory.specs.Order.{AreInOrder}
+use Rattle.vdr_directory.specs.Lookup.{HoldAll}
+use Rattle.vdr_directory.specs.Holds.{Tells}
+use Rattle.vdr_ring.specs.Rings.{Reads}
 use Rattle.vdr_durability.specs.Soundness.{IsUnbroken}
 use Rattle.vdr_durability.proofs.Unbroken.{unbroken_less}
 use Rattle.vdr_vault.specs.Saves.{Saves, first_in_window, save_refusal}
@@ -21,7 +22,7 @@ use Rattle.vdr_vault.specs.Vaults.{VaultState, Stands}
 use Rattle.vdr_vault.specs.Walks.{HasRead}
 use Rattle.vdr_vault.specs.declared.refused.SaveRefused.{SaveRefused}
 use Rattle.vdr_vault.proofs.Playing.{both_read, stands_still}
-use Rattle.vdr_vault.proofs.Saved.{after_reading, all_there, newest_record, saved_legal, saves, saves_nothing}
+use Rattle.vdr_vault.proofs.Saved.{all_there, newest_record, saved_legal, saves, saves_nothing}
 
 -- The window of an incident is still as long after a read.
 pub seconds_still : (old new : VaultState) → ReadsOn 1 old new → new.config.incident_seconds ≡ old.config.incident_seconds
@@ -33,11 +34,11 @@ incident_at vault label a tick utc = record { label = label; a = a; b = vault.ne
 
 -- All its places are on the long-term medium.
 abbrev pub HasPlaces : VaultState → ℕ → Type 0
-HasPlaces vault a = (ps : List Placed) → Tells vault.long_term.slots ps vault.long_term.table → AreInOrder ps → HoldAll a (vault.next_place - 1) ps
+HasPlaces vault a = (ps : List Placed) → Tells vault.long_term.slots ps vault.long_term.directory → AreInOrder ps → HoldAll a (vault.next_place - 1) ps
 
 -- They are not, or it is not legal.
 abbrev pub IsNone : VaultState → List ℕ → (a tick : ℕ) → ℤ → Type 0
-IsNone vault label a tick utc = (ps : List Placed) → Tells vault.long_term.slots ps vault.long_term.table → AreInOrder ps → HoldAll a (vault.next_place - 1) ps
+IsNone vault label a tick utc = (ps : List Placed) → Tells vault.long_term.slots ps vault.long_term.directory → AreInOrder ps → HoldAll a (vault.next_place - 1) ps
     → IsSave (incident_at vault label a tick utc) → ⊥
 
 module _ {tells tells_images : Type 0} where
@@ -85,7 +86,7 @@ module _ {tells tells_images : Type 0} where
           let unbroken : IsUnbroken vault.config.incident_seconds (given_with opening events 1) =
           unbroken_less vault.config.incident_seconds (opening.settings.seconds 1) (given_with opening events 1) (omega (arith, high, window)) long.order long.unbroken in
           let reads = long.reads in
-          none (placed 1) reads.table reads.order (all_there opening events vault placed disk may.stands may.legal label may.accepted tick utc may.stamped a first unbroken)
+          none (placed 1) reads.directory reads.order (all_there opening events vault placed disk may.stands may.legal label may.accepted tick utc may.stamped a first unbroken)
           (saved_legal opening events vault placed disk may.stands may.legal label may.accepted tick utc may.stamped a first told)
 
       -- It is written.
@@ -110,4 +111,4 @@ module _ {tells tells_images : Type 0} where
           → IfOk out (λ id. now ≡ with_slot vault.table id (Some x)) → IfOk out (λ id. option_map suc (position is_none vault.table) ≡ Some id)
           → Saves opening events label placed (record vault { table = now }) disk new out)
           (sym is)
-          (saves opening events vault placed disk may.stands may.legal label may.accepted tick utc may.stamped a first new out now (there (placed 1) reads.table reads.order))
+          (saves opening events vault placed disk may.stands may.legal label may.accepted tick utc may.stamped a first new out now (there (placed 1) reads.directory reads.order))

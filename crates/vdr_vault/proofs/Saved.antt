@@ -10,7 +10,7 @@ use Rattle.vdr_terms.specs.Order.{AreInOrder as RecordsAreInOrder, RunOn}
 use Rattle.vdr_terms.specs.Stamps.{IsStamp}
 use Rattle.vdr_terms.specs.Records.{Record, last}
 use Rattle.vdr_terms.specs.Windows.{window}
-use Rattle.vdr_history.specs.Histories.{Act, Event, Incident, MayCome, Opening, Settings, incident_of, incidents, last_stamp, records_of_act, stamp_of, table_after, with_slot}
+use Rattle.vdr_history.specs.Histories.{Event, Incident, MayCome, Opening, Settings, incident_of, incidents, records_of_act, stamp_of, table_after, with_slot}
 use Rattle.vdr_history.specs.Histories.Act.{Save}
 use Rattle.vdr_retention.proofs.Appended.{holds_less}
 use Rattle.vdr_retention.proofs.Lists.{last_contained}
@@ -28,13 +28,13 @@ use Rattle.vdr_terms.proofs.Results.{on_ok_both}
 use Rattle.vdr_incident.specs.Saves.{IsSave}
 use Rattle.vdr_incident.specs.Tables.{HoldsBeside, HoldsEither, HoldsTable}
 use Rattle.vdr_incident.proofs.Ids.{free_held}
-use Rattle.vdr_ring.specs.Sequence.{Placed, all_records, batches_in}
-use Rattle.vdr_ring.specs.Lookup.{HoldAll}
+use Rattle.vdr_directory.specs.Sequence.{Placed, all_records}
+use Rattle.vdr_directory.specs.Lookup.{HoldAll}
 use Rattle.vdr_ring.proofs.Beginning.{legal_batches}
 use Rattle.vdr_ring.proofs.Medium.{in_order_records}
 use Rattle.vdr_durability.specs.Soundness.{IsUnbroken}
-use Rattle.vdr_vault.specs.Saves.{Does, Saves, first_in_window, refusal_from, save_refusal}
-use Rattle.vdr_vault.specs.Vaults.{HoldsHistory, VaultState, Stands, of_stamp, tick_utc}
+use Rattle.vdr_vault.specs.Saves.{Saves, first_in_window, refusal_from, save_refusal}
+use Rattle.vdr_vault.specs.Vaults.{HoldsHistory, VaultState, Stands, of_stamp}
 use Rattle.vdr_vault.specs.declared.refused.SaveRefused.{SaveRefused}
 use Rattle.vdr_vault.proofs.CommitReady.{one_end}
 use Rattle.vdr_vault.proofs.Released.{table_settled}

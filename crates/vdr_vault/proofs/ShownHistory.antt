@@ -14,9 +14,10 @@ use Rattle.vdr_outside.specs.Parts.{part}
 use Rattle.vdr_outside.proofs.Moments.{settled_still, size_read}
 use Rattle.vdr_config.specs.Configuration.{Configuration}
 use Rattle.vdr_config.specs.Sizes.{sizes_of, window_of}
-use Rattle.vdr_ring.specs.Sequence.{Placed}
-use Rattle.vdr_ring.specs.Sequence as sequence
-use Rattle.vdr_ring.specs.Rings.{RingState, HoldsPlaced}
+use Rattle.vdr_directory.specs.Sequence.{Placed}
+use Rattle.vdr_directory.specs.Sequence as sequence
+use Rattle.vdr_directory.specs.Holds.{HoldsPlaced}
+use Rattle.vdr_ring.specs.Rings.{RingState}
 use Rattle.vdr_slots.specs.Slots.{place_of}
 use Rattle.vdr_incident.specs.Tables.{HoldsTable}
 use Rattle.vdr_opening.specs.Media.{both, HasFront, HoldsContents, IsMedium}
@@ -27,7 +28,7 @@ use Rattle.vdr_vault.specs.Regularity.{AreSound}
 use Rattle.vdr_vault.proofs.ShownImages.{placed_there, shown_level}
 use Rattle.vdr_vault.proofs.Sounding.{IsSoundAlone, sound_level}
 use Rattle.vdr_durability.proofs.Unbroken.{unbroken_held}
-use Rattle.vdr_ring.specs.Order.{AreInOrder as InOrder}
+use Rattle.vdr_directory.specs.Order.{AreInOrder as InOrder}
 use Rattle.vdr_ring.proofs.Medium.{in_order_records}
 
 module _ {tells tells_images : Type 0} where
@@ -103,7 +104,7 @@ module _ {tells tells_images : Type 0} where
     reads = record {
       settled = settled_still ring.medium (HoldsPlaced ring.segment ring.slots placed) old new same h.reads.settled;
       order = h.reads.order;
-      table = h.reads.table;
+      directory = h.reads.directory;
       loaded = λ j is told. h.reads.loaded j is told ∙ ap (λ (image : Image). part (content image ring.medium) (place_of ring.segment j) ring.segment) (sym (same.reads told));
     };
     front = λ told. subst (λ (image : Image). HasFront m c opening.settings.text (content image m)) (sym (same.reads told)) (h.front told);

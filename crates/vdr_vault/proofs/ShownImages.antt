@@ -19,8 +19,9 @@ use Rattle.vdr_outside.specs.Disk.{Image, content}
 use Rattle.vdr_config.specs.Configuration.{Configuration}
 use Rattle.vdr_config.specs.Sizes.{sizes_of}
 use Rattle.vdr_terms.specs.Slots.{slot_count}
-use Rattle.vdr_ring.specs.Sequence.{Placed, all_records, batches_in, batches_of}
-use Rattle.vdr_ring.specs.Rings.{RingState, HoldsPlaced}
+use Rattle.vdr_directory.specs.Sequence.{Placed, all_records, batches_in, batches_of}
+use Rattle.vdr_directory.specs.Holds.{HoldsPlaced}
+use Rattle.vdr_ring.specs.Rings.{RingState}
 use Rattle.vdr_ring.proofs.Medium.{in_order_records}
 use Rattle.vdr_opening.specs.Media.{both, Contents, HoldsContents, IsMedium, reading_of}
 use Rattle.vdr_opening.specs.Answers.{IsRingOf}

@@ -9,12 +9,12 @@ use Rattle.vdr_retention.specs.Layout.{Batches, segment_records}
 use Rattle.vdr_retention.proofs.Lists.{last_contained}
 use Rattle.vdr_history.specs.Histories.{stamp_of}
 use Rattle.vdr_durability.specs.Readings.{next_after}
-use Rattle.vdr_ring.specs.Sequence.{Placed, all_records, batches_of}
-use Rattle.vdr_ring.specs.Rings.{HoldsPlaced}
+use Rattle.vdr_directory.specs.Sequence.{Placed, all_records, batches_of}
+use Rattle.vdr_directory.specs.Holds.{HoldsPlaced}
 use Rattle.vdr_ring.proofs.Beginning.{legal_batches}
 use Rattle.vdr_vault.specs.Vaults.{of_stamp, tick_utc}
 
-legal_records : (batches : Batches) → All IsBatch batches → All IsRecord (segment_records batches)
+pub legal_records : (batches : Batches) → All IsBatch batches → All IsRecord (segment_records batches)
 legal_records [] h = All-nil IsRecord
 legal_records (b ∷ batches) h = All-append IsRecord b (segment_records batches) (All-head IsBatch b batches h).legal (legal_records batches (All-tail IsBatch b batches h))
 

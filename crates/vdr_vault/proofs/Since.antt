@@ -2,11 +2,10 @@
 use Rattle.std.proofs.Common.{◌≡◌, ◌<◌, ◌≤◌, ◌+◌, ◌-◌, ◌^◌, ℕ, ℤ, Bool, true, false, ◌&&◌, cond, List, [], ◌∷◌, ◌++◌, filter, slice_get, option_map, Option, Some, None, Result, Ok, Err, refl, sym, ap, ◌∙◌, subst, arith}
 use Rattle.std.specs.Prelude.{All, Contains, int_le, pos, negsuc, unsigned_abs}
 use Rattle.std.proofs.Math.Bool.{and-true}
-use Rattle.std.proofs.lemmas.Bool.{and_from, cond-true, cond-false, le-leb, le-ltb}
+use Rattle.std.proofs.lemmas.Bool.{and_from, cond-false, le-leb, le-ltb}
 use Rattle.std.proofs.lemmas.List.Elements.{All-head, All-tail, All-contains, All-weaker, Contains-append_right}
 use Rattle.std.proofs.lemmas.Option.{same_Some}
 use Rattle.vdr_terms.specs.Legality.{IsRecord}
-use Rattle.vdr_terms.specs.Stamps.{last_stamp}
 use Rattle.vdr_terms.specs.Records.{Record, last, second}
 use Rattle.vdr_terms.specs.Windows.{in_window, window, window_before}
 use Rattle.vdr_terms.specs.Queries.{Query, matches}
@@ -15,8 +14,8 @@ use Rattle.vdr_terms.specs.Queries.Medium.{WindowOf}
 use Rattle.vdr_retention.proofs.Lists.{all_from, last_contained, none_contained}
 use Rattle.vdr_retention.proofs.Retained.{in_the_window}
 use Rattle.vdr_playback.specs.Playback.{found}
-use Rattle.vdr_ring.specs.Sequence.{Placed, all_records, records_of, seq_of}
-use Rattle.vdr_ring.specs.Lookup.{AreEarlier, IsFirstSince}
+use Rattle.vdr_directory.specs.Sequence.{Placed, all_records, records_of, seq_of}
+use Rattle.vdr_directory.specs.Lookup.{AreEarlier, IsFirstSince}
 use Rattle.vdr_ring.specs.Rings.{RingState, Reads}
 use Rattle.vdr_ring.specs.declared.refused.ReadRefused.{ReadRefused}
 use Rattle.vdr_ring.specs.declared.refused.ReadRefused.TheVariants.{Damaged}

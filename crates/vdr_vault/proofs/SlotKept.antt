@@ -1,21 +1,19 @@
 -- A table with one slot written anew keeps what holds of each save.
-use Rattle.std.proofs.Common.{◌≡◌, ◌≤◌, ◌<◌, ℕ, zero, suc, List, [], ◌∷◌, ◌++◌, length, set, Option, Some, None, refl, sym, ap, ◌∙◌, subst, arith}
-use Rattle.std.specs.Prelude.{All, Contains, IfSome, slice_get}
+use Rattle.std.proofs.Common.{◌≡◌, ◌≤◌, ◌<◌, ℕ, zero, suc, List, [], ◌∷◌, ◌++◌, length, Option, Some, None, refl, sym, ap, ◌∙◌, subst, arith}
+use Rattle.std.specs.Prelude.{IfSome}
 use Rattle.std.proofs.Math.ListN.{length-set}
 use Rattle.std.proofs.lemmas.Option.{none-some}
 use Rattle.std.proofs.lemmas.List.Elements.{All-contains, All-set}
-use Rattle.vdr_terms.specs.Records.{Record}
 use Rattle.vdr_history.specs.Histories.{Event, Incident, Opening, incidents, live, records_of_act, with_slot}
 use Rattle.vdr_retention.specs.Retention.{HoldsPlaces, Pin, at_places}
-use Rattle.vdr_retention.specs.Victims.{ArePinsOf, SpansAtMost}
+use Rattle.vdr_retention.specs.Victims.{SpansAtMost}
 use Rattle.vdr_retention.proofs.Lists.{all_from}
 use Rattle.vdr_durability.specs.Shown.{given_with, pins_of}
-use Rattle.vdr_durability.proofs.Shows.{OnSlot, pins_hold, slots_hold}
+use Rattle.vdr_durability.proofs.Shows.{OnSlot}
 use Rattle.vdr_durability.proofs.Shows.{slot_written as pins_written}
 use Rattle.vdr_outside.specs.Disk.{Disk}
-use Rattle.vdr_config.specs.Sizes.{sizes_of}
-use Rattle.vdr_ring.specs.Sequence.{Placed, all_records}
-use Rattle.vdr_ring.specs.Lookup.{HoldAll}
+use Rattle.vdr_directory.specs.Sequence.{Placed, all_records}
+use Rattle.vdr_directory.specs.Lookup.{HoldAll}
 use Rattle.vdr_opening.specs.Media.{AreThere}
 use Rattle.vdr_vault.specs.Vaults.{VaultState, Stands}
 use Rattle.vdr_vault.proofs.SlotWritten.{IsWritten}

@@ -1,10 +1,9 @@
 -- A vault of which one incident slot is written: what each image shows, and how it stands then.
 use Rattle.std.proofs.Common.{◌≡◌, ◌⊎◌, inl, inr, ⊎_elim, ◌<◌, ◌+◌, ◌*◌, ℕ, List, [], ◌∷◌, ◌++◌, length, All, Option, option_map, refl, sym, ap, ◌∙◌, subst, arith}
-use Rattle.std.proofs.lemmas.List.Elements.{All-weaker}
-use Rattle.vdr_terms.specs.Records.{Record, last}
+use Rattle.vdr_terms.specs.Records.{Record}
 use Rattle.vdr_terms.specs.Order.{AreInOrder}
 use Rattle.vdr_history.specs.Histories.{Event, Incident, Opening, Settings, incidents, records_of_act}
-use Rattle.vdr_retention.specs.Retention.{HoldsPlaces, Pin, Retains}
+use Rattle.vdr_retention.specs.Retention.{HoldsPlaces, Retains}
 use Rattle.vdr_retention.specs.Victims.{ArePinsOf}
 use Rattle.vdr_durability.specs.Keeping.{ShowsEither}
 use Rattle.vdr_durability.specs.Shown.{given_with, pins_of, pins_on}
@@ -16,20 +15,21 @@ use Rattle.vdr_config.specs.Configuration.{Configuration}
 use Rattle.vdr_config.specs.Sizes.{sizes_of}
 use Rattle.vdr_media.proofs.Two.{all_two}
 use Rattle.vdr_slots.specs.Slots.{place_of}
-use Rattle.vdr_ring.specs.Sequence.{Placed, all_records, batches_in}
-use Rattle.vdr_ring.specs.Rings.{RingState, HoldsPlaced}
-use Rattle.vdr_incident.specs.Tables.{HoldsBeside, HoldsEither, HoldsTable}
-use Rattle.vdr_opening.specs.Media.{both, AreThere, Contents, HoldsContents, IsMedium, reading_of}
+use Rattle.vdr_directory.specs.Sequence.{Placed, all_records}
+use Rattle.vdr_directory.specs.Holds.{HoldsPlaced}
+use Rattle.vdr_ring.specs.Rings.{RingState}
+use Rattle.vdr_incident.specs.Tables.{HoldsBeside, HoldsEither}
+use Rattle.vdr_opening.specs.Media.{AreThere, HoldsContents, IsMedium}
 use Rattle.vdr_opening.specs.Answers.{IsRingOf}
 use Rattle.vdr_vault.specs.Vaults.{HoldsHistory, VaultState, ShowsHistory, Stands, of_stamp, ring_of}
 use Rattle.vdr_vault.proofs.BesideSlot.{front_beside, medium_beside, placed_beside, slot_beside}
-use Rattle.vdr_vault.proofs.CommitMoments.{zero_one}
+use Rattle.vdr_media.proofs.Formats.{zero_one}
 use Rattle.vdr_vault.proofs.CommitStands.{history_meanwhile}
 use Rattle.vdr_vault.proofs.ShownHistory.{durable_at, held_at, legible_at, same_given, same_next, same_stamp, sound_alone, stands_sound}
 use Rattle.vdr_vault.proofs.Sounding.{IsSoundAlone, no_pins, sound_level}
 use Rattle.vdr_durability.specs.Soundness.{IsUnbroken}
 use Rattle.vdr_vault.specs.Regularity.{AreSound}
-use Rattle.vdr_ring.specs.Order.{AreInOrder as InOrder}
+use Rattle.vdr_directory.specs.Order.{AreInOrder as InOrder}
 use Rattle.vdr_vault.proofs.ShownImages.{RetainsGiven, shown_level}
 
 -- An event that records nothing and leaves this table, and what the long-term medium has of it.
@@ -146,7 +146,7 @@ module _ {tells tells_images : Type 0} (opening : Opening) (events : List Event)
               (held_at opening events vault.config 1 vault.long_term (placed 1) old long_term told);
         });
         order = long_term.reads.order;
-        table = long_term.reads.table;
+        directory = long_term.reads.directory;
         loaded = λ j is told.
             long_term.reads.loaded j is told
             ∙ subst (λ (k : ℕ). part (content old.reads k) (place_of vault.long_term.segment j) vault.long_term.segment ≡ part (content new.reads k) (place_of vault.long_term.segment j) vault.long_term.segment)

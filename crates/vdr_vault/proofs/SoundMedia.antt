@@ -1,6 +1,5 @@
 -- Soundness of media that were just formatted, and of the contents of one image.
-use Rattle.std.proofs.Common.{◌≡◌, ◌≤◌, inl, ℕ, zero, suc, List, [], ◌∷◌, replicate, All, Option, None, refl, sym, ap, subst, arith}
-use Rattle.vdr_history.specs.Histories.{Incident}
+use Rattle.std.proofs.Common.{◌≡◌, ◌≤◌, inl, ℕ, zero, suc, List, [], ◌∷◌, replicate, None, refl, sym, ap, subst, arith}
 use Rattle.vdr_retention.specs.Retention.{Pin}
 use Rattle.vdr_retention.specs.Victims.{ArePinsOf}
 use Rattle.vdr_retention.proofs.Lists.{none_contained}
@@ -10,7 +9,7 @@ use Rattle.vdr_outside.specs.Disk.{Image}
 use Rattle.vdr_config.specs.Configuration.{Configuration}
 use Rattle.vdr_config.specs.Sizes.{sizes_of}
 use Rattle.vdr_media.proofs.Two.{all_two}
-use Rattle.vdr_ring.specs.Sequence.{Placed, batches_in}
+use Rattle.vdr_directory.specs.Sequence.{batches_in}
 use Rattle.vdr_opening.specs.Media.{both, Contents, HoldsContents, nothing_on, reading_of}
 use Rattle.vdr_opening.proofs.ContentsHeld.{are_legal, one_capsule, one_config, one_configured_text, one_incidents, one_long_term}
 use Rattle.vdr_vault.specs.Regularity.{AreSound, IsRegularMedium, IsUnbrokenMedium}

@@ -20,8 +20,8 @@ use Rattle.vdr_durability.proofs.Restored.{level_restored}
 use Rattle.vdr_config.specs.Configuration.{Configuration}
 use Rattle.vdr_config.specs.Sizes.{sizes_of, window_of}
 use Rattle.vdr_media.proofs.Two.{all_two}
-use Rattle.vdr_ring.specs.Sequence.{Placed, all_records, segments_in}
-use Rattle.vdr_ring.specs.Order.{AreInOrder}
+use Rattle.vdr_directory.specs.Sequence.{Placed, all_records, segments_in}
+use Rattle.vdr_directory.specs.Order.{AreInOrder}
 use Rattle.vdr_ring.specs.Regularity.{AreRegular}
 use Rattle.vdr_ring.proofs.Medium.{in_order_records}
 use Rattle.vdr_opening.specs.Media.{both, Contents, reading_of}

@@ -8,7 +8,7 @@ use Rattle.vdr_entry.specs.Queries.{asked}
 use Rattle.vdr_index.specs.Indexes.{span_as}
 use Rattle.vdr_survey.specs.declared.selection.Selection.{Selection}
 use Rattle.vdr_survey.specs.Selections.{is_selected}
-use Rattle.vdr_ring.specs.Sequence.{Placed, all_records}
+use Rattle.vdr_directory.specs.Sequence.{Placed, all_records}
 use Rattle.vdr_ring.specs.Visits.{Visits}
 use Rattle.vdr_ring.specs.Visits as visits
 use Rattle.vdr_ring.specs.declared.refused.ReadRefused.{ReadRefused}

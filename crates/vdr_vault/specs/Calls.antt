@@ -12,7 +12,7 @@ use Rattle.vdr_outside.specs.Disk.{Disk, Image, content}
 use Rattle.vdr_outside.specs.declared.fault.Fault.{Fault}
 use Rattle.vdr_config.specs.Sizes.{sizes_of}
 use Rattle.vdr_config.specs.Configuration.{Configuration}
-use Rattle.vdr_ring.specs.Sequence.{Placed, segments_in}
+use Rattle.vdr_directory.specs.Sequence.{Placed, segments_in}
 use Rattle.vdr_opening.specs.Media.{both}
 use Rattle.vdr_vault.specs.Vaults.{VaultState, ShowsHistory, Stands}
 

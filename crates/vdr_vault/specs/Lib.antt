@@ -7,3 +7,4 @@ pub mod Walks
 pub mod Plays
 pub mod Saves
 pub mod Keeps
+pub mod Passes

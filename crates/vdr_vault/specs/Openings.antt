@@ -8,7 +8,7 @@ use Rattle.vdr_outside.specs.Moments.{AtEachMoment}
 use Rattle.vdr_outside.specs.declared.fault.Fault.{Fault}
 use Rattle.vdr_outside.specs.declared.media.Media.{Ghosts as MediaTells}
 use Rattle.vdr_media.specs.Formatted.{IsFormatted, IsUnformatted}
-use Rattle.vdr_ring.specs.Sequence.{Placed, all_records}
+use Rattle.vdr_directory.specs.Sequence.{Placed, all_records}
 use Rattle.vdr_ring.specs.Keeping.{AreWhole}
 use Rattle.vdr_incident.specs.Tables.{HoldsTable}
 use Rattle.vdr_opening.specs.declared.refused.OpenRefused.{OpenRefused}

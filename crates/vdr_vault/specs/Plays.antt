@@ -9,7 +9,7 @@ use Rattle.vdr_playback.specs.Playback.{medium_of}
 use Rattle.vdr_outside.specs.Causes.{NoneFalls, Rose}
 use Rattle.vdr_outside.specs.Disk.{Disk}
 use Rattle.vdr_config.specs.Sizes.{window_of}
-use Rattle.vdr_ring.specs.Sequence.{Placed, all_records}
+use Rattle.vdr_directory.specs.Sequence.{Placed, all_records}
 use Rattle.vdr_ring.specs.Rings.{RingState}
 use Rattle.vdr_ring.specs.declared.refused.ReadRefused.{ReadRefused}
 use Rattle.vdr_ring.specs.declared.refused.ReadRefused.TheVariants.{Fault}

@@ -12,7 +12,7 @@ use Rattle.vdr_durability.specs.Shown.{ImageShows, given_with, pins_on}
 use Rattle.vdr_outside.specs.Disk.{Disk, Image, content}
 use Rattle.vdr_config.specs.Configuration.{Configuration}
 use Rattle.vdr_config.specs.Sizes.{sizes_of}
-use Rattle.vdr_ring.specs.Sequence.{Placed, all_records, batches_in}
+use Rattle.vdr_directory.specs.Sequence.{Placed, all_records, batches_in}
 use Rattle.vdr_ring.specs.Regularity.{AreRegular}
 use Rattle.vdr_ring.specs.Rings.{RingState}
 use Rattle.vdr_ring.specs.Rings as rings

@@ -5,7 +5,7 @@ use Rattle.vdr_terms.specs.Queries.{Query, Span}
 use Rattle.vdr_playback.specs.Playback.{found}
 use Rattle.vdr_outside.specs.Causes.{NoneFalls}
 use Rattle.vdr_outside.specs.Disk.{Disk, Unchanged}
-use Rattle.vdr_ring.specs.Sequence.{Placed, seq_of, all_records}
+use Rattle.vdr_directory.specs.Sequence.{Placed, seq_of, all_records}
 use Rattle.vdr_ring.specs.Rings.{RingState, Reads}
 use Rattle.vdr_ring.specs.Visits.{StandsIn, IsLoaded, slot_read}
 use Rattle.vdr_ring.specs.Visits as visits

@@ -4,19 +4,19 @@ ghost use Rattle.vdr_terms.specs.Sizes.{records_size};
 ghost use Rattle.vdr_history.specs.Histories.{Event, Opening};
 ghost use Rattle.vdr_history.specs.Histories.Act.{Commit};
 ghost use Rattle.vdr_history.specs.Taken.{Captured};
-ghost use Rattle.vdr_ring.specs.Sequence.{Placed};
+ghost use Rattle.vdr_directory.specs.Sequence.{Placed};
 ghost use Rattle.vdr_vault.specs.Vaults.{AreRings, Stands, working, working_from};
 ghost use Rattle.vdr_vault.specs.Calls.{Commits, HasVaultCause, MayCommit, SameElsewhere};
 ghost use Rattle.vdr_vault.specs.Keeps.{GoesOn, KeepsVault, StopsAtFault, WritesToBoth};
 
 use crate::Vault;
+use crate::appending::append_from;
 use vdr_entry::Record;
 use vdr_outside::{Fault, Media};
-use vdr_ring::Pins;
 
 impl Vault {
-    // Appends the batch to the capsule, and then to the long-term medium, which keeps the live saves.
-    fn append_to_both<M: Media>(&mut self, media: &mut M, records: &[Record]) -> Result<(), Fault>
+    // Appends the batch to all media, in their order. The long-term medium keeps the live saves.
+    fn append_to_all<M: Media>(&mut self, media: &mut M, records: &[Record]) -> Result<(), Fault>
         requires rings { AreRings self.old (M.disk media.old).sizes }
         requires some { 0 < length records.now }
         requires short { records_size records.now ≤ self.old.config.batch }
@@ -33,8 +33,7 @@ impl Vault {
         ensures cause { HasVaultCause false (M.faults media.old) (M.faults media.new) result }
     {
         let pins = self.pins();
-        self.capsule.append(media, records, &Pins::new())?;
-        self.long_term.append(media, records, &pins)
+        append_from(self, 0, media, records, &pins)
     }
 
     /// Commits records as one batch: appends it to the capsule, and then to the long-term medium. Ok means that both have it. At every
@@ -61,7 +60,7 @@ impl Vault {
             return Err(Fault);
         }
         self.failed = true;
-        self.append_to_both(media, records)?;
+        self.append_to_all(media, records)?;
         let newest = &records[records.len() - 1];
         self.next_place = newest.place + 1;
         self.last = Some((newest.tick, newest.utc));

@@ -1,10 +1,11 @@
 ghost use Rattle.std.specs.Prelude.{◌≡◌, ◌≢◌, ◌↔◌, ◌<◌, ◌++◌, ℕ, List, [], IfNone, IfSome, true, false, Some, None, Ok, Err, get_or, option_map};
 ghost use Rattle.vdr_terms.specs.Records.{Record as Entry};
 ghost use Rattle.vdr_outside.specs.Causes.{Rose};
-ghost use Rattle.vdr_ring.specs.Sequence.{Placed, all_records, records_of};
-ghost use Rattle.vdr_ring.specs.Order.{AreInOrder};
-ghost use Rattle.vdr_ring.specs.Rings.{HasMedium, Reads, Tells};
-ghost use Rattle.vdr_ring.specs.Lookup.{AreEarlier, IsFirstSince};
+ghost use Rattle.vdr_directory.specs.Sequence.{Placed, all_records, records_of};
+ghost use Rattle.vdr_directory.specs.Order.{AreInOrder};
+ghost use Rattle.vdr_directory.specs.Holds.{Tells};
+ghost use Rattle.vdr_ring.specs.Rings.{HasMedium, Reads};
+ghost use Rattle.vdr_directory.specs.Lookup.{AreEarlier, IsFirstSince};
 ghost use Rattle.vdr_ring.specs.Visits.{IsLoaded};
 ghost use Rattle.vdr_ring.specs.declared.refused.ReadRefused.TheVariants.{Fault as AFault, Damaged};
 ghost use Rattle.vdr_entry.specs.Queries.{asked};
@@ -61,9 +62,9 @@ impl Cursor {
     pub(crate) fn since(ring: &Ring, second: u64) -> Option<Cursor>
         ensures may { IfSome result (MayStep ring.now) }
         ensures item { IfSome result (λ cursor. cursor.visit.item ≡ None) }
-        ensures ahead { IfSome result (λ cursor. (slots : Slots) (placed : List Placed) → Tells ring.now.slots placed ring.now.table → AreInOrder placed
+        ensures ahead { IfSome result (λ cursor. (slots : Slots) (placed : List Placed) → Tells ring.now.slots placed ring.now.directory → AreInOrder placed
             → (p : Placed) × (first : IsFirstSince second placed p) × AreAhead slots placed cursor (records_of p ++ all_records first.later)) }
-        ensures none { IfNone result ((placed : List Placed) → Tells ring.now.slots placed ring.now.table → AreInOrder placed → AreEarlier second (all_records placed)) }
+        ensures none { IfNone result ((placed : List Placed) → Tells ring.now.slots placed ring.now.directory → AreInOrder placed → AreEarlier second (all_records placed)) }
     {
         let (slot, seq) = ring.first_since(second)?;
         Some(Cursor {
@@ -126,7 +127,7 @@ impl Cursor {
         ensures may { MayStep ring.now self.new }
         ensures item { self.new.visit.item ≡ None }
         ensures entered { result ≡ true → segments_left self.new.standing < segments_left self.old.standing }
-        ensures enters { (slots : Slots) (placed : List Placed) (records : List Entry) → Tells ring.now.slots placed ring.now.table → AreInOrder placed
+        ensures enters { (slots : Slots) (placed : List Placed) (records : List Entry) → Tells ring.now.slots placed ring.now.directory → AreInOrder placed
             → AreLeftBehind slots placed (asked selection.now.query) (Some (span_as selection.now.span)) self.old records
             → AreLeft slots placed (asked selection.now.query) (Some (span_as selection.now.span)) self.new records × (result ≡ false → records ≡ []) }
     {

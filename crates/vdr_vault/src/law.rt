@@ -3,7 +3,7 @@ ghost use Rattle.vdr_history.specs.Histories.{Event, Opening, all_records, incid
 ghost use Rattle.vdr_durability.specs.Readings.{EndsMeet};
 ghost use Rattle.vdr_outside.specs.Disk.{Image, Unchanged};
 ghost use Rattle.vdr_config.specs.Configuration.{Configuration};
-ghost use Rattle.vdr_ring.specs.Sequence.{Placed};
+ghost use Rattle.vdr_directory.specs.Sequence.{Placed};
 ghost use Rattle.vdr_opening.specs.Media.{Contents, HoldsContents, both, nothing_on, reading_of};
 ghost use Rattle.vdr_vault.specs.Regularity.{AreSound};
 ghost use Rattle.vdr_vault.specs.Vaults.{VaultState, ShowsHistory, Stands};

@@ -1,6 +1,7 @@
 //! The capsule and the long-term medium as one vault: a batch goes to both, and both are played.
 #![tactic(auto)]
 
+mod appending;
 mod commit;
 mod cursor;
 mod law;

@@ -5,7 +5,7 @@ ghost use Rattle.vdr_outside.specs.Causes.{HasCauseOn};
 ghost use Rattle.vdr_outside.specs.Disk.{Durable, SameBut, Unchanged};
 ghost use Rattle.vdr_outside.specs.Moments.{AtEachMoment};
 ghost use Rattle.vdr_media.specs.Formatted.{IsFormatted, IsUnformatted};
-ghost use Rattle.vdr_ring.specs.Sequence.{Placed};
+ghost use Rattle.vdr_directory.specs.Sequence.{Placed};
 ghost use Rattle.vdr_opening.specs.Media.{Contents, HoldsContents, both, opening_of, reading_of};
 ghost use Rattle.vdr_opening.specs.Refusals.{IsRefused};
 ghost use Rattle.vdr_opening.specs.Answers.{HasOpenCause, IsOpened};
@@ -15,6 +15,7 @@ ghost use Rattle.vdr_vault.specs.Regularity.{AreSound};
 ghost use Rattle.vdr_vault.specs.Openings.{EndsWithin, GoesOnBehind, HasCauseOnBoth, LeavesAll, OpensAtEachMoment, OpensVault, ReachesLongTerm, Reconciles, RefusesMedia, WritesMissing, opened_with};
 
 use crate::Vault;
+use crate::appending::append_from;
 use crate::vault::ending;
 use std::alloc::Global;
 use vdr_entry::Record;
@@ -61,7 +62,7 @@ impl Vault {
         }
         law_of_stages();
         let pins = self.pins();
-        self.long_term.append(media, missing, &pins)
+        append_from(self, 1, media, missing, &pins)
     }
 
     // Opens media of which nothing is unsynced.

@@ -5,8 +5,9 @@ ghost use Rattle.vdr_history.specs.Histories.{Event, Opening};
 ghost use Rattle.vdr_playback.specs.Playback.{medium_of, selected};
 ghost use Rattle.vdr_outside.specs.Causes.{Rose};
 ghost use Rattle.vdr_entry.specs.Queries.{asked, asked_medium};
-ghost use Rattle.vdr_ring.specs.Sequence.{Placed, all_records};
-ghost use Rattle.vdr_ring.specs.Rings.{Reads, Tells};
+ghost use Rattle.vdr_directory.specs.Sequence.{Placed, all_records};
+ghost use Rattle.vdr_directory.specs.Holds.{Tells};
+ghost use Rattle.vdr_ring.specs.Rings.{Reads};
 ghost use Rattle.vdr_ring.specs.Visits.{IsLoaded};
 ghost use Rattle.vdr_ring.specs.declared.refused.ReadRefused.TheVariants.{Fault as AFault, Damaged};
 ghost use Rattle.vdr_opening.specs.Media.{both};
@@ -26,7 +27,7 @@ use vdr_survey::Selection;
 
 // The window that ends with the second of a medium's last record. None where it has no record.
 fn window_of(ring: &Ring, seconds: u64) -> Option<Span>
-    ensures { (placed : List Placed) → Tells ring.now.slots placed ring.now.table
+    ensures { (placed : List Placed) → Tells ring.now.slots placed ring.now.directory
         → option_map span_as result ≡ option_map (λ r. Window (second r.tick) seconds) (last (all_records placed)) }
 {
     let (_, tick, _) = ring.last()?;
@@ -39,7 +40,7 @@ fn window_of(ring: &Ring, seconds: u64) -> Option<Span>
 impl Vault {
     // What the query's medium comes to. None where it has no record, or the incident is not live.
     fn span_of(&self, medium: Medium) -> Option<Span>
-        ensures { (placed : ℕ → List Placed) → All (λ m. Tells (ring_of self.now m).slots (placed m) (ring_of self.now m).table) both
+        ensures { (placed : ℕ → List Placed) → All (λ m. Tells (ring_of self.now m).slots (placed m) (ring_of self.now m).directory) both
             → option_map span_as result ≡ span_in self.now placed (asked_medium medium) }
     {
         match medium {

@@ -5,10 +5,11 @@ ghost use Rattle.vdr_history.specs.Histories.{Event, Incident, Opening, live, wi
 ghost use Rattle.vdr_history.specs.Histories.Act.{Release};
 ghost use Rattle.vdr_outside.specs.Disk.{SameBut, Unchanged};
 ghost use Rattle.vdr_config.specs.Configuration.{IsConfiguration};
-ghost use Rattle.vdr_ring.specs.Sequence.{Placed, all_records};
-ghost use Rattle.vdr_ring.specs.Order.{AreInOrder};
-ghost use Rattle.vdr_ring.specs.Lookup.{HoldAll};
-ghost use Rattle.vdr_ring.specs.Rings.{Reads, Tells};
+ghost use Rattle.vdr_directory.specs.Sequence.{Placed, all_records};
+ghost use Rattle.vdr_directory.specs.Order.{AreInOrder};
+ghost use Rattle.vdr_directory.specs.Lookup.{HoldAll};
+ghost use Rattle.vdr_directory.specs.Holds.{Tells};
+ghost use Rattle.vdr_ring.specs.Rings.{Reads};
 ghost use Rattle.vdr_ring.specs.Visits.{IsLoaded};
 ghost use Rattle.vdr_incident.specs.Saves.{IsSave};
 ghost use Rattle.vdr_incident.specs.declared.refused.ReleaseRefused.TheVariants.{Fault as AReleaseFault, NoSuch};
@@ -123,9 +124,9 @@ impl Vault {
     // medium: with such a save the medium would not be legible.
     fn incident_from(&self, label: &[u8], a: u64, tick: u64, utc: i64) -> Option<Save>
         ensures made { IfSome result (λ save. save ≡ record { label = label.now; a = a; b = self.now.next_place - 1; stamp = record { tick = tick; utc = utc } }) }
-        ensures there { IfSome result (λ save. (placed : List Placed) → Tells self.now.long_term.slots placed self.now.long_term.table → AreInOrder placed
+        ensures there { IfSome result (λ save. (placed : List Placed) → Tells self.now.long_term.slots placed self.now.long_term.directory → AreInOrder placed
             → HoldAll a (self.now.next_place - 1) placed) }
-        ensures none { IfNone result ((placed : List Placed) → Tells self.now.long_term.slots placed self.now.long_term.table → AreInOrder placed
+        ensures none { IfNone result ((placed : List Placed) → Tells self.now.long_term.slots placed self.now.long_term.directory → AreInOrder placed
             → HoldAll a (self.now.next_place - 1) placed → IsSave (record { label = label.now; a = a; b = self.now.next_place - 1; stamp = record { tick = tick; utc = utc } }) → ⊥) }
     {
         let b = self.next_place.saturating_sub(1);

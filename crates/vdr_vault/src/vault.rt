@@ -1,8 +1,8 @@
 ghost use Rattle.std.specs.Prelude.{◌≡◌, ℕ, List, option_map};
 ghost use Rattle.vdr_terms.specs.Records.{last};
 ghost use Rattle.vdr_durability.specs.Readings.{next_after};
-ghost use Rattle.vdr_ring.specs.Sequence.{Placed, all_records};
-ghost use Rattle.vdr_ring.specs.Rings.{HoldsPlaced, Tells};
+ghost use Rattle.vdr_directory.specs.Sequence.{Placed, all_records};
+ghost use Rattle.vdr_directory.specs.Holds.{HoldsPlaced, Tells};
 ghost use Rattle.vdr_vault.specs.Vaults.{tick_utc};
 
 use std::marker::Model;
@@ -38,9 +38,9 @@ impl Model for Vault {
 
 /// Where a ring ends: the place after its last record, and tick and stamp of that record.
 pub(crate) fn ending(ring: &Ring) -> (u64, Option<(u64, i64)>)
-    ensures next_place { (placed : List Placed) (bytes : List ℕ) → Tells ring.now.slots placed ring.now.table
+    ensures next_place { (placed : List Placed) (bytes : List ℕ) → Tells ring.now.slots placed ring.now.directory
         → HoldsPlaced ring.now.segment ring.now.slots placed bytes → result.0 ≡ next_after (last (all_records placed)) }
-    ensures last { (placed : List Placed) → Tells ring.now.slots placed ring.now.table → result.1 ≡ option_map tick_utc (last (all_records placed)) }
+    ensures last { (placed : List Placed) → Tells ring.now.slots placed ring.now.directory → result.1 ≡ option_map tick_utc (last (all_records placed)) }
 {
     match ring.last() {
         Some((place, tick, utc)) => (place.saturating_add(1), Some((tick, utc))),

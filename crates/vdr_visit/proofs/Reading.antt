@@ -7,7 +7,7 @@ use Rattle.vdr_outside.specs.Disk.{Disk}
 use Rattle.vdr_outside.proofs.Counts.{none_falls_join, rose_after, sum_not_less}
 use Rattle.vdr_outside.proofs.Moments.{unchanged_join}
 use Rattle.vdr_ring.specs.Rings.{RingState}
-use Rattle.vdr_vault.specs.Vaults.{AreRings, VaultState, ring_of}
+use Rattle.vdr_vault.specs.Vaults.{VaultState, ring_of}
 use Rattle.vdr_vault.specs.Plays.{ReadsOn}
 use Rattle.vdr_visit.specs.Refusals.{HasVisitCause}
 use Rattle.vdr_visit.specs.Visits.{HasOnlyRead}

@@ -11,7 +11,7 @@ use Rattle.vdr_outside.specs.Causes.{NoneFalls}
 use Rattle.vdr_outside.specs.Disk.{Disk, Unchanged}
 use Rattle.vdr_entry.specs.Queries.{asked}
 use Rattle.vdr_entry.specs.declared.query.Query.{Query as Asked}
-use Rattle.vdr_ring.specs.Sequence.{Placed}
+use Rattle.vdr_directory.specs.Sequence.{Placed}
 use Rattle.vdr_vault.specs.Vaults.{AreRings, IsReadable, VaultState, Stands}
 use Rattle.vdr_vault.specs.Walks.{CursorState, MayStep}
 use Rattle.vdr_vault.specs.Plays.{AreToCome, ReadsNoOther, ReadsOn, ring_for}

@@ -7,7 +7,7 @@ use Rattle.vdr_history.specs.Histories.{Event, Opening}
 use Rattle.vdr_playback.specs.Playback.{medium_of, selected}
 use Rattle.vdr_outside.specs.Disk.{Disk, Unchanged}
 use Rattle.vdr_outside.specs.Writes.{AppendsFront}
-use Rattle.vdr_ring.specs.Sequence.{Placed}
+use Rattle.vdr_directory.specs.Sequence.{Placed}
 use Rattle.vdr_vault.specs.Vaults.{AreRings, IsReadable, VaultState, Stands}
 use Rattle.vdr_vault.specs.Plays.{ReadsNoOther, ReadsOn}
 use Rattle.vdr_visit.specs.Prints.{text_of}

@@ -8,7 +8,7 @@ use Rattle.vdr_datagram.specs.Verdicts.LineReading.{Good, Tag, Sentence}
 use Rattle.vdr_values.specs.declared.formatter.Formatter.{Formatter}
 use Rattle.vdr_values.specs.declared.formatter.Formatter.TheVariants.{Hbt, Alr}
 use Rattle.vdr_values.specs.Readings.{Reading, reading}
-use Rattle.vdr_values.specs.Values.{Value, value_at, Number, Digits, Letter, Raw}
+use Rattle.vdr_values.specs.Values.{Value, value_at, digits_in, raw_in, Number, Digits, Letter}
 use Rattle.vdr_playback.specs.Sources.{Source}
 use Rattle.vdr_sources.specs.Tables.{named}
 
@@ -31,17 +31,9 @@ pub data Sign : Type 0 where
   Beats : (beat : Heartbeat) → Sign
   Alarms : (alarm : Alarm) (text : Option (List ℕ)) → Sign
 
-abbrev pub digits_in : Option Value → Option ℕ
-digits_in (Some (Digits n)) = Some n
-digits_in _ = None
-
 abbrev pub letter_in : Option Value → Option ℕ
 letter_in (Some (Letter letter)) = Some letter
 letter_in _ = None
-
-abbrev pub raw_in : Option Value → Option (List ℕ)
-raw_in (Some (Raw bytes)) = Some bytes
-raw_in _ = None
 
 -- An HBT sentence is a heartbeat where its interval is there and above 0.
 abbrev pub heartbeat_of : Source → (tick : ℕ) → (interval sequence : Option Value) → Option Sign

@@ -5,10 +5,11 @@ use std::alloc::Global;
 use std::process::Abort;
 use std::test::Fail;
 use vdr_config::{Config, fits, read_config};
+use vdr_directory::law_of_opening;
 use vdr_entry::Record;
 use vdr_memory::{MemoryMedia, RamMedia};
 use vdr_outside::{Fault, Media, PartRefused};
-use vdr_ring::{Ring, law_of_opening};
+use vdr_ring::Ring;
 use vdr_segment::{OPEN_GATE, write_batch};
 use vdr_slots::{Area, append_batch, begin_segment};
 

@@ -5,27 +5,21 @@ use Rattle.vdr_live.proofs.Lives.{record_life, record_lives}
 use Rattle.vdr_live.proofs.command.run.Goals as goal
 
 pub returns-in_default-answer_record-clause-lives : goal.returns-in_default-answer_record-clause-lives
-returns-in_default-answer_record-clause-lives g c told synced ours =
+returns-in_default-answer_record-clause-lives g c =
     let old : MediaSeen g.M.Media.tells g.M.Media.tells_images = record { disk = g.M.Media.disk c.args.world.now.media; faults = g.M.Media.faults c.args.world.now.media; bytes_read = g.M.Media.bytes_read c.args.world.now.media } in
     let new : MediaSeen g.M.Media.tells g.M.Media.tells_images = record { disk = g.M.Media.disk c.answer_record.new.world.media; faults = g.M.Media.faults c.answer_record.new.world.media; bytes_read = g.M.Media.bytes_read c.answer_record.new.world.media } in
-    record_lives c.in-Some.turns (seen_ports g.P.Port c.args.lanes.now) (seen_ports g.P.Port c.answer_record.new.lanes) (seen_links g.L.Link c.args.desks.now) (seen_links g.L.Link c.answer_record.new.desks) old new c.answer_record.ensures.owed.answer c.answer_record.ensures.owed.ends told ours
+    record {
+      ours = λ told synced ours. record_lives c.in-Some.turns (seen_ports g.P.Port c.args.lanes.now) (seen_ports g.P.Port c.answer_record.new.lanes) (seen_links g.L.Link c.args.desks.now) (seen_links g.L.Link c.answer_record.new.desks) old new c.answer_record.ensures.owed.answer c.answer_record.ensures.owed.ends told ours;
+      life = λ config text all image told nothing rest life. record_life c.in-Some.turns (seen_ports g.P.Port c.args.lanes.now) (seen_ports g.P.Port c.answer_record.new.lanes) (seen_links g.L.Link c.args.desks.now) (seen_links g.L.Link c.answer_record.new.desks) old new config text all image c.answer_record.ensures.owed.answer c.answer_record.ensures.owed.ends
+          ((g.M.Media.disk c.args.world.now.media).shown told).0 rest life;
+    }
 
 pub returns-clause-lives : goal.returns-clause-lives
-returns-clause-lives g c told synced ours =
+returns-clause-lives g c =
     let old : MediaSeen g.M.Media.tells g.M.Media.tells_images = record { disk = g.M.Media.disk c.args.world.now.media; faults = g.M.Media.faults c.args.world.now.media; bytes_read = g.M.Media.bytes_read c.args.world.now.media } in
     let new : MediaSeen g.M.Media.tells g.M.Media.tells_images = record { disk = g.M.Media.disk c.answer_record.new.world.media; faults = g.M.Media.faults c.answer_record.new.world.media; bytes_read = g.M.Media.bytes_read c.answer_record.new.world.media } in
-    record_lives c.in-Some.turns (seen_ports g.P.Port c.args.lanes.now) (seen_ports g.P.Port c.answer_record.new.lanes) (seen_links g.L.Link c.args.desks.now) (seen_links g.L.Link c.answer_record.new.desks) old new c.answer_record.ensures.owed.answer c.answer_record.ensures.owed.ends told ours
-
-pub returns-in_default-answer_record-clause-life : goal.returns-in_default-answer_record-clause-life
-returns-in_default-answer_record-clause-life g c config text all image told nothing rest life =
-    let old : MediaSeen g.M.Media.tells g.M.Media.tells_images = record { disk = g.M.Media.disk c.args.world.now.media; faults = g.M.Media.faults c.args.world.now.media; bytes_read = g.M.Media.bytes_read c.args.world.now.media } in
-    let new : MediaSeen g.M.Media.tells g.M.Media.tells_images = record { disk = g.M.Media.disk c.answer_record.new.world.media; faults = g.M.Media.faults c.answer_record.new.world.media; bytes_read = g.M.Media.bytes_read c.answer_record.new.world.media } in
-    record_life c.in-Some.turns (seen_ports g.P.Port c.args.lanes.now) (seen_ports g.P.Port c.answer_record.new.lanes) (seen_links g.L.Link c.args.desks.now) (seen_links g.L.Link c.answer_record.new.desks) old new config text all image c.answer_record.ensures.owed.answer c.answer_record.ensures.owed.ends
-    ((g.M.Media.disk c.args.world.now.media).shown told).0 rest life
-
-pub returns-clause-life : goal.returns-clause-life
-returns-clause-life g c config text all image told nothing rest life =
-    let old : MediaSeen g.M.Media.tells g.M.Media.tells_images = record { disk = g.M.Media.disk c.args.world.now.media; faults = g.M.Media.faults c.args.world.now.media; bytes_read = g.M.Media.bytes_read c.args.world.now.media } in
-    let new : MediaSeen g.M.Media.tells g.M.Media.tells_images = record { disk = g.M.Media.disk c.answer_record.new.world.media; faults = g.M.Media.faults c.answer_record.new.world.media; bytes_read = g.M.Media.bytes_read c.answer_record.new.world.media } in
-    record_life c.in-Some.turns (seen_ports g.P.Port c.args.lanes.now) (seen_ports g.P.Port c.answer_record.new.lanes) (seen_links g.L.Link c.args.desks.now) (seen_links g.L.Link c.answer_record.new.desks) old new config text all image c.answer_record.ensures.owed.answer c.answer_record.ensures.owed.ends
-    ((g.M.Media.disk c.args.world.now.media).shown told).0 rest life
+    record {
+      ours = λ told synced ours. record_lives c.in-Some.turns (seen_ports g.P.Port c.args.lanes.now) (seen_ports g.P.Port c.answer_record.new.lanes) (seen_links g.L.Link c.args.desks.now) (seen_links g.L.Link c.answer_record.new.desks) old new c.answer_record.ensures.owed.answer c.answer_record.ensures.owed.ends told ours;
+      life = λ config text all image told nothing rest life. record_life c.in-Some.turns (seen_ports g.P.Port c.args.lanes.now) (seen_ports g.P.Port c.answer_record.new.lanes) (seen_links g.L.Link c.args.desks.now) (seen_links g.L.Link c.answer_record.new.desks) old new config text all image c.answer_record.ensures.owed.answer c.answer_record.ensures.owed.ends
+          ((g.M.Media.disk c.args.world.now.media).shown told).0 rest life;
+    }

@@ -57,7 +57,7 @@ returns-then-not-follows-clause-damaged g c m offset e told first second on_caps
     let ends = c.in_ok-last.ensures.batch.batch told first on_capsule in
     let long_term_reads = reads_still _ _ _ _ c.read_last_batch.ensures.keeps.unchanged on_long_term in
     let other_ends = c.in_ok-other.ensures.batch.batch told second long_term_reads in
-    let tells = (c.read_last_batch-2.ensures.keeps.reads second long_term_reads).table in
+    let tells = (c.read_last_batch-2.ensures.keeps.reads second long_term_reads).directory in
     let at = named _ _ _ _ _ refl e in
     let elsewhere = comes_as _ _ _ _ c.deref-3.ensures.value (c.follows.ensures second tells) ∙ c.if-not-follows.true in
     (at.0, at.1, off reading first second first_is second_is _ _ ends other_ends (not_same _ _ _ _ _ c.same_records.ensures c.if-same_records.false c.deref.ensures.value c.deref-2.ensures.value) elsewhere)
@@ -67,7 +67,7 @@ returns-clause-missing g c told first second on_capsule on_long_term reading fir
     let ends = c.in_ok-last.ensures.batch.batch told first on_capsule in
     let long_term_reads = reads_still _ _ _ _ c.read_last_batch.ensures.keeps.unchanged on_long_term in
     let other_ends = c.in_ok-other.ensures.batch.batch told second long_term_reads in
-    let tells = (c.read_last_batch-2.ensures.keeps.reads second long_term_reads).table in
+    let tells = (c.read_last_batch-2.ensures.keeps.reads second long_term_reads).directory in
     meet_passed reading first second first_is second_is _ _ ends other_ends (comes_as _ _ _ _ c.deref-3.ensures.value (c.follows.ensures second tells) ∙ c.if-not-follows.false)
 
 pub returns-clause-reads_capsule : goal.returns-clause-reads_capsule

@@ -8,7 +8,6 @@ use Rattle.vdr_entry.specs.Lines.{spaced}
 use Rattle.vdr_outside.proofs.Known.{front-more}
 use Rattle.vdr_play.proofs.Fronts.{front-first}
 use Rattle.vdr_play.proofs.WordLemmas.{datagram_front, datagram-words}
-use Rattle.vdr_play.proofs.line.print_datagram.Goals.{After-print_words}
 use Rattle.vdr_play.proofs.line.print_datagram.Goals as goal
 
 pub returns-in_err-print_words-clause-front : goal.returns-in_err-print_words-clause-front

@@ -1,10 +1,10 @@
-use Rattle.std.proofs.Common.{◌≡◌, ◌∙◌, inl, inr, Ok, Err, refl, ap, sym}
+use Rattle.std.proofs.Common.{◌≡◌, ◌∙◌, inr, Err, refl, ap}
 use Rattle.std.proofs.lemmas.Result.{err_from_is_err_and}
 use Rattle.vdr_entry.specs.Queries.{asked}
 use Rattle.vdr_opening.specs.declared.refused.OpenRefused.{OpenRefused}
 use Rattle.vdr_export.proofs.Refusing.{looked_nothing}
 use Rattle.vdr_command.specs.Opened.{AreLooks}
-use Rattle.vdr_command.specs.Outside.{Outside, MediaSeen}
+use Rattle.vdr_command.specs.Outside.{Outside}
 use Rattle.vdr_command.proofs.OpenedLemmas.{missing_looked, no_looks, refused_ends}
 use Rattle.vdr_config.specs.Configuration.{Configuration}
 use Rattle.vdr_readout.specs.Exports.{kind_at, wished}

@@ -17,13 +17,13 @@ pub returns-in-Ok-clause-media : goal.returns-in-Ok-clause-media
 returns-in-Ok-clause-media g c =
     let told = c.open.ensures in
     listed_ends _ _ c.open.result c.in_ok-recorder.recorder c.in_ok-recorder.was c.in_ok-recorder.recorder.vault c.in_ok-recorder.ensures.opened.contents
-    (λ x t holds sound. let w = (c.in_ok-recorder.ensures.opened.opened x t holds sound).3.works c.in_ok-recorder.ensures.opened.works in (w.placed, w.stands)) told.writes.others told.moments Done tt
+    (λ x t holds sound. let w = (c.in_ok-recorder.ensures.opened.opened x t holds sound).3.works c.in_ok-recorder.ensures.opened.works in (w.standing.placed, w.standing.stands)) told.writes.others told.moments Done tt
 
 pub returns-clause-media : goal.returns-clause-media
 returns-clause-media g c =
     let told = c.open.ensures in
     listed_ends _ _ c.open.result c.in_ok-recorder.recorder c.in_ok-recorder.was c.in_ok-recorder.recorder.vault c.in_ok-recorder.ensures.opened.contents
-    (λ x t holds sound. let w = (c.in_ok-recorder.ensures.opened.opened x t holds sound).3.works c.in_ok-recorder.ensures.opened.works in (w.placed, w.stands)) told.writes.others told.moments OutputFault tt
+    (λ x t holds sound. let w = (c.in_ok-recorder.ensures.opened.opened x t holds sound).3.works c.in_ok-recorder.ensures.opened.works in (w.standing.placed, w.standing.stands)) told.writes.others told.moments OutputFault tt
 
 pub returns-in_err-recorder-clause-missing : goal.returns-in_err-recorder-clause-missing
 returns-in_err-recorder-clause-missing g c = c.open.ensures.missing

@@ -1,15 +1,10 @@
-use Rattle.std.proofs.Common.{◌≡◌, ◌<◌, ℕ, List, length, Bool, true, false, Option, Result, Err, refl, ap, arith}
+use Rattle.std.proofs.Common.{◌≡◌, ◌<◌, ℕ, length, Bool, Result, Err, refl, ap, arith}
 use Rattle.vdr_config.specs.Configuration.{Configuration}
-use Rattle.vdr_feed.specs.Reader.{GivesItem, Reading}
 use Rattle.vdr_feed.specs.declared.fault.FeedFault.{FeedFault}
-use Rattle.vdr_feed.specs.declared.item.Item.{Item as Held}
+use Rattle.vdr_run.proofs.Given.{gave_true}
 use Rattle.vdr_replay.proofs.Given.{none_there}
 use Rattle.vdr_replay.proofs.Reading.{ends_failed, ends_strange}
 use Rattle.vdr_replay.proofs.feeding.read_next.Goals as goal
-
-gave_true : (before now : Option (List ℕ)) (r r' : Reading) (held : Held) (b : Bool) → b ≡ true → GivesItem before now r r' held b → GivesItem before now r r' held true
-gave_true before now r r' held true is p = p
-gave_true before now r r' held false is p = let none : ⊥ = cc in absurd none
 
 pub returns-then-is_none-clause-ended : goal.returns-then-is_none-clause-ended
 returns-then-is_none-clause-ended g c = λ first feed h.

@@ -85,7 +85,7 @@ returns-clause-recorded g c =
           let ab = takes_join opening events t0 _ _ _ (g.M.Media.disk c.take_all.new.media) _ t.feed _ a t.feed [] b in
           let done = c.stop.ensures.stopped opening (events ++ ab.more) t0 told c.in_ok-record.ensures.works ab.taken.has in
           let left = state_left opening (events ++ ab.more) in
-          let counted = c.stop.ensures.counted left.start left.popped ((ab.taken.has.works c.in_ok-record.ensures.works).makes c.record.ensures.open).counts in
+          let counted = c.stop.ensures.counted left.start left.popped ((ab.taken.has.works c.in_ok-record.ensures.works).makes c.record.ensures.open).makes.counts in
           takes_close opening events t0 _ _ _ (g.M.Media.disk c.record.new.media) _ t.feed [] ab t.feed
           (closed_now opening (events ++ ab.more) t0 c.record.new.recorder c.stop.new.self _ _ t.feed (rest_of c.rest.result) ab.taken same done counted);
     }

@@ -5,7 +5,8 @@ use Rattle.vdr_history.specs.Runs.{RunStart}
 use Rattle.vdr_core.specs.Replay.{taken_of}
 use Rattle.vdr_run.specs.Making.{CountsItems}
 use Rattle.vdr_run.specs.Given.{CountsFeed}
-use Rattle.vdr_replay.specs.Summary.{sums_if, sums_of}
+use Rattle.vdr_capture.specs.Sums.{sums_of}
+use Rattle.vdr_replay.specs.Summary.{sums_if}
 use Rattle.vdr_replay.proofs.sums.sums.Given as goal
 
 abbrev pub invariant-loop-group : goal.invariant-loop-group

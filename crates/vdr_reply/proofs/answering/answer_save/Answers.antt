@@ -12,5 +12,5 @@ returns-clause-answered g c = λ opening events t0 told h.
     (λ refused some. e.event.looked opening events t0 refused (inr some) h)
     (λ refused some. let same = e.refuses.refused refused works some in (same.0, same.1))
     (λ refused is which. (e.refuses.reason refused is which).1)
-    (λ m offset. e.damage.undamaged opening events (h.works works).placed m offset told (h.works works).stands)
+    (λ m offset. e.damage.undamaged opening events (h.works works).standing.placed m offset told (h.works works).standing.stands)
     e.failing.fails e.failing.works

@@ -1,4 +1,4 @@
-use Rattle.std.proofs.Common.{◌≡◌, ◌∙◌, ap, ℕ}
+use Rattle.std.proofs.Common.{◌≡◌, ◌∙◌, ℕ}
 use Rattle.vdr_reply.specs.Texts.{state_line}
 use Rattle.vdr_reply.proofs.Answered.{status_answer}
 use Rattle.vdr_reply.proofs.answering.answer_status.Goals as goal

@@ -1,6 +1,5 @@
-use Rattle.std.proofs.Common.{◌≡◌, ◌⊎◌, inl, inr, ◌++◌, ◌↔◌, ℕ, Bool, true, false, true≢false, List, Option, Some, Result, Ok, Err, length, refl, sym, ap, ◌∙◌, subst}
+use Rattle.std.proofs.Common.{◌≡◌, ◌⊎◌, ◌++◌, ◌↔◌, ℕ, Bool, true, false, true≢false, List, Some, Result, Ok, Err, length, refl, sym, ap, ◌∙◌, subst}
 use Rattle.std.specs.Prelude.{OnOk, sum, ⊤, if◌then◌else◌, ◌==◌}
-use Rattle.std.proofs.lemmas.Bool.{cases_Bool, cond-false, cond-true}
 use Rattle.std.specs.Io.KnownBytes.{Appends}
 use Rattle.vdr_terms.specs.Queries.{Query}
 use Rattle.vdr_outside.specs.Causes.{Rose}
@@ -11,11 +10,10 @@ use Rattle.vdr_visit.specs.Refusals.{lacks_channel, lacks_incident}
 use Rattle.vdr_visit.specs.declared.refused.VisitRefused.{VisitRefused}
 use Rattle.vdr_visit.specs.declared.refused.VisitRefused.TheVariants as plays
 use Rattle.vdr_recorder.proofs.Printing.{played_all, played_undamaged}
-use Rattle.vdr_ring.specs.Rings.{RingState}
-use Rattle.vdr_vault.specs.Plays.{ReadsOn, with_ring}
+use Rattle.vdr_recorder.proofs.Answering.{in_this_call}
+use Rattle.vdr_vault.specs.Plays.{ReadsOn}
 use Rattle.vdr_vault.specs.Vaults.{VaultState}
 use Rattle.vdr_vault.proofs.Playing.{stands_to_read}
-use Rattle.vdr_reply.specs.Orders.{query_of}
 use Rattle.vdr_reply.specs.Texts.{done_line}
 use Rattle.vdr_reply.proofs.Played.{no_memory_answer, played_answer, unnamed_answer}
 use Rattle.vdr_reply.proofs.playing.answer_play.Goals as goal
@@ -32,10 +30,6 @@ reads_failed m old new is = ap (λ (x : VaultState). x.failed) is ∙ failed_by 
 page_after : {R : Type 0} (res : Result ⊤ (VisitRefused R)) (begun page text : List ℕ) → OnOk res (Appends (Some begun) (Some page) text) → begun ≡ done_line → OnOk res (page ≡ done_line ++ text)
 page_after (Ok x) begun page text more is = more ∙ ap (λ (l : List ℕ). l ++ text) is
 page_after (Err x) begun page text more is = tt
-
-in_this_call : (failed : Bool) (rose : Type 0) → failed ≡ false → (failed ≡ true) ⊎ rose → rose
-in_this_call failed rose works (inl fails) = absurd (true≢false (sym fails ∙ works))
-in_this_call failed rose works (inr is) = is
 
 pub returns-in_default-clause-answered : goal.returns-in_default-clause-answered
 returns-in_default-clause-answered g c = λ opening events t0 told h.
@@ -54,7 +48,7 @@ returns-clause-answered g c = λ opening events t0 told h.
     let channels = c.args.recorder.now.vault.config.channels in
     let found = c.in-Some.ensures.found in
     let is = found.0 in
-    let readable = stands_to_read opening events c.args.recorder.now.vault (h.works works).placed (g.M.Media.disk c.args.media.now) (h.works works).stands in
+    let readable = stands_to_read opening events c.args.recorder.now.vault (h.works works).standing.placed (g.M.Media.disk c.args.media.now) (h.works works).standing.stands in
     played_answer opening events t0 c.args.recorder.now (g.M.Media.disk c.args.media.now) h (Rose (sum (g.M.Media.faults c.args.media.now)) (sum (g.M.Media.faults c.play-played.new.media))) c.of_played.result works c.args.wanted.medium c.args.wanted.name.now c.args.wanted.from c.args.wanted.to
     c.play-played.new.self (g.M.Media.disk c.play-played.new.media) c.play-played.result c.play-played.new.out.bytes.items c.of_played.ensures
     (e.looked.done opening events t0 h)
@@ -63,6 +57,6 @@ returns-clause-answered g c = λ opening events t0 told h.
     (λ refused. ap (λ (q : Query). lacks_channel (length channels) q.channel) (sym is) ∙ e.accepted.channel.0 refused)
     (subst (λ (q : Query). (c.play-played.result ≡ Err plays.NoIncident) ↔ ((lacks_channel (length channels) q.channel ≡ false) × (lacks_incident c.args.recorder.now.vault.table q.medium ≡ true))) is e.accepted.incident)
     (subst (λ (q : Query). OnOk c.play-played.result (c.play-played.new.out.bytes.items ≡ done_line ++ records_text nothing_seen (selected opening events q))) is
-    (page_after c.play-played.result c.in-Ok.page.bytes.items c.play-played.new.out.bytes.items _ (played_all opening events (h.works works).placed told readable e.played) c.in-Ok.ensures.text))
-    (λ m offset. played_undamaged opening events (h.works works).placed told readable e.played m offset)
+    (page_after c.play-played.result c.in-Ok.page.bytes.items c.play-played.new.out.bytes.items _ (played_all opening events (h.works works).standing.placed told readable e.played) c.in-Ok.ensures.text))
+    (λ m offset. played_undamaged opening events (h.works works).standing.placed told readable e.played m offset)
     (λ fault. in_this_call c.args.recorder.now.vault.failed _ works (e.looked.cause.in_all fault))

@@ -7,6 +7,7 @@ use Rattle.vdr_play.specs.Texts.{records_text}
 use Rattle.vdr_feed.specs.Kept.{Holds}
 use Rattle.vdr_feed.specs.Reader.{Reading, GivesItem}
 use Rattle.vdr_feed.specs.declared.item.Item.{Item as Held}
+use Rattle.vdr_run.proofs.Given.{gave_true}
 use Rattle.vdr_review.specs.Review.{IfReviewed, limit_asked, reviewed, review_text}
 use Rattle.vdr_review.specs.Walks.{Tells}
 use Rattle.vdr_review.specs.declared.walk.Walk.{Walk}
@@ -27,10 +28,6 @@ more limit first before now r r' held w w' p i add = (
   read_next first before now r r' held p.0 i.0 p.1 i.1 i.2,
   add limit p.0 i.0 p.2 i.1.holds,
 )
-
-gave_true : (before now : Option (List ℕ)) (r r' : Reading) (held : Held) (b : Bool) → b ≡ true → GivesItem before now r r' held b → GivesItem before now r r' held true
-gave_true before now r r' held true is p = p
-gave_true before now r r' held false is p = let none : ⊥ = cc in absurd none
 
 gave_false : (before now : Option (List ℕ)) (r r' : Reading) (held : Held) (b : Bool) → b ≡ false → GivesItem before now r r' held b → GivesItem before now r r' held false
 gave_false before now r r' held false is p = p

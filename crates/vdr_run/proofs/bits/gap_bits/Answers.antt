@@ -1,6 +1,7 @@
 use Rattle.std.proofs.Common.{◌==◌, length, ap, arith}
 use Rattle.vdr_config.specs.Configuration.{Configuration}
-use Rattle.vdr_run.proofs.BitLemmas.{bits_room, byte_le}
+use Rattle.vdr_datagram.proofs.BitLemmas.{byte_le}
+use Rattle.vdr_run.proofs.BitLemmas.{bits_room}
 use Rattle.vdr_run.proofs.bits.gap_bits.Goals as goal
 
 pub overflow_mul-bits : goal.overflow_mul-bits

@@ -1,4 +1,4 @@
-use Rattle.std.proofs.Common.{rules, ◌≡◌, ℕ, true, false, true≢false, List, length, Option, Some, None, IfSome, ⊎_elim, refl, sym, ap, subst}
+use Rattle.std.proofs.Common.{rules, ◌≡◌, ℕ, true, false, true≢false, List, length, Some, None, ⊎_elim, refl, sym, ap, subst}
 use Rattle.std.proofs.lemmas.Bool.{cases_Bool}
 use Rattle.vdr_terms.specs.Rates.{is_configured}
 use Rattle.vdr_config.specs.Sizes.{limits_in}
@@ -16,9 +16,7 @@ use Rattle.vdr_session.specs.Ended.{HasEnded}
 use Rattle.vdr_session.proofs.Ends.{done_ends, fault_ends, not_begun_ends, stop_numbers, stop_place, stop_quiet}
 use Rattle.vdr_session.proofs.ending.run_lent.Goals as goal
 use Rattle.vdr_session.proofs.ending.run_lent.Goals.{in-Ok, in-Err}
-
-if_some : {T : Type 0} (P : T → Type 0) (o : Option T) (x : T) → o ≡ Some x → IfSome o P → P x
-if_some {T} P o x is h = subst (λ (o : Option T). IfSome o P) is h
+use Rattle.vdr_session.proofs.Popped.{if_some}
 
 abbrev beside_of : {L : Type 0} (tells : LinkTells L) (answers : List Mark → Mark → PlainOrder → List ℕ → Type 0) (turns : ℕ) (old new : List (Desk L Mark))
     → Began → List Mark → Type 0

@@ -1,4 +1,4 @@
-use Rattle.std.proofs.Common.{rules, ◌≡◌, ◌-◌, ℕ, false, List, [], get_or, is_some, Option, Some, None, IfSome, refl, sym, ap, ◌∙◌, subst}
+use Rattle.std.proofs.Common.{rules, ◌≡◌, ◌-◌, ℕ, false, List, [], get_or, is_some, Option, None, refl, sym, ap, ◌∙◌, subst}
 use Rattle.vdr_terms.specs.Rates.{is_configured}
 use Rattle.vdr_config.specs.Configuration.{Configuration, IsConfiguration}
 use Rattle.vdr_config.specs.Sizes.{limits_in}
@@ -22,9 +22,7 @@ use Rattle.vdr_session.proofs.Served.{ready_as}
 use Rattle.vdr_session.specs.Summing.{paired}
 use Rattle.vdr_session.proofs.Sessions.{groups_of, no_memory_session, ports_memory, queues_some, session_of}
 use Rattle.vdr_session.proofs.recording.record_and_reply.Goals as goal
-
-if_some : {T : Type 0} (P : T → Type 0) (o : Option T) (x : T) → o ≡ Some x → IfSome o P → P x
-if_some {T} P o x is h = subst (λ (o : Option T). IfSome o P) is h
+use Rattle.vdr_session.proofs.Popped.{if_some}
 
 pub run_lent-media-requires-clause-ready : goal.run_lent-media-requires-clause-ready
 run_lent-media-requires-clause-ready g c κs within k d small =

@@ -1,14 +1,9 @@
-use Rattle.std.proofs.Common.{◌≡◌, List, [], ◌∷◌, ◌++◌, Some, refl, ap, ◌∙◌, arith, length, length-append}
-use Rattle.vdr_history.specs.Taken.{Captured}
+use Rattle.std.proofs.Common.{◌≡◌, [], ◌∷◌, ◌++◌, ap, ◌∙◌, arith, length, length-append}
 use Rattle.vdr_terms.specs.Records.{last}
 use Rattle.vdr_intake.specs.Items.{number_after}
+use Rattle.vdr_intake.proofs.Runs.{last_more}
 use Rattle.vdr_threads_tests.proofs.intakes.feed.Goals as goal
 use Rattle.vdr_threads_tests.proofs.intakes.feed.Goals.{in-Ok, in-Err}
-
-last_more : (items : List Captured) (c : Captured) → last (items ++ c ∷ []) ≡ Some c
-last_more [] c = refl
-last_more (x ∷ []) c = refl
-last_more (x ∷ y ∷ xs) c = last_more (y ∷ xs) c
 
 pub loop-number-preserved : goal.loop-number-preserved
 loop-number-preserved g c =

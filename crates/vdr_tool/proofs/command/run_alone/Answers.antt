@@ -6,29 +6,32 @@ use Rattle.vdr_tool.proofs.LifeGoesOn.{life_of, life_still}
 use Rattle.vdr_tool.proofs.Lives.{lives_of, ours_still}
 use Rattle.vdr_tool.proofs.command.run_alone.Goals as goal
 
+pub returns-in_default-clause-lives : goal.returns-in_default-clause-lives
+returns-in_default-clause-lives g c = record {
+  ours = λ told synced ours. ours_still (g.M.Media.disk c.args.world.now.media) ours;
+  life = λ config text all image told nothing rest life. life_still config text all image (g.M.Media.disk c.args.world.now.media) rest life;
+}
+
 pub returns-in_default-answer-clause-lives : goal.returns-in_default-answer-clause-lives
-returns-in_default-answer-clause-lives g c told synced ours = elim c.answer.ensures.untouched [
-  | inl uses ↦ lives_of (plain c.in-Some.command) _ _ _ c.answer.ensures.owed uses told (synced _ c.in-Some.ensures.only) ours
-  | inr same ↦ subst (λ m. StayOurs (g.M.Media.disk c.args.world.now.media) (g.M.Media.disk m)) (sym same) (ours_still (g.M.Media.disk c.args.world.now.media) ours)
-]
+returns-in_default-answer-clause-lives g c = record {
+  ours = λ told synced ours. elim c.answer.ensures.untouched [
+    | inl uses ↦ lives_of (plain c.in-Some.command) _ _ _ c.answer.ensures.owed uses told (synced _ c.in-Some.ensures.only) ours
+    | inr same ↦ subst (λ m. StayOurs (g.M.Media.disk c.args.world.now.media) (g.M.Media.disk m)) (sym same) (ours_still (g.M.Media.disk c.args.world.now.media) ours)
+  ];
+  life = λ config text all image told nothing rest life. elim c.answer.ensures.untouched [
+    | inl uses ↦ life_of config text all image (plain c.in-Some.command) _ _ _ c.answer.ensures.owed uses (nothing _ c.in-Some.ensures.only) ((g.M.Media.disk c.args.world.now.media).shown told).0 rest life
+    | inr same ↦ subst (λ m. LivesOn config text all (g.M.Media.disk c.args.world.now.media) (g.M.Media.disk m)) (sym same) (life_still config text all image (g.M.Media.disk c.args.world.now.media) rest life)
+  ];
+}
 
 pub returns-clause-lives : goal.returns-clause-lives
-returns-clause-lives g c told synced ours = elim c.answer.ensures.untouched [
-  | inl uses ↦ lives_of (plain c.in-Some.command) _ _ _ c.answer.ensures.owed uses told (synced _ c.in-Some.ensures.only) ours
-  | inr same ↦ subst (λ m. StayOurs (g.M.Media.disk c.args.world.now.media) (g.M.Media.disk m)) (sym same) (ours_still (g.M.Media.disk c.args.world.now.media) ours)
-]
-
-pub returns-in_default-clause-life : goal.returns-in_default-clause-life
-returns-in_default-clause-life g c config text all image told nothing rest life = life_still config text all image (g.M.Media.disk c.args.world.now.media) rest life
-
-pub returns-in_default-answer-clause-life : goal.returns-in_default-answer-clause-life
-returns-in_default-answer-clause-life g c config text all image told nothing rest life = elim c.answer.ensures.untouched [
-  | inl uses ↦ life_of config text all image (plain c.in-Some.command) _ _ _ c.answer.ensures.owed uses (nothing _ c.in-Some.ensures.only) ((g.M.Media.disk c.args.world.now.media).shown told).0 rest life
-  | inr same ↦ subst (λ m. LivesOn config text all (g.M.Media.disk c.args.world.now.media) (g.M.Media.disk m)) (sym same) (life_still config text all image (g.M.Media.disk c.args.world.now.media) rest life)
-]
-
-pub returns-clause-life : goal.returns-clause-life
-returns-clause-life g c config text all image told nothing rest life = elim c.answer.ensures.untouched [
-  | inl uses ↦ life_of config text all image (plain c.in-Some.command) _ _ _ c.answer.ensures.owed uses (nothing _ c.in-Some.ensures.only) ((g.M.Media.disk c.args.world.now.media).shown told).0 rest life
-  | inr same ↦ subst (λ m. LivesOn config text all (g.M.Media.disk c.args.world.now.media) (g.M.Media.disk m)) (sym same) (life_still config text all image (g.M.Media.disk c.args.world.now.media) rest life)
-]
+returns-clause-lives g c = record {
+  ours = λ told synced ours. elim c.answer.ensures.untouched [
+    | inl uses ↦ lives_of (plain c.in-Some.command) _ _ _ c.answer.ensures.owed uses told (synced _ c.in-Some.ensures.only) ours
+    | inr same ↦ subst (λ m. StayOurs (g.M.Media.disk c.args.world.now.media) (g.M.Media.disk m)) (sym same) (ours_still (g.M.Media.disk c.args.world.now.media) ours)
+  ];
+  life = λ config text all image told nothing rest life. elim c.answer.ensures.untouched [
+    | inl uses ↦ life_of config text all image (plain c.in-Some.command) _ _ _ c.answer.ensures.owed uses (nothing _ c.in-Some.ensures.only) ((g.M.Media.disk c.args.world.now.media).shown told).0 rest life
+    | inr same ↦ subst (λ m. LivesOn config text all (g.M.Media.disk c.args.world.now.media) (g.M.Media.disk m)) (sym same) (life_still config text all image (g.M.Media.disk c.args.world.now.media) rest life)
+  ];
+}

@@ -5,7 +5,8 @@ use Rattle.vdr_outside.proofs.Moments.{unchanged_join}
 use Rattle.vdr_opening.specs.Media.{opening_of}
 use Rattle.vdr_vault.specs.Vaults.{ShowsHistory}
 use Rattle.vdr_visit.proofs.Reading.{reads_keep_failed}
-use Rattle.vdr_tool.proofs.CountLemmas.{both_counted, first_stopped, open_fault, open_moments, open_own, open_stop, rose_in, second_stopped, then_reads}
+use Rattle.vdr_recorder.proofs.Answering.{in_this_call}
+use Rattle.vdr_tool.proofs.CountLemmas.{both_counted, first_stopped, open_fault, open_moments, open_own, open_stop, second_stopped, then_reads}
 use Rattle.vdr_tool.proofs.TrialLemmas.{rose_wider}
 use Rattle.vdr_tool.proofs.counting.count_windows.Goals as goal
 
@@ -52,7 +53,7 @@ returns-in_err-capsule-clause-fault g c =
     let first = c.open.ensures.writes.cause.later in
     let low = sum_not_less (g.M.Media.faults c.args.media.now) (g.M.Media.faults c.open.new.media) first.same_media first.none_falls in
     rw (p.1, p.2)
-    (λ is. rose_wider _ _ _ _ low (omega arith) (rose_in _ _ c.in_ok-recorder.ensures.opened.works (c.in_err-capsule.ensures.looked.cause.in_all is)))
+    (λ is. rose_wider _ _ _ _ low (omega arith) (in_this_call _ _ c.in_ok-recorder.ensures.opened.works (c.in_err-capsule.ensures.looked.cause.in_all is)))
 
 pub returns-in_err-long_term-clause-stops : goal.returns-in_err-long_term-clause-stops
 returns-in_err-long_term-clause-stops g c =
@@ -78,7 +79,7 @@ returns-in_err-long_term-clause-fault g c =
     let low = sum_not_less (g.M.Media.faults c.args.media.now) (g.M.Media.faults c.count_window.new.media) first.same_media first.none_falls in
     let works : c.count_window.new.recorder.vault.failed ≡ false = reads_keep_failed 0 c.in_ok-recorder.recorder.vault c.count_window.new.recorder.vault c.count_window.ensures.looked.read.vault ∙ c.in_ok-recorder.ensures.opened.works in
     rw (p.1, p.2)
-    (λ is. rose_wider _ _ _ _ low (omega arith) (rose_in _ _ works (c.in_err-long_term.ensures.looked.cause.in_all is)))
+    (λ is. rose_wider _ _ _ _ low (omega arith) (in_this_call _ _ works (c.in_err-long_term.ensures.looked.cause.in_all is)))
 
 pub returns-clause-counts : goal.returns-clause-counts
 returns-clause-counts g c = λ x told holds meet sound.

@@ -6,7 +6,8 @@ use Rattle.vdr_opening.proofs.Formatted.{empty_holds}
 use Rattle.vdr_command.specs.Outside.{MediaSeen}
 use Rattle.vdr_tool.specs.Trials.{bench, bench_text}
 use Rattle.vdr_tool.proofs.TrialEnds.{count_stops_as, counts_as, refused_as, run_stops_as, tally_is}
-use Rattle.vdr_tool.proofs.TrialLemmas.{bench_trial, empty_read, rose_wider, run_trial, same_joined}
+use Rattle.vdr_tool.proofs.TrialStatuses.{bench_trial, run_trial}
+use Rattle.vdr_tool.proofs.TrialLemmas.{empty_read, rose_wider, same_joined}
 use Rattle.vdr_tool.proofs.trying.try_media.Goals as goal
 
 pub returns-in_err-format_bench-clause-ends : goal.returns-in_err-format_bench-clause-ends

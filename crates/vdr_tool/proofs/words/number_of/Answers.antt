@@ -1,10 +1,10 @@
-use Rattle.std.proofs.Common.{arith, ◌≡◌, ◌≢◌, ◌<◌, ◌^◌, ◌∙◌, ℕ, List, Some, Result, Ok, Bool, true, false, decimal, sym, ap}
+use Rattle.std.proofs.Common.{arith, ◌≡◌, ◌≢◌, ◌<◌, ◌^◌, ◌∙◌, ℕ, List, Some, Result, Ok, true, false, decimal, sym, ap}
 use Rattle.std.proofs.lemmas.Fmt.{parse-decimal}
 use Rattle.std.specs.Str.Parse.{ParsesUnsigned}
-use Rattle.std.specs.Bool.{MatchBool}
 use Rattle.std.specs.Cmp.Lexicographic.{told_text}
 use Rattle.vdr_tool.proofs.words.number_of.Goals.{then-n-least-via-then-n-least, then-n-least-via-else-n-least+then-most-n}
 use Rattle.vdr_tool.proofs.words.number_of.Goals as goal
+use Rattle.vdr_tool.proofs.WordLemmas.{not_other}
 
 -- what is read of a number's own text
 read_back : {E : Type 0} (n m : ℕ) (word : List ℕ) (r : Result ℕ E) → n < 2 ^ 32 → word ≡ decimal n → ParsesUnsigned 32 10 word r → r ≡ Ok m → m ≡ n
@@ -25,10 +25,6 @@ returns-then-n-least-clause-found c = λ n low high spelled.
 pub returns-then-eq-clause-found : goal.returns-then-eq-clause-found
 returns-then-eq-clause-found c = λ n low high spelled.
     ap (λ (m : ℕ). Some m) (read_back n c.in-Ok.n c.args.word.now c.parse.result (omega (arith, high, c.ranges.most)) spelled c.parse.ensures.value.0 c.in-Ok.is)
-
-not_other : (xs ys : List ℕ) (r : Bool) → r ≡ false → MatchBool r (xs ≡ ys) (xs ≢ ys) → xs ≢ ys
-not_other xs ys true e told = let none : ⊥ = cc in absurd none
-not_other xs ys false e told = told
 
 pub returns-else-eq-clause-found : goal.returns-else-eq-clause-found
 returns-else-eq-clause-found c = λ n low high spelled.

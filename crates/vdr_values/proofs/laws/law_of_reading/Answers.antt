@@ -2,7 +2,7 @@ use Rattle.std.proofs.Common.{◌≡◌, ◌∙◌, ap, sym, ℕ, List, Option, 
 use Rattle.vdr_sentence.specs.Addresses.{address_of}
 use Rattle.vdr_sentence.specs.Fields.{fields}
 use Rattle.vdr_values.specs.declared.formatter.Formatter.{Formatter}
-use Rattle.vdr_values.specs.Readings.{Reading, read_along, read_as, reading, told, with_values}
+use Rattle.vdr_values.specs.Readings.{read_along, read_as, reading, told, with_values}
 use Rattle.vdr_values.specs.Table.{formatter_of, row}
 use Rattle.vdr_values.proofs.Along.{Values}
 use Rattle.vdr_values.proofs.ByNumber.{AreRead-from_ok, IsFirstBad-from_err, err-from_IsFirstBad, ok-from_AreRead}

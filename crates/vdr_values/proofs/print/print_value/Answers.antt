@@ -1,4 +1,4 @@
-use Rattle.std.proofs.Common.{◌≡◌, ◌∙◌, ap, arith, length, List, ℕ}
+use Rattle.std.proofs.Common.{◌≡◌, ◌∙◌, ap, arith, length, ℕ}
 use Rattle.vdr_values.specs.Readings.{told}
 use Rattle.vdr_values.specs.Table.{row}
 use Rattle.vdr_values.specs.Texts.{text_along}

@@ -1,4 +1,4 @@
-use Rattle.std.proofs.Common.{◌≡◌, ◌+◌, ◌∙◌, Option, Err, length, ◌∷◌, [], List, ℕ, sym, ap, subst, map, drop, option_map, arith}
+use Rattle.std.proofs.Common.{◌≡◌, ◌+◌, ◌∙◌, Option, Err, length, ◌∷◌, [], List, ℕ, sym, ap, map, drop, option_map, arith}
 use Rattle.std.proofs.lemmas.List.{take_rest, length-map, map_push}
 use Rattle.std.proofs.lemmas.Result.{err_from_is_err_and}
 use Rattle.vdr_sentence.specs.Fields.{fields}
@@ -6,7 +6,7 @@ use Rattle.vdr_values.specs.declared.value.Value.{Value}
 use Rattle.vdr_values.specs.declared.form.Form.TheVariants.{Number}
 use Rattle.vdr_values.specs.Readings.{fields_behind}
 use Rattle.vdr_values.specs.Views.{form_of, value_of, values_of}
-use Rattle.vdr_values.proofs.Along.{HasRead, HasRead-start, HasRead-missing, HasRead-refused, HasRead-more, HasRead-all, form-at, sound-at}
+use Rattle.vdr_values.proofs.Along.{HasRead-start, HasRead-missing, HasRead-refused, HasRead-more, HasRead-all, form-at, sound-at}
 use Rattle.vdr_values.proofs.Cuts.{fields-behind_address}
 use Rattle.vdr_values.proofs.read.read_fields.Goals as goal
 

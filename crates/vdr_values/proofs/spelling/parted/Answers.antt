@@ -1,4 +1,4 @@
-use Rattle.std.proofs.Common.{Some, None, ◌∙◌, ap, option_map}
+use Rattle.std.proofs.Common.{Some, None, ◌∙◌}
 use Rattle.vdr_values.proofs.Places.{parted-from_parts}
 use Rattle.vdr_values.proofs.spelling.parted.Goals as goal
 

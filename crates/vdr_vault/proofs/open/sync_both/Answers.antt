@@ -2,8 +2,6 @@ use Rattle.std.proofs.Common.{[], ◌∷◌}
 use Rattle.vdr_outside.proofs.Counts.{none_fell}
 use Rattle.vdr_media.proofs.Two.{first_of, second_of}
 use Rattle.vdr_vault.proofs.OpenCauses.{cause_of_call, cause_of_error}
-use Rattle.vdr_vault.proofs.ReconcileStands.{opened_stands}
-use Rattle.vdr_vault.proofs.ReconcileStages.{appending_shown}
 use Rattle.vdr_vault.proofs.open.sync_both.Goals as goal
 
 pub returns-in_err-sync-clause-cause : goal.returns-in_err-sync-clause-cause

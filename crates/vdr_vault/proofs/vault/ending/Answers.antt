@@ -1,5 +1,5 @@
 use Rattle.vdr_terms.specs.Records.{last}
-use Rattle.vdr_ring.specs.Sequence.{all_records}
+use Rattle.vdr_directory.specs.Sequence.{all_records}
 use Rattle.vdr_vault.proofs.vault.ending.Goals as goal
 use Rattle.vdr_vault.proofs.ShownPlaces.{next_is, next_is_low}
 

@@ -1,17 +1,13 @@
-use Rattle.std.proofs.Common.{◌≡◌, ◌≤◌, ◌<◌, ◌+◌, min, ℕ, ℤ, List, [], ◌∷◌, ◌++◌, length, map, take, drop, Result, Ok, Err, IsOk, OnOk, refl, sym, ◌∙◌, ap, subst, arith, rules, w64, to_z, of_z}
+use Rattle.std.proofs.Common.{◌≡◌, ◌≤◌, ◌<◌, ◌+◌, min, ℕ, ℤ, List, [], ◌∷◌, ◌++◌, length, map, take, drop, refl, sym, ◌∙◌, ap, subst, arith, rules, w64, to_z, of_z}
 use mir.Val.{SFits}
 use Rattle.std.proofs.lemmas.Int.{to_z-of_z}
 use Rattle.std.proofs.lemmas.List.{drop_more, length-take, map-append, take_min, take_more}
 use Rattle.vdr_terms.specs.Records.{Item}
 use Rattle.vdr_terms.specs.Stamps.{IsStamp}
+use Rattle.vdr_terms.proofs.Results.{of_ok}
 use Rattle.vdr_outside.specs.Takes.{cut}
 use Rattle.vdr_memory.specs.Ports.{DatagramsInMemory, NeverFalls}
 use Rattle.vdr_memory.proofs.datagrams.Datagrams.give.Goals as goal
-
--- What holds after Ok, of an answer that is Ok.
-of_ok : {T E P : Type 0} (r : Result T E) → IsOk r → OnOk r P → P
-of_ok (Ok x) is p = p
-of_ok (Err e) is p = let none : ⊥ = search rules in absurd none
 
 -- The bytes that are given.
 first_bytes : (bytes slice into before : List ℕ) (count : ℕ) → into ≡ before ++ take count slice → before ≡ [] → slice ≡ bytes → count ≡ min (length bytes) 1473 → into ≡ take 1473 bytes

@@ -1,13 +1,9 @@
-use Rattle.std.proofs.Common.{◌≡◌, ◌≤◌, ◌+◌, ◌-◌, ◌++◌, min, ℕ, List, take, length, Result, Ok, Err, IsOk, OnOk, sym, ◌∙◌, ap, arith, rules}
+use Rattle.std.proofs.Common.{◌≡◌, ◌≤◌, ◌+◌, ◌-◌, ◌++◌, min, ℕ, List, take, length, sym, ◌∙◌, ap, arith, rules}
 use Rattle.std.proofs.lemmas.List.{length-take, take_min}
 use Rattle.std.proofs.Math.Seq.{take-append-add}
+use Rattle.vdr_terms.proofs.Results.{of_ok}
 use Rattle.vdr_memory.specs.Links.{GatedLinkInMemory}
 use Rattle.vdr_memory.proofs.gated_link.GatedLinkLink.reply.Goals as goal
-
--- What holds after Ok, of an answer that is Ok.
-of_ok : {T E P : Type 0} (r : Result T E) → IsOk r → OnOk r P → P
-of_ok (Ok x) is p = p
-of_ok (Err e) is p = let none : ⊥ = search rules in absurd none
 
 -- As many bytes as there is room for are the first 64 of all.
 first_of_all : (old bytes new : List ℕ) (count : ℕ) → length old ≤ 64 → count ≡ min (length bytes) (64 - length old) → new ≡ old ++ take count bytes → new ≡ take 64 (old ++ bytes)

@@ -1,22 +1,9 @@
 use Rattle.std.proofs.Common.{◌≡◌, ◌≤◌, ◌<◌, ◌+◌, ◌-◌, ◌++◌, min, ℕ, List, [], arith, take, drop, length, sym, ap, ◌∙◌}
 use Rattle.std.proofs.lemmas.Grind.{common_steps}
-use Rattle.std.proofs.lemmas.List.{take-append-drop, take_at, take_rest, length-take-le, length-drop, length-take, length-append, drop-drop, drop_all}
+use Rattle.std.proofs.lemmas.List.{length-drop, length-take, length-append, drop_all}
+use Rattle.vdr_outside.proofs.Pieces.{count_is, gave_of}
 use Rattle.vdr_memory.specs.Sources.{SourceInMemory}
 use Rattle.vdr_memory.proofs.source.MemorySourceSource.read.Goals as goal
-
--- The bytes left are those given and those left behind them.
-gave : (s slice part rest : List ℕ) (given n : ℕ) → n ≤ length (drop given s) → slice ≡ s → part ≡ take n (take (length slice - given) (drop given slice))
-    → drop given s ≡ take n (part ++ rest) ++ drop (given + n) s
-gave s slice part rest given n within same is =
-    let part_is : part ≡ take n (drop given s) = is ∙ rw take_rest (ap (λ (l : List ℕ). take n (drop given l)) same) in
-    let long : length part ≡ n = ap (λ (l : List ℕ). length l) part_is ∙ length-take-le n (drop given s) within in
-    rw (take_at part rest n long, part_is, ← drop-drop n given s) (sym (take-append-drop n (drop given s)))
-
--- No more is given than is left.
-count_is : (s slice : List ℕ) (given first n : ℕ) → slice ≡ s → n ≡ min first (length (take (length slice - given) (drop given slice))) → n ≡ min first (length (drop given s))
-count_is s slice given first n same is =
-    is ∙ ap (λ (l : List ℕ). min first (length (take (length l - given) (drop given l)))) same
-    ∙ ap (λ (k : ℕ). min first k) (grind (arith, common_steps, length-take, length-drop))
 
 -- It gives nothing only where nothing is left, since a piece has a byte.
 gave_none : (s slice into rest part : List ℕ) (given piece first n : ℕ) → 0 < piece → slice ≡ s → first ≡ min (length into) piece → n ≡ min first (length (take (length slice - given) (drop given slice)))
@@ -31,6 +18,6 @@ returns-clause-bytes c =
     let count : c.min-count.result ≡ min c.min.result (length (drop c.self.inside.given c.self.inside.bytes.items)) =
     count_is c.self.inside.bytes.items c.deref-2.result.now c.self.inside.given c.min.result c.min-count.result c.deref-2.ensures.value c.min-count.ensures in
     let within : c.min-count.result ≤ length (drop c.self.inside.given c.self.inside.bytes.items) = omega (arith, count) in (
-      left ∙ gave c.self.inside.bytes.items c.deref-2.result.now c.copy_from_slice.new.self (drop c.min-count.result c.args.into.now) c.self.inside.given c.min-count.result within c.deref-2.ensures.value c.copy_from_slice.ensures.after,
+      left ∙ gave_of c.self.inside.bytes.items c.deref-2.result.now c.copy_from_slice.new.self (drop c.min-count.result c.args.into.now) c.self.inside.given c.min-count.result within c.deref-2.ensures.value c.copy_from_slice.ensures.after,
       gave_none c.self.inside.bytes.items c.deref-2.result.now c.args.into.now (drop c.min-count.result c.args.into.now) c.copy_from_slice.new.self c.self.inside.given c.self.inside.piece c.min.result c.min-count.result c.self.invariant.1 c.deref-2.ensures.value c.min.ensures c.min-count.ensures c.copy_from_slice.ensures.len,
     )

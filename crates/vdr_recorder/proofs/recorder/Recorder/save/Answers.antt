@@ -6,7 +6,7 @@ use Rattle.vdr_recorder.proofs.recorder.Recorder.save.Goals as goal
 pub returns-clause-event : goal.returns-clause-event
 returns-clause-event g c = record {
   saved = rw (sym c.self.view_is) (λ opening events t0 told works free sound h.
-      let v = h.works works in
+      let v = (h.works works).standing in
       let s = c.save.ensures.saves opening events v.placed told v.stands free in (
         s.id,
         s.a,

@@ -2,7 +2,7 @@ use Rattle.std.proofs.Common.{◌∙◌, sym, refl, ap, subst, arith, true≢fal
 use Rattle.std.proofs.lemmas.Result.{err_from_is_err_and}
 use Rattle.vdr_history.specs.Runs.{RunStart}
 use Rattle.vdr_config.specs.Configuration.{Configuration}
-use Rattle.vdr_run.specs.Making.{Makes}
+use Rattle.vdr_recorder.specs.Making.{MakesBy}
 use Rattle.vdr_recorder.specs.Recordings.{RecorderState}
 use Rattle.vdr_recorder.specs.declared.run.StartRefused.{StartRefused}
 use Rattle.vdr_recorder.proofs.Running.{kept_of}
@@ -69,5 +69,5 @@ returns-clause-started g c = rw (sym c.self.view_is) (λ opening events t0 told 
     (λ done. c.commit.ensures.event opening events t0 [] told (kept_of opening events t0 _ _ h) (omega (arith, c.self.invariant.legal.batch_low)) done) in
     start_done opening events t0 _ _ h works _ _ k (λ goes. (
       refl,
-      subst (λ (x : Configuration × RunStart). Makes x.0 x.1 [] c.start_run.new.maker) (λ i. ((c.config.ensures ∙ sym c.commit.ensures.config) i, begins i)) c.start_run.ensures.makes,
+      subst (λ (x : Configuration × RunStart). MakesBy x.0 x.1 [] c.start_run.new.maker) (λ i. ((c.config.ensures ∙ sym c.commit.ensures.config) i, begins i)) c.start_run.ensures.makes,
     )))

@@ -15,14 +15,14 @@ pub commit-requires-clause-short : goal.commit-requires-clause-short
 commit-requires-clause-short g c =
     let opened = ap (λ (s : RecorderState). s.is_open) c.self.view_is ∙ c.requires.open in
     let m = c.self.invariant.makes opened in
-    let makes = subst (λ (config : Configuration). Makes config m.0 m.1 c.self.inside.maker) (sym c.config.ensures) m.2 in
+    let makes = subst (λ (config : Configuration). Makes config m.0 m.1 c.self.inside.maker) (sym c.config.ensures) m.2.makes in
     close_is_short c.self.inside.vault.config c.args.rest.now c.records.result.now m.0 m.1 c.self.invariant.legal.batch_low (c.records.ensures ∙ c.close.ensures.records m.0 m.1 makes)
 
 pub returns-clause-stopped : goal.returns-clause-stopped
 returns-clause-stopped g c = rw (sym c.self.view_is) (λ opening events t0 told works h.
     let opened = ap (λ (s : RecorderState). s.is_open) c.self.view_is ∙ c.requires.open in
     let makes = subst (λ (config : Configuration). Makes config (state_left opening events).start (state_left opening events).popped c.self.inside.maker) (sym c.config.ensures)
-    (makes_now opening events t0 _ _ h works opened) in
+    (makes_now opening events t0 _ _ h works opened).makes in
     let are = closing_is (state_left opening events).start (state_left opening events).popped c.args.rest.now c.records.result.now c.close.new.self.records.items c.records.ensures
     (c.close.ensures.records (state_left opening events).start (state_left opening events).popped makes) in
     let done = close_goes_on opening events t0 _ _ h works opened (rest_of c.args.rest.now)

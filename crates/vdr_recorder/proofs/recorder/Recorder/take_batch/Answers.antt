@@ -7,6 +7,7 @@ use Rattle.vdr_config.specs.Configuration.{Configuration}
 use Rattle.vdr_config.specs.Sizes.{limits_in}
 use Rattle.vdr_pace.specs.Commits.{items_size}
 use Rattle.vdr_run.specs.Making.{Makes}
+use Rattle.vdr_recorder.specs.Making.{MakesBy}
 use Rattle.vdr_recorder.specs.Recordings.{RecorderState}
 use Rattle.vdr_recorder.proofs.Running.{batch_done, batch_goes_on, batch_is_short, kept_of, makes_now, none_made}
 use Rattle.vdr_recorder.proofs.recorder.Recorder.take_batch.Goals as goal
@@ -15,7 +16,7 @@ pub commit-requires-clause-short : goal.commit-requires-clause-short
 commit-requires-clause-short g c =
     let opened = ap (λ (s : RecorderState). s.is_open) c.self.view_is ∙ c.requires.open in
     let m = c.self.invariant.makes opened in
-    let makes = subst (λ (config : Configuration). Makes config m.0 m.1 c.self.inside.maker) (sym c.config.ensures) m.2 in
+    let makes = subst (λ (config : Configuration). Makes config m.0 m.1 c.self.inside.maker) (sym c.config.ensures) m.2.makes in
     batch_is_short c.self.inside.vault.config.batch c.args.items.now c.records.result.now m.0 m.1
     (subst (λ (s : RecorderState). items_size c.args.items.now ≤ s.vault.config.batch) (sym c.self.view_is) c.requires.fits.short)
     (c.make.ensures.records m.0 m.1 makes ∙ ap (λ (rs : List Record). (recorder_after m.0 m.1).made ++ rs) (sym c.records.ensures))
@@ -23,9 +24,9 @@ commit-requires-clause-short g c =
 pub returns-clause-taken : goal.returns-clause-taken
 returns-clause-taken g c = rw (sym c.self.view_is) (λ opening events t0 told works h.
     let opened = ap (λ (s : RecorderState). s.is_open) c.self.view_is ∙ c.requires.open in
-    let makes = subst (λ (config : Configuration). Makes config (state_left opening events).start (state_left opening events).popped c.self.inside.maker) (sym c.config.ensures)
+    let makes = subst (λ (config : Configuration). MakesBy config (state_left opening events).start (state_left opening events).popped c.self.inside.maker) (sym c.config.ensures)
     (makes_now opening events t0 _ _ h works opened) in
-    let made = c.make.ensures.records (state_left opening events).start (state_left opening events).popped makes
+    let made = c.make.ensures.records (state_left opening events).start (state_left opening events).popped makes.makes
     ∙ ap (λ (rs : List Record). (recorder_in (state_left opening events)).made ++ rs) (sym c.records.ensures) in
     let done = batch_goes_on opening events t0 _ _ h works opened c.args.items.now c.records.result.now made
     (subst (λ (s : RecorderState). items_size c.args.items.now ≤ s.vault.config.batch) (sym c.self.view_is) c.requires.fits.short)
@@ -35,7 +36,7 @@ returns-clause-taken g c = rw (sym c.self.view_is) (λ opening events t0 told wo
       c.records.result.now,
       made,
       batch_done opening events t0 _ _ h works opened c.args.items.now _ _ c.records.result.now made k opened
-          (subst (λ (config : Configuration). Makes config (state_left opening events).start ((state_left opening events).popped ++ c.args.items.now) c.make.new.maker) (c.config.ensures ∙ sym c.commit.ensures.config)
+          (subst (λ (config : Configuration). MakesBy config (state_left opening events).start ((state_left opening events).popped ++ c.args.items.now) c.make.new.maker) (c.config.ensures ∙ sym c.commit.ensures.config)
           (c.make.ensures.makes (state_left opening events).start (state_left opening events).popped makes)),
     ))
 

@@ -17,7 +17,7 @@ returns c = has_taken c.args.item.now (c.args.number, c.args.missed) c.args.self
       bytes = c.as_slice.ensures.value i;
     } ∷ [])
     refl refl (λ start popped m. c.clear.ensures.makes c.args.self.now.config start popped m) c.clear.ensures.empty c.take.ensures.making
-    (let base = c.take.ensures.base in let later = c.take.ensures.later in let same = c.clear.ensures.same in omega (arith, base, later, same.0, same.1))
+    (let base = c.take.ensures.one.base in let later = c.take.ensures.one.later in let same = c.clear.ensures.same in omega (arith, base, later, same.0, same.1))
     c.drop_before.ensures.0
     (ap (λ (xs : List Record). c.args.self.now.window ++ kept_of xs) (sym c.records.ensures) ∙ (sym c.in_ok-keep.ensures ∙ c.drop_before.ensures.1))
     (subst (λ (n : ℕ). All (λ (r : Record). second r.tick + review_seconds ≤ second n) c.drop_before.ensures.0) c.tick.ensures.tick c.drop_before.ensures.2)

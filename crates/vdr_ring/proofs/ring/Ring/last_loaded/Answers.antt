@@ -1,5 +1,5 @@
 use Rattle.std.proofs.Common.{sym, arith, rules}
-use Rattle.vdr_ring.proofs.Surveying.{breaks_inside, place_small}
+use Rattle.vdr_directory.proofs.Surveying.{breaks_inside, place_small}
 use Rattle.vdr_ring.proofs.LastBatch.{batches_read, batch_fits}
 use Rattle.vdr_ring.proofs.ring.Ring.last_loaded.Goals as goal
 

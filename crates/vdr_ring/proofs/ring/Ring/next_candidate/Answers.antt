@@ -2,7 +2,7 @@ use Rattle.std.proofs.Common.{ℕ, List, length, Option, sym, ap, ◌∙◌, sub
 use Rattle.vdr_entry.specs.Queries.{asked}
 use Rattle.vdr_index.specs.declared.known.Known.{Known}
 use Rattle.vdr_index.specs.Indexes.{IsAbove, span_as}
-use Rattle.vdr_ring.specs.Indexed.{IsIndexed}
+use Rattle.vdr_directory.specs.Indexed.{IsIndexed}
 use Rattle.vdr_ring.proofs.Answering.{above_ring, found_next, none_meets, passed_none, passed_some, seq_kept, seq_read, never_none}
 use Rattle.vdr_ring.proofs.ring.Ring.next_candidate.Goals as goal
 
@@ -24,8 +24,7 @@ pub returns-clause-within : goal.returns-clause-within
 returns-clause-within c = rw (sym c.self.view_is)
     (let lt = c.in_ok-slot.ensures.within in
     let e = ap length c.index-index.ensures.index in
-    let s = c.index-index.ensures.size in
-    let i = c.self.invariant.0 in omega (arith, lt, e, s, i))
+    let i = c.self.invariant.0 in omega (arith, lt, e, i))
 
 pub returns-clause-above : goal.returns-clause-above
 returns-clause-above c =

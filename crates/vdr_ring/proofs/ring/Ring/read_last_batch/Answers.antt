@@ -3,7 +3,7 @@ use Rattle.std.proofs.lemmas.Result.{IfOk-weaker}
 use Rattle.vdr_terms.specs.Records.{Record, last}
 use Rattle.vdr_terms.specs.Sizes.{batch_size}
 use Rattle.vdr_segment.specs.Segments.{AreBatches}
-use Rattle.vdr_ring.specs.Sequence.{Placed, batches_in}
+use Rattle.vdr_directory.specs.Sequence.{Placed, batches_in}
 use Rattle.vdr_ring.specs.Rings.{Reads, RingState}
 use Rattle.vdr_ring.specs.Lasts.{batch_or_none}
 use Rattle.vdr_ring.proofs.Beginning.{legal_batches}
@@ -26,20 +26,20 @@ returns-clause-batch g c = record {
       (λ records. g.M.Media.tells → (placed : List Placed) → Reads c.args.self.now placed (g.M.Media.disk c.args.media.now) → batch_or_none records.items ≡ last (batches_in placed))
       (λ x h told placed reads.
       last_is c.args.self.now c.load.new.self placed _ _ reads c.load.ensures.ring c.load.ensures.unchanged c.load.ensures.bytes c.in-Some.slot told c.in-Ok.ensures.loaded
-      (c.in-Some.ensures.found placed reads.table (legal_batches _ _ placed _ (reads.settled.reads told))) x.items h)
+      (c.in-Some.ensures.found placed reads.directory reads.order (legal_batches _ _ placed _ (reads.settled.reads told))) x.items h)
       c.last_loaded.ensures.batch;
   fits = subst (λ (n : ℕ). IfOk c.last_loaded.result (λ records. records.items ≢ [] → 64 + batch_size records.items + 1 ≤ n)) (ap (λ (r : RingState). r.segment) c.load.ensures.ring) c.last_loaded.ensures.fits;
   undamaged = λ told placed reads m offset is.
       let d = c.last_loaded.ensures.damaged m offset is in
       none_breaks c.args.self.now c.load.new.self placed _ _ reads c.load.ensures.ring c.load.ensures.unchanged c.load.ensures.bytes c.in-Some.slot told c.in-Ok.ensures.loaded
-      (c.in-Some.ensures.found placed reads.table (legal_batches _ _ placed _ (reads.settled.reads told))) d.1 d.2;
+      (c.in-Some.ensures.found placed reads.directory reads.order (legal_batches _ _ placed _ (reads.settled.reads told))) d.1 d.2;
   medium = search rules;
   offset = search rules;
 }
 
 pub returns-in_default-clause-batch : goal.returns-in_default-clause-batch
 returns-in_default-clause-batch g c = record {
-  batch = λ told placed reads. ap batch_or_none c.new.ensures.items ∙ sym (c.in_default.ensures.found placed reads.table (legal_batches _ _ placed _ (reads.settled.reads told)));
+  batch = λ told placed reads. ap batch_or_none c.new.ensures.items ∙ sym (c.in_default.ensures.found placed reads.directory reads.order (legal_batches _ _ placed _ (reads.settled.reads told)));
   fits = search rules;
   undamaged = search rules;
   medium = search rules;

@@ -19,10 +19,10 @@ returns-then-admit-clause-making c start popped before t =
     let later : c.max-self.result ≡ max old.greatest x.received = c.max-self.ensures in
     let ticks : tick_with start r x ≡ c.tick-tick.result =
     sym (c.tick-tick.ensures.tick ∙ (λ i. t.makes.base i + (later ∙ ap (λ (n : ℕ). max n x.received) t.makes.greatest) i)) in
-    let utc = stamp_kept x.utc c.requires.stamp in
+    let utc = stamp_kept x.utc c.requires.fits.stamp in
     let metered = c.admit.ensures.measures start r x t.makes.metered refl ticks refl in
     let admitted : admits start r x ≡ true = sym (c.admit.ensures.decides start r x t.makes.metered refl ticks refl) ∙ c.if-admit.true in
-    recorded_making c.args.config.now start popped before old c.record.new.self x t c.requires.group c.requires.not_by_rate (c.law_of_sums.ensures.item start r x)
+    recorded_making c.args.config.now start popped before old c.record.new.self x t c.requires.fits.group c.requires.fits.not_by_rate (c.law_of_sums.ensures.item start r x)
     (subst (λ (m : Option Metering). IsMetered start.limits m (took start r x).made) (sym c.record.ensures.meter) metered)
     _ c.record.ensures (record { base = refl; greatest = later; utc = utc; place = refl; accounts = refl; records = refl }) admitted
 
@@ -34,12 +34,12 @@ returns-else-admit-clause-making c start popped before t =
     let later : c.max-self.result ≡ max old.greatest x.received = c.max-self.ensures in
     let ticks : tick_with start r x ≡ c.tick-tick.result =
     sym (c.tick-tick.ensures.tick ∙ (λ i. t.makes.base i + (later ∙ ap (λ (n : ℕ). max n x.received) t.makes.greatest) i)) in
-    let utc = stamp_kept x.utc c.requires.stamp in
+    let utc = stamp_kept x.utc c.requires.fits.stamp in
     let metered = c.admit.ensures.measures start r x t.makes.metered refl ticks refl in
-    let within : x.group < length old.accounts = omega (arith, c.requires.group) in
+    let within : x.group < length old.accounts = omega (arith, c.requires.fits.group) in
     let same : get_or old.accounts x.group c.index-self-item.result ≡ counted_of old x.group =
     get_or_default old.accounts x.group c.index-self-item.result nothing_counted within in
     let accounts = ap (slice_set old.accounts x.group) (c.refuse.ensures ∙ ap (with_refused x.missed) same) in
     let refused : admits start r x ≡ false = sym (c.admit.ensures.decides start r x t.makes.metered refl ticks refl) ∙ c.if-admit.false in
-    refused_making c.args.config.now start popped before old _ x t c.requires.group c.requires.not_by_rate (c.law_of_sums.ensures.item start r x) metered
+    refused_making c.args.config.now start popped before old _ x t c.requires.fits.group c.requires.fits.not_by_rate (c.law_of_sums.ensures.item start r x) metered
     (record { base = refl; greatest = later; utc = utc; place = refl; accounts = accounts; records = refl }) refused

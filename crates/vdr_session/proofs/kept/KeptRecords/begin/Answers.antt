@@ -2,10 +2,11 @@ use Rattle.std.proofs.Common.{◌≡◌, ◌⊎◌, inl, inr, ◌++◌, ◌<◌,
 use Rattle.std.proofs.lemmas.Bool.{cases_Bool}
 use Rattle.vdr_recorder.specs.declared.run.StartRefused.{StartRefused}
 use Rattle.vdr_recorder.specs.declared.run.StartRefused.TheVariants.{Place, Tick, Fault}
+use Rattle.vdr_recorder.specs.Refusals.{MayBegin}
 use Rattle.vdr_history.specs.Histories.{Opening}
 use Rattle.vdr_history.specs.Runs.{base_after}
 use Rattle.vdr_session.specs.Events.{is_started}
-use Rattle.vdr_session.specs.Standing.{Before, HasSession, IsKept, MayBegin, start_mark}
+use Rattle.vdr_session.specs.Standing.{Before, HasSession, IsKept, start_mark}
 use Rattle.vdr_session.specs.declared.records.Began.TheVariants as began
 use Rattle.vdr_session.specs.declared.records.Began.TheVariants.{Begun}
 use Rattle.vdr_session.specs.Marks.{has_fault}

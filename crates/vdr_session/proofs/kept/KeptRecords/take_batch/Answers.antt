@@ -7,11 +7,13 @@ use Rattle.vdr_history.specs.Taken.{Captured}
 use Rattle.vdr_config.specs.Sizes.{limits_in}
 use Rattle.std.specs.Prelude.{sum}
 use Rattle.vdr_outside.specs.Causes.{Rose}
+use Rattle.vdr_recorder.proofs.Batches.{numbers_append}
 use Rattle.vdr_session.proofs.LanesFed.{all_behind}
-use Rattle.vdr_session.proofs.Numbered.{items_few, numbers_append, numbers_small}
+use Rattle.vdr_session.proofs.Numbered.{items_few, numbers_small}
 use Rattle.vdr_session.specs.Standing.{IsKept, batch_mark}
 use Rattle.vdr_session.specs.declared.mark.Mark.{Mark}
-use Rattle.vdr_session.proofs.Steps.{batch_kept, batch_look_kept, mark_is, rose_of}
+use Rattle.vdr_session.proofs.MarkLemmas.{mark_is, rose_of}
+use Rattle.vdr_session.proofs.Steps.{batch_kept, batch_look_kept}
 use Rattle.vdr_session.proofs.kept.KeptRecords.take_batch.Goals as goal
 
 pub take_batch-requires-clause-fits : goal.take_batch-requires-clause-fits

@@ -2,7 +2,8 @@ use Rattle.std.proofs.Common.{◌≡◌, ◌≤◌, ◌-◌, ◌∙◌, List, �
 use Rattle.std.specs.List.{flat_map}
 use Rattle.vdr_feed.specs.Feed.{spelling}
 use Rattle.vdr_trial.specs.Generated.{items_from}
-use Rattle.vdr_trial.proofs.Left.{count_is, gave, gave_none}
+use Rattle.vdr_outside.proofs.Pieces.{count_is}
+use Rattle.vdr_trial.proofs.Left.{gave, gave_none}
 use Rattle.vdr_trial.proofs.generated.GeneratedFeedSource.read.Goals as goal
 
 pub returns-clause-bytes : goal.returns-clause-bytes

@@ -2,8 +2,8 @@ use Rattle.std.proofs.Common.{◌≡◌, ℕ, true, false, Option, Some, refl, s
 use Rattle.std.proofs.lemmas.Bool.{false≢true}
 use Rattle.vdr_entry.specs.Queries.{asked}
 use Rattle.vdr_index.specs.Indexes.{span_as}
-use Rattle.vdr_ring.specs.Sequence.{seq_of}
-use Rattle.vdr_ring.specs.Lookup.{IsAbove}
+use Rattle.vdr_directory.specs.Sequence.{seq_of}
+use Rattle.vdr_index.specs.Indexes.{IsAbove}
 use Rattle.vdr_vault.specs.declared.cursor.Standing.{Standing}
 use Rattle.vdr_vault.specs.contracts.cursor.Cursor.{the_view}
 use Rattle.vdr_vault.proofs.Entering.{entered_left, none_left}

@@ -26,7 +26,7 @@ returns-then-not-enter_next-clause-plays g c told placed records reads left =
     let later = c.step_in.ensures.read.reads placed (c.loop-self.invariant.read.reads placed reads) in
     let behind = is_behind c.loop-self.invariant c.step_in.new.self told placed records reads left c.in_ok-step_in.field-0 c.step_in.result c.in_ok-step_in.was c.if-not-branch.true
     c.step_in.ensures.steps in
-    let entered = c.enter_next.ensures.enters slots placed records later.table later.order behind in
+    let entered = c.enter_next.ensures.enters slots placed records later.directory later.order behind in
     let none : records ≡ [] = entered.1 c.if-not-enter_next.true in (
       none,
       c.enter_next.ensures.item,
@@ -43,7 +43,7 @@ loop-self-preserved g c = record {
       let later = c.step_in.ensures.read.reads placed (c.loop-self.invariant.read.reads placed reads) in
       let behind = is_behind c.loop-self.invariant c.step_in.new.self told placed records reads left c.in_ok-step_in.field-0 c.step_in.result c.in_ok-step_in.was c.if-not-branch.true
       c.step_in.ensures.steps in
-      (c.enter_next.ensures.enters (slots_read c.args.ring.now (g.M.Media.disk c.args.media.now)) placed records later.table later.order behind).0;
+      (c.enter_next.ensures.enters (slots_read c.args.ring.now (g.M.Media.disk c.args.media.now)) placed records later.directory later.order behind).0;
 }
 
 pub returns-clause-plays : goal.returns-clause-plays

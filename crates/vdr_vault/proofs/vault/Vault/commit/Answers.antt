@@ -8,16 +8,16 @@ use Rattle.vdr_vault.proofs.CommitAll.{gone_on, unfailed}
 use Rattle.vdr_vault.proofs.CommitStands.{told_last, told_next}
 use Rattle.vdr_vault.proofs.vault.Vault.commit.Goals as goal
 
-pub returns-in_err-append_to_both-clause-commits : goal.returns-in_err-append_to_both-clause-commits
-returns-in_err-append_to_both-clause-commits g c = rw (sym c.self.view_is) (λ opening events e taken placed told is stands may.
-    let made = c.append_to_both.ensures.commits opening events e taken placed told is (unfailed opening events _ placed (g.M.Media.disk c.args.media.now) c.if-self.false stands) may in
+pub returns-in_err-append_to_all-clause-commits : goal.returns-in_err-append_to_all-clause-commits
+returns-in_err-append_to_all-clause-commits g c = rw (sym c.self.view_is) (λ opening events e taken placed told is stands may.
+    let made = c.append_to_all.ensures.commits opening events e taken placed told is (unfailed opening events _ placed (g.M.Media.disk c.args.media.now) c.if-self.false stands) may in
     record { moments = made.moments; done = IfOk-from_err c.from_residual.result _ c.from_residual.ensures.0 })
 
 pub returns-clause-commits : goal.returns-clause-commits
 returns-clause-commits g c = rw (sym c.self.view_is) (λ opening events e taken placed told is stands may.
     let stamp = c.newest.invariant.legal.utc in
     let fits : SFits w64 c.newest.inside.utc = omega (arith, ints, stamp.whole, stamp.in_time) in
-    let made = c.append_to_both.ensures.commits opening events e taken placed told is (unfailed opening events _ placed (g.M.Media.disk c.args.media.now) c.if-self.false stands) may in
+    let made = c.append_to_all.ensures.commits opening events e taken placed told is (unfailed opening events _ placed (g.M.Media.disk c.args.media.now) c.if-self.false stands) may in
     let at : VaultState = record {
       config = c.self-2.inside.config;
       capsule = c.self-2.inside.capsule;
@@ -27,7 +27,7 @@ returns-clause-commits g c = rw (sym c.self.view_is) (λ opening events e taken 
       last = c.self-2.inside.last;
       failed = c.self-2.inside.failed;
     } in
-    gone_on opening events e c.args.records.now placed at _ _ (g.M.Media.disk c.args.media.now) (g.M.Media.disk c.append_to_both.new.media) c.append_to_both.result _ c.in_ok-append_to_both.was
+    gone_on opening events e c.args.records.now placed at _ _ (g.M.Media.disk c.args.media.now) (g.M.Media.disk c.append_to_all.new.media) c.append_to_all.result _ c.in_ok-append_to_all.was
     (told_next c.args.records.now c.index-records-records.result c.newest.inside.place c.requires.some c.index-records-records.is (ap (λ (r : Record). r.place) c.newest.view_is))
     (told_last c.args.records.now c.index-records-records.result c.newest.inside.tick _ c.requires.some c.index-records-records.is
     (ap (λ (r : Record). r.tick) c.newest.view_is) (to_z-of_z w64 c.newest.inside.utc fits ∙ ap (λ (r : Record). r.utc) c.newest.view_is))

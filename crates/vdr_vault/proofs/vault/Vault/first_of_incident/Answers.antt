@@ -1,7 +1,7 @@
 use Rattle.std.proofs.Common.{◌≤◌, ◌+◌, ◌-◌, ◌<◌, ℕ, Some, Err, sym, ap, ◌∙◌, arith}
 use Rattle.vdr_terms.specs.Records.{Record}
 use Rattle.vdr_terms.specs.Windows.{window}
-use Rattle.vdr_ring.specs.Sequence.{all_records}
+use Rattle.vdr_directory.specs.Sequence.{all_records}
 use Rattle.vdr_ring.specs.declared.refused.ReadRefused.{ReadRefused}
 use Rattle.vdr_vault.specs.Vaults.{VaultState}
 use Rattle.vdr_vault.specs.Saves.{first_in_window}
@@ -15,14 +15,14 @@ returns-in_default-clause-undamaged g c = rw (sym c.self.view_is) (λ placed new
     let some : 0 < c.incident_seconds-seconds.result = c.incident_seconds-seconds.ensures.some in
     let low : c.saturating_sub.result ≤ c.args.last_second + 1 - c.incident_seconds-seconds.result = omega (arith, c.saturating_add.ensures, c.saturating_sub.ensures) in
     reached c.self.inside.long_term (g.M.Media.disk c.args.media.now) placed reads told c.incident_seconds-seconds.result c.args.last_second c.saturating_sub.result some low newest ends at
-    (c.in_default.ensures.none placed reads.table reads.order))
+    (c.in_default.ensures.none placed reads.directory reads.order))
 
 pub returns-in_err-step-clause-undamaged : goal.returns-in_err-step-clause-undamaged
 returns-in_err-step-clause-undamaged g c = rw (sym c.self.view_is) (λ placed newest m offset told reads ends at is.
     let some : 0 < c.incident_seconds-seconds.result = c.incident_seconds-seconds.ensures.some in
     let low : c.saturating_sub.result ≤ c.args.last_second + 1 - c.incident_seconds-seconds.result = omega (arith, c.saturating_add.ensures, c.saturating_sub.ensures) in
     let left = window_left c.self.inside.long_term (g.M.Media.disk c.args.media.now) placed reads told c.incident_seconds-seconds.result c.args.last_second c.saturating_sub.result some low newest ends at
-    _ (c.in-Some.ensures.ahead (slots_read c.self.inside.long_term (g.M.Media.disk c.args.media.now)) placed reads.table reads.order) in
+    _ (c.in-Some.ensures.ahead (slots_read c.self.inside.long_term (g.M.Media.disk c.args.media.now)) placed reads.directory reads.order) in
     never_damaged c.self.inside.long_term (g.M.Media.disk c.args.media.now) placed reads told c.incident_seconds-seconds.result c.args.last_second c.saturating_sub.result some low newest ends at _ _ _
     (c.step.ensures.plays told placed (window c.incident_seconds-seconds.result (all_records placed)) reads left) m offset
     (c.in_err-step.was ∙ ap (λ (e : ReadRefused). Err e) (damage_handed_on m offset c.in_err-step.field-0.0 c.from_residual.result c.from_residual.ensures.1 is)))
@@ -32,7 +32,7 @@ returns-then-not-branch-clause-undamaged g c = rw (sym c.self.view_is) (λ place
     let some : 0 < c.incident_seconds-seconds.result = c.incident_seconds-seconds.ensures.some in
     let low : c.saturating_sub.result ≤ c.args.last_second + 1 - c.incident_seconds-seconds.result = omega (arith, c.saturating_add.ensures, c.saturating_sub.ensures) in
     let left = window_left c.self.inside.long_term (g.M.Media.disk c.args.media.now) placed reads told c.incident_seconds-seconds.result c.args.last_second c.saturating_sub.result some low newest ends at
-    _ (c.in-Some.ensures.ahead (slots_read c.self.inside.long_term (g.M.Media.disk c.args.media.now)) placed reads.table reads.order) in
+    _ (c.in-Some.ensures.ahead (slots_read c.self.inside.long_term (g.M.Media.disk c.args.media.now)) placed reads.directory reads.order) in
     never_none c.self.inside.long_term (g.M.Media.disk c.args.media.now) placed reads told c.incident_seconds-seconds.result c.args.last_second c.saturating_sub.result some low newest ends at _ _ _
     (c.step.ensures.plays told placed (window c.incident_seconds-seconds.result (all_records placed)) reads left) c.in_ok-step.field-0 c.in_ok-step.was c.if-not-branch.true)
 
@@ -41,7 +41,7 @@ returns-clause-found g c = rw (sym c.self.view_is) (λ placed newest told reads 
     let some : 0 < c.incident_seconds-seconds.result = c.incident_seconds-seconds.ensures.some in
     let low : c.saturating_sub.result ≤ c.args.last_second + 1 - c.incident_seconds-seconds.result = omega (arith, c.saturating_add.ensures, c.saturating_sub.ensures) in
     let left = window_left c.self.inside.long_term (g.M.Media.disk c.args.media.now) placed reads told c.incident_seconds-seconds.result c.args.last_second c.saturating_sub.result some low newest ends at
-    _ (c.in-Some.ensures.ahead (slots_read c.self.inside.long_term (g.M.Media.disk c.args.media.now)) placed reads.table reads.order) in
+    _ (c.in-Some.ensures.ahead (slots_read c.self.inside.long_term (g.M.Media.disk c.args.media.now)) placed reads.directory reads.order) in
     ap (λ (n : ℕ). first_in_window n (all_records placed)) (ap (λ (m : VaultState). m.config.incident_seconds) c.self.view_is ∙ sym c.incident_seconds-seconds.ensures.seconds)
     ∙ first_is c.self.inside.long_term (g.M.Media.disk c.args.media.now) placed reads told c.incident_seconds-seconds.result c.args.last_second c.saturating_sub.result some low newest ends at _ _ _
     (c.step.ensures.plays told placed (window c.incident_seconds-seconds.result (all_records placed)) reads left) c.in_ok-step.field-0 c.in_ok-step.was c.if-not-branch.false c.in-Some-item.item.now (sym c.in-Some-item.ensures)

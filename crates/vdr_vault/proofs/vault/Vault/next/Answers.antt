@@ -19,7 +19,7 @@ returns-clause-plays g c opening events placed records told stands left =
     let now = g.M.Media.disk c.seek.new.media in
     let m = medium_of (asked_medium c.args.query.now.medium) in
     let both = both_read m c.args.self.now c.seek.new.self before now (asked_two c.args.query.now.medium) c.seek.ensures.vault c.seek.ensures.read in
-    let span = c.in-Some.ensures placed (λ k d within. (stands.media k d within).reads.table) in
+    let span = c.in-Some.ensures placed (λ k d within. (stands.media k d within).reads.directory) in
     let reads = (holds_on opening events c.args.self.now placed before stands c.args.query.now.medium).reads in
     let is_left = subst (λ (o : Option Span). AreLeft (slots_read (ring_for c.args.self.now query) before) (placed m) query o c.args.cursor.now records) (sym span) left in
     gives_to_come query c.args.self.now c.seek.new.self before now placed (Some (span_as c.in-Some.span)) c.seek.new.cursor records c.seek.result told both c.seek.ensures.read span
@@ -32,7 +32,7 @@ returns-then-self-clause-plays g c opening events placed records told stands lef
 pub returns-in_default-clause-plays : goal.returns-in_default-clause-plays
 returns-in_default-clause-plays g c opening events placed records told stands left =
     none_to_come (asked c.args.query.now) c.args.self.now (g.M.Media.disk c.args.media.now) placed c.args.cursor.now c.new-in_default.result records
-    (sym (c.in_default.ensures placed (λ k d within. (stands.media k d within).reads.table))) c.new-in_default.ensures.standing c.new-in_default.ensures.item left
+    (sym (c.in_default.ensures placed (λ k d within. (stands.media k d within).reads.directory))) c.new-in_default.ensures.standing c.new-in_default.ensures.item left
 
 pub returns-clause-keeps : goal.returns-clause-keeps
 returns-clause-keeps g c =

@@ -5,7 +5,7 @@ use Rattle.vdr_durability.specs.Readings.{AreLevel, EndsMeet}
 use Rattle.vdr_outside.specs.Disk.{Durable, Image}
 use Rattle.vdr_outside.proofs.Moments.{moments_and_reads, moments_weaken}
 use Rattle.vdr_media.specs.Formatted.{IsFormatted, IsUnformatted}
-use Rattle.vdr_ring.specs.Sequence.{Placed}
+use Rattle.vdr_directory.specs.Sequence.{Placed}
 use Rattle.vdr_opening.specs.Media.{both, Contents, HoldsContents, opening_of, reading_of}
 use Rattle.vdr_opening.specs.Refusals.{IsRefused}
 use Rattle.vdr_vault.specs.Vaults.{IsReadable, VaultState, ShowsHistory, Stands, of_stamp}

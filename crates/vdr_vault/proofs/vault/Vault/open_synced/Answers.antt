@@ -45,7 +45,7 @@ returns-clause-contents g c told durable =
     let config = rw (sym c.config.view_is) at was.1.config in
     let table = rw (sym c.config.view_is) at was.1.table in
     let capsule = rw (sym c.config.view_is) at was.1.capsule in
-    let newest = c.reconcile.ensures.last ∙ c.ending-next_place.ensures.last (was.0.placed 0) capsule.table ∙ newest_opened was.0 capsule.order in
+    let newest = c.reconcile.ensures.last ∙ c.ending-next_place.ensures.last (was.0.placed 0) capsule.directory ∙ newest_opened was.0 capsule.order in
     (c.in_ok-config.ensures.formatted told, was.0, h, was.1.meet, c.reconcile.ensures.config ∙ config, c.reconcile.ensures.table ∙ table, newest)
 
 pub returns-clause-moments : goal.returns-clause-moments
@@ -64,7 +64,7 @@ pub returns-clause-place : goal.returns-clause-place
 returns-clause-place g c = λ x told durable holds.
     let was = rw (sym c.config.view_is) at c.in_ok-config.ensures.opened told durable in
     let o = read_on _ c.deref.result.now x was.0 (g.M.Media.disk c.args.media.now) (g.M.Media.disk c.read_media.new.media) told c.read_media.ensures.unchanged c.deref.ensures.value holds was.1 in
-    c.reconcile.ensures.place ∙ c.ending-next_place.ensures.next_place (x.placed 0) _ o.capsule.table (o.capsule.settled.reads told) ∙ place_opened x o.capsule.order
+    c.reconcile.ensures.place ∙ c.ending-next_place.ensures.next_place (x.placed 0) _ o.capsule.directory (o.capsule.settled.reads told) ∙ place_opened x o.capsule.order
 
 pub returns-in_default-clause-level : goal.returns-in_default-clause-level
 returns-in_default-clause-level g c x told durable holds level =

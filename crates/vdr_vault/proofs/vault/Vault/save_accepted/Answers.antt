@@ -1,8 +1,8 @@
-use Rattle.std.proofs.Common.{◌≡◌, ℕ, ℤ, w64, List, Some, Ok, Err, Result, OnOk, refl, sym, ap, ◌∙◌, subst, arith}
+use Rattle.std.proofs.Common.{◌≡◌, ℕ, ℤ, w64, Some, Ok, Err, refl, sym, ap, ◌∙◌, subst, arith}
 use Rattle.std.proofs.lemmas.Result.{IfOk-from_err, err_from_is_err_and}
 use Rattle.std.proofs.lemmas.Int.{ints, to_z-of_z}
 use mir.Val.{SFits}
-use Rattle.vdr_ring.specs.Sequence.{Placed, all_records}
+use Rattle.vdr_directory.specs.Sequence.{all_records}
 use Rattle.vdr_vault.specs.Vaults.{VaultState}
 use Rattle.vdr_vault.specs.Saves.{first_in_window}
 use Rattle.vdr_vault.specs.declared.refused.SaveRefused.{SaveRefused}

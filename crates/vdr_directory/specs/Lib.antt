@@ -1,0 +1,12 @@
+-- The segments of a medium, and what is known of them.
+pub mod Sequence
+pub mod Order
+pub mod Entries
+pub mod Lookup
+pub mod Indexed
+pub mod Directories
+pub mod Holds
+pub mod Closed
+pub mod Growing
+pub mod Opening
+pub mod Fronts

@@ -1,0 +1,16 @@
+use vdr_survey::Survey;
+
+/// What opening a medium finds of an open segment.
+#[derive(Clone, Copy, Debug, PartialEq, Eq, Drop)]
+pub struct Entry {
+    /// Its slot, counted from 0.
+    pub slot: u32,
+    /// Its sequence number.
+    pub seq: u64,
+    /// The place of its first record.
+    pub first: u64,
+    /// Whether the gate of its summary is open.
+    pub summarized: bool,
+    /// What its batches come to.
+    pub survey: Survey,
+}
