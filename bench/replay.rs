@@ -7,19 +7,49 @@ use std::fs::{File, OpenOptions};
 use std::io::{self, BufReader, Read};
 use std::os::unix::fs::FileExt;
 
+// What some records have in common: how many there are, their first and last second, and their least and greatest stamp.
+#[derive(Clone, Copy)]
+struct Summary {
+    count: u32,
+    seconds: (u64, u64),
+    stamps: (i64, i64),
+}
+
+impl Summary {
+    fn with(self, behind: Summary) -> Summary {
+        Summary {
+            count: self.count + behind.count,
+            seconds: (self.seconds.0, behind.seconds.1),
+            stamps: (self.stamps.0.min(behind.stamps.0), self.stamps.1.max(behind.stamps.1)),
+        }
+    }
+
+    fn bytes(self) -> [u8; 44] {
+        let mut bytes = [0; 44];
+        bytes[..4].copy_from_slice(&self.count.to_le_bytes());
+        bytes[4..12].copy_from_slice(&self.seconds.0.to_le_bytes());
+        bytes[12..20].copy_from_slice(&self.seconds.1.to_le_bytes());
+        bytes[20..28].copy_from_slice(&self.stamps.0.to_le_bytes());
+        bytes[28..36].copy_from_slice(&self.stamps.1.to_le_bytes());
+        bytes
+    }
+}
+
 struct Medium {
     file: File,
     segment: u64,
     slots: u64,
     seq: u64,
     end: u64,
+    // Of the newest segment.
+    summary: Option<Summary>,
 }
 
 impl Medium {
     fn open(path: String, segment: u64) -> io::Result<Medium> {
         let file = OpenOptions::new().read(true).write(true).open(path)?;
         let slots = (file.metadata()?.len() - 32_768) / segment;
-        Ok(Medium { file, segment, slots, seq: 0, end: segment })
+        Ok(Medium { file, segment, slots, seq: 0, end: segment, summary: None })
     }
 
     // Writes the bytes and syncs.
@@ -44,15 +74,28 @@ impl Medium {
         Ok(())
     }
 
+    // Writes the summary of the segment before the newest.
+    fn leave(&self, summary: Summary) -> io::Result<()> {
+        let place = 32_768 + (self.seq - 2) % self.slots * self.segment;
+        self.write_through(place + 18, &summary.bytes())?;
+        self.write_through(place + 17, &[0xA5])
+    }
+
     // Appends a batch, of which the last byte is the gate that closes it.
-    fn append(&mut self, first: u64, batch: &[u8]) -> io::Result<()> {
+    fn append(&mut self, first: u64, batch: &[u8], summary: Summary) -> io::Result<()> {
+        let mut left = None;
         if self.end + batch.len() as u64 > self.segment {
             self.begin(first)?;
+            left = self.summary.take();
         }
         let at = 32_768 + (self.seq - 1) % self.slots * self.segment + self.end;
         self.write_through(at + 1, &batch[1..])?;
         self.write_through(at, &batch[..1])?;
+        if let Some(left) = left {
+            self.leave(left)?;
+        }
         self.end += batch.len() as u64 - 1;
+        self.summary = Some(self.summary.map_or(summary, |before| before.with(summary)));
         Ok(())
     }
 }
@@ -61,13 +104,14 @@ impl Medium {
 struct Batch {
     bytes: Vec<u8>,
     first: u64,
+    summary: Option<Summary>,
 }
 
 impl Batch {
     fn new(size: usize) -> Batch {
         let mut bytes = Vec::with_capacity(size + 6);
         bytes.extend_from_slice(&[0xA5, 0, 0, 0, 0]);
-        Batch { bytes, first: 0 }
+        Batch { bytes, first: 0, summary: None }
     }
 
     fn push(&mut self, kind: u8, group: u8, place: u64, tick: u64, utc: i64, payload: &[u8]) {
@@ -84,18 +128,20 @@ impl Batch {
         head[28..36].copy_from_slice(&tick.to_le_bytes());
         head[36..44].copy_from_slice(&utc.to_le_bytes());
         self.bytes.extend_from_slice(payload);
+        let own = Summary { count: 1, seconds: (tick / 1_000, tick / 1_000), stamps: (utc, utc) };
+        self.summary = Some(self.summary.map_or(own, |before| before.with(own)));
     }
 
     // Appends it to both media, and begins anew.
     fn commit(&mut self, media: &mut [Medium; 2]) -> io::Result<()> {
-        if self.bytes.len() == 5 {
+        let Some(summary) = self.summary.take() else {
             return Ok(());
-        }
+        };
         let size = self.bytes.len() as u32 - 5;
         self.bytes[1..5].copy_from_slice(&size.to_le_bytes());
         self.bytes.push(0);
         for medium in media {
-            medium.append(self.first, &self.bytes)?;
+            medium.append(self.first, &self.bytes, summary)?;
         }
         self.bytes.truncate(5);
         Ok(())

@@ -27,6 +27,17 @@ fn begin(file: &File, slot: u64, open: bool, seq: u64, first: u64) -> io::Result
     write_through(file, place, &[0xA5])
 }
 
+// Writes the summary of the segment in a slot, which has the records of these numbers.
+fn summarize(file: &File, slot: u64, first: u64, last: u64) -> io::Result<()> {
+    let place = 32_768 + slot * SEGMENT;
+    let mut summary = [0; 44];
+    summary[..4].copy_from_slice(&((last - first + 1) as u32).to_le_bytes());
+    summary[4..12].copy_from_slice(&(first / 2).to_le_bytes());
+    summary[12..20].copy_from_slice(&(last / 2).to_le_bytes());
+    write_through(file, place + 18, &summary)?;
+    write_through(file, place + 17, &[0xA5])
+}
+
 // A batch of one record, with the gate that closes it.
 fn batch(number: u64, into: &mut [u8]) {
     into[0] = 0xA5;
@@ -46,7 +57,7 @@ fn main() -> io::Result<()> {
     let batches: u64 = words[2].parse().expect("a number");
     let file = OpenOptions::new().read(true).write(true).open(format!("{}/capsule.vdr", words[1]))?;
     let slots = (file.metadata()?.len() - 32_768) / SEGMENT;
-    let (mut seq, mut end) = (0, SEGMENT);
+    let (mut seq, mut end, mut first) = (0, SEGMENT, 0);
     let mut bytes = [0; BATCH + 1];
     for number in 0..batches {
         if end + BATCH as u64 + 1 > SEGMENT {
@@ -58,6 +69,12 @@ fn main() -> io::Result<()> {
         batch(number, &mut bytes);
         write_through(&file, at + 1, &bytes[1..])?;
         write_through(&file, at, &bytes[..1])?;
+        if end == 64 {
+            if seq > 1 {
+                summarize(&file, (seq - 2) % slots, first, number - 1)?;
+            }
+            first = number;
+        }
         end += BATCH as u64;
     }
     println!("{batches} batches");

@@ -3,7 +3,7 @@ use Rattle.std.proofs.Common.{◌≡◌, inl, inr, ℕ, refl}
 use Rattle.vdr_durability.specs.Readings.{EndsMeet}
 use Rattle.vdr_outside.specs.Disk.{Image}
 use Rattle.vdr_media.specs.Formatted.{IsFormatted, IsUnformatted}
-use Rattle.vdr_opening.specs.Media.{both, Contents, HoldsContents, reading_of}
+use Rattle.vdr_opening.specs.Media.{members, Contents, HoldsContents, reading_of}
 use Rattle.vdr_opening.specs.Refusals.{IsRefused}
 use Rattle.vdr_command.specs.Opened.{OneAnswer, RefusesAll}
 use Rattle.vdr_command.specs.declared.status.Status.{Status}
@@ -14,7 +14,7 @@ pub damaged_alike : (m offset k other : ℕ) → (m ≡ k) × (offset ≡ other)
 damaged_alike m offset k other same = λ i. Damaged (same.0 i) (same.1 i)
 
 -- What can be opened is not refused.
-pub legible_refused : (image : Image) (law : OneAnswer image) (status : Status) → IsFormatted image → (x : Contents) → HoldsContents image x → EndsMeet both (reading_of x) → RefusesAll image status
+pub legible_refused : (image : Image) (law : OneAnswer image) (status : Status) → IsFormatted image → (x : Contents) → HoldsContents image x → EndsMeet members (reading_of x) → RefusesAll image status
 legible_refused image law status formatted x holds meet = record {
   unformatted = λ un. absurd (never_both image formatted un);
   damaged = λ f m offset r. absurd (law.either x m offset holds meet r);

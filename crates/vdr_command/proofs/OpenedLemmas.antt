@@ -11,7 +11,7 @@ use Rattle.vdr_outside.proofs.Moments.{moments_and_reads}
 use Rattle.vdr_config.specs.Grammar.{configuration}
 use Rattle.vdr_media.specs.Formatted.{IsFormatted, IsUnformatted}
 use Rattle.vdr_opening.specs.Answers.{HasOpenCause}
-use Rattle.vdr_opening.specs.Media.{both, Contents, HoldsContents, opening_of, reading_of}
+use Rattle.vdr_opening.specs.Media.{members, Contents, HoldsContents, opening_of, reading_of}
 use Rattle.vdr_opening.specs.Refusals.{IsRefused}
 use Rattle.vdr_opening.specs.declared.refused.OpenRefused.{OpenRefused}
 use Rattle.vdr_opening.specs.declared.refused.OpenRefused.TheVariants as openings
@@ -114,7 +114,7 @@ module _ {tells tells_images : Type 0} where
       → (tells → IsUnformatted old.disk.reads → LeavesAll old.disk new.disk)
       → (tells → SameBut 1 old.disk.reads new.disk.reads)
       → HasOpenCause old.faults new.faults result
-      → ((x : Contents) → tells → HoldsContents old.disk.reads x → EndsMeet both (reading_of x) → WasRecorded x → OpensAtEachMoment old.disk new.disk result (ShowsHistory (opening_of x) []))
+      → ((x : Contents) → tells → HoldsContents old.disk.reads x → EndsMeet members (reading_of x) → WasRecorded x → OpensAtEachMoment old.disk new.disk result (ShowsHistory (opening_of x) []))
       → MediaEnds Can Met MayBe old new (status_of_opening refused)
   refused_ends Can Met MayBe old new result openings.NoMemory may is unformatted damaged untouched blank others cause moments = record {
     unformatted = λ e. let none : ⊥ = cc in absurd none;
@@ -162,7 +162,7 @@ module _ {tells tells_images : Type 0} where
   -- The work was done.
   pub worked_ends : (Can : Contents → Type 0) (Met : Type 0) (MayBe : List Event → Type 0) (old new : MediaSeen tells tells_images) (status : Status) → IsWorkDone status
       → (tells → IsLegibleWith old.disk.reads Can) → (tells → SameBut 1 old.disk.reads new.disk.reads)
-      → ((x : Contents) → tells → HoldsContents old.disk.reads x → EndsMeet both (reading_of x) → WasRecorded x → KeepsContents x MayBe status old.disk new.disk)
+      → ((x : Contents) → tells → HoldsContents old.disk.reads x → EndsMeet members (reading_of x) → WasRecorded x → KeepsContents x MayBe status old.disk new.disk)
       → MediaEnds Can Met MayBe old new status
   worked_ends Can Met MayBe old new status done legible others kept = ⊎_elim
       (λ (is : status ≡ Done). subst (λ (s : Status). MediaEnds Can Met MayBe old new s) (sym is) (record {
@@ -187,7 +187,7 @@ module _ {tells tells_images : Type 0} where
 
   -- The contents whose configuration, incidents and last record the vault has.
   abbrev pub OpenedOn : Disk tells tells_images → VaultState → Type 0
-  OpenedOn old vault = tells → IsFormatted old.reads × (x : Contents) × HoldsContents old.reads x × EndsMeet both (reading_of x)
+  OpenedOn old vault = tells → IsFormatted old.reads × (x : Contents) × HoldsContents old.reads x × EndsMeet members (reading_of x)
       × (vault.config ≡ x.config) × (vault.table ≡ x.table) × (vault.last ≡ newest_of x)
 
   -- What was opened is legible.

@@ -5,7 +5,7 @@ use Rattle.vdr_history.specs.Histories.Act.{Look}
 use Rattle.vdr_durability.specs.Readings.{EndsMeet}
 use Rattle.vdr_outside.specs.Disk.{Disk, Image, SameBut}
 use Rattle.vdr_media.specs.Formatted.{IsFormatted, IsUnformatted}
-use Rattle.vdr_opening.specs.Media.{both, Contents, HoldsContents, opening_of, reading_of}
+use Rattle.vdr_opening.specs.Media.{members, Contents, HoldsContents, opening_of, reading_of}
 use Rattle.vdr_opening.specs.Refusals.{IsRefused}
 use Rattle.vdr_vault.specs.Openings.{LeavesAll, WritesMissing}
 use Rattle.vdr_vault.specs.Regularity.{AreSound}
@@ -51,7 +51,7 @@ WasRecorded x = AreSound x
 
 -- The image is legible, the ends of its media meet, and P holds of its contents.
 abbrev pub IsLegibleWith : Image → (Contents → Type 0) → Type 0
-IsLegibleWith image P = IsFormatted image × (x : Contents) × HoldsContents image x × EndsMeet both (reading_of x) × P x
+IsLegibleWith image P = IsFormatted image × (x : Contents) × HoldsContents image x × EndsMeet members (reading_of x) × P x
 
 -- Tick and utc of the last record of these contents.
 abbrev pub newest_of : Contents → Option (ℕ × ℤ)
@@ -121,7 +121,7 @@ module _ {tells tells_images : Type 0} where
     pub others : tells → SameBut 1 old.disk.reads new.disk.reads
     -- what was recorded stays, on each medium and at every moment
     pub blank : tells → IsUnformatted old.disk.reads → LeavesAll old.disk new.disk
-    pub kept : (x : Contents) → tells → HoldsContents old.disk.reads x → EndsMeet both (reading_of x) → WasRecorded x
+    pub kept : (x : Contents) → tells → HoldsContents old.disk.reads x → EndsMeet members (reading_of x) → WasRecorded x
         → (IsUnopened status × LeavesAll old.disk new.disk) ⊎ KeepsContents x MayBe status old.disk new.disk
 
 -- Media that can't be opened are refused by their own refusal, or there was no memory.
@@ -135,5 +135,5 @@ pub record OneAnswer (image : Image) : Type 0 where
   pub placed : (x y : Contents) → HoldsContents image x → HoldsContents image y → x.placed 0 ≡ y.placed 0
   pub table : (x y : Contents) → HoldsContents image x → HoldsContents image y → x.table ≡ y.table
   pub formatted : (x : Contents) → HoldsContents image x → IsUnformatted image → ⊥
-  pub either : (x : Contents) (m offset : ℕ) → HoldsContents image x → EndsMeet both (reading_of x) → IsRefused image m offset → ⊥
+  pub either : (x : Contents) (m offset : ℕ) → HoldsContents image x → EndsMeet members (reading_of x) → IsRefused image m offset → ⊥
   pub one : (m offset k other : ℕ) → IsRefused image m offset → IsRefused image k other → (m ≡ k) × (offset ≡ other)

@@ -1,5 +1,5 @@
 -- What the extent of a survey tells of a segment's records.
-use Rattle.std.proofs.Common.{◌≡◌, ◌≤◌, ◌-◌, ℕ, suc, List, [], ◌∷◌, length, slice_get, Option, Some, None, refl, sym, ap, ◌∙◌, subst, arith}
+use Rattle.std.proofs.Common.{◌≡◌, ◌<◌, ◌≤◌, ◌-◌, ℕ, suc, List, [], ◌∷◌, length, slice_get, Option, Some, None, refl, sym, ap, ◌∙◌, subst, arith}
 use Rattle.std.specs.Prelude.{◌↔◌, IsTrue, SomeIff, is_some}
 use Rattle.std.proofs.lemmas.Option.{none-some, same_Some}
 use Rattle.vdr_terms.specs.Records.{Record, last, last_after}
@@ -7,9 +7,9 @@ use Rattle.vdr_survey.specs.declared.extent.Extent.{Extent}
 use Rattle.vdr_survey.specs.Extents.{records_in, first_records, extent_between}
 use Rattle.vdr_directory.specs.declared.entry.Entry.{Entry}
 use Rattle.vdr_directory.specs.Sequence.{Placed, seq_of, first_of, batches_of, records_of}
-use Rattle.vdr_directory.specs.Order.{next_place, HasNone, RunsOn, TicksRise, Follows}
+use Rattle.vdr_directory.specs.Order.{next_place, HasNone, RunsOn, TicksRise, SecondsRise, Follows}
 use Rattle.vdr_directory.specs.Entries.{Describes}
-use Rattle.vdr_directory.proofs.Runs.{after_last}
+use Rattle.vdr_directory.proofs.Runs.{after_last, positive_length}
 
 -- The extent is that of these records, at least one.
 pub record Reaches (rs : List Record) (x : Extent) : Type 0 where
@@ -47,6 +47,12 @@ next_none p none = let e = ap length none in omega (arith, e)
 
 pub next_some : (p : Placed) (x : Extent) → RunsOn p → Reaches (records_of p) x → next_place p ≡ suc x.last_place
 next_some p x runs h = sym (ap suc h.last_place ∙ after_last (first_of p) (records_of p) h.newest runs.places h.ends)
+
+-- how many records there are, of one place at least
+pub count_some : (p : Placed) (x : Extent) (gap : ℕ) → RunsOn p → Reaches (records_of p) x → gap ≡ x.last_place - first_of p → suc gap ≡ length (records_of p)
+count_some p x gap runs h is =
+    let next : next_place p ≡ suc x.last_place = next_some p x runs h in
+    let some : 0 < length (records_of p) = positive_length (records_of p) (reaches_some (records_of p) x h) in omega (arith, next, some, is)
 
 -- Of entries
 
@@ -106,12 +112,13 @@ ticks_to_none q p e dp is r s ends begins = absurd (none-some s (sym (ap (λ (l 
 -- One behind another
 
 pub follows_next : (q p : Placed) (b e : Entry) (skipped step : ℕ) → Describes q b → Describes p e → SomeIff (Some skipped) (next_place q ≤ first_of p) (first_of p - next_place q)
-    → SomeIff (Some step) (b.seq ≤ e.seq) (e.seq - b.seq) → step ≡ 1 → skipped ≡ 0 → TicksRise q p → Follows q p
+    → SomeIff (Some step) (b.seq ≤ e.seq) (e.seq - b.seq) → step ≡ 1 → skipped ≡ 0 → TicksRise q p × SecondsRise q p → Follows q p
 follows_next q p b e skipped step dq dp room seqs one none rise = record {
   seq = omega (arith, seqs.0, seqs.1, one, dq.seq, dp.seq);
   place = room.0;
   joined = λ next. omega (arith, room.0, room.1, none);
-  ticks = rise;
+  ticks = rise.0;
+  seconds = rise.1;
   begun = λ empty. omega (arith, seqs.0, seqs.1, one, dq.seq, dp.seq);
 }
 
@@ -121,12 +128,13 @@ follows_joined q p b e skipped step dq dp room seqs one h =
     let at : first_of p ≡ next_place q = h.joined (omega (arith, seqs.0, seqs.1, one, dq.seq, dp.seq)) in omega (arith, at, room.1)
 
 pub follows_later : (q p : Placed) (b e : Entry) (skipped step : ℕ) → Describes q b → Describes p e → SomeIff (Some skipped) (next_place q ≤ first_of p) (first_of p - next_place q)
-    → SomeIff (Some step) (b.seq ≤ e.seq) (e.seq - b.seq) → 2 ≤ step → (HasNone p → ⊥) → TicksRise q p → Follows q p
+    → SomeIff (Some step) (b.seq ≤ e.seq) (e.seq - b.seq) → 2 ≤ step → (HasNone p → ⊥) → TicksRise q p × SecondsRise q p → Follows q p
 follows_later q p b e skipped step dq dp room seqs far some rise = record {
   seq = omega (arith, seqs.0, seqs.1, far, dq.seq, dp.seq);
   place = room.0;
   joined = λ next. absurd (omega (arith, next, seqs.0, seqs.1, far, dq.seq, dp.seq));
-  ticks = rise;
+  ticks = rise.0;
+  seconds = rise.1;
   begun = λ empty. absurd (some empty);
 }
 

@@ -1,6 +1,5 @@
 -- What a medium holds, by its fronts and its surveys.
-use Rattle.std.proofs.Common.{◌≡◌, ◌≢◌, ◌<◌, ◌≤◌, ◌+◌, ◌*◌, ℕ, zero, suc, List, [], ◌∷◌, ◌++◌, length, map, take, drop, slice_get, get_or, All, Contains, Option, Some, None, inl, inr, ⊎_elim, refl, sym, ap, ◌∙◌, subst, arith}
-use Rattle.std.specs.Prelude.{◌↔◌}
+use Rattle.std.proofs.Common.{◌≡◌, ◌<◌, ◌≤◌, ◌+◌, ◌*◌, ℕ, zero, suc, List, [], ◌∷◌, ◌++◌, length, map, take, drop, slice_get, get_or, All, Contains, Option, Some, None, inl, inr, ⊎_elim, refl, sym, ap, ◌∙◌, subst, arith}
 use Rattle.std.proofs.lemmas.List.{take-take, length_push}
 use Rattle.std.proofs.lemmas.List.Elements.{All-nil, All-cons, All-head, All-tail, All-contains}
 use Rattle.std.proofs.lemmas.Option.{slice_get-get_or, slice_get_within, same_Some, none-some}
@@ -62,7 +61,7 @@ placing segment bytes long (e ∷ es) headers surveys =
     let p : Placed = record { slot = e.slot; segment = record { header = h.header; batches = s.batches } } in
     record {
       placed = p ∷ rest.placed;
-      describe = (record { slot = refl; seq = h.seq; first = h.first; summarized = h.summarized; survey = subst (λ (n : ℕ). Surveys n s.batches e.survey) h.first s.tells }, rest.describe);
+      describe = (record { slot = refl; seq = h.seq; first = h.first; summary = h.summary; survey = subst (λ (n : ℕ). Surveys n s.batches e.survey) h.first s.tells }, rest.describe);
       held = All-cons (IsHeld segment bytes) p rest.placed (open_slot segment e.slot bytes h.header s.batches long h.front s.legal) rest.held;
     }
 

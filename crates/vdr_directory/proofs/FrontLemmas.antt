@@ -1,6 +1,5 @@
 -- The fronts of a medium's slots, one more at a time.
-use Rattle.std.proofs.Common.{◌≡◌, ◌≢◌, ◌<◌, ◌+◌, ℕ, Bool, true, List, [], ◌∷◌, ◌++◌, map, All, Contains, Option, Some, None, inl, inr, ⊎_elim, refl, sym, ap, ◌∙◌, subst, arith, append-nil}
-use Rattle.std.specs.Prelude.{◌↔◌, IsTrue, is_some}
+use Rattle.std.proofs.Common.{◌≡◌, ◌<◌, ◌+◌, ℕ, true, List, [], ◌∷◌, ◌++◌, map, All, Contains, Option, Some, None, inl, inr, ⊎_elim, refl, sym, ap, ◌∙◌, subst, arith, append-nil}
 use Rattle.std.proofs.lemmas.Bool.{cases_eq}
 use Rattle.std.proofs.lemmas.Option.{none-some}
 use Rattle.std.proofs.lemmas.List.Elements.{All-contains, Contains-append_left, Contains-append_right, Contains-append_cases}
@@ -78,10 +77,6 @@ fronts_none segment bytes = record {
   each = λ j lt. absurd (omega (arith, lt));
 }
 
-summarized_by : (o : Option Summary) → IsTrue (is_some o) ↔ (o ≢ None)
-summarized_by None = (λ b. let bad : ⊥ = cc in absurd bad, λ some. absurd (some refl))
-summarized_by (Some s) = (λ b e. cc, λ some. refl)
-
 module _ (segment n : ℕ) (bytes : List ℕ) (opened : List Entry) (h : TellFronts segment n bytes opened) where
   -- one more that is closed, and one that is open
   closed_more : IsFront (front_bytes segment n bytes) None → TellFronts segment (n + 1) bytes opened
@@ -98,7 +93,7 @@ module _ (segment n : ℕ) (bytes : List ℕ) (opened : List Entry) (h : TellFro
     headers = all_from (HasHeader segment bytes) (opened ++ entry_of n header ∷ []) (λ e m. ⊎_elim
         (λ (l : Contains opened e). All-contains (HasHeader segment bytes) opened e h.headers l)
         (λ (l : Contains (entry_of n header ∷ []) e). ⊎_elim
-        (λ (same : entry_of n header ≡ e). subst (HasHeader segment bytes) same (record { header = header; front = is; seq = refl; first = refl; summarized = summarized_by header.summary }))
+        (λ (same : entry_of n header ≡ e). subst (HasHeader segment bytes) same (record { header = header; front = is; seq = refl; first = refl; summary = refl }))
         (λ (none : Contains [] e). absurd (none_contained e none))
         (contains_cases (entry_of n header) [] e l))
         (Contains-append_cases opened (entry_of n header ∷ []) e m));
@@ -137,10 +132,10 @@ module _ (segment n : ℕ) (bytes : List ℕ) (opened : List Entry) (h : TellFro
   refuses_header count offset lt at broken = record { slot = n; within = lt; legal = front_known; broken = broken; at = at }
 
 -- the entry as it is pushed
-pub entry_pushed : (es new : List Entry) (slot : ℕ) (front : Option Header) (header : Header) (b : Bool) (s : Survey) → front ≡ Some header → b ≡ is_some header.summary → s ≡ record { end = 64; extent = None; in_order = true; summary = None }
-    → new ≡ es ++ (record { slot = slot; seq = header.seq; first = header.first; summarized = b; survey = s }) ∷ [] → new ≡ es ++ opened_by slot front
-entry_pushed es new slot front header b s is some empty pushed =
-    pushed ∙ (λ i. es ++ (record { slot = slot; seq = header.seq; first = header.first; summarized = some i; survey = empty i }) ∷ []) ∙ ap (λ (o : Option Header). es ++ opened_by slot o) (sym is)
+pub entry_pushed : (es new : List Entry) (slot : ℕ) (front : Option Header) (header : Header) (s : Survey) → front ≡ Some header → s ≡ record { end = 64; extent = None; in_order = true; summary = None }
+    → new ≡ es ++ (record { slot = slot; seq = header.seq; first = header.first; summary = header.summary; survey = s }) ∷ [] → new ≡ es ++ opened_by slot front
+entry_pushed es new slot front header s is empty pushed =
+    pushed ∙ (λ i. es ++ (record { slot = slot; seq = header.seq; first = header.first; summary = header.summary; survey = empty i }) ∷ []) ∙ ap (λ (o : Option Header). es ++ opened_by slot o) (sym is)
 
 -- with the slot that was added
 pub slots_added : (n : ℕ) (opened o : List Entry) (front : Option Header) → o ≡ opened ++ opened_by n front → AreSlots n opened → AreSlots (n + 1) o

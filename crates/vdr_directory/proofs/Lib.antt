@@ -1,7 +1,9 @@
 pub mod Placing
 pub mod Runs
+pub mod Agreeing
 pub mod Ordering
 pub mod Numbering
+pub mod Leaving
 pub mod Breaking
 pub mod Extents
 pub mod Passing
@@ -11,6 +13,7 @@ pub mod Ends
 pub mod Endings
 pub mod Filing
 pub mod Telling
+pub mod Behind
 pub mod FrontLemmas
 pub mod Sorting
 pub mod Surveying

@@ -1,6 +1,5 @@
 -- The open segments of a medium once they are sorted: each comes before those behind it.
-use Rattle.std.proofs.Common.{◌≡◌, ◌≢◌, ◌⊎◌, ◌<◌, ◌≤◌, ℕ, true, false, eqb, List, [], ◌∷◌, map, get_or, All, Contains, IsTrue, Some, None, inl, inr, ⊎_elim, sym, ap, ◌∙◌, subst, arith}
-use Rattle.std.specs.Prelude.{◌↔◌}
+use Rattle.std.proofs.Common.{◌≡◌, ◌≢◌, ◌⊎◌, ◌<◌, ◌≤◌, ℕ, true, false, eqb, List, [], ◌∷◌, map, get_or, All, Contains, Some, None, inl, inr, ⊎_elim, sym, ap, ◌∙◌, subst, arith}
 use Rattle.std.specs.List.{AllByRecursion, IsDistinct}
 use Rattle.std.specs.List.Sorted.{IsPermutation}
 use Rattle.std.proofs.lemmas.Bool.Decides.{eqb_tells}
@@ -132,5 +131,5 @@ module _ (n : ℕ) (read sorted done : List Entry) (h : Sequenced n read sorted 
         front = subst (λ (x : Head). IsFront (front_bytes segment x.slot bytes) (Some k.header)) same k.front;
         seq = sym (ap (λ (x : Head). x.seq) same) ∙ k.seq;
         first = sym (ap (λ (x : Head). x.first) same) ∙ k.first;
-        summarized = subst (λ (x : Head). IsTrue x.summarized ↔ (k.header.summary ≢ None)) same k.summarized;
+        summary = sym (ap (λ (x : Head). x.summary) same) ∙ k.summary;
       }

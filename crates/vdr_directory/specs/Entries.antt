@@ -1,5 +1,5 @@
 -- What opening a medium tells of each open segment.
-use Rattle.std.specs.Prelude.{◌≡◌, ◌≢◌, ◌↔◌, ℕ, List, [], ◌∷◌, IsTrue, Option, Some, None, ⊤}
+use Rattle.std.specs.Prelude.{◌≡◌, ℕ, List, [], ◌∷◌, Option, Some, None, ⊤}
 use Rattle.vdr_survey.specs.Surveys.{Surveys}
 use Rattle.vdr_directory.specs.declared.entry.Entry.{Entry}
 use Rattle.vdr_directory.specs.Sequence.{Placed, seq_of, first_of, batches_of}
@@ -11,7 +11,7 @@ pub record Describes (p : Placed) (e : Entry) : Type 0 where
   pub slot : e.slot ≡ p.slot
   pub seq : e.seq ≡ seq_of p
   pub first : e.first ≡ first_of p
-  pub summarized : IsTrue e.summarized ↔ (p.segment.header.summary ≢ None)
+  pub summary : e.summary ≡ p.segment.header.summary
   pub survey : Surveys (first_of p) (batches_of p) e.survey
 
 abbrev pub DescribesAny : Option Placed → Option Entry → Type 0

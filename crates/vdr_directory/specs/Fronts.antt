@@ -1,6 +1,8 @@
 -- What reading a medium's slots tells, up to its directory. Of it public clauses cite `BreaksIn` alone.
-use Rattle.std.specs.Prelude.{◌≡◌, ◌≢◌, ◌↔◌, ◌⊎◌, ◌<◌, ◌≤◌, ◌+◌, ℕ, Bool, true, List, [], ◌∷◌, ◌++◌, map, drop, All, Contains, IsTrue, Option, Some, None, ⊤, is_some}
+use Rattle.std.specs.Prelude.{int_le, ◌≡◌, ◌⊎◌, ◌<◌, ◌≤◌, ◌+◌, ℕ, true, List, [], ◌∷◌, ◌++◌, map, drop, All, Contains, Option, Some, None, ⊤}
 use Rattle.vdr_terms.specs.Records.{Record}
+use Rattle.vdr_terms.specs.Queries.{has_channel}
+use Rattle.vdr_entry.specs.declared.summary.Summary.{Summary}
 use Rattle.vdr_segment.specs.declared.header.Header.{Header}
 use Rattle.vdr_segment.specs.Segments.{AreBatches}
 use Rattle.vdr_slots.specs.Slots.{IsFront, place_of}
@@ -19,7 +21,7 @@ entry_of slot header = record {
   slot = slot;
   seq = header.seq;
   first = header.first;
-  summarized = is_some header.summary;
+  summary = header.summary;
   survey = record { end = 64; extent = None; in_order = true; summary = None };
 }
 
@@ -41,7 +43,7 @@ pub record HasHeader (segment : ℕ) (bytes : List ℕ) (e : Entry) : Type 0 whe
   pub front : IsFront (front_bytes segment e.slot bytes) (Some header)
   pub seq : e.seq ≡ header.seq
   pub first : e.first ≡ header.first
-  pub summarized : IsTrue e.summarized ↔ (header.summary ≢ None)
+  pub summary : e.summary ≡ header.summary
 
 -- Each of the first n slots is closed, or is one of these, with its header.
 pub record TellFronts (segment n : ℕ) (bytes : List ℕ) (opened : List Entry) : Type 0 where
@@ -61,10 +63,10 @@ pub record Head : Type 0 where
   pub slot : ℕ
   pub seq : ℕ
   pub first : ℕ
-  pub summarized : Bool
+  pub summary : Option Summary
 
 abbrev pub head_of : Entry → Head
-head_of e = record { slot = e.slot; seq = e.seq; first = e.first; summarized = e.summarized }
+head_of e = record { slot = e.slot; seq = e.seq; first = e.first; summary = e.summary }
 
 -- The segment in a slot has legal batches, and this is their survey.
 pub record HasSurvey (segment slot : ℕ) (bytes : List ℕ) (first : ℕ) (survey : Survey) : Type 0 where
@@ -96,3 +98,11 @@ pub record Finds (segment count : ℕ) (bytes : List ℕ) (opened : List Entry) 
   pub holds : HoldsPlaced segment count placed bytes
   pub order : AreInOrder placed
   pub describe : Describe placed opened
+
+-- All that some records have in common is within a summary.
+pub record Covers (s own : Summary) : Type 0 where
+  pub first : s.first_second ≤ own.first_second
+  pub ends : own.last_second ≤ s.last_second
+  pub least : int_le s.least_utc own.least_utc ≡ true
+  pub greatest : int_le own.greatest_utc s.greatest_utc ≡ true
+  pub bits : (k : ℕ) → has_channel (Some k) own.bits ≡ true → has_channel (Some k) s.bits ≡ true

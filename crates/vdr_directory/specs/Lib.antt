@@ -8,5 +8,6 @@ pub mod Directories
 pub mod Holds
 pub mod Closed
 pub mod Growing
+pub mod Leaving
 pub mod Opening
 pub mod Fronts

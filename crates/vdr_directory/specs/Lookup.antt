@@ -1,5 +1,5 @@
 -- What a ring is asked of its segments.
-use Rattle.std.specs.Prelude.{◌≡◌, ◌<◌, ◌≤◌, ℕ, Bool, nat_le, List, ◌∷◌, ◌++◌, All, Any, Contains, Option, ⊤}
+use Rattle.std.specs.Prelude.{◌≡◌, ◌<◌, ◌≤◌, ℕ, Bool, nat_le, List, ◌∷◌, ◌++◌, All, Any, Contains, Option}
 use Rattle.vdr_terms.specs.Records.{Record, second}
 use Rattle.vdr_index.specs.declared.known.Known.{Known}
 use Rattle.vdr_index.specs.Indexes.{IsAbove}

@@ -1,4 +1,4 @@
-ghost use Rattle.std.specs.Prelude.{◌≡◌, ◌<◌, ◌+◌, ◌^◌, ◌++◌, ◌∷◌, [], ℕ, List, length, replicate, All, IfOk, IfSome, IfNone, get_or, option_map, set, Some, None};
+ghost use Rattle.std.specs.Prelude.{◌≡◌, ◌<◌, ◌+◌, ◌^◌, ◌++◌, ◌∷◌, [], ℕ, List, length, replicate, All, IfOk, IfSome, IfNone, MatchOption, get_or, option_map, set, Some, None};
 ghost use Rattle.vdr_terms.specs.Records.{Record as ARecord};
 ghost use Rattle.vdr_entry.specs.declared.summary.Summary.{Summary as ASummary};
 ghost use Rattle.vdr_survey.specs.Extents.{extent_of};
@@ -11,6 +11,7 @@ ghost use Rattle.vdr_directory.specs.Entries.{Describe};
 ghost use Rattle.vdr_directory.specs.Directories.{count_of, ending_by, later, newest_by, slot_in, summary_at};
 ghost use Rattle.vdr_directory.specs.Indexed.{told_by};
 ghost use Rattle.vdr_directory.specs.Holds.{HoldsPlaced, Tells};
+ghost use Rattle.vdr_directory.specs.Leaving.{IsLeftBehind, LeavesNone};
 ghost use Rattle.vdr_directory.specs.Closed.{IsFull, IsLeastClosed};
 
 use crate::entry::Entry;
@@ -133,6 +134,19 @@ impl Directory {
             None => Some(newest),
             Some(_) => None,
         }
+    }
+
+    /// Where the newest segment has no records: the slot of the one before it, and the summary of its records. None where there is
+    /// no such segment.
+    pub fn left_behind(&self) -> Option<(u32, Summary)>
+        ensures within { IfSome result (λ x. x.0 < count_of self.now) }
+        ensures left { (placed : List Placed) → Tells (count_of self.now) placed self.now → (1 < length placed → AreInOrder placed)
+            → MatchOption result (LeavesNone placed) (λ x. IsLeftBehind placed x.0 x.1) }
+    {
+        self.empty_newest()?;
+        let slot = self.index.newest()?;
+        let known = self.index.known(slot)?;
+        Some((slot, known.summary))
     }
 
     fn newest_slot(&self) -> Option<u32>

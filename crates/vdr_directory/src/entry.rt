@@ -1,3 +1,4 @@
+use vdr_entry::Summary;
 use vdr_survey::Survey;
 
 /// What opening a medium finds of an open segment.
@@ -9,8 +10,8 @@ pub struct Entry {
     pub seq: u64,
     /// The place of its first record.
     pub first: u64,
-    /// Whether the gate of its summary is open.
-    pub summarized: bool,
+    /// The summary in its header. None where its gate is closed.
+    pub summary: Option<Summary>,
     /// What its batches come to.
     pub survey: Survey,
 }

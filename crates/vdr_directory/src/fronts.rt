@@ -27,7 +27,7 @@ fn add(opened: &mut Vec<Entry>, slot: u32, front: Option<Header>) -> Result<(), 
         slot,
         seq: header.seq,
         first: header.first,
-        summarized: header.summary.is_some(),
+        summary: header.summary,
         survey: Survey::empty(),
     })?;
     Ok(())

@@ -1,10 +1,13 @@
 // The order in a medium (this project's profile).
-ghost use Rattle.std.specs.Prelude.{◌≡◌, ◌↔◌, ◌<◌, ◌≤◌, ◌-◌, List, IsTrue, Option, IfSome, IfNone, SomeIff, Some, None, length, option_copied, slice_get};
-ghost use Rattle.vdr_directory.specs.Sequence.{Placed, first_of};
-ghost use Rattle.vdr_directory.specs.Order.{next_place, HasNone, RunsOn, TicksRise, Follows, MayFollow, MayPrecede, IsInPlace, AreInOrder, Breaks};
+ghost use Rattle.std.specs.Prelude.{◌≡◌, ◌↔◌, ◌<◌, ◌≤◌, ◌-◌, ℕ, List, true, IsTrue, Option, IfSome, IfNone, SomeIff, Some, None, All, option_map, length, option_copied, slice_get};
+ghost use Rattle.vdr_terms.specs.Queries.{has_channel};
+ghost use Rattle.vdr_directory.specs.Sequence.{Placed, first_of, records_of};
+ghost use Rattle.vdr_directory.specs.Order.{next_place, HasNone, RunsOn, IsCovered, Agrees, TicksRise, SecondsRise, begin_second, end_second, Follows, MayFollow, MayPrecede, IsInPlace, AreInOrder, Breaks};
 ghost use Rattle.vdr_directory.specs.Entries.{Describes, DescribesAny, Describe};
+ghost use Rattle.vdr_directory.specs.Fronts.{Covers};
 
 use crate::entry::Entry;
+use vdr_entry::Summary;
 
 // Sequence numbers are below this.
 const SEQ_END: u64 = 1 << 63;
@@ -20,6 +23,56 @@ fn has_records(entry: &Entry) -> bool
     ensures { (p : Placed) → Describes p entry.now → IsTrue result ↔ (HasNone p → ⊥) }
 {
     entry.survey.extent.is_some()
+}
+
+// Whether each channel's bit that is set here is set there.
+fn are_among(bits: u64, others: u64) -> bool
+    ensures { IsTrue result ↔ ((k : ℕ) → has_channel (Some k) bits ≡ true → has_channel (Some k) others ≡ true) }
+{
+    bits | others == others
+}
+
+// Whether records with this summary of their own are within another one.
+fn covers(summary: &Summary, own: &Summary) -> bool
+    ensures { IsTrue result ↔ Covers summary.now own.now }
+{
+    summary.first_second <= own.first_second
+        && own.last_second <= summary.last_second
+        && summary.least_utc <= own.least_utc
+        && own.greatest_utc <= summary.greatest_utc
+        && are_among(own.bits, summary.bits)
+}
+
+// Whether a segment that runs on has so many records.
+fn has_count(entry: &Entry, count: u32) -> bool
+    ensures { (p : Placed) → Describes p entry.now → RunsOn p → IsTrue result ↔ (count ≡ length (records_of p)) }
+{
+    match entry.survey.extent {
+        None => count == 0,
+        Some(extent) => {
+            count > 0 && extent.last_place.saturating_sub(entry.first) == (count - 1) as u64
+        }
+    }
+}
+
+// Whether the records of a segment that runs on are within a summary.
+fn are_covered(entry: &Entry, summary: &Summary) -> bool
+    ensures { (p : Placed) → Describes p entry.now → RunsOn p → IsTrue result ↔ All (IsCovered summary.now) (records_of p) }
+{
+    match entry.survey.summary {
+        None => true,
+        Some(own) => covers(summary, &own),
+    }
+}
+
+// Whether a segment that runs on agrees with its summary, where it has one.
+fn agrees(entry: &Entry) -> bool
+    ensures { (p : Placed) → Describes p entry.now → RunsOn p → IsTrue result ↔ IfSome p.segment.header.summary (Agrees p) }
+{
+    let Some(summary) = entry.summary else {
+        return true;
+    };
+    has_count(entry, summary.count) && are_covered(entry, &summary)
 }
 
 // How many places are left out between the end of one segment and the beginning of another. None where they overlap.
@@ -42,6 +95,36 @@ fn ticks_rise(before: &Entry, entry: &Entry) -> bool
     }
 }
 
+// What tells the first and the last second of a segment: its summary where it has one, else that of its records. None where there
+// is no record.
+fn seconds_of(entry: &Entry) -> Option<Summary>
+    ensures { (p : Placed) → Describes p entry.now → (begin_second p.segment.header.summary (records_of p) ≡ option_map (λ s. s.first_second) result)
+        × (end_second p.segment.header.summary (records_of p) ≡ option_map (λ s. s.last_second) result) }
+{
+    let own = entry.survey.summary?;
+    match entry.summary {
+        None => Some(own),
+        Some(summary) => Some(summary),
+    }
+}
+
+// Whether seconds do not fall from one segment to another.
+fn seconds_rise(before: &Entry, entry: &Entry) -> bool
+    ensures { (q p : Placed) → Describes q before.now → Describes p entry.now → IsTrue result ↔ SecondsRise q p }
+{
+    match (seconds_of(before), seconds_of(entry)) {
+        (Some(earlier), Some(later)) => earlier.last_second <= later.first_second,
+        _ => true,
+    }
+}
+
+// Whether recording time does not fall from one segment to another.
+fn times_rise(before: &Entry, entry: &Entry) -> bool
+    ensures { (q p : Placed) → Describes q before.now → Describes p entry.now → IsTrue result ↔ (TicksRise q p × SecondsRise q p) }
+{
+    ticks_rise(before, entry) && seconds_rise(before, entry)
+}
+
 // What a segment has to be behind another that runs on.
 fn follows(before: &Entry, entry: &Entry) -> bool
     ensures { (q p : Placed) → Describes q before.now → Describes p entry.now → RunsOn q → IsTrue result ↔ Follows q p }
@@ -54,8 +137,8 @@ fn follows(before: &Entry, entry: &Entry) -> bool
     };
     match step {
         0 => false,
-        1 => skipped == 0 && ticks_rise(before, entry),
-        _ => has_records(entry) && ticks_rise(before, entry),
+        1 => skipped == 0 && times_rise(before, entry),
+        _ => has_records(entry) && times_rise(before, entry),
     }
 }
 
@@ -64,8 +147,8 @@ fn may_precede(entry: &Entry, after: &[Entry]) -> bool
     ensures { (p : Placed) (ps : List Placed) → Describes p entry.now → Describe ps after.now → IsTrue result ↔ MayPrecede p ps }
 {
     match after {
-        [] => !entry.summarized,
-        [next] => has_records(entry) && (has_records(next) || !entry.summarized),
+        [] => entry.summary.is_none(),
+        [next] => has_records(entry) && (has_records(next) || entry.summary.is_none()),
         _ => has_records(entry),
     }
 }
@@ -91,7 +174,7 @@ fn may_follow(before: Option<&Entry>, entry: &Entry) -> bool
 fn is_in_place(before: Option<&Entry>, entry: &Entry, after: &[Entry]) -> bool
     ensures { (o : Option Placed) (p : Placed) (ps : List Placed) → DescribesAny o (option_copied before.entry) → Describes p entry.now → Describe ps after.now → IfSome o RunsOn → IsTrue result ↔ IsInPlace o p ps }
 {
-    runs_on(entry) && may_follow(before, entry) && may_precede(entry, after)
+    runs_on(entry) && agrees(entry) && may_follow(before, entry) && may_precede(entry, after)
 }
 
 // The index of the first segment that breaks the order.

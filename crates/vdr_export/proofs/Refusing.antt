@@ -1,12 +1,11 @@
 -- What is refused where a visit stops, and what is said of the calls then.
-use Rattle.std.proofs.Common.{◌≡◌, ◌≤◌, ◌==◌, Bool, true, false, if◌then◌else◌, ℕ, List, Option, Some, None, Result, Err, refl, sym, ap, ◌∙◌, subst, arith}
+use Rattle.std.proofs.Common.{◌≡◌, ◌≤◌, ℕ, List, Option, Some, None, Result, Err, refl, sym, ap, ◌∙◌, subst, arith}
 use Rattle.vdr_terms.specs.Queries.{Query}
 use Rattle.vdr_terms.specs.Records.{Record}
-use Rattle.vdr_playback.specs.Playback.{medium_of}
 use Rattle.vdr_outside.specs.Causes.{Rose}
 use Rattle.vdr_outside.proofs.Counts.{none_fell, rose_after}
 use Rattle.vdr_outside.specs.Disk.{Disk}
-use Rattle.vdr_vault.specs.Vaults.{AreRings, VaultState}
+use Rattle.vdr_vault.specs.Vaults.{AreRings}
 use Rattle.vdr_recorder.proofs.Looking.{looked}
 use Rattle.vdr_recorder.specs.Looks.{HasLooked}
 use Rattle.vdr_recorder.specs.Recordings.{RecorderState}
@@ -76,17 +75,11 @@ pub never_blamed : {blamed : Type 0} → HasOutputCause 0 0 blamed → blamed �
 never_blamed h is = let more : Rose 0 0 = h.rose is in omega (arith, more)
 
 -- Where nothing was called, nothing was done.
-reads_nothing : (b : Bool) (x : VaultState)
-    → x ≡ (if b then record x { capsule = record (if b then x.capsule else x.long_term) { buffer = (if b then x.capsule else x.long_term).buffer; loaded = (if b then x.capsule else x.long_term).loaded } }
-    else record x { long_term = record (if b then x.capsule else x.long_term) { buffer = (if b then x.capsule else x.long_term).buffer; loaded = (if b then x.capsule else x.long_term).loaded } })
-reads_nothing true x = refl
-reads_nothing false x = refl
-
 pub looked_nothing : {tells tells_images : Type 0} (query : Query) (r : RecorderState) (disk : Disk tells tells_images) (read faults : List ℕ) (answered : Type 0) → (answered → ⊥) → AreRings r.vault disk.sizes
     → HasLooked query r r disk disk read read faults faults answered
 looked_nothing query r disk read faults answered never rings = looked query r r.vault disk disk read read faults faults answered
     (record {
-      vault = reads_nothing (medium_of query.medium == 0) r.vault;
+      vault = record { vault = refl; count = refl; ring = refl; others = λ k other. refl };
       rings = rings;
       unchanged = record { sizes = refl; reads = λ told. refl; clock = refl; since = λ t i. (λ h. h, λ h. h) };
       counts = λ k other. refl;

@@ -1,16 +1,15 @@
 -- A sound in two passes.
-use Rattle.std.proofs.Common.{◌≡◌, inl, inr, ⊎_elim, ℕ, Bool, true, false, List, length, Option, Result, Ok, Err, sym, ap, ◌∙◌, subst}
+use Rattle.std.proofs.Common.{◌≡◌, inl, inr, ⊎_elim, ℕ, false, List, length, Option, Result, Ok, Err, sym, ap, ◌∙◌, subst}
 use Rattle.std.specs.Bool.{⊤}
-use Rattle.std.specs.Prelude.{◌==◌, if◌then◌else◌, OnOk}
+use Rattle.std.specs.Prelude.{OnOk}
 use Rattle.std.specs.Io.KnownBytes.{Appends}
 use Rattle.vdr_history.specs.Histories.{Incident}
 use Rattle.vdr_outside.specs.Writes.{AppendsFront}
 use Rattle.vdr_config.specs.Configuration.{Configuration}
 use Rattle.vdr_entry.specs.Queries.{asked}
 use Rattle.vdr_entry.specs.declared.query.Query.{Query}
-use Rattle.vdr_ring.specs.Rings.{RingState}
 use Rattle.vdr_vault.specs.Plays.{ReadsOn}
-use Rattle.vdr_vault.specs.Vaults.{AreRings, VaultState, ring_of}
+use Rattle.vdr_vault.specs.Vaults.{AreRings, VaultState}
 use Rattle.vdr_visit.specs.Refusals.{lacks_channel, lacks_incident}
 use Rattle.vdr_recorder.specs.Recordings.{RecorderState}
 use Rattle.vdr_export.specs.Asked.{MayBeAsked}
@@ -54,19 +53,12 @@ passed_on result why given out was same is fault = let one : Err given ≡ Err F
 pub was_ok : (result : Result WaveSize ExportRefused) (size : WaveSize) (e : ExportRefused) → result ≡ Ok size → result ≡ Err e → ⊥
 was_ok result size e ok err = cc
 
--- What was read of a ring changes neither configuration nor incidents.
-same_settings : (first : Bool) (ring : RingState) (old : VaultState) (s : VaultState) → s ≡ (if first then record old { capsule = ring } else record old { long_term = ring })
-    → (s.config ≡ old.config) × (s.table ≡ old.table)
-same_settings true ring old s is = (ap (λ (t : VaultState). t.config) is, ap (λ (t : VaultState). t.table) is)
-same_settings false ring old s is = (ap (λ (t : VaultState). t.config) is, ap (λ (t : VaultState). t.table) is)
-
--- So the same may be asked after a look.
+-- What was read changes neither configuration nor incidents, so the same may be asked after a look.
 pub asked_again : (query : Query) (m : ℕ) (old new : RecorderState) (before after : List ℕ) → ReadsOn m old.vault new.vault → AreRings new.vault after
     → MayBeAsked query old before → MayBeAsked query new after
 asked_again query m old new before after reads rings may =
-    let same = same_settings (m == 0) (record (ring_of old.vault m) { buffer = (ring_of new.vault m).buffer; loaded = (ring_of new.vault m).loaded }) old.vault new.vault reads in
     record {
       rings = rings;
-      channel = subst (λ (config : Configuration). lacks_channel (length config.channels) query.channel ≡ false) (sym same.0) may.channel;
-      incident = subst (λ (table : List (Option Incident)). lacks_incident table (asked query).medium ≡ false) (sym same.1) may.incident;
+      channel = subst (λ (config : Configuration). lacks_channel (length config.channels) query.channel ≡ false) (sym (ap (λ (s : VaultState). s.config) reads.vault)) may.channel;
+      incident = subst (λ (table : List (Option Incident)). lacks_incident table (asked query).medium ≡ false) (sym (ap (λ (s : VaultState). s.table) reads.vault)) may.incident;
     }

@@ -14,7 +14,7 @@ use Rattle.vdr_outside.specs.Disk.{Disk, Image}
 use Rattle.vdr_outside.proofs.Moments.{moments_weaken}
 use Rattle.vdr_config.specs.Grammar.{configuration}
 use Rattle.vdr_config.specs.Sizes.{sizes_of}
-use Rattle.vdr_opening.specs.Media.{both, Contents, opening_of}
+use Rattle.vdr_opening.specs.Media.{members, Contents, opening_of}
 use Rattle.vdr_vault.specs.Openings.{GoesOnSynced}
 use Rattle.vdr_vault.specs.Regularity.{AreSound, IsRegularMedium}
 use Rattle.vdr_vault.specs.Vaults.{HoldsHistory, ShowsHistory, ring_of}
@@ -65,11 +65,11 @@ told_as opening shows others Told Tells pends may_pend before after h to told pe
 -- The order of what the media were given
 
 module _ (x : Contents) (sound : AreSound x) where
-  opened_in_order : (m : ℕ) → Contains both m → AreInOrder ((opening_of x).records m)
-  opened_in_order m there = (All-contains (IsRegularMedium x) both m sound.regular there).order
+  opened_in_order : (m : ℕ) → Contains members m → AreInOrder ((opening_of x).records m)
+  opened_in_order m there = (All-contains (IsRegularMedium x) members m sound.regular there).order
 
   -- Events that record nothing leave it.
-  pub order_quiet : (events : List Event) → recorded events ≡ [] → (m : ℕ) → Contains both m → AreInOrder (all_records (opening_of x) m events)
+  pub order_quiet : (events : List Event) → recorded events ≡ [] → (m : ℕ) → Contains members m → AreInOrder (all_records (opening_of x) m events)
   order_quiet events none m there =
       subst AreInOrder (sym (ap (λ (rs : List Record). (opening_of x).records m ++ rs) none ∙ append-nil ((opening_of x).records m))) (opened_in_order m there)
 
@@ -77,8 +77,8 @@ module _ (x : Contents) (sound : AreSound x) where
     lasts_meet : last ((opening_of x).records 1) ≡ last ((opening_of x).records 0)
     lasts_meet =
         let stands = (h.works h.failed).standing.stands in
-        let on : (m : ℕ) → Contains both m → HoldsHistory (opening_of x) [] r.vault.config m (ring_of r.vault m) ((h.works h.failed).standing.placed m) disk =
-        λ m there. All-contains (λ m. HoldsHistory (opening_of x) [] r.vault.config m (ring_of r.vault m) ((h.works h.failed).standing.placed m) disk) both m
+        let on : (m : ℕ) → Contains members m → HoldsHistory (opening_of x) [] r.vault.config m (ring_of r.vault m) ((h.works h.failed).standing.placed m) disk =
+        λ m there. All-contains (λ m. HoldsHistory (opening_of x) [] r.vault.config m (ring_of r.vault m) ((h.works h.failed).standing.placed m) disk) members m
         stands.media there in
         let capsule = on 0 (contains_here 0 (1 ∷ [])) in
         let long_term = on 1 (contains_there 0 (1 ∷ []) 1 (contains_here 1 [])) in
@@ -90,7 +90,7 @@ module _ (x : Contents) (sound : AreSound x) where
         ∙ capsule.retains.window.newest
         ∙ ap last (append-nil ((opening_of x).records 0))
 
-    goes_on_from : (m : ℕ) → Contains both m → GoesOnFrom m (opening_of x)
+    goes_on_from : (m : ℕ) → Contains members m → GoesOnFrom m (opening_of x)
     goes_on_from m there = ⊎_elim
         (λ (e : 0 ≡ m). subst (λ (m : ℕ). GoesOnFrom m (opening_of x)) e (record { place = refl; stamp = refl }))
         (λ (k : Contains (1 ∷ []) m). ⊎_elim
@@ -100,7 +100,7 @@ module _ (x : Contents) (sound : AreSound x) where
         (contains_cases 1 [] m k))
         (contains_cases 0 (1 ∷ []) m there)
 
-    pub order_after : (events : List Event) → IsRecorderHistory (opening_of x) events → (m : ℕ) → Contains both m
+    pub order_after : (events : List Event) → IsRecorderHistory (opening_of x) events → (m : ℕ) → Contains members m
         → AreInOrder (all_records (opening_of x) m events)
     order_after events made m there = all_in_order (opening_of x) events made m (goes_on_from m there) (opened_in_order m there)
 
@@ -113,7 +113,7 @@ pub no_event_whole : IsWhole []
 no_event_whole = All-nil (λ (e : Event). e.moment ≢ None)
 
 module _ (x : Contents) (reads : configuration x.text ≡ Ok x.config) where
-  pub back : (events : List Event) (order : (m : ℕ) → Contains both m → AreInOrder (all_records (opening_of x) m events))
+  pub back : (events : List Event) (order : (m : ℕ) → Contains members m → AreInOrder (all_records (opening_of x) m events))
       (first rest : List Event) → events ≡ first ++ rest
       → (image : Image) → ShowsHistory (opening_of x) first image → PlaysBack (opening_of x) first image
   back events order first rest split image h = plays x reads first (λ m there. front_in_order (opening_of x) m first rest events split (order m there)) image h
@@ -121,7 +121,7 @@ module _ (x : Contents) (reads : configuration x.text ≡ Ok x.config) where
   module _ {tells tells_images : Type 0} (Told : List Event → Type 0) (may_pend : Type 0) (old : Disk tells tells_images) where
     -- These events came after an opening.
     pub after_opening : (t0 : ℕ) (mid new : Disk tells tells_images) → Passes (opening_of x) [] old mid → old.clock ≤ t0 → t0 ≤ mid.clock
-        → (events : List Event) → ((m : ℕ) → Contains both m → AreInOrder (all_records (opening_of x) m events)) → IsHistory (opening_of x) events
+        → (events : List Event) → ((m : ℕ) → Contains members m → AreInOrder (all_records (opening_of x) m events)) → IsHistory (opening_of x) events
         → Keeps (ShowsHistory (opening_of x)) events t0 new
         → Passes (opening_of x) events mid new → IsWhole events ⊎ may_pend → Told events → RecordingHeadline x Told may_pend old new
     after_opening t0 mid new passes entry exit events order history kept then pending told =

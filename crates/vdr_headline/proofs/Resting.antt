@@ -7,7 +7,7 @@ use Rattle.vdr_durability.specs.Shown.{given_with, pins_on}
 use Rattle.vdr_outside.specs.Disk.{Disk, content}
 use Rattle.vdr_outside.proofs.Moments.{size_read}
 use Rattle.vdr_directory.specs.Sequence.{all_records}
-use Rattle.vdr_opening.specs.Media.{both, Contents, HoldsContents, IsMedium}
+use Rattle.vdr_opening.specs.Media.{members, Contents, HoldsContents, IsMedium}
 use Rattle.vdr_vault.specs.Vaults.{HoldsHistory, VaultState, ShowsHistory, Stands, ring_of}
 use Rattle.vdr_vault.proofs.ShownHistory.{held_at, stands_sound}
 use Rattle.vdr_vault.proofs.ShownImages.{placed_there, shown_level}
@@ -33,11 +33,11 @@ module _ {tells tells_images : Type 0} (opening : Opening) (events : List Event)
 
   holds : HoldsContents disk.reads Held
   holds = record {
-    media = All-weaker Holds (λ m. IsMedium m vault.config opening.settings.text (placed m) (content disk.reads m)) read_at both stands.media;
+    media = All-weaker Holds (λ m. IsMedium m vault.config opening.settings.text (placed m) (content disk.reads m)) read_at members stands.media;
     table = stands.table told;
     there = stands.there;
   }
 
   pub stand_reads : ShowsHistory opening events disk.reads
   stand_reads = shown_level opening events Held disk.reads holds (stands_sound opening events vault placed disk stands) refl stands.incidents_are stands.level
-      (All-weaker Holds (λ m. Retains (opening.settings.seconds m) (pins_on m (incidents opening events)) (given_with opening events m) (all_records (placed m))) (λ m h. h.retains) both stands.media)
+      (All-weaker Holds (λ m. Retains (opening.settings.seconds m) (pins_on m (incidents opening events)) (given_with opening events m) (all_records (placed m))) (λ m h. h.retains) members stands.media)

@@ -9,7 +9,7 @@ use Rattle.vdr_retention.proofs.Lists.{all_from, contains_cases, contains_here, 
 use Rattle.vdr_outside.specs.Disk.{Image, content}
 use Rattle.vdr_durability.specs.Readings.{begins_at, ends_before, leading_batch, next_after, records_on, restored, with_next}
 use Rattle.vdr_durability.proofs.Restored.{next_added, next_kept}
-use Rattle.vdr_opening.specs.Media.{both, Contents, HoldsContents, IsMedium, reading_of}
+use Rattle.vdr_opening.specs.Media.{members, Contents, HoldsContents, IsMedium, reading_of}
 use Rattle.vdr_directory.specs.Order.{AreInOrder, AreInPlace, IsInPlace, next_place}
 use Rattle.vdr_directory.specs.Sequence.{Placed, all_records, batches_in, first_of, records_of}
 use Rattle.vdr_vault.proofs.ReconcileBatch.{placed_runs_on}
@@ -86,11 +86,11 @@ with_next_rises (Some b) bs h runs = go (ends_before (Some b) bs) refl
     go false e = subst (λ (l : Batches). PlacesRise (segment_records l)) (sym (next_kept bs b e)) h
 
 -- What is restored of legible media rises, medium by medium.
-pub restored_rises : (image : Image) (y : Contents) → HoldsContents image y → (m : ℕ) → Contains both m → PlacesRise (records_on (restored both (reading_of y)) m)
+pub restored_rises : (image : Image) (y : Contents) → HoldsContents image y → (m : ℕ) → Contains members m → PlacesRise (records_on (restored members (reading_of y)) m)
 restored_rises image y holds m there =
-    with_next_rises (leading_batch both (reading_of y)) (batches_in (y.placed m))
+    with_next_rises (leading_batch members (reading_of y)) (batches_in (y.placed m))
     (subst PlacesRise (sym (records_are (y.placed m))) (placed_rise (y.placed m) (order m there)))
     (λ b e. placed_runs_on None (y.placed 0) b (order 0 (contains_here 0 (1 ∷ []))) (last_contained (batches_in (y.placed 0)) b e))
   where
-    order : (m : ℕ) → Contains both m → AreInOrder (y.placed m)
-    order m there = (All-contains (λ m. IsMedium m y.config y.text (y.placed m) (content image m)) both m holds.media there).segments.order
+    order : (m : ℕ) → Contains members m → AreInOrder (y.placed m)
+    order m there = (All-contains (λ m. IsMedium m y.config y.text (y.placed m) (content image m)) members m holds.media there).segments.order

@@ -11,12 +11,12 @@ use Rattle.vdr_durability.specs.Shown.{Shows}
 use Rattle.vdr_playback.specs.Playback.{selected}
 use Rattle.vdr_outside.specs.Disk.{Disk, Image}
 use Rattle.vdr_outside.specs.Moments.{AtEachMoment}
-use Rattle.vdr_opening.specs.Media.{both, Contents, HoldsContents, opening_of, reading_of}
+use Rattle.vdr_opening.specs.Media.{members, Contents, HoldsContents, opening_of, reading_of}
 use Rattle.vdr_vault.specs.Regularity.{AreSound}
 
 -- The query's medium, or its incident, is there after these events.
 abbrev pub IsThere : Opening → List Event → Medium → Type 0
-IsThere opening events (WindowOf m) = Contains both m
+IsThere opening events (WindowOf m) = Contains members m
 IsThere opening events (Incident id) = is_some (live (incidents opening events) id) ≡ true
 
 -- An image that a stop may leave is legible, sound and shows these events, and what is played of it is what they have: of each medium just
@@ -25,7 +25,7 @@ pub record PlaysBack (opening : Opening) (events : List Event) (image : Image) :
   pub contents : Contents
   pub legible : HoldsContents image contents
   pub sound : AreSound contents
-  pub shown : Shows both opening events (reading_of contents)
+  pub shown : Shows members opening events (reading_of contents)
   pub played : (query : Query) → IsThere opening events query.medium → selected (opening_of contents) [] query ≡ selected opening events query
 
 -- The media at entry and at the return, what they held at entry, and which images show which events. `Told`: what is said of the events, as
@@ -34,7 +34,7 @@ pub record Headline {tells tells_images : Type 0} (opening : Opening) (shows : L
     (before after : Disk tells tells_images) : Type 0 where
   pub events : List Event
   pub history : IsHistory opening events
-  pub order : (m : ℕ) → Contains both m → AreInOrder (all_records opening m events)
+  pub order : (m : ℕ) → Contains members m → AreInOrder (all_records opening m events)
   pub pending : IsWhole events ⊎ may_pend
   pub told : Told events
   -- at each moment from entry on a stop left what it might have left at entry, or what shows the first of these events

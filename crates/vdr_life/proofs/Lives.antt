@@ -24,11 +24,10 @@ use Rattle.vdr_config.proofs.Ranges.{ranges_of}
 use Rattle.vdr_media.specs.Formatted.{IsEmptyHistory}
 use Rattle.vdr_media.proofs.Two.{all_two}
 use Rattle.vdr_directory.specs.Sequence.{batches_in}
-use Rattle.vdr_opening.specs.Media.{both, Contents, HoldsContents, nothing_on, opening_of, reading_of}
+use Rattle.vdr_opening.specs.Media.{members, Contents, HoldsContents, nothing_on, opening_of, reading_of}
 use Rattle.vdr_opening.specs.Settings.{settings_of}
 use Rattle.vdr_opening.proofs.ContentsHeld.{are_legal, one_capsule, one_configured_text, one_incidents, one_long_term}
-use Rattle.vdr_opening.proofs.Formatted.{empty_holds, empty_meet}
-use Rattle.vdr_opening.proofs.Fronts.{one_config}
+use Rattle.vdr_opening.proofs.Fronts.{empty_holds, empty_meet, one_config}
 use Rattle.vdr_vault.specs.Openings.{LeavesAll}
 use Rattle.vdr_vault.specs.Regularity.{AreSound, IsRegularMedium}
 use Rattle.vdr_vault.specs.Vaults.{ShowsHistory}
@@ -52,18 +51,18 @@ pub run_front : (x : Contents) (first rest events : List Event) → events ≡ f
 run_front x first rest events split run = record {
   follow = follow_front (opening_of x) [] first rest (subst (MayFollow (opening_of x) []) split run.follow);
   order = All-weaker (λ m. AreInOrder (given_with (opening_of x) events m)) (λ m. AreInOrder (given_with (opening_of x) first m))
-      (λ m h. order_front (opening_of x) m first rest (subst (λ (es : List Event). AreInOrder (all_records (opening_of x) m es)) split h)) both run.order;
+      (λ m h. order_front (opening_of x) m first rest (subst (λ (es : List Event). AreInOrder (all_records (opening_of x) m es)) split h)) members run.order;
 }
 
-pub run_in_order : (x : Contents) (events : List Event) → MayFollow (opening_of x) [] events → ((m : ℕ) → Contains both m → AreInOrder (all_records (opening_of x) m events)) → IsRun x events
-run_in_order x events follow order = record { follow = follow; order = all_from (λ m. AreInOrder (given_with (opening_of x) events m)) both order }
+pub run_in_order : (x : Contents) (events : List Event) → MayFollow (opening_of x) [] events → ((m : ℕ) → Contains members m → AreInOrder (all_records (opening_of x) m events)) → IsRun x events
+run_in_order x events follow order = record { follow = follow; order = all_from (λ m. AreInOrder (given_with (opening_of x) events m)) members order }
 
 -- What media show depends on what both read as alone.
 module _ (opening : Opening) (events : List Event) (r s : Reading) (first : r.batches 0 ≡ s.batches 0) (second : r.batches 1 ≡ s.batches 1) (table : r.table ≡ s.table) (text : r.text ≡ s.text) where
   abbrev Kept : Reading → ℕ → Type 0
-  Kept reading = RetainsOn opening.settings (incidents opening events) (given_with opening events) (λ m. records_on (restored both reading) m)
+  Kept reading = RetainsOn opening.settings (incidents opening events) (given_with opening events) (λ m. records_on (restored members reading) m)
 
-  pub shows_as : Shows both opening events r → Shows both opening events s
+  pub shows_as : Shows members opening events r → Shows members opening events s
   shows_as h = record {
     media = record {
       are_members = h.media.are_members;
@@ -82,20 +81,20 @@ module _ (c : Configuration) (text : List ℕ) where
     pub contents : Contents
     pub holds : HoldsContents image contents
     pub sound : AreSound contents
-    pub shown : Shows both (first_opening c text) all (reading_of contents)
+    pub shown : Shows members (first_opening c text) all (reading_of contents)
     pub follow : MayFollow (first_opening c text) [] all
-    pub order : (m : ℕ) → Contains both m → AreInOrder (all_records (first_opening c text) m all)
+    pub order : (m : ℕ) → Contains members m → AreInOrder (all_records (first_opening c text) m all)
     pub reads : configuration text ≡ Ok c
 
-  begun : (image : Image) → IsEmptyHistory both c text image → LivesSo [] image
+  begun : (image : Image) → IsEmptyHistory members c text image → LivesSo [] image
   begun image empty = from (restored_shown (nothing_on c text) image (empty_holds image c text empty) (empty_meet c text) (sound_nothing c text))
     where
       from : ShowsHistory (first_opening c text) [] image → LivesSo [] image
-      from (members, reading, is_read, shown) = record {
+      from (numbers, reading, is_read, shown) = record {
         contents = is_read.reads.contents;
         holds = is_read.reads.holds;
         sound = is_read.sound;
-        shown = subst (Shows both (first_opening c text) []) is_read.reads.is (subst (λ (ms : List ℕ). Shows ms (first_opening c text) [] reading) is_read.reads.members_are shown);
+        shown = subst (Shows members (first_opening c text) []) is_read.reads.is (subst (λ (ms : List ℕ). Shows ms (first_opening c text) [] reading) is_read.reads.members_are shown);
         follow = tt;
         order = λ m there. tt;
         reads = (empty.each 0 0 (omega arith)).holds.reads;
@@ -103,7 +102,7 @@ module _ (c : Configuration) (text : List ℕ) where
 
   -- The contents of an image, whichever they are.
   module _ (all : List Event) (image : Image) (l : LivesSo all image) (x : Contents) (holds : HoldsContents image x) where
-    shown_on : Shows both (first_opening c text) all (reading_of x)
+    shown_on : Shows members (first_opening c text) all (reading_of x)
     shown_on = shows_as (first_opening c text) all (reading_of l.contents) (reading_of x) (ap batches_in (one_capsule (are_legal l.holds) (are_legal holds))) (ap batches_in (one_long_term (are_legal l.holds) (are_legal holds)))
         (one_incidents (are_legal l.holds) (are_legal holds) l.holds.table holds.table) (one_configured_text (are_legal l.holds) (are_legal holds)) l.shown
 
@@ -116,23 +115,23 @@ module _ (c : Configuration) (text : List ℕ) where
     sound_on : AreSound x
     sound_on = (sound_as image l.contents x l.holds holds (l.shown.media.ends, l.sound)).1
 
-    restored_order : (m : ℕ) → Contains both m → AreInOrder (records_on (restored both (reading_of x)) m)
-    restored_order m there = (All-contains (IsRegularMedium x) both m sound_on.regular there).order
+    restored_order : (m : ℕ) → Contains members m → AreInOrder (records_on (restored members (reading_of x)) m)
+    restored_order m there = (All-contains (IsRegularMedium x) members m sound_on.regular there).order
 
-    same_opening : opening_of x ≡ opened both (settings_of c text) (reading_of x)
-    same_opening = λ i. opened both (settings_of (same_config i) (same_text i)) (reading_of x)
+    same_opening : opening_of x ≡ opened members (settings_of c text) (reading_of x)
+    same_opening = λ i. opened members (settings_of (same_config i) (same_text i)) (reading_of x)
 
-    windows_on : (m : ℕ) → Contains both m → window (window_of c m) ((opening_of x).records m) ≡ window (window_of c m) (recorded all)
-    windows_on m there = reopened_window both (first_opening c text) all (reading_of x) shown_on m there (l.order m there) (restored_order m there)
+    windows_on : (m : ℕ) → Contains members m → window (window_of c m) ((opening_of x).records m) ≡ window (window_of c m) (recorded all)
+    windows_on m there = reopened_window members (first_opening c text) all (reading_of x) shown_on m there (l.order m there) (restored_order m there)
 
     places_on : (incident : Incident) → Contains x.table (Some incident) → at_places incident.a incident.b ((opening_of x).records 1) ≡ at_places incident.a incident.b (recorded all)
-    places_on incident live = reopened_places both (first_opening c text) all (reading_of x) shown_on incident
+    places_on incident live = reopened_places members (first_opening c text) all (reading_of x) shown_on incident
         (subst (λ (t : List (Option Incident)). Contains t (Some incident)) shown_on.saves.table live) (l.order 1 shown_on.saves.long_term) (restored_order 1 shown_on.saves.long_term)
 
     -- One run more.
-    module _ (after : Image) (events : List Event) (run : IsRun x events) (members : List ℕ) (reading : Reading) (y : Contents) (members_are : members ≡ both) (is : reading ≡ reading_of y)
-        (y_holds : HoldsContents after y) (y_sound : AreSound y) (shown : Shows members (opening_of x) events reading) where
-      two_runs : IsTwoRuns both (first_opening c text) all (reading_of x) events (reading_of y)
+    module _ (after : Image) (events : List Event) (run : IsRun x events) (numbers : List ℕ) (reading : Reading) (y : Contents) (members_are : numbers ≡ members) (is : reading ≡ reading_of y)
+        (y_holds : HoldsContents after y) (y_sound : AreSound y) (shown : Shows numbers (opening_of x) events reading) where
+      two_runs : IsTwoRuns members (first_opening c text) all (reading_of x) events (reading_of y)
       two_runs = record {
         longer = (ranges_of text c l.reads).1;
         leads = contains_here 0 (1 ∷ []);
@@ -140,10 +139,10 @@ module _ (c : Configuration) (text : List ℕ) where
         follow = l.follow;
         shown = shown_on;
         again = subst (λ (o : Opening). MayFollow o [] events) same_opening run.follow;
-        shown_again = subst (λ (o : Opening). Shows both o events (reading_of y)) same_opening
-            (subst (Shows both (opening_of x) events) is (subst (λ (ms : List ℕ). Shows ms (opening_of x) events reading) members_are shown));
+        shown_again = subst (λ (o : Opening). Shows members o events (reading_of y)) same_opening
+            (subst (Shows members (opening_of x) events) is (subst (λ (ms : List ℕ). Shows ms (opening_of x) events reading) members_are shown));
         order = l.order;
-        order_again = λ m there. subst (λ (o : Opening). AreInOrder (all_records o m events)) same_opening (All-contains (λ m. AreInOrder (given_with (opening_of x) events m)) both m run.order there);
+        order_again = λ m there. subst (λ (o : Opening). AreInOrder (all_records o m events)) same_opening (All-contains (λ m. AreInOrder (given_with (opening_of x) events m)) members m run.order there);
       }
 
       further : LivesSo (all ++ events) after
@@ -151,15 +150,15 @@ module _ (c : Configuration) (text : List ℕ) where
         contents = y;
         holds = y_holds;
         sound = y_sound;
-        shown = lives_show both (first_opening c text) all (reading_of x) events (reading_of y) two_runs;
-        follow = lives_follow both (first_opening c text) all (reading_of x) events (reading_of y) two_runs;
-        order = lives_order both (first_opening c text) all (reading_of x) events (reading_of y) two_runs;
+        shown = lives_show members (first_opening c text) all (reading_of x) events (reading_of y) two_runs;
+        follow = lives_follow members (first_opening c text) all (reading_of x) events (reading_of y) two_runs;
+        order = lives_order members (first_opening c text) all (reading_of x) events (reading_of y) two_runs;
         reads = l.reads;
       }
 
   one_run : (all : List Event) (before after : Image) (x : Contents) (events : List Event) → LivesSo all before → HoldsContents before x → IsRun x events → ShowsHistory (opening_of x) events after → LivesSo (all ++ events) after
-  one_run all before after x events l holds run (members, reading, is_read, shown) =
-      further all before l x holds after events run members reading is_read.reads.contents is_read.reads.members_are is_read.reads.is is_read.reads.holds is_read.sound shown
+  one_run all before after x events l holds run (numbers, reading, is_read, shown) =
+      further all before l x holds after events run numbers reading is_read.reads.contents is_read.reads.members_are is_read.reads.is is_read.reads.holds is_read.sound shown
 
   lives_so : (all : List Event) (image : Image) → Life c text all image → LivesSo all image
   lives_so _ _ (formatted image empty) = begun image empty
@@ -176,7 +175,7 @@ module _ (c : Configuration) (text : List ℕ) where
   pub life_config : (all : List Event) (image : Image) (x : Contents) → Life c text all image → HoldsContents image x → x.config ≡ c
   life_config all image x life holds = same_config all image (lives_so all image life) x holds
 
-  pub life_windows : (all : List Event) (image : Image) (x : Contents) (m : ℕ) → Life c text all image → HoldsContents image x → Contains both m → window (window_of c m) ((opening_of x).records m) ≡ window (window_of c m) (recorded all)
+  pub life_windows : (all : List Event) (image : Image) (x : Contents) (m : ℕ) → Life c text all image → HoldsContents image x → Contains members m → window (window_of c m) ((opening_of x).records m) ≡ window (window_of c m) (recorded all)
   life_windows all image x m life holds there = windows_on all image (lives_so all image life) x holds m there
 
   pub life_incidents : (all : List Event) (image : Image) (x : Contents) → Life c text all image → HoldsContents image x → x.table ≡ incidents (first_opening c text) all
@@ -190,7 +189,7 @@ module _ (c : Configuration) (text : List ℕ) where
   pub record LifeHolds (image : Image) : Type 0 where
     pub contents : Contents
     pub holds : HoldsContents image contents
-    pub meet : EndsMeet both (reading_of contents)
+    pub meet : EndsMeet members (reading_of contents)
     pub sound : AreSound contents
 
   pub life_holds : (all : List Event) (image : Image) → Life c text all image → LifeHolds image

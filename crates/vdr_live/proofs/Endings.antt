@@ -9,7 +9,7 @@ use Rattle.vdr_outside.specs.declared.port.Port.{Ghosts as PortTells}
 use Rattle.vdr_outside.proofs.Counts.{rose_after, sum_not_less}
 use Rattle.vdr_config.specs.Configuration.{Configuration}
 use Rattle.vdr_media.specs.Formatted.{IsFormatted}
-use Rattle.vdr_opening.specs.Media.{both, Contents, HoldsContents, opening_of, reading_of}
+use Rattle.vdr_opening.specs.Media.{members, Contents, HoldsContents, opening_of, reading_of}
 use Rattle.vdr_vault.specs.Calls.{SameElsewhere}
 use Rattle.vdr_vault.specs.Openings.{OpensAtEachMoment}
 use Rattle.vdr_vault.specs.Vaults.{ShowsHistory}
@@ -39,10 +39,10 @@ same_twice old mid new first then = λ k a b. then k a b ∙ first k a b
 
 module _ {P L tells tells_images : Type 0} (port_tells : PortTells P) (link_tells : LinkTells L) (turns : ℕ) (lanes_old lanes_new : List (Lane P)) (desks_old desks_new : List (Desk L Mark)) (old mid new : MediaSeen tells tells_images) (r : RecorderState) (end : SessionEnd)
     (olds : length lanes_old ≡ 16) (news : length lanes_new ≡ 16)
-    (contents : tells → IsFormatted old.disk.reads × (x : Contents) × HoldsContents old.disk.reads x × EndsMeet both (reading_of x) × (r.vault.config ≡ x.config))
-    (one : (x y : Contents) → HoldsContents old.disk.reads x → HoldsContents old.disk.reads y → (x.config ≡ y.config) × (EndsMeet both (reading_of x) → EndsMeet both (reading_of y)))
+    (contents : tells → IsFormatted old.disk.reads × (x : Contents) × HoldsContents old.disk.reads x × EndsMeet members (reading_of x) × (r.vault.config ≡ x.config))
+    (one : (x y : Contents) → HoldsContents old.disk.reads x → HoldsContents old.disk.reads y → (x.config ≡ y.config) × (EndsMeet members (reading_of x) → EndsMeet members (reading_of y)))
     (opened : (x : Contents) → tells → HoldsContents old.disk.reads x → WasRecorded x → (t0 : ℕ) × (old.disk.clock ≤ t0) × (t0 ≤ mid.disk.clock) × HasRecorded (opening_of x) [] t0 r mid.disk)
-    (moments : (x : Contents) → tells → HoldsContents old.disk.reads x → EndsMeet both (reading_of x) → WasRecorded x
+    (moments : (x : Contents) → tells → HoldsContents old.disk.reads x → EndsMeet members (reading_of x) → WasRecorded x
     → OpensAtEachMoment {T = RecorderState} old.disk mid.disk (Ok r) (ShowsHistory (opening_of x) []))
     (first_others : tells → SameElsewhere old.disk.reads mid.disk.reads) (first_later : NoneFalls old.faults mid.faults)
     (session : SessionWith port_tells turns r.vault.config.queue r.vault.config.groups lanes_old lanes_new r mid.disk new.disk end

@@ -8,7 +8,7 @@ use Rattle.vdr_durability.specs.Readings.{EndsMeet}
 use Rattle.vdr_outside.specs.Causes.{Rose}
 use Rattle.vdr_outside.specs.Disk.{Image}
 use Rattle.vdr_media.specs.Formatted.{IsFormatted, IsUnformatted}
-use Rattle.vdr_opening.specs.Media.{both, Contents, HoldsContents, opening_of, reading_of}
+use Rattle.vdr_opening.specs.Media.{members, Contents, HoldsContents, opening_of, reading_of}
 use Rattle.vdr_opening.specs.Refusals.{IsRefused}
 use Rattle.vdr_opening.specs.declared.refused.OpenRefused.{OpenRefused}
 use Rattle.vdr_vault.specs.Calls.{SameElsewhere}
@@ -99,11 +99,11 @@ module _ {tells tells_images : Type 0} (turns : ℕ) (ports_old ports_new : List
 pub record RecordsAll (image : Image) (status : Status) : Type 0 where
   pub unformatted : IsUnformatted image → (status ≡ Unformatted) ⊎ (status ≡ NoMemory)
   pub damaged : IsFormatted image → (m offset : ℕ) → IsRefused image m offset → (status ≡ Damaged m offset) ⊎ (status ≡ NoMemory)
-  pub place : (x : Contents) → HoldsContents image x → EndsMeet both (reading_of x) → WasRecorded x
+  pub place : (x : Contents) → HoldsContents image x → EndsMeet members (reading_of x) → WasRecorded x
       → 2 ^ 62 ≤ (opening_of x).next_place → (status ≡ Place) ⊎ (status ≡ NoMemory)
-  pub tick : (x : Contents) → HoldsContents image x → EndsMeet both (reading_of x) → WasRecorded x
+  pub tick : (x : Contents) → HoldsContents image x → EndsMeet members (reading_of x) → WasRecorded x
       → (opening_of x).next_place < 2 ^ 62 → 2 ^ 62 ≤ base_after (opening_of x).last → (status ≡ Tick) ⊎ (status ≡ NoMemory)
-  pub done : (x : Contents) → HoldsContents image x → EndsMeet both (reading_of x) → WasRecorded x → MayBegin (opening_of x) → IsDone status
+  pub done : (x : Contents) → HoldsContents image x → EndsMeet members (reading_of x) → WasRecorded x → MayBegin (opening_of x) → IsDone status
 
 -- The port of this group failed.
 abbrev pub IfPortFault : Status → (ℕ → Type 0) → Type 0

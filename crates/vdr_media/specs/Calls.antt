@@ -27,12 +27,12 @@ pub record LeavesRefused {M : Type 0} (media : MediaTells M) (old new : M) (resu
 -- The call wrote to the first two media alone, and read at most one byte. Other media read and are left by a stop as before.
 pub record WritesToMembers {M : Type 0} (media : MediaTells M) (old new : M) (result : Answer) : Type 0 where
   -- other media read as before
-  pub others : media.tells → SameBeside (members (media.disk old).sizes) (λ image. image ≡ (media.disk old).reads) (media.disk new).reads
+  pub others : media.tells → SameBeside members (λ image. image ≡ (media.disk old).reads) (media.disk new).reads
   -- and a stop leaves them as before, at every moment
-  pub others_meanwhile : AtEachMoment (media.disk old) (media.disk new) (SameBeside (members (media.disk old).sizes) (media.disk old).now)
+  pub others_meanwhile : AtEachMoment (media.disk old) (media.disk new) (SameBeside members (media.disk old).now)
   -- no medium changes its size
   pub sizes : (media.disk new).sizes ≡ (media.disk old).sizes
   -- at most byte 0 of medium 0 was read
   pub counts : ReadsOneByte (media.bytes_read old) (media.bytes_read new)
   -- no count of faults falls, and a fault comes only where that of one of the two media rose
-  pub cause : HasFaultCause (members (media.disk old).sizes) (media.faults old) (media.faults new) result
+  pub cause : HasFaultCause members (media.faults old) (media.faults new) result

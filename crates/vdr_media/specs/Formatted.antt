@@ -7,9 +7,10 @@ use Rattle.vdr_terms.specs.Slots.{slots_from}
 use Rattle.vdr_media.specs.Layout.{IsClosedAt}
 use Rattle.vdr_media.specs.Medium.{IsEmptyMedium}
 
--- Of media of these sizes those that are formatted: the capsule and the long-term medium, whatever else there is.
-abbrev pub members : List ℕ → List ℕ
-members sizes = 0 ∷ 1 ∷ []
+-- The media of a recording, by number: the capsule leads, and a batch goes to the long-term medium after it. Whatever else there is
+-- is left alone.
+abbrev pub members : List ℕ
+members = 0 ∷ 1 ∷ []
 
 -- Medium 0 decides: the media are formatted exactly where it has room for all that stands before the segments and its gate is open.
 pub record IsFormatted (image : Image) : Type 0 where

@@ -50,14 +50,14 @@ pub(crate) fn make_all_empty<M: Media>(
     requires reads { configuration text.now ≡ Ok config.now }
     requires capsule { Fits (sizes_of config.now) 0 (get_or (M.disk media.old).sizes 0 0) }
     requires long { Fits (sizes_of config.now) 1 (get_or (M.disk media.old).sizes 1 0) }
-    ensures done { OnOk result (All (λ m. Settled m (IsEmptyMedium m config.now text.now) (M.disk media.new)) (members (M.disk media.old).sizes)) }
+    ensures done { OnOk result (All (λ m. Settled m (IsEmptyMedium m config.now text.now) (M.disk media.new)) members) }
     ensures moments { Durable 0 (M.disk media.old)
-        → FormatsAtEachMoment (M.disk media.old) (M.disk media.new) result (IsEmptyHistoryOf (members (M.disk media.old).sizes) text.now) }
-    ensures others { M.tells → SameBeside (members (M.disk media.old).sizes) (λ image. image ≡ (M.disk media.old).reads) (M.disk media.new).reads }
-    ensures others_meanwhile { AtEachMoment (M.disk media.old) (M.disk media.new) (SameBeside (members (M.disk media.old).sizes) (M.disk media.old).now) }
+        → FormatsAtEachMoment (M.disk media.old) (M.disk media.new) result (IsEmptyHistoryOf members text.now) }
+    ensures others { M.tells → SameBeside members (λ image. image ≡ (M.disk media.old).reads) (M.disk media.new).reads }
+    ensures others_meanwhile { AtEachMoment (M.disk media.old) (M.disk media.new) (SameBeside members (M.disk media.old).now) }
     ensures sizes { (M.disk media.new).sizes ≡ (M.disk media.old).sizes }
     ensures counts { M.bytes_read media.new ≡ M.bytes_read media.old }
-    ensures cause { HasCauseAmong (members (M.disk media.old).sizes) (M.faults media.old) (M.faults media.new) result }
+    ensures cause { HasCauseAmong members (M.faults media.old) (M.faults media.new) result }
 {
     unformat(media, formatted)?;
     make_empty(media, 1, config, text)?;

@@ -56,11 +56,11 @@ pub fn format<M: Media>(
 
     // What a success leaves, and a stop after it.
     ensures done { OnOk result ((c : Configuration)
-        × All (λ m. Settled m (IsEmptyMedium m c text.now) (M.disk media.new)) (members (M.disk media.old).sizes)) }
+        × All (λ m. Settled m (IsEmptyMedium m c text.now) (M.disk media.new)) members) }
 
     // What a stop leaves at each moment, where nothing of medium 0 is unsynced at entry.
     ensures moments { Durable 0 (M.disk media.old)
-        → FormatsAtEachMoment (M.disk media.old) (M.disk media.new) result (IsEmptyHistoryOf (members (M.disk media.old).sizes) text.now) }
+        → FormatsAtEachMoment (M.disk media.old) (M.disk media.new) result (IsEmptyHistoryOf members text.now) }
 
     // Other media are as before, as they read and as a stop leaves them.
     ensures writes { WritesToMembers M.Media media.old media.new result }

@@ -4,13 +4,13 @@ ghost use Rattle.vdr_slots.specs.Areas.{HasRoom};
 use std::alloc::{AllocError, Global};
 use std::process::Abort;
 use std::test::Fail;
-use vdr_entry::Record;
+use vdr_entry::{Record, Summary};
 use vdr_memory::{Call, MemoryMedia, RamMedia, Torn, Work};
 use vdr_outside::{Fault, Media};
 use vdr_segment::{HEADER_SIZE, OPEN_GATE, Walk, walk, write_batch};
 use vdr_slots::{
     Area, append_batch, begin_segment, close_slot, law_of_fronts, law_of_slots, read_front,
-    read_slot,
+    read_slot, summarize,
 };
 
 // Two slots of 8,192 bytes on medium 1, which has room for them.
@@ -41,16 +41,31 @@ fn append<M: Media>(rt: &impl Abort, media: &mut M, at: usize) -> Result<(), Fau
     append_batch(media, area, 1, at, &batch)
 }
 
+// Gives the segment the summary of two such Starts.
+fn leave<M: Media>(rt: &impl Abort, media: &mut M) -> Result<(), Fault> {
+    let area = area_on(rt, media);
+    let summary = Summary {
+        count: 2,
+        first_second: 86_400,
+        last_second: 86_400,
+        least_utc: 1_704_067_200_000,
+        greatest_utc: 1_704_067_200_000,
+        bits: 7,
+    };
+    summarize(media, area, 1, summary)
+}
+
 fn close<M: Media>(rt: &impl Abort, media: &mut M) -> Result<(), Fault> {
     let area = area_on(rt, media);
     close_slot(media, area, 1)
 }
 
-// Begins segment 7 in slot 1, appends two batches, each of one Start, and closes the slot.
+// Begins segment 7 in slot 1, appends two batches, each of one Start, writes its summary, and closes the slot.
 fn write_slot<M: Media>(rt: &impl Abort, media: &mut M) -> Result<(), Fault> {
     begin(rt, media)?;
     append(rt, media, 64)?;
     append(rt, media, 113)?;
+    leave(rt, media)?;
     close(rt, media)
 }
 
@@ -64,7 +79,7 @@ fn new_media(rt: &impl Abort, alloc: Global, stop: Option<u64>) -> Result<Memory
 }
 
 // Where these calls write in turn, and how many bytes. Each is followed by a sync.
-const WRITES: [(u64, usize); 7] = [
+const WRITES: [(u64, usize); 9] = [
     // the new segment's header and its first batch's gate, and the segment's own gate
     (40_961, 64),
     (40_960, 1),
@@ -73,6 +88,9 @@ const WRITES: [(u64, usize); 7] = [
     (41_024, 1),
     (41_074, 49),
     (41_073, 1),
+    // the summary, and its gate
+    (40_978, 44),
+    (40_977, 1),
     // the segment's gate again
     (40_960, 1),
 ];
@@ -82,7 +100,7 @@ fn what_stands_behind_a_gate_is_synced_before_it_opens(rt: HostRuntime) -> Resul
     let mut media = new_media(&rt, rt.alloc(), None)?;
     assert!(rt; write_slot(&rt, &mut media).is_ok());
     let calls = media.calls();
-    assert!(rt; calls.len() == 14);
+    assert!(rt; calls.len() == 18);
     for (index, (at, length)) in WRITES.iter().enumerate() {
         let write = Call {
             medium: 1,
@@ -134,7 +152,7 @@ fn batches_in(
 
 // For a stop after so many writes and syncs, how many batches the slot holds: where of the last write the old bytes stand,
 // the new ones, and open gates everywhere.
-const HELD: [(Option<u8>, Option<u8>, Option<u8>); 15] = [
+const HELD: [(Option<u8>, Option<u8>, Option<u8>); 19] = [
     (None, None, None),
     (None, None, None),
     (None, None, None),
@@ -148,6 +166,10 @@ const HELD: [(Option<u8>, Option<u8>, Option<u8>); 15] = [
     (Some(1), Some(1), Some(1)),
     (Some(1), Some(2), Some(2)),
     (Some(2), Some(2), Some(2)),
+    (Some(2), Some(2), Some(2)),
+    (Some(2), Some(2), Some(2)),
+    (Some(2), Some(2), Some(2)),
+    (Some(2), Some(2), Some(2)),
     (Some(2), None, Some(2)),
     (None, None, None),
 ];
@@ -157,7 +179,7 @@ fn a_stop_leaves_the_slot_as_before_or_as_after_a_call(rt: HostRuntime) -> Resul
     let alloc = rt.alloc();
     for (stop, held) in HELD.iter().enumerate() {
         let mut media = new_media(&rt, alloc, Some(stop as u64))?;
-        assert!(rt; write_slot(&rt, &mut media).is_ok() == (stop == 14));
+        assert!(rt; write_slot(&rt, &mut media).is_ok() == (stop == 18));
         let old = batches_in(&rt, alloc, media.image(&[], &Torn::Old)?)?;
         let new = batches_in(&rt, alloc, media.image(&[], &Torn::New)?)?;
         let open = batches_in(&rt, alloc, media.image(&[], &Torn::Filled(OPEN_GATE))?)?;

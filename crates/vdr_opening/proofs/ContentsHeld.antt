@@ -1,6 +1,6 @@
 -- An image holds one list of contents.
-use Rattle.std.proofs.Common.{◌≡◌, ℕ, ◌+◌, ◌<◌, ◌≤◌, ◌^◌, List, [], length, Option, Result, Ok, inl, inr, sym, ap, ◌∙◌, subst, append-nil, arith}
-use Rattle.vdr_history.specs.Histories.{Incident}
+use Rattle.std.proofs.Common.{◌≡◌, ℕ, ◌+◌, ◌<◌, ◌≤◌, ◌^◌, List, [], length, Option, Result, Ok, inl, inr, sym, ap, ◌∙◌, subst, append-nil, arith, ◌↔◌, suc, Bool, true, false, ◌∷◌, ◌++◌, get_or, take, drop, Some, None, refl, IsTrue, add-one, drop-cons}
+use Rattle.vdr_history.specs.Histories.{Incident, live}
 use Rattle.vdr_bytes.specs.Numbers.{le_u32, u32_at}
 use Rattle.vdr_bytes.proofs.NumberLemmas.{read_u32}
 use Rattle.vdr_outside.specs.Disk.{Image, content}
@@ -19,19 +19,24 @@ use Rattle.vdr_media.specs.Layout.{text_from}
 use Rattle.vdr_media.specs.Medium.{HoldsText}
 use Rattle.vdr_media.specs.Formatted.{IsUnformatted}
 use Rattle.vdr_media.proofs.Rooms.{text_fits}
-use Rattle.vdr_opening.specs.Media.{HasFront, HasSegments, Contents, HoldsContents}
+use Rattle.vdr_opening.specs.Media.{HasFront, HasSegments, Contents, HoldsContents, AreThere}
 use Rattle.vdr_opening.specs.Refusals.{AreLegal}
+use Rattle.std.specs.Prelude.{option_and_then}
+use Rattle.std.proofs.lemmas.List.{take-append-drop, length-take-le, get_or-take}
+use Rattle.std.proofs.lemmas.Option.{slice_get-get_or}
+use Rattle.vdr_directory.specs.Lookup.{HoldAll}
+use Rattle.vdr_opening.specs.Parts.{IsThere, LacksPlaces}
 
 -- One medium
 
-pub number_read : (n : ℕ) → n < 2 ^ 32 → u32_at 0 (le_u32 n) ≡ n
+number_read : (n : ℕ) → n < 2 ^ 32 → u32_at 0 (le_u32 n) ≡ n
 number_read n small = (read_u32 0 n (le_u32 n) [] (sym (append-nil (le_u32 n))) small).0
 
-one_number : (m n : ℕ) → m < 2 ^ 32 → n < 2 ^ 32 → le_u32 m ≡ le_u32 n → m ≡ n
+pub one_number : (m n : ℕ) → m < 2 ^ 32 → n < 2 ^ 32 → le_u32 m ≡ le_u32 n → m ≡ n
 one_number m n small low same = sym (number_read m small) ∙ ap (λ (xs : List ℕ). u32_at 0 xs) same ∙ number_read n low
 
 -- Its text has one length, and so it is one.
-one_text : (s t bytes : List ℕ) → HoldsText s bytes → HoldsText t bytes → length s ≤ 16380 → length t ≤ 16380 → s ≡ t
+pub one_text : (s t bytes : List ℕ) → HoldsText s bytes → HoldsText t bytes → length s ≤ 16380 → length t ≤ 16380 → s ≡ t
 one_text s t bytes h k short brief = sym h.verbatim ∙ ap (λ (n : ℕ). part bytes (text_from + 4) n) size ∙ k.verbatim
   where
     size : length s ≡ length t
@@ -92,3 +97,46 @@ are_legal h = record { each = h.media }
 pub are_formatted : (image : Image) (x : Contents) → HoldsContents image x → IsUnformatted image → ⊥
 are_formatted image x h (inl small) = let room = (h.media 0 0 (omega arith)).front.superblock.room in omega (arith, small, room)
 are_formatted image x h (inr closed) = closed (h.media 0 0 (omega arith)).front.superblock.gate
+
+-- Whether the places of the live incidents are there, slot by slot.
+
+live_at : (table : List (Option Incident)) (k : ℕ) (d : Option Incident) → k < length table → live table (suc k) ≡ get_or table k d
+live_at table k d lt = ap (λ (o : Option (Option Incident)). option_and_then (λ slot. slot) o) (slice_get-get_or table k d lt)
+
+module _ (placed : List Placed) where
+  pub all_there : (table : List (Option Incident)) (n : ℕ) → length table ≡ n → ((k : ℕ) → k < n → IsThere placed (live table (suc k))) → AreThere table placed
+  all_there table n size each k d lt = subst (IsThere placed) (live_at table k d lt) (each k (omega (arith, lt, size)))
+
+  front_there : (table : List (Option Incident)) (n : ℕ) → n ≤ length table → ((k : ℕ) → k < n → IsThere placed (live table (suc k))) → AreThere (take n table) placed
+  front_there table n within each k d lt =
+      let long : length (take n table) ≡ n = length-take-le n table within in
+      let below : k < n = omega (arith, lt, long) in
+      subst (IsThere placed) (live_at table k d (omega (arith, below, within)) ∙ sym (get_or-take n table k d below)) (each k below)
+
+  lacks_at : (table : List (Option Incident)) (slot : ℕ) (o : Option Incident) → slot < length table → ((k : ℕ) → k < slot → IsThere placed (live table (suc k))) → get_or table slot None ≡ o → (IsThere placed o → ⊥) → LacksPlaces table placed slot
+  lacks_at table slot None lt each is missing = absurd (missing tt)
+  lacks_at table slot (Some x) lt each is missing = record {
+    before = take slot table;
+    here = x;
+    after = drop (suc slot) table;
+    split = sym (take-append-drop slot table) ∙ ap (λ (l : List (Option Incident)). take slot table ++ l) (drop-cons table slot None lt ∙ ap (λ (o : Option Incident). o ∷ drop (suc slot) table) is);
+    index = length-take-le slot table (omega (arith, lt));
+    there = front_there table slot (omega (arith, lt)) each;
+    missing = missing;
+  }
+
+  pub lacks : (table : List (Option Incident)) (slot n : ℕ) (here : Bool) → length table ≡ n → slot < n → ((k : ℕ) → k < slot → IsThere placed (live table (suc k))) → IsTrue here ↔ IsThere placed (live table (suc slot)) → here ≡ false → LacksPlaces table placed slot
+  lacks table slot n here size lt each tested not_there =
+      let within : slot < length table = omega (arith, size, lt) in
+      lacks_at table slot (get_or table slot None) within each refl
+      (λ there. let yes_there = tested.1 (subst (IsThere placed) (sym (live_at table slot None within)) there) in let none : ⊥ = cc in none)
+
+-- what the code finds of a slot
+pub there_by : (placed : List Placed) (table : List (Option Incident)) (slot a b : ℕ) (x : Incident) (here : Bool) → Some x ≡ live table (slot + 1) → a ≡ x.a → b ≡ x.b → IsTrue here ↔ HoldAll a b placed → IsTrue here ↔ IsThere placed (live table (suc slot))
+there_by placed table slot a b x here is a_is b_is tested =
+    let both : HoldAll a b placed ≡ HoldAll x.a x.b placed = λ i. HoldAll (a_is i) (b_is i) placed in
+    let there : IsTrue here ↔ IsThere placed (Some x) = subst (λ (P : Type 0). IsTrue here ↔ P) both tested in
+    subst (λ (o : Option Incident). IsTrue here ↔ IsThere placed o) (is ∙ ap (λ (n : ℕ). live table n) (add-one slot)) there
+
+pub there_if_free : (placed : List Placed) (table : List (Option Incident)) (slot : ℕ) → None ≡ live table (slot + 1) → IsTrue true ↔ IsThere placed (live table (suc slot))
+there_if_free placed table slot is = subst (λ (o : Option Incident). IsTrue true ↔ IsThere placed o) (is ∙ ap (λ (n : ℕ). live table n) (add-one slot)) (λ _. tt, λ _. refl)

@@ -1,16 +1,30 @@
--- Where the ends of the capsule and of the long-term medium meet.
-use Rattle.std.proofs.Common.{◌≡◌, ◌⊎◌, ◌++◌, inl, inr, ℕ, zero, suc, true, false, List, [], ◌∷◌, Option, Some, refl, sym, ◌∙◌, ap, arith}
+-- Where the ends of the media meet, as one after another is read.
+use Rattle.std.proofs.Common.{◌≡◌, ◌≤◌, ◌<◌, ◌⊎◌, ◌↔◌, ◌++◌, inl, inr, ℕ, zero, suc, Bool, true, false, List, [], ◌∷◌, length, get_or, Option, Some, refl, sym, ◌∙◌, ap, subst, arith, IsTrue}
 use Rattle.std.specs.Prelude.{All}
+use Rattle.std.proofs.lemmas.List.{get_or_default}
 use Rattle.std.proofs.lemmas.Option.{same_Some}
 use Rattle.std.proofs.lemmas.Grind.{flat_map-append}
 use Rattle.vdr_terms.specs.Records.{Record, last}
-use Rattle.vdr_retention.specs.Layout.{segment_records}
-use Rattle.vdr_durability.specs.Readings.{EndsMeet, EndsOff, Reading, comes_next, ends_before}
+use Rattle.vdr_retention.specs.Layout.{Batches, segment_records}
+use Rattle.vdr_durability.specs.Readings.{EndsMeet, EndsOff, comes_next, ends_before}
+use Rattle.vdr_durability.proofs.Meeting.{level_meet}
+use Rattle.vdr_outside.specs.Disk.{Disk, Image, Unchanged, content}
 use Rattle.vdr_ring.specs.Lasts.{batch_or_none}
+use Rattle.vdr_ring.specs.Rings.{RingState}
+use Rattle.vdr_ring.specs.Rings as rings
+use Rattle.vdr_directory.specs.Holds.{Tells}
 use Rattle.vdr_directory.specs.Sequence.{Placed, all_records, batches_in, batches_of}
 use Rattle.vdr_media.proofs.Two.{all_two}
-use Rattle.vdr_opening.specs.Media.{both}
-use Rattle.vdr_opening.specs.Answers.{IsMissing}
+use Rattle.vdr_opening.specs.Media.{members, Contents, reading_of, AreThere, HoldsContents, IsMedium}
+use Rattle.vdr_opening.specs.Answers.{IsMissing, no_ring, ring_at, IsOpened, OpenedState}
+use Rattle.vdr_opening.specs.Parts.{AreRead, LacksPlacesAt, ReadsMedium}
+use Rattle.vdr_opening.proofs.Rings.{of_all, reads_still, unchanged_join}
+use Rattle.vdr_history.specs.Histories.{Incident}
+use Rattle.vdr_config.specs.Configuration.{Configuration}
+use Rattle.vdr_directory.specs.Order.{AreInOrder}
+use Rattle.vdr_incident.specs.Tables.{HoldsTable}
+use Rattle.vdr_incident.specs.Tables as incidents
+use Rattle.vdr_opening.specs.Refusals.{AreLegal, IsRefused}
 
 pub all_one : (P : ℕ → Type 0) (m : ℕ) → P m → All P (m ∷ [])
 all_one P m p zero d lt = p
@@ -27,60 +41,149 @@ one_batch [] (y ∷ ys) is = cc
 one_batch (x ∷ xs) [] is = cc
 one_batch (x ∷ xs) (y ∷ ys) is = same_Some _ _ is
 
--- a batch that begins somewhere is one
-is_batch : (newest : Option Record) (batch : List Record) → comes_next newest batch ≡ true → batch_or_none batch ≡ Some batch
-is_batch newest [] comes = cc
-is_batch newest (r ∷ rs) comes = refl
+before_is : (batch : List Record) (batches : Batches) → ends_before (batch_or_none batch) batches ≡ comes_next (last (segment_records batches)) batch
+before_is [] batches = refl
+before_is (r ∷ rs) batches = refl
 
-before_batch : (newest : Option Record) (batch : List Record) (batches : List (List Record)) → last (segment_records batches) ≡ newest → ends_before (batch_or_none batch) batches ≡ true → comes_next newest batch ≡ true
-before_batch newest [] batches is ends = cc
-before_batch newest (r ∷ rs) batches is ends = ap (λ (o : Option Record). comes_next o (r ∷ rs)) (sym is) ∙ ends
+-- a batch before which a medium ends is one
+is_batch : (batch : List Record) (batches : Batches) → ends_before (batch_or_none batch) batches ≡ true → batch_or_none batch ≡ Some batch
+is_batch [] batches ends = cc
+is_batch (r ∷ rs) batches ends = refl
 
-module _ (reading : Reading) (first second : List Placed) (on_capsule : reading.batches 0 ≡ batches_in first) (on_long_term : reading.batches 1 ≡ batches_in second)
-    (batch other : List Record) (ends : batch_or_none batch ≡ last (batches_in first)) (other_ends : batch_or_none other ≡ last (batches_in second)) where
-  leads : last (reading.batches 0) ≡ batch_or_none batch
-  leads = ap (λ (b : List (List Record)). last b) on_capsule ∙ sym ends
+-- What is read of a medium
 
-  waits : last (reading.batches 1) ≡ batch_or_none other
-  waits = ap (λ (b : List (List Record)). last b) on_long_term ∙ sym other_ends
+module _ {tells tells_images : Type 0} (on : List RingState) (placed : ℕ → List Placed) (disk : Disk tells tells_images) (read : AreRead on placed disk) (m : ℕ) (lt : m < 2) where
+  pub read_at : rings.Reads (ring_at on m) (placed m) disk
+  read_at = of_all (λ k. rings.Reads (ring_at on k) (placed k) disk) m lt read
 
-  newest : last (segment_records (reading.batches 1)) ≡ last (all_records second)
-  newest = ap (λ (b : List (List Record)). last (segment_records b)) on_long_term ∙ ap last (sym (records_are second))
+  pub ends_as : (d : RingState) (batch lent : List Record) (follows : Bool) → m < length on → lent ≡ batch → ((ps : List Placed) → Tells (get_or on m d).slots ps (get_or on m d).directory → follows ≡ comes_next (last (all_records ps)) lent)
+      → ends_before (batch_or_none batch) (batches_in (placed m)) ≡ follows
+  ends_as d batch lent follows there lent_is tested =
+      before_is batch (batches_in (placed m)) ∙ ap (λ (rs : List Record). comes_next (last rs) batch) (sym (records_are (placed m))) ∙ ap (λ (l : List Record). comes_next (last (all_records (placed m))) l) (sym lent_is)
+      ∙ sym (tested (placed m) (subst (λ (r : RingState). Tells r.slots (placed m) r.directory) (get_or_default on m no_ring d there) read_at.directory))
 
-  pub meet_level : batch ≡ other → EndsMeet both reading × IsMissing [] reading
-  meet_level same =
-      let level : last (reading.batches 1) ≡ last (reading.batches 0) = waits ∙ ap batch_or_none (sym same) ∙ sym leads in
-      (inl (refl, inl (level, tt)), inl (refl, all_two (λ m. last (reading.batches m) ≡ last (reading.batches 0)) refl level))
+-- Below medium m, so many media end with the batch of the first one, and the others directly before it.
+pub record EndBelow (batch : List Record) (lacking m : ℕ) (placed : ℕ → List Placed) : Type 0 where
+  pub leads : batch_or_none batch ≡ last (batches_in (placed 0))
+  pub same : lacking ≡ 2 → batch_or_none batch ≡ last (batches_in (placed 1))
+  pub before : 2 ≤ m → lacking ≡ 1 → ends_before (batch_or_none batch) (batches_in (placed 1)) ≡ true
 
-  pub meet_passed : comes_next (last (all_records second)) batch ≡ true → EndsMeet both reading × IsMissing batch reading
-  meet_passed comes =
-      let is : batch_or_none batch ≡ Some batch = is_batch _ batch comes in
-      let here : ends_before (Some batch) (reading.batches 1) ≡ true = ap (λ (o : Option Record). comes_next o batch) newest ∙ comes in (
-        inl (refl, inr (all_one (λ k. ends_before (last (reading.batches 0)) (reading.batches k) ≡ true) 1 (ap (λ (o : Option (List Record)). ends_before o (reading.batches 1)) (leads ∙ is) ∙ here))),
-        inr (record {
+module _ (batch : List Record) (x : Contents) where
+  pub all_level : (lacking m : ℕ) (missing : List Record) → lacking ≡ 2 → missing ≡ [] → EndBelow batch lacking m x.placed → EndsMeet members (reading_of x) × IsMissing missing lacking (reading_of x)
+  all_level lacking m missing all none h =
+      let level = all_two (λ m. last (batches_in (x.placed m)) ≡ last (batches_in (x.placed 0))) refl (sym (h.same all) ∙ h.leads) in
+      (level_meet members (reading_of x) level, inl (none, level))
+
+  pub some_lack : (lacking m : ℕ) → lacking ≡ 1 → 2 ≤ m → EndBelow batch lacking m x.placed → EndsMeet members (reading_of x) × IsMissing batch lacking (reading_of x)
+  some_lack lacking m one all h =
+      let waits = h.before all one in
+      let is : batch_or_none batch ≡ Some batch = is_batch batch (batches_in (x.placed 1)) waits in
+      let lacks : ends_before (Some batch) (batches_in (x.placed 1)) ≡ true = ap (λ (o : Option (List Record)). ends_before o (batches_in (x.placed 1))) (sym is) ∙ waits in
+      let leads = sym h.leads ∙ is in (
+        inl (refl, inr (all_one (λ k. ends_before (last (batches_in (x.placed 0))) (batches_in (x.placed k)) ≡ true) 1 (ap (λ (o : Option (List Record)). ends_before o (batches_in (x.placed 1))) leads ∙ lacks))),
+        subst (λ (n : ℕ). IsMissing batch n (reading_of x)) (sym one) (inr (record {
           split = refl;
           some = omega arith;
-          given_end = all_one (λ m. last (reading.batches m) ≡ Some batch) 0 (leads ∙ is);
-          waiting_end = all_one (λ m. ends_before (Some batch) (reading.batches m) ≡ true) 1 here;
-        }),
+          given_end = all_one (λ m. last (batches_in (x.placed m)) ≡ Some batch) 0 leads;
+          waiting_end = all_one (λ m. ends_before (Some batch) (batches_in (x.placed m)) ≡ true) 1 lacks;
+        })),
       )
 
-  level_or_before : EndsMeet both reading → (last (reading.batches 1) ≡ last (reading.batches 0)) ⊎ (ends_before (last (reading.batches 0)) (reading.batches 1) ≡ true)
+  level_or_before : EndsMeet members (reading_of x) → (last (batches_in (x.placed 1)) ≡ last (batches_in (x.placed 0))) ⊎ (ends_before (last (batches_in (x.placed 0))) (batches_in (x.placed 1)) ≡ true)
   level_or_before (inl (same, inl (level, rest))) = inl level
   level_or_before (inl (same, inr all)) = inr (all 0 0 (omega arith))
   level_or_before (inr all) = inr (all 1 0 (omega arith))
 
-  pub off : (batch ≡ other → ⊥) → comes_next (last (all_records second)) batch ≡ false → EndsOff both reading 1
-  off differ elsewhere = record {
+  pub second_off : (other : List Record) → batch_or_none batch ≡ last (batches_in (x.placed 0)) → batch_or_none other ≡ last (batches_in (x.placed 1)) → (batch ≡ other → ⊥) → ends_before (batch_or_none batch) (batches_in (x.placed 1)) ≡ false → EndsOff members (reading_of x) 1
+  second_off other leads waits differ elsewhere = record {
     before = 0 ∷ [];
     after = [];
     split = refl;
     meet = inl (refl, tt);
     off = λ meet. elim (level_or_before meet) [
-      | inl level ↦ differ (one_batch batch other (sym leads ∙ sym level ∙ waits))
+      | inl level ↦ differ (one_batch batch other (leads ∙ sym level ∙ sym waits))
       | inr before ↦
-          let comes = before_batch _ batch (reading.batches 1) newest (ap (λ (o : Option (List Record)). ends_before o (reading.batches 1)) (sym leads) ∙ before) in
+          let ends : ends_before (batch_or_none batch) (batches_in (x.placed 1)) ≡ true = ap (λ (o : Option (List Record)). ends_before o (batches_in (x.placed 1))) leads ∙ before in
           let none : ⊥ = cc in
           none
     ];
   }
+
+pub not_same : (a b x y : List Record) (same : Bool) → IsTrue same ↔ (a ≡ b) → same ≡ false → a ≡ x → b ≡ y → x ≡ y → ⊥
+not_same a b x y same tested differ a_is b_is is =
+    let equal = tested.1 (a_is ∙ is ∙ sym b_is) in
+    let none : ⊥ = cc in
+    none
+
+-- What the media hold as a whole, or where they are refused, from what was found of each over calls that only read.
+
+abbrev pub contents_of : Configuration → (text : List ℕ) → (ℕ → List Placed) → List (Option Incident) → Contents
+contents_of c text placed table = record { config = c; text = text; placed = placed; table = table }
+
+module _ {tells tells_images : Type 0} (start one : Disk tells tells_images) (same : Unchanged start one) (told : tells) (c : Configuration) (text : List ℕ) (placed : ℕ → List Placed) (on : List RingState)
+    (each : All (λ m. ReadsMedium m c text (placed m) (ring_at on m) one) members) (long_term : RingState) (long_term_is : long_term ≡ ring_at on 1) where
+  are_legal : AreLegal start.reads c text placed
+  are_legal = record { each = λ i d lt. subst (λ (image : Image). IsMedium (get_or members i d) c text (placed (get_or members i d)) (content image (get_or members i d))) (same.reads told) (each i d lt).legal }
+
+  -- what the directory of the long-term medium's ring says, of its segments
+  said : (P : List Placed → Type 0) → ((ps : List Placed) → Tells long_term.slots ps long_term.directory → AreInOrder ps → P ps) → P (placed 1)
+  said P all =
+      let reads : rings.Reads long_term (placed 1) one = subst (λ (ring : RingState). rings.Reads ring (placed 1) one) (sym long_term_is) (each 1 0 (omega arith)).reads in
+      all (placed 1) reads.directory reads.order
+
+  pub incidents_refused : (m offset : ℕ) → m ≡ 1
+      → incidents.Refuses c.incident_slots (content one.reads 1) offset
+      ⊎ ((ps : List Placed) → Tells long_term.slots ps long_term.directory → AreInOrder ps → LacksPlacesAt c.incident_slots ps (content one.reads 1) offset) → IsRefused start.reads m offset
+  incidents_refused m offset is (inl refuses) = inr (inl (record {
+    config = c;
+    text = text;
+    placed = placed;
+    legal = are_legal;
+    refuses = subst (λ (image : Image). incidents.Refuses c.incident_slots (content image 1) offset) (same.reads told) refuses;
+    on = is;
+  }))
+  incidents_refused m offset is (inr lacks) =
+      let found = subst (λ (image : Image). LacksPlacesAt c.incident_slots (placed 1) (content image 1) offset) (same.reads told) (said (λ ps. LacksPlacesAt c.incident_slots ps (content one.reads 1) offset) lacks) in
+      let at = found.lacks in
+      inr (inr (inl (record {
+        config = c;
+        text = text;
+        placed = placed;
+        legal = are_legal;
+        before = at.before;
+        here = at.here;
+        after = at.after;
+        table = subst (λ (table : List (Option Incident)). HoldsTable c.incident_slots table (content start.reads 1)) at.split found.holds;
+        there = at.there;
+        missing = at.missing;
+        at = found.at ∙ (λ i. incidents.place_of (sym at.index i));
+        on = is;
+      })))
+
+  pub are_read : (two : Disk tells tells_images) (lent : List RingState) → lent ≡ on → Unchanged one two → AreRead lent placed two
+  are_read two lent is still = subst (λ (l : List RingState). AreRead l placed two) (sym is) (λ i d lt. reads_still (ring_at on (get_or members i d)) (placed (get_or members i d)) one two still (each i d lt).reads)
+
+  module _ (table : List (Option Incident)) (holds : HoldsTable c.incident_slots table (content one.reads 1)) (there : (ps : List Placed) → Tells long_term.slots ps long_term.directory → AreInOrder ps → AreThere table ps) where
+    abbrev found : Contents
+    found = contents_of c text placed table
+
+    holds_contents : HoldsContents start.reads found
+    holds_contents = record {
+      media = are_legal.each;
+      table = subst (λ (image : Image). HoldsTable c.incident_slots table (content image 1)) (same.reads told) holds;
+      there = said (AreThere table) there;
+    }
+
+    pub ends_refused : (m offset : ℕ) → (offset ≡ 0) × EndsOff members (reading_of found) m → IsRefused start.reads m offset
+    ends_refused m offset off = inr (inr (inr (record { contents = found; holds = holds_contents; off = off.1; at = off.0 })))
+
+    pub is_opened : (last : Disk tells tells_images) → Unchanged one last → (o : OpenedState) → o.config ≡ c → o.table ≡ table → AreRead o.rings placed last
+        → EndsMeet members (reading_of found) × IsMissing o.missing o.lacking (reading_of found) → IsOpened o found last
+    is_opened last still o config_is table_is reads ends = record {
+      holds = subst (λ (image : Image). HoldsContents image found) (sym ((unchanged_join start one last same still).reads told)) holds_contents;
+      meet = ends.0;
+      config = config_is;
+      rings = reads;
+      table = table_is;
+      missing = ends.1;
+    }

@@ -1,5 +1,5 @@
 -- What opening answers.
-use Rattle.std.specs.Prelude.{◌≡◌, ◌≢◌, ◌⊎◌, ◌≤◌, ◌+◌, ◌∷◌, ℕ, List, [], length, get_or, sum, All, Any, Option, Result, Err, IsErrOf}
+use Rattle.std.specs.Prelude.{◌≡◌, ◌≢◌, ◌⊎◌, ◌<◌, ◌≤◌, ◌+◌, ℕ, List, [], length, get_or, take, drop, sum, All, Any, Option, None, Result, Err, IsErrOf}
 use Rattle.vdr_terms.specs.Records.{Record}
 use Rattle.vdr_terms.specs.Needs.{slots_in}
 use Rattle.vdr_terms.specs.Sizes.{batch_size}
@@ -14,16 +14,25 @@ use Rattle.vdr_ring.specs.Rings.{RingState, HasMedium}
 use Rattle.vdr_ring.specs.Rings as rings
 use Rattle.vdr_opening.specs.declared.refused.OpenRefused.{OpenRefused}
 use Rattle.vdr_opening.specs.declared.refused.OpenRefused.TheVariants.{Damaged, Fault, NotFormatted}
-use Rattle.vdr_opening.specs.Media.{both, Contents, HoldsContents, reading_of}
+use Rattle.vdr_opening.specs.Media.{members, Contents, HoldsContents, reading_of}
 use Rattle.vdr_opening.specs.Refusals.{IsRefused}
 
--- What was opened: the configuration, a ring on each medium, the incidents, and the batch that the long-term medium lacks, if any.
+-- What was opened: the configuration, a ring on each medium in order of number, the incidents, and the batch that the media from a
+-- number on lack, if any.
 pub record OpenedState : Type 0 where
   pub config : Configuration
-  pub capsule : RingState
-  pub long_term : RingState
+  pub rings : List RingState
   pub table : List (Option Incident)
   pub missing : List Record
+  pub lacking : ℕ
+
+-- The ring of no medium.
+abbrev pub no_ring : RingState
+no_ring = record { medium = 0; segment = 0; slots = 0; seconds = 0; directory = record { index = []; newest = None; ending = None }; buffer = []; loaded = None }
+
+-- The ring on medium m: that of the index m.
+abbrev pub ring_at : List RingState → ℕ → RingState
+ring_at rings m = get_or rings m no_ring
 
 -- The ring is that of medium m, as the configuration has it.
 pub record IsRingOf (c : Configuration) (sizes : List ℕ) (m : ℕ) (ring : RingState) : Type 0 where
@@ -33,40 +42,46 @@ pub record IsRingOf (c : Configuration) (sizes : List ℕ) (m : ℕ) (ring : Rin
   pub seconds : ring.seconds ≡ window_of c m
   pub room : HasMedium ring sizes
 
+-- There is a ring on each of the media, and no other, and each is that of its medium.
+pub record AreRingsOf (c : Configuration) (sizes : List ℕ) (rings : List RingState) : Type 0 where
+  pub count : length rings ≡ length members
+  pub each : All (λ m. IsRingOf c sizes m (ring_at rings m)) members
+
 -- What was opened is of media of these sizes: each ring is that of its medium, the table has the configured slots, and the batch that
--- the long-term medium lacks fits a segment.
+-- is missing fits a segment and is missing behind the medium that leads.
 pub record FitsMedia (o : OpenedState) (sizes : List ℕ) : Type 0 where
   -- each ring is that of its medium
-  pub rings : IsRingOf o.config sizes 0 o.capsule × IsRingOf o.config sizes 1 o.long_term
+  pub rings : AreRingsOf o.config sizes o.rings
   -- the table has the configured slots
   pub slots : length o.table ≡ o.config.incident_slots
   -- the batch that is missing fits an empty segment
   pub fits : o.missing ≢ [] → 64 + batch_size o.missing + 1 ≤ o.config.segment
+  -- the medium that leads has it
+  pub behind : o.missing ≢ [] → (0 < o.lacking) × (o.lacking < length members)
 
--- The long-term medium lacks this batch, which is the capsule's last one; or it lacks none.
-abbrev pub IsMissing : List Record → Reading → Type 0
-IsMissing missing reading = ((missing ≡ []) × AreLevel both reading) ⊎ IsPassedOn both (0 ∷ []) (1 ∷ []) missing reading
+-- The media from this one on lack this batch, which is the last one of those before it; or none lacks any.
+abbrev pub IsMissing : List Record → (lacking : ℕ) → Reading → Type 0
+IsMissing missing lacking reading = ((missing ≡ []) × AreLevel members reading) ⊎ IsPassedOn members (take lacking members) (drop lacking members) missing reading
 
 module _ {tells tells_images : Type 0} where
   -- The media hold these contents, and so it was opened.
   pub record IsOpened (o : OpenedState) (x : Contents) (disk : Disk tells tells_images) : Type 0 where
     pub holds : HoldsContents disk.reads x
-    pub meet : EndsMeet both (reading_of x)
+    pub meet : EndsMeet members (reading_of x)
     pub config : o.config ≡ x.config
-    pub capsule : rings.Reads o.capsule (x.placed 0) disk
-    pub long_term : rings.Reads o.long_term (x.placed 1) disk
+    pub rings : All (λ m. rings.Reads (ring_at o.rings m) (x.placed m) disk) members
     pub table : o.table ≡ x.table
-    pub missing : IsMissing o.missing (reading_of x)
+    pub missing : IsMissing o.missing o.lacking (reading_of x)
 
   -- The media that are read were not formatted, or this is the first part that is not legal.
   pub record RefusesAsRead {T : Type 0} (result : Result T OpenRefused) (disk : Disk tells tells_images) : Type 0 where
     -- the media were not formatted
     pub unformatted : result ≡ Err NotFormatted → tells → IsUnformatted disk.reads
     -- this is the first part that is not legal, where nothing was unsynced
-    pub damaged : (m offset : ℕ) → result ≡ Err (Damaged m offset) → tells → All (λ k. Durable k disk) both → IsFormatted disk.reads × IsRefused disk.reads m offset
+    pub damaged : (m offset : ℕ) → result ≡ Err (Damaged m offset) → tells → All (λ k. Durable k disk) members → IsFormatted disk.reads × IsRefused disk.reads m offset
 
 -- No count of faults falls, and a fault comes only where that of one of the media rose, and so their sum.
 pub record HasOpenCause {T : Type 0} (before now : List ℕ) (result : Result T OpenRefused) : Type 0 where
   pub later : NoneFalls before now
-  pub by_medium : IsErrOf result Fault → Any (λ m. Rose (get_or before m 0) (get_or now m 0)) both
+  pub by_medium : IsErrOf result Fault → Any (λ m. Rose (get_or before m 0) (get_or now m 0)) members
   pub in_all : IsErrOf result Fault → Rose (sum before) (sum now)

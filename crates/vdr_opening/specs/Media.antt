@@ -1,5 +1,5 @@
 -- What the capsule and the long-term medium hold, by the parts of their bytes (this project's profile).
-use Rattle.std.specs.Prelude.{◌≡◌, ℕ, List, [], ◌∷◌, length, replicate, All, IfSome, Option, None}
+use Rattle.std.specs.Prelude.{◌≡◌, ℕ, List, [], length, replicate, All, IfSome, Option, None}
 use Rattle.vdr_history.specs.Histories.{Incident, Opening}
 use Rattle.vdr_durability.specs.Readings.{Reading}
 use Rattle.vdr_durability.specs.Shown.{opened}
@@ -7,16 +7,13 @@ use Rattle.vdr_outside.specs.Disk.{Image, content}
 use Rattle.vdr_config.specs.Configuration.{Configuration}
 use Rattle.vdr_terms.specs.Slots.{slot_count}
 use Rattle.vdr_media.specs.Medium.{IsSuperblock, HoldsConfiguration}
+pub use Rattle.vdr_media.specs.Formatted.{members}
 use Rattle.vdr_directory.specs.Sequence.{Placed, batches_in}
 use Rattle.vdr_directory.specs.Order.{AreInOrder}
 use Rattle.vdr_directory.specs.Holds.{HoldsPlaced}
 use Rattle.vdr_directory.specs.Lookup.{HoldAll}
 use Rattle.vdr_incident.specs.Tables.{HoldsTable}
 use Rattle.vdr_opening.specs.Settings.{settings_of}
-
--- The media of a recording: the capsule leads, and a batch goes to the long-term medium after it.
-abbrev pub both : List ℕ
-both = 0 ∷ 1 ∷ []
 
 -- What stands before the slots of medium m, but for the incident slots: its superblock and its configuration.
 pub record HasFront (m : ℕ) (c : Configuration) (text bytes : List ℕ) : Type 0 where
@@ -50,7 +47,7 @@ nothing_on c text = record { config = c; text = text; placed = λ m. []; table =
 
 -- The image holds these contents.
 pub record HoldsContents (image : Image) (x : Contents) : Type 0 where
-  pub media : All (λ m. IsMedium m x.config x.text (x.placed m) (content image m)) both
+  pub media : All (λ m. IsMedium m x.config x.text (x.placed m) (content image m)) members
   pub table : HoldsTable x.config.incident_slots x.table (content image 1)
   pub there : AreThere x.table (x.placed 1)
 
@@ -59,12 +56,12 @@ abbrev pub reading_of : Contents → Reading
 reading_of x = record { batches = λ m. batches_in (x.placed m); table = x.table; text = x.text }
 
 -- The image is legible as media of these numbers, and reads so.
-pub record Reads (image : Image) (members : List ℕ) (reading : Reading) : Type 0 where
-  pub members_are : members ≡ both
+pub record Reads (image : Image) (numbers : List ℕ) (reading : Reading) : Type 0 where
+  pub members_are : numbers ≡ members
   pub contents : Contents
   pub holds : HoldsContents image contents
   pub is : reading ≡ reading_of contents
 
 -- What a run begins with that is opened on these contents.
 abbrev pub opening_of : Contents → Opening
-opening_of x = opened both (settings_of x.config x.text) (reading_of x)
+opening_of x = opened members (settings_of x.config x.text) (reading_of x)

@@ -1,8 +1,8 @@
 -- What the parts of opening owe each other. No public clause cites it, but for what an answer of a part is as an answer of all.
-use Rattle.std.specs.Prelude.{◌≡◌, ◌<◌, ◌≤◌, ◌∷◌, ◌++◌, ℕ, List, length, get_or, drop, Any, IfSome, Option, Some, Result, IsErrOf}
+use Rattle.std.specs.Prelude.{◌≡◌, ◌<◌, ◌≤◌, ◌∷◌, ◌++◌, ℕ, List, length, get_or, drop, All, Any, IfSome, Option, Some, option_map, Result, IsErrOf}
 use Rattle.vdr_history.specs.Histories.{Incident}
 use Rattle.vdr_outside.specs.Causes.{NoneFalls, Rose}
-use Rattle.vdr_outside.specs.Disk.{Disk, content}
+use Rattle.vdr_outside.specs.Disk.{Disk, Unchanged, content}
 use Rattle.vdr_outside.specs.declared.fault.PartRefused.{PartRefused}
 use Rattle.vdr_outside.specs.declared.fault.PartRefused.TheVariants as parts
 use Rattle.vdr_config.specs.Configuration.{Configuration}
@@ -16,7 +16,13 @@ use Rattle.vdr_terms.specs.Slots.{slot_count}
 use Rattle.vdr_media.specs.Layout.{superblock_bytes}
 use Rattle.vdr_opening.specs.declared.refused.OpenRefused.{OpenRefused}
 use Rattle.vdr_opening.specs.declared.refused.OpenRefused.TheVariants.{NoMemory, Damaged, Fault}
-use Rattle.vdr_opening.specs.Media.{both, AreThere, IsMedium}
+use Rattle.vdr_opening.specs.declared.text.Configured.{Configured}
+use Rattle.vdr_opening.specs.Media.{members, AreThere, IsMedium}
+use Rattle.vdr_opening.specs.Answers.{AreRingsOf, ring_at}
+
+-- The text of the configuration of the medium before, where there is one.
+abbrev pub text_of : Option Configured → Option (List ℕ)
+text_of before = option_map (λ first. first.text.items) before
 
 -- What is said of media of which a part is refused.
 abbrev pub refusal_by : PartRefused → OpenRefused
@@ -41,6 +47,16 @@ module _ {tells tells_images : Type 0} where
   pub record ReadsMedium (m : ℕ) (c : Configuration) (text : List ℕ) (placed : List Placed) (ring : RingState) (disk : Disk tells tells_images) : Type 0 where
     pub legal : IsMedium m c text placed (content disk.reads m)
     pub reads : rings.Reads ring placed disk
+
+  -- The ring on each of the media reads as these segments.
+  abbrev pub AreRead : List RingState → (ℕ → List Placed) → Disk tells tells_images → Type 0
+  AreRead on placed disk = All (λ m. rings.Reads (ring_at on m) (placed m) disk) members
+
+  -- Rings read from their media: each is that of its medium as it was, and reads as it did. Nothing was written.
+  pub record KeepsRings (old new : List RingState) (before after : Disk tells tells_images) : Type 0 where
+    pub of_media : (c : Configuration) (sizes : List ℕ) → AreRingsOf c sizes old → AreRingsOf c sizes new
+    pub reads : (m : ℕ) (placed : List Placed) → rings.Reads (ring_at old m) placed before → rings.Reads (ring_at new m) placed after
+    pub unchanged : Unchanged before after
 
 -- An incident slot is free, or all places of its incident stand in these segments.
 abbrev pub IsThere : List Placed → Option Incident → Type 0
@@ -67,4 +83,4 @@ pub record LacksPlacesAt (slots : ℕ) (placed : List Placed) (bytes : List ℕ)
 -- The count of no medium falls. A fault comes only where that of one of the media rose.
 pub record HasPartCause {T : Type 0} (before now : List ℕ) (result : Result T PartRefused) : Type 0 where
   pub later : NoneFalls before now
-  pub rose : IsErrOf result parts.Fault → Any (λ m. Rose (get_or before m 0) (get_or now m 0)) both
+  pub rose : IsErrOf result parts.Fault → Any (λ m. Rose (get_or before m 0) (get_or now m 0)) members

@@ -14,7 +14,7 @@ use Rattle.vdr_directory.specs.Lookup.{HoldAll}
 use Rattle.vdr_directory.specs.Opening.{Refuses}
 use Rattle.vdr_incident.specs.Tables.{HoldsTable, place_of}
 use Rattle.vdr_incident.specs.Tables as incidents
-use Rattle.vdr_opening.specs.Media.{both, HasFront, IsMedium, Contents, HoldsContents, reading_of}
+use Rattle.vdr_opening.specs.Media.{members, HasFront, IsMedium, Contents, HoldsContents, reading_of}
 
 -- The text is that of the medium before, where there is one.
 abbrev pub IsSameText : Option (List ℕ) → List ℕ → Type 0
@@ -52,7 +52,7 @@ pub record IsLegalBehind (m : ℕ) (before : Option (List ℕ)) (text bytes : Li
   pub same : IsSameText before text
 
 -- The first of these media that is not legal is m.
-abbrev pub RefusesFrom : (before : Option (List ℕ)) (members : List ℕ) (image : Image) (m offset : ℕ) → Type 0
+abbrev pub RefusesFrom : (before : Option (List ℕ)) (numbers : List ℕ) (image : Image) (m offset : ℕ) → Type 0
 RefusesFrom before [] image m offset = ⊥
 RefusesFrom before (k ∷ ks) image m offset =
     ((m ≡ k) × RefusesMedium k before (content image k) offset)
@@ -60,7 +60,7 @@ RefusesFrom before (k ∷ ks) image m offset =
 
 -- Each medium is legal, with one configuration.
 pub record AreLegal (image : Image) (c : Configuration) (text : List ℕ) (placed : ℕ → List Placed) : Type 0 where
-  pub each : All (λ m. IsMedium m c text (placed m) (content image m)) both
+  pub each : All (λ m. IsMedium m c text (placed m) (content image m)) members
 
 -- The media are, and the first incident slot that is not is at this offset.
 pub record RefusesIncidents (image : Image) (m offset : ℕ) : Type 0 where
@@ -90,11 +90,11 @@ pub record RefusesPlaces (image : Image) (m offset : ℕ) : Type 0 where
 pub record RefusesEnds (image : Image) (m offset : ℕ) : Type 0 where
   pub contents : Contents
   pub holds : HoldsContents image contents
-  pub off : EndsOff both (reading_of contents) m
+  pub off : EndsOff members (reading_of contents) m
   pub at : offset ≡ 0
 
 -- The first part that is not legal is at this offset of medium m.
 abbrev pub IsRefused : (image : Image) (m offset : ℕ) → Type 0
 IsRefused image m offset =
-    RefusesFrom None both image m offset
+    RefusesFrom None members image m offset
     ⊎ (RefusesIncidents image m offset ⊎ (RefusesPlaces image m offset ⊎ RefusesEnds image m offset))

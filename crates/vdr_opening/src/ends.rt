@@ -1,17 +1,19 @@
-// Whether the ends of the media meet, and which batch the long-term medium lacks.
-ghost use Rattle.std.specs.Prelude.{◌≡◌, ◌≢◌, ◌+◌, ◌≤◌, ℕ, List, [], Err, IfOk, OnOk};
+// Whether the ends of the media meet, and which batch some of them lack.
+ghost use Rattle.std.specs.Prelude.{◌≡◌, ◌≢◌, ◌+◌, ◌<◌, ◌≤◌, ℕ, List, [], length, Err, IfOk};
 ghost use Rattle.vdr_terms.specs.Records.{last};
 ghost use Rattle.vdr_terms.specs.Sizes.{batch_size};
-ghost use Rattle.vdr_durability.specs.Readings.{EndsMeet, EndsOff, Reading, comes_next};
-ghost use Rattle.vdr_outside.specs.Disk.{Unchanged};
+ghost use Rattle.vdr_durability.specs.Readings.{EndsMeet, EndsOff, comes_next};
+ghost use Rattle.vdr_config.specs.Configuration.{Configuration};
 ghost use Rattle.vdr_outside.specs.declared.fault.PartRefused.TheVariants.{Damaged};
 ghost use Rattle.vdr_directory.specs.Holds.{Tells};
-ghost use Rattle.vdr_ring.specs.Rings.{HasMedium, Reads};
+ghost use Rattle.vdr_ring.specs.Rings.{Reads};
+ghost use Rattle.vdr_ring.specs.Lasts.{batch_or_none};
 ghost use Rattle.vdr_directory.specs.Sequence.{Placed, all_records, batches_in};
-ghost use Rattle.vdr_opening.specs.Media.{both};
-ghost use Rattle.vdr_opening.specs.Answers.{IsMissing};
-ghost use Rattle.vdr_opening.specs.Parts.{HasPartCause};
+ghost use Rattle.vdr_opening.specs.Media.{members, Contents, reading_of};
+ghost use Rattle.vdr_opening.specs.Answers.{AreRingsOf, IsMissing, ring_at};
+ghost use Rattle.vdr_opening.specs.Parts.{AreRead, HasPartCause, KeepsRings};
 
+use crate::MEMBERS;
 use crate::same::same_records;
 use std::alloc::Global;
 use vdr_entry::Record;
@@ -32,43 +34,70 @@ fn follows(batch: &[Record], ring: &Ring) -> bool
     }
 }
 
-/// Reads the last batches of both media, and gives the one that the long-term medium lacks, no records where it lacks none.
-/// `Damaged`: the long-term medium ends neither with the batch of the capsule nor directly before it, so that it could come next there.
+// Reads the last batch of medium m.
+fn read_end<M: Media>(
+    alloc: Global,
+    media: &mut M,
+    rings: &mut [Ring],
+    m: u8,
+) -> Result<Vec<Record>, PartRefused>
+    requires few { m < 2 }
+    requires rings { (c : Configuration) × AreRingsOf c (M.disk media.old).sizes rings.old }
+    ensures batch { IfOk result (λ batch. M.tells → (placed : List Placed) → Reads (ring_at rings.old m) placed (M.disk media.old) → batch_or_none batch.items ≡ last (batches_in placed)) }
+    ensures fits { IfOk result (λ batch. batch.items ≢ [] → 64 + batch_size batch.items + 1 ≤ (ring_at rings.old m).segment) }
+    ensures undamaged { (k offset : ℕ) → result ≡ Err (Damaged k offset) → M.tells → (placed : List Placed) → Reads (ring_at rings.old m) placed (M.disk media.old) → ⊥ }
+    ensures kept { KeepsRings rings.old rings.new (M.disk media.old) (M.disk media.new) }
+    ensures cause { HasPartCause (M.faults media.old) (M.faults media.new) result }
+{
+    let ring = &mut rings[m as usize];
+    ring.read_last_batch(alloc, media)
+}
+
+/// The batch that some media lack.
+#[derive(Drop)]
+pub(crate) struct Missing {
+    // Its records, none where no medium lacks it.
+    pub(crate) batch: Vec<Record>,
+    // The media from this number on lack it.
+    pub(crate) lacking: u8,
+}
+
+/// Reads the last batch of each medium, and gives the one that some lack, behind those that have it. `Damaged` names the
+/// first medium at which the ends no longer meet. It ends neither with the first one's batch, as all before it, nor
+/// directly before that batch, so that it could come next there.
 pub(crate) fn missing_batch<M: Media>(
     alloc: Global,
     media: &mut M,
-    capsule: &mut Ring,
-    long_term: &mut Ring,
-) -> Result<Vec<Record>, PartRefused>
-    requires capsule { HasMedium capsule.old (M.disk media.old).sizes }
-    requires long_term { HasMedium long_term.old (M.disk media.old).sizes }
-    requires first { capsule.old.medium ≡ 0 }
-    requires second { long_term.old.medium ≡ 1 }
-    ensures missing { IfOk result (λ missing. M.tells → (first second : List Placed) → Reads capsule.old first (M.disk media.old) → Reads long_term.old second (M.disk media.old)
-        → (reading : Reading) → reading.batches 0 ≡ batches_in first → reading.batches 1 ≡ batches_in second
-        → EndsMeet both reading × IsMissing missing.items reading) }
-    ensures fits { IfOk result (λ missing. missing.items ≢ [] → 64 + batch_size missing.items + 1 ≤ capsule.old.segment) }
-    ensures damaged { (m offset : ℕ) → result ≡ Err (Damaged m offset) → M.tells
-        → (first second : List Placed) → Reads capsule.old first (M.disk media.old) → Reads long_term.old second (M.disk media.old)
-        → (reading : Reading) → reading.batches 0 ≡ batches_in first → reading.batches 1 ≡ batches_in second
-        → (m ≡ 1) × (offset ≡ 0) × EndsOff both reading 1 }
-    ensures capsule { capsule.new ≡ record capsule.old { buffer = capsule.new.buffer; loaded = capsule.new.loaded } }
-    ensures long_term { long_term.new ≡ record long_term.old { buffer = long_term.new.buffer; loaded = long_term.new.loaded } }
-    ensures reads_capsule { OnOk result ((placed : List Placed) → Reads capsule.old placed (M.disk media.old) → Reads capsule.new placed (M.disk media.new)) }
-    ensures reads_long_term { OnOk result ((placed : List Placed) → Reads long_term.old placed (M.disk media.old) → Reads long_term.new placed (M.disk media.new)) }
-    ensures unchanged { Unchanged (M.disk media.old) (M.disk media.new) }
+    rings: &mut [Ring],
+) -> Result<Missing, PartRefused>
+    requires { (c : Configuration) × AreRingsOf c (M.disk media.old).sizes rings.old }
+    ensures missing { IfOk result (λ missing. M.tells → (x : Contents) → AreRead rings.old x.placed (M.disk media.old)
+        → EndsMeet members (reading_of x) × IsMissing missing.batch.items missing.lacking (reading_of x)) }
+    ensures fits { IfOk result (λ missing. missing.batch.items ≢ [] → 64 + batch_size missing.batch.items + 1 ≤ (ring_at rings.old 0).segment) }
+    ensures behind { IfOk result (λ missing. missing.batch.items ≢ [] → (0 < missing.lacking) × (missing.lacking < length members)) }
+    ensures damaged { (m offset : ℕ) → result ≡ Err (Damaged m offset) → M.tells → (x : Contents) → AreRead rings.old x.placed (M.disk media.old)
+        → (offset ≡ 0) × EndsOff members (reading_of x) m }
+    ensures kept { KeepsRings rings.old rings.new (M.disk media.old) (M.disk media.new) }
     ensures cause { HasPartCause (M.faults media.old) (M.faults media.new) result }
 {
-    let last = capsule.read_last_batch(alloc, media)?;
-    let other = long_term.read_last_batch(alloc, media)?;
-    if same_records(&last, &other) {
-        return Ok(Vec::new(alloc));
+    let batch = read_end(alloc, media, rings, 0)?;
+    let mut lacking = 1;
+    for m in 1..MEMBERS {
+        let other = read_end(alloc, media, rings, m)?;
+        if lacking == m && same_records(&batch, &other) {
+            lacking += 1;
+        } else if !follows(&batch, &rings[m as usize]) {
+            return Err(PartRefused::Damaged {
+                medium: m,
+                offset: 0,
+            });
+        }
     }
-    if !follows(&last, long_term) {
-        return Err(PartRefused::Damaged {
-            medium: 1,
-            offset: 0,
+    if lacking == MEMBERS {
+        return Ok(Missing {
+            batch: Vec::new(alloc),
+            lacking,
         });
     }
-    Ok(last)
+    Ok(Missing { batch, lacking })
 }

@@ -1,62 +1,89 @@
-// Each of the two media, but for the incident slots: its superblock, its configuration and its segments.
-ghost use Rattle.std.specs.Prelude.{◌≡◌, ◌≤◌, ℕ, List, length, Ok, Err, Some, None, IfOk};
+// The media, but for the incident slots: the superblock of each, its configuration and its segments.
+ghost use Rattle.std.specs.Prelude.{◌≡◌, ◌<◌, ◌≤◌, ℕ, List, length, Ok, Err, None, IfOk, IfSome, All};
 ghost use Rattle.vdr_outside.specs.Disk.{Durable, Unchanged, content};
 ghost use Rattle.vdr_outside.specs.declared.fault.PartRefused.TheVariants.{Damaged};
 ghost use Rattle.vdr_config.specs.Grammar.{configuration};
 ghost use Rattle.vdr_directory.specs.Opening.{HasFaultCause};
 ghost use Rattle.vdr_directory.specs.Sequence.{Placed};
-ghost use Rattle.vdr_opening.specs.Refusals.{RefusesMedium};
-ghost use Rattle.vdr_opening.specs.Answers.{IsRingOf};
-ghost use Rattle.vdr_opening.specs.Parts.{ReadsMedium};
+ghost use Rattle.vdr_opening.specs.Media.{members};
+ghost use Rattle.vdr_opening.specs.Refusals.{RefusesFrom, RefusesMedium};
+ghost use Rattle.vdr_opening.specs.Answers.{AreRingsOf, IsRingOf, ring_at};
+ghost use Rattle.vdr_opening.specs.Parts.{HasPartCause, ReadsMedium, text_of};
 
 use crate::superblock::read_superblock;
-use crate::text::{Configured, expect_configuration, read_configuration};
+use crate::text::{Configured, read_configuration};
 use std::alloc::Global;
 use vdr_outside::{Media, PartRefused};
 use vdr_ring::Ring;
 
-/// What the capsule holds.
+/// The media of a recording have the numbers below this one.
+pub const MEMBERS: u8 = 2;
+
+/// What one of them holds.
 #[derive(Drop)]
-pub(crate) struct Capsule {
+pub(crate) struct Medium {
     pub(crate) configured: Configured,
     pub(crate) ring: Ring,
 }
 
-/// Reads the capsule, whose configuration is that of all media. `Damaged` names its first part that is not legal.
-pub(crate) fn open_capsule<M: Media>(alloc: Global, media: &mut M) -> Result<Capsule, PartRefused>
-    requires { 2 ≤ length (M.disk media.old).sizes }
-    ensures reads { IfOk result (λ c. M.tells → Durable 0 (M.disk media.old)
-        → (placed : List Placed) × ReadsMedium 0 c.configured.config c.configured.text.items placed c.ring (M.disk media.new)) }
-    ensures configured { IfOk result (λ c. configuration c.configured.text.items ≡ Ok c.configured.config) }
-    ensures ring { IfOk result (λ c. IsRingOf c.configured.config (M.disk media.old).sizes 0 c.ring) }
-    ensures damaged { (k offset : ℕ) → result ≡ Err (Damaged k offset) → (k ≡ 0)
-        × (M.tells → RefusesMedium 0 None (content (M.disk media.old).reads 0) offset) }
-    ensures unchanged { Unchanged (M.disk media.old) (M.disk media.new) }
-    ensures cause { HasFaultCause 0 (M.faults media.old) (M.faults media.new) result }
-{
-    let segment = read_superblock(media, 0)?;
-    let configured = read_configuration(alloc, media, 0, segment)?;
-    let ring = Ring::open(alloc, media, 0, &configured.config)?;
-    Ok(Capsule { configured, ring })
+/// What they all hold: one configuration, and the segments of each.
+#[derive(Drop)]
+pub(crate) struct AllMedia {
+    pub(crate) configured: Configured,
+    // One for each medium, in order of number.
+    pub(crate) rings: Vec<Ring>,
 }
 
-/// Reads the long-term medium, which has the configuration of the capsule. `Damaged` names its first part that is not legal.
-pub(crate) fn open_long_term<M: Media>(
+// Reads medium m, which has the configuration of the medium before, where there is one. `Damaged` names its first
+// part that is not legal.
+fn open_medium<M: Media>(
     alloc: Global,
     media: &mut M,
-    configured: &Configured,
-) -> Result<Ring, PartRefused>
+    m: u8,
+    before: Option<Configured>,
+) -> Result<Medium, PartRefused>
     requires two { 2 ≤ length (M.disk media.old).sizes }
-    requires configured { configuration configured.now.text.items ≡ Ok configured.now.config }
-    ensures reads { IfOk result (λ ring. M.tells → Durable 1 (M.disk media.old)
-        → (placed : List Placed) × ReadsMedium 1 configured.now.config configured.now.text.items placed ring (M.disk media.new)) }
-    ensures ring { IfOk result (λ ring. IsRingOf configured.now.config (M.disk media.old).sizes 1 ring) }
-    ensures damaged { (k offset : ℕ) → result ≡ Err (Damaged k offset) → (k ≡ 1)
-        × (M.tells → RefusesMedium 1 (Some configured.now.text.items) (content (M.disk media.old).reads 1) offset) }
+    requires few { m < 2 }
+    requires before { IfSome before (λ first. configuration first.text.items ≡ Ok first.config) }
+    ensures reads { IfOk result (λ medium. M.tells → Durable m (M.disk media.old)
+        → (placed : List Placed) × ReadsMedium m medium.configured.config medium.configured.text.items placed medium.ring (M.disk media.new)) }
+    ensures configured { IfOk result (λ medium. configuration medium.configured.text.items ≡ Ok medium.configured.config) }
+    ensures same { IfOk result (λ medium. IfSome before (λ first. medium.configured ≡ first)) }
+    ensures ring { IfOk result (λ medium. IsRingOf medium.configured.config (M.disk media.old).sizes m medium.ring) }
+    ensures damaged { (k offset : ℕ) → result ≡ Err (Damaged k offset) → (k ≡ m)
+        × (M.tells → RefusesMedium m (text_of before) (content (M.disk media.old).reads m) offset) }
     ensures unchanged { Unchanged (M.disk media.old) (M.disk media.new) }
-    ensures cause { HasFaultCause 1 (M.faults media.old) (M.faults media.new) result }
+    ensures cause { HasFaultCause m (M.faults media.old) (M.faults media.new) result }
 {
-    let segment = read_superblock(media, 1)?;
-    expect_configuration(alloc, media, 1, segment, configured)?;
-    Ring::open(alloc, media, 1, &configured.config)
+    let segment = read_superblock(media, m)?;
+    let configured = read_configuration(alloc, media, m, segment, before)?;
+    let ring = Ring::open(alloc, media, m, &configured.config)?;
+    Ok(Medium { configured, ring })
+}
+
+/// Reads the media in order of number. The configuration is that of them all. `Damaged` names the first part that is
+/// not legal.
+pub(crate) fn open_media<M: Media>(alloc: Global, media: &mut M) -> Result<AllMedia, PartRefused>
+    requires { 2 ≤ length (M.disk media.old).sizes }
+    ensures reads { IfOk result (λ all. M.tells → All (λ m. Durable m (M.disk media.old)) members → (placed : ℕ → List Placed)
+        × All (λ m. ReadsMedium m all.configured.config all.configured.text.items (placed m) (ring_at all.rings.items m) (M.disk media.new)) members) }
+    ensures rings { IfOk result (λ all. AreRingsOf all.configured.config (M.disk media.old).sizes all.rings.items) }
+    ensures damaged { (m offset : ℕ) → result ≡ Err (Damaged m offset) → M.tells → All (λ k. Durable k (M.disk media.old)) members
+        → RefusesFrom None members (M.disk media.old).reads m offset }
+    ensures unchanged { Unchanged (M.disk media.old) (M.disk media.new) }
+    ensures cause { HasPartCause (M.faults media.old) (M.faults media.new) result }
+{
+    let mut rings = Vec::new(alloc);
+    let mut before = None;
+    for m in 0..MEMBERS {
+        let Medium { configured, ring } = open_medium(alloc, media, m, before)?;
+        let Ok(_) = rings.push(ring) else {
+            return Err(PartRefused::NoMemory);
+        };
+        before = Some(configured);
+    }
+    let Some(configured) = before else {
+        unreachable!()
+    };
+    Ok(AllMedia { configured, rings })
 }

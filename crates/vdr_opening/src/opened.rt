@@ -4,16 +4,18 @@ use vdr_entry::Record;
 use vdr_incident::Table;
 use vdr_ring::Ring;
 
-/// Media that were read: the configuration that they hold, a ring on each, the table of incident saves, and the batch that the long-term
-/// medium lacks. Its type keeps nothing of its own.
+/// Media that were read: the configuration that they hold, a ring on each, the table of incident saves, and the batch that some of them
+/// lack. Its type keeps nothing of its own.
 #[derive(Drop)]
 pub struct Opened {
     pub config: Config,
-    pub capsule: Ring,
-    pub long_term: Ring,
+    /// One for each medium: its index is the number of the medium. The first one leads.
+    pub rings: Vec<Ring>,
     pub table: Table,
-    /// The records of the capsule's last batch, where the long-term medium lacks that batch; else none.
+    /// The records of the leading medium's last batch, where other media lack that batch; else none.
     pub missing: Vec<Record>,
+    /// The media from this number on lack it.
+    pub lacking: u8,
 }
 
 impl Model for Opened {
@@ -21,5 +23,5 @@ impl Model for Opened {
 
     ghost Value = { OpenedState };
 
-    ghost view = { λ o. record { config = o.config; capsule = o.capsule; long_term = o.long_term; table = o.table; missing = o.missing.items } };
+    ghost view = { λ o. record { config = o.config; rings = o.rings.items; table = o.table; missing = o.missing.items; lacking = o.lacking } };
 }

@@ -2,41 +2,43 @@ ghost use Rattle.std.specs.Prelude.{◌≡◌, ◌≤◌, ℕ, length, All, IfOk
 ghost use Rattle.vdr_outside.specs.Disk.{Durable, Unchanged};
 ghost use Rattle.vdr_outside.specs.declared.fault.PartRefused.TheVariants.{Damaged as PartDamaged};
 ghost use Rattle.vdr_media.specs.Formatted.{IsFormatted};
-ghost use Rattle.vdr_opening.specs.Media.{Contents, both};
+ghost use Rattle.vdr_opening.specs.Media.{Contents, members};
 ghost use Rattle.vdr_opening.specs.Refusals.{IsRefused};
 ghost use Rattle.vdr_opening.specs.Answers.{FitsMedia, HasOpenCause, IsOpened, RefusesAsRead};
 ghost use Rattle.vdr_opening.specs.Parts.{HasPartCause};
 
-use crate::ends::missing_batch;
-use crate::medium::{Capsule, open_capsule, open_long_term};
+use crate::ends::{Missing, missing_batch};
+use crate::medium::{AllMedia, open_media};
 use crate::places::read_incidents;
 use crate::{OpenRefused, Opened};
 use std::alloc::Global;
 use vdr_media::are_formatted;
 use vdr_outside::{Media, PartRefused};
 
+// The number of the long-term medium, which has the incident slots.
+const LONG_TERM: usize = 1;
+
 // Reads media that are formatted.
 fn read_formatted<M: Media>(alloc: Global, media: &mut M) -> Result<Opened, PartRefused>
     requires { 2 ≤ length (M.disk media.old).sizes }
-    ensures opened { IfOk result (λ o. M.tells → All (λ m. Durable m (M.disk media.old)) both → (x : Contents) × IsOpened o x (M.disk media.new)) }
+    ensures opened { IfOk result (λ o. M.tells → All (λ m. Durable m (M.disk media.old)) members → (x : Contents) × IsOpened o x (M.disk media.new)) }
     ensures shape { IfOk result (λ o. FitsMedia o (M.disk media.old).sizes) }
-    ensures damaged { (m offset : ℕ) → result ≡ Err (PartDamaged m offset) → M.tells → All (λ k. Durable k (M.disk media.old)) both → IsRefused (M.disk media.old).reads m offset }
+    ensures damaged { (m offset : ℕ) → result ≡ Err (PartDamaged m offset) → M.tells → All (λ k. Durable k (M.disk media.old)) members → IsRefused (M.disk media.old).reads m offset }
     ensures unchanged { Unchanged (M.disk media.old) (M.disk media.new) }
     ensures cause { HasPartCause (M.faults media.old) (M.faults media.new) result }
 {
-    let Capsule {
+    let AllMedia {
         configured,
-        ring: mut capsule,
-    } = open_capsule(alloc, media)?;
-    let mut long_term = open_long_term(alloc, media, &configured)?;
-    let table = read_incidents(media, &configured.config, &long_term)?;
-    let missing = missing_batch(alloc, media, &mut capsule, &mut long_term)?;
+        mut rings,
+    } = open_media(alloc, media)?;
+    let table = read_incidents(media, &configured.config, &rings[LONG_TERM])?;
+    let Missing { batch, lacking } = missing_batch(alloc, media, &mut rings)?;
     Ok(Opened {
         config: configured.config,
-        capsule,
-        long_term,
+        rings,
         table,
-        missing,
+        missing: batch,
+        lacking,
     })
 }
 
@@ -50,7 +52,7 @@ fn read_formatted<M: Media>(alloc: Global, media: &mut M) -> Result<Opened, Part
 pub fn read_media<M: Media>(alloc: Global, media: &mut M) -> Result<Opened, OpenRefused>
     requires two { 2 ≤ length (M.disk media.old).sizes }
     requires three { length (M.disk media.old).sizes ≤ 3 }
-    ensures opened { IfOk result (λ o. M.tells → All (λ m. Durable m (M.disk media.old)) both → (x : Contents) × IsOpened o x (M.disk media.new)) }
+    ensures opened { IfOk result (λ o. M.tells → All (λ m. Durable m (M.disk media.old)) members → (x : Contents) × IsOpened o x (M.disk media.new)) }
     ensures formatted { IfOk result (λ o. M.tells → IsFormatted (M.disk media.old).reads) }
     ensures shape { IfOk result (λ o. FitsMedia o (M.disk media.old).sizes) }
     ensures refused { RefusesAsRead result (M.disk media.old) }

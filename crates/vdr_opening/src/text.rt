@@ -1,5 +1,5 @@
 // The configuration of a medium, and its text.
-ghost use Rattle.std.specs.Prelude.{◌≡◌, ◌<◌, ◌≤◌, ◌^◌, ◌↔◌, ℕ, List, length, get_or, Err, Ok, Some, None, IfOk, OnOk, IsTrue};
+ghost use Rattle.std.specs.Prelude.{◌≡◌, ◌<◌, ◌≤◌, ◌^◌, ◌↔◌, ℕ, List, length, get_or, Err, Ok, IfOk, IfSome, IsTrue};
 ghost use Rattle.vdr_terms.specs.Needs.{Fits};
 ghost use Rattle.vdr_bytes.specs.Numbers.{le_u32};
 ghost use Rattle.vdr_outside.specs.Disk.{Unchanged, content};
@@ -12,8 +12,8 @@ ghost use Rattle.vdr_directory.specs.Opening.{HasFaultCause};
 ghost use Rattle.vdr_media.specs.Layout.{text_from};
 ghost use Rattle.vdr_media.specs.Medium.{HoldsText, IsSuperblock};
 ghost use Rattle.vdr_opening.specs.Media.{HasFront};
-ghost use Rattle.vdr_opening.specs.Refusals.{RefusesConfiguration};
-ghost use Rattle.vdr_opening.specs.Parts.{HasRoomBefore};
+ghost use Rattle.vdr_opening.specs.Refusals.{IsSameText, RefusesConfiguration};
+ghost use Rattle.vdr_opening.specs.Parts.{HasRoomBefore, text_of};
 
 use std::alloc::Global;
 use vdr_bytes::u32_at;
@@ -85,15 +85,29 @@ fn read_text<M: Media>(alloc: Global, media: &mut M, m: u8) -> Result<Vec<u8>, P
     Ok(text)
 }
 
-// The configuration that the text of medium m is.
-fn config_in(alloc: Global, m: u8, text: &[u8]) -> Result<Config, PartRefused>
-    ensures reads { IfOk result (λ config. configuration text.now ≡ Ok config) }
+// The configuration that the text of medium m is, which has to be that of the medium before, where there is one.
+fn configured_by(
+    alloc: Global,
+    m: u8,
+    text: Vec<u8>,
+    before: Option<Configured>,
+) -> Result<Configured, PartRefused>
+    requires { IfSome before (λ first. configuration first.text.items ≡ Ok first.config) }
+    ensures text { IfOk result (λ c. c.text.items ≡ text.items) }
+    ensures reads { IfOk result (λ c. configuration c.text.items ≡ Ok c.config) }
+    ensures same { IfOk result (λ c. IfSome before (λ first. c ≡ first)) }
     ensures damaged { (k offset : ℕ) → result ≡ Err (Damaged k offset) → (k ≡ m) × (offset ≡ text_from)
-        × ((config : Configuration) → configuration text.now ≡ Ok config → ⊥) }
+        × ((config : Configuration) → configuration text.items ≡ Ok config → IsSameText (text_of before) text.items → ⊥) }
     ensures fault { result ≡ Err Fault → ⊥ }
 {
-    match read_config(alloc, text) {
-        Ok(config) => Ok(config),
+    if let Some(first) = before {
+        if text.as_slice() != first.text.as_slice() {
+            return Err(refused(m));
+        }
+        return Ok(first);
+    }
+    match read_config(alloc, &text) {
+        Ok(config) => Ok(Configured { config, text }),
         Err(ConfigBad::NoMemory) => Err(PartRefused::NoMemory),
         Err(_) => Err(refused(m)),
     }
@@ -114,59 +128,32 @@ fn goes_with(config: &Config, m: u8, segment: u32, size: u64) -> bool
     config.segment == segment && needed <= slot_count(config.segment, size) as u64
 }
 
-/// The configuration of medium m, and its text, where the superblock says this segment size. `Damaged`: it is none, or it does
-/// not go with the medium.
+/// The configuration of medium m, and its text, where the superblock says this segment size. `Damaged`: it is none, or
+/// not that of the medium before, or it does not go with the medium.
 pub(crate) fn read_configuration<M: Media>(
     alloc: Global,
     media: &mut M,
     m: u8,
     segment: u32,
+    before: Option<Configured>,
 ) -> Result<Configured, PartRefused>
     requires room { HasRoomBefore m (M.disk media.old).sizes }
     requires few { m < 2 }
     requires superblock { M.tells → IsSuperblock m segment (content (M.disk media.old).reads m) }
+    requires before { IfSome before (λ first. configuration first.text.items ≡ Ok first.config) }
     ensures front { IfOk result (λ c. M.tells → HasFront m c.config c.text.items (content (M.disk media.old).reads m)) }
     ensures reads { IfOk result (λ c. configuration c.text.items ≡ Ok c.config) }
     ensures fits { IfOk result (λ c. Fits (sizes_of c.config) m (get_or (M.disk media.old).sizes m 0)) }
+    ensures same { IfOk result (λ c. IfSome before (λ first. c ≡ first)) }
     ensures damaged { (k offset : ℕ) → result ≡ Err (Damaged k offset) → (k ≡ m)
-        × (M.tells → RefusesConfiguration m None (content (M.disk media.old).reads m) offset) }
+        × (M.tells → RefusesConfiguration m (text_of before) (content (M.disk media.old).reads m) offset) }
     ensures unchanged { Unchanged (M.disk media.old) (M.disk media.new) }
     ensures cause { HasFaultCause m (M.faults media.old) (M.faults media.new) result }
 {
     let text = read_text(alloc, media, m)?;
-    let config = config_in(alloc, m, &text)?;
-    if !goes_with(&config, m, segment, media.size(m)) {
+    let configured = configured_by(alloc, m, text, before)?;
+    if !goes_with(&configured.config, m, segment, media.size(m)) {
         return Err(refused(m));
     }
-    Ok(Configured { config, text })
-}
-
-/// Tests that medium m, whose superblock says this segment size, has the configuration of the medium before it. `Damaged`: it has
-/// not, or that does not go with the medium.
-pub(crate) fn expect_configuration<M: Media>(
-    alloc: Global,
-    media: &mut M,
-    m: u8,
-    segment: u32,
-    before: &Configured,
-) -> Result<(), PartRefused>
-    requires room { HasRoomBefore m (M.disk media.old).sizes }
-    requires few { m < 2 }
-    requires superblock { M.tells → IsSuperblock m segment (content (M.disk media.old).reads m) }
-    requires reads { configuration before.now.text.items ≡ Ok before.now.config }
-    ensures front { OnOk result (M.tells → HasFront m before.now.config before.now.text.items (content (M.disk media.old).reads m)) }
-    ensures fits { OnOk result (Fits (sizes_of before.now.config) m (get_or (M.disk media.old).sizes m 0)) }
-    ensures damaged { (k offset : ℕ) → result ≡ Err (Damaged k offset) → (k ≡ m)
-        × (M.tells → RefusesConfiguration m (Some before.now.text.items) (content (M.disk media.old).reads m) offset) }
-    ensures unchanged { Unchanged (M.disk media.old) (M.disk media.new) }
-    ensures cause { HasFaultCause m (M.faults media.old) (M.faults media.new) result }
-{
-    let text = read_text(alloc, media, m)?;
-    if text.as_slice() != before.text.as_slice() {
-        return Err(refused(m));
-    }
-    if !goes_with(&before.config, m, segment, media.size(m)) {
-        return Err(refused(m));
-    }
-    Ok(())
+    Ok(configured)
 }

@@ -19,7 +19,7 @@ use Rattle.vdr_entry.specs.Queries.{asked_medium}
 use Rattle.vdr_entry.specs.declared.query.Medium.{Medium as Played}
 use Rattle.vdr_entry.specs.declared.query.Medium.TheVariants.{Capsule, LongTerm, Incident}
 use Rattle.vdr_directory.specs.Sequence.{Placed}
-use Rattle.vdr_opening.specs.Media.{both, Contents, HoldsContents, opening_of, reading_of}
+use Rattle.vdr_opening.specs.Media.{members, Contents, HoldsContents, opening_of, reading_of}
 use Rattle.vdr_opening.specs.declared.refused.OpenRefused.{OpenRefused}
 use Rattle.vdr_opening.specs.declared.refused.OpenRefused.TheVariants as openings
 use Rattle.vdr_recorder.specs.Recordings.{HasRecorded, RecorderState}
@@ -86,7 +86,7 @@ module _ {tells tells_images : Type 0} where
   pub channel_ends : {T : Type 0} (medium : Played) (name : List ℕ) (old new : MediaSeen tells tells_images) (result : Result T OpenRefused) (r : T) → result ≡ Ok r
       → (vault : VaultState) → LacksChannel vault.config name → OpenedOn old.disk vault
       → (tells → SameBut 1 old.disk.reads new.disk.reads)
-      → ((x : Contents) → tells → HoldsContents old.disk.reads x → EndsMeet both (reading_of x) → WasRecorded x → OpensAtEachMoment old.disk new.disk result (ShowsHistory (opening_of x) []))
+      → ((x : Contents) → tells → HoldsContents old.disk.reads x → EndsMeet members (reading_of x) → WasRecorded x → OpensAtEachMoment old.disk new.disk result (ShowsHistory (opening_of x) []))
       → PlayEnds medium name old new NoChannel
   channel_ends medium name old new result r is vault lacks contents others moments = record {
     media = record {
@@ -154,7 +154,7 @@ module _ {tells tells_images : Type 0} where
       (old new : Outside tells tells_images) (result : Result T OpenRefused) (r : T) → result ≡ Ok r
       → (vault : VaultState) → LacksChannel vault.config asked.channel → OpenedOn old.media.disk vault
       → (tells → SameBut 1 old.media.disk.reads new.media.disk.reads)
-      → ((x : Contents) → tells → HoldsContents old.media.disk.reads x → EndsMeet both (reading_of x) → WasRecorded x → OpensAtEachMoment old.media.disk new.media.disk result (ShowsHistory (opening_of x) []))
+      → ((x : Contents) → tells → HoldsContents old.media.disk.reads x → EndsMeet members (reading_of x) → WasRecorded x → OpensAtEachMoment old.media.disk new.media.disk result (ShowsHistory (opening_of x) []))
       → Writes (channel_line asked.channel) old.output new.output → AddsMissing old.media.disk new.media.disk → ReadsOut asked Has Stops status_of line last old new NoChannel
   channel_reads asked Has Stops status_of line last old new result r is vault lacks contents others moments wrote missing = record {
     shown = (wrote, lacks.0);
@@ -185,7 +185,7 @@ module _ {tells tells_images R : Type 0} (asked : AskedPlay) (old mid new : Medi
     (contents : OpenedOn old.disk r.vault)
     (opened : (x : Contents) → tells → HoldsContents old.disk.reads x → WasRecorded x
     → (t0 : ℕ) × (old.disk.clock ≤ t0) × (t0 ≤ mid.disk.clock) × HasRecorded (opening_of x) [] t0 r mid.disk)
-    (readable : (x : Contents) → tells → HoldsContents old.disk.reads x → AreLevel both (reading_of x) → IsReadable (opening_of x) [] r.vault x.placed mid.disk) where
+    (readable : (x : Contents) → tells → HoldsContents old.disk.reads x → AreLevel members (reading_of x) → IsReadable (opening_of x) [] r.vault x.placed mid.disk) where
   -- The query's channel is there, so that only its incident may be missing.
   channel_is_there : lacks_channel (length r.vault.config.channels) query.channel ≡ false
   channel_is_there = subst (λ (q : Query). lacks_channel (length r.vault.config.channels) q.channel ≡ false) (sym wants.is) (asked_within r.vault.config asked.channel)
@@ -216,7 +216,7 @@ module _ {tells tells_images R : Type 0} (asked : AskedPlay) (old mid new : Medi
       (looked : HasLooked query r after mid.disk new.disk mid.bytes_read new.bytes_read mid.faults new.faults (ended ≡ Err stops.Fault)) (later : NoneFalls old.faults mid.faults)
       (others : tells → SameBut 1 old.disk.reads mid.disk.reads) (status_of : R → Status) (own : IfItself ended (λ reason. IsOwnStatus (status_of reason))) where
     module _ {T : Type 0} (result : Result T OpenRefused)
-        (moments : (x : Contents) → tells → HoldsContents old.disk.reads x → EndsMeet both (reading_of x) → WasRecorded x → OpensAtEachMoment old.disk mid.disk result (ShowsHistory (opening_of x) [])) where
+        (moments : (x : Contents) → tells → HoldsContents old.disk.reads x → EndsMeet members (reading_of x) → WasRecorded x → OpensAtEachMoment old.disk mid.disk result (ShowsHistory (opening_of x) [])) where
       -- What was looked at stays as it was.
       looked_at : (x : Contents) → tells → HoldsContents old.disk.reads x → WasRecorded x → (event : Event) → event.act ≡ Look → ShowsHistory (opening_of x) (event ∷ []) new.disk.reads
       looked_at x t holds regular event is =
@@ -225,7 +225,7 @@ module _ {tells tells_images R : Type 0} (asked : AskedPlay) (old mid new : Medi
           (stands_silent (opening_of x) [] event (ap (λ (a : Act). records_of_act a) is) (ap (λ (a : Act). table_after (given (opening_of x) 1 []) (incidents (opening_of x) []) a) is)
           r.vault stands.0 new.disk (stands_still (opening_of x) [] r.vault stands.0 mid.disk new.disk looked.read.unchanged stands.1)) t
 
-      kept_with_look : (status : Status) (x : Contents) → tells → HoldsContents old.disk.reads x → EndsMeet both (reading_of x) → WasRecorded x → KeepsContents x AreLooks status old.disk new.disk
+      kept_with_look : (status : Status) (x : Contents) → tells → HoldsContents old.disk.reads x → EndsMeet members (reading_of x) → WasRecorded x → KeepsContents x AreLooks status old.disk new.disk
       kept_with_look status x t holds meet regular =
           let has = opened x t holds regular in
           let done = looked.done (opening_of x) [] has.0 has.3 in

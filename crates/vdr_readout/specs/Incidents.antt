@@ -4,7 +4,7 @@ use Rattle.vdr_history.specs.Histories.{Incident, live}
 use Rattle.vdr_durability.specs.Readings.{EndsMeet}
 use Rattle.vdr_outside.specs.Disk.{Image}
 use Rattle.vdr_entry.specs.Utc.{utc_text}
-use Rattle.vdr_opening.specs.Media.{both, Contents, HoldsContents, reading_of}
+use Rattle.vdr_opening.specs.Media.{members, Contents, HoldsContents, reading_of}
 use Rattle.vdr_command.specs.Endings.{IsDone, IsWorkDone}
 use Rattle.vdr_command.specs.Opened.{AddsMissing, AreLooks, MediaEnds, PrintsText, RefusesAll}
 use Rattle.vdr_command.specs.Outside.{NothingFailed, OutputFailed, Outside}
@@ -59,7 +59,7 @@ CanList x = ⊤
 -- What is legible is listed, and what is not is refused by its own refusal, or there was no memory.
 pub record ListsAll (image : Image) (status : Status) : Type 0 where
   pub refused : RefusesAll image status
-  pub done : (x : Contents) → HoldsContents image x → EndsMeet both (reading_of x) → IsDone status
+  pub done : (x : Contents) → HoldsContents image x → EndsMeet members (reading_of x) → IsDone status
 
 -- What `incidents` owes.
 pub record Lists {tells tells_images : Type 0} (old new : Outside tells tells_images) (status : Status) : Type 0 where

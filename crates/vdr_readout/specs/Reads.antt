@@ -11,7 +11,7 @@ use Rattle.vdr_config.specs.Configuration.{Configuration}
 use Rattle.vdr_entry.specs.Queries.{asked_medium}
 use Rattle.vdr_entry.specs.declared.query.Medium.{Medium}
 use Rattle.vdr_entry.specs.declared.query.Medium.TheVariants.{Capsule, LongTerm, Incident}
-use Rattle.vdr_opening.specs.Media.{both, Contents, HoldsContents, opening_of, reading_of}
+use Rattle.vdr_opening.specs.Media.{members, Contents, HoldsContents, opening_of, reading_of}
 use Rattle.vdr_visit.specs.Prints.{text_of, whole_text}
 use Rattle.vdr_visit.specs.declared.refused.VisitRefused.{VisitRefused}
 use Rattle.vdr_visit.specs.declared.refused.VisitRefused.TheVariants as stops
@@ -57,7 +57,7 @@ LacksIncident table (Incident id) = live table id ≡ None
 
 -- What a recorder left can be read, and what is legible where both media end with the last batch.
 abbrev pub CanBeRead : Contents → Type 0
-CanBeRead x = WasRecorded x ⊎ AreLevel both (reading_of x)
+CanBeRead x = WasRecorded x ⊎ AreLevel members (reading_of x)
 
 -- Channel and incident are there.
 pub record CanPlay (x : Contents) (medium : Medium) (name : List ℕ) : Type 0 where
@@ -167,7 +167,7 @@ module _ {tells tells_images : Type 0} where
 -- What may be read out is, and what may not is refused by its own refusal, or there was no memory.
 pub record PlaysAll (medium : Medium) (name : List ℕ) (image : Image) (status : Status) : Type 0 where
   pub refused : RefusesAll image status
-  pub channel : (x : Contents) → HoldsContents image x → EndsMeet both (reading_of x) → LacksChannel x.config name → (status ≡ NoChannel) ⊎ (status ≡ NoMemory)
-  pub incident : (x : Contents) (id : ℕ) → HoldsContents image x → EndsMeet both (reading_of x) → (LacksChannel x.config name → ⊥) → medium ≡ Incident id
+  pub channel : (x : Contents) → HoldsContents image x → EndsMeet members (reading_of x) → LacksChannel x.config name → (status ≡ NoChannel) ⊎ (status ≡ NoMemory)
+  pub incident : (x : Contents) (id : ℕ) → HoldsContents image x → EndsMeet members (reading_of x) → (LacksChannel x.config name → ⊥) → medium ≡ Incident id
       → live x.table id ≡ None → (status ≡ NoIncident id) ⊎ (status ≡ NoMemory)
-  pub done : (x : Contents) → HoldsContents image x → EndsMeet both (reading_of x) → CanBeRead x → CanPlay x medium name → IsDone status
+  pub done : (x : Contents) → HoldsContents image x → EndsMeet members (reading_of x) → CanBeRead x → CanPlay x medium name → IsDone status

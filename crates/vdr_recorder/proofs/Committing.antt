@@ -21,7 +21,7 @@ use Rattle.vdr_pace.specs.Media.{IsAppended, IsMediumOf, state_after}
 use Rattle.vdr_pace.proofs.Media.{appended, is_paced, silent}
 use Rattle.vdr_media.proofs.Two.{all_two}
 use Rattle.vdr_directory.specs.Sequence.{Placed, segments_in}
-use Rattle.vdr_opening.specs.Media.{both}
+use Rattle.vdr_opening.specs.Media.{members}
 use Rattle.vdr_vault.specs.Calls.{Commits, MayCommit}
 use Rattle.vdr_vault.specs.Vaults.{VaultState, ShowsHistory, Stands}
 use Rattle.vdr_vault.proofs.ShownHistory.{stands_silent}
@@ -70,7 +70,7 @@ module _ {tells tells_images : Type 0} (opening : Opening) (events : List Event)
           (λ m. IsMediumOf (sizes_of vault.config) (start_of_opening opening) (segments_in (v.first m)) (acts_of events) (segments_in (v.placed m)))
           (λ m. IsPaced (cost (sizes_of vault.config)) vault.config.batch (segments_in (v.placed m)) records)
           (λ m k. is_paced (sizes_of vault.config) (start_of_opening opening) (segments_in (v.first m)) (acts_of events) (segments_in (v.placed m)) records taken k roomy done_after some)
-          both v.media;
+          members v.media;
     }
 
     -- The history with the commit, over media at whose every moment it or the history before was shown.
@@ -103,7 +103,7 @@ module _ {tells tells_images : Type 0} (opening : Opening) (events : List Event)
           media : (m : ℕ) → Type 0
           media m = IsMediumOf (sizes_of vault.config) (start_of_opening opening) (segments_in (v.first m)) (acts_of events) (segments_in (v.placed m))
 
-          placing : (now : ℕ → List Placed) → Stands opening (events ++ event ∷ []) after now new → All (λ m. IsAppended (segments_in (v.placed m)) records (segments_in (now m))) both
+          placing : (now : ℕ → List Placed) → Stands opening (events ++ event ∷ []) after now new → All (λ m. IsAppended (segments_in (v.placed m)) records (segments_in (now m))) members
               → IsStanding opening (events ++ event ∷ []) after new
           placing now stands put = record {
             placed = now;
@@ -116,7 +116,7 @@ module _ {tells tells_images : Type 0} (opening : Opening) (events : List Event)
           }
 
           standing : (result : Result (Unit {0}) Fault)
-              → OnOk result ((now : ℕ → List Placed) × Stands opening (events ++ event ∷ []) after now new × All (λ m. IsAppended (segments_in (v.placed m)) records (segments_in (now m))) both)
+              → OnOk result ((now : ℕ → List Placed) × Stands opening (events ++ event ∷ []) after now new × All (λ m. IsAppended (segments_in (v.placed m)) records (segments_in (now m))) members)
               → OnOk result (IsStanding opening (events ++ event ∷ []) after new)
           standing (Ok done) k = placing k.0 k.1 k.2
           standing (Err fault) k = tt
@@ -133,5 +133,5 @@ module _ {tells tells_images : Type 0} (opening : Opening) (events : List Event)
               (λ m. IsMediumOf (sizes_of vault.config) (start_of_opening opening) (segments_in (v.first m)) (acts_of (events ++ event vault old ∷ [])) (segments_in (v.placed m)))
               (λ m k. subst (λ (acts : List Act). IsMediumOf (sizes_of vault.config) (start_of_opening opening) (segments_in (v.first m)) acts (segments_in (v.placed m))) (sym (acts_with events (event vault old)))
               (silent (sizes_of vault.config) (start_of_opening opening) (segments_in (v.first m)) (acts_of events) (segments_in (v.placed m)) (Commit records taken) k done_after none))
-              both v.media;
+              members v.media;
         }) (λ fails. absurd (true≢false (sym fails ∙ works)))

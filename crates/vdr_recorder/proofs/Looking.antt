@@ -18,7 +18,7 @@ use Rattle.vdr_config.specs.Sizes.{sizes_of}
 use Rattle.vdr_pace.specs.Media.{IsMediumOf}
 use Rattle.vdr_pace.proofs.Media.{silent}
 use Rattle.vdr_directory.specs.Sequence.{Placed, segments_in}
-use Rattle.vdr_opening.specs.Media.{both}
+use Rattle.vdr_opening.specs.Media.{members}
 use Rattle.vdr_vault.specs.Vaults.{VaultState, ShowsHistory, Stands}
 use Rattle.vdr_vault.proofs.ShownHistory.{stand_shows, stands_silent}
 use Rattle.vdr_visit.specs.Refusals.{HasVisitCause}
@@ -72,7 +72,7 @@ module _ {tells tells_images : Type 0} (opening : Opening) (events : List Event)
               (λ m k. subst (λ (x : Configuration × List Act). IsMediumOf (sizes_of x.0) (start_of_opening opening) (segments_in (v.first m)) x.1 (segments_in (v.placed m)))
               (λ i. (sym config_is i, sym (acts_with events look) i))
               (silent (sizes_of r.vault.config) (start_of_opening opening) (segments_in (v.first m)) (acts_of events) (segments_in (v.placed m)) Look k tt refl))
-              both v.media;
+              members v.media;
         };
         open_is = w.open_is ∙ sym (ap (λ (s : RunState). s.is_open) left);
         makes = λ opened. subst (λ (x : Configuration × RunState). MakesBy x.0 x.1.start x.1.popped r.maker) (λ i. (sym config_is i, sym left i)) (w.makes opened);

@@ -16,7 +16,7 @@ use Rattle.vdr_pace.proofs.Media.{at_opening}
 use Rattle.vdr_media.proofs.Two.{all_two}
 use Rattle.vdr_directory.specs.Sequence.{Placed, all_records, batches_in, segments_in}
 use Rattle.vdr_ring.specs.Regularity.{AreRegular}
-use Rattle.vdr_opening.specs.Media.{Contents, both, reading_of}
+use Rattle.vdr_opening.specs.Media.{Contents, members, reading_of}
 use Rattle.vdr_opening.specs.declared.refused.OpenRefused.{OpenRefused}
 use Rattle.vdr_vault.specs.Openings.{GoesOnSynced, OpensAtEachMoment}
 use Rattle.vdr_vault.specs.Vaults.{VaultState, ShowsHistory, Stands}
@@ -44,7 +44,7 @@ waits_same : (batch : Option (List Record)) (r s : Reading) (m : ℕ) → r.batc
 waits_same batch r s m same h = ap (ends_before batch) (sym same) ∙ h
 
 module _ (r s : Reading) (first : r.batches 0 ≡ s.batches 0) (second : r.batches 1 ≡ s.batches 1) where
-  same_lead : leading_batch both r ≡ leading_batch both s
+  same_lead : leading_batch members r ≡ leading_batch members s
   same_lead = ap last first
 
   end_second : (batch : Option (List Record)) → EndBy r batch (1 ∷ []) → EndBy s batch (1 ∷ [])
@@ -53,17 +53,17 @@ module _ (r s : Reading) (first : r.batches 0 ≡ s.batches 0) (second : r.batch
       inr (All-cons (λ k. ends_before batch (s.batches k) ≡ true) 1 []
       (waits_same batch r s 1 second (All-head (λ k. ends_before batch (r.batches k) ≡ true) 1 [] wait)) (All-nil (λ k. ends_before batch (s.batches k) ≡ true)))
 
-  end_both : (batch : Option (List Record)) → EndBy r batch both → EndBy s batch both
+  end_both : (batch : Option (List Record)) → EndBy r batch members → EndBy s batch members
   end_both batch (inl (here, more)) = inl (ap last (sym first) ∙ here, end_second batch more)
   end_both batch (inr wait) = inr (all_two (λ k. ends_before batch (s.batches k) ≡ true)
       (waits_same batch r s 0 first (All-head (λ k. ends_before batch (r.batches k) ≡ true) 0 (1 ∷ []) wait))
       (waits_same batch r s 1 second (All-head (λ k. ends_before batch (r.batches k) ≡ true) 1 [] (All-tail (λ k. ends_before batch (r.batches k) ≡ true) 0 (1 ∷ []) wait))))
 
-  pub meet_same : EndsMeet both r → EndsMeet both s
-  meet_same h = subst (λ (batch : Option (List Record)). EndBy s batch both) same_lead (end_both (leading_batch both r) h)
+  pub meet_same : EndsMeet members r → EndsMeet members s
+  meet_same h = subst (λ (batch : Option (List Record)). EndBy s batch members) same_lead (end_both (leading_batch members r) h)
 
 -- Contents of one image have one end.
-pub meet_as : (x y : Contents) → (x.placed 0 ≡ y.placed 0) × (x.placed 1 ≡ y.placed 1) → EndsMeet both (reading_of x) → EndsMeet both (reading_of y)
+pub meet_as : (x y : Contents) → (x.placed 0 ≡ y.placed 0) × (x.placed 1 ≡ y.placed 1) → EndsMeet members (reading_of x) → EndsMeet members (reading_of y)
 meet_as x y same = meet_same (reading_of x) (reading_of y) (ap batches_in same.0) (ap batches_in same.1)
 
 -- The syncs had succeeded where the opening did.

@@ -15,7 +15,7 @@ use Rattle.vdr_pace.proofs.Media.{silent}
 use Rattle.vdr_directory.specs.Sequence.{segments_in}
 use Rattle.vdr_incident.specs.declared.refused.ReleaseRefused.{ReleaseRefused}
 use Rattle.vdr_incident.specs.declared.refused.ReleaseRefused.TheVariants as releases
-use Rattle.vdr_opening.specs.Media.{both}
+use Rattle.vdr_opening.specs.Media.{members}
 use Rattle.vdr_vault.specs.Saves.{Does, Saves, save_refusal}
 use Rattle.vdr_vault.specs.Vaults.{VaultState, ShowsHistory, Stands}
 use Rattle.vdr_vault.specs.declared.refused.SaveRefused.{SaveRefused}
@@ -118,7 +118,7 @@ module _ {tells tells_images : Type 0} (opening : Opening) (events : List Event)
                 (λ i. (sym config_is i, sym (acts_with events (event_of act)) i))
                 (silent (sizes_of r.vault.config) (start_of_opening opening) (segments_in (v.first m)) (acts_of events) (segments_in (v.placed m)) act k
                 (quiet.done opening.settings.limits r.vault.config.batch (state_after (start_of_opening opening) (acts_of events))) quiet.none))
-                both v.media;
+                members v.media;
           }
 
       event_keeps : KeepsEvent opening events t0 act after old new

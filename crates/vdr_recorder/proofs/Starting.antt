@@ -20,7 +20,7 @@ use Rattle.vdr_pace.specs.Commits.{IsDoneIn}
 use Rattle.vdr_directory.specs.Sequence.{all_records}
 use Rattle.vdr_directory.specs.Holds.{HoldsPlaced}
 use Rattle.vdr_ring.proofs.Beginning.{legal_batches}
-use Rattle.vdr_vault.specs.Vaults.{VaultState, of_stamp, tick_utc}
+use Rattle.vdr_vault.specs.Vaults.{VaultState, of_stamp, ring_of, tick_utc}
 use Rattle.vdr_vault.proofs.ShownHistory.{held_at}
 use Rattle.vdr_vault.proofs.ShownPlaces.{all_legal}
 use Rattle.vdr_recorder.specs.Making.{MakesBy}
@@ -53,8 +53,8 @@ last_legal records legal = go (last records) refl
     go (Some r) e = (All-contains IsRecord records r legal (last_contained records r e)).utc
 
 module _ {tells tells_images : Type 0} (opening : Opening) (events : List Event) (t0 : ℕ) (r : RecorderState) (old : Disk tells tells_images) (h : HasRecorded opening events t0 r old) (works : r.vault.failed ≡ false) where
-  held : tells → HoldsPlaced r.vault.capsule.segment r.vault.capsule.slots ((h.works works).standing.placed 0) (content old.reads 0)
-  held told = held_at opening events r.vault.config 0 r.vault.capsule ((h.works works).standing.placed 0) old ((h.works works).standing.stands.media 0 0 (omega arith)) told
+  held : tells → HoldsPlaced (ring_of r.vault 0).segment (ring_of r.vault 0).slots ((h.works works).standing.placed 0) (content old.reads 0)
+  held told = held_at opening events r.vault.config 0 (ring_of r.vault 0) ((h.works works).standing.placed 0) old ((h.works works).standing.stands.media 0 0 (omega arith)) told
 
   -- The vault tells the last stamp of the history.
   pub stamp_is : option_map starts.stamp_of r.vault.last ≡ last_stamp opening events
@@ -65,7 +65,7 @@ module _ {tells tells_images : Type 0} (opening : Opening) (events : List Event)
 
   stamp_legal : tells → IfSome r.vault.last (λ told. IsStamp told.1)
   stamp_legal tells = subst (λ (o : Option (ℕ × ℤ)). IfSome o (λ told. IsStamp told.1)) (sym newest_is)
-      (last_legal (all_records ((h.works works).standing.placed 0)) (all_legal ((h.works works).standing.placed 0) (legal_batches r.vault.capsule.segment r.vault.capsule.slots ((h.works works).standing.placed 0) (content old.reads 0) (held tells))))
+      (last_legal (all_records ((h.works works).standing.placed 0)) (all_legal ((h.works works).standing.placed 0) (legal_batches (ring_of r.vault 0).segment (ring_of r.vault 0).slots ((h.works works).standing.placed 0) (content old.reads 0) (held tells))))
 
   whole : IsWhole events
   whole = (whole_has_not_failed events).1 (sym h.failed ∙ works)

@@ -14,7 +14,7 @@ use Rattle.vdr_config.specs.Sizes.{limits_in}
 use Rattle.vdr_outside.specs.declared.media.Media.{Ghosts as MediaTells}
 use Rattle.vdr_outside.specs.Disk.{Disk}
 use Rattle.vdr_media.specs.Formatted.{IsFormatted}
-use Rattle.vdr_opening.specs.Media.{both, Contents, HoldsContents, opening_of, reading_of}
+use Rattle.vdr_opening.specs.Media.{members, Contents, HoldsContents, opening_of, reading_of}
 use Rattle.vdr_opening.specs.declared.refused.OpenRefused.{OpenRefused}
 use Rattle.vdr_vault.specs.declared.refused.SaveRefused.{SaveRefused}
 use Rattle.vdr_vault.specs.declared.refused.SaveRefused.TheVariants.{Damaged}
@@ -154,11 +154,11 @@ module _ {tells tells_images : Type 0} where
     pub opened : IfOk result (λ r. (x : Contents) → tells → HoldsContents old.reads x → AreSound x → (t0 : ℕ) × (old.clock ≤ t0) × (t0 ≤ new.clock) × HasRecorded (opening_of x) [] t0 r new)
     -- the media were formatted, and what the recorder tells is what they hold
     pub contents : IfOk result (λ r. tells → IsFormatted old.reads × (x : Contents) × HoldsContents old.reads x
-        × EndsMeet both (reading_of x) × (r.vault.config ≡ x.config) × (r.vault.table ≡ x.table) × (r.vault.last ≡ option_map of_stamp (opening_of x).last))
+        × EndsMeet members (reading_of x) × (r.vault.config ≡ x.config) × (r.vault.table ≡ x.table) × (r.vault.last ≡ option_map of_stamp (opening_of x).last))
     -- the next place is that of what they hold
     pub place : IfOk result (λ r. (x : Contents) → tells → HoldsContents old.reads x → r.vault.next_place ≡ (opening_of x).next_place)
     -- where both end with the last batch it can be read
-    pub readable : IfOk result (λ r. (x : Contents) → tells → HoldsContents old.reads x → AreLevel both (reading_of x) → IsReadable (opening_of x) [] r.vault x.placed new)
+    pub readable : IfOk result (λ r. (x : Contents) → tells → HoldsContents old.reads x → AreLevel members (reading_of x) → IsReadable (opening_of x) [] r.vault x.placed new)
     -- no write has failed
     pub works : IfOk result (λ r. r.vault.failed ≡ false)
     -- no run is open

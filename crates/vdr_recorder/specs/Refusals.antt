@@ -1,7 +1,7 @@
 -- Where a run may begin, and why it is not begun.
 use Rattle.std.specs.Prelude.{◌≡◌, ◌<◌, ◌^◌, ◌⊎◌, ℕ, Bool, true, List, get_or, sum, Any, Result, Err, ⊤}
 use Rattle.vdr_outside.specs.Causes.{NoneFalls, Rose}
-use Rattle.vdr_opening.specs.Media.{both}
+use Rattle.vdr_opening.specs.Media.{members}
 use Rattle.vdr_history.specs.Histories.{Opening}
 use Rattle.vdr_history.specs.Runs.{base_after}
 use Rattle.vdr_recorder.specs.declared.run.StartRefused.{StartRefused}
@@ -16,5 +16,5 @@ pub record MayBegin (opening : Opening) : Type 0 where
 -- rose, and so their sum.
 pub record HasStartCause (failed : Bool) (before now : List ℕ) (result : Result ⊤ StartRefused) : Type 0 where
   pub later : NoneFalls before now
-  pub by_medium : result ≡ Err Fault → (failed ≡ true) ⊎ Any (λ m. Rose (get_or before m 0) (get_or now m 0)) both
+  pub by_medium : result ≡ Err Fault → (failed ≡ true) ⊎ Any (λ m. Rose (get_or before m 0) (get_or now m 0)) members
   pub in_all : result ≡ Err Fault → (failed ≡ true) ⊎ Rose (sum before) (sum now)

@@ -7,7 +7,7 @@ ghost use Rattle.vdr_history.specs.Runs.{RunStart, last_tick};
 ghost use Rattle.vdr_history.specs.Sums.{counted_by, recorded_in};
 ghost use Rattle.vdr_history.specs.Taken.{Captured as CapturedTold};
 ghost use Rattle.vdr_durability.specs.Readings.{EndsMeet};
-ghost use Rattle.vdr_opening.specs.Media.{Contents, HoldsContents, both, opening_of, reading_of};
+ghost use Rattle.vdr_opening.specs.Media.{Contents, HoldsContents, members, opening_of, reading_of};
 ghost use Rattle.vdr_opening.specs.declared.refused.OpenRefused.TheVariants.{Damaged, NotFormatted};
 ghost use Rattle.vdr_vault.specs.Openings.{OpensAtEachMoment, ReachesLongTerm, RefusesMedia, WritesMissing};
 ghost use Rattle.vdr_vault.specs.Regularity.{AreSound};
@@ -67,7 +67,7 @@ impl Recorder {
         requires three { length (M.disk media.old).sizes ≤ 3 }
         ensures opened { OpensRecorder result (M.disk media.old) (M.disk media.new) }
         ensures missing { (x : Contents) → M.tells → HoldsContents (M.disk media.old).reads x → WritesMissing x (M.disk media.old) (M.disk media.new) }
-        ensures moments { (x : Contents) → M.tells → HoldsContents (M.disk media.old).reads x → EndsMeet both (reading_of x) → AreSound x
+        ensures moments { (x : Contents) → M.tells → HoldsContents (M.disk media.old).reads x → EndsMeet members (reading_of x) → AreSound x
             → OpensAtEachMoment (M.disk media.old) (M.disk media.new) result (ShowsHistory (opening_of x) []) }
         ensures refused { RefusesMedia result (M.disk media.old) (M.disk media.new) }
         ensures writes { ReachesLongTerm M.Media media.old media.new result }

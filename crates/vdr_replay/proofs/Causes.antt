@@ -3,7 +3,7 @@ use Rattle.std.proofs.Common.{◌≡◌, ℕ, List, get_or, Bool, true, false, R
 use Rattle.std.specs.Prelude.{Any, sum}
 use Rattle.vdr_outside.specs.Causes.{NoneFalls, Rose}
 use Rattle.vdr_outside.proofs.Counts.{none_falls_join, on_err, rose_after, sum_rose}
-use Rattle.vdr_opening.specs.Media.{both}
+use Rattle.vdr_opening.specs.Media.{members}
 use Rattle.vdr_vault.specs.Calls.{HasVaultCause}
 use Rattle.vdr_vault.specs.Openings.{HasCauseOnBoth}
 use Rattle.vdr_replay.specs.Answers.{HasReplayCause}
@@ -11,7 +11,7 @@ use Rattle.vdr_replay.specs.declared.ended.Replayed.{Replayed}
 use Rattle.vdr_replay.specs.declared.ended.ReplayRefused.{ReplayRefused}
 
 abbrev pub OneRose : List ℕ → List ℕ → Type 0
-OneRose before now = Any (λ m. Rose (get_or before m 0) (get_or now m 0)) both
+OneRose before now = Any (λ m. Rose (get_or before m 0) (get_or now m 0)) members
 
 pub rose_joined : (a b c : List ℕ) → NoneFalls a b → OneRose b c → OneRose a c
 rose_joined a b c earlier k = (k.0, k.1, k.2, k.3, rose_after (get_or a k.1 0) (get_or b k.1 0) (get_or c k.1 0) (earlier.none_falls k.1) k.4)

@@ -10,7 +10,7 @@ use Rattle.vdr_outside.specs.Filling.{ReadsFewer}
 use Rattle.vdr_feed.specs.Feed.{Reaches, feed_header, longest_feed}
 use Rattle.vdr_feed.specs.Reader.{IfKnown}
 use Rattle.vdr_media.specs.Formatted.{IsFormatted}
-use Rattle.vdr_opening.specs.Media.{both, Contents, HoldsContents, opening_of, reading_of}
+use Rattle.vdr_opening.specs.Media.{members, Contents, HoldsContents, opening_of, reading_of}
 use Rattle.vdr_recorder.specs.Recordings.{start_of_opening}
 use Rattle.vdr_recorder.specs.Refusals.{MayBegin}
 use Rattle.vdr_replay.specs.declared.ended.Replayed.{Replayed}
@@ -44,8 +44,8 @@ module _ {tells tells_images : Type 0} (x : Contents) (bytes : List ℕ) (now : 
   -- Of media whose ends don't meet nothing is said where opening them failed or had no memory.
   abbrev pub Answers : Result Replayed ReplayRefused → Type 0
   Answers (Ok r) = IsRecorded r
-  Answers (Err Media) = EndsMeet both (reading_of x) → NothingIsRecorded x rose before after ⊎ IsBrokenOff
-  Answers (Err NoMemory) = EndsMeet both (reading_of x) → NothingIsRecorded x rose before after
+  Answers (Err Media) = EndsMeet members (reading_of x) → NothingIsRecorded x rose before after ⊎ IsBrokenOff
+  Answers (Err NoMemory) = EndsMeet members (reading_of x) → NothingIsRecorded x rose before after
   Answers (Err Place) = (2 ^ 62 ≤ (opening_of x).next_place) × NothingIsRecorded x rose before after
   Answers (Err Tick) = ((opening_of x).next_place < 2 ^ 62) × (2 ^ 62 ≤ base_after (opening_of x).last) × NothingIsRecorded x rose before after
   Answers (Err Input) = NothingIsRecorded x rose before after
@@ -79,7 +79,7 @@ Decides x left now (Err Media) = ⊤
 
 -- The image is formatted, and its media hold contents whose ends meet, of which P holds.
 abbrev pub IsLegible : Image → (P : Contents → Type 0) → Type 0
-IsLegible image P = IsFormatted image × (x : Contents) × HoldsContents image x × EndsMeet both (reading_of x) × P x
+IsLegible image P = IsFormatted image × (x : Contents) × HoldsContents image x × EndsMeet members (reading_of x) × P x
 
 -- What is said where the media were opened, and not refused before.
 abbrev pub IfOpened : Result Replayed ReplayRefused → Type 0 → Type 0
@@ -132,5 +132,5 @@ RefusesRun (Err Media) = ⊥
 -- No count of faults falls, and the media failed only where the count of one of them rose, and so their sum.
 pub record HasReplayCause (before now : List ℕ) (result : Result Replayed ReplayRefused) : Type 0 where
   pub later : NoneFalls before now
-  pub by_medium : result ≡ Err Media → Any (λ m. Rose (get_or before m 0) (get_or now m 0)) both
+  pub by_medium : result ≡ Err Media → Any (λ m. Rose (get_or before m 0) (get_or now m 0)) members
   pub in_all : result ≡ Err Media → Rose (sum before) (sum now)

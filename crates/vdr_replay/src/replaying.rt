@@ -5,7 +5,7 @@ ghost use Rattle.vdr_durability.specs.Readings.{EndsMeet};
 ghost use Rattle.vdr_outside.specs.Causes.{Rose};
 ghost use Rattle.vdr_outside.specs.Disk.{SameBut};
 ghost use Rattle.vdr_media.specs.Formatted.{IsFormatted, IsUnformatted};
-ghost use Rattle.vdr_opening.specs.Media.{Contents, HoldsContents, both, reading_of};
+ghost use Rattle.vdr_opening.specs.Media.{Contents, HoldsContents, members, reading_of};
 ghost use Rattle.vdr_opening.specs.Refusals.{IsRefused};
 ghost use Rattle.vdr_vault.specs.Calls.{SameElsewhere};
 ghost use Rattle.vdr_vault.specs.Openings.{LeavesAll, WritesMissing};
@@ -35,7 +35,7 @@ fn record_feed<I: Source, M: Media>(
     requires three { length (M.disk media.old).sizes ≤ 3 }
     ensures replayed { (x : Contents) (bytes : List ℕ) → M.tells → HoldsContents (M.disk media.old).reads x → AreSound x → I.left input.old ≡ Some bytes
         → Answers x bytes (I.left input.new) (Rose (sum (M.faults media.old)) (sum (M.faults media.new))) (M.disk media.old) (M.disk media.new) result }
-    ensures left { (x : Contents) → M.tells → HoldsContents (M.disk media.old).reads x → EndsMeet both (reading_of x) → AreSound x
+    ensures left { (x : Contents) → M.tells → HoldsContents (M.disk media.old).reads x → EndsMeet members (reading_of x) → AreSound x
         → LeavesHistory x (Rose (sum (M.faults media.old)) (sum (M.faults media.new))) (M.disk media.old) (M.disk media.new) }
     ensures blank { M.tells → IsUnformatted (M.disk media.old).reads → LeavesAll (M.disk media.old) (M.disk media.new) }
     ensures header { TellsHeader (I.left input.old) (I.left input.new) result }

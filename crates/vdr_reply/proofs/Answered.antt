@@ -14,7 +14,7 @@ use Rattle.vdr_incident.specs.declared.refused.ReleaseRefused.{ReleaseRefused}
 use Rattle.vdr_incident.specs.declared.refused.ReleaseRefused.TheVariants as releases
 use Rattle.vdr_outside.specs.Disk.{Disk}
 use Rattle.vdr_config.specs.Configuration.{Selector}
-use Rattle.vdr_opening.specs.Media.{both}
+use Rattle.vdr_opening.specs.Media.{members}
 use Rattle.vdr_vault.specs.Saves.{refusal_from, save_refusal}
 use Rattle.vdr_vault.specs.Vaults.{Stands, of_stamp}
 use Rattle.vdr_vault.specs.declared.refused.SaveRefused.{SaveRefused}
@@ -64,16 +64,16 @@ module _ {tells tells_images : Type 0} (opening : Opening) (events : List Event)
     (channels : List Selector) (met_fault : Type 0) (text : List ℕ) where
   -- an order that is a look
   pub looked_answer : (order : PlainOrder) (after : RecorderState) (new : Disk tells tells_images) → changes order r.vault ≡ false → HasDone opening events t0 Look after old new
-      → (act_of opening events (order_of channels order) (reply both opening events (order_of channels order)) ≡ Look) ⊎ (after.vault.failed ≡ true)
-      → Spells met_fault order (answer_before (moment_of after.vault.failed new.clock) (reply both opening events (order_of channels order))) text
+      → (act_of opening events (order_of channels order) (reply members opening events (order_of channels order)) ≡ Look) ⊎ (after.vault.failed ≡ true)
+      → Spells met_fault order (answer_before (moment_of after.vault.failed new.clock) (reply members opening events (order_of channels order))) text
       → HasAnswered channels met_fault opening events t0 order text r after old new
   looked_answer order after new none d act is = record { done = subst (λ (act : Act). HasDone opening events t0 act after old new) (sym looks) d; answer = record { act_is = acts act; text_is = is } }
     where
       looks : cond (changes order r.vault) (granted_act opening events order) Look ≡ Look
       looks = cond-false (changes order r.vault) (granted_act opening events order) Look none
 
-      acts : (act_of opening events (order_of channels order) (reply both opening events (order_of channels order)) ≡ Look) ⊎ (after.vault.failed ≡ true)
-          → (cond (changes order r.vault) (granted_act opening events order) Look ≡ act_of opening events (order_of channels order) (reply both opening events (order_of channels order)))
+      acts : (act_of opening events (order_of channels order) (reply members opening events (order_of channels order)) ≡ Look) ⊎ (after.vault.failed ≡ true)
+          → (cond (changes order r.vault) (granted_act opening events order) Look ≡ act_of opening events (order_of channels order) (reply members opening events (order_of channels order)))
           ⊎ ((cond (changes order r.vault) (granted_act opening events order) Look ≡ Look) × (moment_of after.vault.failed new.clock ≡ None))
       acts (inl a) = inl (looks ∙ sym a)
       acts (inr fails) = inr (looks, no_moment after.vault.failed new.clock fails)
@@ -83,17 +83,17 @@ module _ {tells tells_images : Type 0} (opening : Opening) (events : List Event)
 
   -- an order that was answered with nothing called
   pub still_answer : (order : PlainOrder) → changes order r.vault ≡ false
-      → (act_of opening events (order_of channels order) (reply both opening events (order_of channels order)) ≡ Look) ⊎ (r.vault.failed ≡ true)
-      → Spells met_fault order (answer_before (moment_of r.vault.failed old.clock) (reply both opening events (order_of channels order))) text
+      → (act_of opening events (order_of channels order) (reply members opening events (order_of channels order)) ≡ Look) ⊎ (r.vault.failed ≡ true)
+      → Spells met_fault order (answer_before (moment_of r.vault.failed old.clock) (reply members opening events (order_of channels order))) text
       → HasAnswered channels met_fault opening events t0 order text r r old old
   still_answer order none act is = looked_answer order r old none untouched act is
 
   -- each order after a fault
   pub failed_answer : (order : PlainOrder) → r.vault.failed ≡ true → text ≡ fault_line → HasAnswered channels met_fault opening events t0 order text r r old old
-  failed_answer order fails is = still_answer order (ap (λ (b : Bool). not b && is_granted order r.vault) fails) (inr fails) (spelled order (said_failed r.vault.failed old.clock (reply both opening events (order_of channels order)) fails))
+  failed_answer order fails is = still_answer order (ap (λ (b : Bool). not b && is_granted order r.vault) fails) (inr fails) (spelled order (said_failed r.vault.failed old.clock (reply members opening events (order_of channels order)) fails))
     where
-      spelled : (order : PlainOrder) → answer_before (moment_of r.vault.failed old.clock) (reply both opening events (order_of channels order)) ≡ Failed
-          → Spells met_fault order (answer_before (moment_of r.vault.failed old.clock) (reply both opening events (order_of channels order))) text
+      spelled : (order : PlainOrder) → answer_before (moment_of r.vault.failed old.clock) (reply members opening events (order_of channels order)) ≡ Failed
+          → Spells met_fault order (answer_before (moment_of r.vault.failed old.clock) (reply members opening events (order_of channels order))) text
       spelled StatusOrder e = is ∙ ap text_of (sym e)
       spelled (SaveOrder label) e = is ∙ ap text_of (sym e)
       spelled (ReleaseOrder id) e = is ∙ ap text_of (sym e)
@@ -111,12 +111,12 @@ module _ {tells tells_images : Type 0} (opening : Opening) (events : List Event)
 
     pub status_answer : text ≡ state_line r.vault.next_place (last_tick (option_map stamp_of r.vault.last)) (count_by is_some r.vault.table)
         → HasAnswered channels met_fault opening events t0 StatusOrder text r r old old
-    status_answer is = still_answer StatusOrder (unchanged StatusOrder refl) (inl refl) (is ∙ told ∙ ap text_of (sym (said_working r.vault.failed old.clock (reply both opening events replies.Order.Status) works)))
+    status_answer is = still_answer StatusOrder (unchanged StatusOrder refl) (inl refl) (is ∙ told ∙ ap text_of (sym (said_working r.vault.failed old.clock (reply members opening events replies.Order.Status) works)))
       where
         tick : last_tick (option_map stamp_of r.vault.last) ≡ last_tick (last_stamp opening events)
         tick = ap (λ (o : Option (ℕ × _)). last_tick (option_map stamp_of o)) stands.newest ∙ tick_is (last_stamp opening events)
 
-        told : state_line r.vault.next_place (last_tick (option_map stamp_of r.vault.last)) (count_by is_some r.vault.table) ≡ text_of (reply both opening events replies.Order.Status)
+        told : state_line r.vault.next_place (last_tick (option_map stamp_of r.vault.last)) (count_by is_some r.vault.table) ≡ text_of (reply members opening events replies.Order.Status)
         told = λ i. state_line (stands.goes_on i) (tick i) (count_by is_some (stands.incidents_are i))
 
     module _ (after : RecorderState) (new : Disk tells tells_images) where
@@ -137,17 +137,17 @@ module _ {tells tells_images : Type 0} (opening : Opening) (events : List Event)
           judged : save_refusal label r.vault ≡ refusal_from (is_label label) (option_map of_stamp (last_stamp opening events)) (position is_none (incidents opening events))
           judged = λ i. refusal_from (is_label label) (stands.newest i) (position is_none (stands.incidents_are i))
 
-          text_by : (res : Result ℕ SaveRefused) → saved ≡ res → save_refusal label r.vault ≡ None → (id : ℕ) → reply both opening events (replies.Order.Save label) ≡ Saved id → IfOk res (λ told. told ≡ id)
-              → text ≡ text_of (answer_before (moment_of after.vault.failed new.clock) (reply both opening events (replies.Order.Save label)))
+          text_by : (res : Result ℕ SaveRefused) → saved ≡ res → save_refusal label r.vault ≡ None → (id : ℕ) → reply members opening events (replies.Order.Save label) ≡ Saved id → IfOk res (λ told. told ≡ id)
+              → text ≡ text_of (answer_before (moment_of after.vault.failed new.clock) (reply members opening events (replies.Order.Save label)))
           text_by (Ok told) e none id answer same =
               is ∙ ap save_line e ∙ ap id_line same ∙ ap text_of (sym answer)
-              ∙ ap text_of (sym (said_working after.vault.failed new.clock (reply both opening events (replies.Order.Save label)) (goes (λ f. let no : ⊥ = cc in no))))
+              ∙ ap text_of (sym (said_working after.vault.failed new.clock (reply members opening events (replies.Order.Save label)) (goes (λ f. let no : ⊥ = cc in no))))
           text_by (Err saves.Label) e none id answer same = let some = reason saves.Label e (inl refl) in let no : ⊥ = cc in absurd no
           text_by (Err saves.Nothing) e none id answer same = let some = reason saves.Nothing e (inr (inl refl)) in let no : ⊥ = cc in absurd no
           text_by (Err saves.TableFull) e none id answer same = let some = reason saves.TableFull e (inr (inr refl)) in let no : ⊥ = cc in absurd no
           text_by (Err (saves.Damaged m offset)) e none id answer same = absurd (undamaged m offset e)
           text_by (Err saves.Fault) e none id answer same =
-              is ∙ ap save_line e ∙ ap text_of (sym (said_failed after.vault.failed new.clock (reply both opening events (replies.Order.Save label)) (fails e)))
+              is ∙ ap save_line e ∙ ap text_of (sym (said_failed after.vault.failed new.clock (reply members opening events (replies.Order.Save label)) (fails e)))
 
           by_refusal : (o : Option SaveRefused) → save_refusal label r.vault ≡ o → HasAnswered channels met_fault opening events t0 order text r after old new
           by_refusal (Some x) e =
@@ -155,7 +155,7 @@ module _ {tells tells_images : Type 0} (opening : Opening) (events : List Event)
               let same = refused x e in
               let good : after.vault.failed ≡ false = ap (λ (s : RecorderState). s.vault.failed) same.1 ∙ works in
               looked_answer order after new (unchanged order (ap is_none e)) (looked x e) (inl (so.1 opening events label))
-              (is ∙ ap save_line same.0 ∙ sym so.0 ∙ ap text_of (sym (said_working after.vault.failed new.clock (reply both opening events (replies.Order.Save label)) good)))
+              (is ∙ ap save_line same.0 ∙ sym so.0 ∙ ap text_of (sym (said_working after.vault.failed new.clock (reply members opening events (replies.Order.Save label)) good)))
           by_refusal None e =
               let s = keeps e undamaged in
               let d = s.4 in
@@ -182,24 +182,24 @@ module _ {tells tells_images : Type 0} (opening : Opening) (events : List Event)
           order : PlainOrder
           order = ReleaseOrder id
 
-          answer_by : (o : Option Incident) → live r.vault.table id ≡ o → reply both opening events (replies.Order.Release id) ≡ release_reply o
+          answer_by : (o : Option Incident) → live r.vault.table id ≡ o → reply members opening events (replies.Order.Release id) ≡ release_reply o
           answer_by o e = ap release_reply (ap (λ (t : List (Option Incident)). live t id) (sym stands.incidents_are) ∙ e)
 
           text_by : (res : Result ⊤ ReleaseRefused) → released ≡ res → (saved : Incident) → live r.vault.table id ≡ Some saved
-              → text ≡ text_of (answer_before (moment_of after.vault.failed new.clock) (reply both opening events (replies.Order.Release id)))
+              → text ≡ text_of (answer_before (moment_of after.vault.failed new.clock) (reply members opening events (replies.Order.Release id)))
           text_by (Ok x) e saved some =
               is ∙ ap release_line e ∙ ap text_of (sym (answer_by (Some saved) some))
-              ∙ ap text_of (sym (said_working after.vault.failed new.clock (reply both opening events (replies.Order.Release id)) (goes (λ f. let no : ⊥ = cc in no))))
+              ∙ ap text_of (sym (said_working after.vault.failed new.clock (reply members opening events (replies.Order.Release id)) (goes (λ f. let no : ⊥ = cc in no))))
           text_by (Err releases.NoSuch) e saved some = let none = reason e in let no : ⊥ = cc in absurd no
           text_by (Err releases.Fault) e saved some =
-              is ∙ ap release_line e ∙ ap text_of (sym (said_failed after.vault.failed new.clock (reply both opening events (replies.Order.Release id)) (fails e)))
+              is ∙ ap release_line e ∙ ap text_of (sym (said_failed after.vault.failed new.clock (reply members opening events (replies.Order.Release id)) (fails e)))
 
           by_live : (o : Option Incident) → live r.vault.table id ≡ o → HasAnswered channels met_fault opening events t0 order text r after old new
           by_live None e =
               let same = refused e in
               let good : after.vault.failed ≡ false = ap (λ (s : RecorderState). s.vault.failed) same.1 ∙ works in
               looked_answer order after new (unchanged order (ap is_some e)) (looked e) (inl (ap (act_of opening events (replies.Order.Release id)) (answer_by None e)))
-              (is ∙ ap release_line same.0 ∙ ap text_of (sym (answer_by None e)) ∙ ap text_of (sym (said_working after.vault.failed new.clock (reply both opening events (replies.Order.Release id)) good)))
+              (is ∙ ap release_line same.0 ∙ ap text_of (sym (answer_by None e)) ∙ ap text_of (sym (said_working after.vault.failed new.clock (reply members opening events (replies.Order.Release id)) good)))
           by_live (Some saved) e =
               let act : cond (changes order r.vault) (granted_act opening events order) Look ≡ granted_act opening events order = cond-true (changes order r.vault) (granted_act opening events order) Look (changed order (ap is_some e)) in
               record {

@@ -16,7 +16,7 @@ use Rattle.vdr_config.specs.Configuration.{Selector}
 use Rattle.vdr_entry.specs.Queries.{asked_medium}
 use Rattle.vdr_entry.specs.declared.query.Medium.{Medium}
 use Rattle.vdr_entry.specs.declared.query.Medium.TheVariants.{Capsule, LongTerm, Incident as AnIncident}
-use Rattle.vdr_opening.specs.Media.{both}
+use Rattle.vdr_opening.specs.Media.{members}
 use Rattle.vdr_control.specs.Orders.{PlainOrder}
 use Rattle.vdr_control.specs.Orders.PlainOrder.{Play as PlayOrder}
 use Rattle.vdr_recorder.specs.Recordings.{HasDone, HasRecorded, RecorderState}
@@ -44,8 +44,8 @@ asked_within channels medium name from to = has_number (length channels) (query_
 
 -- what is asked for is there, or it is an incident that is not live
 there_or_not : (opening : Opening) (events : List Event) (table : List (Option Incident)) (medium : Medium) → table ≡ incidents opening events
-    → (is_there both opening events (asked_medium medium) ≡ true)
-    ⊎ ((is_there both opening events (asked_medium medium) ≡ false) × (lacks_incident table (asked_medium medium) ≡ true) × (refusal_of (asked_medium medium) ≡ NoIncident))
+    → (is_there members opening events (asked_medium medium) ≡ true)
+    ⊎ ((is_there members opening events (asked_medium medium) ≡ false) × (lacks_incident table (asked_medium medium) ≡ true) × (refusal_of (asked_medium medium) ≡ NoIncident))
 there_or_not opening events table Capsule e = inl refl
 there_or_not opening events table LongTerm e = inl refl
 there_or_not opening events table (AnIncident id) e = by_live (live (incidents opening events) id) (ap (λ (t : List (Option Incident)). live t id) (sym e)) refl
@@ -57,7 +57,7 @@ there_or_not opening events table (AnIncident id) e = by_live (live (incidents o
 
 -- the same of what it lacks
 lacks_not : (opening : Opening) (events : List Event) (table : List (Option Incident)) (medium : Medium) → table ≡ incidents opening events → lacks_incident table (asked_medium medium) ≡ true
-    → is_there both opening events (asked_medium medium) ≡ true → ⊥
+    → is_there members opening events (asked_medium medium) ≡ true → ⊥
 lacks_not opening events table Capsule e lacks there = true≢false (sym lacks)
 lacks_not opening events table LongTerm e lacks there = true≢false (sym lacks)
 lacks_not opening events table (AnIncident id) e lacks there = clash (live table id) lacks (ap (λ (t : List (Option Incident)). is_some (live t id)) e ∙ there)
@@ -75,7 +75,7 @@ module _ {tells tells_images : Type 0} (opening : Opening) (events : List Event)
   order = PlayOrder medium name from to
 
   abbrev answer : Reply
-  answer = reply both opening events (order_of channels order)
+  answer = reply members opening events (order_of channels order)
 
   abbrev query : Query
   query = query_of channels medium name from to
@@ -83,7 +83,7 @@ module _ {tells tells_images : Type 0} (opening : Opening) (events : List Event)
   -- no channel of that name is configured
   pub unnamed_answer : is_named channels name ≡ false → text ≡ not_there_line → HasAnswered channels met_fault opening events t0 order text r r old old
   unnamed_answer none is = still_answer opening events t0 r old h channels met_fault text order (and_false r.vault.failed) (inl refl)
-      (inl (is ∙ ap text_of (sym (said_working r.vault.failed old.clock answer works ∙ ap (λ (b : Bool). play_reply b (is_there both opening events query.medium) (refusal_of query.medium) (selected opening events query)) none))))
+      (inl (is ∙ ap text_of (sym (said_working r.vault.failed old.clock answer works ∙ ap (λ (b : Bool). play_reply b (is_there members opening events query.medium) (refusal_of query.medium) (selected opening events query)) none))))
 
   pub no_memory_answer : text ≡ memory_line → HasAnswered channels met_fault opening events t0 order text r r old old
   no_memory_answer is = still_answer opening events t0 r old h channels met_fault text order (and_false r.vault.failed) (inl refl) (inr (inr is))
@@ -103,22 +103,22 @@ module _ {tells tells_images : Type 0} (opening : Opening) (events : List Event)
       table_is : r.vault.table ≡ incidents opening events
       table_is = (h.works works).standing.stands.incidents_are
 
-      said : answer_before (moment_of after.vault.failed new.clock) answer ≡ play_reply true (is_there both opening events query.medium) (refusal_of query.medium) (selected opening events query)
-      said = said_working after.vault.failed new.clock answer goes ∙ ap (λ (b : Bool). play_reply b (is_there both opening events query.medium) (refusal_of query.medium) (selected opening events query)) named
+      said : answer_before (moment_of after.vault.failed new.clock) answer ≡ play_reply true (is_there members opening events query.medium) (refusal_of query.medium) (selected opening events query)
+      said = said_working after.vault.failed new.clock answer goes ∙ ap (λ (b : Bool). play_reply b (is_there members opening events query.medium) (refusal_of query.medium) (selected opening events query)) named
 
-      there : (played ≡ Err plays.NoIncident → ⊥) → is_there both opening events query.medium ≡ true
+      there : (played ≡ Err plays.NoIncident → ⊥) → is_there members opening events query.medium ≡ true
       there other = by_there (there_or_not opening events r.vault.table medium table_is)
         where
-          by_there : (is_there both opening events query.medium ≡ true) ⊎ ((is_there both opening events query.medium ≡ false) × (lacks_incident r.vault.table query.medium ≡ true) × (refusal_of query.medium ≡ NoIncident))
-              → is_there both opening events query.medium ≡ true
+          by_there : (is_there members opening events query.medium ≡ true) ⊎ ((is_there members opening events query.medium ≡ false) × (lacks_incident r.vault.table query.medium ≡ true) × (refusal_of query.medium ≡ NoIncident))
+              → is_there members opening events query.medium ≡ true
           by_there (inl is) = is
           by_there (inr n) = absurd (other (incident.1 (asked_within channels medium name from to, n.1)))
 
-      not_there : played ≡ Err plays.NoIncident → text_of (play_reply true (is_there both opening events query.medium) (refusal_of query.medium) (selected opening events query)) ≡ not_there_line
+      not_there : played ≡ Err plays.NoIncident → text_of (play_reply true (is_there members opening events query.medium) (refusal_of query.medium) (selected opening events query)) ≡ not_there_line
       not_there e = by_there (there_or_not opening events r.vault.table medium table_is)
         where
-          by_there : (is_there both opening events query.medium ≡ true) ⊎ ((is_there both opening events query.medium ≡ false) × (lacks_incident r.vault.table query.medium ≡ true) × (refusal_of query.medium ≡ NoIncident))
-              → text_of (play_reply true (is_there both opening events query.medium) (refusal_of query.medium) (selected opening events query)) ≡ not_there_line
+          by_there : (is_there members opening events query.medium ≡ true) ⊎ ((is_there members opening events query.medium ≡ false) × (lacks_incident r.vault.table query.medium ≡ true) × (refusal_of query.medium ≡ NoIncident))
+              → text_of (play_reply true (is_there members opening events query.medium) (refusal_of query.medium) (selected opening events query)) ≡ not_there_line
           by_there (inl is) = absurd (lacks_not opening events r.vault.table medium table_is (incident.0 e).1 is)
           by_there (inr n) = ap (λ (b : Bool). text_of (play_reply true b (refusal_of query.medium) (selected opening events query))) n.0 ∙ ap text_of n.2
 

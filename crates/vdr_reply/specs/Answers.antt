@@ -6,7 +6,7 @@ use Rattle.vdr_playback.specs.Replies.{Reply, act_of, reply, reply_with}
 use Rattle.vdr_outside.specs.Causes.{NoneFalls, Rose}
 use Rattle.vdr_outside.specs.Disk.{Disk}
 use Rattle.vdr_config.specs.Configuration.{Selector}
-use Rattle.vdr_opening.specs.Media.{both}
+use Rattle.vdr_opening.specs.Media.{members}
 use Rattle.vdr_control.specs.Orders.{PlainOrder}
 use Rattle.vdr_control.specs.Orders.PlainOrder.{Status, Save, Release, Play}
 use Rattle.vdr_recorder.specs.Recordings.{HasDone, RecorderState}
@@ -22,8 +22,8 @@ Spells met_fault (Play medium name from to) reply text = (text ≡ text_of reply
 
 -- This event is the order's, and the text is its reply: both are functions of the events before it. After a fault it is a look.
 pub record IsAnswer (channels : List Selector) (met_fault : Type 0) (opening : Opening) (before : List Event) (own : Event) (order : PlainOrder) (text : List ℕ) : Type 0 where
-  pub act_is : (own.act ≡ act_of opening before (order_of channels order) (reply both opening before (order_of channels order))) ⊎ ((own.act ≡ Act.Look) × (own.moment ≡ None))
-  pub text_is : Spells met_fault order (reply_with both opening before own (order_of channels order)) text
+  pub act_is : (own.act ≡ act_of opening before (order_of channels order) (reply members opening before (order_of channels order))) ⊎ ((own.act ≡ Act.Look) × (own.moment ≡ None))
+  pub text_is : Spells met_fault order (reply_with members opening before own (order_of channels order)) text
 
 module _ {tells tells_images : Type 0} where
   -- The order was one event after these, and was answered so.

@@ -26,7 +26,7 @@ use Rattle.vdr_directory.specs.Directories.{DirectoryState, newest_of, summary_a
 use Rattle.vdr_directory.specs.Holds.{HoldsPlaced, HoldsAny, Tells}
 use Rattle.vdr_ring.specs.Rings.{RingState, IsSameRing, Reads}
 use Rattle.vdr_directory.specs.Growing.{with_batch_in, Continues}
-use Rattle.vdr_ring.specs.Stages.{Stages, BeginsAnew, AreStages}
+use Rattle.vdr_ring.specs.Stages.{Stages, BeginsAnew, IsWritten}
 use Rattle.vdr_ring.specs.Appends.{HasRoomFor, MayCome, HasNoRoom, Stands, IsReady}
 use Rattle.vdr_directory.proofs.Filing.{few_records}
 use Rattle.vdr_directory.proofs.Placing.{append_in_sequence}
@@ -49,7 +49,7 @@ pub came_at : (size : ℕ) (placed : List Placed) (first first' : ℕ) (records 
 came_at size placed first first' records e may = subst (λ (n : ℕ). MayCome size placed n records) (sym e) may
 
 pub begins_stages : (size count seconds : ℕ) (pins : List Pin) (placed : List Placed) (first first' : ℕ) (records : List Record) (stages : Stages) → first' ≡ first → BeginsAnew size count seconds pins placed first' records stages
-    → AreStages size count seconds pins placed first records stages
+    → IsWritten size count seconds pins placed first records stages
 begins_stages size count seconds pins placed first first' records stages e b = inr (subst (λ (n : ℕ). BeginsAnew size count seconds pins placed n records stages) e b)
 
 take-front : (n : ℕ) (xs ys : List ℕ) → length xs ≡ n → take n (xs ++ ys) ≡ xs
@@ -67,12 +67,13 @@ module _ {tells tells_images : Type 0} where
   -- The batch goes into the newest segment, and nothing is written yet.
   pub goes_on : (r : RingState) (pins : List Pin) (placed : List Placed) (first : ℕ) (records : List Record) (size : ℕ) (n : Newest) (d : Disk tells tells_images) → Reads r placed d → MayCome r.segment placed first records
       → size ≡ batch_size records → r.directory.newest ≡ Some n → n.end + size + 1 ≤ r.segment
-      → (stages : Stages) × AreStages r.segment r.slots r.seconds pins placed first records stages × ChangesOnly r.medium (HoldsAny r.segment r.slots (placed ∷ stages.closed ∷ stages.begun ∷ [])) d d × IsReady r records stages d
+      → (stages : Stages) × IsWritten r.segment r.slots r.seconds pins placed first records stages × ChangesOnly r.medium (HoldsAny r.segment r.slots (placed ∷ stages.closed ∷ stages.begun ∷ [])) d d × IsReady r records stages d
   goes_on r pins placed first records size n d reads may is at fits =
       let k = newest_told r.slots placed r.directory reads.directory n at in
       let split : EndsWith placed k.0 = ends_with placed k.0 k.1 in
       let end : n.end ≡ end_of k.0.segment = ap (λ (m : Newest). m.end) k.2 in
-      let stages : Stages = record { closed = placed; begun = placed; done = split.older ++ with_batch_in k.0 records ∷ [] } in (
+      let done : List Placed = split.older ++ with_batch_in k.0 records ∷ [] in
+      let stages : Stages = record { closed = placed; begun = placed; done = done; left = done } in (
         stages,
         inl (record { older = split.older; newest = k.0; split = split.split; room = omega (arith, end, fits, is); closed = refl; begun = refl; done = refl }),
         changes_none r.medium (HoldsAny r.segment r.slots (placed ∷ placed ∷ placed ∷ [])) d
@@ -84,6 +85,7 @@ module _ {tells tells_images : Type 0} where
           done = refl;
           stands = subst (λ (ps : List Placed). Stands r ps d) split.split (record { settled = reads.settled; directory = reads.directory });
           order = append_in_order split.older k.0 first records (subst AreInOrder split.split reads.order) (subst (λ (ps : List Placed). Continues ps first records) split.split may.goes_on);
+          begun_order = λ two. subst AreInOrder split.split reads.order;
         },
       )
 

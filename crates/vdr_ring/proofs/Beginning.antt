@@ -1,5 +1,5 @@
 -- A medium at every moment until a segment is begun.
-use Rattle.std.proofs.Common.{◌≡◌, ◌≢◌, ◌<◌, ◌≤◌, ◌+◌, ℕ, List, [], ◌∷◌, ◌++◌, length, slice_get, All, Contains, Option, Some, None, inl, inr, ⊎_elim, refl, sym, ap, ◌∙◌, subst, arith, length-set}
+use Rattle.std.proofs.Common.{◌≡◌, ◌≢◌, ◌<◌, ◌≤◌, ℕ, List, [], ◌∷◌, ◌++◌, length, slice_get, All, Contains, Option, Some, None, inl, inr, ⊎_elim, refl, sym, ap, ◌∙◌, subst, arith, length-set}
 use Rattle.std.proofs.lemmas.List.Elements.{All-contains, Contains-append_left, Contains-append_right, Contains-append_cases}
 use Rattle.vdr_terms.specs.Records.{Record, last}
 use Rattle.vdr_terms.proofs.Somewhere.{any_left, any_right}
@@ -11,7 +11,7 @@ use Rattle.vdr_segment.specs.Segments.{Segment}
 use Rattle.vdr_slots.specs.Slots.{HoldsSlots, HoldsEither, slots_begun}
 use Rattle.vdr_slots.proofs.Holding.{slot_of}
 use Rattle.vdr_retention.specs.Retention.{Pin}
-use Rattle.vdr_retention.proofs.Lists.{contains_there, all_from}
+use Rattle.vdr_retention.proofs.Lists.{all_from, contains_here, contains_there, none_contained}
 use Rattle.vdr_directory.specs.declared.newest.Newest.{Newest}
 use Rattle.vdr_directory.specs.Sequence.{Placed, seq_of, batches_of, AreInSequence}
 use Rattle.vdr_directory.specs.Order.{AreInOrder}
@@ -53,7 +53,7 @@ left_below count seconds pins placed slot closed leaves order =
 
 -- The stages of an append that begins this segment.
 abbrev pub stages_begun : (closed : List Placed) (new : Placed) (records : List Record) → Stages
-stages_begun closed new records = record { closed = closed; begun = closed ++ new ∷ []; done = closed ++ with_batch_in new records ∷ [] }
+stages_begun closed new records = record { closed = closed; begun = closed ++ new ∷ []; done = closed ++ with_batch_in new records ∷ []; left = closed ++ with_batch_in new records ∷ [] }
 
 abbrev pub next_segment : (placed : List Placed) (slot first : ℕ) → Placed
 next_segment placed slot first = new_segment slot (next_seq (last placed)) first
@@ -122,15 +122,12 @@ module _ {tells tells_images : Type 0} where
           tells_begun count closed slot seq first t u tell apart directory,
         )
 
-  -- With the batch it is in order.
-  pub begun_in_order : (m segment count seconds : ℕ) (pins : List Pin) (placed : List Placed) (first : ℕ) (records : List Record) (slot : ℕ) (closed : List Placed) (d : Disk tells tells_images) → tells
-      → Settled m (HoldsPlaced segment count placed) d → AreInOrder placed → MayCome segment placed first records → HasNoRoom segment placed records → LeavesFree count seconds pins placed slot closed → 1 ≤ seconds → 4 ≤ count
-      → AreInOrder (closed ++ with_batch_in (next_segment placed slot first) records ∷ [])
-  begun_in_order m segment count seconds pins placed first records slot closed d told s order may no_room leaves some four =
+  -- What a batch finds that may come.
+  pub finds : (m segment count seconds : ℕ) (placed : List Placed) (first : ℕ) (records : List Record) (d : Disk tells tells_images) (told : tells) (s : Settled m (HoldsPlaced segment count placed) d) → AreInOrder placed
+      → MayCome segment placed first records → 1 ≤ seconds → 4 ≤ count → Finds segment count seconds (s.reads told).slots placed first records
+  finds m segment count seconds placed first records d told s order may some four =
       let h = s.reads told in
-      let stages : Stages = stages_begun closed (next_segment placed slot first) records in
-      let b : BeginsAnew segment count seconds pins placed first records stages = begins segment count seconds pins placed first records slot closed leaves no_room in
-      let finds : Finds segment count seconds h.slots placed first records = record {
+      record {
         sequence = h.sequence;
         every = h.all_slots;
         order = order;
@@ -140,8 +137,22 @@ module _ {tells tells_images : Type 0} where
         fits = may.fits;
         some = omega (arith, some);
         two = omega (arith, four);
-      } in
-      (begins_anew segment count seconds pins h.slots placed first records stages finds b).done_order
+      }
+
+  -- With the batch it is in order, and before, where it isn't the only one.
+  pub begun_in_order : (m segment count seconds : ℕ) (pins : List Pin) (placed : List Placed) (first : ℕ) (records : List Record) (slot : ℕ) (closed : List Placed) (d : Disk tells tells_images) → tells
+      → Settled m (HoldsPlaced segment count placed) d → AreInOrder placed → MayCome segment placed first records → HasNoRoom segment placed records → LeavesFree count seconds pins placed slot closed → 1 ≤ seconds → 4 ≤ count
+      → AreInOrder (closed ++ with_batch_in (next_segment placed slot first) records ∷ []) × (1 < length (closed ++ next_segment placed slot first ∷ []) → AreInOrder (closed ++ next_segment placed slot first ∷ []))
+  begun_in_order m segment count seconds pins placed first records slot closed d told s order may no_room leaves some four =
+      let h = s.reads told in
+      let stages : Stages = stages_begun closed (next_segment placed slot first) records in
+      let b : BeginsAnew segment count seconds pins placed first records stages = begins segment count seconds pins placed first records slot closed leaves no_room in
+      let k = begins_anew segment count seconds pins h.slots placed first records stages (finds m segment count seconds placed first records d told s order may some four) b in
+      (k.done_order, λ two. k.begun_order (λ none. alone closed (left_among count seconds pins placed slot closed leaves) none two))
+    where
+      alone : (closed : List Placed) → ((p : Placed) → Contains closed p → Contains placed p) → placed ≡ [] → 1 < length (closed ++ next_segment placed slot first ∷ []) → first ≡ 0
+      alone [] among none two = absurd (omega (arith, two))
+      alone (p ∷ ps) among none two = absurd (none_contained p (subst (λ (xs : List Placed). Contains xs p) none (among p (contains_here p ps))))
 
 module _ {tells tells_images : Type 0} where
   -- What a free slot tells, of the ring before.
@@ -155,7 +166,7 @@ module _ {tells tells_images : Type 0} where
   )
 
   pub ready_at : (r q : RingState) (closed : List Placed) (new : Placed) (records : List Record) (d : Disk tells tells_images) → IsSameRing r q
-      → Settled r.medium (HoldsPlaced r.segment r.slots (closed ++ new ∷ [])) d × Tells r.slots (closed ++ new ∷ []) q.directory → AreInOrder (closed ++ with_batch_in new records ∷ [])
+      → Settled r.medium (HoldsPlaced r.segment r.slots (closed ++ new ∷ [])) d × Tells r.slots (closed ++ new ∷ []) q.directory → AreInOrder (closed ++ with_batch_in new records ∷ []) × (1 < length (closed ++ new ∷ []) → AreInOrder (closed ++ new ∷ []))
       → IsReady q records (stages_begun closed new records) d
   ready_at r q closed new records d same stands order = record {
     older = closed;
@@ -166,5 +177,6 @@ module _ {tells tells_images : Type 0} where
       settled = settled_at q.medium r.medium q.segment r.segment q.slots r.slots (closed ++ new ∷ []) d (sym same.medium) (sym same.segment) (sym same.slots) stands.0;
       directory = subst (λ (n : ℕ). Tells n (closed ++ new ∷ []) q.directory) (sym same.slots) stands.1;
     };
-    order = order;
+    order = order.0;
+    begun_order = order.1;
   }

@@ -6,6 +6,7 @@ pub mod Answering
 pub mod Freeing
 pub mod Beginning
 pub mod Adding
+pub mod Leaving
 pub mod Keeping
 pub mod Holding
 pub mod Visiting

@@ -16,10 +16,11 @@ use Rattle.vdr_retention.proofs.Appended.{batch_retains, begin_retains, close_re
 use Rattle.vdr_retention.proofs.Paced.{append_stays_regular, begin_stays_paced, begin_stays_regular, full_where_unfit, remove_stays_regular}
 use Rattle.vdr_retention.proofs.Needed.{one_victim}
 use Rattle.vdr_retention.proofs.Victims.{medium_has_victim}
-use Rattle.vdr_directory.specs.Sequence.{Placed, batches_of, segments_in, all_records}
+use Rattle.vdr_directory.specs.Sequence.{Placed, batches_in, batches_of, segments_in, all_records}
 use Rattle.vdr_directory.specs.Closed.{IsFull, IsLeastClosed}
 use Rattle.vdr_directory.specs.Growing.{new_segment, next_seq, with_batch_in}
-use Rattle.vdr_ring.specs.Stages.{AreStages, BeginsAnew, GoesOn, HasRoom, IsOldest, IsVictim, Stages}
+use Rattle.vdr_directory.proofs.Leaving.{left_batches, left_segments}
+use Rattle.vdr_ring.specs.Stages.{AreStages, BeginsAnew, GoesOn, HasRoom, IsLeft, IsOldest, IsVictim, Stages}
 use Rattle.vdr_ring.specs.Regularity.{AreRegular, IsAllowed}
 
 -- Segments, as placed and as batches
@@ -311,8 +312,30 @@ goes_on sizes m size count seconds pins placed records stages h g = record {
 
 leaves_stages : (sizes : Sizes) (m size count seconds : ℕ) (pins : List Pin) (placed : List Placed) (first : ℕ) (records : List Record) (stages : Stages) → IsAllowed sizes m size count seconds pins placed records
     → AreStages size count seconds pins placed first records stages → LeavesStages sizes seconds pins placed records stages
-leaves_stages sizes m size count seconds pins placed first records stages h (inl g) = goes_on sizes m size count seconds pins placed records stages h g
-leaves_stages sizes m size count seconds pins placed first records stages h (inr b) = begins_anew sizes m size count seconds pins placed first records stages h b
+leaves_stages sizes m size count seconds pins placed first records stages h (inl g, _) = goes_on sizes m size count seconds pins placed records stages h g
+leaves_stages sizes m size count seconds pins placed first records stages h (inr b, _) = begins_anew sizes m size count seconds pins placed first records stages h b
+
+-- The segment that the batch leaves behind gets its summary: nothing that is recorded changes.
+pub same_segments : (records : List Record) (stages : Stages) → IsLeft records stages → segments_in stages.left ≡ segments_in stages.done
+same_segments records stages (inl none) = ap segments_in none.1
+same_segments records stages (inr l) =
+    ap segments_in l.left ∙ left_segments l.behind.older l.behind.left (with_batch_in l.behind.newest records) l.summary ∙ ap segments_in (sym l.done)
+
+pub same_batches : (records : List Record) (stages : Stages) → IsLeft records stages → batches_in stages.left ≡ batches_in stages.done
+same_batches records stages (inl none) = ap batches_in none.1
+same_batches records stages (inr l) =
+    ap batches_in l.left ∙ left_batches l.behind.older l.behind.left (with_batch_in l.behind.newest records) l.summary ∙ ap batches_in (sym l.done)
+
+same_nothing : (stages : Stages) → segments_in stages.left ≡ segments_in stages.done → stages.done ≡ [] → stages.left ≡ []
+same_nothing stages same none = nothing stages.left (same ∙ ap segments_in none)
+  where
+    nothing : (placed : List Placed) → segments_in placed ≡ [] → placed ≡ []
+    nothing [] e = refl
+    nothing (p ∷ ps) e = cc
+
+left_regular : (cost usable batch : ℕ) (stages : Stages) → segments_in stages.left ≡ segments_in stages.done → AreRegular cost usable batch stages.done → AreRegular cost usable batch stages.left
+left_regular cost usable batch stages same (inl none) = inl (same_nothing stages same none)
+left_regular cost usable batch stages same (inr (older, newest, split, h)) = inr (older, newest, same ∙ split, h)
 
 -- What each stage retains, and that it is regular
 
@@ -329,6 +352,13 @@ module _ (sizes : Sizes) (m size count seconds : ℕ) (pins : List Pin) (placed 
       → Retains seconds pins all (all_records placed) → Retains seconds pins (all ++ records) (all_records stages.done)
   done_retains all records stages h s = (leaves_stages sizes m size count seconds pins placed first records stages h s).retained_done all
 
+  pub left_retains : (all records : List Record) (stages : Stages) → IsAllowed sizes m size count seconds pins placed records → AreStages size count seconds pins placed first records stages
+      → Retains seconds pins all (all_records placed) → Retains seconds pins (all ++ records) (all_records stages.left)
+  left_retains all records stages h s r = subst (λ (ss : List Batches). Retains seconds pins (all ++ records) (records_in ss)) (sym (same_segments records stages s.1)) (done_retains all records stages h s r)
+
   pub stages_regular : (records : List Record) (stages : Stages) → IsAllowed sizes m size count seconds pins placed records → AreStages size count seconds pins placed first records stages
       → AreRegular (cost sizes) (usable sizes) sizes.batch stages.closed × AreRegular (cost sizes) (usable sizes) sizes.batch stages.begun × AreRegular (cost sizes) (usable sizes) sizes.batch stages.done
-  stages_regular records stages h s = let k = leaves_stages sizes m size count seconds pins placed first records stages h s in (k.regular_closed, k.regular_begun, k.regular_done)
+      × AreRegular (cost sizes) (usable sizes) sizes.batch stages.left
+  stages_regular records stages h s =
+      let k = leaves_stages sizes m size count seconds pins placed first records stages h s in
+      (k.regular_closed, k.regular_begun, k.regular_done, left_regular (cost sizes) (usable sizes) sizes.batch stages (same_segments records stages s.1) k.regular_done)

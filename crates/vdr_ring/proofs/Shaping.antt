@@ -1,5 +1,5 @@
 -- A ring made of what was found on its medium.
-use Rattle.std.proofs.Common.{◌≡◌, ◌<◌, ◌≤◌, ℕ, List, [], ◌∷◌, Some, sym, subst, arith}
+use Rattle.std.proofs.Common.{◌≡◌, ◌≤◌, ℕ, List, Some, sym, subst, arith}
 use Rattle.vdr_terms.specs.Needs.{Sizes, Fits, slots_in}
 use Rattle.vdr_outside.specs.Disk.{Disk, Image, Durable, Unchanged, content}
 use Rattle.vdr_outside.specs.Moments.{Settled}

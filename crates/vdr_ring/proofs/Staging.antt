@@ -17,10 +17,11 @@ use Rattle.vdr_directory.specs.Sequence.{Placed, seq_of, batches_of, records_of,
 use Rattle.vdr_directory.specs.Order.{AreInOrder}
 use Rattle.vdr_directory.specs.Closed.{IsFull, IsLeastClosed}
 use Rattle.vdr_directory.specs.Growing.{next_seq, new_segment, with_batch_in, next_of, tick_of, Continues}
-use Rattle.vdr_ring.specs.Stages.{IsVictim, HasRoom, Stages, GoesOn, BeginsAnew, AreStages}
+use Rattle.vdr_ring.specs.Stages.{IsVictim, HasRoom, Stages, GoesOn, BeginsAnew, IsLeft, AreStages}
 use Rattle.vdr_directory.proofs.Runs.{nil_from_last}
 use Rattle.vdr_directory.proofs.Placing.{append_in_sequence, close_in_sequence, begin_in_sequence, slot_closed}
-use Rattle.vdr_directory.proofs.Ordering.{NewestHasRecords, append_in_order, close_in_order, begin_in_order, begin_with_batch_in_order, last_in_newest}
+use Rattle.vdr_directory.proofs.Ordering.{NewestHasRecords, append_in_order, batch_has_records, close_in_order, begin_in_order, begin_with_batch_in_order, last_in_newest}
+use Rattle.vdr_directory.proofs.Leaving.{left_in_order}
 use Rattle.vdr_directory.proofs.Numbering.{seqs_below, next_seq_low}
 
 -- The newest segment, where it has no room
@@ -243,15 +244,25 @@ pub goes_on_in_order : (size : ℕ) (placed : List Placed) (first : ℕ) (record
 goes_on_in_order size placed first records stages order h g =
     subst AreInOrder (sym g.done) (append_in_order g.older g.newest first records (subst AreInOrder g.split order) (subst (λ (xs : List Placed). Continues xs first records) g.split h))
 
+-- The segment that the batch leaves behind has its summary.
+pub left_in_its_order : (records : List Record) (stages : Stages) → records ≢ [] → AreInOrder stages.done → IsLeft records stages → AreInOrder stages.left
+left_in_its_order records stages some order (inl none) = subst AreInOrder (sym none.1) order
+left_in_its_order records stages some order (inr l) =
+    subst AreInOrder (sym l.left)
+    (left_in_order l.behind.left l.summary l.behind.none l.behind.exact l.behind.older (with_batch_in l.behind.newest records) (batch_has_records l.behind.newest records some)
+    (subst AreInOrder l.done order))
+
 -- Each stage is in order.
 pub stages_in_order : (size count seconds : ℕ) (pins : List Pin) (slots : List (Option Segment)) (placed : List Placed) (first : ℕ) (records : List Record) (stages : Stages)
     → Finds size count seconds slots placed first records → AreStages size count seconds pins placed first records stages
-    → AreInOrder stages.closed × ((placed ≡ [] → first ≡ 0) → AreInOrder stages.begun) × AreInOrder stages.done
-stages_in_order size count seconds pins slots placed first records stages finds (inl g) = (
-  subst AreInOrder (sym g.closed) finds.order,
-  λ start. subst AreInOrder (sym g.begun) finds.order,
-  goes_on_in_order size placed first records stages finds.order finds.goes_on g,
-)
-stages_in_order size count seconds pins slots placed first records stages finds (inr b) =
+    → AreInOrder stages.closed × ((placed ≡ [] → first ≡ 0) → AreInOrder stages.begun) × AreInOrder stages.done × AreInOrder stages.left
+stages_in_order size count seconds pins slots placed first records stages finds (inl g, l) =
+    let done = goes_on_in_order size placed first records stages finds.order finds.goes_on g in (
+      subst AreInOrder (sym g.closed) finds.order,
+      λ start. subst AreInOrder (sym g.begun) finds.order,
+      done,
+      left_in_its_order records stages finds.goes_on.some done l,
+    )
+stages_in_order size count seconds pins slots placed first records stages finds (inr b, l) =
     let k = begins_anew size count seconds pins slots placed first records stages finds b in
-    (k.closed_order, k.begun_order, k.done_order)
+    (k.closed_order, k.begun_order, k.done_order, left_in_its_order records stages finds.goes_on.some k.done_order l)

@@ -1,5 +1,5 @@
 -- What the steps of an append find and leave. No public clause cites it.
-use Rattle.std.specs.Prelude.{◌≡◌, ◌≢◌, ◌⊎◌, ◌<◌, ◌≤◌, ◌+◌, ℕ, List, [], ◌∷◌, ◌++◌, All, Option, Some, None}
+use Rattle.std.specs.Prelude.{◌≡◌, ◌≢◌, ◌⊎◌, ◌<◌, ◌≤◌, ◌+◌, ℕ, List, [], ◌∷◌, ◌++◌, length, All, Option, Some, None}
 use Rattle.vdr_terms.specs.Records.{Record, last}
 use Rattle.vdr_terms.specs.Sizes.{batch_size}
 use Rattle.vdr_outside.specs.Disk.{Disk, Rises}
@@ -60,3 +60,5 @@ module _ {tells tells_images : Type 0} where
     pub done : stages.done ≡ older ++ with_batch_in newest records ∷ []
     pub stands : Stands ring (older ++ newest ∷ []) disk
     pub order : AreInOrder stages.done
+    -- a segment that is begun alone may have any first place
+    pub begun_order : 1 < length (older ++ newest ∷ []) → AreInOrder (older ++ newest ∷ [])

@@ -1,13 +1,15 @@
 -- What a medium holds at each stage of an append.
-use Rattle.std.specs.Prelude.{◌≡◌, ◌≢◌, ◌⊎◌, ◌<◌, ◌≤◌, ◌+◌, ℕ, List, [], ◌∷◌, ◌++◌, All, Some}
+use Rattle.std.specs.Prelude.{◌≡◌, ◌⊎◌, ◌≤◌, ◌+◌, ℕ, List, [], ◌∷◌, ◌++◌, All, Some}
 use Rattle.vdr_terms.specs.Records.{Record, last}
 use Rattle.vdr_terms.specs.Sizes.{batch_size}
+use Rattle.vdr_entry.specs.declared.summary.Summary.{Summary}
 use Rattle.vdr_segment.specs.Segments.{end_of}
 use Rattle.vdr_retention.specs.Retention.{Pin}
 use Rattle.vdr_retention.specs.Victims.{MayGo}
 use Rattle.vdr_directory.specs.Sequence.{Placed, batches_of, all_records}
 use Rattle.vdr_directory.specs.Closed.{IsFull, IsLeastClosed}
 use Rattle.vdr_directory.specs.Growing.{new_segment, next_seq, with_batch_in}
+use Rattle.vdr_directory.specs.Leaving.{IsLeftBehind, LeavesNone, summarized}
 
 -- The one of least sequence number that may go.
 pub record IsOldest (seconds : ℕ) (pins : List Pin) (placed : List Placed) (before : List Placed) (victim : Placed) (after : List Placed) : Type 0 where
@@ -34,11 +36,13 @@ IsNextSlot count seconds pins placed slot =
 abbrev pub HasRoom : ℕ → Placed → List Record → Type 0
 HasRoom size p records = end_of p.segment + batch_size records + 1 ≤ size
 
--- What each stage of an append leaves: as it was; with the victim closed; with a new segment begun; with the batch.
+-- What each stage of an append leaves: as it was; with the victim closed; with a new segment begun; with the batch; with the
+-- summary of the segment that the batch leaves behind.
 pub record Stages : Type 0 where
   pub closed : List Placed
   pub begun : List Placed
   pub done : List Placed
+  pub left : List Placed
 
 -- The batch goes into the newest segment.
 pub record GoesOn (size : ℕ) (placed : List Placed) (records : List Record) (stages : Stages) : Type 0 where
@@ -59,5 +63,21 @@ pub record BeginsAnew (size count seconds : ℕ) (pins : List Pin) (placed : Lis
   pub begun : stages.begun ≡ stages.closed ++ new_segment slot (next_seq (last placed)) first ∷ []
   pub done : stages.done ≡ stages.closed ++ with_batch_in (new_segment slot (next_seq (last placed)) first) records ∷ []
 
+-- The one or the other.
+abbrev pub IsWritten : (size count seconds : ℕ) (pins : List Pin) (placed : List Placed) (first : ℕ) (records : List Record) → Stages → Type 0
+IsWritten size count seconds pins placed first records stages = GoesOn size placed records stages ⊎ BeginsAnew size count seconds pins placed first records stages
+
+-- The batch is the first of the newest segment. The segment before that gets its summary.
+pub record Leaves (records : List Record) (stages : Stages) : Type 0 where
+  pub slot : ℕ
+  pub summary : Summary
+  pub behind : IsLeftBehind stages.begun slot summary
+  pub done : stages.done ≡ behind.older ++ behind.left ∷ with_batch_in behind.newest records ∷ []
+  pub left : stages.left ≡ behind.older ++ summarized behind.left summary ∷ with_batch_in behind.newest records ∷ []
+
+-- It does, or leaves no segment behind.
+abbrev pub IsLeft : List Record → Stages → Type 0
+IsLeft records stages = (LeavesNone stages.begun × (stages.left ≡ stages.done)) ⊎ Leaves records stages
+
 abbrev pub AreStages : (size count seconds : ℕ) (pins : List Pin) (placed : List Placed) (first : ℕ) (records : List Record) → Stages → Type 0
-AreStages size count seconds pins placed first records stages = GoesOn size placed records stages ⊎ BeginsAnew size count seconds pins placed first records stages
+AreStages size count seconds pins placed first records stages = IsWritten size count seconds pins placed first records stages × IsLeft records stages

@@ -23,12 +23,13 @@ use vdr_outside::{Fault, Media};
 impl Ring {
     /// Appends a batch of records. It goes behind the batches of the newest segment; where it has no room there, a segment is
     /// begun in a closed slot first, and where no slot is closed, the victim's is closed before (`victim`). The new segment's
-    /// sequence number is one above the greatest, its first place that of the first record. Each gate is opened or closed by a
-    /// write of one byte behind a sync of what it stands for.
+    /// sequence number is one above the greatest, its first place that of the first record. Where the batch is the first of
+    /// the newest segment, the segment before that gets its summary then. Each gate is opened or closed by a write of one byte
+    /// behind a sync of what it stands for.
     ///
-    /// At every moment a stop leaves the medium as it was, with the victim closed, with the new segment begun, or with the
-    /// batch; after Ok it has the batch. That is promised where the records go on from where the medium ends: their places
-    /// run on, and their ticks never fall. Where the medium is regular, the batch keeps the pace and the pins are those of
+    /// At every moment a stop leaves the medium as it was, with the victim closed, with the new segment begun, with the batch,
+    /// or with that summary too; after Ok it has both. That is promised where the records go on from where the medium ends:
+    /// their places run on, and their ticks never fall. Where the medium is regular, the batch keeps the pace and the pins are those of
     /// live saves, each of these is a legal medium that keeps its window and its pinned records. Nothing before the slots is
     /// touched. Takes no memory.
     ///
@@ -45,8 +46,8 @@ impl Ring {
         requires fits { 64 + batch_size records.now + 1 ≤ self.old.segment }
         ensures appended { (placed : List Placed) (first : ℕ) → M.tells → Reads self.old placed (M.disk media.old) → Continues placed first records.now
             → (stages : Stages) × AreStages self.old.segment self.old.slots self.old.seconds pins.now placed first records.now stages
-            × ChangesOnly self.old.medium (HoldsAny self.old.segment self.old.slots (placed ∷ stages.closed ∷ stages.begun ∷ stages.done ∷ [])) (M.disk media.old) (M.disk media.new)
-            × OnOk result (Reads self.new stages.done (M.disk media.new)) }
+            × ChangesOnly self.old.medium (HoldsAny self.old.segment self.old.slots (placed ∷ stages.closed ∷ stages.begun ∷ stages.done ∷ stages.left ∷ [])) (M.disk media.old) (M.disk media.new)
+            × OnOk result (Reads self.new stages.left (M.disk media.new)) }
         ensures kept { (sizes : Sizes) (placed : List Placed) (first : ℕ) (all : List ARecord) → M.tells → Reads self.old placed (M.disk media.old) → Continues placed first records.now
             → (placed ≡ [] → first ≡ 0) → IsAllowed sizes self.old.medium self.old.segment self.old.slots self.old.seconds pins.now placed records.now
             → Retains self.old.seconds pins.now all (all_records placed)

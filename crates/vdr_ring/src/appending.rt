@@ -1,4 +1,4 @@
-ghost use Rattle.std.specs.Prelude.{◌≡◌, ◌+◌, ◌<◌, ◌≤◌, ℕ, [], ◌∷◌, List, length, Some, IfNone, IfOk, IfSome, OnErr, OnOk};
+ghost use Rattle.std.specs.Prelude.{◌≡◌, ◌+◌, ◌<◌, ◌≤◌, ℕ, [], ◌∷◌, List, length, Some, None, IfNone, IfOk, IfSome, MatchOption, OnErr, OnOk};
 ghost use Rattle.vdr_terms.specs.Records.{Record as ARecord, last};
 ghost use Rattle.vdr_terms.specs.Sizes.{batch_size};
 ghost use Rattle.vdr_outside.specs.Causes.{HasCauseOn};
@@ -13,17 +13,18 @@ ghost use Rattle.vdr_directory.specs.Holds.{HoldsAny, Tells};
 ghost use Rattle.vdr_ring.specs.Rings.{HasMedium, IsSameRing, Reads, StaysOnMedium};
 ghost use Rattle.vdr_directory.specs.Closed.{IsFull};
 ghost use Rattle.vdr_directory.specs.Growing.{Continues, next_seq};
-ghost use Rattle.vdr_ring.specs.Stages.{AreStages, BeginsAnew, IsNextSlot, IsVictim, Stages};
+ghost use Rattle.vdr_directory.specs.Leaving.{IsLeftBehind, LeavesNone};
+ghost use Rattle.vdr_ring.specs.Stages.{AreStages, BeginsAnew, IsNextSlot, IsVictim, IsWritten, Stages};
 ghost use Rattle.vdr_ring.specs.Appends.{HasNoRoom, HasRoomFor, IsFree, IsReady, LeavesFree, MayCome, RisesOrStays};
 
 use crate::Ring;
 use crate::choice::oldest_candidate;
 use crate::pins::Pins;
 use vdr_directory::Newest;
-use vdr_entry::Record;
+use vdr_entry::{Record, Summary};
 use vdr_outside::{Fault, Media};
 use vdr_segment::write_batch;
-use vdr_slots::{append_batch, begin_segment, close_slot};
+use vdr_slots::{append_batch, begin_segment, close_slot, summarize};
 
 impl Ring {
     // The sequence number of the next segment.
@@ -146,7 +147,7 @@ impl Ring {
         requires fits { 64 + size + 1 ≤ self.old.segment }
         ensures made { (placed : List Placed) (first : ℕ) → M.tells → Reads self.old placed (M.disk media.old)
             → MayCome self.old.segment placed first records.now
-            → (stages : Stages) × AreStages self.old.segment self.old.slots self.old.seconds pins.now placed first records.now stages
+            → (stages : Stages) × IsWritten self.old.segment self.old.slots self.old.seconds pins.now placed first records.now stages
             × ChangesOnly self.old.medium (HoldsAny self.old.segment self.old.slots (placed ∷ stages.closed ∷ stages.begun ∷ [])) (M.disk media.old) (M.disk media.new)
             × OnOk result (IsReady self.new records.now stages (M.disk media.new)) }
         ensures newest { IfOk result (λ n. (self.new.directory.newest ≡ Some n) × (n.end + size + 1 ≤ self.old.segment) × (n.slot < self.new.slots)) }
@@ -169,22 +170,27 @@ impl Ring {
         self.begin(media, first.place, pins)
     }
 
-    // Appends a batch, stage by stage.
-    pub(crate) fn append_staged<M: Media>(
+    // Adds a batch, stage by stage, and answers what it leaves behind: the slot of the segment before the newest and the summary of
+    // its records, where the batch is the newest's first.
+    fn add<M: Media>(
         &mut self,
         media: &mut M,
         records: &[Record],
         pins: &Pins,
-    ) -> Result<(), Fault>
+    ) -> Result<Option<(u32, Summary)>, Fault>
         requires room { HasMedium self.old (M.disk media.old).sizes }
         requires some { 0 < length records.now }
         requires fits { 64 + batch_size records.now + 1 ≤ self.old.segment }
-        ensures appended { (placed : List Placed) (first : ℕ) → M.tells → Reads self.old placed (M.disk media.old) → Continues placed first records.now
-            → (stages : Stages) × AreStages self.old.segment self.old.slots self.old.seconds pins.now placed first records.now stages
+        ensures added { (placed : List Placed) (first : ℕ) → M.tells → Reads self.old placed (M.disk media.old) → Continues placed first records.now
+            → (stages : Stages) × IsWritten self.old.segment self.old.slots self.old.seconds pins.now placed first records.now stages
             × ChangesOnly self.old.medium (HoldsAny self.old.segment self.old.slots (placed ∷ stages.closed ∷ stages.begun ∷ stages.done ∷ [])) (M.disk media.old) (M.disk media.new)
-            × OnOk result (Reads self.new stages.done (M.disk media.new)) }
+            × IfOk result (λ left. Reads self.new stages.done (M.disk media.new) × MatchOption left (LeavesNone stages.begun) (λ x. IsLeftBehind stages.begun x.0 x.1)) }
         ensures legal { IsBatch records.now }
+        ensures enough { (1 ≤ self.old.seconds) × (4 ≤ self.old.slots) }
+        ensures within { IfOk result (λ left. IfSome left (λ x. x.0 < self.new.slots)) }
+        ensures loaded { self.new.loaded ≡ None }
         ensures ring { StaysOnMedium self.old self.new (M.disk media.new).sizes }
+        ensures durable { OnOk result (Durable self.old.medium (M.disk media.new)) }
         ensures front { KeepsFront self.old.medium (M.disk media.old) (M.disk media.new) }
         ensures writes { WritesTo M.Media self.old.medium media.old media.new result }
     {
@@ -198,7 +204,33 @@ impl Ring {
             newest.end,
             &self.buffer[..size + 1],
         )?;
+        let left = self.directory.left_behind();
         self.directory.extend(newest, size, records);
-        Ok(())
+        Ok(left)
+    }
+
+    // Appends a batch, stage by stage, and writes the summary of the segment that it leaves behind.
+    pub(crate) fn append_staged<M: Media>(
+        &mut self,
+        media: &mut M,
+        records: &[Record],
+        pins: &Pins,
+    ) -> Result<(), Fault>
+        requires room { HasMedium self.old (M.disk media.old).sizes }
+        requires some { 0 < length records.now }
+        requires fits { 64 + batch_size records.now + 1 ≤ self.old.segment }
+        ensures appended { (placed : List Placed) (first : ℕ) → M.tells → Reads self.old placed (M.disk media.old) → Continues placed first records.now
+            → (stages : Stages) × AreStages self.old.segment self.old.slots self.old.seconds pins.now placed first records.now stages
+            × ChangesOnly self.old.medium (HoldsAny self.old.segment self.old.slots (placed ∷ stages.closed ∷ stages.begun ∷ stages.done ∷ stages.left ∷ [])) (M.disk media.old) (M.disk media.new)
+            × OnOk result (Reads self.new stages.left (M.disk media.new)) }
+        ensures legal { IsBatch records.now }
+        ensures ring { StaysOnMedium self.old self.new (M.disk media.new).sizes }
+        ensures front { KeepsFront self.old.medium (M.disk media.old) (M.disk media.new) }
+        ensures writes { WritesTo M.Media self.old.medium media.old media.new result }
+    {
+        let Some((slot, summary)) = self.add(media, records, pins)? else {
+            return Ok(());
+        };
+        summarize(media, self.area, slot, summary)
     }
 }

@@ -8,9 +8,9 @@ ghost use Rattle.vdr_ring.specs.Stages.{AreStages, IsOldest, IsVictim, Stages};
 ghost use Rattle.vdr_ring.specs.Regularity.{AreRegular, IsAllowed, MissOneAtMost};
 
 /// What a ring retains of all the records that it was given, at each stage of an append that its configuration allows: of
-/// all before it once a victim is closed and once a segment is begun, and of the batch too once it is done. Where all slots
-/// are open there is a victim, an oldest candidate that is not the newest segment. Regular media stay regular. No batch but
-/// the victim's goes, and only whole ones come.
+/// all before it once a victim is closed and once a segment is begun, and of the batch too once it is done and once a
+/// segment is left. Where all slots are open there is a victim, an oldest candidate that is not the newest segment. Regular
+/// media stay regular. No batch but the victim's goes, and only whole ones come.
 pub fn law_of_stages()
     ensures victim { (sizes : Sizes) (m size count seconds : ℕ) (pins : List Pin) (placed : List Placed) (records : List Record) (before : List Placed) (victim : Placed) (after : List Placed)
         → IsAllowed sizes m size count seconds pins placed records → IsFull count placed → IsVictim seconds pins placed before victim after
@@ -24,11 +24,15 @@ pub fn law_of_stages()
     ensures done { (sizes : Sizes) (m size count seconds : ℕ) (pins : List Pin) (placed : List Placed) (first : ℕ) (all records : List Record) (stages : Stages)
         → IsAllowed sizes m size count seconds pins placed records → AreStages size count seconds pins placed first records stages
         → Retains seconds pins all (all_records placed) → Retains seconds pins (all ++ records) (all_records stages.done) }
+    ensures left { (sizes : Sizes) (m size count seconds : ℕ) (pins : List Pin) (placed : List Placed) (first : ℕ) (all records : List Record) (stages : Stages)
+        → IsAllowed sizes m size count seconds pins placed records → AreStages size count seconds pins placed first records stages
+        → Retains seconds pins all (all_records placed) → Retains seconds pins (all ++ records) (all_records stages.left) }
     ensures regular { (sizes : Sizes) (m size count seconds : ℕ) (pins : List Pin) (placed : List Placed) (first : ℕ) (records : List Record) (stages : Stages)
         → IsAllowed sizes m size count seconds pins placed records → AreStages size count seconds pins placed first records stages
         → AreRegular (cost sizes) (usable sizes) sizes.batch stages.closed × AreRegular (cost sizes) (usable sizes) sizes.batch stages.begun
-        × AreRegular (cost sizes) (usable sizes) sizes.batch stages.done }
+        × AreRegular (cost sizes) (usable sizes) sizes.batch stages.done × AreRegular (cost sizes) (usable sizes) sizes.batch stages.left }
     ensures batches { (size count seconds : ℕ) (pins : List Pin) (placed : List Placed) (first : ℕ) (records : List Record) (stages : Stages)
         → AreStages size count seconds pins placed first records stages
-        → MissOneAtMost stages.closed placed × (batches_in stages.begun ≡ batches_in stages.closed) × (batches_in stages.done ≡ batches_in stages.closed ++ records ∷ []) }
+        → MissOneAtMost stages.closed placed × (batches_in stages.begun ≡ batches_in stages.closed) × (batches_in stages.done ≡ batches_in stages.closed ++ records ∷ [])
+        × (batches_in stages.left ≡ batches_in stages.done) }
 {}

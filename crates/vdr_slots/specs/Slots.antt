@@ -6,7 +6,8 @@ use Rattle.vdr_outside.specs.Parts.{Slots, part}
 use Rattle.vdr_segment.specs.declared.header.Header.{Header}
 use Rattle.vdr_segment.specs.Gates.{IsOpenAt}
 use Rattle.vdr_segment.specs.Headers.{IsHeader}
-use Rattle.vdr_segment.specs.Segments.{Segment, IsSlot, with_batch}
+use Rattle.vdr_entry.specs.declared.summary.Summary.{Summary}
+use Rattle.vdr_segment.specs.Segments.{Segment, IsSlot, with_batch, with_summary}
 
 -- Where a slot begins, with segments of this size.
 abbrev pub place_of : (segment slot : ℕ) → ℕ
@@ -36,6 +37,10 @@ slots_begun slots j seq first =
 
 abbrev pub slots_with_batch : List (Option Segment) → ℕ → Segment → List Record → List (Option Segment)
 slots_with_batch slots j s batch = set slots j (Some (with_batch s batch))
+
+-- With this summary in the header of its segment s.
+abbrev pub slots_with_summary : List (Option Segment) → ℕ → Segment → Summary → List (Option Segment)
+slots_with_summary slots j s summary = set slots j (Some (with_summary s (Some summary)))
 
 -- What the first 64 bytes of a slot hold: behind an open gate a header, behind a closed one none.
 abbrev pub IsFront : List ℕ → Option Header → Type 0

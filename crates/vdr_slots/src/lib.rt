@@ -1,4 +1,5 @@
-//! The slots of a medium: how they are read, closed, begun and appended to, and what each write leaves of them.
+//! The slots of a medium: how they are read, closed, begun, appended to and summarized, and what each write
+//! leaves of them.
 #![tactic(auto)]
 
 mod area;
@@ -9,4 +10,4 @@ mod writing;
 pub use area::Area;
 pub use law::{law_of_fronts, law_of_slots};
 pub use reading::{read_front, read_slot};
-pub use writing::{append_batch, begin_segment, close_slot};
+pub use writing::{append_batch, begin_segment, close_slot, summarize};

@@ -4,18 +4,21 @@ ghost use Rattle.vdr_outside.specs.Disk.{InRange, Overwritten, content, over};
 ghost use Rattle.vdr_outside.specs.Frames.{WritesThrough};
 ghost use Rattle.vdr_outside.specs.Moments.{AtEachMoment, ChangesOnly, Settled};
 ghost use Rattle.vdr_segment.specs.Gates.{closed_gate};
-ghost use Rattle.vdr_segment.specs.Headers.{new_header};
+ghost use Rattle.vdr_segment.specs.Headers.{FitsSummary, new_header, summary_bytes};
 ghost use Rattle.vdr_segment.specs.Batches.{IsBatch, batch_bytes};
 ghost use Rattle.vdr_segment.specs.Segments.{Segment, end_of};
 ghost use Rattle.vdr_terms.specs.Slots.{slots_from};
-ghost use Rattle.vdr_slots.specs.Slots.{HoldsSlots, HoldsEither, SameFront, slots_closed, slots_begun, slots_with_batch};
+ghost use Rattle.vdr_slots.specs.Slots.{HoldsSlots, HoldsEither, SameFront, slots_closed, slots_begun, slots_with_batch, slots_with_summary};
 ghost use Rattle.vdr_slots.specs.Areas.{HasRoom};
 ghost use Rattle.vdr_slots.specs.Writes.{KeepsFront};
 
 use crate::Area;
 use vdr_bytes::put;
+use vdr_entry::Summary;
 use vdr_outside::{Fault, Media};
-use vdr_segment::{CLOSED_GATE, HEADER_SIZE, OPEN_GATE, write_header};
+use vdr_segment::{
+    CLOSED_GATE, HEADER_SIZE, OPEN_GATE, SUMMARY_GATE, SUMMARY_SIZE, write_header, write_summary,
+};
 
 // Writes bytes where the slots stand, and syncs their medium. At every moment a stop leaves the media as a stop before the call
 // might have left them, with any bytes in the range. Nothing before the slots is touched, also where it fails: that is more than
@@ -119,4 +122,42 @@ pub fn append_batch<M: Media>(
     let gate = area.place_of(slot) + at as u64;
     write_synced(media, area, gate + 1, &batch[1..])?;
     write_synced(media, area, gate, &batch[..1])
+}
+
+// The bytes of a summary, as a header has them.
+fn bytes_of(summary: Summary) -> [u8; SUMMARY_SIZE]
+    ensures bytes { result ≡ summary_bytes summary }
+    ensures fits { FitsSummary summary }
+{
+    let mut bytes = [0; SUMMARY_SIZE];
+    write_summary(&summary, &mut bytes);
+    bytes
+}
+
+/// Writes the summary of a segment that has none. Writes bytes 18 to 61 of its header and syncs; then opens the
+/// summary's gate, byte 17, and syncs.
+///
+/// At every moment a stop leaves the slots as they were, or with the summary. That is promised only where the segment
+/// has no summary yet: behind an open gate a torn write would be read. Nothing before the slots is touched, also where
+/// it fails.
+pub fn summarize<M: Media>(
+    media: &mut M,
+    area: Area,
+    slot: u32,
+    summary: Summary,
+) -> Result<(), Fault>
+    requires room { HasRoom area (M.disk media.old).sizes }
+    requires within { slot < area.slots }
+    ensures moments { (slots : List (Option Segment)) (s : Segment) → Settled area.medium (HoldsSlots area.segment slots) (M.disk media.old) → slice_get slots slot ≡ Some (Some s)
+        → s.header.summary ≡ None
+        → ChangesOnly area.medium (HoldsEither area.segment slots (slots_with_summary slots slot s summary)) (M.disk media.old) (M.disk media.new) }
+    ensures settled { (slots : List (Option Segment)) (s : Segment) → Settled area.medium (HoldsSlots area.segment slots) (M.disk media.old) → slice_get slots slot ≡ Some (Some s)
+        → s.header.summary ≡ None
+        → OnOk result (Settled area.medium (HoldsSlots area.segment (slots_with_summary slots slot s summary)) (M.disk media.new)) }
+    ensures front { KeepsFront area.medium (M.disk media.old) (M.disk media.new) }
+    ensures writes { WritesThrough M.Media area.medium media.old media.new result }
+{
+    let gate = area.place_of(slot) + SUMMARY_GATE as u64;
+    write_synced(media, area, gate + 1, &bytes_of(summary))?;
+    write_synced(media, area, gate, &[OPEN_GATE])
 }

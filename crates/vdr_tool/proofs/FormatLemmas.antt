@@ -79,10 +79,10 @@ known (Some bytes) text P c whole is p = (c, ap configuration whole ∙ is, subs
 
 module _ {tells tells_images : Type 0} (again : Bool) (left : Option (List ℕ)) (text : List ℕ) (old new : MediaSeen tells tells_images)
     (whole : (c : Configuration) → configuration text ≡ Ok c → IfKnown left (λ bytes. bytes ≡ text))
-    (others : tells → SameBeside (members old.disk.sizes) (λ image. image ≡ old.disk.reads) new.disk.reads)
-    (meanwhile : AtEachMoment old.disk new.disk (SameBeside (members old.disk.sizes) old.disk.now)) where
+    (others : tells → SameBeside members (λ image. image ≡ old.disk.reads) new.disk.reads)
+    (meanwhile : AtEachMoment old.disk new.disk (SameBeside members old.disk.now)) where
   abbrev IsNew : Image → Type 0
-  IsNew = IsEmptyHistoryOf (members old.disk.sizes) text
+  IsNew = IsEmptyHistoryOf members text
 
   -- A failure is told by the command as by the call.
   failed_moments : (r : FormatRefused) → FormatsAtEachMoment {T = ⊤} {E = FormatRefused} old.disk new.disk (Err r) IsNew → FormatsAtEachMoment {T = ⊤} {E = Status} old.disk new.disk (Err MediaFault) IsNew
@@ -169,7 +169,7 @@ module _ {tells tells_images : Type 0} (again : Bool) (left : Option (List ℕ))
         own = tt;
         others = others;
         others_meanwhile = meanwhile;
-        moments = λ either rest. known left text (λ d bytes. FormatsAtEachMoment {T = ⊤} {E = Status} old.disk new.disk (Err MediaFault) (IsEmptyHistoryOf (members old.disk.sizes) bytes)) c.0 (whole c.0 c.1) c.1
+        moments = λ either rest. known left text (λ d bytes. FormatsAtEachMoment {T = ⊤} {E = Status} old.disk new.disk (Err MediaFault) (IsEmptyHistoryOf members bytes)) c.0 (whole c.0 c.1) c.1
             (failed_moments refusal.Fault (moments rest));
         leaves = λ either rest. (text, failed_moments refusal.Fault (moments rest));
       }
@@ -178,7 +178,7 @@ module _ {tells tells_images : Type 0} (again : Bool) (left : Option (List ℕ))
   pub done_answers : TextTested (Ok tt) (configuration text)
       → FormattedTested (Ok tt) again (KnownFormatted old.disk) (KnownUnformatted old.disk) (Unchanged old.disk new.disk)
       → ((c : Configuration) → configuration text ≡ Ok c → RoomTested (Ok tt) (room c old.disk.sizes) (Unchanged old.disk new.disk))
-      → (c : Configuration) × All (λ m. Settled m (IsEmptyMedium m c text) new.disk) (members old.disk.sizes)
+      → (c : Configuration) × All (λ m. Settled m (IsEmptyMedium m c text) new.disk) members
       → (Durable 0 old.disk → FormatsAtEachMoment {T = ⊤} {E = FormatRefused} old.disk new.disk (Ok tt) IsNew)
       → FormatEnds again left old new Done
   done_answers tested formatted fits made moments =
@@ -190,13 +190,13 @@ module _ {tells tells_images : Type 0} (again : Bool) (left : Option (List ℕ))
         untouched = inl refl;
         done = λ is. (
           formatted,
-          known left text (λ d bytes. (room d old.disk.sizes ≡ Ok tt) × All (λ m. Settled m (IsEmptyMedium m d bytes) new.disk) (members old.disk.sizes))
-              c.0 (whole c.0 c.1) c.1 (fits c.0 c.1, All-weaker (λ m. Settled m (IsEmptyMedium m made.0 text) new.disk) (λ m. Settled m (IsEmptyMedium m c.0 text) new.disk) (λ m. settled_as m made.0 c.0 c.1) (members old.disk.sizes) made.1),
+          known left text (λ d bytes. (room d old.disk.sizes ≡ Ok tt) × All (λ m. Settled m (IsEmptyMedium m d bytes) new.disk) members)
+              c.0 (whole c.0 c.1) c.1 (fits c.0 c.1, All-weaker (λ m. Settled m (IsEmptyMedium m made.0 text) new.disk) (λ m. Settled m (IsEmptyMedium m c.0 text) new.disk) (λ m. settled_as m made.0 c.0 c.1) members made.1),
         );
         own = tt;
         others = others;
         others_meanwhile = meanwhile;
-        moments = λ either rest. known left text (λ d bytes. FormatsAtEachMoment {T = ⊤} {E = Status} old.disk new.disk (Ok tt) (IsEmptyHistoryOf (members old.disk.sizes) bytes)) c.0 (whole c.0 c.1) c.1 (done_moments (moments rest));
+        moments = λ either rest. known left text (λ d bytes. FormatsAtEachMoment {T = ⊤} {E = Status} old.disk new.disk (Ok tt) (IsEmptyHistoryOf members bytes)) c.0 (whole c.0 c.1) c.1 (done_moments (moments rest));
         leaves = λ either rest. (text, done_moments (moments rest));
       }
 

@@ -6,7 +6,7 @@ use Rattle.vdr_durability.specs.Keeping.{ShowsPrefix}
 use Rattle.vdr_outside.specs.Disk.{Disk, Image}
 use Rattle.vdr_outside.proofs.Moments.{moments_none}
 use Rattle.vdr_config.specs.Configuration.{Configuration}
-use Rattle.vdr_opening.specs.Media.{both, Contents, HoldsContents, opening_of, reading_of}
+use Rattle.vdr_opening.specs.Media.{members, Contents, HoldsContents, opening_of, reading_of}
 use Rattle.vdr_vault.specs.Openings.{LeavesAll}
 use Rattle.vdr_vault.specs.Vaults.{ShowsHistory}
 use Rattle.vdr_life.specs.Lives.{Life, LivesOn}
@@ -29,7 +29,7 @@ use Rattle.vdr_command.specs.declared.status.Status.{Status}
 
 -- What plays the events back shows them.
 pub played_so : (x : Contents) (events : List Event) (image : Image) → PlaysBack (opening_of x) events image → ShowsHistory (opening_of x) events image
-played_so x events image p = (both, reading_of p.contents, record { reads = record { members_are = refl; contents = p.contents; holds = p.legible; is = refl }; sound = p.sound }, p.shown)
+played_so x events image p = (members, reading_of p.contents, record { reads = record { members_are = refl; contents = p.contents; holds = p.legible; is = refl }; sound = p.sound }, p.shown)
 
 module _ {tells tells_images : Type 0} (c : Configuration) (text : List ℕ) (all : List Event) (image : Image) where
   -- One run over what such media hold.

@@ -14,7 +14,7 @@ use Rattle.vdr_feed.specs.Feed.{feed_header, longest_feed}
 use Rattle.vdr_feed.specs.Reader.{IfKnown}
 use Rattle.vdr_feed.proofs.Unique.{begins as has_header}
 use Rattle.vdr_media.specs.Formatted.{IsFormatted, IsUnformatted}
-use Rattle.vdr_opening.specs.Media.{both, Contents, HoldsContents, opening_of}
+use Rattle.vdr_opening.specs.Media.{members, Contents, HoldsContents, opening_of}
 use Rattle.vdr_opening.specs.Refusals.{IsRefused}
 use Rattle.vdr_config.specs.Configuration.{Configuration}
 use Rattle.vdr_directory.specs.Sequence.{Placed, batches_in}
@@ -60,10 +60,10 @@ abbrev reading_at : List Placed → Reading
 reading_at placed = record { batches = λ m. batches_in placed; table = []; text = [] }
 
 next_is : (image : Image) → OneAnswer image → (x y : Contents) → HoldsContents image x → HoldsContents image y → (opening_of x).next_place ≡ (opening_of y).next_place
-next_is image law x y hx hy = ap (λ (ps : List Placed). next_after (last (records_on (restored both (reading_at ps)) 0))) (law.placed x y hx hy)
+next_is image law x y hx hy = ap (λ (ps : List Placed). next_after (last (records_on (restored members (reading_at ps)) 0))) (law.placed x y hx hy)
 
 base_is : (image : Image) → OneAnswer image → (x y : Contents) → HoldsContents image x → HoldsContents image y → base_after (opening_of x).last ≡ base_after (opening_of y).last
-base_is image law x y hx hy = ap (λ (ps : List Placed). base_after (stamp_of (last (records_on (restored both (reading_at ps)) 0)) None)) (law.placed x y hx hy)
+base_is image law x y hx hy = ap (λ (ps : List Placed). base_after (stamp_of (last (records_on (restored members (reading_at ps)) 0)) None)) (law.placed x y hx hy)
 
 may_too : (image : Image) → OneAnswer image → (x y : Contents) → HoldsContents image x → HoldsContents image y → MayBegin (opening_of x) → MayBegin (opening_of y)
 may_too image law x y hx hy may = record {

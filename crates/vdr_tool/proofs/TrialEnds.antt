@@ -12,7 +12,7 @@ use Rattle.vdr_config.specs.Configuration.{Configuration}
 use Rattle.vdr_config.specs.Grammar.{configuration}
 use Rattle.vdr_config.specs.Sizes.{window_of}
 use Rattle.vdr_media.specs.Answers.{room}
-use Rattle.vdr_opening.specs.Media.{both, Contents, HoldsContents, opening_of, reading_of}
+use Rattle.vdr_opening.specs.Media.{members, Contents, HoldsContents, opening_of, reading_of}
 use Rattle.vdr_vault.specs.Calls.{SameElsewhere}
 use Rattle.vdr_vault.specs.Regularity.{AreSound}
 use Rattle.vdr_vault.specs.Vaults.{ShowsHistory}
@@ -225,7 +225,7 @@ module _ {tells tells_images : Type 0} (seed count : ℕ) where
     holds_so told h = life_holds bench bench_text (closed_so told h).events late.disk.reads (life_so told h)
 
     abbrev pub Counts : Result Windows Status → Type 0
-    Counts result = (x : Contents) → tells → HoldsContents late.disk.reads x → EndsMeet both (reading_of x) → AreSound x → CountsWindows x late.disk new.disk result
+    Counts result = (x : Contents) → tells → HoldsContents late.disk.reads x → EndsMeet members (reading_of x) → AreSound x → CountsWindows x late.disk new.disk result
 
     left_closed : (result : Result Windows Status) (s : Status) (told : tells) (h : ReplayHeadline fresh rose mid.disk late.disk (trial_items seed count) Closed) → IsAfterRun s
         → (c : CountsWindows (holds_so told h).contents late.disk new.disk result) → (IsWorkDone s → ShowsHistory (opening_of (holds_so told h).contents) [] new.disk.reads)
@@ -275,7 +275,7 @@ module _ {tells tells_images : Type 0} (seed count : ℕ) where
         let c = if_ok _ result n is (counted_at result counts told h).counted in
         let config : l.contents.config ≡ bench = life_config bench bench_text (closed_so told h).events late.disk.reads l.contents (life_so told h) l.holds in
         let low : length (trial_records seed count) < 2 ^ 64 = omega (arith, fits, records) in
-        let on : (m : ℕ) → Contains both m → window (window_of l.contents.config m) ((opening_of l.contents).records m) ≡ window (window_of bench m) (trial_records seed count) =
+        let on : (m : ℕ) → Contains members m → window (window_of l.contents.config m) ((opening_of l.contents).records m) ≡ window (window_of bench m) (trial_records seed count) =
         (λ m there. ap (λ (d : Configuration). window (window_of d m) ((opening_of l.contents).records m)) config ∙ life_windows bench bench_text (closed_so told h).events late.disk.reads l.contents m (life_so told h) l.holds there
         ∙ ap (λ (rs : List Record). window (window_of bench m) rs) (closed_so told h).told.records) in
         record {

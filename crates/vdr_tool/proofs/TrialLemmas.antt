@@ -17,14 +17,14 @@ use Rattle.vdr_config.specs.Configuration.{Configuration}
 use Rattle.vdr_config.specs.Forms.{is_key}
 use Rattle.vdr_config.specs.Grammar.{agreement, channel_at, configuration, configuration_of, each_element, group_at, needed_key, only_keys, optional_key, selection_at, top_of}
 use Rattle.vdr_media.specs.Answers.{KnownUnformatted, TextTested, room}
-use Rattle.vdr_media.specs.Formatted.{IsEmptyHistory, IsEmptyHistoryOf, IsUnformatted, SameBeside, members}
+use Rattle.vdr_media.specs.Formatted.{IsEmptyHistory, IsEmptyHistoryOf, IsUnformatted, SameBeside}
 use Rattle.vdr_media.specs.Formatting.{FormatsAtEachMoment}
 use Rattle.vdr_media.specs.Medium.{IsEmptyMedium}
 use Rattle.vdr_media.specs.declared.refused.FormatRefused.{FormatRefused}
 use Rattle.vdr_media.specs.declared.refused.FormatRefused.TheVariants as refusal
 use Rattle.vdr_media.proofs.Two.{all_two}
-use Rattle.vdr_opening.specs.Media.{both, Contents, HoldsContents, opening_of}
-use Rattle.vdr_opening.proofs.Formatted.{empty_holds}
+use Rattle.vdr_opening.specs.Media.{members, Contents, HoldsContents, opening_of}
+use Rattle.vdr_opening.proofs.Fronts.{empty_holds}
 use Rattle.vdr_vault.specs.Calls.{SameElsewhere}
 use Rattle.vdr_vault.specs.Openings.{LeavesAll}
 use Rattle.vdr_vault.specs.Regularity.{AreSound}
@@ -65,13 +65,13 @@ pub rose_wider : (a b c d : ℕ) → a ≤ b → c ≤ d → Rose b c → Rose a
 rose_wider a b c d low high rose = omega (arith, low, high, rose)
 
 abbrev pub IsEmpty : Image → Type 0
-IsEmpty image = IsEmptyHistory both bench bench_text image
+IsEmpty image = IsEmptyHistory members bench bench_text image
 
 abbrev pub Lives : List Event → Image → Type 0
 Lives events image = Life bench bench_text events image
 
 empty_of : (image : Image) → IsEmptyHistoryOf (0 ∷ 1 ∷ []) bench_text image → IsEmpty image
-empty_of image (c, h) = subst (λ (d : Configuration). IsEmptyHistory both d bench_text image) (one_configuration (configuration bench_text) c bench (h.each 0 0 (omega arith)).holds.reads bench_reads) h
+empty_of image (c, h) = subst (λ (d : Configuration). IsEmptyHistory members d bench_text image) (one_configuration (configuration bench_text) c bench (h.each 0 0 (omega arith)).holds.reads bench_reads) h
 
 pub same_joined : (a b c : Image) → SameElsewhere a b → SameBut 1 b c → SameElsewhere a c
 same_joined a b c first then k zero_not one_not = then k one_not ∙ first k zero_not one_not
@@ -110,7 +110,7 @@ module _ {tells tells_images : Type 0} where
     formats : Durable 0 old.disk → AtEachMoment old.disk mid.disk (λ image. old.disk.now image ⊎ (IsUnformatted image ⊎ IsEmpty image))
     formats durable = by (ends.moments (inl refl) durable).2
       where
-        by : FormatsAtEachMoment {T = ⊤} {E = Status} old.disk mid.disk (Ok tt) (IsEmptyHistoryOf (members old.disk.sizes) bench_text)
+        by : FormatsAtEachMoment {T = ⊤} {E = Status} old.disk mid.disk (Ok tt) (IsEmptyHistoryOf members bench_text)
             → AtEachMoment old.disk mid.disk (λ image. old.disk.now image ⊎ (IsUnformatted image ⊎ IsEmpty image))
         by (inl early) = let none : ⊥ = cc in absurd none
         by (inr goes) = moments_weaken old.disk mid.disk (λ image. old.disk.now image ⊎ (IsUnformatted image ⊎ IsEmptyHistoryOf (0 ∷ 1 ∷ []) bench_text image))
@@ -230,7 +230,7 @@ module _ {tells tells_images : Type 0} where
   -- What is beside the two media
 
   pub elsewhere : (old mid : MediaSeen tells tells_images) (new : Image) → FormatEnds false (Some bench_text) old mid Done → tells → SameElsewhere mid.disk.reads new
-      → SameBeside (members old.disk.sizes) (λ image. image ≡ old.disk.reads) new
+      → SameBeside members (λ image. image ≡ old.disk.reads) new
   elsewhere old mid new ends told same =
       let f = ends.others told in
       record {

@@ -16,7 +16,7 @@ use Rattle.vdr_trial.specs.Generated.{generated_feed, items_from}
 use Rattle.vdr_media.specs.Formatted.{IsFormatted, IsUnformatted}
 use Rattle.vdr_opening.specs.Media.{HoldsContents, opening_of}
 use Rattle.vdr_opening.specs.Refusals.{IsRefused}
-use Rattle.vdr_opening.proofs.Formatted.{empty_meet}
+use Rattle.vdr_opening.proofs.Fronts.{empty_meet}
 use Rattle.vdr_replay.specs.Answers.{Answers, IsRecorded, TellsHeader}
 use Rattle.vdr_replay.specs.Feeding.{AreConfigured, HasRate, ReadsFeed}
 use Rattle.vdr_replay.specs.Headline.{ReplayHeadline}

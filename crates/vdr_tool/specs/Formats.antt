@@ -78,17 +78,17 @@ module _ {tells tells_images : Type 0} where
     pub fault : status ≡ MediaFault → MediaFailed old new
     pub untouched : (status ≡ Done) ⊎ ((status ≡ MediaFault) ⊎ Unchanged old.disk new.disk)
     -- a medium beside the capsule and the long-term medium stays as it was, at every moment
-    pub others : tells → SameBeside (members old.disk.sizes) (λ image. image ≡ old.disk.reads) new.disk.reads
-    pub others_meanwhile : AtEachMoment old.disk new.disk (SameBeside (members old.disk.sizes) old.disk.now)
+    pub others : tells → SameBeside members (λ image. image ≡ old.disk.reads) new.disk.reads
+    pub others_meanwhile : AtEachMoment old.disk new.disk (SameBeside members old.disk.now)
     -- a success leaves media of the input's configuration that hold nothing, and a stop leaves them so
     pub done : status ≡ Done → MayFormat again old.disk × IfConfiguration left (λ c bytes. (room c old.disk.sizes ≡ Ok tt)
-        × All (λ m. Settled m (IsEmptyMedium m c bytes) new.disk) (members old.disk.sizes))
+        × All (λ m. Settled m (IsEmptyMedium m c bytes) new.disk) members)
     -- at each moment, where nothing of medium 0 is unsynced at entry
     pub moments : (status ≡ Done) ⊎ (status ≡ MediaFault) → Durable 0 old.disk
-        → IfConfiguration left (λ c bytes. FormatsAtEachMoment old.disk new.disk (outcome_of status) (IsEmptyHistoryOf (members old.disk.sizes) bytes))
+        → IfConfiguration left (λ c bytes. FormatsAtEachMoment old.disk new.disk (outcome_of status) (IsEmptyHistoryOf members bytes))
     -- and whatever is known of the input, with some text
     pub leaves : (status ≡ Done) ⊎ (status ≡ MediaFault) → Durable 0 old.disk
-        → (text : List ℕ) × FormatsAtEachMoment old.disk new.disk (outcome_of status) (IsEmptyHistoryOf (members old.disk.sizes) text)
+        → (text : List ℕ) × FormatsAtEachMoment old.disk new.disk (outcome_of status) (IsEmptyHistoryOf members text)
 
   -- What `format` and `reformat` owe. They print nothing.
   pub record Formats (again : Bool) (old new : Outside tells tells_images) (status : Status) : Type 0 where

@@ -178,7 +178,7 @@ module _ {tells tells_images : Type 0} where
   abbrev pub TrialLeaves : (seed count : ℕ) → (old new : MediaSeen tells tells_images) → Status → Type 0
   TrialLeaves seed count old new status =
       (IsNotFormatted status × Unchanged old.disk new.disk)
-      ⊎ (((status ≡ MediaFault) × (Durable 0 old.disk → FormatsAtEachMoment {T = ⊤} {E = Status} old.disk new.disk (Err MediaFault) (IsEmptyHistoryOf (members old.disk.sizes) bench_text)))
+      ⊎ (((status ≡ MediaFault) × (Durable 0 old.disk → FormatsAtEachMoment {T = ⊤} {E = Status} old.disk new.disk (Err MediaFault) (IsEmptyHistoryOf members bench_text)))
       ⊎ (KnownUnformatted old.disk × (room bench old.disk.sizes ≡ Ok tt)
       × (tells → (end : RunEnd) × (items : List FeedItem) × ComesTo seed count end items status × LeavesRun (MediaFailed old new) old.disk new.disk items end status)))
 
@@ -191,7 +191,7 @@ module _ {tells tells_images : Type 0} where
     pub fault : status ≡ MediaFault → MediaFailed old new
     pub other_media : IsOfOtherMedia status → tells → ⊥
     -- a medium beside the capsule and the long-term medium reads as before
-    pub others : tells → SameBeside (members old.disk.sizes) (λ image. image ≡ old.disk.reads) new.disk.reads
+    pub others : tells → SameBeside members (λ image. image ≡ old.disk.reads) new.disk.reads
     pub left : TrialLeaves seed count old new status
 
 -- Media that are not formatted and large enough are tried, and others are refused by their own refusal, or there was no memory.

@@ -22,20 +22,13 @@ use Rattle.vdr_ring.proofs.Medium.{in_order_records}
 use Rattle.vdr_vault.specs.Vaults.{IsReadable, IsReadableAt, VaultState, ring_of}
 use Rattle.vdr_vault.specs.Walks.{CursorState, Slots, AreAhead, AreLeft, GivesNext, HasRead, IsBefore, slots_read}
 use Rattle.vdr_vault.specs.declared.cursor.Standing.{Standing}
-use Rattle.vdr_vault.specs.Plays.{AreToCome, ring_for, span_in}
-use Rattle.vdr_vault.proofs.Passing.{same_slots}
-use Rattle.vdr_vault.proofs.Playing.{BothRead}
-
-pub asked_two : (medium : Played) → medium_of (asked_medium medium) < 2
-asked_two Capsule = omega arith
-asked_two LongTerm = omega arith
-asked_two (PlayedIncident id) = omega arith
+use Rattle.vdr_vault.specs.Plays.{AreToCome, ReadsOn, ring_for, span_in}
+use Rattle.vdr_vault.proofs.Playing.{same_slots}
 
 -- the rings of a vault do not change what a query's medium comes to
-span_with : (vault : VaultState) (capsule long_term : RingState) (placed : ℕ → List Placed) (medium : Medium)
-    → span_in (record vault { capsule = capsule; long_term = long_term }) placed medium ≡ span_in vault placed medium
-span_with vault capsule long_term placed (WindowOf m) = refl
-span_with vault capsule long_term placed (Incident id) = refl
+span_with : (vault : VaultState) (rings : List RingState) (placed : ℕ → List Placed) (medium : Medium) → span_in (record vault { rings = rings }) placed medium ≡ span_in vault placed medium
+span_with vault rings placed (WindowOf m) = refl
+span_with vault rings placed (Incident id) = refl
 
 -- a cursor that stands in no segment has all records ahead
 all_ahead : (slots : Slots) (placed : List Placed) (c : CursorState) → c.standing ≡ None → AreAhead slots placed c (all_records placed)
@@ -46,20 +39,15 @@ all_ahead slots placed c stands = record {
 }
 
 module _ {tells tells_images : Type 0} where
-  span_same : (old new : VaultState) (before now : Disk tells tells_images) → BothRead old new before now → (placed : ℕ → List Placed) (medium : Medium)
-      → span_in new placed medium ≡ span_in old placed medium
-  span_same old new before now read placed medium =
-      ap (λ (s : VaultState). span_in s placed medium) read.same ∙ span_with old new.capsule new.long_term placed medium
-
   pub gives_to_come : (query : Query) (old new : VaultState) (before now : Disk tells tells_images) (placed : ℕ → List Placed) (span : Option Span) (c : CursorState) (records : List Record)
-      (result : Result Bool ReadRefused) → tells → BothRead old new before now → HasRead (ring_for old query) (ring_for new query) before now → span ≡ span_in old placed query.medium
+      (result : Result Bool ReadRefused) → tells → ReadsOn (medium_of query.medium) old new → HasRead (ring_for old query) (ring_for new query) before now → span ≡ span_in old placed query.medium
       → GivesNext records result c.visit.item (AreLeft (slots_read (ring_for old query) before) (placed (medium_of query.medium)) query span c)
       → GivesNext records result c.visit.item (AreToCome query new placed now c)
-  gives_to_come query old new before now placed span c records result told both read same gives =
+  gives_to_come query old new before now placed span c records result told vault read same gives =
       let slots = same_slots (ring_for old query) (ring_for new query) before now read told in
+      let span_same : span_in new placed query.medium ≡ span_in old placed query.medium = ap (λ (s : VaultState). span_in s placed query.medium) vault.vault ∙ span_with old new.rings placed query.medium in
       subst (λ (s : Slots). GivesNext records result c.visit.item (AreLeft s (placed (medium_of query.medium)) query (span_in new placed query.medium) c)) (sym slots)
-      (subst (λ (o : Option Span). GivesNext records result c.visit.item (AreLeft (slots_read (ring_for old query) before) (placed (medium_of query.medium)) query o c))
-      (same ∙ sym (span_same old new before now both placed query.medium)) gives)
+      (subst (λ (o : Option Span). GivesNext records result c.visit.item (AreLeft (slots_read (ring_for old query) before) (placed (medium_of query.medium)) query o c)) (same ∙ sym span_same) gives)
 
   -- where the query's medium comes to nothing
   pub none_to_come : (query : Query) (vault : VaultState) (disk : Disk tells tells_images) (placed : ℕ → List Placed) (c new : CursorState) (records : List Record)
@@ -96,8 +84,8 @@ module _ {tells tells_images : Type 0} where
     incident_same id = ap (λ (t : List (Option histories.Incident)). option_map (λ (x : histories.Incident). Places x.a x.b) (live t id)) (sym stands.incidents_are)
 
     span_is : (medium : Played) → span_of opening events (asked_medium medium) ≡ span_in vault placed (asked_medium medium)
-    span_is Capsule = window_same 0 vault.capsule (stands.media 0 0 (omega arith))
-    span_is LongTerm = window_same 1 vault.long_term (stands.media 1 0 (omega arith))
+    span_is Capsule = window_same 0 (ring_of vault 0) (stands.media 0 0 (omega arith))
+    span_is LongTerm = window_same 1 (ring_of vault 1) (stands.media 1 0 (omega arith))
     span_is (PlayedIncident id) = incident_same id
 
     -- all that is selected is to come of a new cursor

@@ -1,42 +1,120 @@
--- What an image shows while a batch goes to one medium after the other.
-use Rattle.std.proofs.Common.{◌≡◌, ◌⊎◌, inl, inr, ⊎_elim, ◌<◌, ◌≤◌, ℕ, zero, suc, true, List, Contains, [], ◌∷◌, ◌++◌, Option, Some, refl, sym, ap, ◌∙◌, subst, arith}
-use Rattle.std.proofs.lemmas.List.Elements.{All-nil, Contains-append_left}
-use Rattle.vdr_terms.specs.Records.{Record, last}
-use Rattle.vdr_history.specs.Histories.{Event, Incident, Opening, incidents, next_place}
-use Rattle.vdr_history.specs.Histories.Act.{Commit}
-use Rattle.vdr_history.specs.Taken.{Captured}
-use Rattle.vdr_retention.specs.Retention.{Pin, Retains, at_places, within}
-use Rattle.vdr_retention.proofs.Lists.{contains_filter, filter_test, filter_was}
+-- What each image shows while a batch goes to one medium after the other.
+use Rattle.std.proofs.Common.{◌≡◌, ◌⊎◌, inl, inr, ⊎_elim, ◌<◌, ℕ, List, [], ◌∷◌, length, if◌then◌else◌, ◌==◌, All, Option, sym, ◌∙◌, subst, true, refl, ◌≤◌, zero, suc, Contains, ◌++◌, Some, ap, arith}
 use Rattle.vdr_terms.specs.Needs.{Sizes}
-use Rattle.vdr_durability.specs.Readings.{IsPassedOn, ends_before, next_after}
+use Rattle.vdr_terms.specs.Order.{RunOn}
+use Rattle.vdr_terms.specs.Records.{Record, last}
+use Rattle.vdr_history.specs.Histories.{Event, Opening, next_place, Incident, incidents}
+use Rattle.vdr_retention.specs.Regular.{FollowOn}
+use Rattle.vdr_retention.specs.Retention.{Pin, Retains, at_places, within}
+use Rattle.vdr_durability.specs.Readings.{next_after, ends_before}
 use Rattle.vdr_durability.specs.Shown.{given_with, pins_of, pins_on}
 use Rattle.vdr_outside.specs.Disk.{Disk, Image, content}
+use Rattle.vdr_outside.specs.Moments.{Changed, ChangesOnly}
+use Rattle.vdr_outside.proofs.Moments.{size_read}
 use Rattle.vdr_config.specs.Configuration.{Configuration}
-use Rattle.vdr_media.proofs.Two.{all_two}
 use Rattle.vdr_slots.specs.Slots.{SameFront}
-use Rattle.vdr_directory.specs.Sequence.{Placed, all_records, batches_in}
+use Rattle.vdr_slots.proofs.Holding.{one_holding}
+use Rattle.vdr_segment.specs.Segments.{Segment}
+use Rattle.vdr_directory.specs.Sequence.{AreInSequence, Placed, all_records, batches_in}
+use Rattle.vdr_directory.specs.Order.{AreInOrder}
 use Rattle.vdr_directory.specs.Holds.{HoldsPlaced}
 use Rattle.vdr_ring.specs.Rings.{RingState}
-use Rattle.vdr_incident.specs.Tables.{HoldsTable}
-use Rattle.vdr_opening.specs.Media.{both, AreThere, Contents, HoldsContents, IsMedium, reading_of}
-use Rattle.vdr_opening.proofs.Meeting.{all_one}
+use Rattle.vdr_directory.proofs.Placing.{one_sequence}
+use Rattle.vdr_opening.specs.Media.{members, IsMedium, AreThere, Contents, HoldsContents, reading_of}
 use Rattle.vdr_vault.specs.Vaults.{HoldsHistory, ShowsHistory}
+use Rattle.vdr_vault.specs.Passes.{Lacks, Has, Passes}
+use Rattle.vdr_vault.proofs.CommitStages.{IsBefore, IsReady, StaysRegular, begun_before, begun_stays, closed_before, closed_stays, placed_stays, IsAfter, done_after}
+use Rattle.vdr_vault.proofs.ShownImages.{front_stays, table_stays, placed_there, RetainsGiven, shown_level, shown_passed}
+use Rattle.std.proofs.lemmas.List.Elements.{All-nil, Contains-append_left}
+use Rattle.vdr_history.specs.Histories.Act.{Commit}
+use Rattle.vdr_history.specs.Taken.{Captured}
+use Rattle.vdr_retention.proofs.Lists.{contains_filter, filter_test, filter_was}
+use Rattle.vdr_media.proofs.Two.{all_two}
+use Rattle.vdr_incident.specs.Tables.{HoldsTable}
+use Rattle.vdr_vault.proofs.Members.{all_one, of_each, passed_on}
 use Rattle.vdr_vault.proofs.CommitPins.{HoldPins}
 use Rattle.vdr_vault.proofs.CommitReady.{are_there, waits}
-use Rattle.vdr_vault.specs.Passes.{Has, Lacks, Passes}
-use Rattle.vdr_vault.proofs.CommitStages.{IsAfter, IsBefore, IsReady, StaysRegular, done_after}
-use Rattle.vdr_vault.proofs.CommitMoments.{HoldsBefore, MeetsEnds, before_of, legible_with, two}
-use Rattle.vdr_vault.proofs.ShownFronts.{table_stays}
 use Rattle.vdr_vault.proofs.Sounding.{IsSoundAlone, sound_level, sound_passed, unbroken_waiting}
 use Rattle.vdr_durability.proofs.Unbroken.{unbroken_follows, unbroken_held}
 use Rattle.vdr_durability.specs.Soundness.{IsUnbroken}
-use Rattle.vdr_directory.specs.Order.{AreInOrder}
 use Rattle.vdr_ring.proofs.Medium.{in_order_records}
 use Rattle.vdr_config.specs.Sizes.{sizes_of, window_of}
 use Rattle.vdr_retention.specs.Victims.{ArePinsOf}
-use Rattle.vdr_retention.specs.Regular.{FollowOn}
 use Rattle.vdr_retention.proofs.Following.{follow_in_order}
-use Rattle.vdr_vault.proofs.ShownImages.{RetainsGiven, shown_level, shown_passed}
+
+-- A medium holds one list of segments.
+pub one_placed : (segment count : ℕ) (bytes : List ℕ) (ps qs : List Placed) → HoldsPlaced segment count ps bytes → HoldsPlaced segment count qs bytes → ps ≡ qs
+one_placed segment count bytes ps qs h k =
+    let slots : h.slots ≡ k.slots = one_holding segment h.slots k.slots bytes h.holds k.holds (h.all_slots ∙ sym k.all_slots) in
+    one_sequence k.slots ps qs (subst (λ (xs : List (Option Segment)). AreInSequence xs ps) slots h.sequence) k.sequence
+
+-- A medium is legible without the batch.
+pub record HoldsBefore (sizes : Sizes) (m : ℕ) (ring : RingState) (pins : List Pin) (all records : List Record) (placed : List Placed) (bytes : List ℕ) : Type 0 where
+  pub now : List Placed
+  pub holds : HoldsPlaced ring.segment ring.slots now bytes
+  pub order : AreInOrder now
+  pub before : IsBefore ring.seconds pins all placed now
+  pub stays : StaysRegular sizes m pins records now
+
+-- So it is while it lacks the batch.
+pub before_of : (sizes : Sizes) (m : ℕ) (ring : RingState) (pins : List Pin) (all records : List Record) (placed : List Placed) (first : ℕ) → IsReady sizes m ring.segment ring.slots ring.seconds pins all records placed
+    → (was bytes : List ℕ) → Lacks true ring pins placed first records was bytes → HoldsBefore sizes m ring pins all records placed bytes
+before_of sizes m ring pins all records placed first ready was bytes l = ⊎_elim
+    (λ (e : l.now ≡ placed). held placed e (record { ends = refl; retains = ready.retains; pinned = ready.pinned })
+    (placed_stays sizes m ring.segment ring.slots ring.seconds pins all records placed ready))
+    (λ s. ⊎_elim
+    (λ (e : l.now ≡ s.0.closed). held s.0.closed e (closed_before sizes m ring.segment ring.slots ring.seconds pins all records placed first ready s.0 s.1)
+    (closed_stays sizes m ring.segment ring.slots ring.seconds pins all records placed first ready s.0 s.1))
+    (λ (e : l.now ≡ s.0.begun). held s.0.begun e (begun_before sizes m ring.segment ring.slots ring.seconds pins all records placed first ready s.0 s.1)
+    (begun_stays sizes m ring.segment ring.slots ring.seconds pins all records placed first ready s.0 s.1))
+    s.2)
+    l.stage
+  where
+    held : (ps : List Placed) → l.now ≡ ps → IsBefore ring.seconds pins all placed ps → StaysRegular sizes m pins records ps → HoldsBefore sizes m ring pins all records placed bytes
+    held ps e before stays = record {
+      now = l.now;
+      holds = l.holds;
+      order = l.order refl;
+      before = subst (IsBefore ring.seconds pins all placed) (sym e) before;
+      stays = subst (StaysRegular sizes m pins records) (sym e) stays;
+    }
+
+-- The segments of two media.
+abbrev pub two : List Placed → List Placed → ℕ → List Placed
+two capsule long_term m = if m == 0 then capsule else long_term
+
+-- The numbers that a batch from the next place on meets.
+pub record MeetsEnds (opening : Opening) (events : List Event) (placed : ℕ → List Placed) (records : List Record) : Type 0 where
+  pub run : RunOn (next_place opening events) records
+  pub some : 0 < length records
+  pub level : last (batches_in (placed 1)) ≡ last (batches_in (placed 0))
+  pub next_capsule : next_after (last (all_records (placed 0))) ≡ next_place opening events
+  pub next_long : next_after (last (all_records (placed 1))) ≡ next_place opening events
+  pub follow : All (λ m. FollowOn (last (given_with opening events m)) records) members
+
+module _ {tells tells_images : Type 0} where
+  pub changes_both : (m : ℕ) (P Q : List ℕ → Type 0) (old new : Disk tells tells_images) → ChangesOnly m P old new → ChangesOnly m Q old new → ChangesOnly m (λ bytes. P bytes × Q bytes) old new
+  changes_both m P Q old new first second = record {
+    later = first.later;
+    each = λ i left. joined i (first.each i left) (second.each i left);
+    before = λ t i le left. ⊎_elim (λ since. inl since) (λ p. ⊎_elim (λ since. inl since) (λ q. inr (joined i p q)) (second.before t i le left)) (first.before t i le left);
+  }
+    where
+      joined : (i : Image) → Changed m P old.now i → Changed m Q old.now i → Changed m (λ bytes. P bytes × Q bytes) old.now i
+      joined i p q = record { image = p.image; was = p.was; others = p.others; has = (p.has, q.has) }
+
+  module _ (opening : Opening) (events : List Event) (c : Configuration) (m : ℕ) (ring : RingState) (placed : List Placed) (disk : Disk tells tells_images) (h : HoldsHistory opening events c m ring placed disk) where
+    -- A medium is legible with these segments, where nothing before its slots was touched.
+    pub legible_with : (told : tells) (now : List Placed) (bytes : List ℕ) → SameFront (content disk.reads m) bytes → HoldsPlaced ring.segment ring.slots now bytes → AreInOrder now → IsMedium m c opening.settings.text now bytes
+    legible_with told now bytes same holds order = record {
+      front = front_stays (content disk.reads m) bytes same m c opening.settings.text (h.front told);
+      segments = record {
+        holds = placed_there c disk.sizes m ring now bytes h.is_its (same.size ∙ size_read disk m told) holds;
+        order = order;
+      };
+    }
+
+-- What an image shows while a batch goes to one medium after the other.
 
 -- What the media hold with these segments.
 abbrev contents : Opening → Configuration → List (Option Incident) → List Placed → List Placed → Contents
@@ -56,36 +134,6 @@ ShowsOneOf opening events e i = ShowsHistory opening events i ⊎ ShowsHistory o
 module _ (opening : Opening) (events : List Event) (c : Configuration) (table : List (Option Incident)) (is_table : table ≡ incidents opening events) (few : c.incident_slots ≤ 32)
     (e : Event) (records : List Record) (taken : List Captured) (is : e.act ≡ Commit records taken) (placed : ℕ → List Placed) (meets : MeetsEnds opening events placed records)
     (windows : (m : ℕ) → opening.settings.seconds m ≡ window_of c m) (roomy : (m : ℕ) → 0 < opening.settings.seconds m) where
-  -- no place is skipped with the batch
-  unbroken_with : {tells tells_images : Type 0} (m : ℕ) (ring : RingState) (disk : Disk tells tells_images) → HoldsHistory opening events c m ring (placed m) disk → FollowOn (last (given_with opening events m)) records
-      → IsUnbroken (opening.settings.seconds m) (given_with opening events m ++ records)
-  unbroken_with m ring disk h follow = unbroken_follows (opening.settings.seconds m) (given_with opening events m) records (roomy m) h.order follow h.unbroken
-
-  -- a medium that lacks it is sound by itself with it
-  lacking_sound : {tells tells_images : Type 0} (m : ℕ) (ring : RingState) (disk : Disk tells tells_images) → HoldsHistory opening events c m ring (placed m) disk → FollowOn (last (given_with opening events m)) records
-      → (now : List Placed) → AreInOrder now → StaysRegular (sizes_of c) m (pins_on m (incidents opening events)) records now
-      → Retains (opening.settings.seconds m) (pins_on m (incidents opening events)) (given_with opening events m) (all_records now) → IsSoundAlone c m now table (all_records now ++ records)
-  lacking_sound m ring disk h follow now order stays retains = record {
-    regular = stays.regular;
-    pins = subst (λ (t : List (Option Incident)). ArePinsOf (sizes_of c) m (all_records now ++ records) (pins_on m t)) (sym is_table) stays.pins_with;
-    unbroken = subst (λ (n : ℕ). IsUnbroken n (all_records now ++ records)) (windows m)
-        (unbroken_waiting (opening.settings.seconds m) (given_with opening events m) (all_records now) records h.order (in_order_records now order) follow stays.paced.order (pins_on m (incidents opening events)) retains
-        (unbroken_with m ring disk h follow));
-  }
-
-  -- and one that has it
-  having_sound : {tells tells_images : Type 0} (m : ℕ) (ring : RingState) (disk : Disk tells tells_images) → HoldsHistory opening events c m ring (placed m) disk → FollowOn (last (given_with opening events m)) records
-      → (now : List Placed) → AreInOrder now → IsAfter (sizes_of c) m ring.seconds (pins_on m (incidents opening events)) (given_with opening events m) records (placed m) now
-      → ring.seconds ≡ opening.settings.seconds m → IsSoundAlone c m now table (all_records now)
-  having_sound m ring disk h follow now order after window = record {
-    regular = after.regular;
-    pins = subst (λ (t : List (Option Incident)). ArePinsOf (sizes_of c) m (all_records now) (pins_on m t)) (sym is_table) after.pins_are;
-    unbroken = subst (λ (n : ℕ). IsUnbroken n (all_records now)) (windows m)
-        (unbroken_held (opening.settings.seconds m) (given_with opening events m ++ records) (all_records now) (follow_in_order (given_with opening events m) records h.order follow) (in_order_records now order)
-        (subst (λ (n : ℕ). Retains n (pins_on m (incidents opening events)) (given_with opening events m ++ records) (all_records now)) window after.retains).window
-        (unbroken_with m ring disk h follow));
-  }
-
   -- One medium after the other is given it.
   module _ {tells tells_images : Type 0} (ring : ℕ → RingState) (old : Disk tells tells_images) (history : (k : ℕ) → k < 2 → HoldsHistory opening events c k (ring k) (placed k) old)
       (window : (k : ℕ) → k < 2 → (ring k).seconds ≡ opening.settings.seconds k)
@@ -112,24 +160,50 @@ module _ (opening : Opening) (events : List Event) (c : Configuration) (table : 
     }
 
     module _ (k : ℕ) (lt : k < 2) where
+      follow : FollowOn (last (given_with opening events k)) records
+      follow = of_each (λ m. FollowOn (last (given_with opening events m)) records) meets.follow k lt
+
       before : (bytes : List ℕ) → LacksIt k bytes → Before k bytes
       before bytes l = before_of (sizes_of c) k (ring k) (pins_on k (incidents opening events)) (given_with opening events k) records (placed k) first (ready k lt) (content old.reads k) bytes l
 
-      after : (bytes : List ℕ) (h : HasIt k bytes) → IsAfter (sizes_of c) k (ring k).seconds (pins_on k (incidents opening events)) (given_with opening events k) records (placed k) h.stages.done
-      after bytes h = done_after (sizes_of c) k (ring k).segment (ring k).slots (ring k).seconds (pins_on k (incidents opening events)) (given_with opening events k) records (placed k) first (ready k lt) h.stages h.are
+      after : (bytes : List ℕ) (h : HasIt k bytes) → IsAfter (sizes_of c) k (ring k).seconds (pins_on k (incidents opening events)) (given_with opening events k) records (placed k) h.now
+      after bytes h = done_after (sizes_of c) k (ring k).segment (ring k).slots (ring k).seconds (pins_on k (incidents opening events)) (given_with opening events k) records (placed k) first (ready k lt) h.stages h.are h.now h.stage
 
       before_retains : (now : List Placed) → IsBefore (ring k).seconds (pins_on k (incidents opening events)) (given_with opening events k) (placed k) now → RetainsGiven opening events (given_with opening events) (λ _. now) k
       before_retains now b = subst (λ (n : ℕ). Retains n (pins_on k (incidents opening events)) (given_with opening events k) (all_records now)) (window k lt) b.retains
 
-      after_retains : (bytes : List ℕ) (h : HasIt k bytes) → RetainsGiven opening events (λ m. given_with opening events m ++ records) (λ _. h.stages.done) k
-      after_retains bytes h = subst (λ (n : ℕ). Retains n (pins_on k (incidents opening events)) (given_with opening events k ++ records) (all_records h.stages.done)) (window k lt) (after bytes h).retains
+      after_retains : (bytes : List ℕ) (h : HasIt k bytes) → RetainsGiven opening events (λ m. given_with opening events m ++ records) (λ _. h.now) k
+      after_retains bytes h = subst (λ (n : ℕ). Retains n (pins_on k (incidents opening events)) (given_with opening events k ++ records) (all_records h.now)) (window k lt) (after bytes h).retains
 
+      -- No place is skipped, with the batch either.
+      unbroken_with : IsUnbroken (opening.settings.seconds k) (given_with opening events k ++ records)
+      unbroken_with = unbroken_follows (opening.settings.seconds k) (given_with opening events k) records (roomy k) (history k lt).order follow (history k lt).unbroken
+
+      -- It is sound by itself: lacking the batch as it is and with it, and having it.
       before_sound : (bytes : List ℕ) (b : Before k bytes) → IsSoundAlone c k b.now table (all_records b.now)
       before_sound bytes b = record {
         regular = b.stays.regular;
         pins = subst (λ (t : List (Option Incident)). ArePinsOf (sizes_of c) k (all_records b.now) (pins_on k t)) (sym is_table) (fewer_pins (sizes_of c) k (all_records b.now) records (pins_on k (incidents opening events)) b.stays.pins_with);
         unbroken = subst (λ (n : ℕ). IsUnbroken n (all_records b.now)) (windows k)
             (unbroken_held (opening.settings.seconds k) (given_with opening events k) (all_records b.now) (history k lt).order (in_order_records b.now b.order) (before_retains b.now b.before).window (history k lt).unbroken);
+      }
+
+      lacking_sound : (bytes : List ℕ) (b : Before k bytes) → IsSoundAlone c k b.now table (all_records b.now ++ records)
+      lacking_sound bytes b = record {
+        regular = b.stays.regular;
+        pins = subst (λ (t : List (Option Incident)). ArePinsOf (sizes_of c) k (all_records b.now ++ records) (pins_on k t)) (sym is_table) b.stays.pins_with;
+        unbroken = subst (λ (n : ℕ). IsUnbroken n (all_records b.now ++ records)) (windows k)
+            (unbroken_waiting (opening.settings.seconds k) (given_with opening events k) (all_records b.now) records (history k lt).order (in_order_records b.now b.order) follow b.stays.paced.order (pins_on k (incidents opening events))
+            (before_retains b.now b.before) unbroken_with);
+      }
+
+      having_sound : (bytes : List ℕ) (h : HasIt k bytes) → IsSoundAlone c k h.now table (all_records h.now)
+      having_sound bytes h = record {
+        regular = (after bytes h).regular;
+        pins = subst (λ (t : List (Option Incident)). ArePinsOf (sizes_of c) k (all_records h.now) (pins_on k t)) (sym is_table) (after bytes h).pins_are;
+        unbroken = subst (λ (n : ℕ). IsUnbroken n (all_records h.now)) (windows k)
+            (unbroken_held (opening.settings.seconds k) (given_with opening events k ++ records) (all_records h.now) (follow_in_order (given_with opening events k) records (history k lt).order follow)
+            (in_order_records h.now (h.order refl)) (after_retains bytes h).window unbroken_with);
       }
 
       waits_for : (bytes : List ℕ) (b : Before k bytes) → next_after (last (all_records (placed k))) ≡ next_place opening events → ends_before (Some records) (batches_in b.now) ≡ true
@@ -154,36 +228,31 @@ module _ (opening : Opening) (events : List Event) (c : Configuration) (table : 
     first_has i h l =
         let done = after 0 (omega arith) (content i 0) h in
         let y = before 1 (omega arith) (content i 1) l in
-        let x = contents opening c table h.stages.done y.now in
-        let passed : IsPassedOn both (0 ∷ []) (1 ∷ []) records (reading_of x) = record {
-          split = refl;
-          some = omega arith;
-          given_end = all_one (λ m. last ((reading_of x).batches m) ≡ Some records) 0 done.ends;
-          waiting_end = all_one (λ m. ends_before (Some records) ((reading_of x).batches m) ≡ true) 1 (waits_for 1 (omega arith) (content i 1) y meets.next_long);
-        } in
+        let x = contents opening c table h.now y.now in
+        let passed = passed_on records (reading_of x) done.ends (waits_for 1 (omega arith) (content i 1) y meets.next_long) in
         let retained = before_retains 1 (omega arith) y.now y.before in
         shown_passed opening events x i
-        (holds_contents i h.stages.done y.now h.holds (h.order refl) h.front y.holds y.order l.front y.before.pinned)
+        (holds_contents i h.now y.now h.holds (h.order refl) h.front y.holds y.order l.front y.before.pinned)
         (sound_passed x records passed y.stays.paced
-        (having_sound 0 (ring 0) old (history 0 (omega arith)) (meets.follow 0 0 (omega arith)) h.stages.done (h.order refl) done (window 0 (omega arith)))
-        (lacking_sound 1 (ring 1) old (history 1 (omega arith)) (meets.follow 1 1 (omega arith)) y.now y.order y.stays retained))
+        (having_sound 0 (omega arith) (content i 0) h)
+        (lacking_sound 1 (omega arith) (content i 1) y))
         refl is_table e records taken (0 ∷ []) (1 ∷ []) is passed meets.follow
-        (all_one (RetainsGiven opening events (λ m. given_with opening events m ++ records) (two h.stages.done y.now)) 0 (after_retains 0 (omega arith) (content i 0) h))
-        (all_one (RetainsGiven opening events (given_with opening events) (two h.stages.done y.now)) 1 retained)
+        (all_one (RetainsGiven opening events (λ m. given_with opening events m ++ records) (two h.now y.now)) 0 (after_retains 0 (omega arith) (content i 0) h))
+        (all_one (RetainsGiven opening events (given_with opening events) (two h.now y.now)) 1 retained)
 
     -- All have it.
     all_have : (i : Image) → HasIt 0 (content i 0) → HasIt 1 (content i 1) → ShowsHistory opening (events ++ e ∷ []) i
     all_have i h h' =
         let done = after 0 (omega arith) (content i 0) h in
         let done' = after 1 (omega arith) (content i 1) h' in
-        let x = contents opening c table h.stages.done h'.stages.done in
+        let x = contents opening c table h.now h'.now in
         shown_passed opening events x i
-        (holds_contents i h.stages.done h'.stages.done h.holds (h.order refl) h.front h'.holds (h'.order refl) h'.front done'.pinned)
-        (sound_level x (all_two (λ m. last ((reading_of x).batches m) ≡ last (batches_in h.stages.done)) refl (done'.ends ∙ sym done.ends))
+        (holds_contents i h.now h'.now h.holds (h.order refl) h.front h'.holds (h'.order refl) h'.front done'.pinned)
+        (sound_level x (all_two (λ m. last ((reading_of x).batches m) ≡ last (batches_in h.now)) refl (done'.ends ∙ sym done.ends))
         (all_two (λ m. AreInOrder (x.placed m)) (h.order refl) (h'.order refl))
-        (having_sound 0 (ring 0) old (history 0 (omega arith)) (meets.follow 0 0 (omega arith)) h.stages.done (h.order refl) done (window 0 (omega arith)))
-        (having_sound 1 (ring 1) old (history 1 (omega arith)) (meets.follow 1 1 (omega arith)) h'.stages.done (h'.order refl) done' (window 1 (omega arith))))
-        refl is_table e records taken both [] is
+        (having_sound 0 (omega arith) (content i 0) h)
+        (having_sound 1 (omega arith) (content i 1) h'))
+        refl is_table e records taken members [] is
         (record {
           split = refl;
           some = omega arith;
@@ -191,9 +260,9 @@ module _ (opening : Opening) (events : List Event) (c : Configuration) (table : 
           waiting_end = All-nil (λ m. ends_before (Some records) ((reading_of x).batches m) ≡ true);
         })
         meets.follow
-        (all_two (RetainsGiven opening events (λ m. given_with opening events m ++ records) (two h.stages.done h'.stages.done))
+        (all_two (RetainsGiven opening events (λ m. given_with opening events m ++ records) (two h.now h'.now))
         (after_retains 0 (omega arith) (content i 0) h) (after_retains 1 (omega arith) (content i 1) h'))
-        (All-nil (RetainsGiven opening events (given_with opening events) (two h.stages.done h'.stages.done)))
+        (All-nil (RetainsGiven opening events (given_with opening events) (two h.now h'.now)))
 
     -- At each moment the events are shown, or these with the commit.
     pub passing_shows : (i : Image) → Passes LacksIt HasIt 0 2 old.now i → ShowsOneOf opening events e i

@@ -80,21 +80,22 @@ pins_stay seconds pins held before v after may_go order h pin there place low hi
 pub pins_begun : (pins : List Pin) (placed more : List Placed) → HoldPins pins placed → HoldPins pins (placed ++ more)
 pins_begun pins placed more h pin there place low high = any_left (HasPlace place) placed more (h pin there place low high)
 
-more_places : (place : ℕ) (p : Placed) (records : List Record) → HasPlace place p → HasPlace place (with_batch_in p records)
+pub more_places : (place : ℕ) (p : Placed) (records : List Record) → HasPlace place p → HasPlace place (with_batch_in p records)
 more_places place p records h = record {
   from = h.from;
   below = omega (arith, h.below, ap length (records_with_batch p records), length-append (records_of p) records);
 }
 
-pub pins_with_batch : (pins : List Pin) (older : List Placed) (newest : Placed) (records : List Record) → HoldPins pins (older ++ newest ∷ []) → HoldPins pins (older ++ with_batch_in newest records ∷ [])
-pins_with_batch pins older newest records h pin there place low high =
+-- One that has all places of another stands for it.
+pub pins_with : (pins : List Pin) (before : List Placed) (p q : Placed) (after : List Placed) → ((place : ℕ) → HasPlace place p → HasPlace place q) → HoldPins pins (before ++ p ∷ after) → HoldPins pins (before ++ q ∷ after)
+pins_with pins before p q after has_all h pin there place low high =
     ⊎_elim
-    (λ (k : Any (HasPlace place) older). any_left (HasPlace place) older (with_batch_in newest records ∷ []) k)
-    (λ (k : Any (HasPlace place) (newest ∷ [])). ⊎_elim
-    (λ (has : HasPlace place newest). any_right (HasPlace place) older (with_batch_in newest records ∷ []) (any_one (HasPlace place) (with_batch_in newest records) (more_places place newest records has)))
-    (λ (l : Any (HasPlace place) []). absurd (any_none (HasPlace place) l))
-    (any_cases (HasPlace place) newest [] k))
-    (any_append_cases (HasPlace place) older (newest ∷ []) (h pin there place low high))
+    (λ (k : Any (HasPlace place) before). any_left (HasPlace place) before (q ∷ after) k)
+    (λ (k : Any (HasPlace place) (p ∷ after)). any_right (HasPlace place) before (q ∷ after) (⊎_elim
+    (λ (has : HasPlace place p). any_left (HasPlace place) (q ∷ []) after (any_one (HasPlace place) q (has_all place has)))
+    (λ (l : Any (HasPlace place) after). any_right (HasPlace place) (q ∷ []) after l)
+    (any_cases (HasPlace place) p after k)))
+    (any_append_cases (HasPlace place) before (p ∷ after) (h pin there place low high))
 
 -- A place that stands in the segments is that of a record.
 pub place_recorded : (place : ℕ) (placed : List Placed) → AreInOrder placed → Any (HasPlace place) placed → (r : Record) × Contains (all_records placed) r × (r.place ≡ place)

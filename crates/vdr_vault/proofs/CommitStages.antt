@@ -1,5 +1,5 @@
 -- What one medium has at each stage of an append that its configuration allows.
-use Rattle.std.proofs.Common.{◌≡◌, ◌≢◌, ◌⊎◌, inl, inr, ⊎_elim, ℕ, ◌<◌, ◌≤◌, List, [], ◌∷◌, ◌++◌, length, flat_map, true, Contains, Some, refl, sym, ap, ◌∙◌, subst, arith, append_assoc, append-nil}
+use Rattle.std.proofs.Common.{◌≡◌, ◌≢◌, ⊎_elim, ℕ, ◌<◌, ◌≤◌, List, [], ◌∷◌, ◌++◌, length, flat_map, true, Contains, Some, refl, sym, ap, ◌∙◌, subst, arith, append_assoc, append-nil}
 use Rattle.std.proofs.lemmas.Bool.{and_parts, leb-true}
 use Rattle.std.proofs.lemmas.List.Elements.{Contains-append_cases, Contains-append_left, Contains-append_right}
 use Rattle.std.proofs.lemmas.Grind.{flat_map-append}
@@ -22,12 +22,14 @@ use Rattle.vdr_pace.specs.Media.{IsAppended}
 use Rattle.vdr_directory.specs.Sequence.{Placed, all_records, batches_in, batches_of, records_of, segments_in}
 use Rattle.vdr_directory.specs.Order.{AreInOrder, HasNone, MayPrecede}
 use Rattle.vdr_directory.specs.Growing.{new_segment, next_seq, with_batch_in}
+use Rattle.vdr_directory.specs.Leaving.{summarized}
 use Rattle.vdr_ring.specs.Stages.{AreStages, Stages}
 use Rattle.vdr_ring.specs.Regularity.{AreRegular, IsAllowed}
 use Rattle.vdr_ring.proofs.Medium.{in_order_records}
 use Rattle.vdr_directory.proofs.Ordering.{has_records}
-use Rattle.vdr_ring.proofs.Retaining.{begun_retains, closed_retains, done_retains, stages_regular, victim_is_oldest}
-use Rattle.vdr_vault.proofs.CommitPins.{HoldPins, pins_begun, pins_stay, pins_with_batch, place_recorded, victim_in_place}
+use Rattle.vdr_ring.proofs.Retaining.{begun_retains, closed_retains, done_retains, left_retains, same_batches, stages_regular, victim_is_oldest}
+use Rattle.vdr_vault.proofs.CommitPins.{HoldPins, more_places, pins_begun, pins_stay, pins_with, place_recorded, victim_in_place}
+use Rattle.vdr_vault.specs.Passes.{HaveBatch}
 use Rattle.vdr_vault.proofs.ShownImages.{records_are}
 
 -- Segments and their batches
@@ -55,12 +57,6 @@ pushed older newest records =
     ∙ sym (append_assoc (batches_in older) (batches_of newest) (records ∷ []))
     ∙ ap (λ (bs : Batches). (batches_in older ++ bs) ++ records ∷ []) (sym (append-nil (batches_of newest)))
     ∙ ap (λ (bs : Batches). bs ++ records ∷ []) (sym (batches_append older (newest ∷ [])))
-
--- What is left once a segment has made room: all of it, or all but one that may go and isn't the newest.
-abbrev pub LeavesSegments : (seconds : ℕ) (pins : List Pin) (placed closed : List Placed) → Type 0
-LeavesSegments seconds pins placed closed =
-    (closed ≡ placed)
-    ⊎ ((before : List Placed) × (v : Placed) × (after : List Placed) × (placed ≡ before ++ v ∷ after) × (closed ≡ before ++ after) × MayGo seconds pins (all_records placed) (batches_of v) × (after ≢ []))
 
 -- The last batch stays: the victim doesn't have it.
 last_stays_behind : (seconds : ℕ) (pins : List Pin) (before : List Placed) (v : Placed) (after : List Placed) → 0 < seconds → AreInOrder (before ++ v ∷ after)
@@ -104,6 +100,10 @@ pub record StaysRegular (sizes : Sizes) (m : ℕ) (pins : List Pin) (records : L
   pub regular : AreRegular (cost sizes) (usable sizes) sizes.batch now
   pub paced : IsPaced (cost sizes) sizes.batch (segments_in now) records
   pub pins_with : ArePinsOf sizes m (all_records now ++ records) pins
+
+-- What is said of both stages with the batch is said of the segments that have it.
+pub at_both : (stages : Stages) (now : List Placed) → HaveBatch stages now → (P : List Placed → Type 0) → P stages.done → P stages.left → P now
+at_both stages now have P done left = ⊎_elim (λ (e : now ≡ stages.done). subst P (sym e) done) (λ (e : now ≡ stages.left). subst P (sym e) left) have
 
 -- Once it is.
 pub record IsAfter (sizes : Sizes) (m seconds : ℕ) (pins : List Pin) (all records : List Record) (placed now : List Placed) : Type 0 where
@@ -163,62 +163,57 @@ module _ (sizes : Sizes) (m size count seconds : ℕ) (pins : List Pin) (all rec
 
 module _ (sizes : Sizes) (m size count seconds : ℕ) (pins : List Pin) (all records : List Record) (placed : List Placed) (first : ℕ) (ready : IsReady sizes m size count seconds pins all records placed) (stages : Stages)
     (are : AreStages size count seconds pins placed first records stages) where
-  leaves : LeavesSegments seconds pins placed stages.closed
-  leaves = go are
-    where
-      go : AreStages size count seconds pins placed first records stages → LeavesSegments seconds pins placed stages.closed
-      go (inl g) = inl g.closed
-      go (inr b) = ⊎_elim (λ k. inl k.1)
-          (λ k. let o = victim_is_oldest sizes m size count seconds pins placed records k.1 k.2 k.3 ready.allowed k.0 k.4 in inr (k.1, k.2, k.3, o.0.split, k.6, o.0.may_go, o.1))
-          b.place
+  -- Nothing goes, or a victim that isn't the newest: what holds of both holds of what is left.
+  closed_from : (P : List Placed → List Placed → Type 0) → P placed placed
+      → ((before : List Placed) (v : Placed) (after : List Placed) → AreInOrder (before ++ v ∷ after) → MayGo seconds pins (all_records (before ++ v ∷ after)) (batches_of v) → after ≢ [] → P (before ++ v ∷ after) (before ++ after))
+      → P placed stages.closed
+  closed_from P same gone = ⊎_elim
+      (λ g. subst (P placed) (sym g.closed) same)
+      (λ b. ⊎_elim
+      (λ k. subst (P placed) (sym k.1) same)
+      (λ k.
+      let o = victim_is_oldest sizes m size count seconds pins placed records k.1 k.2 k.3 ready.allowed k.0 k.4 in
+      subst (λ (p : List Placed × List Placed). P p.0 p.1) (λ i. (sym o.0.split i, sym k.6 i))
+      (gone k.1 k.2 k.3 (subst AreInOrder o.0.split ready.order) (subst (λ (ps : List Placed). MayGo seconds pins (all_records ps) (batches_of k.2)) o.0.split o.0.may_go) o.1))
+      b.place)
+      are.0
+
+  -- A segment is begun behind them, or none.
+  begun_from : (P : List Placed → Type 0) → P stages.closed → ((slot seq : ℕ) → P (stages.closed ++ new_segment slot seq first ∷ [])) → P stages.begun
+  begun_from P same begun = ⊎_elim (λ g. subst P (sym (g.begun ∙ sym g.closed)) same) (λ b. subst P (sym b.begun) (begun b.slot (next_seq (last placed)))) are.0
+
+  -- The batch goes into the newest.
+  done_from : (P : List Placed → List Placed → Type 0) → ((older : List Placed) (newest : Placed) → P (older ++ newest ∷ []) (older ++ with_batch_in newest records ∷ [])) → P stages.begun stages.done
+  done_from P more = ⊎_elim
+      (λ g. subst (λ (p : List Placed × List Placed). P p.0 p.1) (λ i. (sym (g.begun ∙ g.split) i, sym g.done i)) (more g.older g.newest))
+      (λ b. subst (λ (p : List Placed × List Placed). P p.0 p.1) (λ i. (sym b.begun i, sym b.done i)) (more stages.closed (new_segment b.slot (next_seq (last placed)) first)))
+      are.0
 
   begun_batches : batches_in stages.begun ≡ batches_in stages.closed
-  begun_batches = go are
-    where
-      go : AreStages size count seconds pins placed first records stages → batches_in stages.begun ≡ batches_in stages.closed
-      go (inl g) = ap batches_in (g.begun ∙ sym g.closed)
-      go (inr b) = ap batches_in b.begun ∙ batches_append stages.closed (new_segment b.slot (next_seq (last placed)) first ∷ []) ∙ append-nil (batches_in stages.closed)
+  begun_batches = begun_from (λ ps. batches_in ps ≡ batches_in stages.closed) refl (λ slot seq. batches_append stages.closed (new_segment slot seq first ∷ []) ∙ append-nil (batches_in stages.closed))
 
   done_batches : batches_in stages.done ≡ batches_in stages.closed ++ records ∷ []
-  done_batches = go are
-    where
-      go : AreStages size count seconds pins placed first records stages → batches_in stages.done ≡ batches_in stages.closed ++ records ∷ []
-      go (inl g) = ap batches_in g.done ∙ pushed g.older g.newest records ∙ ap (λ (ps : List Placed). batches_in ps ++ records ∷ []) (sym (g.closed ∙ g.split))
-      go (inr b) = ap batches_in b.done ∙ pushed stages.closed (new_segment b.slot (next_seq (last placed)) first) records
-          ∙ ap (λ (bs : Batches). bs ++ records ∷ []) (batches_append stages.closed (new_segment b.slot (next_seq (last placed)) first ∷ []) ∙ append-nil (batches_in stages.closed))
+  done_batches = done_from (λ begun done. batches_in done ≡ batches_in begun ++ records ∷ []) (λ older newest. pushed older newest records) ∙ ap (λ (bs : Batches). bs ++ records ∷ []) begun_batches
 
   closed_ends : last (batches_in stages.closed) ≡ last (batches_in placed)
-  closed_ends = ⊎_elim
-      (λ (e : stages.closed ≡ placed). ap (λ (ps : List Placed). last (batches_in ps)) e)
-      (λ k. subst (λ (p : List Placed × List Placed). last (batches_in p.0) ≡ last (batches_in p.1)) (λ i. (sym k.4 i, sym k.3 i))
-      (last_stays_behind seconds pins k.0 k.1 k.2 ready.allowed.some (subst AreInOrder k.3 ready.order)
-      (subst (λ (ps : List Placed). MayGo seconds pins (all_records ps) (batches_of k.1)) k.3 k.5) k.6))
-      leaves
+  closed_ends = closed_from (λ was now. last (batches_in now) ≡ last (batches_in was)) refl (λ before v after order may_go some. last_stays_behind seconds pins before v after ready.allowed.some order may_go some)
 
   closed_pins : HoldPins pins stages.closed
-  closed_pins = ⊎_elim
-      (λ (e : stages.closed ≡ placed). subst (HoldPins pins) (sym e) ready.pinned)
-      (λ k. subst (HoldPins pins) (sym k.4) (pins_stay seconds pins (all_records placed) k.0 k.1 k.2 k.5 (subst AreInOrder k.3 ready.order) (subst (HoldPins pins) k.3 ready.pinned)))
-      leaves
+  closed_pins = closed_from (λ was now. HoldPins pins was → HoldPins pins now) (λ h. h) (λ before v after order may_go some. pins_stay seconds pins _ before v after may_go order) ready.pinned
 
   begun_pins : HoldPins pins stages.begun
-  begun_pins = go are
-    where
-      go : AreStages size count seconds pins placed first records stages → HoldPins pins stages.begun
-      go (inl g) = subst (HoldPins pins) (sym g.begun) ready.pinned
-      go (inr b) = subst (HoldPins pins) (sym b.begun) (pins_begun pins stages.closed (new_segment b.slot (next_seq (last placed)) first ∷ []) closed_pins)
+  begun_pins = begun_from (HoldPins pins) closed_pins (λ slot seq. pins_begun pins stages.closed (new_segment slot seq first ∷ []) closed_pins)
 
   done_pins : HoldPins pins stages.done
-  done_pins = go are
-    where
-      go : AreStages size count seconds pins placed first records stages → HoldPins pins stages.done
-      go (inl g) = subst (HoldPins pins) (sym g.done) (pins_with_batch pins g.older g.newest records (subst (HoldPins pins) g.split ready.pinned))
-      go (inr b) = subst (HoldPins pins) (sym b.done)
-          (pins_with_batch pins stages.closed (new_segment b.slot (next_seq (last placed)) first) records
-          (pins_begun pins stages.closed (new_segment b.slot (next_seq (last placed)) first ∷ []) closed_pins))
+  done_pins = done_from (λ begun done. HoldPins pins begun → HoldPins pins done) (λ older newest. pins_with pins older newest (with_batch_in newest records) [] (λ place. more_places place newest records)) begun_pins
 
-  pub placed_before : IsBefore seconds pins all placed placed
-  placed_before = record { ends = refl; retains = ready.retains; pinned = ready.pinned }
+  left_pins : HoldPins pins stages.left
+  left_pins = ⊎_elim
+      (λ none. subst (HoldPins pins) (sym none.1) done_pins)
+      (λ l. subst (HoldPins pins) (sym l.left)
+      (pins_with pins l.behind.older l.behind.left (summarized l.behind.left l.summary) (with_batch_in l.behind.newest records ∷ []) (λ place h. record { from = h.from; below = h.below })
+      (subst (HoldPins pins) l.done done_pins)))
+      are.1
 
   pub closed_before : IsBefore seconds pins all placed stages.closed
   closed_before = record {
@@ -236,63 +231,30 @@ module _ (sizes : Sizes) (m size count seconds : ℕ) (pins : List Pin) (all rec
 
   -- Of the records that are left, and of the new ones
 
-  done_records : all_records stages.done ≡ all_records stages.closed ++ records
-  done_records = sym (records_are stages.done) ∙ ap segment_records done_batches ∙ all_with (batches_in stages.closed) records ∙ ap (λ (rs : List Record). rs ++ records) (records_are stages.closed)
-
   was_there : (r : Record) → Contains (all_records stages.closed) r → Contains (all_records placed) r
-  was_there r h = ⊎_elim
-      (λ (e : stages.closed ≡ placed). subst (λ (ps : List Placed). Contains (all_records ps) r) e h)
-      (λ k. subst (λ (ps : List Placed). Contains (all_records ps) r) (sym k.3)
-      (subst (λ (rs : List Record). Contains rs r) (sym (records_append k.0 (k.1 ∷ k.2)))
+  was_there r = closed_from (λ was now. Contains (all_records now) r → Contains (all_records was) r) (λ h. h) (λ before v after order may_go some h.
+      subst (λ (rs : List Record). Contains rs r) (sym (records_append before (v ∷ after)))
       (⊎_elim
-      (λ (l : Contains (all_records k.0) r). Contains-append_left (all_records k.0) (records_of k.1 ++ all_records k.2) r l)
-      (λ (l : Contains (all_records k.2) r). Contains-append_right (all_records k.0) (records_of k.1 ++ all_records k.2) r (Contains-append_right (records_of k.1) (all_records k.2) r l))
-      (Contains-append_cases (all_records k.0) (all_records k.2) r (subst (λ (rs : List Record). Contains rs r) (records_append k.0 k.2) (subst (λ (ps : List Placed). Contains (all_records ps) r) k.4 h))))))
-      leaves
-
-  -- no new record has a pinned place
-  none_pinned : (pin : Pin) → Contains pins pin → (r : Record) → Contains records r → within pin.a pin.b r ≡ true → ⊥
-  none_pinned pin there r new inside =
-      let parts = and_parts _ _ inside in
-      let low : pin.a ≤ r.place = leb-true pin.a r.place parts.0 in
-      let high : r.place ≤ pin.b = leb-true r.place pin.b parts.1 in
-      let at = place_recorded pin.b placed ready.order (ready.pinned pin there pin.b (omega (arith, low, high)) (omega arith)) in
-      let later = ((parts_in_order (all_records placed) records (follow_in_order (all_records placed) records (in_order_records placed ready.order) ready.allowed.paced.order)).2 at.0 r at.1 new).0 in
-      let place = at.2 in
-      omega (arith, later, place, high)
-
-  pinned_was_there : (pin : Pin) → Contains pins pin → (r : Record) → Contains (at_places pin.a pin.b (all_records stages.done)) r → Contains (at_places pin.a pin.b (all_records placed)) r
-  pinned_was_there pin there r h =
-      let inside = filter_test (within pin.a pin.b) (all_records stages.done) r h in
-      ⊎_elim
-      (λ (k : Contains (all_records stages.closed) r). contains_filter (within pin.a pin.b) (all_records placed) r (was_there r k) inside)
-      (λ (k : Contains records r). absurd (none_pinned pin there r k inside))
-      (Contains-append_cases (all_records stages.closed) records r (subst (λ (rs : List Record). Contains rs r) done_records (filter_was (within pin.a pin.b) (all_records stages.done) r h)))
+      (λ (l : Contains (all_records before) r). Contains-append_left (all_records before) (records_of v ++ all_records after) r l)
+      (λ (l : Contains (all_records after) r). Contains-append_right (all_records before) (records_of v ++ all_records after) r (Contains-append_right (records_of v) (all_records after) r l))
+      (Contains-append_cases (all_records before) (all_records after) r (subst (λ (rs : List Record). Contains rs r) (records_append before after) h))))
 
   some_kept : Sublist (batches_in stages.closed) (batches_in placed)
-  some_kept = ⊎_elim
-      (λ (e : stages.closed ≡ placed). subst (λ (ps : List Placed). Sublist (batches_in stages.closed) (batches_in ps)) e (Sublist.refl (batches_in stages.closed)))
-      (λ k. subst (λ (p : Batches × Batches). Sublist p.0 p.1) (λ i. (sym (ap batches_in k.4 ∙ batches_append k.0 k.2) i, sym (ap batches_in k.3 ∙ batches_append k.0 (k.1 ∷ k.2)) i))
-      (Sublist.append (Sublist.refl (batches_in k.0)) (sublist-append_right (batches_of k.1) (batches_in k.2))))
-      leaves
+  some_kept = closed_from (λ was now. Sublist (batches_in now) (batches_in was)) (Sublist.refl (batches_in placed)) (λ before v after order may_go some.
+      subst (λ (p : Batches × Batches). Sublist p.0 p.1) (λ i. (sym (batches_append before after) i, sym (batches_append before (v ∷ after)) i))
+      (Sublist.append (Sublist.refl (batches_in before)) (sublist-append_right (batches_of v) (batches_in after))))
 
   closed_paced : IsPaced (cost sizes) sizes.batch (segments_in stages.closed) records
-  closed_paced = ⊎_elim
-      (λ (e : stages.closed ≡ placed). subst (λ (ps : List Placed). IsPaced (cost sizes) sizes.batch (segments_in ps) records) (sym e) ready.allowed.paced)
-      (λ k. subst (λ (ss : List Batches). IsPaced (cost sizes) sizes.batch ss records) (sym (ap segments_in k.4 ∙ segments_append k.0 k.2))
-      (remove_stays_paced (cost sizes) sizes.batch seconds pins (segments_in k.0) (batches_of k.1) (segments_in k.2) records ready.allowed.some
-      (subst (λ (ss : List Batches). MayGo seconds pins (records_in ss) (batches_of k.1)) (ap segments_in k.3 ∙ segments_append k.0 (k.1 ∷ k.2)) k.5)
-      (subst (λ (ss : List Batches). IsPaced (cost sizes) sizes.batch ss records) (ap segments_in k.3 ∙ segments_append k.0 (k.1 ∷ k.2)) ready.allowed.paced)))
-      leaves
+  closed_paced = closed_from (λ was now. IsPaced (cost sizes) sizes.batch (segments_in was) records → IsPaced (cost sizes) sizes.batch (segments_in now) records) (λ h. h) (λ before v after order may_go some h.
+      subst (λ (ss : List Batches). IsPaced (cost sizes) sizes.batch ss records) (sym (segments_append before after))
+      (remove_stays_paced (cost sizes) sizes.batch seconds pins (segments_in before) (batches_of v) (segments_in after) records ready.allowed.some
+      (subst (λ (ss : List Batches). MayGo seconds pins (records_in ss) (batches_of v)) (segments_append before (v ∷ after)) may_go)
+      (subst (λ (ss : List Batches). IsPaced (cost sizes) sizes.batch ss records) (segments_append before (v ∷ after)) h))) ready.allowed.paced
 
   begun_paced : IsPaced (cost sizes) sizes.batch (segments_in stages.begun) records
-  begun_paced = go are
-    where
-      go : AreStages size count seconds pins placed first records stages → IsPaced (cost sizes) sizes.batch (segments_in stages.begun) records
-      go (inl g) = subst (λ (ps : List Placed). IsPaced (cost sizes) sizes.batch (segments_in ps) records) (sym g.begun) ready.allowed.paced
-      go (inr b) = subst (λ (ss : List Batches). IsPaced (cost sizes) sizes.batch ss records)
-          (sym (ap segments_in b.begun ∙ segments_append stages.closed (new_segment b.slot (next_seq (last placed)) first ∷ [])))
-          (begin_stays_paced (cost sizes) sizes.batch (segments_in stages.closed) records closed_paced)
+  begun_paced = begun_from (λ ps. IsPaced (cost sizes) sizes.batch (segments_in ps) records) closed_paced (λ slot seq.
+      subst (λ (ss : List Batches). IsPaced (cost sizes) sizes.batch ss records) (sym (segments_append stages.closed (new_segment slot seq first ∷ [])))
+      (begin_stays_paced (cost sizes) sizes.batch (segments_in stages.closed) records closed_paced))
 
   pub closed_stays : StaysRegular sizes m pins records stages.closed
   closed_stays = stays sizes m size count seconds pins all records placed ready stages.closed was_there
@@ -303,20 +265,28 @@ module _ (sizes : Sizes) (m size count seconds : ℕ) (pins : List Pin) (all rec
       (λ r h. was_there r (subst (λ (rs : List Record). Contains rs r) (sym (records_are stages.begun) ∙ ap segment_records begun_batches ∙ records_are stages.closed) h))
       (stages_regular sizes m size count seconds pins placed first records stages ready.allowed are).1 begun_paced
 
-  pub done_after : IsAfter sizes m seconds pins all records placed stages.done
-  done_after = record {
-    ends = ap last done_batches ∙ last_behind (batches_in stages.closed) records [];
-    retains = done_retains sizes m size count seconds pins placed first all records stages ready.allowed are ready.retains;
-    pinned = done_pins;
-    regular = (stages_regular sizes m size count seconds pins placed first records stages ready.allowed are).2;
-    pins_are = record {
-      few = ready.allowed.saves.few;
-      short = λ pin there r s k l. ready.allowed.saves.short pin there r s (pinned_was_there pin there r k) (pinned_was_there pin there s l);
-    };
-    appended = record {
-      kept = batches_in stages.closed;
-      some = subst (Sublist (batches_in stages.closed)) (sym (segments_batches placed)) some_kept;
-      order = segments_batches stages.done ∙ done_batches;
-    };
-    ends_all = ap last done_records ∙ last_of_both (all_records stages.closed) records ready.allowed.paced.some;
-  }
+  -- The batch is there.
+  module _ (now : List Placed) (have : HaveBatch stages now) where
+    now_batches : batches_in now ≡ batches_in stages.closed ++ records ∷ []
+    now_batches = at_both stages now have (λ ps. batches_in ps ≡ batches_in stages.closed ++ records ∷ []) done_batches (same_batches records stages are.1 ∙ done_batches)
+
+    now_records : all_records now ≡ all_records stages.closed ++ records
+    now_records = sym (records_are now) ∙ ap segment_records now_batches ∙ all_with (batches_in stages.closed) records ∙ ap (λ (rs : List Record). rs ++ records) (records_are stages.closed)
+
+    pub done_after : IsAfter sizes m seconds pins all records placed now
+    done_after =
+        let regular = stages_regular sizes m size count seconds pins placed first records stages ready.allowed are in
+        record {
+          ends = ap last now_batches ∙ last_behind (batches_in stages.closed) records [];
+          retains = at_both stages now have (λ ps. Retains seconds pins (all ++ records) (all_records ps)) (done_retains sizes m size count seconds pins placed first all records stages ready.allowed are ready.retains)
+              (left_retains sizes m size count seconds pins placed first all records stages ready.allowed are ready.retains);
+          pinned = at_both stages now have (HoldPins pins) done_pins left_pins;
+          regular = at_both stages now have (AreRegular (cost sizes) (usable sizes) sizes.batch) regular.2 regular.3;
+          pins_are = subst (λ (rs : List Record). ArePinsOf sizes m rs pins) (sym now_records) closed_stays.pins_with;
+          appended = record {
+            kept = batches_in stages.closed;
+            some = subst (Sublist (batches_in stages.closed)) (sym (segments_batches placed)) some_kept;
+            order = segments_batches now ∙ now_batches;
+          };
+          ends_all = ap last now_records ∙ last_of_both (all_records stages.closed) records ready.allowed.paced.some;
+        }

@@ -1,11 +1,19 @@
--- What holds at every moment of an opening, call by call.
-use Rattle.std.proofs.Common.{◌≡◌, ◌⊎◌, inl, inr, ℕ, List, [], None, option_map, false, All, Contains, sym, ap, ◌∙◌, subst, arith, append-nil}
+-- Causes of faults over the calls of an opening.
+use Rattle.std.proofs.Common.{◌≡◌, ℕ, List, [], ◌∷◌, get_or, Result, Ok, Err, refl, subst, ◌≢◌, ◌<◌, ◌⊎◌, inl, inr, None, option_map, false, All, Contains, sym, ap, ◌∙◌, arith, append-nil}
+use Rattle.std.specs.Prelude.{Any, IsErrOf}
+use Rattle.vdr_outside.specs.Causes.{HasCauseOn, NoneFalls, Rose}
+use Rattle.vdr_outside.proofs.Counts.{none_falls_join, none_fell, on_err, rose_after, sum_rose}
+use Rattle.vdr_opening.specs.declared.refused.OpenRefused.{OpenRefused}
+use Rattle.vdr_opening.specs.declared.refused.OpenRefused.TheVariants.{Fault as a_fault}
+use Rattle.vdr_opening.specs.Media.{members, Contents, HoldsContents, opening_of, reading_of}
+use Rattle.vdr_opening.specs.Answers.{HasOpenCause, IsOpened, OpenedState}
+use Rattle.vdr_vault.specs.Openings.{HasCauseOnBoth, EndsWithin, GoesOnBehind, GoesOnSynced, LeavesAll, OpensMeanwhile, opened_with}
+use Rattle.std.proofs.lemmas.List.Elements.{All-weaker}
 use Rattle.vdr_terms.specs.Order.{AreInOrder as RecordsAreInOrder}
 use Rattle.vdr_terms.specs.Records.{Record, last}
 use Rattle.vdr_history.specs.Histories.{incidents}
-use Rattle.vdr_retention.specs.Layout.{segment_records}
 use Rattle.vdr_retention.specs.Retention.{Retains}
-use Rattle.vdr_durability.specs.Readings.{AreLevel, EndsMeet, next_after, records_on, restored}
+use Rattle.vdr_durability.specs.Readings.{AreLevel, next_after, records_on}
 use Rattle.vdr_durability.specs.Shown.{given_with, pins_on}
 use Rattle.vdr_durability.proofs.Restored.{level_restored}
 use Rattle.vdr_durability.proofs.Shows.{retains_itself}
@@ -13,26 +21,72 @@ use Rattle.vdr_config.specs.Configuration.{Configuration}
 use Rattle.vdr_media.proofs.Two.{all_two}
 use Rattle.vdr_outside.specs.Disk.{Disk, Durable, Image, SameBut, Unchanged}
 use Rattle.vdr_outside.specs.Moments.{AtEachMoment}
-use Rattle.vdr_outside.proofs.Moments.{moments_and_reads, moments_join, moments_none, moments_weaken}
+use Rattle.vdr_outside.proofs.Moments.{moments_after_reads, moments_and_reads, moments_join, moments_none, moments_weaken}
 use Rattle.vdr_media.specs.Formatted.{IsFormatted, IsUnformatted}
-use Rattle.vdr_directory.specs.Sequence.{Placed, all_records, batches_in}
+use Rattle.vdr_directory.specs.Sequence.{Placed, all_records}
 use Rattle.vdr_ring.proofs.Medium.{in_order_records}
 use Rattle.vdr_directory.specs.Holds.{HoldsPlaced, Tells}
-use Rattle.vdr_ring.specs.Rings.{RingState}
 use Rattle.vdr_ring.specs.Rings as rings
 use Rattle.vdr_opening.specs.Settings.{settings_of}
-use Rattle.vdr_opening.specs.Media.{both, Contents, HoldsContents, opening_of, reading_of}
-use Rattle.vdr_opening.specs.Answers.{IsOpened, OpenedState}
 use Rattle.vdr_vault.specs.Regularity.{AreSound}
 use Rattle.vdr_vault.specs.Vaults.{IsReadable, IsReadableAt, VaultState, ShowsHistory, ring_of, tick_utc}
 use Rattle.vdr_vault.proofs.ShownImages.{has_capsule, has_long_term, records_are}
-use Rattle.vdr_vault.specs.Openings.{EndsWithin, GoesOnBehind, GoesOnSynced, LeavesAll, opened_with}
-use Rattle.vdr_vault.proofs.ReconcileWithin.{held_within}
-use Rattle.vdr_vault.proofs.OpenContents.{held_durable, level_lacks_none, opened_on, restored_shown}
+use Rattle.vdr_vault.proofs.ReconcileBatch.{held_within}
+use Rattle.vdr_vault.proofs.OpenContents.{held_durable, opened_on, restored_shown}
+
+-- A call on one of the media, after calls that did not lower a count.
+pub cause_of_call : {T E : Type 0} (m : ℕ) (a b c : List ℕ) (r : Result T E) → ((P : ℕ → Type 0) → P m → Any P members) → NoneFalls a b → HasCauseOn m b c r → HasCauseOnBoth a c r
+cause_of_call m a b c (Ok x) one_of earlier h = record { later = none_falls_join a b c earlier h.later; by_medium = tt; in_all = tt }
+cause_of_call m a b c (Err e) one_of earlier h =
+    let later : NoneFalls a c = none_falls_join a b c earlier h.later in
+    let rose : Rose (get_or a m 0) (get_or c m 0) = rose_after (get_or a m 0) (get_or b m 0) (get_or c m 0) (earlier.none_falls m) h.failed in
+    record { later = later; by_medium = one_of (λ k. Rose (get_or a k 0) (get_or c k 0)) rose; in_all = sum_rose a c m later.same_media later.none_falls rose }
+
+-- An error that is made of the error of such calls.
+pub cause_of_error : {T E U F : Type 0} (a c : List ℕ) (e : E) (r : Result T E) (s : Result U F) → HasCauseOnBoth a c r → r ≡ Err e → HasCauseOnBoth a c s
+cause_of_error a c e r s h is =
+    let k = subst (HasCauseOnBoth a c) is h in
+    record { later = k.later; by_medium = on_err s k.by_medium; in_all = on_err s k.in_all }
+
+-- The fault that opening answers then.
+pub fault_of_error : {T E U : Type 0} (a b c : List ℕ) (e : E) (r : Result T E) (s : Result U OpenRefused) → NoneFalls a b → HasCauseOnBoth b c r → r ≡ Err e → HasOpenCause a c s
+fault_of_error a b c e r s earlier h is =
+    let k = subst (HasCauseOnBoth b c) is h in
+    let later : NoneFalls a c = none_falls_join a b c earlier k.later in
+    let rose : Any (λ m. Rose (get_or a m 0) (get_or c m 0)) members =
+    (k.by_medium.0, k.by_medium.1, k.by_medium.2, k.by_medium.3, rose_after (get_or a k.by_medium.1 0) (get_or b k.by_medium.1 0) (get_or c k.by_medium.1 0) (earlier.none_falls k.by_medium.1) k.by_medium.4) in
+    record { later = later; by_medium = λ _. rose; in_all = λ _. sum_rose a c rose.1 later.same_media later.none_falls rose.4 }
+
+-- The cause of the last call, after calls that did not lower a count.
+pub cause_after : {U : Type 0} (a b c : List ℕ) (s : Result U OpenRefused) → NoneFalls a b → HasOpenCause b c s → HasOpenCause a c s
+cause_after a b c s earlier k =
+    let later : NoneFalls a c = none_falls_join a b c earlier k.later in
+    record {
+      later = later;
+      by_medium = λ is. rose is;
+      in_all = λ is. let r = rose is in sum_rose a c r.1 later.same_media later.none_falls r.4;
+    }
+  where
+    rose : IsErrOf s a_fault → Any (λ m. Rose (get_or a m 0) (get_or c m 0)) members
+    rose is = let m = k.by_medium is in (m.0, m.1, m.2, m.3, rose_after (get_or a m.1 0) (get_or b m.1 0) (get_or c m.1 0) (earlier.none_falls m.1) m.4)
+
+pub no_fault : {U : Type 0} (a c : List ℕ) (x : U) → NoneFalls a c → HasOpenCause a c (Ok x)
+no_fault a c x later = record {
+  later = later;
+  by_medium = λ is. let none : ⊥ = cc in absurd none;
+  in_all = λ is. let none : ⊥ = cc in absurd none;
+}
+
+-- One of the calls did not succeed.
+pub fault_unless_ok : {T E U : Type 0} (m : ℕ) (a b c : List ℕ) (r : Result T E) (s : Result U OpenRefused) → ((P : ℕ → Type 0) → P m → Any P members) → ((x : T) → r ≡ Ok x → ⊥) → NoneFalls a b → HasCauseOn m b c r → HasOpenCause a c s
+fault_unless_ok m a b c (Ok x) s one_of not_ok earlier h = absurd (not_ok x refl)
+fault_unless_ok m a b c (Err e) s one_of not_ok earlier h = fault_of_error a b c e (Err e) s earlier (cause_of_call m b b c (Err e) one_of (none_fell b) h) refl
+
+-- What holds at every moment of an opening, call by call.
 
 -- A vault that is made of what was opened, wherever it goes on.
 abbrev pub vault_of : OpenedState → VaultState
-vault_of o = record { config = o.config; capsule = o.capsule; long_term = o.long_term; table = o.table; next_place = 0; last = None; failed = false }
+vault_of o = record { config = o.config; rings = o.rings; table = o.table; next_place = 0; last = None; failed = false }
 
 -- Media are formatted or not.
 pub never_both : (image : Image) → IsFormatted image → IsUnformatted image → ⊥
@@ -45,16 +99,26 @@ same_beside a b c same h = subst (λ (i : Image). SameBut 1 i c) same h
 module _ {tells tells_images : Type 0} where
   -- What was read of durable media, on the contents that they hold.
   pub read_on : (o : OpenedState) (missing : List Record) (x y : Contents) (old new : Disk tells tells_images) → tells → Unchanged old new → missing ≡ o.missing → HoldsContents old.reads x → IsOpened o y new
-      → IsOpened (opened_with (vault_of o) missing) x new
+      → IsOpened (opened_with (vault_of o) missing o.lacking) x new
   read_on o missing x y old new told same is h was =
-      subst (λ (rs : List Record). IsOpened (opened_with (vault_of o) rs) x new) (sym is) (opened_on o x y new (subst (λ (i : Image). HoldsContents i x) (sym (same.reads told)) h) was)
+      subst (λ (rs : List Record). IsOpened (opened_with (vault_of o) rs o.lacking) x new) (sym is) (opened_on o x y new (subst (λ (i : Image). HoldsContents i x) (sym (same.reads told)) h) was)
 
   -- Calls that only read durable media.
-  pub reading_shown : (x : Contents) (old new : Disk tells tells_images) → Unchanged old new → All (λ m. Durable m old) both → HoldsContents old.reads x → EndsMeet both (reading_of x) → AreSound x → AtEachMoment old new (ShowsHistory (opening_of x) [])
-  reading_shown x old new same durable h meet sound = moments_and_reads old old new _ (moments_none old _ (λ i now. restored_shown x i (held_durable x old durable h i now) meet sound)) same
+  pub reading_meanwhile : (x : Contents) (old new : Disk tells tells_images) → Unchanged old new → All (λ m. Durable m old) members → HoldsContents old.reads x → OpensMeanwhile x old new
+  reading_meanwhile x old new same durable h = record {
+    level = λ level. same;
+    within = λ meet. moments_and_reads old old new _ (moments_none old _ (λ i now. held_within x i meet (held_durable x old durable h i now))) same;
+    moments = λ meet sound. moments_and_reads old old new _ (moments_none old _ (λ i now. restored_shown x i (held_durable x old durable h i now) meet sound)) same;
+  }
 
-  pub reading_within : (x : Contents) (old new : Disk tells tells_images) → Unchanged old new → All (λ m. Durable m old) both → HoldsContents old.reads x → EndsMeet both (reading_of x) → AtEachMoment old new (EndsWithin x)
-  reading_within x old new same durable h meet = moments_and_reads old old new _ (moments_none old _ (λ i now. held_within x i meet (held_durable x old durable h i now))) same
+  -- And then the batch that is missing is appended, if any.
+  pub opening_meanwhile : {A : Type 0} (disk : A → Disk tells tells_images) (x : Contents) (old : Disk tells tells_images) (mid new : A) → Unchanged old (disk mid) → (AreLevel members (reading_of x) → new ≡ mid)
+      → AtEachMoment (disk mid) (disk new) (EndsWithin x) → (AreSound x → AtEachMoment (disk mid) (disk new) (ShowsHistory (opening_of x) [])) → OpensMeanwhile x old (disk new)
+  opening_meanwhile disk x old mid new same still within shown = record {
+    level = λ level. subst (λ a. Unchanged old (disk a)) (sym (still level)) same;
+    within = λ meet. moments_after_reads old (disk mid) (disk new) _ same within;
+    moments = λ meet sound. moments_after_reads old (disk mid) (disk new) _ same (shown sound);
+  }
 
   -- Before the syncs a stop leaves what it might have left, and after them whole batches.
   pub within_synced : (x : Contents) (old mid new : Disk tells tells_images) → LeavesAll old mid → AtEachMoment mid new (EndsWithin x) → AtEachMoment old new (λ i. old.now i ⊎ EndsWithin x i)
@@ -70,39 +134,24 @@ module _ {tells tells_images : Type 0} where
     since = second.each;
   }
 
-  -- A call that leaves the media alone, after calls that only read.
-  pub unchanged_still : {A : Type 0} (disk : A → Disk tells tells_images) (old : Disk tells tells_images) (mid new : A) → Unchanged old (disk mid) → new ≡ mid → Unchanged old (disk new)
-  unchanged_still disk old mid new same still = subst (λ a. Unchanged old (disk a)) (sym still) same
-
-  -- Where the ends are level the read lacks nothing.
-  pub level_missing : (o : OpenedState) (missing : List Record) (x y : Contents) (old new : Disk tells tells_images) → tells → Unchanged old new → missing ≡ o.missing → HoldsContents old.reads x → IsOpened o y new
-      → AreLevel both (reading_of x) → missing ≡ []
-  level_missing o missing x y old new told same is h was level =
-      let on = read_on o missing x y old new told same is h was in
-      level_lacks_none missing x on.missing level on.long_term.order
-
   -- Legible media whose ends are level can be read as they were opened.
-  pub opened_to_read : (x : Contents) (vault : VaultState) (missing : List Record) (disk : Disk tells tells_images) → IsOpened (opened_with vault missing) x disk → AreLevel both (reading_of x)
+  pub opened_to_read : (x : Contents) (vault : VaultState) (missing : List Record) (lacking : ℕ) (disk : Disk tells tells_images) → IsOpened (opened_with vault missing lacking) x disk → AreLevel members (reading_of x)
       → vault.failed ≡ false → IsReadable (opening_of x) [] vault x.placed disk
-  opened_to_read x vault missing disk o level works = record {
+  opened_to_read x vault missing lacking disk o level works = record {
     settings = ap (λ (c : Configuration). settings_of c x.text) (sym o.config);
     working = works;
-    media = all_two (λ m. IsReadableAt (opening_of x) [] m (ring_of vault m) (x.placed m) disk) (is_there 0 vault.capsule has_capsule o.capsule) (is_there 1 vault.long_term has_long_term o.long_term);
+    media = all_two (λ m. IsReadableAt (opening_of x) [] m (ring_of vault m) (x.placed m) disk) (is_there 0 has_capsule (o.rings 0 0 (omega arith))) (is_there 1 has_long_term (o.rings 1 1 (omega arith)));
     incidents_are = o.table;
   }
     where
-      order : (m : ℕ) (ring : RingState) → rings.Reads ring (x.placed m) disk → RecordsAreInOrder (segment_records (batches_in (x.placed m)))
-      order m ring reads = subst RecordsAreInOrder (sym (records_are (x.placed m))) (in_order_records (x.placed m) reads.order)
-
-      restored_at : (m : ℕ) → Contains both m → records_on (restored both (reading_of x)) m ≡ all_records (x.placed m)
-      restored_at m there = level_restored both (reading_of x) level (all_two (λ m. RecordsAreInOrder (records_on (reading_of x) m)) (order 0 vault.capsule o.capsule) (order 1 vault.long_term o.long_term)) m there
+      given_is : (m : ℕ) → Contains members m → given_with (opening_of x) [] m ≡ all_records (x.placed m)
+      given_is m there = append-nil ((opening_of x).records m) ∙ level_restored members (reading_of x) level
+          (All-weaker (λ m. rings.Reads (ring_of vault m) (x.placed m) disk) (λ m. RecordsAreInOrder (records_on (reading_of x) m))
+          (λ m reads. subst RecordsAreInOrder (sym (records_are (x.placed m))) (in_order_records (x.placed m) reads.order)) members o.rings) m there
           ∙ records_are (x.placed m)
 
-      given_is : (m : ℕ) → Contains both m → given_with (opening_of x) [] m ≡ all_records (x.placed m)
-      given_is m there = append-nil ((opening_of x).records m) ∙ restored_at m there
-
-      is_there : (m : ℕ) (ring : RingState) → Contains both m → rings.Reads ring (x.placed m) disk → IsReadableAt (opening_of x) [] m ring (x.placed m) disk
-      is_there m ring there reads = record {
+      is_there : (m : ℕ) → Contains members m → rings.Reads (ring_of vault m) (x.placed m) disk → IsReadableAt (opening_of x) [] m (ring_of vault m) (x.placed m) disk
+      is_there m there reads = record {
         reads = reads;
         order = subst RecordsAreInOrder (sym (given_is m there)) (in_order_records (x.placed m) reads.order);
         retains = subst (λ (all : List Record). Retains ((opening_of x).settings.seconds m) (pins_on m (incidents (opening_of x) [])) all (all_records (x.placed m))) (sym (given_is m there))
@@ -114,10 +163,12 @@ module _ {tells tells_images : Type 0} where
   readable_as disk x vault new before now same still h =
       subst (λ a. IsReadable (opening_of x) [] new x.placed (disk a)) (sym still) (subst (λ (s : VaultState). IsReadable (opening_of x) [] s x.placed (disk before)) (sym same) h)
 
-  -- What a ring tells of its end, of the contents that the media hold.
-  pub goes_on : (x : Contents) (vault : VaultState) (missing : List Record) (disk : Disk tells tells_images) → tells → IsOpened (opened_with vault missing) x disk
-      → ((placed : List Placed) (bytes : List ℕ) → Tells vault.capsule.slots placed vault.capsule.directory → HoldsPlaced vault.capsule.segment vault.capsule.slots placed bytes
+  -- What the leading ring tells of its end, of the contents that the media hold.
+  pub goes_on : (x : Contents) (vault : VaultState) (missing : List Record) (lacking : ℕ) (disk : Disk tells tells_images) → tells → IsOpened (opened_with vault missing lacking) x disk
+      → ((placed : List Placed) (bytes : List ℕ) → Tells (ring_of vault 0).slots placed (ring_of vault 0).directory → HoldsPlaced (ring_of vault 0).segment (ring_of vault 0).slots placed bytes
       → vault.next_place ≡ next_after (last (all_records placed)))
-      → ((placed : List Placed) → Tells vault.capsule.slots placed vault.capsule.directory → vault.last ≡ option_map tick_utc (last (all_records placed)))
+      → ((placed : List Placed) → Tells (ring_of vault 0).slots placed (ring_of vault 0).directory → vault.last ≡ option_map tick_utc (last (all_records placed)))
       → GoesOnBehind x vault
-  goes_on x vault missing disk told o next newest = record { place = next (x.placed 0) _ o.capsule.directory (o.capsule.settled.reads told); newest = newest (x.placed 0) o.capsule.directory }
+  goes_on x vault missing lacking disk told o next newest =
+      let reads = o.rings 0 0 (omega arith) in
+      record { place = next (x.placed 0) _ reads.directory (reads.settled.reads told); newest = newest (x.placed 0) reads.directory }

@@ -1,151 +1,396 @@
--- The media of a vault are given a batch, one after the other: the loop's step.
-use Rattle.std.proofs.Common.{◌≡◌, ◌≢◌, ◌⊎◌, inl, inr, ⊎_elim, ◌+◌, ◌<◌, ◌≤◌, ℕ, zero, suc, Bool, List, get_or, Result, Ok, OnOk, sym, ap, ◌∙◌, subst, arith}
-use Rattle.std.specs.Prelude.{⊤}
+-- One medium after the other is given a batch: what each moment shows of all of them.
+use Rattle.std.proofs.Common.{◌≡◌, ◌≢◌, ◌⊎◌, inl, inr, ⊎_elim, ◌+◌, ◌<◌, ◌≤◌, ℕ, zero, suc, List, refl, sym, ◌∙◌, subst, arith, Bool, true, false, [], ◌∷◌, ◌++◌, Result, OnOk, ap, length, get_or, set, Ok}
+use Rattle.vdr_outside.specs.Disk.{Disk, Image, SameBut, content, Durable}
+use Rattle.vdr_outside.specs.Moments.{AtEachMoment, Changed, ChangesOnly, Settled}
+use Rattle.vdr_outside.proofs.Moments.{moments_join, moments_none, moments_weaken, now_after, settled_image, settled_other, changes_weaken}
+use Rattle.vdr_vault.specs.Passes.{Passes, AreStagesOn, Has, IsAppendedTo, IsGiven, Lacks, Waits, KeepsBeside, pins_at}
+use Rattle.std.specs.Prelude.{Any, ⊤}
+use Rattle.std.proofs.lemmas.Result.{on_ok_weaker}
 use Rattle.vdr_terms.specs.Needs.{Sizes, slots_in}
 use Rattle.vdr_terms.specs.Records.{Record}
-use Rattle.vdr_retention.specs.Retention.{Pin}
+use Rattle.vdr_retention.specs.Retention.{Pin, Retains}
+use Rattle.vdr_outside.specs.Parts.{part}
 use Rattle.vdr_outside.specs.declared.fault.Fault.{Fault}
+use Rattle.vdr_slots.specs.Slots.{SameFront, place_of}
+use Rattle.vdr_slots.proofs.Fronts.{front_same, front_joined}
+use Rattle.vdr_directory.specs.Sequence.{Placed, all_records}
+use Rattle.vdr_directory.specs.Order.{AreInOrder}
+use Rattle.vdr_directory.specs.Holds.{HoldsAny, HoldsPlaced}
+use Rattle.vdr_ring.specs.Rings.{RingState, StaysOnMedium}
+use Rattle.vdr_ring.specs.Rings as rings
+use Rattle.vdr_ring.specs.Regularity.{IsAllowed}
+use Rattle.vdr_ring.specs.Keeping.{HasKept, IsKept}
+use Rattle.vdr_directory.specs.Growing.{Continues}
+use Rattle.vdr_ring.specs.Stages.{Stages}
+use Rattle.vdr_vault.proofs.CommitImages.{changes_both, one_placed}
+use Rattle.std.proofs.lemmas.List.{get_or-set_other, get_or-set_same, length-set}
 use Rattle.vdr_outside.specs.declared.media.Media.{Ghosts as MediaTells}
-use Rattle.vdr_outside.specs.Disk.{Disk, SameBut, content}
-use Rattle.vdr_outside.specs.Moments.{AtEachMoment, ChangesOnly, Settled}
+use Rattle.vdr_outside.specs.Frames.{WritesTo}
 use Rattle.vdr_outside.proofs.Counts.{none_falls_join}
-use Rattle.vdr_slots.specs.Slots.{SameFront}
-use Rattle.vdr_slots.proofs.Fronts.{front_joined}
+use Rattle.vdr_slots.specs.Writes.{KeepsFront}
 use Rattle.vdr_config.specs.Configuration.{Configuration}
 use Rattle.vdr_config.specs.Sizes.{sizes_of}
-use Rattle.vdr_directory.specs.Sequence.{Placed}
-use Rattle.vdr_ring.specs.Rings.{RingState}
-use Rattle.vdr_ring.specs.Rings as rings
-use Rattle.vdr_opening.specs.Answers.{IsRingOf}
-use Rattle.vdr_vault.specs.Vaults.{AreRings, VaultState, ring_of}
-use Rattle.vdr_vault.specs.Passes.{Has, IsAppendedTo, IsGiven, KeepsBeside, Lacks, Passes, Waits, pins_at}
-use Rattle.vdr_vault.proofs.Appended.{given_settled, reads_beside, waits_settled}
-use Rattle.vdr_vault.proofs.Walked.{Walked, begins, goes_on, higher, lower, steps, upto}
+use Rattle.vdr_opening.specs.Answers.{AreRingsOf, IsRingOf, no_ring, ring_at}
+use Rattle.vdr_vault.proofs.Members.{at_one, in_range, of_all, ring_is, ring_there}
 
--- What holds of both media holds of each.
-pub of_each : (P : ℕ → Type 0) → P 0 → P 1 → (k : ℕ) → k < 2 → P k
-of_each P p q zero lt = p
-of_each P p q (suc zero) lt = q
-of_each P p q (suc (suc k)) lt = absurd (omega (arith, lt))
+-- From n on, where it holds of n and of all behind it; and up to n.
+pub upward : (P : ℕ → Type 0) (n : ℕ) → P n → ((k : ℕ) → n < k → P k) → (k : ℕ) → n ≤ k → P k
+upward P zero here behind zero le = here
+upward P zero here behind (suc k) le = behind (suc k) (omega arith)
+upward P (suc n) here behind zero le = absurd (omega (arith, le))
+upward P (suc n) here behind (suc k) le = upward (λ j. P (suc j)) n here (λ j lt. behind (suc j) (omega (arith, lt))) k (omega (arith, le))
 
--- The ring of medium k.
-pub ring_is : (vault : VaultState) (sizes : List ℕ) → AreRings vault sizes → (k : ℕ) → k < 2 → IsRingOf vault.config sizes k (ring_of vault k)
-ring_is vault sizes are = of_each (λ k. IsRingOf vault.config sizes k (ring_of vault k)) (are 0 0 (omega arith)) (are 1 1 (omega arith))
+pub upto : (P : ℕ → Type 0) (n : ℕ) → ((k : ℕ) → k < n → P k) → P n → (k : ℕ) → k < n + 1 → P k
+upto P zero before here zero lt = here
+upto P zero before here (suc k) lt = absurd (omega (arith, lt))
+upto P (suc n) before here zero lt = before zero (omega arith)
+upto P (suc n) before here (suc k) lt = upto (λ j. P (suc j)) n (λ j lt. before (suc j) (omega (arith, lt))) here k (omega (arith, lt))
 
-module _ {tells tells_images : Type 0} (ordered : Bool) (sizes : Sizes) (from : ℕ) (vault : VaultState) (pins : List Pin) (placed : ℕ → List Placed) (first : ℕ) (all : ℕ → List Record) (records : List Record)
-    (old : Disk tells tells_images) where
-  abbrev pub LacksAt : ℕ → List ℕ → Type 0
-  LacksAt k = Lacks ordered (ring_of vault k) (pins_at k pins) (placed k) first records (content old.reads k)
+pub lower : (k m : ℕ) → k < m → k ≢ m
+lower k m lt e = omega (arith, lt, e)
 
-  abbrev pub HasAt : ℕ → List ℕ → Type 0
-  HasAt k = Has ordered (ring_of vault k) (pins_at k pins) (placed k) first records (content old.reads k)
+pub higher : (k m : ℕ) → m < k → k ≢ m
+higher k m lt e = omega (arith, lt, e)
 
-  abbrev pub WaitsAt : ℕ → Disk tells tells_images → Type 0
-  WaitsAt k disk = Waits ordered sizes (ring_of vault k) (pins_at k pins) (placed k) first (all k) records disk
+pub outside : (from count m k : ℕ) → from ≤ m → m < count → (k < from) ⊎ (count ≤ k) → k ≢ m
+outside from count m k low high out e = grind (arith, low, high, out, e)
 
-  abbrev pub GivenAt : VaultState → ℕ → Disk tells tells_images → Type 0
-  GivenAt now k disk = IsGiven (ring_of vault k) (ring_of now k) (pins_at k pins) (placed k) first records disk
+pub not_at : (m k : ℕ) → k ≢ m → (k < m) ⊎ (m + 1 ≤ k)
+not_at m k other = grind (arith, other)
 
-  -- The media below m have the batch, and the others wait for it.
-  pub record Walks (m : ℕ) (now : VaultState) (mid : Disk tells tells_images) : Type 0 where
-    pub walked : Walked LacksAt HasAt from 2 m old mid
-    pub waiting : (k : ℕ) → m ≤ k → k < 2 → WaitsAt k mid
-    pub given : (k : ℕ) → k < m → from ≤ k → GivenAt now k mid
+module _ {tells tells_images : Type 0} (LacksIt HasIt : ℕ → List ℕ → Type 0) (from count : ℕ) where
+  -- The media below m have it, and the others lack it.
+  pub record Walked (m : ℕ) (old mid : Disk tells tells_images) : Type 0 where
+    pub moments : AtEachMoment old mid (Passes LacksIt HasIt from count old.now)
+    pub has : (k : ℕ) → k < m → from ≤ k → Settled k (HasIt k) mid
+    pub lack : (k : ℕ) → m ≤ k → k < count → Settled k (LacksIt k) mid
 
-  module _ (are : AreRings vault old.sizes) where
-    pub starts : from ≤ 2 → ((k : ℕ) → from ≤ k → k < 2 → WaitsAt k old) → Walks from vault old
-    starts few waits = record {
-      walked = begins LacksAt HasAt from 2 old few (λ k low lt. waits_settled ordered sizes k (ring_of vault k) (pins_at k pins) (placed k) first (all k) records old (ring_is vault old.sizes are k lt).medium (waits k low lt));
-      waiting = waits;
-      given = λ k lt low. absurd (omega (arith, lt, low));
+  pub begins : (old : Disk tells tells_images) → from ≤ count → ((k : ℕ) → from ≤ k → k < count → Settled k (LacksIt k) old) → Walked from old old
+  begins old le lack = record {
+    moments = moments_none old _ (λ i now. record {
+      given = from;
+      above = omega arith;
+      below = le;
+      has = λ k low high. absurd (omega (arith, low, high));
+      lack = λ k low high. settled_image k (LacksIt k) old (lack k low high) i now;
+      image = i;
+      was = now;
+      others = λ k out. refl;
+    });
+    has = λ k low high. absurd (omega (arith, low, high));
+    lack = lack;
+  }
+
+  -- Medium m has its turn.
+  module _ (m : ℕ) (low : from ≤ m) (high : m < count) (old mid new : Disk tells tells_images) (walk : Walked m old mid) (changes : ChangesOnly m (λ b. LacksIt m b ⊎ HasIt m b) mid new) where
+    beside : (P : ℕ → List ℕ → Type 0) (k : ℕ) → k ≢ m → Settled k (P k) mid → (i : Image) → Changed m (λ b. LacksIt m b ⊎ HasIt m b) mid.now i → P k (content i k)
+    beside P k other settled i c = subst (P k) (sym (c.others k other)) (settled_image k (P k) mid settled c.image c.was)
+
+    in_between : (i : Image) → Changed m (λ b. LacksIt m b ⊎ HasIt m b) mid.now i → Passes LacksIt HasIt from count old.now i
+    in_between i c = ⊎_elim
+        (λ (l : LacksIt m (content i m)). record {
+          given = m;
+          above = low;
+          below = omega (arith, high);
+          has = λ k from_on lt. given_has k lt from_on;
+          lack = λ k le lt. upward (λ k. k < count → LacksIt k (content i k)) m (λ _. l) (λ k more lt. behind k more lt) k le lt;
+          image = before.image;
+          was = before.was;
+          others = elsewhere;
+        })
+        (λ (h : HasIt m (content i m)). record {
+          given = m + 1;
+          above = omega (arith, low);
+          below = omega (arith, high);
+          has = λ k from_on lt. upto (λ k. from ≤ k → HasIt k (content i k)) m (λ k lt from_on. given_has k lt from_on) (λ _. h) k lt from_on;
+          lack = λ k le lt. behind k (omega (arith, le)) lt;
+          image = before.image;
+          was = before.was;
+          others = elsewhere;
+        })
+        c.has
+      where
+        before : Passes LacksIt HasIt from count old.now c.image
+        before = now_after old mid (Passes LacksIt HasIt from count old.now) walk.moments c.image c.was
+
+        given_has : (k : ℕ) → k < m → from ≤ k → HasIt k (content i k)
+        given_has k lt from_on = beside HasIt k (lower k m lt) (walk.has k lt from_on) i c
+
+        behind : (k : ℕ) → m < k → k < count → LacksIt k (content i k)
+        behind k more lt = beside LacksIt k (higher k m more) (walk.lack k (omega (arith, more)) lt) i c
+
+        elsewhere : (k : ℕ) → (k < from) ⊎ (count ≤ k) → content i k ≡ content before.image k
+        elsewhere k out = c.others k (outside from count m k low high out) ∙ before.others k out
+
+    -- At every moment the first media have it.
+    pub goes_on : AtEachMoment old new (Passes LacksIt HasIt from count old.now)
+    goes_on = moments_join old mid new _ walk.moments (moments_weaken mid new _ _ changes in_between)
+
+    pub steps : (tells → SameBut m mid.reads new.reads) → Settled m (HasIt m) new → Walked (m + 1) old new
+    steps others given = record {
+      moments = goes_on;
+      has = λ k lt. upto (λ k. from ≤ k → Settled k (HasIt k) new) m (λ k lt from_on. settled_other m k _ (HasIt k) mid new (lower k m lt) changes others (walk.has k lt from_on)) (λ _. given) k lt;
+      lack = λ k le lt. settled_other m k _ (LacksIt k) mid new (higher k m (omega (arith, le))) changes others (walk.lack k (omega (arith, le)) lt);
     }
 
-    module _ (m : ℕ) (low : from ≤ m) (high : m < 2) (now after : VaultState) (mid new : Disk tells tells_images) (walks : Walks m now mid) (untouched : ring_of now m ≡ ring_of vault m)
-        (same : content mid.reads m ≡ content old.reads m) (result : Result ⊤ Fault)
-        (call : Waits ordered sizes (ring_of now m) (pins_at m pins) (placed m) first (all m) records mid → IsAppendedTo ordered m (ring_of now m) (ring_of after m) (pins_at m pins) (placed m) first records mid new result) where
-      made : IsAppendedTo ordered m (ring_of now m) (ring_of after m) (pins_at m pins) (placed m) first records mid new result
-      made = call (subst (λ (r : RingState). Waits ordered sizes r (pins_at m pins) (placed m) first (all m) records mid) (sym untouched) (walks.waiting m (omega arith) high))
+-- Where the last medium alone is given it, no other medium changes.
+pub last_changed : (LacksIt HasIt : ℕ → List ℕ → Type 0) (before : Image → Type 0) (i : Image) → Passes LacksIt HasIt 1 2 before i → Changed 1 (λ b. LacksIt 1 b ⊎ HasIt 1 b) before i
+last_changed LacksIt HasIt before i p = record { image = p.image; was = p.was; others = λ k other. p.others k (not_at 1 k other); has = go p.given p.above p.has p.lack }
+  where
+    go : (n : ℕ) → 1 ≤ n → ((k : ℕ) → 1 ≤ k → k < n → HasIt k (content i k)) → ((k : ℕ) → n ≤ k → k < 2 → LacksIt k (content i k)) → LacksIt 1 (content i 1) ⊎ HasIt 1 (content i 1)
+    go zero low has lack = absurd (omega (arith, low))
+    go (suc zero) low has lack = inl (lack 1 (omega arith) (omega arith))
+    go (suc (suc n)) low has lack = inr (has 1 (omega arith) (omega arith))
 
-      changes : ChangesOnly m (λ b. LacksAt m b ⊎ HasAt m b) mid new
-      changes = subst (λ (x : RingState × List ℕ). ChangesOnly m (λ b. Lacks ordered x.0 (pins_at m pins) (placed m) first records x.1 b ⊎ Has ordered x.0 (pins_at m pins) (placed m) first records x.1 b) mid new)
-          (λ i. (untouched i, same i)) made.moments
+-- What `Ring::append` says, of one medium of a vault.
 
-      pub walks_on : AtEachMoment old new (Passes LacksAt HasAt from 2 old.now)
-      walks_on = goes_on LacksAt HasAt from 2 m low high old mid new walks.walked changes
+-- One of five stages.
+any_of_five : {X : Type 0} (P : X → Type 0) (R : Type 0) (a b c d e : X) → (P a → R) → (P b → R) → (P c → R) → (P d → R) → (P e → R) → Any P (a ∷ b ∷ c ∷ d ∷ e ∷ []) → R
+any_of_five P R a b c d e p q r s t (zero, y, lt, is, h) = p (subst P (sym is) h)
+any_of_five P R a b c d e p q r s t (suc zero, y, lt, is, h) = q (subst P (sym is) h)
+any_of_five P R a b c d e p q r s t (suc (suc zero), y, lt, is, h) = r (subst P (sym is) h)
+any_of_five P R a b c d e p q r s t (suc (suc (suc zero)), y, lt, is, h) = s (subst P (sym is) h)
+any_of_five P R a b c d e p q r s t (suc (suc (suc (suc zero))), y, lt, is, h) = t (subst P (sym is) h)
+any_of_five P R a b c d e p q r s t (suc (suc (suc (suc (suc k)))), y, lt, is, h) = absurd (omega (arith, lt))
+
+module _ (ordered : Bool) (ring : RingState) (pins : List Pin) (placed : List Placed) (first : ℕ) (records : List Record) (was : List ℕ) (stages : Stages) (are : AreStagesOn ring pins placed first records stages) where
+  -- A medium at one of the stages.
+  at_stage : (bytes : List ℕ) → HoldsAny ring.segment ring.slots (placed ∷ stages.closed ∷ stages.begun ∷ stages.done ∷ stages.left ∷ []) bytes → (ordered ≡ true → (ps : List Placed) → HoldsPlaced ring.segment ring.slots ps bytes → AreInOrder ps)
+      → SameFront was bytes → Lacks ordered ring pins placed first records was bytes ⊎ Has ordered ring pins placed first records was bytes
+  at_stage bytes any order front = any_of_five (λ ps. HoldsPlaced ring.segment ring.slots ps bytes) _ placed stages.closed stages.begun stages.done stages.left
+      (λ h. inl (record { now = placed; holds = h; stage = inl refl; order = λ o. order o placed h; front = front }))
+      (λ h. inl (record { now = stages.closed; holds = h; stage = inr (stages, are, inl refl); order = λ o. order o stages.closed h; front = front }))
+      (λ h. inl (record { now = stages.begun; holds = h; stage = inr (stages, are, inr refl); order = λ o. order o stages.begun h; front = front }))
+      (λ h. inr (record { stages = stages; are = are; now = stages.done; stage = inl refl; holds = h; order = λ o. order o stages.done h; front = front }))
+      (λ h. inr (record { stages = stages; are = are; now = stages.left; stage = inr refl; holds = h; order = λ o. order o stages.left h; front = front }))
+      any
+
+module _ {tells tells_images : Type 0} where
+  -- What `Ring::append` says.
+  abbrev pub GoesByStages : (ring now : RingState) (pins : List Pin) (records : List Record) (old new : Disk tells tells_images) → Result ⊤ Fault → Type 0
+  GoesByStages ring now pins records old new result = (placed : List Placed) (first : ℕ) → tells → rings.Reads ring placed old → Continues placed first records
+      → (stages : Stages) × AreStagesOn ring pins placed first records stages
+      × ChangesOnly ring.medium (HoldsAny ring.segment ring.slots (placed ∷ stages.closed ∷ stages.begun ∷ stages.done ∷ stages.left ∷ [])) old new
+      × OnOk result (rings.Reads now stages.left new)
+
+  abbrev pub Keeps : (ring now : RingState) (pins : List Pin) (records : List Record) (old new : Disk tells tells_images) → Result ⊤ Fault → Type 0
+  Keeps ring now pins records old new result = (sizes : Sizes) (placed : List Placed) (first : ℕ) (all : List Record) → tells → rings.Reads ring placed old → Continues placed first records
+      → (placed ≡ [] → first ≡ 0) → IsAllowed sizes ring.medium ring.segment ring.slots ring.seconds pins placed records → Retains ring.seconds pins all (all_records placed)
+      → ChangesOnly ring.medium (IsKept ring.segment ring.slots ring.seconds pins placed all records) old new × OnOk result (HasKept sizes pins (all ++ records) now new)
+
+  -- The stages of an append, and that they are in order where that is told.
+  pub appended_to : (ordered : Bool) (sizes : Sizes) (m : ℕ) (ring now : RingState) (pins passed : List Pin) (placed : List Placed) (first : ℕ) (all records : List Record) (old new : Disk tells tells_images) (result : Result ⊤ Fault)
+      → ring.medium ≡ m → passed ≡ pins → tells → Waits ordered sizes ring pins placed first all records old
+      → GoesByStages ring now passed records old new result → Keeps ring now passed records old new result
+      → (Durable ring.medium old → ChangesOnly ring.medium (SameFront (content old.reads ring.medium)) old new)
+      → IsAppendedTo ordered m ring now pins placed first records old new result
+  appended_to ordered sizes m ring now pins passed placed first all records old new result on same told waits appended kept front =
+      subst (λ (x : ℕ × List Pin). IsAppendedTo ordered x.0 ring now x.1 placed first records old new result) (λ i. (on i, same i)) (go ordered waits_here)
+    where
+      waits_here : Waits ordered sizes ring passed placed first all records old
+      waits_here = subst (λ (ps : List Pin). Waits ordered sizes ring ps placed first all records old) (sym same) waits
+
+      go : (ordered : Bool) → Waits ordered sizes ring passed placed first all records old → IsAppendedTo ordered ring.medium ring now passed placed first records old new result
+      go ordered waits =
+          let made = appended placed first told waits.reads waits.goes_on in
+          record {
+            moments = told_of ordered waits made.0 made.1 (changes_both ring.medium _ _ old new made.2 (front waits.reads.settled.durable));
+            done = on_ok_weaker result (λ reads. record { stages = made.0; are = made.1; reads = reads }) made.3;
+          }
+        where
+          told_of : (ordered : Bool) → Waits ordered sizes ring passed placed first all records old → (stages : Stages) → AreStagesOn ring passed placed first records stages
+              → ChangesOnly ring.medium (λ b. HoldsAny ring.segment ring.slots (placed ∷ stages.closed ∷ stages.begun ∷ stages.done ∷ stages.left ∷ []) b × SameFront (content old.reads ring.medium) b) old new
+              → ChangesOnly ring.medium (λ b. Lacks ordered ring passed placed first records (content old.reads ring.medium) b ⊎ Has ordered ring passed placed first records (content old.reads ring.medium) b) old new
+          told_of false waits stages are changes = changes_weaken ring.medium _ _ old new changes
+              (λ b p. at_stage false ring passed placed first records (content old.reads ring.medium) stages are b p.0 (λ o. absurd (let none : ⊥ = cc in none)) p.1)
+          told_of true waits stages are changes =
+              let may = waits.may refl in
+              changes_weaken ring.medium _ _ old new (changes_both ring.medium _ _ old new changes (kept sizes placed first all told waits.reads waits.goes_on may.begins may.allowed may.retains).0)
+              (λ b p. at_stage true ring passed placed first records (content old.reads ring.medium) stages are b p.0.0
+              (λ o ps h. subst AreInOrder (one_placed ring.segment ring.slots b p.1.now ps p.1.holds h) p.1.order) p.0.1)
+
+  -- A medium that waits lacks it.
+  pub waits_settled : (ordered : Bool) (sizes : Sizes) (m : ℕ) (ring : RingState) (pins : List Pin) (placed : List Placed) (first : ℕ) (all records : List Record) (old : Disk tells tells_images)
+      → ring.medium ≡ m → Waits ordered sizes ring pins placed first all records old → Settled m (Lacks ordered ring pins placed first records (content old.reads m)) old
+  waits_settled ordered sizes m ring pins placed first all records old on waits =
+      subst (λ (k : ℕ). Settled k (Lacks ordered ring pins placed first records (content old.reads k)) old) on (record {
+        durable = waits.reads.settled.durable;
+        reads = λ told. record { now = placed; holds = waits.reads.settled.reads told; stage = inl refl; order = λ o. waits.reads.order; front = front_same _ };
+      })
+
+  -- One that was given it has it.
+  pub given_settled : (ordered : Bool) (m : ℕ) (ring now : RingState) (pins : List Pin) (placed : List Placed) (first : ℕ) (records : List Record) (was : List ℕ) (new : Disk tells tells_images)
+      → now.medium ≡ m → now.segment ≡ ring.segment → now.slots ≡ ring.slots → (tells → SameFront was (content new.reads m)) → IsGiven ring now pins placed first records new
+      → Settled m (Has ordered ring pins placed first records was) new
+  given_settled ordered m ring now pins placed first records was new on segment slots front given = record {
+    durable = subst (λ (k : ℕ). Durable k new) on given.reads.settled.durable;
+    reads = λ told. record {
+      stages = given.stages;
+      are = given.are;
+      now = given.stages.left;
+      stage = inr refl;
+      holds = subst (λ (x : ℕ × ℕ × ℕ). HoldsPlaced x.0 x.1 given.stages.left (content new.reads x.2)) (λ i. (segment i, slots i, on i)) (given.reads.settled.reads told);
+      order = λ o. given.reads.order;
+      front = front told;
+    };
+  }
+
+  -- A ring reads its medium as before while another one changes.
+  pub reads_beside : (ring : RingState) (placed : List Placed) (m : ℕ) (P : List ℕ → Type 0) (old new : Disk tells tells_images) → ring.medium ≢ m → ChangesOnly m P old new → (tells → SameBut m old.reads new.reads)
+      → rings.Reads ring placed old → rings.Reads ring placed new
+  reads_beside ring placed m P old new other changes same h = record {
+    settled = settled_other m ring.medium P (HoldsPlaced ring.segment ring.slots placed) old new other changes same h.settled;
+    order = h.order;
+    directory = h.directory;
+    loaded = λ j is told. h.loaded j is told ∙ ap (λ (b : List ℕ). part b (place_of ring.segment j) ring.segment) (sym (same told ring.medium other));
+  }
+
+-- The media of a vault are given a batch, one after the other: the loop's step.
+
+module _ {tells tells_images : Type 0} (ordered : Bool) (sizes : Sizes) (from : ℕ) (rings : List RingState) (pins : List Pin) (placed : ℕ → List Placed) (first : ℕ) (all : ℕ → List Record) (records : List Record)
+    (old : Disk tells tells_images) where
+  abbrev pub LacksAt : ℕ → List ℕ → Type 0
+  LacksAt k = Lacks ordered (ring_at rings k) (pins_at k pins) (placed k) first records (content old.reads k)
+
+  abbrev pub HasAt : ℕ → List ℕ → Type 0
+  HasAt k = Has ordered (ring_at rings k) (pins_at k pins) (placed k) first records (content old.reads k)
+
+  abbrev pub WaitsAt : ℕ → Disk tells tells_images → Type 0
+  WaitsAt k disk = Waits ordered sizes (ring_at rings k) (pins_at k pins) (placed k) first (all k) records disk
+
+  -- The media below m have the batch, and the others wait for it as they were.
+  pub record Walks (m : ℕ) (now : List RingState) (mid : Disk tells tells_images) : Type 0 where
+    pub walked : Walked LacksAt HasAt from 2 m old mid
+    pub waiting : (k : ℕ) → m ≤ k → k < 2 → WaitsAt k mid
+    pub untouched : (k : ℕ) → m ≤ k → ring_at now k ≡ ring_at rings k
+    pub unread : (k : ℕ) → m ≤ k → content mid.reads k ≡ content old.reads k
+    pub given : (k : ℕ) → k < m → from ≤ k → IsGiven (ring_at rings k) (ring_at now k) (pins_at k pins) (placed k) first records mid
+
+  pub starts : {c : Configuration} → AreRingsOf c old.sizes rings → from ≤ 2 → ((k : ℕ) → from ≤ k → k < 2 → WaitsAt k old) → Walks from rings old
+  starts are few waits = record {
+    walked = begins LacksAt HasAt from 2 old few (λ k low lt. waits_settled ordered sizes k (ring_at rings k) (pins_at k pins) (placed k) first (all k) records old (ring_is are k lt).medium (waits k low lt));
+    waiting = waits;
+    untouched = λ k low. refl;
+    unread = λ k low. refl;
+    given = λ k lt low. absurd (omega (arith, lt, low));
+  }
+
+-- The ring of medium m has its turn.
+module _ {M : Type 0} (media : MediaTells M) (from m : ℕ) (a b : List RingState) (inside : m < length a) (d : RingState) (x y : M) {c : Configuration} (are : AreRingsOf c (media.disk x).sizes a)
+    (keeps : KeepsBeside media from a b x y) where
+  high : m < 2
+  high = in_range are inside
+
+  is : get_or b m d ≡ ring_at b m
+  is = ring_there (keeps.rings c are) m high d
+
+  pub its_ring : IsRingOf c (media.disk y).sizes m (get_or b m d)
+  its_ring = subst (IsRingOf c (media.disk y).sizes m) (sym is) (ring_is (keeps.rings c are) m high)
+
+  module _ (low : from ≤ m) (now : RingState) (z : M) (result : Result ⊤ Fault) (stays : StaysOnMedium (get_or b m d) now (media.disk z).sizes) (front : KeepsFront (get_or b m d).medium (media.disk y) (media.disk z))
+      (writes : WritesTo media (get_or b m d).medium y z result) where
+    abbrev ring : RingState
+    ring = get_or b m d
+
+    its_medium : ring.medium ≡ m
+    its_medium = its_ring.medium
+
+    others : media.tells → SameBut m (media.disk y).reads (media.disk z).reads
+    others told = subst (λ (k : ℕ). SameBut k (media.disk y).reads (media.disk z).reads) its_medium (writes.others told)
+
+    front_here : media.tells → SameFront (content (media.disk y).reads m) (content (media.disk z).reads m)
+    front_here told = subst (λ (k : ℕ). SameFront (content (media.disk y).reads k) (content (media.disk z).reads k)) its_medium (front.reads told)
+
+    set_here : ring_at (set b m now) m ≡ now
+    set_here = let count = (keeps.rings c are).count in get_or-set_same b m now no_ring (omega (arith, count, high))
+
+    set_beside : (k : ℕ) → k ≢ m → ring_at (set b m now) k ≡ ring_at b k
+    set_beside k other = get_or-set_other b m k now no_ring other
+
+    are_after : (d : Configuration) → AreRingsOf d (media.disk x).sizes a → AreRingsOf d (media.disk z).sizes (set b m now)
+    are_after d of_it =
+        let before = keeps.rings d of_it in
+        record {
+          count = length-set b m now ∙ before.count;
+          each = of_all (λ k. IsRingOf d (media.disk z).sizes k (ring_at (set b m now) k)) (at_one (λ k. k < 2 → IsRingOf d (media.disk z).sizes k (ring_at (set b m now) k)) m
+              (λ lt. subst (IsRingOf d (media.disk z).sizes m) (sym set_here) (here (subst (IsRingOf d (media.disk y).sizes m) (sym is) (ring_is before m lt))))
+              (λ k other lt. subst (IsRingOf d (media.disk z).sizes k) (sym (set_beside k other)) (subst (λ (s : List ℕ). IsRingOf d s k (ring_at b k)) (sym writes.sizes) (ring_is before k lt))));
+        }
+      where
+        here : IsRingOf d (media.disk y).sizes m ring → IsRingOf d (media.disk z).sizes m now
+        here was = record {
+          medium = stays.same.medium ∙ was.medium;
+          segment = stays.same.segment ∙ was.segment;
+          slots = stays.same.slots ∙ was.slots ∙ ap (λ (s : List ℕ). slots_in (sizes_of d) (get_or s m 0)) (sym writes.sizes);
+          seconds = stays.same.seconds ∙ was.seconds;
+          room = stays.medium;
+        }
+
+    pub keeps_on : KeepsBeside media from a (set b m now) x z
+    keeps_on = record {
+      rings = are_after;
+      untouched = λ k lt. set_beside k (lower k m (omega (arith, lt, low))) ∙ keeps.untouched k lt;
+      fronts = λ told k. front_joined _ _ _ (keeps.fronts told k) (at_one (λ k. SameFront (content (media.disk y).reads k) (content (media.disk z).reads k)) m (front_here told)
+          (λ k other. subst (SameFront (content (media.disk y).reads k)) (sym (others told k other)) (front_same _)) k);
+      others = λ told k out. others told k (outside from 2 m k low high out) ∙ keeps.others told k out;
+      sizes = writes.sizes ∙ keeps.sizes;
+      counts = writes.counts ∙ keeps.counts;
+      later = none_falls_join _ _ _ keeps.later writes.cause.later;
+    }
+
+    module _ (ordered : Bool) (sizes : Sizes) (pins passed : List Pin) (placed : ℕ → List Placed) (first : ℕ) (all : ℕ → List Record) (records : List Record) (passed_is : passed ≡ pins_at m pins) (told : media.tells)
+        (walks : Walks ordered sizes from a pins placed first all records (media.disk x) m b (media.disk y)) (appended : GoesByStages ring now passed records (media.disk y) (media.disk z) result)
+        (kept : Keeps ring now passed records (media.disk y) (media.disk z) result) where
+      abbrev LacksIt : ℕ → List ℕ → Type 0
+      LacksIt = LacksAt ordered sizes from a pins placed first all records (media.disk x)
+
+      abbrev HasIt : ℕ → List ℕ → Type 0
+      HasIt = HasAt ordered sizes from a pins placed first all records (media.disk x)
+
+      is_first : ring ≡ ring_at a m
+      is_first = is ∙ walks.untouched m (omega arith)
+
+      made : IsAppendedTo ordered m ring now (pins_at m pins) (placed m) first records (media.disk y) (media.disk z) result
+      made = appended_to ordered sizes m ring now (pins_at m pins) passed (placed m) first (all m) records (media.disk y) (media.disk z) result its_medium passed_is told
+          (subst (λ (r : RingState). Waits ordered sizes r (pins_at m pins) (placed m) first (all m) records (media.disk y)) (sym is_first) (walks.waiting m (omega arith) high)) appended kept front.meanwhile
+
+      changes : ChangesOnly m (λ bytes. LacksIt m bytes ⊎ HasIt m bytes) (media.disk y) (media.disk z)
+      changes = subst (λ (p : RingState × List ℕ). ChangesOnly m (λ bytes. Lacks ordered p.0 (pins_at m pins) (placed m) first records p.1 bytes ⊎ Has ordered p.0 (pins_at m pins) (placed m) first records p.1 bytes)
+          (media.disk y) (media.disk z)) (λ i. (is_first i, walks.unread m (omega arith) i)) made.moments
+
+      pub walks_on : AtEachMoment (media.disk x) (media.disk z) (Passes LacksIt HasIt from 2 (media.disk x).now)
+      walks_on = goes_on LacksIt HasIt from 2 m low high (media.disk x) (media.disk y) (media.disk z) walks.walked changes
 
       -- It has it.
-      pub walks_step : (x : ⊤) → result ≡ Ok x → AreRings now mid.sizes → AreRings after new.sizes → new.sizes ≡ old.sizes → after.config ≡ vault.config → (tells → SameBut m mid.reads new.reads) → (tells → SameFront (content mid.reads m) (content new.reads m))
-          → ((k : ℕ) → k < 2 → (k < m) ⊎ (m + 1 ≤ k) → ring_of after k ≡ ring_of now k) → Walks (m + 1) after new
-      walks_step x ok rings_now rings_after sizes_same config_after others front beside = record {
-        walked = steps LacksAt HasAt from 2 m low high old mid new walks.walked changes others given_here;
+      pub walks_step : (u : ⊤) → result ≡ Ok u → Walks ordered sizes from a pins placed first all records (media.disk x) (m + 1) (set b m now) (media.disk z)
+      walks_step u ok = record {
+        walked = steps LacksIt HasIt from 2 m low high (media.disk x) (media.disk y) (media.disk z) walks.walked changes others given_here;
         waiting = λ k le lt.
             let w = walks.waiting k (omega (arith, le)) lt in
-            record {
-              reads = reads_beside (ring_of vault k) (placed k) m _ mid new (apart vault old.sizes are k lt (higher k m (omega (arith, le)))) changes others w.reads;
-              goes_on = w.goes_on;
-              may = w.may;
-            };
-        given = λ k lt. upto (λ k. from ≤ k → GivenAt after k new) m (λ k lt low.
+            record { reads = still (ring_at a k) (placed k) (apart are k lt (higher k m (omega (arith, le)))) w.reads; goes_on = w.goes_on; may = w.may };
+        untouched = λ k le. set_beside k (higher k m (omega (arith, le))) ∙ walks.untouched k (omega (arith, le));
+        unread = λ k le. others told k (higher k m (omega (arith, le))) ∙ walks.unread k (omega (arith, le));
+        given = λ k lt. upto (λ k. from ≤ k → IsGiven (ring_at a k) (ring_at (set b m now) k) (pins_at k pins) (placed k) first records (media.disk z)) m (λ k lt low.
             let g = walks.given k lt low in
-            let within : k < 2 = omega (arith, lt, high) in
             record {
               stages = g.stages;
               are = g.are;
-              reads = subst (λ (r : RingState). rings.Reads r g.stages.done new) (sym (beside k within (inl lt)))
-                  (reads_beside (ring_of now k) g.stages.done m _ mid new (apart now mid.sizes rings_now k within (lower k m lt)) changes others g.reads);
-            }) (λ low. given_now) k lt;
+              reads = subst (λ (r : RingState). rings.Reads r g.stages.left (media.disk z)) (sym (set_beside k (lower k m lt)))
+                  (still (ring_at b k) g.stages.left (apart (keeps.rings c are) k (omega (arith, lt, high)) (lower k m lt)) g.reads);
+            }) (λ low. subst (λ (r : RingState). IsGiven (ring_at a m) r (pins_at m pins) (placed m) first records (media.disk z)) (sym set_here) given_now) k lt;
       }
         where
-          apart : (v : VaultState) (sizes : List ℕ) → AreRings v sizes → (k : ℕ) → k < 2 → k ≢ m → (ring_of v k).medium ≢ m
-          apart v sizes is k lt other = λ e. other (sym (ring_is v sizes is k lt).medium ∙ e)
+          apart : {s : List ℕ} {rs : List RingState} → AreRingsOf c s rs → (k : ℕ) → k < 2 → k ≢ m → (ring_at rs k).medium ≢ m
+          apart of_it k lt other = λ e. other (sym (ring_is of_it k lt).medium ∙ e)
 
-          given_now : GivenAt after m new
-          given_now = subst (λ (r : RingState). IsGiven r (ring_of after m) (pins_at m pins) (placed m) first records new) untouched
-              (subst (λ (r : Result ⊤ Fault). OnOk r (IsGiven (ring_of now m) (ring_of after m) (pins_at m pins) (placed m) first records new)) ok made.done)
+          still : (r : RingState) (ps : List Placed) → r.medium ≢ m → rings.Reads r ps (media.disk y) → rings.Reads r ps (media.disk z)
+          still r ps other = reads_beside r ps m _ (media.disk y) (media.disk z) other changes others
 
-          given_here : Settled m (HasAt m) new
-          given_here =
-              let was = ring_is vault old.sizes are m high in
-              let is = ring_is after new.sizes rings_after m high in
-              given_settled ordered m (ring_of vault m) (ring_of after m) (pins_at m pins) (placed m) first records (content old.reads m) new is.medium
-              (is.segment ∙ ap (λ (c : Configuration). c.segment) config_after ∙ sym was.segment)
-              (is.slots ∙ (λ i. slots_in (sizes_of (config_after i)) (get_or (sizes_same i) m 0)) ∙ sym was.slots)
-              (λ told. subst (λ (b : List ℕ). SameFront b (content new.reads m)) same (front told)) given_now
+          given_now : IsGiven (ring_at a m) now (pins_at m pins) (placed m) first records (media.disk z)
+          given_now = subst (λ (r : RingState). IsGiven r now (pins_at m pins) (placed m) first records (media.disk z)) is_first
+              (subst (λ (r : Result ⊤ Fault). OnOk r (IsGiven ring now (pins_at m pins) (placed m) first records (media.disk z))) ok made.done)
 
-module _ {M : Type 0} (media : MediaTells M) where
-  pub keeps_join : (from m : ℕ) → from ≤ m → (a b c : VaultState) (x y z : M) → KeepsBeside media from m a b x y → KeepsBeside media m (m + 1) b c y z → KeepsBeside media from (m + 1) a c x z
-  keeps_join from m low a b c x y z h k = record {
-    vault = k.vault ∙ ap (λ (v : VaultState). record v { capsule = c.capsule; long_term = c.long_term }) h.vault;
-    untouched = λ j lt out. k.untouched j lt (own j out) ∙ h.untouched j lt (earlier j out);
-    rings = k.rings;
-    fronts = λ told j. front_joined _ _ _ (h.fronts told j) (k.fronts told j);
-    others = λ told j out. k.others told j (own j out) ∙ h.others told j (earlier j out);
-    sizes = k.sizes ∙ h.sizes;
-    counts = k.counts ∙ h.counts;
-    later = none_falls_join _ _ _ h.later k.later;
-  }
-    where
-      own : (j : ℕ) → (j < from) ⊎ (m + 1 ≤ j) → (j < m) ⊎ (m + 1 ≤ j)
-      own j (inl lt) = inl (omega (arith, low, lt))
-      own j (inr le) = inr le
-
-      earlier : (j : ℕ) → (j < from) ⊎ (m + 1 ≤ j) → (j < from) ⊎ (m ≤ j)
-      earlier j (inl lt) = inl lt
-      earlier j (inr le) = inr (omega (arith, le))
-
-  -- A call that stops before the last medium.
-  pub keeps_more : (from m : ℕ) → m ≤ 2 → (a b : VaultState) (x y : M) → KeepsBeside media from m a b x y → KeepsBeside media from 2 a b x y
-  keeps_more from m le a b x y h = record {
-    vault = h.vault;
-    untouched = λ j lt out. h.untouched j lt (more j out);
-    rings = h.rings;
-    fronts = h.fronts;
-    others = λ told j out. h.others told j (more j out);
-    sizes = h.sizes;
-    counts = h.counts;
-    later = h.later;
-  }
-    where
-      more : (j : ℕ) → (j < from) ⊎ (2 ≤ j) → (j < from) ⊎ (m ≤ j)
-      more j (inl lt) = inl lt
-      more j (inr ge) = inr (omega (arith, le, ge))
+          given_here : Settled m (HasIt m) (media.disk z)
+          given_here = given_settled ordered m (ring_at a m) now (pins_at m pins) (placed m) first records (content (media.disk x).reads m) (media.disk z) (stays.same.medium ∙ its_medium)
+              (stays.same.segment ∙ ap (λ (r : RingState). r.segment) is_first) (stays.same.slots ∙ ap (λ (r : RingState). r.slots) is_first)
+              (λ t. subst (λ (bytes : List ℕ). SameFront bytes (content (media.disk z).reads m)) (walks.unread m (omega arith)) (front_here t)) given_now

@@ -1,33 +1,68 @@
--- What a read of one ring leaves of a vault.
-use Rattle.std.proofs.Common.{◌≡◌, ◌<◌, ℕ, zero, suc, List, get_or, refl, sym, ap, ◌∙◌, subst, arith}
-use Rattle.vdr_history.specs.Histories.{Event, Opening}
+-- Reads of a ring, one after another.
+use Rattle.std.proofs.Common.{◌≡◌, ℕ, List, refl, sym, ap, ◌∙◌, subst, get_or}
 use Rattle.vdr_outside.specs.Disk.{Disk, Image, Unchanged, content}
+use Rattle.vdr_outside.proofs.Counts.{none_fell, none_falls_join}
+use Rattle.vdr_outside.proofs.Moments.{unchanged_join, settled_still}
+use Rattle.vdr_ring.specs.Rings.{RingState, HasMedium, Reads}
+use Rattle.vdr_directory.specs.Opening.{slot_bytes}
+use Rattle.vdr_vault.specs.Walks.{CountsOn, HasRead, slots_read}
+use Rattle.vdr_history.specs.Histories.{Event, Opening}
 use Rattle.vdr_outside.specs.Parts.{part}
-use Rattle.vdr_outside.proofs.Moments.{settled_still}
 use Rattle.vdr_slots.specs.Slots.{place_of}
 use Rattle.vdr_config.specs.Configuration.{Configuration}
 use Rattle.vdr_config.specs.Sizes.{sizes_of}
 use Rattle.vdr_terms.specs.Needs.{slots_in}
-use Rattle.vdr_media.proofs.Two.{all_two}
 use Rattle.vdr_directory.specs.Sequence.{Placed}
 use Rattle.vdr_directory.specs.Holds.{HoldsPlaced}
-use Rattle.vdr_ring.specs.Rings.{RingState, Reads}
-use Rattle.vdr_directory.specs.Opening.{slot_bytes}
 use Rattle.vdr_incident.specs.Tables.{HoldsTable}
 use Rattle.std.proofs.lemmas.List.Elements.{All-weaker}
-use Rattle.vdr_opening.specs.Media.{HasFront, both}
+use Rattle.vdr_opening.specs.Media.{HasFront, members}
 use Rattle.vdr_opening.specs.Answers.{IsRingOf}
 use Rattle.vdr_vault.specs.Vaults.{VaultState, AreRings, HoldsHistory, IsReadable, IsReadableAt, Stands, ring_of}
-use Rattle.vdr_vault.specs.Walks.{HasRead}
 use Rattle.vdr_vault.specs.Plays.{ReadsOn}
-use Rattle.vdr_vault.proofs.Passing.{room_kept}
+use Rattle.vdr_vault.proofs.Members.{at_one}
 
-with_rings : (old new : VaultState) (capsule long_term : RingState) → new ≡ record old { capsule = capsule; long_term = long_term }
-    → new ≡ record old { capsule = new.capsule; long_term = new.long_term }
-with_rings old new capsule long_term same =
-    let first : new.capsule ≡ capsule = ap (λ (s : VaultState). s.capsule) same in
-    let second : new.long_term ≡ long_term = ap (λ (s : VaultState). s.long_term) same in
-    same ∙ sym (λ i. record old { capsule = first i; long_term = second i })
+pub counts_first : (m : ℕ) (read faults : List ℕ) → CountsOn m read read faults faults
+counts_first m read faults = record { others = λ k other. refl; later = none_fell faults }
+
+pub counts_join : (m : ℕ) (r s t f g h : List ℕ) → CountsOn m r s f g → CountsOn m s t g h → CountsOn m r t f h
+counts_join m r s t f g h first then = record {
+  others = λ k other. then.others k other ∙ first.others k other;
+  later = none_falls_join f g h first.later then.later;
+}
+
+-- the buffer alone differs
+same_but_buffer : (a b c : RingState) → b ≡ record a { buffer = b.buffer; loaded = b.loaded } → c ≡ record b { buffer = c.buffer; loaded = c.loaded } → c ≡ record a { buffer = c.buffer; loaded = c.loaded }
+same_but_buffer a b c e f = f ∙ ap (λ (r : RingState). record r { buffer = c.buffer; loaded = c.loaded }) e
+
+module _ {tells tells_images : Type 0} where
+  pub unchanged_first : (disk : Disk tells tells_images) → Unchanged disk disk
+  unchanged_first disk = record { sizes = refl; reads = λ told. refl; clock = refl; since = λ t i. (λ h. h, λ h. h) }
+
+  pub read_first : (ring : RingState) (disk : Disk tells tells_images) → HasRead ring ring disk disk
+  read_first ring disk = record { ring = refl; unchanged = unchanged_first disk; bytes = λ h. h; reads = λ placed h. h }
+
+  pub read_join : (a b c : RingState) (d e f : Disk tells tells_images) → HasRead a b d e → HasRead b c e f → HasRead a c d f
+  read_join a b c d e f first then = record {
+    ring = same_but_buffer a b c first.ring then.ring;
+    unchanged = unchanged_join d e f first.unchanged then.unchanged;
+    bytes = λ h. then.bytes (first.bytes h);
+    reads = λ placed h. then.reads placed (first.reads placed h);
+  }
+
+  -- each slot reads as before
+  pub same_slots : (old new : RingState) (before now : Disk tells tells_images) → HasRead old new before now → tells → slots_read new now ≡ slots_read old before
+  same_slots old new before now read told =
+      let reads = read.unchanged.reads told in
+      ap (λ (i : Image). λ (slot : ℕ). slot_bytes new.segment slot (content i new.medium)) reads
+      ∙ ap (λ (r : RingState). λ (slot : ℕ). slot_bytes r.segment slot (content before.reads r.medium)) read.ring
+
+  pub room_kept : (old new : RingState) (before now : Disk tells tells_images) → HasRead old new before now → HasMedium old before.sizes → HasMedium new now.sizes
+  room_kept old new before now read room =
+      subst (HasMedium new) (sym read.unchanged.sizes)
+      (subst (λ (r : RingState). HasMedium r before.sizes) (sym read.ring) (record { there = room.there; room = room.room }))
+
+-- What a read of one ring leaves of a vault.
 
 module _ {tells tells_images : Type 0} where
   reads_still : (ring : RingState) (placed : List Placed) (before now : Disk tells tells_images) → Unchanged before now → Reads ring placed before → Reads ring placed now
@@ -72,48 +107,6 @@ module _ {tells tells_images : Type 0} where
     unbroken = h.unbroken;
   }
 
-  -- with other rings that have read
-  stands_with : (opening : Opening) (events : List Event) (placed : ℕ → List Placed) (vault : VaultState) (capsule long_term : RingState) (before now : Disk tells tells_images)
-      → HasRead vault.capsule capsule before now → HasRead vault.long_term long_term before now → Stands opening events vault placed before
-      → Stands opening events (record vault { capsule = capsule; long_term = long_term }) placed now
-  stands_with opening events placed vault capsule long_term before now first second stands =
-      let new : VaultState = record vault { capsule = capsule; long_term = long_term } in
-      record {
-        settings = stands.settings;
-        working = stands.working;
-        media = all_two (λ m. HoldsHistory opening events vault.config m (ring_of new m) (placed m) now)
-            (holds_still opening events vault.config 0 vault.capsule capsule (placed 0) before now first (stands.media 0 0 (omega arith)))
-            (holds_still opening events vault.config 1 vault.long_term long_term (placed 1) before now second (stands.media 1 0 (omega arith)));
-        level = stands.level;
-        incidents_are = stands.incidents_are;
-        slots = stands.slots;
-        table = λ told. subst (λ (i : Image). HoldsTable vault.config.incident_slots vault.table (content i 1)) (sym (first.unchanged.reads told)) (stands.table told);
-        there = stands.there;
-        goes_on = stands.goes_on;
-        newest = stands.newest;
-        place = stands.place;
-        stamp = stands.stamp;
-      }
-
-  -- the same of what can be read
-  readable_at_still : (opening : Opening) (events : List Event) (m : ℕ) (old new : RingState) (placed : List Placed) (before now : Disk tells tells_images) → HasRead old new before now
-      → IsReadableAt opening events m old placed before → IsReadableAt opening events m new placed now
-  readable_at_still opening events m old new placed before now read h = record { reads = read.reads placed h.reads; order = h.order; retains = h.retains }
-
-  readable_with : (opening : Opening) (events : List Event) (placed : ℕ → List Placed) (vault : VaultState) (capsule long_term : RingState) (before now : Disk tells tells_images)
-      → HasRead vault.capsule capsule before now → HasRead vault.long_term long_term before now → IsReadable opening events vault placed before
-      → IsReadable opening events (record vault { capsule = capsule; long_term = long_term }) placed now
-  readable_with opening events placed vault capsule long_term before now first second h =
-      let new : VaultState = record vault { capsule = capsule; long_term = long_term } in
-      record {
-        settings = h.settings;
-        working = h.working;
-        media = all_two (λ m. IsReadableAt opening events m (ring_of new m) (placed m) now)
-            (readable_at_still opening events 0 vault.capsule capsule (placed 0) before now first (h.media 0 0 (omega arith)))
-            (readable_at_still opening events 1 vault.long_term long_term (placed 1) before now second (h.media 1 0 (omega arith)));
-        incidents_are = h.incidents_are;
-      }
-
   -- What stands can be read.
   pub stands_to_read : (opening : Opening) (events : List Event) (vault : VaultState) (placed : ℕ → List Placed) (disk : Disk tells tells_images) → Stands opening events vault placed disk
       → IsReadable opening events vault placed disk
@@ -121,48 +114,51 @@ module _ {tells tells_images : Type 0} where
     settings = stands.settings;
     working = stands.working;
     media = All-weaker (λ m. HoldsHistory opening events vault.config m (ring_of vault m) (placed m) disk) (λ m. IsReadableAt opening events m (ring_of vault m) (placed m) disk)
-        (λ m h. record { reads = h.reads; order = h.order; retains = h.retains }) both stands.media;
+        (λ m h. record { reads = h.reads; order = h.order; retains = h.retains }) members stands.media;
     incidents_are = stands.incidents_are;
   }
 
-  rings_with : (vault : VaultState) (capsule long_term : RingState) (before now : Disk tells tells_images) → HasRead vault.capsule capsule before now
-      → HasRead vault.long_term long_term before now → AreRings vault before.sizes → AreRings (record vault { capsule = capsule; long_term = long_term }) now.sizes
-  rings_with vault capsule long_term before now first second rings =
-      let new : VaultState = record vault { capsule = capsule; long_term = long_term } in
-      all_two (λ m. IsRingOf vault.config now.sizes m (ring_of new m)) (is_ring_still vault.config 0 vault.capsule capsule before now first (rings 0 0 (omega arith)))
-      (is_ring_still vault.config 1 vault.long_term long_term before now second (rings 1 0 (omega arith)))
+  -- A vault whose rings have read stands on.
+  pub stands_over : (opening : Opening) (events : List Event) (placed : ℕ → List Placed) (old new : VaultState) (before now : Disk tells tells_images) → new ≡ record old { rings = new.rings }
+      → ((k : ℕ) → HasRead (ring_of old k) (ring_of new k) before now) → Stands opening events old placed before → Stands opening events new placed now
+  stands_over opening events placed old new before now vault read stands = subst (λ (s : VaultState). Stands opening events s placed now) (sym vault) (record {
+    settings = stands.settings;
+    working = stands.working;
+    media = All-weaker (λ k. HoldsHistory opening events old.config k (ring_of old k) (placed k) before) (λ k. HoldsHistory opening events old.config k (ring_of new k) (placed k) now)
+        (λ k h. holds_still opening events old.config k (ring_of old k) (ring_of new k) (placed k) before now (read k) h) members stands.media;
+    level = stands.level;
+    incidents_are = stands.incidents_are;
+    slots = stands.slots;
+    table = λ told. subst (λ (i : Image). HoldsTable old.config.incident_slots old.table (content i 1)) (sym ((read 1).unchanged.reads told)) (stands.table told);
+    there = stands.there;
+    goes_on = stands.goes_on;
+    newest = stands.newest;
+    place = stands.place;
+    stamp = stands.stamp;
+  })
 
-  -- Both rings have read, of which one read nothing.
-  pub record BothRead (old new : VaultState) (before now : Disk tells tells_images) : Type 0 where
-    pub same : new ≡ record old { capsule = new.capsule; long_term = new.long_term }
-    pub capsule : HasRead old.capsule new.capsule before now
-    pub long_term : HasRead old.long_term new.long_term before now
+  -- One ring has read, and no other.
+  module _ (m : ℕ) (old new : VaultState) (before now : Disk tells tells_images) (vault : ReadsOn m old new) (read : HasRead (ring_of old m) (ring_of new m) before now) where
+    each_read : (k : ℕ) → HasRead (ring_of old k) (ring_of new k) before now
+    each_read = at_one (λ k. HasRead (ring_of old k) (ring_of new k) before now) m read
+        (λ k other. subst (λ (r : RingState). HasRead (ring_of old k) r before now) (sym (vault.others k other)) (other_read (ring_of old k) before now read.unchanged))
 
-  pub both_read : (m : ℕ) (old new : VaultState) (before now : Disk tells tells_images) → m < 2 → ReadsOn m old new → HasRead (ring_of old m) (ring_of new m) before now → BothRead old new before now
-  both_read zero old new before now within vault read = record {
-    same = with_rings old new (record old.capsule { buffer = new.capsule.buffer; loaded = new.capsule.loaded }) old.long_term vault;
-    capsule = read;
-    long_term = subst (λ (r : RingState). HasRead old.long_term r before now) (sym (ap (λ (s : VaultState). s.long_term) vault)) (other_read old.long_term before now read.unchanged);
-  }
-  both_read (suc zero) old new before now within vault read = record {
-    same = with_rings old new old.capsule (record old.long_term { buffer = new.long_term.buffer; loaded = new.long_term.loaded }) vault;
-    capsule = subst (λ (r : RingState). HasRead old.capsule r before now) (sym (ap (λ (s : VaultState). s.capsule) vault)) (other_read old.capsule before now read.unchanged);
-    long_term = read;
-  }
-  both_read (suc (suc m)) old new before now within vault read = absurd (omega (arith, within))
+    pub stands_still : (opening : Opening) (events : List Event) (placed : ℕ → List Placed) → Stands opening events old placed before → Stands opening events new placed now
+    stands_still opening events placed stands = stands_over opening events placed old new before now vault.vault each_read stands
 
-  pub stands_still : (opening : Opening) (events : List Event) (placed : ℕ → List Placed) (old new : VaultState) (before now : Disk tells tells_images) → BothRead old new before now
-      → Stands opening events old placed before → Stands opening events new placed now
-  stands_still opening events placed old new before now read stands =
-      subst (λ (s : VaultState). Stands opening events s placed now) (sym read.same)
-      (stands_with opening events placed old new.capsule new.long_term before now read.capsule read.long_term stands)
+    -- The same of what can be read.
+    pub readable_still : (opening : Opening) (events : List Event) (placed : ℕ → List Placed) → IsReadable opening events old placed before → IsReadable opening events new placed now
+    readable_still opening events placed h = subst (λ (s : VaultState). IsReadable opening events s placed now) (sym vault.vault) (record {
+      settings = h.settings;
+      working = h.working;
+      media = All-weaker (λ k. IsReadableAt opening events k (ring_of old k) (placed k) before) (λ k. IsReadableAt opening events k (ring_of new k) (placed k) now)
+          (λ k at. record { reads = (each_read k).reads (placed k) at.reads; order = at.order; retains = at.retains }) members h.media;
+      incidents_are = h.incidents_are;
+    })
 
-  pub readable_still : (opening : Opening) (events : List Event) (placed : ℕ → List Placed) (old new : VaultState) (before now : Disk tells tells_images) → BothRead old new before now
-      → IsReadable opening events old placed before → IsReadable opening events new placed now
-  readable_still opening events placed old new before now read h =
-      subst (λ (s : VaultState). IsReadable opening events s placed now) (sym read.same)
-      (readable_with opening events placed old new.capsule new.long_term before now read.capsule read.long_term h)
-
-  pub rings_still : (old new : VaultState) (before now : Disk tells tells_images) → BothRead old new before now → AreRings old before.sizes → AreRings new now.sizes
-  rings_still old new before now read rings =
-      subst (λ (s : VaultState). AreRings s now.sizes) (sym read.same) (rings_with old new.capsule new.long_term before now read.capsule read.long_term rings)
+    pub rings_still : AreRings old before.sizes → AreRings new now.sizes
+    rings_still are = subst (λ (s : VaultState). AreRings s now.sizes) (sym vault.vault) (record {
+      count = vault.count ∙ are.count;
+      each = All-weaker (λ k. IsRingOf old.config before.sizes k (ring_of old k)) (λ k. IsRingOf old.config now.sizes k (ring_of new k))
+          (λ k its. is_ring_still old.config k (ring_of old k) (ring_of new k) before now (each_read k) its) members are.each;
+    })

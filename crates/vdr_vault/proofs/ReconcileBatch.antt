@@ -1,47 +1,81 @@
 -- The last batch of a legal medium: its records are legal, and their places run on.
-use Rattle.std.proofs.Common.{◌≡◌, ⊎_elim, ℕ, suc, ◌+◌, List, [], ◌∷◌, ◌++◌, length, true, All, Contains, Option, Some, None, sym, ◌∙◌, subst, arith}
-use Rattle.std.proofs.lemmas.Bool.{eqb-true}
+use Rattle.std.proofs.Common.{◌≡◌, ⊎_elim, ℕ, suc, ◌+◌, List, [], ◌∷◌, ◌++◌, length, true, All, Contains, Option, Some, None, sym, ◌∙◌, subst, arith, inl, inr, ◌<◌, ◌≤◌, refl, ap, false, ◌⊎◌}
+use Rattle.std.proofs.lemmas.Bool.{eqb-true, and_parts, leb-true, true≢false}
 use Rattle.std.proofs.lemmas.List.Elements.{All-nil, All-append, All-contains, All-head, All-tail, Contains-append_cases}
 use Rattle.vdr_terms.specs.Records.{Record, last}
-use Rattle.vdr_terms.specs.Order.{RunOn}
+use Rattle.vdr_terms.specs.Order.{RunOn, NeverFalls}
 use Rattle.vdr_segment.specs.Batches.{IsBatch}
 use Rattle.vdr_retention.specs.Layout.{Batches, segment_records}
 use Rattle.vdr_retention.proofs.Lists.{contains_cases, last_contained, none_contained}
-use Rattle.vdr_durability.specs.Readings.{begins_at}
-use Rattle.vdr_directory.specs.Sequence.{Placed, batches_in, batches_of, first_of}
+use Rattle.vdr_durability.specs.Readings.{begins_at, EndsMeet, IsPassedOn, begins_since, comes_next, ends_before, next_after}
+use Rattle.vdr_directory.specs.Sequence.{Placed, batches_in, batches_of, first_of, all_records}
 use Rattle.vdr_directory.specs.Order.{AreInOrder, AreInPlace}
 use Rattle.vdr_directory.specs.Holds.{HoldsPlaced}
 use Rattle.vdr_ring.proofs.Beginning.{legal_batches}
+use Rattle.vdr_terms.specs.Needs.{needed_slots, slots_in}
+use Rattle.vdr_terms.specs.Sizes.{batch_size}
+use Rattle.vdr_retention.specs.Regular.{FollowOn}
+use Rattle.vdr_durability.specs.Shown.{pins_of}
+use Rattle.vdr_outside.specs.Disk.{Disk, Durable, Image, content}
+use Rattle.vdr_outside.specs.Moments.{Changed}
+use Rattle.vdr_outside.proofs.Moments.{size_read}
+use Rattle.vdr_config.specs.Configuration.{IsConfiguration}
+use Rattle.vdr_config.specs.Sizes.{sizes_of}
+use Rattle.vdr_media.proofs.Two.{all_two}
+use Rattle.vdr_slots.specs.Slots.{SameFront}
+use Rattle.vdr_ring.specs.Rings.{RingState}
+use Rattle.vdr_directory.specs.Growing.{Continues}
+use Rattle.vdr_ring.specs.Stages.{AreStages, Stages}
+use Rattle.vdr_ring.specs.Regularity.{MissOneAtMost}
+use Rattle.vdr_ring.specs.Keeping.{AreWhole}
+use Rattle.vdr_ring.proofs.Staging.{stages_in_order}
+use Rattle.vdr_opening.specs.Media.{members, Contents, HoldsContents, IsMedium, reading_of}
+use Rattle.vdr_opening.specs.Answers.{IsMissing, IsRingOf}
+use Rattle.vdr_vault.proofs.Members.{passed_on}
+use Rattle.vdr_vault.specs.Openings.{EndsWithin}
+use Rattle.vdr_vault.proofs.ShownImages.{front_stays, table_stays, placed_there, records_are}
+use Rattle.vdr_vault.proofs.CommitReady.{begins_first, continues, windowed}
+use Rattle.vdr_vault.proofs.CommitStages.{at_both}
+use Rattle.vdr_media.proofs.Formats.{zero_one}
+use Rattle.vdr_vault.specs.Passes.{Has, Lacks as Waiting}
 
-run_front : (place : ℕ) (xs ys : List Record) → RunOn place (xs ++ ys) → RunOn place xs
-run_front place [] ys h = tt
-run_front place (x ∷ xs) ys h = (h.0, run_front (suc place) xs ys h.1)
+-- Records that go on: their places run, and their ticks never fall. So do those in front and those behind.
 
-pub run_behind : (place : ℕ) (xs ys : List Record) → RunOn place (xs ++ ys) → RunOn (place + length xs) ys
-run_behind place [] ys h = subst (λ (n : ℕ). RunOn n ys) (let e : place ≡ place + 0 = omega arith in e) h
-run_behind place (x ∷ xs) ys h = subst (λ (n : ℕ). RunOn n ys) (let e : suc place + length xs ≡ place + length (x ∷ xs) = omega arith in e) (run_behind (suc place) xs ys h.1)
+runs_in_front : (place from : ℕ) (xs ys : List Record) → RunOn place (xs ++ ys) → NeverFalls from (xs ++ ys) → RunOn place xs × NeverFalls from xs
+runs_in_front place from [] ys run falls = (tt, tt)
+runs_in_front place from (x ∷ xs) ys run falls = let k = runs_in_front (suc place) x.tick xs ys run.1 falls.1 in ((run.0, k.0), (falls.0, k.1))
 
-batch_runs_on : (place : ℕ) (bs : Batches) (batch : List Record) → RunOn place (segment_records bs) → Contains bs batch → (from : ℕ) × RunOn from batch
-batch_runs_on place [] batch run there = absurd (none_contained batch there)
-batch_runs_on place (b ∷ bs) batch run there =
+runs_behind : (place from : ℕ) (xs ys : List Record) → RunOn place (xs ++ ys) → NeverFalls from (xs ++ ys) → (p : ℕ) × (t : ℕ) × RunOn p ys × NeverFalls t ys
+runs_behind place from [] ys run falls = (place, from, run, falls)
+runs_behind place from (x ∷ xs) ys run falls = runs_behind (suc place) x.tick xs ys run.1 falls.1
+
+batch_goes_on : (place from : ℕ) (bs : Batches) (batch : List Record) → RunOn place (segment_records bs) → NeverFalls from (segment_records bs) → Contains bs batch → (p : ℕ) × (t : ℕ) × RunOn p batch × NeverFalls t batch
+batch_goes_on place from [] batch run falls there = absurd (none_contained batch there)
+batch_goes_on place from (b ∷ bs) batch run falls there =
     ⊎_elim
-    (λ (e : b ≡ batch). (place, subst (RunOn place) e (run_front place b (segment_records bs) run)))
-    (λ (k : Contains bs batch). batch_runs_on (place + length b) bs batch (run_behind place b (segment_records bs) run) k)
+    (λ (e : b ≡ batch).
+    let k = runs_in_front place from b (segment_records bs) run falls in
+    let here : (p : ℕ) × (t : ℕ) × RunOn p batch × NeverFalls t batch = (place, from, subst (RunOn place) e k.0, subst (NeverFalls from) e k.1) in
+    here)
+    (λ (k : Contains bs batch). let l = runs_behind place from b (segment_records bs) run falls in batch_goes_on l.0 l.1 bs batch l.2 l.3 k)
     (contains_cases b bs batch there)
 
-pub placed_runs_on : (o : Option Placed) (placed : List Placed) (batch : List Record) → AreInPlace o placed → Contains (batches_in placed) batch → (from : ℕ) × RunOn from batch
-placed_runs_on o [] batch order there = absurd (none_contained batch there)
-placed_runs_on o (p ∷ placed) batch order there =
+placed_goes_on : (o : Option Placed) (placed : List Placed) (batch : List Record) → AreInPlace o placed → Contains (batches_in placed) batch → (p : ℕ) × (t : ℕ) × RunOn p batch × NeverFalls t batch
+placed_goes_on o [] batch order there = absurd (none_contained batch there)
+placed_goes_on o (p ∷ placed) batch order there =
     ⊎_elim
-    (λ (k : Contains (batches_of p) batch). batch_runs_on (first_of p) (batches_of p) batch order.0.runs_on.places k)
-    (λ (k : Contains (batches_in placed) batch). placed_runs_on (Some p) placed batch order.1 k)
+    (λ (k : Contains (batches_of p) batch). batch_goes_on (first_of p) 0 (batches_of p) batch order.0.runs_on.places order.0.runs_on.ticks k)
+    (λ (k : Contains (batches_in placed) batch). placed_goes_on (Some p) placed batch order.1 k)
     (Contains-append_cases (batches_of p) (batches_in placed) batch there)
+
+pub placed_runs_on : (o : Option Placed) (placed : List Placed) (batch : List Record) → AreInPlace o placed → Contains (batches_in placed) batch → (from : ℕ) × RunOn from batch
+placed_runs_on o placed batch order there = let k = placed_goes_on o placed batch order there in (k.0, k.2)
 
 pub last_runs_on : (placed : List Placed) (batch : List Record) → AreInOrder placed → last (batches_in placed) ≡ Some batch → (from : ℕ) × RunOn from batch
 last_runs_on placed batch order ends = placed_runs_on None placed batch order (last_contained (batches_in placed) batch ends)
 
 -- From the place that it begins at.
-pub runs_from : (batch : List Record) (from place : ℕ) → RunOn place batch → begins_at from batch ≡ true → RunOn from batch
+runs_from : (batch : List Record) (from place : ℕ) → RunOn place batch → begins_at from batch ≡ true → RunOn from batch
 runs_from [] from place run begins = tt
 runs_from (r ∷ rs) from place run begins = subst (λ (n : ℕ). RunOn n (r ∷ rs)) (sym run.0 ∙ eqb-true r.place from begins) run
 
@@ -52,3 +86,160 @@ all_legal (p ∷ placed) h = All-append IsBatch (batches_of p) (batches_in place
 pub last_is_legal : (segment count : ℕ) (placed : List Placed) (bytes : List ℕ) (batch : List Record) → HoldsPlaced segment count placed bytes → last (batches_in placed) ≡ Some batch → IsBatch batch
 last_is_legal segment count placed bytes batch holds ends =
     All-contains IsBatch (batches_in placed) batch (all_legal placed (legal_batches segment count placed bytes holds)) (last_contained (batches_in placed) batch ends)
+
+-- What the long-term medium holds while the batch that it lacks is appended to it, whether the media are sound or not.
+
+from_zero : (batch : List Record) (t : ℕ) → NeverFalls t batch → NeverFalls 0 batch
+from_zero [] t falls = tt
+from_zero (r ∷ rs) t falls = (omega arith, falls.1)
+
+-- A batch whose first record may come next follows
+follows : (newest : Option Record) (batch : List Record) (t : ℕ) → NeverFalls t batch → RunOn (next_after newest) batch → begins_since newest batch ≡ true → FollowOn newest batch
+follows None batch t falls run since = (0, run, from_zero batch t falls)
+follows (Some r) [] t falls run since = (run, tt)
+follows (Some r) (x ∷ xs) t falls run since = (run, (leb-true r.tick x.tick since, falls.1))
+
+begun : (place : ℕ) (batch : List Record) → begins_at place batch ≡ true → 0 < length batch
+begun place [] h = absurd (true≢false (sym h))
+begun place (r ∷ rs) h = omega arith
+
+-- The place after the last record of the long-term medium.
+abbrev pub first_place : Contents → ℕ
+first_place x = next_after (last (all_records (x.placed 1)))
+
+-- What media whose ends meet lack
+module _ (x : Contents) where
+  waiting : (o : Option (List Record)) → last (batches_in (x.placed 0)) ≡ o → ends_before o (batches_in (x.placed 1)) ≡ true → (missing : List Record) × IsMissing missing 1 (reading_of x)
+  waiting None is waits = absurd (true≢false (sym waits))
+  waiting (Some batch) is waits = (batch, inr (passed_on batch (reading_of x) is waits))
+
+  pub lacked : EndsMeet members (reading_of x) → (missing : List Record) × IsMissing missing 1 (reading_of x)
+  lacked (inl (same, inl (level, end))) = ([], inl (refl, all_two (λ m. last (batches_in (x.placed m)) ≡ last (batches_in (x.placed 0))) refl level))
+  lacked (inl (same, inr waits)) = waiting (last (batches_in (x.placed 0))) refl (waits 0 1 (omega arith))
+  lacked (inr waits) = waiting (last (batches_in (x.placed 0))) refl (waits 1 1 (omega arith))
+
+-- Media that hold these contents lack no more than that.
+pub held_within : (x : Contents) (image : Image) → EndsMeet members (reading_of x) → HoldsContents image x → EndsWithin x image
+held_within x image meet h =
+    let lacks = lacked x meet in
+    record {
+      capsule = h.media 0 0 (omega arith);
+      now = x.placed 1;
+      long_term = h.media 1 1 (omega arith);
+      table = h.table;
+      missing = lacks.0;
+      lacks = lacks.1;
+      whole = record { kept = x.placed 1; missing = inl refl; batches = inl refl };
+    }
+
+-- What is known of the media before it: they hold these contents, the capsule is durable, and this is the long-term medium's ring.
+pub record Lacks {tells tells_images : Type 0} (x : Contents) (batch : List Record) (ring : RingState) (disk : Disk tells tells_images) : Type 0 where
+  pub told : tells
+  pub holds : HoldsContents disk.reads x
+  pub passed : IsPassedOn members (0 ∷ []) (1 ∷ []) batch (reading_of x)
+  pub capsule : Durable 0 disk
+  pub is_its : IsRingOf x.config disk.sizes 1 ring
+  pub reads : HoldsPlaced ring.segment ring.slots (x.placed 1) (content disk.reads 1)
+  pub ranges : IsConfiguration x.config
+  pub fits : 64 + batch_size batch + 1 ≤ ring.segment
+
+module _ {tells tells_images : Type 0} (x : Contents) (batch : List Record) (ring : RingState) (disk : Disk tells tells_images) (h : Lacks x batch ring disk) where
+  order : AreInOrder (x.placed 1)
+  order = (h.holds.media 1 1 (omega arith)).segments.order
+
+  capsule_order : AreInOrder (x.placed 0)
+  capsule_order = (h.holds.media 0 0 (omega arith)).segments.order
+
+  ends : last (batches_in (x.placed 0)) ≡ Some batch
+  ends = h.passed.given_end 0 0 (omega arith)
+
+  comes : comes_next (last (all_records (x.placed 1))) batch ≡ true
+  comes = ap (λ (rs : List Record). comes_next (last rs) batch) (sym (records_are (x.placed 1))) ∙ h.passed.waiting_end 0 1 (omega arith)
+
+  begins : begins_at (first_place x) batch ≡ true
+  begins = (and_parts _ _ comes).0
+
+  runs : RunOn (first_place x) batch
+  runs = let run = last_runs_on (x.placed 0) batch capsule_order ends in runs_from batch (first_place x) run.0 run.1 begins
+
+  pub lacked_follows : FollowOn (last (all_records (x.placed 1))) batch
+  lacked_follows =
+      let goes_on = placed_goes_on None (x.placed 0) batch capsule_order (last_contained (batches_in (x.placed 0)) batch ends) in
+      follows (last (all_records (x.placed 1))) batch goes_on.1 goes_on.3 runs (and_parts _ _ comes).1
+
+  -- The batch goes on where the medium ends.
+  pub lacked_goes_on : Continues (x.placed 1) (first_place x) batch
+  lacked_goes_on = continues (x.placed 1) batch (first_place x) order refl runs (begun (first_place x) batch begins) lacked_follows
+
+  module _ (stages : Stages) (are : AreStages ring.segment ring.slots ring.seconds (pins_of x.table) (x.placed 1) (first_place x) batch stages) where
+    pub lacked_orders : AreInOrder stages.closed × AreInOrder stages.begun × AreInOrder stages.done × AreInOrder stages.left
+    lacked_orders =
+        let enough = subst (λ (n : ℕ). needed_slots (sizes_of x.config) 1 ≤ n) (sym (h.is_its.slots ∙ ap (λ (n : ℕ). slots_in (sizes_of x.config) n) (sym (size_read disk 1 h.told)))) (h.holds.media 1 1 (omega arith)).front.configured.fits in
+        let found = stages_in_order ring.segment ring.slots ring.seconds (pins_of x.table) h.reads.slots (x.placed 1) (first_place x) batch stages (record {
+          sequence = h.reads.sequence;
+          every = h.reads.all_slots;
+          order = order;
+          batches = legal_batches ring.segment ring.slots (x.placed 1) (content disk.reads 1) h.reads;
+          goes_on = lacked_goes_on;
+          legal = last_is_legal _ _ (x.placed 0) _ batch (h.holds.media 0 0 (omega arith)).segments.holds ends;
+          fits = h.fits;
+          some = subst (λ (n : ℕ). 0 < n) (sym h.is_its.seconds) (windowed x.config 1 h.ranges);
+          two = omega (arith, enough);
+        }) are in
+        (found.0, found.1 (begins_first (x.placed 1) (first_place x) refl), found.2, found.3)
+
+  -- What the long-term medium has of the batch, in an image.
+  abbrev pub LacksIt : List ℕ → Type 0
+  LacksIt bytes = Waiting false ring (pins_of x.table) (x.placed 1) (first_place x) batch (content disk.reads 1) bytes
+
+  abbrev pub HasIt : List ℕ → Type 0
+  HasIt bytes = Has false ring (pins_of x.table) (x.placed 1) (first_place x) batch (content disk.reads 1) bytes
+
+  pub lacked_order : (bytes : List ℕ) (l : LacksIt bytes) → AreInOrder l.now
+  lacked_order bytes l = ⊎_elim
+      (λ (e : l.now ≡ x.placed 1). subst AreInOrder (sym e) order)
+      (λ s. ⊎_elim (λ (e : l.now ≡ s.0.closed). subst AreInOrder (sym e) (lacked_orders s.0 s.1).0) (λ (e : l.now ≡ s.0.begun). subst AreInOrder (sym e) (lacked_orders s.0 s.1).1) s.2)
+      l.stage
+
+  pub had_order : (bytes : List ℕ) (d : HasIt bytes) → AreInOrder d.now
+  had_order bytes d = let orders = lacked_orders d.stages d.are in at_both d.stages d.now d.stage AreInOrder orders.2 orders.3
+
+  within_so : (now : List Placed) → AreInOrder now → AreWhole (x.placed 1) now batch → (i : Image) → Changed 1 (λ b. LacksIt b ⊎ HasIt b) disk.now i → SameFront (content disk.reads 1) (content i 1)
+      → HoldsPlaced ring.segment ring.slots now (content i 1) → EndsWithin x i
+  within_so now in_order whole i c front held = record {
+    capsule = subst (IsMedium 0 x.config x.text (x.placed 0)) (sym (c.others 0 zero_one ∙ h.capsule.each c.image c.was)) (h.holds.media 0 0 (omega arith));
+    now = now;
+    long_term = record {
+      front = front_stays (content disk.reads 1) (content i 1) front 1 x.config x.text (h.holds.media 1 1 (omega arith)).front;
+      segments = record { holds = placed_there x.config disk.sizes 1 ring now (content i 1) h.is_its (front.size ∙ size_read disk 1 h.told) held; order = in_order };
+    };
+    table = table_stays (content disk.reads 1) (content i 1) front x.config.incident_slots x.table h.ranges.slots_high h.holds.table;
+    missing = batch;
+    lacks = inr h.passed;
+    whole = whole;
+  }
+
+  -- Whole batches stand there at every moment.
+  pub appending_within :
+      ((stages : Stages) → AreStages ring.segment ring.slots ring.seconds (pins_of x.table) (x.placed 1) (first_place x) batch stages
+      → MissOneAtMost stages.closed (x.placed 1) × (batches_in stages.begun ≡ batches_in stages.closed) × (batches_in stages.done ≡ batches_in stages.closed ++ batch ∷ [])
+      × (batches_in stages.left ≡ batches_in stages.done))
+      → (i : Image) → Changed 1 (λ b. LacksIt b ⊎ HasIt b) disk.now i → EndsWithin x i
+  appending_within batches i c = ⊎_elim
+      (λ (l : LacksIt (content i 1)). within_so l.now (lacked_order (content i 1) l) (whole l) i c l.front l.holds)
+      (λ (d : HasIt (content i 1)).
+      let b = batches d.stages d.are in
+      within_so d.now (had_order (content i 1) d)
+      (record { kept = d.stages.closed; missing = b.0; batches = inr (at_both d.stages d.now d.stage (λ ps. batches_in ps ≡ batches_in d.stages.closed ++ batch ∷ []) b.2 (b.3 ∙ b.2)) }) i c d.front d.holds)
+      c.has
+    where
+      whole : (l : LacksIt (content i 1)) → AreWhole (x.placed 1) l.now batch
+      whole l = ⊎_elim
+          (λ (e : l.now ≡ x.placed 1). record { kept = x.placed 1; missing = inl refl; batches = inl (ap batches_in e) })
+          (λ s.
+          let b = batches s.0 s.1 in
+          ⊎_elim
+          (λ (e : l.now ≡ s.0.closed). record { kept = s.0.closed; missing = b.0; batches = inl (ap batches_in e) })
+          (λ (e : l.now ≡ s.0.begun). record { kept = s.0.closed; missing = b.0; batches = inl (ap batches_in e ∙ b.1) })
+          s.2)
+          l.stage

@@ -10,22 +10,20 @@ use Rattle.vdr_retention.specs.Victims.{ArePinsOf}
 use Rattle.vdr_durability.specs.Shown.{given_with, pins_on}
 use Rattle.vdr_durability.proofs.Shows.{incidents_with, recorded_with}
 use Rattle.vdr_outside.specs.Disk.{Disk, Durable, Image, Unchanged, content}
-use Rattle.vdr_outside.specs.Parts.{part}
-use Rattle.vdr_outside.proofs.Moments.{settled_still, size_read}
+use Rattle.vdr_outside.proofs.Moments.{size_read}
 use Rattle.vdr_config.specs.Configuration.{Configuration}
 use Rattle.vdr_config.specs.Sizes.{sizes_of, window_of}
 use Rattle.vdr_directory.specs.Sequence.{Placed}
 use Rattle.vdr_directory.specs.Sequence as sequence
 use Rattle.vdr_directory.specs.Holds.{HoldsPlaced}
 use Rattle.vdr_ring.specs.Rings.{RingState}
-use Rattle.vdr_slots.specs.Slots.{place_of}
 use Rattle.vdr_incident.specs.Tables.{HoldsTable}
-use Rattle.vdr_opening.specs.Media.{both, HasFront, HoldsContents, IsMedium}
-use Rattle.vdr_opening.specs.Answers.{IsRingOf}
+use Rattle.vdr_opening.specs.Media.{members, HasFront, HoldsContents, IsMedium}
 use Rattle.vdr_vault.specs.Vaults.{VaultState, HoldsHistory, ShowsHistory, Stands, of_stamp, ring_of}
 use Rattle.vdr_durability.specs.Soundness.{IsUnbroken}
 use Rattle.vdr_vault.specs.Regularity.{AreSound}
 use Rattle.vdr_vault.proofs.ShownImages.{placed_there, shown_level}
+use Rattle.vdr_vault.proofs.Playing.{other_read, stands_over}
 use Rattle.vdr_vault.proofs.Sounding.{IsSoundAlone, sound_level}
 use Rattle.vdr_durability.proofs.Unbroken.{unbroken_held}
 use Rattle.vdr_directory.specs.Order.{AreInOrder as InOrder}
@@ -68,9 +66,9 @@ module _ {tells tells_images : Type 0} where
       → AreSound (record { config = vault.config; text = opening.settings.text; placed = placed; table = vault.table })
   stands_sound opening events vault placed disk stands =
       sound_level (record { config = vault.config; text = opening.settings.text; placed = placed; table = vault.table }) stands.level
-      (All-weaker (λ m. HoldsHistory opening events vault.config m (ring_of vault m) (placed m) disk) (λ m. InOrder (placed m)) (λ m h. h.reads.order) both stands.media)
-      (sound_alone opening events vault.config 0 vault.capsule (placed 0) vault.table disk (stands.media 0 0 (omega arith)) (ap (λ (s : Settings). s.seconds 0) stands.settings) stands.incidents_are)
-      (sound_alone opening events vault.config 1 vault.long_term (placed 1) vault.table disk (stands.media 1 1 (omega arith)) (ap (λ (s : Settings). s.seconds 1) stands.settings) stands.incidents_are)
+      (All-weaker (λ m. HoldsHistory opening events vault.config m (ring_of vault m) (placed m) disk) (λ m. InOrder (placed m)) (λ m h. h.reads.order) members stands.media)
+      (sound_alone opening events vault.config 0 (ring_of vault 0) (placed 0) vault.table disk (stands.media 0 0 (omega arith)) (ap (λ (s : Settings). s.seconds 0) stands.settings) stands.incidents_are)
+      (sound_alone opening events vault.config 1 (ring_of vault 1) (placed 1) vault.table disk (stands.media 1 1 (omega arith)) (ap (λ (s : Settings). s.seconds 1) stands.settings) stands.incidents_are)
 
   -- What a stop may leave of a vault at rest shows all its events.
   pub stand_shows : (opening : Opening) (events : List Event) (vault : VaultState) (placed : ℕ → List Placed) (disk : Disk tells tells_images) → Stands opening events vault placed disk
@@ -79,59 +77,27 @@ module _ {tells tells_images : Type 0} where
       shown_level opening events (record { config = vault.config; text = opening.settings.text; placed = placed; table = vault.table }) image holds
       (stands_sound opening events vault placed disk stands) refl stands.incidents_are stands.level
       (All-weaker (λ m. HoldsHistory opening events vault.config m (ring_of vault m) (placed m) disk)
-      (λ m. Retains (opening.settings.seconds m) (pins_on m (incidents opening events)) (given_with opening events m) (sequence.all_records (placed m))) (λ m h. h.retains) both stands.media)
+      (λ m. Retains (opening.settings.seconds m) (pins_on m (incidents opening events)) (given_with opening events m) (sequence.all_records (placed m))) (λ m h. h.retains) members stands.media)
     where
       told : tells
       told = (disk.shown (disk.told image now)).0
 
       long : Durable 1 disk
-      long = durable_at opening events vault.config 1 vault.long_term (placed 1) disk (stands.media 1 1 (omega arith))
+      long = durable_at opening events vault.config 1 (ring_of vault 1) (placed 1) disk (stands.media 1 1 (omega arith))
 
       holds : HoldsContents image (record { config = vault.config; text = opening.settings.text; placed = placed; table = vault.table })
       holds = record {
         media = All-weaker (λ m. HoldsHistory opening events vault.config m (ring_of vault m) (placed m) disk)
             (λ m. IsMedium m vault.config opening.settings.text (placed m) (content image m))
-            (λ m h. legible_at opening events vault.config m (ring_of vault m) (placed m) disk h image now) both stands.media;
+            (λ m h. legible_at opening events vault.config m (ring_of vault m) (placed m) disk h image now) members stands.media;
         table = subst (HoldsTable vault.config.incident_slots vault.table) (sym (long.each image now)) (stands.table told);
         there = stands.there;
       }
 
   -- It stands on over calls that only read.
-  pub history_still : (opening : Opening) (events : List Event) (c : Configuration) (m : ℕ) (ring : RingState) (placed : List Placed) (old new : Disk tells tells_images) → Unchanged old new
-      → HoldsHistory opening events c m ring placed old → HoldsHistory opening events c m ring placed new
-  history_still opening events c m ring placed old new same h = record {
-    is_its = subst (λ (sizes : List ℕ). IsRingOf c sizes m ring) (sym same.sizes) h.is_its;
-    reads = record {
-      settled = settled_still ring.medium (HoldsPlaced ring.segment ring.slots placed) old new same h.reads.settled;
-      order = h.reads.order;
-      directory = h.reads.directory;
-      loaded = λ j is told. h.reads.loaded j is told ∙ ap (λ (image : Image). part (content image ring.medium) (place_of ring.segment j) ring.segment) (sym (same.reads told));
-    };
-    front = λ told. subst (λ (image : Image). HasFront m c opening.settings.text (content image m)) (sym (same.reads told)) (h.front told);
-    regular = h.regular;
-    order = h.order;
-    retains = h.retains;
-    pins = h.pins;
-    unbroken = h.unbroken;
-  }
-
   pub stands_still : (opening : Opening) (events : List Event) (vault : VaultState) (placed : ℕ → List Placed) (old new : Disk tells tells_images) → Unchanged old new
       → Stands opening events vault placed old → Stands opening events vault placed new
-  stands_still opening events vault placed old new same stands = record {
-    settings = stands.settings;
-    working = stands.working;
-    media = All-weaker (λ m. HoldsHistory opening events vault.config m (ring_of vault m) (placed m) old) (λ m. HoldsHistory opening events vault.config m (ring_of vault m) (placed m) new)
-        (λ m h. history_still opening events vault.config m (ring_of vault m) (placed m) old new same h) both stands.media;
-    level = stands.level;
-    incidents_are = stands.incidents_are;
-    slots = stands.slots;
-    table = λ told. subst (λ (image : Image). HoldsTable vault.config.incident_slots vault.table (content image 1)) (sym (same.reads told)) (stands.table told);
-    there = stands.there;
-    goes_on = stands.goes_on;
-    newest = stands.newest;
-    place = stands.place;
-    stamp = stands.stamp;
-  }
+  stands_still opening events vault placed old new same = stands_over opening events placed vault vault old new refl (λ k. other_read (ring_of vault k) old new same)
 
 -- And with an event that records nothing.
 module _ (opening : Opening) (events : List Event) (e : Event) (none : records_of_act e.act ≡ []) where
@@ -171,7 +137,7 @@ module _ (opening : Opening) (events : List Event) (e : Event) (none : records_o
       settings = stands.settings;
       working = stands.working;
       media = All-weaker (λ m. HoldsHistory opening events vault.config m (ring_of vault m) (placed m) disk) (λ m. HoldsHistory opening (events ++ e ∷ []) vault.config m (ring_of vault m) (placed m) disk)
-          (λ m h. history_silent vault.config m (ring_of vault m) (placed m) disk h) both stands.media;
+          (λ m h. history_silent vault.config m (ring_of vault m) (placed m) disk h) members stands.media;
       level = stands.level;
       incidents_are = stands.incidents_are ∙ sym same_table;
       slots = stands.slots;

@@ -25,7 +25,7 @@ use Rattle.vdr_vault.specs.declared.cursor.Standing.{Standing}
 use Rattle.vdr_vault.specs.Saves.{first_in_window}
 use Rattle.vdr_vault.specs.Walks.{CursorState, Slots, AreAhead, AreLeft, GivesNext, slots_read}
 use Rattle.vdr_vault.proofs.CommitStages.{records_append}
-use Rattle.vdr_vault.proofs.Entering.{front_ahead}
+use Rattle.vdr_vault.proofs.Walking.{front_ahead}
 use Rattle.vdr_vault.proofs.ShownPlaces.{all_legal}
 
 -- A cursor before the first segment that reaches a second has this segment and the later ones ahead.
@@ -91,7 +91,7 @@ module _ {tells tells_images : Type 0} (ring : RingState) (disk : Disk tells tel
       let early = All-contains (λ r. second r.tick < s) (all_records placed) newest earlier (last_contained (all_records placed) newest ends) in
       omega (arith, early, low, at, some)
 
-  pub window_left : (c : CursorState)
+  window_left : (c : CursorState)
       → ((p : Placed) × (first : IsFirstSince s placed p) × AreAhead (slots_read ring disk) placed c (records_of p ++ all_records first.later))
       → AreLeft (slots_read ring disk) placed everything (Some (Window last_second seconds)) c (window seconds (all_records placed))
   window_left c (p, first, ahead) =
@@ -109,7 +109,12 @@ module _ {tells tells_images : Type 0} (ring : RingState) (disk : Disk tells tel
   abbrev Gives : (item : Option Record) (ToCome : List Record → Type 0) → Result Bool ReadRefused → Type 0
   Gives item ToCome result = GivesNext (window seconds (all_records placed)) result item ToCome
 
-  module _ (item : Option Record) (ToCome : List Record → Type 0) (result : Result Bool ReadRefused) (gives : Gives item ToCome result) where
+  -- The first step of such a cursor.
+  module _ (c : CursorState) (since : (p : Placed) × (first : IsFirstSince s placed p) × AreAhead (slots_read ring disk) placed c (records_of p ++ all_records first.later)) (item : Option Record) (ToCome : List Record → Type 0)
+      (result : Result Bool ReadRefused) (plays : AreLeft (slots_read ring disk) placed everything (Some (Window last_second seconds)) c (window seconds (all_records placed)) → Gives item ToCome result) where
+    gives : Gives item ToCome result
+    gives = plays (window_left c since)
+
     pub first_is : (b : Bool) → result ≡ Ok b → b ≡ true → (r : Record) → item ≡ Some r → first_in_window seconds (all_records placed) ≡ Some r.place
     first_is b is so r at = go (subst (Gives item ToCome) (is ∙ ap (λ (b : Bool). Ok b) so) gives)
       where

@@ -1,36 +1,93 @@
--- A vault of which one incident slot is written: what each image shows, and how it stands then.
-use Rattle.std.proofs.Common.{◌≡◌, ◌⊎◌, inl, inr, ⊎_elim, ◌<◌, ◌+◌, ◌*◌, ℕ, List, [], ◌∷◌, ◌++◌, length, All, Option, option_map, refl, sym, ap, ◌∙◌, subst, arith}
-use Rattle.vdr_terms.specs.Records.{Record}
-use Rattle.vdr_terms.specs.Order.{AreInOrder}
-use Rattle.vdr_history.specs.Histories.{Event, Incident, Opening, Settings, incidents, records_of_act}
-use Rattle.vdr_retention.specs.Retention.{HoldsPlaces, Retains}
-use Rattle.vdr_retention.specs.Victims.{ArePinsOf}
-use Rattle.vdr_durability.specs.Keeping.{ShowsEither}
-use Rattle.vdr_durability.specs.Shown.{given_with, pins_of, pins_on}
-use Rattle.vdr_outside.specs.Disk.{Disk, Image, SameBut, content}
-use Rattle.vdr_outside.specs.Moments.{AtEachMoment, Changed, ChangesOnly, Settled}
+-- What stays on the long-term medium while one incident slot is written.
+use Rattle.std.proofs.Common.{◌≡◌, inl, inr, ◌<◌, ◌≤◌, ◌+◌, ℕ, List, length, [], ◌∷◌, sym, ap, ◌∙◌, subst, arith, zero, suc, ◌++◌, Option, Some, None, refl, ◌⊎◌, ⊎_elim, ◌*◌, Result, OnOk, All, option_map, ◌-◌}
 use Rattle.vdr_outside.specs.Parts.{part}
-use Rattle.vdr_outside.proofs.Moments.{moments_weaken}
-use Rattle.vdr_config.specs.Configuration.{Configuration}
+use Rattle.vdr_config.specs.Configuration.{Configuration, IsConfiguration}
 use Rattle.vdr_config.specs.Sizes.{sizes_of}
-use Rattle.vdr_media.proofs.Two.{all_two}
-use Rattle.vdr_slots.specs.Slots.{place_of}
+use Rattle.vdr_terms.specs.Slots.{slot_count}
 use Rattle.vdr_directory.specs.Sequence.{Placed, all_records}
 use Rattle.vdr_directory.specs.Holds.{HoldsPlaced}
+use Rattle.vdr_incident.specs.Tables.{SameBesideSlot, HoldsBeside, HoldsEither, HoldsTable}
+use Rattle.vdr_incident.proofs.Beside.{segments_beside}
+use Rattle.vdr_opening.specs.Media.{HasFront, IsMedium, AreThere, HoldsContents}
+use Rattle.vdr_vault.proofs.ShownImages.{front_as, RetainsGiven, shown_level}
+use Rattle.std.specs.Prelude.{IfSome, ⊤}
+use Rattle.std.proofs.Math.ListN.{length-set}
+use Rattle.std.proofs.lemmas.Option.{none-some}
+use Rattle.std.proofs.lemmas.List.Elements.{All-contains, All-set}
+use Rattle.vdr_history.specs.Histories.{Event, Incident, Opening, incidents, live, records_of_act, with_slot, Settings, table_after}
+use Rattle.vdr_retention.specs.Retention.{HoldsPlaces, Pin, at_places, Retains}
+use Rattle.vdr_retention.specs.Victims.{SpansAtMost, ArePinsOf}
+use Rattle.vdr_retention.proofs.Lists.{all_from}
+use Rattle.vdr_durability.specs.Shown.{given_with, pins_of, pins_on}
+use Rattle.vdr_durability.proofs.Shows.{OnSlot, slot_written as pins_written, incidents_with}
+use Rattle.vdr_outside.specs.Disk.{Disk, Image, SameBut, content}
+use Rattle.vdr_directory.specs.Lookup.{HoldAll}
+use Rattle.vdr_vault.specs.Vaults.{VaultState, Stands, ring_of, HoldsHistory, ShowsHistory, of_stamp}
+use Rattle.vdr_terms.proofs.Results.{on_ok_both}
+use Rattle.vdr_vault.specs.Saves.{Does}
+use Rattle.vdr_terms.specs.Records.{Record}
+use Rattle.vdr_terms.specs.Order.{AreInOrder}
+use Rattle.vdr_durability.specs.Keeping.{ShowsEither}
+use Rattle.vdr_outside.specs.Moments.{AtEachMoment, Changed, ChangesOnly, Settled}
+use Rattle.vdr_outside.proofs.Moments.{moments_weaken}
+use Rattle.vdr_media.proofs.Two.{all_two}
+use Rattle.vdr_slots.specs.Slots.{place_of}
 use Rattle.vdr_ring.specs.Rings.{RingState}
-use Rattle.vdr_incident.specs.Tables.{HoldsBeside, HoldsEither}
-use Rattle.vdr_opening.specs.Media.{AreThere, HoldsContents, IsMedium}
 use Rattle.vdr_opening.specs.Answers.{IsRingOf}
-use Rattle.vdr_vault.specs.Vaults.{HoldsHistory, VaultState, ShowsHistory, Stands, of_stamp, ring_of}
-use Rattle.vdr_vault.proofs.BesideSlot.{front_beside, medium_beside, placed_beside, slot_beside}
 use Rattle.vdr_media.proofs.Formats.{zero_one}
-use Rattle.vdr_vault.proofs.CommitStands.{history_meanwhile}
+use Rattle.vdr_vault.proofs.CommitAll.{history_meanwhile}
 use Rattle.vdr_vault.proofs.ShownHistory.{durable_at, held_at, legible_at, same_given, same_next, same_stamp, sound_alone, stands_sound}
 use Rattle.vdr_vault.proofs.Sounding.{IsSoundAlone, no_pins, sound_level}
 use Rattle.vdr_durability.specs.Soundness.{IsUnbroken}
 use Rattle.vdr_vault.specs.Regularity.{AreSound}
 use Rattle.vdr_directory.specs.Order.{AreInOrder as InOrder}
-use Rattle.vdr_vault.proofs.ShownImages.{RetainsGiven, shown_level}
+use Rattle.vdr_history.specs.Histories.Act.{Release}
+
+module _ (slot : ℕ) (low : slot < 32) (old new : List ℕ) (beside : SameBesideSlot slot old new) where
+  pub front_beside : (m : ℕ) (c : Configuration) (text : List ℕ) → HasFront m c text old → HasFront m c text new
+  front_beside = front_as old new beside.size (λ from n le. beside.same from n (inl (omega (arith, le)))) (λ from n behind le. beside.same from n (inr (omega (arith, low, behind))))
+
+  pub placed_beside : (segment count : ℕ) (placed : List Placed) → HoldsPlaced segment count placed old → HoldsPlaced segment count placed new
+  placed_beside segment count placed h = record {
+    slots = h.slots;
+    all_slots = h.all_slots;
+    holds = segments_beside slot segment h.slots old new low beside h.holds;
+    sequence = h.sequence;
+  }
+
+  pub medium_beside : (m : ℕ) (c : Configuration) (text : List ℕ) (placed : List Placed) → IsMedium m c text placed old → IsMedium m c text placed new
+  medium_beside m c text placed h = record {
+    front = front_beside m c text h.front;
+    segments = record {
+      holds = subst (λ (n : ℕ). HoldsPlaced c.segment (slot_count c.segment n) placed new) (sym beside.size) (placed_beside c.segment (slot_count c.segment (length old)) placed h.segments.holds);
+      order = h.segments.order;
+    };
+  }
+
+  -- A segment's slot reads as it did.
+  pub slot_beside : (from n : ℕ) → 32768 ≤ from → part new from n ≡ part old from n
+  slot_beside from n behind = beside.same from n (inr (omega (arith, low, behind)))
+
+-- A table with one slot written anew keeps what holds of each save.
+
+there_written : (placed : List Placed) (table : List (Option Incident)) (id : ℕ) (slot : Option Incident) → IfSome slot (λ x. HoldAll x.a x.b placed) → AreThere table placed → AreThere (with_slot table id slot) placed
+there_written placed table zero slot here h = h
+there_written placed table (suc i) slot here h = All-set (λ slot. IfSome slot (λ x. HoldAll x.a x.b placed)) table i slot here h
+
+size_written : (table : List (Option Incident)) (id : ℕ) (slot : Option Incident) → length (with_slot table id slot) ≡ length table
+size_written table zero slot = refl
+size_written table (suc i) slot = length-set table i slot
+
+few_pins : (table : List (Option Incident)) → length (pins_of table) ≤ length table
+few_pins [] = omega arith
+few_pins (None ∷ table) = let a = few_pins table in omega (arith, a)
+few_pins (Some x ∷ table) = let a = few_pins table in omega (arith, a)
+
+-- The slot of a live save is one of the table.
+pub live_within : (table : List (Option Incident)) (slot : ℕ) (x : Incident) → live table (suc slot) ≡ Some x → slot < length table
+live_within [] slot x is = absurd (none-some x is)
+live_within (s ∷ table) zero x is = omega arith
+live_within (s ∷ table) (suc slot) x is = let a = live_within table slot x is in omega (arith, a)
 
 -- An event that records nothing and leaves this table, and what the long-term medium has of it.
 pub record IsWritten (opening : Opening) (events : List Event) (e : Event) (c : Configuration) (placed : List Placed) (after : List (Option Incident)) : Type 0 where
@@ -41,6 +98,43 @@ pub record IsWritten (opening : Opening) (events : List Event) (e : Event) (c : 
   pub places : All (λ pin. HoldsPlaces (given_with opening events 1) (all_records placed) pin.a pin.b) (pins_of after)
   pub pins : ArePinsOf (sizes_of c) 1 (all_records placed) (pins_of after)
 
+-- What is asked of a slot that is written anew: nothing of a free one.
+pub record MayStand (opening : Opening) (events : List Event) (seconds : ℕ) (placed : List Placed) (slot : Option Incident) : Type 0 where
+  pub there : IfSome slot (λ x. HoldAll x.a x.b placed)
+  pub places : OnSlot (λ pin. HoldsPlaces (given_with opening events 1) (all_records placed) pin.a pin.b) slot
+  pub short : OnSlot (λ pin. SpansAtMost seconds (at_places pin.a pin.b (all_records placed))) slot
+
+pub slot_written : {tells tells_images : Type 0} (opening : Opening) (events : List Event) (e : Event) (vault : VaultState) (placed : ℕ → List Placed) (disk : Disk tells tells_images)
+    → Stands opening events vault placed disk → (id : ℕ) (slot : Option Incident) → records_of_act e.act ≡ [] → incidents opening (events ++ e ∷ []) ≡ with_slot (incidents opening events) id slot
+    → MayStand opening events vault.config.incident_seconds (placed 1) slot
+    → IsWritten opening events e vault.config (placed 1) (with_slot vault.table id slot)
+slot_written opening events e vault placed disk stands id slot silent table may =
+    let long_term = stands.media 1 1 (omega arith) in
+    let same : with_slot vault.table id slot ≡ with_slot (incidents opening events) id slot = ap (λ (t : List (Option Incident)). with_slot t id slot) stands.incidents_are in
+    subst (λ (t : List (Option Incident)). IsWritten opening events e vault.config (placed 1) t) (sym same) (record {
+      silent = silent;
+      table = table;
+      size = size;
+      there = there_written (placed 1) (incidents opening events) id slot may.there (subst (λ (t : List (Option Incident)). AreThere t (placed 1)) stands.incidents_are stands.there);
+      places = pins_written Placed_there (incidents opening events) id slot may.places long_term.retains.places;
+      pins = record {
+        few = let few = few_pins (with_slot (incidents opening events) id slot) in omega (arith, few, size);
+        short = λ pin there. All-contains Short (pins_of (with_slot (incidents opening events) id slot)) pin
+            (pins_written Short (incidents opening events) id slot may.short (all_from Short (pins_of (incidents opening events)) (λ pin there. long_term.pins.short pin there))) there;
+      };
+    })
+  where
+    Placed_there : Pin → Type 0
+    Placed_there pin = HoldsPlaces (given_with opening events 1) (all_records (placed 1)) pin.a pin.b
+
+    Short : Pin → Type 0
+    Short pin = SpansAtMost vault.config.incident_seconds (at_places pin.a pin.b (all_records (placed 1)))
+
+    size : length (with_slot (incidents opening events) id slot) ≡ vault.config.incident_slots
+    size = size_written (incidents opening events) id slot ∙ ap length (sym stands.incidents_are) ∙ stands.slots
+
+-- A vault of which one incident slot is written: what each image shows, and how it stands then.
+
 abbrev with_table : VaultState → List (Option Incident) → VaultState
 with_table vault after = record vault { table = after }
 
@@ -49,10 +143,10 @@ module _ {tells tells_images : Type 0} (opening : Opening) (events : List Event)
   abbrev with_event : List Event
   with_event = events ++ e ∷ []
 
-  capsule : HoldsHistory opening events vault.config 0 vault.capsule (placed 0) old
+  capsule : HoldsHistory opening events vault.config 0 (ring_of vault 0) (placed 0) old
   capsule = stands.media 0 0 (omega arith)
 
-  long_term : HoldsHistory opening events vault.config 1 vault.long_term (placed 1) old
+  long_term : HoldsHistory opening events vault.config 1 (ring_of vault 1) (placed 1) old
   long_term = stands.media 1 1 (omega arith)
 
   -- What each medium retains with the event.
@@ -71,10 +165,10 @@ module _ {tells tells_images : Type 0} (opening : Opening) (events : List Event)
       (record { regular = long_term.regular; pins = written.pins; unbroken = alone_long_term.unbroken })
     where
       alone_capsule : IsSoundAlone vault.config 0 (placed 0) vault.table (all_records (placed 0))
-      alone_capsule = sound_alone opening events vault.config 0 vault.capsule (placed 0) vault.table old capsule (ap (λ (s : Settings). s.seconds 0) stands.settings) stands.incidents_are
+      alone_capsule = sound_alone opening events vault.config 0 (ring_of vault 0) (placed 0) vault.table old capsule (ap (λ (s : Settings). s.seconds 0) stands.settings) stands.incidents_are
 
       alone_long_term : IsSoundAlone vault.config 1 (placed 1) vault.table (all_records (placed 1))
-      alone_long_term = sound_alone opening events vault.config 1 vault.long_term (placed 1) vault.table old long_term (ap (λ (s : Settings). s.seconds 1) stands.settings) stands.incidents_are
+      alone_long_term = sound_alone opening events vault.config 1 (ring_of vault 1) (placed 1) vault.table old long_term (ap (λ (s : Settings). s.seconds 1) stands.settings) stands.incidents_are
 
   -- What an image holds of which the slot alone was written.
   module _ (slot : ℕ) (low : slot < 32) (P : List ℕ → Type 0) (i : Image) (changed : Changed 1 P old.now i) where
@@ -86,27 +180,27 @@ module _ {tells tells_images : Type 0} (opening : Opening) (events : List Event)
     holds table there h = record {
       media = all_two (λ m. IsMedium m vault.config opening.settings.text (placed m) (content i m))
           (subst (IsMedium 0 vault.config opening.settings.text (placed 0)) (sym (changed.others 0 zero_one))
-          (legible_at opening events vault.config 0 vault.capsule (placed 0) old capsule changed.image changed.was))
+          (legible_at opening events vault.config 0 (ring_of vault 0) (placed 0) old capsule changed.image changed.was))
           (medium_beside slot low (content old.reads 1) (content i 1) h.beside 1 vault.config opening.settings.text (placed 1)
-          (subst (IsMedium 1 vault.config opening.settings.text (placed 1)) ((durable_at opening events vault.config 1 vault.long_term (placed 1) old long_term).each changed.image changed.was)
-          (legible_at opening events vault.config 1 vault.long_term (placed 1) old long_term changed.image changed.was)));
+          (subst (IsMedium 1 vault.config opening.settings.text (placed 1)) ((durable_at opening events vault.config 1 (ring_of vault 1) (placed 1) old long_term).each changed.image changed.was)
+          (legible_at opening events vault.config 1 (ring_of vault 1) (placed 1) old long_term changed.image changed.was)));
       table = h.holds;
       there = there;
     }
 
-    pub shows_before : HoldsBeside slot vault.config.incident_slots vault.table (content old.reads 1) (content i 1) → ShowsHistory opening events i
+    shows_before : HoldsBeside slot vault.config.incident_slots vault.table (content old.reads 1) (content i 1) → ShowsHistory opening events i
     shows_before h =
         shown_level opening events (record { config = vault.config; text = opening.settings.text; placed = placed; table = vault.table }) i (holds vault.table stands.there h)
         (stands_sound opening events vault placed old stands) refl
         stands.incidents_are stands.level (all_two (RetainsGiven opening events (given_with opening events) placed) capsule.retains long_term.retains)
 
-    pub shows_after : HoldsBeside slot vault.config.incident_slots after (content old.reads 1) (content i 1) → ShowsHistory opening with_event i
+    shows_after : HoldsBeside slot vault.config.incident_slots after (content old.reads 1) (content i 1) → ShowsHistory opening with_event i
     shows_after h =
         shown_level opening with_event (record { config = vault.config; text = opening.settings.text; placed = placed; table = after }) i (holds after written.there h)
         written_sound refl
         (sym written.table) stands.level (all_two (RetainsGiven opening with_event (given_with opening with_event) placed) capsule_retains long_term_retains)
 
-  pub written_moments : (slot : ℕ) → slot < 32 → (new : Disk tells tells_images)
+  written_moments : (slot : ℕ) → slot < 32 → (new : Disk tells tells_images)
       → ChangesOnly 1 (HoldsEither slot vault.config.incident_slots vault.table after (content old.reads 1)) old new
       → AtEachMoment old new (ShowsEither (ShowsHistory opening) events e old.now)
   written_moments slot low new moments = moments_weaken old new _ _ moments (λ i changed.
@@ -133,25 +227,25 @@ module _ {tells tells_images : Type 0} (opening : Opening) (events : List Event)
   -- Once it is written.
   module _ (slot : ℕ) (low : slot < 32) (P : List ℕ → Type 0) (new : Disk tells tells_images) (moments : ChangesOnly 1 P old new) (others : tells → SameBut 1 old.reads new.reads)
       (sizes : new.sizes ≡ old.sizes) (settled : Settled 1 (HoldsBeside slot vault.config.incident_slots after (content old.reads 1)) new) where
-    its : vault.long_term.medium ≡ 1
+    its : (ring_of vault 1).medium ≡ 1
     its = long_term.is_its.medium
 
-    long_term_now : HoldsHistory opening events vault.config 1 vault.long_term (placed 1) new
+    long_term_now : HoldsHistory opening events vault.config 1 (ring_of vault 1) (placed 1) new
     long_term_now = record {
-      is_its = subst (λ (s : List ℕ). IsRingOf vault.config s 1 vault.long_term) (sym sizes) long_term.is_its;
+      is_its = subst (λ (s : List ℕ). IsRingOf vault.config s 1 (ring_of vault 1)) (sym sizes) long_term.is_its;
       reads = record {
-        settled = subst (λ (k : ℕ). Settled k (HoldsPlaced vault.long_term.segment vault.long_term.slots (placed 1)) new) (sym its) (record {
+        settled = subst (λ (k : ℕ). Settled k (HoldsPlaced (ring_of vault 1).segment (ring_of vault 1).slots (placed 1)) new) (sym its) (record {
           durable = settled.durable;
-          reads = λ told. placed_beside slot low (content old.reads 1) (content new.reads 1) (settled.reads told).beside vault.long_term.segment vault.long_term.slots (placed 1)
-              (held_at opening events vault.config 1 vault.long_term (placed 1) old long_term told);
+          reads = λ told. placed_beside slot low (content old.reads 1) (content new.reads 1) (settled.reads told).beside (ring_of vault 1).segment (ring_of vault 1).slots (placed 1)
+              (held_at opening events vault.config 1 (ring_of vault 1) (placed 1) old long_term told);
         });
         order = long_term.reads.order;
         directory = long_term.reads.directory;
         loaded = λ j is told.
             long_term.reads.loaded j is told
-            ∙ subst (λ (k : ℕ). part (content old.reads k) (place_of vault.long_term.segment j) vault.long_term.segment ≡ part (content new.reads k) (place_of vault.long_term.segment j) vault.long_term.segment)
+            ∙ subst (λ (k : ℕ). part (content old.reads k) (place_of (ring_of vault 1).segment j) (ring_of vault 1).segment ≡ part (content new.reads k) (place_of (ring_of vault 1).segment j) (ring_of vault 1).segment)
             (sym its)
-            (sym (slot_beside slot low (content old.reads 1) (content new.reads 1) (settled.reads told).beside (place_of vault.long_term.segment j) vault.long_term.segment (omega arith)));
+            (sym (slot_beside slot low (content old.reads 1) (content new.reads 1) (settled.reads told).beside (place_of (ring_of vault 1).segment j) (ring_of vault 1).segment (omega arith)));
       };
       front = λ told. front_beside slot low (content old.reads 1) (content new.reads 1) (settled.reads told).beside 1 vault.config opening.settings.text (long_term.front told);
       regular = long_term.regular;
@@ -161,13 +255,13 @@ module _ {tells tells_images : Type 0} (opening : Opening) (events : List Event)
       unbroken = long_term.unbroken;
     }
 
-    pub written_stands : Stands opening with_event (with_table vault after) placed new
+    written_stands : Stands opening with_event (with_table vault after) placed new
     written_stands = record {
       settings = stands.settings;
       working = stands.working;
       media = all_two (λ m. HoldsHistory opening with_event vault.config m (ring_of vault m) (placed m) new)
-          (with_history 0 vault.capsule new (history_meanwhile opening events vault.config 1 0 vault.capsule (placed 0) P old new zero_one moments others sizes capsule) capsule_retains capsule.pins)
-          (with_history 1 vault.long_term new long_term_now long_term_retains
+          (with_history 0 (ring_of vault 0) new (history_meanwhile opening events vault.config 1 0 (ring_of vault 0) (placed 0) P old new zero_one moments others sizes capsule) capsule_retains capsule.pins)
+          (with_history 1 (ring_of vault 1) new long_term_now long_term_retains
           (subst (λ (t : List (Option Incident)). ArePinsOf (sizes_of vault.config) 1 (all_records (placed 1)) (pins_of t)) (sym written.table) written.pins));
       level = stands.level;
       incidents_are = sym written.table;
@@ -179,3 +273,57 @@ module _ {tells tells_images : Type 0} (opening : Opening) (events : List Event)
       place = same_next opening events e written.silent ∙ stands.place;
       stamp = same_stamp opening events e written.silent ∙ stands.stamp;
     }
+
+  -- What a call has done that writes it.
+  pub written_does : {T E : Type 0} (slot : ℕ) → slot < 32 → (new : Disk tells tells_images) (result : Result T E) (now : List (Option Incident))
+      → ChangesOnly 1 (HoldsEither slot vault.config.incident_slots vault.table after (content old.reads 1)) old new → (tells → SameBut 1 old.reads new.reads) → new.sizes ≡ old.sizes
+      → OnOk result (Settled 1 (HoldsBeside slot vault.config.incident_slots after (content old.reads 1)) new) → OnOk result (now ≡ after)
+      → Does opening events e placed (record vault { table = now }) old new result
+  written_does slot low new result now changes others sizes settled is_table = record {
+    moments = written_moments slot low new changes;
+    done = on_ok_both result
+        (λ held same. subst (λ (t : List (Option Incident)). Stands opening with_event (record vault { table = t }) placed new) (sym same) (written_stands slot low _ new changes others sizes held)) settled is_table;
+  }
+
+-- A save is released.
+
+module _ {tells tells_images : Type 0} (opening : Opening) (events : List Event) (vault : VaultState) (placed : ℕ → List Placed) (old : Disk tells tells_images)
+    (stands : Stands opening events vault placed old) (legal : IsConfiguration vault.config) where
+  -- The table stands on the long-term medium.
+  pub table_settled : Settled 1 (HoldsTable vault.config.incident_slots vault.table) old
+  table_settled = record {
+    durable = durable_at opening events vault.config 1 (ring_of vault 1) (placed 1) old (stands.media 1 1 (omega arith));
+    reads = stands.table;
+  }
+
+  module _ (e : Event) (id : ℕ) (saved : Incident) (lives : live vault.table id ≡ Some saved) (is : e.act ≡ Release id) where
+    silent : records_of_act e.act ≡ []
+    silent = ap records_of_act is
+
+    table : incidents opening (events ++ e ∷ []) ≡ with_slot (incidents opening events) id None
+    table = incidents_with opening events e ∙ ap (table_after (given_with opening events 1) (incidents opening events)) is
+
+    written : IsWritten opening events e vault.config (placed 1) (with_slot vault.table id None)
+    written = slot_written opening events e vault placed old stands id None silent table (record { there = tt; places = tt; short = tt })
+
+    slot_of : (n : ℕ) → live vault.table n ≡ Some saved → (slot : ℕ) × (n ≡ suc slot) × (slot < 32)
+    slot_of zero is = absurd (none-some saved is)
+    slot_of (suc slot) is =
+        let within = live_within vault.table slot saved is in
+        let all = stands.slots in
+        let few = legal.slots_high in
+        (slot, refl, omega (arith, within, all, few))
+
+    -- What `Table::release` says of it.
+    pub released : (new : Disk tells tells_images) {E : Type 0} (result : Result ⊤ E) (now : List (Option Incident))
+        → ((slots slot : ℕ) (x : Incident) → Settled 1 (HoldsTable slots vault.table) old → id ≡ suc slot → live vault.table id ≡ Some x
+        → ChangesOnly 1 (HoldsEither slot slots vault.table (with_slot vault.table id None) (content old.reads 1)) old new)
+        → ((slots slot : ℕ) (x : Incident) → Settled 1 (HoldsTable slots vault.table) old → id ≡ suc slot → live vault.table id ≡ Some x
+        → OnOk result (Settled 1 (HoldsBeside slot slots (with_slot vault.table id None) (content old.reads 1)) new))
+        → (tells → SameBut 1 old.reads new.reads) → new.sizes ≡ old.sizes
+        → OnOk result (now ≡ with_slot vault.table id None)
+        → Does opening events e placed (record vault { table = now }) old new result
+    released new result now moments settled others sizes is_table =
+        let s = slot_of id lives in
+        written_does opening events e vault placed old stands (with_slot vault.table id None) written s.0 s.2 new result now (moments vault.config.incident_slots s.0 saved table_settled s.1 lives) others sizes
+        (settled vault.config.incident_slots s.0 saved table_settled s.1 lives) is_table

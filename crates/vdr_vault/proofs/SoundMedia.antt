@@ -10,10 +10,10 @@ use Rattle.vdr_config.specs.Configuration.{Configuration}
 use Rattle.vdr_config.specs.Sizes.{sizes_of}
 use Rattle.vdr_media.proofs.Two.{all_two}
 use Rattle.vdr_directory.specs.Sequence.{batches_in}
-use Rattle.vdr_opening.specs.Media.{both, Contents, HoldsContents, nothing_on, reading_of}
+use Rattle.vdr_opening.specs.Media.{members, Contents, HoldsContents, nothing_on, reading_of}
 use Rattle.vdr_opening.proofs.ContentsHeld.{are_legal, one_capsule, one_config, one_configured_text, one_incidents, one_long_term}
 use Rattle.vdr_vault.specs.Regularity.{AreSound, IsRegularMedium, IsUnbrokenMedium}
-use Rattle.vdr_vault.proofs.CommitMoments.{two}
+use Rattle.vdr_vault.proofs.CommitImages.{two}
 use Rattle.vdr_vault.proofs.OpenContents.{same_meet}
 
 -- Media that were just formatted
@@ -62,7 +62,7 @@ from_both x h = record { regular = all_two (IsRegularMedium x) (first (h.regular
     second : IsRegularMedium (on_both x) 1 → IsRegularMedium x 1
     second r = record { segments = r.segments; order = r.order; paced = r.paced; pins = r.pins }
 
-pub sound_as : (image : Image) (x y : Contents) → HoldsContents image x → HoldsContents image y → EndsMeet both (reading_of x) × AreSound x → EndsMeet both (reading_of y) × AreSound y
+pub sound_as : (image : Image) (x y : Contents) → HoldsContents image x → HoldsContents image y → EndsMeet members (reading_of x) × AreSound x → EndsMeet members (reading_of y) × AreSound y
 sound_as image x y h k (meet, sound) = (
   same_meet (reading_of x) (reading_of y) (ap batches_in (one_capsule (are_legal h) (are_legal k))) (ap batches_in (one_long_term (are_legal h) (are_legal k))) meet,
   from_both y (subst AreSound same (to_both x sound)),

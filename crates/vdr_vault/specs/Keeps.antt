@@ -63,7 +63,7 @@ pub record KeepsHistory (old new : VaultState) (sizes : List ℕ) : Type 0 where
   -- the configuration is as before
   pub config : new.config ≡ old.config
   -- the ring on the capsule is as before
-  pub capsule : new.capsule ≡ old.capsule
+  pub capsule : ring_of new 0 ≡ ring_of old 0
   -- each ring is its medium's
   pub rings : AreRings new sizes
 
@@ -164,4 +164,4 @@ module _ {tells tells_images : Type 0} where
     pub stands : (opening : Opening) (events : List Event) (placed : ℕ → List Placed) (m offset : ℕ) → tells → result ≡ Err (Damaged m offset)
         → Stands opening events old placed before → Stands opening events new placed after
     -- nothing was written, no write has failed, and the damage is on the long-term medium
-    pub damaged : (m offset : ℕ) → result ≡ Err (Damaged m offset) → Unchanged before after × (new.failed ≡ false) × (tells → IsLoaded old.long_term before → m ≡ 1)
+    pub damaged : (m offset : ℕ) → result ≡ Err (Damaged m offset) → Unchanged before after × (new.failed ≡ false) × (tells → IsLoaded (ring_of old 1) before → m ≡ 1)

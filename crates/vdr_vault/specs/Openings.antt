@@ -3,7 +3,7 @@ use Rattle.std.specs.Prelude.{◌≡◌, ◌⊎◌, ◌≤◌, ℕ, List, [], ge
 use Rattle.vdr_terms.specs.Records.{Record, last}
 use Rattle.vdr_durability.specs.Readings.{AreLevel, EndsMeet, next_after}
 use Rattle.vdr_outside.specs.Causes.{NoneFalls, Rose}
-use Rattle.vdr_outside.specs.Disk.{Disk, Image, SameBut, content}
+use Rattle.vdr_outside.specs.Disk.{Disk, Image, SameBut, Unchanged, content}
 use Rattle.vdr_outside.specs.Moments.{AtEachMoment}
 use Rattle.vdr_outside.specs.declared.fault.Fault.{Fault}
 use Rattle.vdr_outside.specs.declared.media.Media.{Ghosts as MediaTells}
@@ -13,20 +13,20 @@ use Rattle.vdr_ring.specs.Keeping.{AreWhole}
 use Rattle.vdr_incident.specs.Tables.{HoldsTable}
 use Rattle.vdr_opening.specs.declared.refused.OpenRefused.{OpenRefused}
 use Rattle.vdr_opening.specs.declared.refused.OpenRefused.TheVariants.{Damaged, Fault as a_fault, NotFormatted}
-use Rattle.vdr_opening.specs.Media.{both, Contents, HoldsContents, IsMedium, opening_of, reading_of}
+use Rattle.vdr_opening.specs.Media.{members, Contents, HoldsContents, IsMedium, opening_of, reading_of}
 use Rattle.vdr_opening.specs.Refusals.{IsRefused}
 use Rattle.vdr_opening.specs.Answers.{HasOpenCause, IsMissing, OpenedState}
 use Rattle.vdr_vault.specs.Vaults.{AreRings, IsReadable, VaultState, ShowsHistory, Stands, of_stamp, tick_utc}
 use Rattle.vdr_vault.specs.Regularity.{AreSound}
 
--- What was read, as the vault that is made of it and the batch that the long-term medium lacks.
-abbrev pub opened_with : VaultState → List Record → OpenedState
-opened_with vault missing = record { config = vault.config; capsule = vault.capsule; long_term = vault.long_term; table = vault.table; missing = missing }
+-- What was read, as the vault that is made of it and the batch that the media from a number on lack.
+abbrev pub opened_with : VaultState → List Record → (lacking : ℕ) → OpenedState
+opened_with vault missing lacking = record { config = vault.config; rings = vault.rings; table = vault.table; missing = missing; lacking = lacking }
 
 -- No count of faults falls, and an error comes only where that of one of the media rose, and so their sum.
 pub record HasCauseOnBoth {T E : Type 0} (before now : List ℕ) (result : Result T E) : Type 0 where
   pub later : NoneFalls before now
-  pub by_medium : OnErr result (Any (λ m. Rose (get_or before m 0) (get_or now m 0)) both)
+  pub by_medium : OnErr result (Any (λ m. Rose (get_or before m 0) (get_or now m 0)) members)
   pub in_all : OnErr result (Rose (sum before) (sum now))
 
 -- The vault goes on behind the capsule's last record.
@@ -42,7 +42,7 @@ pub record EndsWithin (x : Contents) (image : Image) : Type 0 where
   pub long_term : IsMedium 1 x.config x.text now (content image 1)
   pub table : HoldsTable x.config.incident_slots x.table (content image 1)
   pub missing : List Record
-  pub lacks : IsMissing missing (reading_of x)
+  pub lacks : IsMissing missing 1 (reading_of x)
   pub whole : AreWhole (x.placed 1) now missing
 
 module _ {tells tells_images : Type 0} where
@@ -59,6 +59,13 @@ module _ {tells tells_images : Type 0} where
     pub moments : AtEachMoment old new (λ i. old.now i ⊎ shows i)
     pub since : (i : Image) → new.since synced i → shows i
 
+  -- Of media with these contents, of which nothing is unsynced, opening leaves at each moment what shows them, and at most writes what
+  -- one of them lacks.
+  pub record OpensMeanwhile (x : Contents) (old new : Disk tells tells_images) : Type 0 where
+    pub level : AreLevel members (reading_of x) → Unchanged old new
+    pub within : EndsMeet members (reading_of x) → AtEachMoment old new (EndsWithin x)
+    pub moments : EndsMeet members (reading_of x) → AreSound x → AtEachMoment old new (ShowsHistory (opening_of x) [])
+
   -- A sync failed.
   pub record EndsBeforeSync {T : Type 0} (old new : Disk tells tells_images) (result : Result T OpenRefused) : Type 0 where
     pub failed : IsErrOf result a_fault
@@ -70,8 +77,8 @@ module _ {tells tells_images : Type 0} where
   -- What opening writes of media with these contents, sound or not: nothing where both end with the last batch, and else at most the
   -- batch that the long-term medium lacks.
   pub record WritesMissing (x : Contents) (old new : Disk tells tells_images) : Type 0 where
-    pub level : AreLevel both (reading_of x) → LeavesAll old new × (new.reads ≡ old.reads)
-    pub missing : EndsMeet both (reading_of x) → AtEachMoment old new (λ i. old.now i ⊎ EndsWithin x i)
+    pub level : AreLevel members (reading_of x) → LeavesAll old new × (new.reads ≡ old.reads)
+    pub missing : EndsMeet members (reading_of x) → AtEachMoment old new (λ i. old.now i ⊎ EndsWithin x i)
 
   -- While the missing batch is appended a stop leaves media that show what was opened, and then the vault stands over it.
   pub record Reconciles (x : Contents) (vault : VaultState) (old new : Disk tells tells_images) (result : Result ⊤ Fault) : Type 0 where
@@ -84,11 +91,11 @@ module _ {tells tells_images : Type 0} where
     pub opened : IfOk result (λ vault. (x : Contents) → tells → HoldsContents old.reads x → AreSound x → (placed : ℕ → List Placed) × Stands (opening_of x) [] vault placed new)
     -- the media were formatted, and what the vault tells is what they hold
     pub contents : IfOk result (λ vault. tells → IsFormatted old.reads × (x : Contents) × HoldsContents old.reads x
-        × EndsMeet both (reading_of x) × (vault.config ≡ x.config) × (vault.table ≡ x.table) × (vault.last ≡ option_map of_stamp (opening_of x).last))
+        × EndsMeet members (reading_of x) × (vault.config ≡ x.config) × (vault.table ≡ x.table) × (vault.last ≡ option_map of_stamp (opening_of x).last))
     -- the next place is that of what they hold
     pub place : IfOk result (λ vault. (x : Contents) → tells → HoldsContents old.reads x → vault.next_place ≡ (opening_of x).next_place)
     -- where both end with the last batch the vault can be read
-    pub readable : IfOk result (λ vault. (x : Contents) → tells → HoldsContents old.reads x → AreLevel both (reading_of x) → IsReadable (opening_of x) [] vault x.placed new)
+    pub readable : IfOk result (λ vault. (x : Contents) → tells → HoldsContents old.reads x → AreLevel members (reading_of x) → IsReadable (opening_of x) [] vault x.placed new)
     -- no write has failed
     pub works : IfOk result (λ vault. vault.failed ≡ false)
     -- each ring is its medium's

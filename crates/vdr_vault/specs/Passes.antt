@@ -17,7 +17,8 @@ use Rattle.vdr_ring.specs.Rings.{RingState}
 use Rattle.vdr_ring.specs.Rings as rings
 use Rattle.vdr_directory.specs.Growing.{Continues}
 use Rattle.vdr_ring.specs.Stages.{AreStages, Stages}
-use Rattle.vdr_vault.specs.Vaults.{AreRings, VaultState, ring_of}
+use Rattle.vdr_config.specs.Configuration.{Configuration}
+use Rattle.vdr_opening.specs.Answers.{AreRingsOf, ring_at}
 
 -- The pins that medium m keeps, where the long-term medium keeps these: no other keeps any.
 abbrev pub pins_at : ℕ → List Pin → List Pin
@@ -26,6 +27,10 @@ pins_at m pins = if m == 1 then pins else []
 -- What an append leaves of its ring's medium, stage by stage.
 abbrev pub AreStagesOn : RingState → List Pin → List Placed → ℕ → List Record → Stages → Type 0
 AreStagesOn ring pins placed first records stages = AreStages ring.segment ring.slots ring.seconds pins placed first records stages
+
+-- The segments with the batch, before the one that it leaves behind has its summary and then.
+abbrev pub HaveBatch : Stages → List Placed → Type 0
+HaveBatch stages now = (now ≡ stages.done) ⊎ (now ≡ stages.left)
 
 -- A medium that was given all these records may take the batch.
 pub record MayTake (sizes : Sizes) (ring : RingState) (pins : List Pin) (placed : List Placed) (first : ℕ) (all records : List Record) : Type 0 where
@@ -45,8 +50,10 @@ pub record Lacks (ordered : Bool) (ring : RingState) (pins : List Pin) (placed :
 pub record Has (ordered : Bool) (ring : RingState) (pins : List Pin) (placed : List Placed) (first : ℕ) (records : List Record) (was bytes : List ℕ) : Type 0 where
   pub stages : Stages
   pub are : AreStagesOn ring pins placed first records stages
-  pub holds : HoldsPlaced ring.segment ring.slots stages.done bytes
-  pub order : ordered ≡ true → AreInOrder stages.done
+  pub now : List Placed
+  pub stage : HaveBatch stages now
+  pub holds : HoldsPlaced ring.segment ring.slots now bytes
+  pub order : ordered ≡ true → AreInOrder now
   pub front : SameFront was bytes
 
 -- An error comes only where the count of faults of one of the media from one number to another rose.
@@ -75,7 +82,7 @@ module _ {tells tells_images : Type 0} where
   pub record IsGiven (ring now : RingState) (pins : List Pin) (placed : List Placed) (first : ℕ) (records : List Record) (disk : Disk tells tells_images) : Type 0 where
     pub stages : Stages
     pub are : AreStagesOn ring pins placed first records stages
-    pub reads : rings.Reads now stages.done disk
+    pub reads : rings.Reads now stages.left disk
 
   -- Medium m while it is given the batch, and then.
   pub record IsAppendedTo (ordered : Bool) (m : ℕ) (ring now : RingState) (pins : List Pin) (placed : List Placed) (first : ℕ) (records : List Record) (before after : Disk tells tells_images) (result : Result ⊤ Fault) : Type 0 where
@@ -83,24 +90,22 @@ module _ {tells tells_images : Type 0} where
     pub done : OnOk result (IsGiven ring now pins placed first records after)
 
   -- The media from a number on, by their rings, are given the batch in their order.
-  pub record Passed (ordered : Bool) (from : ℕ) (old new : ℕ → RingState) (pins : List Pin) (placed : ℕ → List Placed) (first : ℕ) (records : List Record) (before after : Disk tells tells_images) (result : Result ⊤ Fault) : Type 0 where
+  pub record Passed (ordered : Bool) (from : ℕ) (old new : List RingState) (pins : List Pin) (placed : ℕ → List Placed) (first : ℕ) (records : List Record) (before after : Disk tells tells_images) (result : Result ⊤ Fault) : Type 0 where
     pub moments : AtEachMoment before after (Passes
-        (λ k. Lacks ordered (old k) (pins_at k pins) (placed k) first records (content before.reads k))
-        (λ k. Has ordered (old k) (pins_at k pins) (placed k) first records (content before.reads k))
+        (λ k. Lacks ordered (ring_at old k) (pins_at k pins) (placed k) first records (content before.reads k))
+        (λ k. Has ordered (ring_at old k) (pins_at k pins) (placed k) first records (content before.reads k))
         from 2 before.now)
-    pub done : OnOk result ((k : ℕ) → from ≤ k → k < 2 → IsGiven (old k) (new k) (pins_at k pins) (placed k) first records after)
+    pub done : OnOk result ((k : ℕ) → from ≤ k → k < 2 → IsGiven (ring_at old k) (ring_at new k) (pins_at k pins) (placed k) first records after)
 
--- What appending to the media from one number to another keeps, whatever becomes of it.
-pub record KeepsBeside {M : Type 0} (media : MediaTells M) (from upto : ℕ) (old new : VaultState) (before after : M) : Type 0 where
-  -- only these rings changed
-  pub vault : new ≡ record old { capsule = new.capsule; long_term = new.long_term }
-  pub untouched : (k : ℕ) → k < 2 → (k < from) ⊎ (upto ≤ k) → ring_of new k ≡ ring_of old k
-  -- each ring is its medium's
-  pub rings : AreRings new (media.disk after).sizes
+-- What appending to the media from a number on keeps, whatever becomes of it.
+pub record KeepsBeside {M : Type 0} (media : MediaTells M) (from : ℕ) (old new : List RingState) (before after : M) : Type 0 where
+  -- each ring is its medium's, and those below are as before
+  pub rings : (c : Configuration) → AreRingsOf c (media.disk before).sizes old → AreRingsOf c (media.disk after).sizes new
+  pub untouched : (k : ℕ) → k < from → ring_at new k ≡ ring_at old k
   -- nothing before the slots was touched
   pub fronts : media.tells → (k : ℕ) → SameFront (content (media.disk before).reads k) (content (media.disk after).reads k)
   -- the other media read as before
-  pub others : media.tells → (k : ℕ) → (k < from) ⊎ (upto ≤ k) → content (media.disk after).reads k ≡ content (media.disk before).reads k
+  pub others : media.tells → (k : ℕ) → (k < from) ⊎ (2 ≤ k) → content (media.disk after).reads k ≡ content (media.disk before).reads k
   -- no medium changes its size, nothing was read, and no count of faults falls
   pub sizes : (media.disk after).sizes ≡ (media.disk before).sizes
   pub counts : media.bytes_read after ≡ media.bytes_read before

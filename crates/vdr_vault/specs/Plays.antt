@@ -1,5 +1,5 @@
 -- What a play of a vault answers.
-use Rattle.std.specs.Prelude.{◌≡◌, ◌≢◌, ◌⊎◌, ◌==◌, if◌then◌else◌, ℕ, Bool, true, List, get_or, sum, Option, option_map, Result, Err}
+use Rattle.std.specs.Prelude.{◌≡◌, ◌≢◌, ◌⊎◌, ℕ, Bool, true, List, length, get_or, sum, Option, option_map, Result, Err}
 use Rattle.vdr_terms.specs.Records.{Record, second, last}
 use Rattle.vdr_terms.specs.Queries.{Medium, Query, Span}
 use Rattle.vdr_terms.specs.Queries.Medium.{WindowOf, Incident}
@@ -25,13 +25,15 @@ span_in vault placed (Incident id) = option_map (λ incident. Places incident.a 
 abbrev pub ring_for : VaultState → Query → RingState
 ring_for vault query = ring_of vault (medium_of query.medium)
 
--- The vault with this ring on medium m.
-abbrev pub with_ring : ℕ → RingState → VaultState → VaultState
-with_ring m ring vault = if m == 0 then record vault { capsule = ring } else record vault { long_term = ring }
-
 -- Only the buffer of the ring on medium m may have changed.
-abbrev pub ReadsOn : ℕ → (old new : VaultState) → Type 0
-ReadsOn m old new = new ≡ with_ring m (record (ring_of old m) { buffer = (ring_of new m).buffer; loaded = (ring_of new m).loaded }) old
+pub record ReadsOn (m : ℕ) (old new : VaultState) : Type 0 where
+  -- but for its rings the vault is as before, and there are as many
+  pub vault : new ≡ record old { rings = new.rings }
+  pub count : length new.rings ≡ length old.rings
+  -- but for its buffer the ring on medium m is as before
+  pub ring : ring_of new m ≡ record (ring_of old m) { buffer = (ring_of new m).buffer; loaded = (ring_of new m).loaded }
+  -- the others are as before
+  pub others : (k : ℕ) → k ≢ m → ring_of new k ≡ ring_of old k
 
 -- No count of faults falls. A fault comes where a write had failed before, and else only where the count of medium m rose, and
 -- so the sum.

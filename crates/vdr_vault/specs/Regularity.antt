@@ -9,24 +9,24 @@ use Rattle.vdr_durability.specs.Shown.{pins_on}
 use Rattle.vdr_durability.specs.Soundness.{IsUnbroken}
 use Rattle.vdr_config.specs.Sizes.{sizes_of, window_of}
 use Rattle.vdr_ring.specs.Regularity.{AreRegular}
-use Rattle.vdr_opening.specs.Media.{both, Contents, reading_of}
+use Rattle.vdr_opening.specs.Media.{members, Contents, reading_of}
 
 -- Medium m is regular as it is, and restored: well filled segments, records in order, no second with more bytes than its cost,
 -- and live incidents that span no more seconds than an incident has.
 pub record IsRegularMedium (x : Contents) (m : ℕ) : Type 0 where
   pub segments : AreRegular (cost (sizes_of x.config)) (usable (sizes_of x.config)) x.config.batch (x.placed m)
-  pub order : AreInOrder (records_on (restored both (reading_of x)) m)
-  pub paced : (s : ℕ) → batches_size_at s ((restored both (reading_of x)).batches m) ≤ cost (sizes_of x.config)
-  pub pins : ArePinsOf (sizes_of x.config) m (records_on (restored both (reading_of x)) m) (pins_on m x.table)
+  pub order : AreInOrder (records_on (restored members (reading_of x)) m)
+  pub paced : (s : ℕ) → batches_size_at s ((restored members (reading_of x)).batches m) ≤ cost (sizes_of x.config)
+  pub pins : ArePinsOf (sizes_of x.config) m (records_on (restored members (reading_of x)) m) (pins_on m x.table)
 
 abbrev pub AreRegularMedia : Contents → Type 0
-AreRegularMedia x = All (IsRegularMedium x) both
+AreRegularMedia x = All (IsRegularMedium x) members
 
 -- No place is skipped in the window of medium m, as it is restored.
 abbrev pub IsUnbrokenMedium : Contents → ℕ → Type 0
-IsUnbrokenMedium x m = IsUnbroken (window_of x.config m) (records_on (restored both (reading_of x)) m)
+IsUnbrokenMedium x m = IsUnbroken (window_of x.config m) (records_on (restored members (reading_of x)) m)
 
 -- What every image holds that a recorder may leave: regular media, in whose windows no place is skipped.
 pub record AreSound (x : Contents) : Type 0 where
   pub regular : AreRegularMedia x
-  pub unbroken : All (IsUnbrokenMedium x) both
+  pub unbroken : All (IsUnbrokenMedium x) members

@@ -1,5 +1,5 @@
 -- What a vault's media hold of a history (this project's profile).
-use Rattle.std.specs.Prelude.{◌≡◌, ◌==◌, ℕ, ℤ, Bool, false, List, length, All, Option, None, option_map, if◌then◌else◌}
+use Rattle.std.specs.Prelude.{◌≡◌, ℕ, ℤ, Bool, false, List, length, All, Option, None, option_map}
 use Rattle.vdr_terms.specs.Records.{Record, last}
 use Rattle.vdr_terms.specs.Needs.{cost, usable}
 use Rattle.vdr_terms.specs.Order.{AreInOrder}
@@ -18,17 +18,16 @@ use Rattle.vdr_ring.specs.Rings.{RingState}
 use Rattle.vdr_ring.specs.Rings as rings
 use Rattle.vdr_incident.specs.Tables.{HoldsTable}
 use Rattle.vdr_opening.specs.Settings.{settings_of}
-use Rattle.vdr_opening.specs.Media.{both, HasFront, AreThere, Reads}
+use Rattle.vdr_opening.specs.Media.{members, HasFront, AreThere, Reads}
 use Rattle.vdr_durability.specs.Soundness.{IsUnbroken}
 use Rattle.vdr_vault.specs.Regularity.{AreSound}
-use Rattle.vdr_opening.specs.Answers.{IsRingOf}
+use Rattle.vdr_opening.specs.Answers.{AreRingsOf, IsRingOf, ring_at}
 
--- A vault without its media: the configuration, a ring on each medium, the incidents, the next place with tick and utc of the
--- last record, and whether a write has failed. After a fault place and record are those before the batch that met it.
+-- A vault without its media: the configuration, a ring on each medium in order of number, the incidents, the next place with tick and
+-- utc of the last record, and whether a write has failed. After a fault place and record are those before the batch that met it.
 pub record VaultState : Type 0 where
   pub config : Configuration
-  pub capsule : RingState
-  pub long_term : RingState
+  pub rings : List RingState
   pub table : List (Option Incident)
   pub next_place : ℕ
   pub last : Option (ℕ × ℤ)
@@ -51,19 +50,19 @@ working_from newest vault = record vault { next_place = next_after newest; last 
 
 -- The ring on medium m.
 abbrev pub ring_of : VaultState → ℕ → RingState
-ring_of vault m = if m == 0 then vault.capsule else vault.long_term
+ring_of vault m = ring_at vault.rings m
 
 -- Each ring is its medium's.
 abbrev pub AreRings : VaultState → (sizes : List ℕ) → Type 0
-AreRings vault sizes = All (λ m. IsRingOf vault.config sizes m (ring_of vault m)) both
+AreRings vault sizes = AreRingsOf vault.config sizes vault.rings
 
 -- What the segments of both media read as.
 abbrev pub reading_with : (text : List ℕ) (placed : ℕ → List Placed) (table : List (Option Incident)) → Reading
 reading_with text placed table = record { batches = λ m. batches_in (placed m); table = table; text = text }
 
 -- The image is legible as media of these numbers, reads so, and is sound.
-pub record ReadsSound (image : Image) (members : List ℕ) (reading : Reading) : Type 0 where
-  pub reads : Reads image members reading
+pub record ReadsSound (image : Image) (numbers : List ℕ) (reading : Reading) : Type 0 where
+  pub reads : Reads image numbers reading
   pub sound : AreSound reads.contents
 
 -- The image is legible and sound, and shows these events.
@@ -93,7 +92,7 @@ module _ {tells tells_images : Type 0} where
   pub record IsReadable (opening : Opening) (events : List Event) (vault : VaultState) (placed : ℕ → List Placed) (disk : Disk tells tells_images) : Type 0 where
     pub settings : opening.settings ≡ settings_of vault.config opening.settings.text
     pub working : vault.failed ≡ false
-    pub media : All (λ m. IsReadableAt opening events m (ring_of vault m) (placed m) disk) both
+    pub media : All (λ m. IsReadableAt opening events m (ring_of vault m) (placed m) disk) members
     pub incidents_are : vault.table ≡ incidents opening events
 
   -- A vault at rest after these events: nothing is unsynced, both media end with the last batch, and all that was recorded and
@@ -101,8 +100,8 @@ module _ {tells tells_images : Type 0} where
   pub record Stands (opening : Opening) (events : List Event) (vault : VaultState) (placed : ℕ → List Placed) (disk : Disk tells tells_images) : Type 0 where
     pub settings : opening.settings ≡ settings_of vault.config opening.settings.text
     pub working : vault.failed ≡ false
-    pub media : All (λ m. HoldsHistory opening events vault.config m (ring_of vault m) (placed m) disk) both
-    pub level : AreLevel both (reading_with opening.settings.text placed vault.table)
+    pub media : All (λ m. HoldsHistory opening events vault.config m (ring_of vault m) (placed m) disk) members
+    pub level : AreLevel members (reading_with opening.settings.text placed vault.table)
     pub incidents_are : vault.table ≡ incidents opening events
     pub slots : length vault.table ≡ vault.config.incident_slots
     pub table : tells → HoldsTable vault.config.incident_slots vault.table (content disk.reads 1)

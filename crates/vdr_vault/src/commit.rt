@@ -33,7 +33,7 @@ impl Vault {
         ensures cause { HasVaultCause false (M.faults media.old) (M.faults media.new) result }
     {
         let pins = self.pins();
-        append_from(self, 0, media, records, &pins)
+        append_from(&mut self.rings, 0, media, records, &pins)
     }
 
     /// Commits records as one batch: appends it to the capsule, and then to the long-term medium. Ok means that both have it. At every

@@ -4,7 +4,7 @@ ghost use Rattle.vdr_durability.specs.Readings.{EndsMeet};
 ghost use Rattle.vdr_outside.specs.Disk.{Image, Unchanged};
 ghost use Rattle.vdr_config.specs.Configuration.{Configuration};
 ghost use Rattle.vdr_directory.specs.Sequence.{Placed};
-ghost use Rattle.vdr_opening.specs.Media.{Contents, HoldsContents, both, nothing_on, reading_of};
+ghost use Rattle.vdr_opening.specs.Media.{Contents, HoldsContents, members, nothing_on, reading_of};
 ghost use Rattle.vdr_vault.specs.Regularity.{AreSound};
 ghost use Rattle.vdr_vault.specs.Vaults.{VaultState, ShowsHistory, Stands};
 
@@ -25,5 +25,5 @@ pub fn law_of_vaults<M: Media>(old: &M, new: &M)
 /// Media that were just formatted are sound. Soundness is a fact of an image: of what it holds, all is sound or nothing is.
 pub fn law_of_sound_media()
     ensures empty { (c : Configuration) (text : List ℕ) → AreSound (nothing_on c text) }
-    ensures same { (image : Image) (x y : Contents) → HoldsContents image x → HoldsContents image y → EndsMeet both (reading_of x) × AreSound x → EndsMeet both (reading_of y) × AreSound y }
+    ensures same { (image : Image) (x y : Contents) → HoldsContents image x → HoldsContents image y → EndsMeet members (reading_of x) × AreSound x → EndsMeet members (reading_of y) × AreSound y }
 {}

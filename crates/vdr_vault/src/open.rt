@@ -1,4 +1,4 @@
-ghost use Rattle.std.specs.Prelude.{◌≡◌, ◌≢◌, ◌⊎◌, ◌+◌, ◌≤◌, ℕ, List, [], length, All, IfOk, OnOk, Err, false, option_map};
+ghost use Rattle.std.specs.Prelude.{◌≡◌, ◌≢◌, ◌⊎◌, ◌+◌, ◌<◌, ◌≤◌, ℕ, List, [], length, All, IfOk, OnOk, Err, false, option_map};
 ghost use Rattle.vdr_terms.specs.Sizes.{batch_size};
 ghost use Rattle.vdr_durability.specs.Readings.{AreLevel, EndsMeet};
 ghost use Rattle.vdr_outside.specs.Causes.{HasCauseOn};
@@ -6,45 +6,53 @@ ghost use Rattle.vdr_outside.specs.Disk.{Durable, SameBut, Unchanged};
 ghost use Rattle.vdr_outside.specs.Moments.{AtEachMoment};
 ghost use Rattle.vdr_media.specs.Formatted.{IsFormatted, IsUnformatted};
 ghost use Rattle.vdr_directory.specs.Sequence.{Placed};
-ghost use Rattle.vdr_opening.specs.Media.{Contents, HoldsContents, both, opening_of, reading_of};
+ghost use Rattle.vdr_opening.specs.Media.{Contents, HoldsContents, members, opening_of, reading_of};
 ghost use Rattle.vdr_opening.specs.Refusals.{IsRefused};
 ghost use Rattle.vdr_opening.specs.Answers.{HasOpenCause, IsOpened};
 ghost use Rattle.vdr_opening.specs.declared.refused.OpenRefused.TheVariants.{Damaged, NotFormatted};
 ghost use Rattle.vdr_vault.specs.Vaults.{AreRings, IsReadable, ShowsHistory, Stands, of_stamp};
 ghost use Rattle.vdr_vault.specs.Regularity.{AreSound};
-ghost use Rattle.vdr_vault.specs.Openings.{EndsWithin, GoesOnBehind, HasCauseOnBoth, LeavesAll, OpensAtEachMoment, OpensVault, ReachesLongTerm, Reconciles, RefusesMedia, WritesMissing, opened_with};
+ghost use Rattle.vdr_vault.specs.Openings.{EndsWithin, GoesOnBehind, HasCauseOnBoth, LeavesAll, OpensAtEachMoment, OpensMeanwhile, OpensVault, ReachesLongTerm, Reconciles, RefusesMedia, WritesMissing, opened_with};
 
 use crate::Vault;
 use crate::appending::append_from;
 use crate::vault::ending;
 use std::alloc::Global;
 use vdr_entry::Record;
-use vdr_opening::{OpenRefused, Opened, read_media};
+use vdr_opening::{MEMBERS, OpenRefused, Opened, read_media};
 use vdr_outside::{Failed, Fault, Media};
 use vdr_ring::law_of_stages;
 
-// Syncs both media.
-fn sync_both<M: Media>(media: &mut M) -> Result<(), Failed>
+// Syncs the media.
+fn sync_all<M: Media>(media: &mut M) -> Result<(), Failed>
     requires two { 2 ≤ length (M.disk media.old).sizes }
-    ensures durable { OnOk result (All (λ m. Durable m (M.disk media.new)) both) }
+    ensures durable { OnOk result (All (λ m. Durable m (M.disk media.new)) members) }
     ensures reads { M.tells → (M.disk media.new).reads ≡ (M.disk media.old).reads }
     ensures moments { LeavesAll (M.disk media.old) (M.disk media.new) }
     ensures sizes { (M.disk media.new).sizes ≡ (M.disk media.old).sizes }
     ensures cause { HasCauseOnBoth (M.faults media.old) (M.faults media.new) result }
 {
-    media.sync(0)?;
-    media.sync(1)
+    for m in 0..MEMBERS {
+        media.sync(m)?;
+    }
+    Ok(())
 }
 
 impl Vault {
-    // Appends the batch that the long-term medium lacks, if any.
-    fn reconcile<M: Media>(&mut self, media: &mut M, missing: &[Record]) -> Result<(), Fault>
+    // Appends the batch that the media from a number on lack, if any.
+    fn reconcile<M: Media>(
+        &mut self,
+        media: &mut M,
+        missing: &[Record],
+        lacking: u8,
+    ) -> Result<(), Fault>
         requires rings { AreRings self.old (M.disk media.old).sizes }
         requires works { self.old.failed ≡ false }
         requires fits { missing.now ≢ [] → 64 + batch_size missing.now + 1 ≤ self.old.config.segment }
-        ensures reconciled { (x : Contents) → M.tells → IsOpened (opened_with self.old missing.now) x (M.disk media.old) → AreSound x
+        requires behind { missing.now ≢ [] → (0 < lacking) × (lacking < length members) }
+        ensures reconciled { (x : Contents) → M.tells → IsOpened (opened_with self.old missing.now lacking) x (M.disk media.old) → AreSound x
             → GoesOnBehind x self.old → Reconciles x self.new (M.disk media.old) (M.disk media.new) result }
-        ensures within { (x : Contents) → M.tells → IsOpened (opened_with self.old missing.now) x (M.disk media.old)
+        ensures within { (x : Contents) → M.tells → IsOpened (opened_with self.old missing.now lacking) x (M.disk media.old)
             → AtEachMoment (M.disk media.old) (M.disk media.new) (EndsWithin x) }
         ensures config { self.new.config ≡ self.old.config }
         ensures table { self.new.table ≡ self.old.table }
@@ -62,33 +70,29 @@ impl Vault {
         }
         law_of_stages();
         let pins = self.pins();
-        append_from(self, 1, media, missing, &pins)
+        append_from(&mut self.rings, lacking as usize, media, missing, &pins)
     }
 
     // Opens media of which nothing is unsynced.
     fn open_synced<M: Media>(alloc: Global, media: &mut M) -> Result<Vault, OpenRefused>
         requires two { 2 ≤ length (M.disk media.old).sizes }
         requires three { length (M.disk media.old).sizes ≤ 3 }
-        ensures opened { IfOk result (λ vault. (x : Contents) → M.tells → All (λ m. Durable m (M.disk media.old)) both → HoldsContents (M.disk media.old).reads x → AreSound x
+        ensures opened { IfOk result (λ vault. (x : Contents) → M.tells → All (λ m. Durable m (M.disk media.old)) members → HoldsContents (M.disk media.old).reads x → AreSound x
             → (placed : ℕ → List Placed) × Stands (opening_of x) [] vault placed (M.disk media.new)) }
-        ensures contents { IfOk result (λ vault. M.tells → All (λ m. Durable m (M.disk media.old)) both
+        ensures contents { IfOk result (λ vault. M.tells → All (λ m. Durable m (M.disk media.old)) members
             → IsFormatted (M.disk media.old).reads × (x : Contents) × HoldsContents (M.disk media.old).reads x
-            × EndsMeet both (reading_of x) × (vault.config ≡ x.config) × (vault.table ≡ x.table)
+            × EndsMeet members (reading_of x) × (vault.config ≡ x.config) × (vault.table ≡ x.table)
             × (vault.last ≡ option_map of_stamp (opening_of x).last)) }
-        ensures place { IfOk result (λ vault. (x : Contents) → M.tells → All (λ m. Durable m (M.disk media.old)) both → HoldsContents (M.disk media.old).reads x
+        ensures place { IfOk result (λ vault. (x : Contents) → M.tells → All (λ m. Durable m (M.disk media.old)) members → HoldsContents (M.disk media.old).reads x
             → vault.next_place ≡ (opening_of x).next_place) }
-        ensures readable { IfOk result (λ vault. (x : Contents) → M.tells → All (λ m. Durable m (M.disk media.old)) both → HoldsContents (M.disk media.old).reads x → AreLevel both (reading_of x)
+        ensures readable { IfOk result (λ vault. (x : Contents) → M.tells → All (λ m. Durable m (M.disk media.old)) members → HoldsContents (M.disk media.old).reads x → AreLevel members (reading_of x)
             → IsReadable (opening_of x) [] vault x.placed (M.disk media.new)) }
-        ensures level { (x : Contents) → M.tells → All (λ m. Durable m (M.disk media.old)) both → HoldsContents (M.disk media.old).reads x → AreLevel both (reading_of x)
-            → Unchanged (M.disk media.old) (M.disk media.new) }
-        ensures within { (x : Contents) → M.tells → All (λ m. Durable m (M.disk media.old)) both → HoldsContents (M.disk media.old).reads x → EndsMeet both (reading_of x)
-            → AtEachMoment (M.disk media.old) (M.disk media.new) (EndsWithin x) }
+        ensures meanwhile { (x : Contents) → M.tells → All (λ m. Durable m (M.disk media.old)) members → HoldsContents (M.disk media.old).reads x
+            → OpensMeanwhile x (M.disk media.old) (M.disk media.new) }
         ensures works { IfOk result (λ vault. vault.failed ≡ false) }
         ensures rings { IfOk result (λ vault. AreRings vault (M.disk media.new).sizes) }
-        ensures moments { (x : Contents) → M.tells → All (λ m. Durable m (M.disk media.old)) both → HoldsContents (M.disk media.old).reads x → EndsMeet both (reading_of x) → AreSound x
-            → AtEachMoment (M.disk media.old) (M.disk media.new) (ShowsHistory (opening_of x) []) }
         ensures unformatted { result ≡ Err NotFormatted → M.tells → IsUnformatted (M.disk media.old).reads }
-        ensures damaged { (m offset : ℕ) → result ≡ Err (Damaged m offset) → M.tells → All (λ k. Durable k (M.disk media.old)) both
+        ensures damaged { (m offset : ℕ) → result ≡ Err (Damaged m offset) → M.tells → All (λ k. Durable k (M.disk media.old)) members
             → IsFormatted (M.disk media.old).reads × IsRefused (M.disk media.old).reads m offset }
         ensures untouched { (result ≡ Err NotFormatted) ⊎ ((m : ℕ) × (offset : ℕ) × (result ≡ Err (Damaged m offset)))
             → Unchanged (M.disk media.old) (M.disk media.new) }
@@ -99,22 +103,21 @@ impl Vault {
     {
         let Opened {
             config,
-            capsule,
-            long_term,
+            rings,
             table,
             missing,
+            lacking,
         } = read_media(alloc, media)?;
-        let (next_place, last) = ending(&capsule);
+        let (next_place, last) = ending(&rings[0]);
         let mut vault = Vault {
             config,
-            capsule,
-            long_term,
+            rings,
             table,
             next_place,
             last,
             failed: false,
         };
-        let Ok(()) = vault.reconcile(media, &missing) else {
+        let Ok(()) = vault.reconcile(media, &missing, lacking) else {
             return Err(OpenRefused::Fault);
         };
         Ok(vault)
@@ -135,12 +138,12 @@ impl Vault {
         requires three { length (M.disk media.old).sizes ≤ 3 }
         ensures opened { OpensVault result (M.disk media.old) (M.disk media.new) }
         ensures missing { (x : Contents) → M.tells → HoldsContents (M.disk media.old).reads x → WritesMissing x (M.disk media.old) (M.disk media.new) }
-        ensures moments { (x : Contents) → M.tells → HoldsContents (M.disk media.old).reads x → EndsMeet both (reading_of x) → AreSound x
+        ensures moments { (x : Contents) → M.tells → HoldsContents (M.disk media.old).reads x → EndsMeet members (reading_of x) → AreSound x
             → OpensAtEachMoment (M.disk media.old) (M.disk media.new) result (ShowsHistory (opening_of x) []) }
         ensures refused { RefusesMedia result (M.disk media.old) (M.disk media.new) }
         ensures writes { ReachesLongTerm M.Media media.old media.new result }
     {
-        let Ok(()) = sync_both(media) else {
+        let Ok(()) = sync_all(media) else {
             return Err(OpenRefused::Fault);
         };
         Vault::open_synced(alloc, media)

@@ -1,4 +1,4 @@
-ghost use Rattle.std.specs.Prelude.{◌≡◌, ◌≢◌, ◌↔◌, ℕ, List, true, None, Some, Ok, Err, All, option_map, get_or};
+ghost use Rattle.std.specs.Prelude.{◌≡◌, ◌≢◌, ◌<◌, ◌↔◌, ℕ, List, true, None, Some, Ok, Err, All, option_map, get_or};
 ghost use Rattle.vdr_terms.specs.Records.{Record as Entry, last, second};
 ghost use Rattle.vdr_terms.specs.Queries.Span.{Window};
 ghost use Rattle.vdr_history.specs.Histories.{Event, Opening};
@@ -10,13 +10,14 @@ ghost use Rattle.vdr_directory.specs.Holds.{Tells};
 ghost use Rattle.vdr_ring.specs.Rings.{Reads};
 ghost use Rattle.vdr_ring.specs.Visits.{IsLoaded};
 ghost use Rattle.vdr_ring.specs.declared.refused.ReadRefused.TheVariants.{Fault as AFault, Damaged};
-ghost use Rattle.vdr_opening.specs.Media.{both};
+ghost use Rattle.vdr_opening.specs.Media.{members};
 ghost use Rattle.vdr_vault.specs.Vaults.{AreRings, IsReadable, ring_of};
 ghost use Rattle.vdr_index.specs.Indexes.{span_as};
 ghost use Rattle.vdr_vault.specs.Walks.{AreLeft, CountsOn, GivesNext, HasRead, MayStep, slots_read};
 ghost use Rattle.vdr_vault.specs.Keeps.{KeepsPlayed, ReadsForPlay, StandsAfter};
 ghost use Rattle.vdr_vault.specs.Plays.{AreToCome, ReadsOn, ring_for, span_in};
 
+use crate::vault::LONG_TERM;
 use crate::{Cursor, Vault};
 use vdr_entry::{Medium, Query};
 use vdr_index::Span;
@@ -37,59 +38,58 @@ fn window_of(ring: &Ring, seconds: u64) -> Option<Span>
     })
 }
 
+// The number of the medium that a query of this one reads.
+fn medium_of(medium: Medium) -> u8
+    ensures number { result ≡ medium_of (asked_medium medium) }
+    ensures member { result < 2 }
+{
+    match medium {
+        Medium::Capsule => 0,
+        Medium::LongTerm | Medium::Incident(_) => LONG_TERM,
+    }
+}
+
 impl Vault {
     // What the query's medium comes to. None where it has no record, or the incident is not live.
     fn span_of(&self, medium: Medium) -> Option<Span>
-        ensures { (placed : ℕ → List Placed) → All (λ m. Tells (ring_of self.now m).slots (placed m) (ring_of self.now m).directory) both
+        ensures { (placed : ℕ → List Placed) → All (λ m. Tells (ring_of self.now m).slots (placed m) (ring_of self.now m).directory) members
             → option_map span_as result ≡ span_in self.now placed (asked_medium medium) }
     {
-        match medium {
-            Medium::Capsule => window_of(&self.capsule, self.config.capsule_seconds),
-            Medium::LongTerm => window_of(&self.long_term, self.config.long_seconds),
-            Medium::Incident(id) => {
-                let save = self.table.live(id)?;
-                Some(Span::Places {
-                    a: save.a,
-                    b: save.b,
-                })
-            }
+        if let Medium::Incident(id) = medium {
+            let save = self.table.live(id)?;
+            return Some(Span::Places {
+                a: save.a,
+                b: save.b,
+            });
         }
+        let m = medium_of(medium);
+        window_of(self.ring(m), self.config.window(m))
     }
 
-    // Steps on the medium that the query reads.
-    fn seek<M: Media>(
+    // Steps on medium m.
+    pub(crate) fn step_on<M: Media>(
         &mut self,
+        m: u8,
         media: &mut M,
-        query: &Query,
-        span: Span,
+        selection: &Selection,
         cursor: &mut Cursor,
     ) -> Result<bool, ReadRefused>
+        requires member { m < 2 }
         requires rings { AreRings self.old (M.disk media.old).sizes }
-        requires may { MayStep (ring_for self.old (asked query.now)) cursor.old }
-        ensures vault { ReadsOn (medium_of (asked query.now).medium) self.old self.new }
-        ensures read { HasRead (ring_for self.old (asked query.now)) (ring_for self.new (asked query.now)) (M.disk media.old) (M.disk media.new) }
-        ensures counts { CountsOn (medium_of (asked query.now).medium) (M.bytes_read media.old) (M.bytes_read media.new) (M.faults media.old) (M.faults media.new) }
-        ensures may { MayStep (ring_for self.new (asked query.now)) cursor.new }
+        requires may { MayStep (ring_of self.old m) cursor.old }
+        ensures vault { ReadsOn m self.old self.new }
+        ensures read { HasRead (ring_of self.old m) (ring_of self.new m) (M.disk media.old) (M.disk media.new) }
+        ensures counts { CountsOn m (M.bytes_read media.old) (M.bytes_read media.new) (M.faults media.old) (M.faults media.new) }
+        ensures may { MayStep (ring_of self.new m) cursor.new }
         ensures item { cursor.new.visit.item ≢ None ↔ (result ≡ Ok true) }
-        ensures plays { M.tells → (placed : List Placed) (records : List Entry) → Reads (ring_for self.old (asked query.now)) placed (M.disk media.old)
-            → AreLeft (slots_read (ring_for self.old (asked query.now)) (M.disk media.old)) placed (asked query.now) (Some (span_as span)) cursor.old records
+        ensures plays { M.tells → (placed : List Placed) (records : List Entry) → Reads (ring_of self.old m) placed (M.disk media.old)
+            → AreLeft (slots_read (ring_of self.old m) (M.disk media.old)) placed (asked selection.now.query) (Some (span_as selection.now.span)) cursor.old records
             → GivesNext records result cursor.new.visit.item
-            (AreLeft (slots_read (ring_for self.old (asked query.now)) (M.disk media.old)) placed (asked query.now) (Some (span_as span)) cursor.new) }
-        ensures damaged { (m offset : ℕ) → M.tells → IsLoaded (ring_for self.old (asked query.now)) (M.disk media.old) → result ≡ Err (Damaged m offset)
-            → m ≡ medium_of (asked query.now).medium }
-        ensures cause { result ≡ Err AFault
-            → Rose (get_or (M.faults media.old) (medium_of (asked query.now).medium) 0) (get_or (M.faults media.new) (medium_of (asked query.now).medium) 0) }
+            (AreLeft (slots_read (ring_of self.old m) (M.disk media.old)) placed (asked selection.now.query) (Some (span_as selection.now.span)) cursor.new) }
+        ensures damaged { (k offset : ℕ) → M.tells → IsLoaded (ring_of self.old m) (M.disk media.old) → result ≡ Err (Damaged k offset) → k ≡ m }
+        ensures cause { result ≡ Err AFault → Rose (get_or (M.faults media.old) m 0) (get_or (M.faults media.new) m 0) }
     {
-        let selection = Selection {
-            span,
-            query: *query,
-        };
-        match query.medium {
-            Medium::Capsule => cursor.step(&mut self.capsule, media, &selection),
-            Medium::LongTerm | Medium::Incident(_) => {
-                cursor.step(&mut self.long_term, media, &selection)
-            }
-        }
+        cursor.step(&mut self.rings[m as usize], media, selection)
     }
 
     /// Steps to the first record that the query selects, wherever the cursor stood. False exactly where it selects none, as of an
@@ -146,6 +146,10 @@ impl Vault {
             *cursor = Cursor::new();
             return Ok(false);
         };
-        self.seek(media, query, span, cursor)
+        let selection = Selection {
+            span,
+            query: *query,
+        };
+        self.step_on(medium_of(query.medium), media, &selection, cursor)
     }
 }

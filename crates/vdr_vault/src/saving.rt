@@ -13,7 +13,7 @@ ghost use Rattle.vdr_ring.specs.Rings.{Reads};
 ghost use Rattle.vdr_ring.specs.Visits.{IsLoaded};
 ghost use Rattle.vdr_incident.specs.Saves.{IsSave};
 ghost use Rattle.vdr_incident.specs.declared.refused.ReleaseRefused.TheVariants.{Fault as AReleaseFault, NoSuch};
-ghost use Rattle.vdr_vault.specs.Vaults.{AreRings, Stands, of_stamp};
+ghost use Rattle.vdr_vault.specs.Vaults.{AreRings, Stands, of_stamp, ring_of};
 ghost use Rattle.vdr_vault.specs.Walks.{HasRead};
 ghost use Rattle.vdr_vault.specs.Plays.{ReadsNoOther, ReadsOn};
 ghost use Rattle.vdr_vault.specs.Saves.{Does, HasFaultOn, Saves, first_in_window, save_refusal};
@@ -22,6 +22,7 @@ ghost use Rattle.vdr_vault.specs.declared.refused.SaveRefused.{SaveRefused as Re
 ghost use Rattle.vdr_vault.specs.declared.refused.SaveRefused.TheVariants.{Damaged, Fault as AFault, Label, Nothing, TableFull};
 
 use crate::cursor::Cursor;
+use crate::vault::LONG_TERM;
 use crate::{SaveRefused, Vault};
 use vdr_entry::{Medium, Query};
 use vdr_incident::{ReleaseRefused, Save, is_label};
@@ -79,25 +80,25 @@ impl Vault {
     ) -> Result<u64, SaveRefused>
         requires rings { AreRings self.old (M.disk media.old).sizes }
         ensures vault { ReadsOn 1 self.old self.new }
-        ensures read { HasRead self.old.long_term self.new.long_term (M.disk media.old) (M.disk media.new) }
+        ensures read { HasRead (ring_of self.old 1) (ring_of self.new 1) (M.disk media.old) (M.disk media.new) }
         ensures rings { AreRings self.new (M.disk media.new).sizes }
-        ensures found { (placed : List Placed) (newest : Record) → M.tells → Reads self.old.long_term placed (M.disk media.old)
+        ensures found { (placed : List Placed) (newest : Record) → M.tells → Reads (ring_of self.old 1) placed (M.disk media.old)
             → last (all_records placed) ≡ Some newest → second newest.tick ≡ last_second
             → IfOk result (λ a. first_in_window self.old.config.incident_seconds (all_records placed) ≡ Some a) }
-        ensures undamaged { (placed : List Placed) (newest : Record) (m offset : ℕ) → M.tells → Reads self.old.long_term placed (M.disk media.old)
+        ensures undamaged { (placed : List Placed) (newest : Record) (m offset : ℕ) → M.tells → Reads (ring_of self.old 1) placed (M.disk media.old)
             → last (all_records placed) ≡ Some newest → second newest.tick ≡ last_second → result ≡ Err (Damaged m offset) → ⊥ }
-        ensures damaged { (m offset : ℕ) → M.tells → IsLoaded self.old.long_term (M.disk media.old) → result ≡ Err (Damaged m offset) → m ≡ 1 }
+        ensures damaged { (m offset : ℕ) → M.tells → IsLoaded (ring_of self.old 1) (M.disk media.old) → result ≡ Err (Damaged m offset) → m ≡ 1 }
         ensures own { (result ≡ Err Label → ⊥) × (result ≡ Err Nothing → ⊥) × (result ≡ Err TableFull → ⊥) }
         ensures counts { ReadsNoOther 1 (M.bytes_read media.old) (M.bytes_read media.new) }
         ensures cause { HasFaultOn 1 false (M.faults media.old) (M.faults media.new) (result ≡ Err AFault) }
     {
         let seconds = self.incident_seconds();
         let Some(mut cursor) = Cursor::since(
-            &self.long_term,
+            self.ring(LONG_TERM),
             last_second.saturating_add(1).saturating_sub(seconds),
         ) else {
             return Err(SaveRefused::Damaged {
-                medium: 1,
+                medium: LONG_TERM,
                 offset: 0,
             });
         };
@@ -108,9 +109,9 @@ impl Vault {
             },
             query: ALL,
         };
-        if !cursor.step(&mut self.long_term, media, &selection)? {
+        if !self.step_on(LONG_TERM, media, &selection, &mut cursor)? {
             return Err(SaveRefused::Damaged {
-                medium: 1,
+                medium: LONG_TERM,
                 offset: 0,
             });
         }
@@ -124,13 +125,13 @@ impl Vault {
     // medium: with such a save the medium would not be legible.
     fn incident_from(&self, label: &[u8], a: u64, tick: u64, utc: i64) -> Option<Save>
         ensures made { IfSome result (λ save. save ≡ record { label = label.now; a = a; b = self.now.next_place - 1; stamp = record { tick = tick; utc = utc } }) }
-        ensures there { IfSome result (λ save. (placed : List Placed) → Tells self.now.long_term.slots placed self.now.long_term.directory → AreInOrder placed
+        ensures there { IfSome result (λ save. (placed : List Placed) → Tells (ring_of self.now 1).slots placed (ring_of self.now 1).directory → AreInOrder placed
             → HoldAll a (self.now.next_place - 1) placed) }
-        ensures none { IfNone result ((placed : List Placed) → Tells self.now.long_term.slots placed self.now.long_term.directory → AreInOrder placed
+        ensures none { IfNone result ((placed : List Placed) → Tells (ring_of self.now 1).slots placed (ring_of self.now 1).directory → AreInOrder placed
             → HoldAll a (self.now.next_place - 1) placed → IsSave (record { label = label.now; a = a; b = self.now.next_place - 1; stamp = record { tick = tick; utc = utc } }) → ⊥) }
     {
         let b = self.next_place.saturating_sub(1);
-        if !self.long_term.holds(a, b) {
+        if !self.ring(LONG_TERM).holds(a, b) {
             return None;
         }
         Save::new(label, a, b, tick, utc)
@@ -154,7 +155,7 @@ impl Vault {
         ensures stands { (opening : Opening) (events : List Event) (placed : ℕ → List Placed) (m offset : ℕ) → M.tells → result ≡ Err (Damaged m offset)
             → Stands opening events self.old placed (M.disk media.old) → Stands opening events self.new placed (M.disk media.new) }
         ensures damaged { (m offset : ℕ) → result ≡ Err (Damaged m offset) → Unchanged (M.disk media.old) (M.disk media.new)
-            × (M.tells → IsLoaded self.old.long_term (M.disk media.old) → m ≡ 1) }
+            × (M.tells → IsLoaded (ring_of self.old 1) (M.disk media.old) → m ≡ 1) }
         ensures own { (result ≡ Err Label → ⊥) × (result ≡ Err Nothing → ⊥) × (result ≡ Err TableFull → ⊥) }
         ensures id { IfOk result (λ id. option_map suc (position is_none self.old.table) ≡ Some id) }
         ensures table { IfOk result (λ id. (saved : Incident) × (self.new.table ≡ with_slot self.old.table id (Some saved)) × (saved.label ≡ label.now)
@@ -164,7 +165,7 @@ impl Vault {
         ensures next_place { self.new.next_place ≡ self.old.next_place }
         ensures last { self.new.last ≡ self.old.last }
         ensures config { self.new.config ≡ self.old.config }
-        ensures capsule { self.new.capsule ≡ self.old.capsule }
+        ensures capsule { ring_of self.new 0 ≡ ring_of self.old 0 }
         ensures rings { AreRings self.new (M.disk media.new).sizes }
         ensures others { M.tells → SameBut 1 (M.disk media.old).reads (M.disk media.new).reads }
         ensures sizes { (M.disk media.new).sizes ≡ (M.disk media.old).sizes }
@@ -175,7 +176,7 @@ impl Vault {
         let a = self.first_of_incident(media, tick / 1000)?;
         let Some(save) = self.incident_from(label, a, tick, utc) else {
             return Err(SaveRefused::Damaged {
-                medium: 1,
+                medium: LONG_TERM,
                 offset: 0,
             });
         };
@@ -226,7 +227,7 @@ impl Vault {
         ensures failing { FailsWhere (result ≡ Err AReleaseFault) self.new.failed }
         ensures released { FreesSlot id self.old.table self.new.table result }
         ensures keeps { KeepsHistory self.old self.new (M.disk media.new).sizes }
-        ensures long_term { self.new.long_term ≡ self.old.long_term }
+        ensures long_term { ring_of self.new 1 ≡ ring_of self.old 1 }
         ensures writes { WritesToLongTerm M.Media self.old.failed media.old media.new (λ before now. now ≡ before) (result ≡ Err AReleaseFault) }
     {
         if self.failed {

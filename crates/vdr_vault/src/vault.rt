@@ -1,24 +1,27 @@
-ghost use Rattle.std.specs.Prelude.{◌≡◌, ℕ, List, option_map};
+ghost use Rattle.std.specs.Prelude.{◌≡◌, ◌<◌, ℕ, List, option_map};
 ghost use Rattle.vdr_terms.specs.Records.{last};
 ghost use Rattle.vdr_durability.specs.Readings.{next_after};
 ghost use Rattle.vdr_directory.specs.Sequence.{Placed, all_records};
 ghost use Rattle.vdr_directory.specs.Holds.{HoldsPlaced, Tells};
-ghost use Rattle.vdr_vault.specs.Vaults.{tick_utc};
+ghost use Rattle.vdr_vault.specs.Vaults.{ring_of, tick_utc};
 
 use std::marker::Model;
 use vdr_config::Config;
 use vdr_incident::Table;
 use vdr_ring::Ring;
 
+// The medium with the incident saves.
+pub(crate) const LONG_TERM: u8 = 1;
+
 /// The capsule and the long-term medium as they were opened, without the media themselves: the configuration, a ring on each, and the
 /// table of incident saves. After a fault of a write all its calls answer `Fault` and touch nothing, until the media are opened again.
 #[derive(Drop)]
 pub struct Vault {
     pub(crate) config: Config,
-    pub(crate) capsule: Ring,
-    pub(crate) long_term: Ring,
+    // One for each medium: its index is the number of the medium. The first one leads.
+    pub(crate) rings: Vec<Ring>,
     pub(crate) table: Table,
-    // The place after the last record that both media have.
+    // The place after the last record that all media have.
     pub(crate) next_place: u64,
     // Its tick and its stamp.
     pub(crate) last: Option<(u64, i64)>,
@@ -27,13 +30,24 @@ pub struct Vault {
 
 impl Model for Vault {
     ghost use Rattle.std.specs.Prelude.{◌≡◌, length};
+    ghost use Rattle.vdr_opening.specs.Media.{members};
     ghost use Rattle.vdr_vault.specs.Vaults.{VaultState};
 
     ghost Value = { VaultState };
 
-    ghost view = { λ s. record { config = s.config; capsule = s.capsule; long_term = s.long_term; table = s.table; next_place = s.next_place; last = s.last; failed = s.failed } };
+    ghost view = { λ s. record { config = s.config; rings = s.rings.items; table = s.table; next_place = s.next_place; last = s.last; failed = s.failed } };
 
-    ghost invariant = { λ s. length s.table ≡ s.config.incident_slots };
+    ghost invariant = { λ s. (length s.rings.items ≡ length members) × (length s.table ≡ s.config.incident_slots) };
+}
+
+impl Vault {
+    /// The ring on medium m.
+    pub(crate) fn ring(&self, m: u8) -> &Ring
+        requires { m < 2 }
+        ensures { result.now ≡ ring_of self.now m }
+    {
+        &self.rings[m as usize]
+    }
 }
 
 /// Where a ring ends: the place after its last record, and tick and stamp of that record.

@@ -1,5 +1,5 @@
--- What reads change of a vault: the buffer of one ring, the capsule's or the other.
-use Rattle.std.proofs.Common.{◌≡◌, ◌≤◌, ◌⊎◌, inl, inr, ⊎_elim, ◌==◌, if◌then◌else◌, ℕ, Bool, true, false, List, get_or, sum, refl, ap, ◌∙◌, arith}
+-- What reads change of a vault: the buffer of one ring.
+use Rattle.std.proofs.Common.{◌≡◌, ◌≤◌, ◌⊎◌, inl, inr, ⊎_elim, ℕ, Bool, true, List, get_or, sum, ap, ◌∙◌, arith}
 use Rattle.vdr_terms.specs.Queries.{Query}
 use Rattle.vdr_playback.specs.Playback.{medium_of}
 use Rattle.vdr_outside.specs.Causes.{Rose}
@@ -12,44 +12,26 @@ use Rattle.vdr_vault.specs.Plays.{ReadsOn}
 use Rattle.vdr_visit.specs.Refusals.{HasVisitCause}
 use Rattle.vdr_visit.specs.Visits.{HasOnlyRead}
 
-read_ring : Bool → VaultState → RingState
-read_ring b s = if b then s.capsule else s.long_term
-
-with_read : Bool → RingState → VaultState → VaultState
-with_read b ring s = if b then record s { capsule = ring } else record s { long_term = ring }
-
-kept_by_reads : (b : Bool) (ring : RingState) (s : VaultState)
-    → ((with_read b ring s).config ≡ s.config) × ((with_read b ring s).table ≡ s.table) × ((with_read b ring s).next_place ≡ s.next_place) × ((with_read b ring s).last ≡ s.last) × ((with_read b ring s).failed ≡ s.failed)
-unfolding with_read
-kept_by_reads true ring s = (refl, refl, refl, refl, refl)
-kept_by_reads false ring s = (refl, refl, refl, refl, refl)
-
 pub reads_keep : (m : ℕ) (x y : VaultState) → ReadsOn m x y
     → (y.config ≡ x.config) × (y.table ≡ x.table) × (y.next_place ≡ x.next_place) × (y.last ≡ x.last) × (y.failed ≡ x.failed)
-unfolding with_read
-reads_keep m x y h =
-    let k = kept_by_reads (m == 0) (record (ring_of x m) { buffer = (ring_of y m).buffer; loaded = (ring_of y m).loaded }) x in (
-      ap (λ (s : VaultState). s.config) h ∙ k.0,
-      ap (λ (s : VaultState). s.table) h ∙ k.1,
-      ap (λ (s : VaultState). s.next_place) h ∙ k.2,
-      ap (λ (s : VaultState). s.last) h ∙ k.3,
-      ap (λ (s : VaultState). s.failed) h ∙ k.4,
-    )
+reads_keep m x y h = (
+  ap (λ (s : VaultState). s.config) h.vault,
+  ap (λ (s : VaultState). s.table) h.vault,
+  ap (λ (s : VaultState). s.next_place) h.vault,
+  ap (λ (s : VaultState). s.last) h.vault,
+  ap (λ (s : VaultState). s.failed) h.vault,
+)
 
 pub reads_keep_failed : (m : ℕ) (x y : VaultState) → ReadsOn m x y → y.failed ≡ x.failed
 reads_keep_failed m x y h = (reads_keep m x y h).4
 
-twice_read : (b : Bool) (x y z : VaultState)
-    → y ≡ with_read b (record (read_ring b x) { buffer = (read_ring b y).buffer; loaded = (read_ring b y).loaded }) x
-    → z ≡ with_read b (record (read_ring b y) { buffer = (read_ring b z).buffer; loaded = (read_ring b z).loaded }) y
-    → z ≡ with_read b (record (read_ring b x) { buffer = (read_ring b z).buffer; loaded = (read_ring b z).loaded }) x
-unfolding with_read read_ring
-twice_read true x y z h k = k ∙ ap (λ (s : VaultState). record s { capsule = record s.capsule { buffer = z.capsule.buffer; loaded = z.capsule.loaded } }) h
-twice_read false x y z h k = k ∙ ap (λ (s : VaultState). record s { long_term = record s.long_term { buffer = z.long_term.buffer; loaded = z.long_term.loaded } }) h
-
 pub reads_join : (m : ℕ) (x y z : VaultState) → ReadsOn m x y → ReadsOn m y z → ReadsOn m x z
-unfolding with_read read_ring
-reads_join m x y z h k = twice_read (m == 0) x y z h k
+reads_join m x y z h k = record {
+  vault = k.vault ∙ ap (λ (s : VaultState). record s { rings = z.rings }) h.vault;
+  count = k.count ∙ h.count;
+  ring = k.ring ∙ ap (λ (r : RingState). record r { buffer = (ring_of z m).buffer; loaded = (ring_of z m).loaded }) h.ring;
+  others = λ n other. k.others n other ∙ h.others n other;
+}
 
 -- A query's medium was read twice.
 pub only_read_join : {tells tells_images : Type 0} (query : Query) (x y z : VaultState) (before mid after : Disk tells tells_images) (read_before read_mid read_after : List ℕ)

@@ -3,18 +3,23 @@ use super::capsule::{Capsule, contents};
 use std::alloc::Global;
 use std::process::Abort;
 use std::test::Fail;
-use vdr_entry::{Medium, Query};
+use vdr_entry::{Medium, Query, Summary};
 use vdr_index::Span;
 use vdr_memory::{MemoryMedia, RamMedia, Torn};
 use vdr_outside::Media;
 use vdr_ring::{Pins, Ring};
+use vdr_segment::{HEADER_SIZE, read_header};
 use vdr_survey::Selection;
+use vdr_terms::SLOTS_FROM;
 
 // How many batches stand on the capsule before a slot is written over: 54 in each of 11 segments.
 const FIRST_ROUND: u64 = 594;
 
-// Four writes and syncs for each batch, and four for each segment.
-const CALLS_BEFORE: u64 = 4 * FIRST_ROUND + 4 * 11;
+// Four writes and syncs for each batch, four for each segment that is begun, and four for the summary of each that is left.
+const CALLS_BEFORE: u64 = 4 * FIRST_ROUND + 4 * 11 + 4 * 10;
+
+// Two writes and syncs close the oldest segment; four begin the next one, four append its batch, four write the summary of the one before.
+const LEAVING: u64 = 14;
 
 // Appends the batches of these numbers, and asserts that the last 60 seconds are held after each.
 fn append_all<M: Media + Drop>(rt: &impl Abort, capsule: &mut Capsule<M>, from: u64, to: u64) {
@@ -78,13 +83,50 @@ fn stopped(rt: &impl Abort, alloc: Global, stop: u64) -> Result<(MemoryMedia, bo
 #[test]
 fn a_stop_leaves_the_last_minute_without_the_batch_or_with_it(rt: HostRuntime) -> Result<(), Fail> {
     let alloc = rt.alloc();
-    for stop in 0..11 {
+    for stop in 0..LEAVING + 1 {
         let (media, done) = stopped(&rt, alloc, stop)?;
-        assert!(rt; done == (stop == 10));
+        assert!(rt; done == (stop == LEAVING));
         for torn in [Torn::Old, Torn::New, Torn::Filled(0xA5)] {
             let (last, held) = last_minute(&rt, alloc, media.image(&[], &torn)?)?;
             assert!(rt; held && (last == FIRST_ROUND || (last == FIRST_ROUND - 1 && !done)));
         }
+    }
+    Ok(())
+}
+
+// The summary of the segment in a slot. None where it has none.
+fn summary_in<M: Media>(rt: &impl Abort, media: &mut M, slot: u64) -> Option<Summary> {
+    assert!(rt; media.count() == 1 && media.size(0) == 122_880 && slot < 11);
+    let mut bytes = [0; HEADER_SIZE];
+    assert!(rt; media.read(0, SLOTS_FROM + slot * 8_192, &mut bytes).is_ok());
+    read_header(&bytes)?.summary
+}
+
+// Behind 56 batches: what each of these slots tells of its records. Segment 0 has the first 54, of seconds 0 to 26.
+const SUMMARIES: [(u64, Option<Summary>); 3] = [
+    (
+        0,
+        Some(Summary {
+            count: 54,
+            first_second: 0,
+            last_second: 26,
+            least_utc: 0,
+            greatest_utc: 0,
+            bits: 0,
+        }),
+    ),
+    (1, None),
+    (2, None),
+];
+
+#[test]
+fn a_segment_that_is_left_has_the_summary_of_its_records(rt: HostRuntime) -> Result<(), Fail> {
+    let alloc = rt.alloc();
+    let mut capsule = Capsule::open(&rt, alloc, RamMedia::new(contents(alloc)?))?;
+    append_all(&rt, &mut capsule, 0, 56);
+    let mut media = capsule.into_media();
+    for (slot, summary) in &SUMMARIES {
+        assert!(rt; summary_in(&rt, &mut media, *slot) == *summary);
     }
     Ok(())
 }

@@ -4,8 +4,9 @@ ghost use Rattle.std.specs.Prelude.{◌≡◌, ◌≤◌, length};
 use super::*;
 use vdr_memory::{Call, Work};
 
-// The writes and syncs of an opening: both media are synced, a slot of the long-term medium is begun, and the batch is written.
-const OPENING: u64 = 2 + 4 + 4;
+// The writes and syncs of an opening: both media are synced, a slot of the long-term medium is begun, the batch is written, and
+// the summary of the segment that it leaves.
+const OPENING: u64 = 2 + 4 + 4 + 4;
 
 // The number of the first write that closes a slot of the capsule which was open: after its sync the slot's header is written.
 fn first_victim(calls: &[Call]) -> u64 {

@@ -1,77 +1,103 @@
-use Rattle.std.proofs.Common.{◌≡◌, ◌↔◌, Bool, false, List, Option, IsTrue, refl, sym, ◌∙◌, ap, subst}
+use Rattle.std.proofs.Common.{◌≡◌, ◌+◌, ℕ, List, refl, sym, ◌∙◌, ap, subst, arith}
 use Rattle.std.proofs.lemmas.Result.{err_from_is_err_and}
-use Rattle.vdr_terms.specs.Records.{Record}
+use Rattle.vdr_outside.proofs.Counts.{none_falls_join}
+use Rattle.vdr_terms.specs.Records.{last}
 use Rattle.vdr_terms.proofs.Results.{same_err}
-use Rattle.vdr_durability.specs.Readings.{comes_next}
-use Rattle.vdr_media.proofs.Two.{second_of}
-use Rattle.vdr_opening.specs.Answers.{IsMissing}
-use Rattle.vdr_opening.proofs.Calls.{reads_still}
-use Rattle.vdr_opening.proofs.Causes.{part_failed}
+use Rattle.vdr_durability.specs.Readings.{EndsOff, ends_before}
+use Rattle.vdr_directory.specs.Sequence.{batches_in}
+use Rattle.vdr_ring.specs.Lasts.{batch_or_none}
+use Rattle.vdr_opening.specs.Media.{members, reading_of}
+use Rattle.vdr_opening.specs.Answers.{AreRingsOf}
 use Rattle.vdr_opening.proofs.Fronts.{named}
-use Rattle.vdr_opening.proofs.Meeting.{meet_level, meet_passed, off}
+use Rattle.vdr_opening.proofs.Meeting.{all_level, ends_as, not_same, read_at, second_off, some_lack}
+use Rattle.vdr_opening.proofs.Rings.{keeps_join, read_still}
 use Rattle.vdr_opening.proofs.ends.missing_batch.Goals as goal
+use Rattle.vdr_opening.proofs.ends.missing_batch.Goals.{then-lacking-m+then-same_records, else-lacking-m+else-not-follows, else-lacking-m-via-then-lacking-m+else-same_records, else-lacking-m-via-else-lacking-m}
 
-comes_as : (newest : Option Record) (lent batch : List Record) (follows : Bool) → lent ≡ batch → follows ≡ comes_next newest lent → comes_next newest batch ≡ follows
-comes_as newest lent batch follows lent_is tested = ap (λ (l : List Record). comes_next newest l) (sym lent_is) ∙ sym tested
+pub loop-m-init : goal.loop-m-init
+loop-m-init g c = record {
+  some = omega arith;
+  within = omega arith;
+  kept = c.read_end.ensures.kept;
+  ends = λ told placed read. record { leads = c.in_ok-batch.ensures.batch told (placed 0) (read 0 0 (omega arith)); same = λ is. absurd (omega (arith, is)); before = λ is one. absurd (omega (arith, is)) };
+  later = c.read_end.ensures.cause.later;
+}
 
-not_same : (a b x y : List Record) (same : Bool) → IsTrue same ↔ (a ≡ b) → same ≡ false → a ≡ x → b ≡ y → x ≡ y → ⊥
-not_same a b x y same tested differ a_is b_is is =
-    let equal = tested.1 (a_is ∙ is ∙ sym b_is) in
-    let none : ⊥ = cc in
-    none
-
-pub returns-in_err-last-clause-damaged : goal.returns-in_err-last-clause-damaged
-returns-in_err-last-clause-damaged g c =
-    let p = err_from_is_err_and c.from_residual.result c.from_residual.ensures.1 in
-    rw (p.1, p.2) (λ m offset e told first second on_capsule on_long_term reading first_is second_is. absurd (c.in_err-last.ensures.batch.undamaged told first on_capsule m offset (same_err _ _ e)))
+pub read_end-requires-in-loop-m-clause-rings : goal.read_end-requires-in-loop-m-clause-rings
+read_end-requires-in-loop-m-clause-rings g c =
+    let kept = c.loop-m.invariant.kept in
+    (c.requires.0, kept.of_media c.requires.0 _ (subst (λ (sizes : List ℕ). AreRingsOf c.requires.0 sizes c.args.rings.now) (sym kept.unchanged.sizes) c.requires.1))
 
 pub returns-in_err-other-clause-damaged : goal.returns-in_err-other-clause-damaged
 returns-in_err-other-clause-damaged g c =
     let p = err_from_is_err_and c.from_residual-in_err-other.result c.from_residual-in_err-other.ensures.1 in
-    rw (p.1, p.2) (λ m offset e told first second on_capsule on_long_term reading first_is second_is.
-    absurd (c.in_err-other.ensures.batch.undamaged told second (reads_still _ _ _ _ c.read_last_batch.ensures.keeps.unchanged on_long_term) m offset (same_err _ _ e)))
+    rw (p.1, p.2) (λ m offset e told x read.
+    absurd (c.in_err-other.ensures.undamaged m offset (same_err _ _ e) told (x.placed c.loop-m.m) (read_at _ x.placed _ (read_still _ _ x.placed _ _ c.loop-m.invariant.kept read) c.loop-m.m c.loop-m-test.true)))
 
-pub returns-in_err-other-clause-cause : goal.returns-in_err-other-clause-cause
-returns-in_err-other-clause-cause g c =
-    let p = err_from_is_err_and c.from_residual-in_err-other.result c.from_residual-in_err-other.ensures.1 in
-    rw (p.1, p.2) (part_failed _ 1 _ _ _ _ second_of c.requires.second c.read_last_batch.ensures.cause.later c.in_err-other.ensures.cause)
-
-pub returns-then-same_records-clause-missing : goal.returns-then-same_records-clause-missing
-returns-then-same_records-clause-missing g c told first second on_capsule on_long_term reading first_is second_is =
-    let ends = c.in_ok-last.ensures.batch.batch told first on_capsule in
-    let other_ends = c.in_ok-other.ensures.batch.batch told second (reads_still _ _ _ _ c.read_last_batch.ensures.keeps.unchanged on_long_term) in
-    let same = sym c.deref.ensures.value ∙ c.same_records.ensures.0 c.if-same_records.true ∙ c.deref-2.ensures.value in
-    let h = meet_level reading first second first_is second_is _ _ ends other_ends same in
-    (h.0, subst (λ (l : List Record). IsMissing l reading) (sym c.new.ensures.items) h.1)
-
-pub returns-then-same_records-clause-reads_capsule :
-    goal.returns-then-same_records-clause-reads_capsule
-returns-then-same_records-clause-reads_capsule g c placed reads = reads_still _ _ _ _ c.read_last_batch-2.ensures.keeps.unchanged (c.read_last_batch.ensures.keeps.reads placed reads)
-
-pub returns-then-same_records-clause-reads_long_term :
-    goal.returns-then-same_records-clause-reads_long_term
-returns-then-same_records-clause-reads_long_term g c placed reads = c.read_last_batch-2.ensures.keeps.reads placed (reads_still _ _ _ _ c.read_last_batch.ensures.keeps.unchanged reads)
+pub returns-in_err-other-clause-kept : goal.returns-in_err-other-clause-kept
+returns-in_err-other-clause-kept g c = keeps_join _ _ _ _ _ _ c.loop-m.invariant.kept c.read_end-in-loop-m.ensures.kept
 
 pub returns-then-not-follows-clause-damaged : goal.returns-then-not-follows-clause-damaged
-returns-then-not-follows-clause-damaged g c m offset e told first second on_capsule on_long_term reading first_is second_is =
-    let ends = c.in_ok-last.ensures.batch.batch told first on_capsule in
-    let long_term_reads = reads_still _ _ _ _ c.read_last_batch.ensures.keeps.unchanged on_long_term in
-    let other_ends = c.in_ok-other.ensures.batch.batch told second long_term_reads in
-    let tells = (c.read_last_batch-2.ensures.keeps.reads second long_term_reads).directory in
+returns-then-not-follows-clause-damaged g c m offset e told x read =
+    let inv = c.loop-m.invariant in
     let at = named _ _ _ _ _ refl e in
-    let elsewhere = comes_as _ _ _ _ c.deref-3.ensures.value (c.follows.ensures second tells) ∙ c.if-not-follows.true in
-    (at.0, at.1, off reading first second first_is second_is _ _ ends other_ends (not_same _ _ _ _ _ c.same_records.ensures c.if-same_records.false c.deref.ensures.value c.deref-2.ensures.value) elsewhere)
+    let second : c.loop-m.m ≡ 1 = omega (arith, c.loop-m-test.true, inv.some, inv.within) in
+    let now = read_at _ x.placed _ (read_still _ _ x.placed _ _ inv.kept read) c.loop-m.m c.loop-m-test.true in
+    let waits = c.in_ok-other.ensures.batch told (x.placed c.loop-m.m) now in
+    let kept = keeps_join _ _ _ _ _ _ inv.kept c.read_end-in-loop-m.ensures.kept in
+    let count = (kept.of_media c.requires.0 _ c.requires.1).count in
+    let elsewhere = ends_as _ x.placed _ (read_still _ _ x.placed _ _ kept read) c.loop-m.m c.loop-m-test.true _ _ _ _ (omega (arith, count, c.loop-m-test.true)) c.deref-else-lacking-m.ensures.value c.follows.ensures ∙ c.if-not-follows.true in
+    let differ : c.in_ok-batch.batch.items ≡ c.in_ok-other.other.items → ⊥ = elim c.else-lacking-m.branch [
+      | else-lacking-m-via-then-lacking-m+else-same_records w ↦ not_same _ _ _ _ _ w.same_records.ensures w.if-same_records.false w.deref.ensures.value w.deref-then-lacking-m.ensures.value
+      | else-lacking-m-via-else-lacking-m w ↦ absurd (w.if-lacking-m.false (omega (arith, second, inv.some, inv.within)))
+    ] in (
+      at.1,
+      subst (EndsOff members (reading_of x)) (sym (at.0 ∙ second)) (second_off _ x _ (inv.ends told x.placed read).leads (waits ∙ ap (λ (k : ℕ). last (batches_in (x.placed k))) second) differ
+          (ap (λ (k : ℕ). ends_before (batch_or_none c.in_ok-batch.batch.items) (batches_in (x.placed k))) (sym second) ∙ elsewhere)),
+    )
+
+pub returns-then-not-follows-clause-kept : goal.returns-then-not-follows-clause-kept
+returns-then-not-follows-clause-kept g c = keeps_join _ _ _ _ _ _ c.loop-m.invariant.kept c.read_end-in-loop-m.ensures.kept
+
+pub loop-m-preserved : goal.loop-m-preserved
+loop-m-preserved g c =
+    let inv = c.loop-m.invariant in
+    let high = c.loop-m-test.true in
+    let second : c.loop-m.m ≡ 1 = omega (arith, high, inv.some, inv.within) in
+    let kept = keeps_join _ _ _ _ _ _ inv.kept c.read_end-in-loop-m.ensures.kept in
+    let later = none_falls_join _ _ _ inv.later c.read_end-in-loop-m.ensures.cause.later in
+    let count = (kept.of_media c.requires.0 _ c.requires.1).count in
+    elim c.if-lacking-m.branch [
+      | then-lacking-m+then-same_records w ↦
+          let is : c.if-lacking-m.lacking ≡ c.loop-m.lacking + 1 = w.lacking-is in
+          let same = sym w.deref.ensures.value ∙ w.same_records.ensures.0 w.if-same_records.true ∙ w.deref-then-lacking-m.ensures.value in
+          record {
+            some = omega (arith, is);
+            within = omega (arith, is, inv.within);
+            kept = kept;
+            ends = λ told placed read.
+                let now = c.in_ok-other.ensures.batch told (placed c.loop-m.m) (read_at _ placed _ (read_still _ _ placed _ _ inv.kept read) c.loop-m.m high) in
+                record { leads = (inv.ends told placed read).leads; same = λ two. ap batch_or_none same ∙ now ∙ ap (λ (k : ℕ). last (batches_in (placed k))) second; before = λ all one. absurd (omega (arith, is, one, inv.some)) };
+            later = later;
+          }
+      | else-lacking-m+else-not-follows w ↦ record {
+        some = omega (arith, w.lacking-is, inv.some);
+        within = omega (arith, w.lacking-is, inv.within);
+        kept = kept;
+        ends = λ told placed read.
+            let lacks = ends_as _ placed _ (read_still _ _ placed _ _ kept read) c.loop-m.m high _ _ _ _ (omega (arith, count, high)) w.deref-else-lacking-m.ensures.value w.follows.ensures ∙ w.if-not-follows.false in
+            record { leads = (inv.ends told placed read).leads; same = λ two. absurd (omega (arith, w.lacking-is, two, inv.within, second)); before = λ all one. ap (λ (k : ℕ). ends_before (batch_or_none c.in_ok-batch.batch.items) (batches_in (placed k))) (sym second) ∙ lacks };
+        later = later;
+      }
+    ]
+
+pub returns-then-lacking-eq-MEMBERS-clause-missing :
+    goal.returns-then-lacking-eq-MEMBERS-clause-missing
+returns-then-lacking-eq-MEMBERS-clause-missing g c told x read = all_level _ x _ _ _ c.if-lacking-eq-MEMBERS.true c.new.ensures.items (c.loop-m.invariant.ends told x.placed read)
 
 pub returns-clause-missing : goal.returns-clause-missing
-returns-clause-missing g c told first second on_capsule on_long_term reading first_is second_is =
-    let ends = c.in_ok-last.ensures.batch.batch told first on_capsule in
-    let long_term_reads = reads_still _ _ _ _ c.read_last_batch.ensures.keeps.unchanged on_long_term in
-    let other_ends = c.in_ok-other.ensures.batch.batch told second long_term_reads in
-    let tells = (c.read_last_batch-2.ensures.keeps.reads second long_term_reads).directory in
-    meet_passed reading first second first_is second_is _ _ ends other_ends (comes_as _ _ _ _ c.deref-3.ensures.value (c.follows.ensures second tells) ∙ c.if-not-follows.false)
-
-pub returns-clause-reads_capsule : goal.returns-clause-reads_capsule
-returns-clause-reads_capsule g c placed reads = reads_still _ _ _ _ c.read_last_batch-2.ensures.keeps.unchanged (c.read_last_batch.ensures.keeps.reads placed reads)
-
-pub returns-clause-reads_long_term : goal.returns-clause-reads_long_term
-returns-clause-reads_long_term g c placed reads = c.read_last_batch-2.ensures.keeps.reads placed (reads_still _ _ _ _ c.read_last_batch.ensures.keeps.unchanged reads)
+returns-clause-missing g c told x read =
+    let inv = c.loop-m.invariant in
+    let end = c.loop-m.auto.m-end in
+    let one : c.loop-m.lacking ≡ 1 = grind (arith, inv.some, inv.within, end, c.if-lacking-eq-MEMBERS.false) in
+    some_lack _ x _ _ one c.loop-m-test.false (inv.ends told x.placed read)

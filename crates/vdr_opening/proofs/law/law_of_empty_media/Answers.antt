@@ -1,4 +1,4 @@
-use Rattle.vdr_opening.proofs.Formatted.{empty_holds, empty_meet}
+use Rattle.vdr_opening.proofs.Fronts.{empty_holds, empty_meet}
 use Rattle.vdr_opening.proofs.law.law_of_empty_media.Goals as goal
 
 pub returns-clause-holds : goal.returns-clause-holds

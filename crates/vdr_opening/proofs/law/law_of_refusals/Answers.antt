@@ -1,4 +1,4 @@
-use Rattle.vdr_opening.proofs.RefusalParts.{held_not_refused, one_answer}
+use Rattle.vdr_opening.proofs.Refusals.{held_not_refused, one_answer}
 use Rattle.vdr_opening.proofs.law.law_of_refusals.Goals as goal
 
 pub returns-clause-either : goal.returns-clause-either

@@ -1,5 +1,5 @@
 use Rattle.std.proofs.Common.{arith}
-use Rattle.vdr_opening.proofs.Incidents.{all_there, lacks}
+use Rattle.vdr_opening.proofs.ContentsHeld.{all_there, lacks}
 use Rattle.vdr_opening.proofs.places.first_without_places.Goals as goal
 
 pub returns-then-not-is_there-clause-some : goal.returns-then-not-is_there-clause-some

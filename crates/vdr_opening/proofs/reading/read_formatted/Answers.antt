@@ -1,92 +1,72 @@
-use Rattle.std.proofs.Common.{refl, arith}
+use Rattle.std.proofs.Common.{◌≤◌, ◌+◌, inl, ℕ, List, refl, sym, ◌∙◌, subst, arith}
+use Rattle.std.proofs.lemmas.List.{get_or_default}
 use Rattle.std.proofs.lemmas.Result.{err_from_is_err_and}
-use Rattle.vdr_outside.proofs.Counts.{none_falls_join}
-use Rattle.vdr_media.proofs.Two.{second_of}
-use Rattle.vdr_media.proofs.Unformatted.{durable_still}
+use Rattle.vdr_terms.specs.Sizes.{batch_size}
 use Rattle.vdr_terms.proofs.Results.{same_err}
-use Rattle.vdr_opening.specs.Media.{reading_of}
-use Rattle.vdr_opening.proofs.Calls.{reads_still, unchanged_join}
-use Rattle.vdr_opening.proofs.Causes.{part_failed, part_passed, part_done}
-use Rattle.vdr_opening.proofs.Whole.{refused_first, contents_of}
-use Rattle.vdr_opening.proofs.Assembling.{second_refused, incidents_refused, ends_refused, is_opened}
+use Rattle.vdr_ring.specs.Rings.{RingState}
+use Rattle.vdr_opening.specs.Answers.{AreRingsOf, no_ring}
+use Rattle.vdr_opening.specs.Parts.{AreRead}
+use Rattle.vdr_opening.proofs.Meeting.{are_read, contents_of, ends_refused, incidents_refused, is_opened}
+use Rattle.vdr_opening.proofs.Rings.{unchanged_join, part_by, part_passed, read_still, take_front}
 use Rattle.vdr_opening.proofs.reading.read_formatted.Goals as goal
 
 pub returns-in_err-configured-clause-damaged : goal.returns-in_err-configured-clause-damaged
 returns-in_err-configured-clause-damaged g c =
     let p = err_from_is_err_and c.from_residual.result c.from_residual.ensures.1 in
-    rw (p.1, p.2) (λ m offset e told durable. let h = c.in_err-configured.ensures.damaged m offset (same_err _ _ e) in refused_first _ m offset h.0 (h.1 told))
-
-pub returns-in_err-long_term-clause-damaged : goal.returns-in_err-long_term-clause-damaged
-returns-in_err-long_term-clause-damaged g c =
-    let p = err_from_is_err_and c.from_residual-in_err-long_term.result c.from_residual-in_err-long_term.ensures.1 in
-    rw (p.1, p.2) (λ m offset e told durable.
-    let h = c.in_err-long_term.ensures.damaged m offset (same_err _ _ e) in
-    let capsule = c.in_ok-configured.ensures.reads told (durable 0 0 (omega arith)) in
-    second_refused _ _ c.open_capsule.ensures.unchanged told _ _ capsule.0 _ capsule.1 m offset h.0 (h.1 told))
-
-pub returns-in_err-long_term-clause-cause : goal.returns-in_err-long_term-clause-cause
-returns-in_err-long_term-clause-cause g c =
-    let p = err_from_is_err_and c.from_residual-in_err-long_term.result c.from_residual-in_err-long_term.ensures.1 in
-    rw (p.1, p.2) (part_failed 1 1 _ _ _ _ second_of refl c.open_capsule.ensures.cause.later c.in_err-long_term.ensures.cause)
+    rw (p.1, p.2) (λ m offset e told durable. inl (c.in_err-configured.ensures.damaged m offset (same_err _ _ e) told durable))
 
 pub returns-in_err-table-clause-damaged : goal.returns-in_err-table-clause-damaged
 returns-in_err-table-clause-damaged g c =
     let p = err_from_is_err_and c.from_residual-in_err-table.result c.from_residual-in_err-table.ensures.1 in
     rw (p.1, p.2) (λ m offset e told durable.
     let h = c.in_err-table.ensures.damaged m offset (same_err _ _ e) in
-    let capsule = c.in_ok-configured.ensures.reads told (durable 0 0 (omega arith)) in
-    let long_term = c.in_ok-long_term.ensures.reads told (durable_still 1 _ _ c.open_capsule.ensures.unchanged (durable 1 0 (omega arith))) in
-    incidents_refused _ _ c.open_capsule.ensures.unchanged told _ _ capsule.0 _ capsule.1 _ c.open_long_term.ensures.unchanged long_term.0 _ long_term.1 m offset h.0 (h.1 told))
+    let media = c.in_ok-configured.ensures.reads told durable in
+    let count = c.in_ok-configured.ensures.rings.count in
+    let on = c.in_ok-configured.field-0.rings.items in
+    incidents_refused _ _ c.open_media.ensures.unchanged told _ _ media.0 on media.1 _ (c.index.ensures ∙ get_or_default on 1 _ no_ring (omega (arith, count))) m offset h.0 (h.1 told))
 
 pub returns-in_err-table-clause-cause : goal.returns-in_err-table-clause-cause
 returns-in_err-table-clause-cause g c =
     let p = err_from_is_err_and c.from_residual-in_err-table.result c.from_residual-in_err-table.ensures.1 in
-    rw (p.1, p.2) (part_failed 1 1 _ _ _ _ second_of refl (none_falls_join _ _ _ c.open_capsule.ensures.cause.later c.open_long_term.ensures.cause.later) c.in_err-table.ensures.cause)
+    rw (p.1, p.2) (part_passed _ _ _ _ c.open_media.ensures.cause.later (part_by 1 1 _ _ _ refl (omega arith) c.in_err-table.ensures.cause))
 
-pub returns-in_err-missing-clause-damaged : goal.returns-in_err-missing-clause-damaged
-returns-in_err-missing-clause-damaged g c =
-    let p = err_from_is_err_and c.from_residual-in_err-missing.result c.from_residual-in_err-missing.ensures.1 in
+pub returns-in_err-batch-clause-damaged : goal.returns-in_err-batch-clause-damaged
+returns-in_err-batch-clause-damaged g c =
+    let p = err_from_is_err_and c.from_residual-in_err-batch.result c.from_residual-in_err-batch.ensures.1 in
     rw (p.1, p.2) (λ m offset e told durable.
-    let capsule = c.in_ok-configured.ensures.reads told (durable 0 0 (omega arith)) in
-    let long_term = c.in_ok-long_term.ensures.reads told (durable_still 1 _ _ c.open_capsule.ensures.unchanged (durable 1 0 (omega arith))) in
-    let capsule_reads = reads_still _ _ _ _ (unchanged_join _ _ _ c.open_long_term.ensures.unchanged c.read_incidents.ensures.unchanged) capsule.1.reads in
-    let long_term_reads = reads_still _ _ _ _ c.read_incidents.ensures.unchanged long_term.1.reads in
-    let found = contents_of c.in_ok-configured.field-0.configured.config c.in_ok-configured.field-0.configured.text.items capsule.0 long_term.0 c.in_ok-table.table in
-    ends_refused _ _ c.open_capsule.ensures.unchanged told _ _ capsule.0 _ capsule.1 _ c.open_long_term.ensures.unchanged long_term.0 _ long_term.1 _ c.read_incidents.ensures.unchanged c.in_ok-table.table (c.in_ok-table.ensures.table told) c.in_ok-table.ensures.there m offset
-    (c.in_err-missing.ensures.damaged m offset (same_err _ _ e) told capsule.0 long_term.0 capsule_reads long_term_reads (reading_of found) refl refl))
-
-pub returns-in_err-missing-clause-unchanged : goal.returns-in_err-missing-clause-unchanged
-returns-in_err-missing-clause-unchanged g c =
-    unchanged_join _ _ _ (unchanged_join _ _ _ c.open_capsule.ensures.unchanged c.open_long_term.ensures.unchanged) (unchanged_join _ _ _ c.read_incidents.ensures.unchanged c.missing_batch.ensures.unchanged)
-
-pub returns-in_err-missing-clause-cause : goal.returns-in_err-missing-clause-cause
-returns-in_err-missing-clause-cause g c =
-    let p = err_from_is_err_and c.from_residual-in_err-missing.result c.from_residual-in_err-missing.ensures.1 in
-    rw (p.1, p.2) (part_passed _ _ _ _
-    (none_falls_join _ _ _ (none_falls_join _ _ _ c.open_capsule.ensures.cause.later c.open_long_term.ensures.cause.later) c.read_incidents.ensures.cause.later) c.in_err-missing.ensures.cause)
+    let media = c.in_ok-configured.ensures.reads told durable in
+    let count = c.in_ok-configured.ensures.rings.count in
+    let on = c.in_ok-configured.field-0.rings.items in
+    let long_term_is = c.index.ensures ∙ get_or_default on 1 _ no_ring (omega (arith, count)) in
+    let table = c.in_ok-table.ensures in
+    let x = contents_of c.in_ok-configured.field-0.configured.config c.in_ok-configured.field-0.configured.text.items media.0 c.in_ok-table.table in
+    let read = are_read _ _ c.open_media.ensures.unchanged told _ _ media.0 on media.1 _ long_term_is _ _ c.deref_mut.ensures.value c.read_incidents.ensures.unchanged in
+    ends_refused _ _ c.open_media.ensures.unchanged told _ _ media.0 on media.1 _ long_term_is c.in_ok-table.table (table.table told) table.there m offset (c.in_err-batch.ensures.damaged m offset (same_err _ _ e) told x read))
 
 pub returns-clause-opened : goal.returns-clause-opened
 returns-clause-opened g c told durable =
-    let capsule = c.in_ok-configured.ensures.reads told (durable 0 0 (omega arith)) in
-    let long_term = c.in_ok-long_term.ensures.reads told (durable_still 1 _ _ c.open_capsule.ensures.unchanged (durable 1 0 (omega arith))) in
-    let capsule_reads = reads_still _ _ _ _ (unchanged_join _ _ _ c.open_long_term.ensures.unchanged c.read_incidents.ensures.unchanged) capsule.1.reads in
-    let long_term_reads = reads_still _ _ _ _ c.read_incidents.ensures.unchanged long_term.1.reads in
-    let found = contents_of c.in_ok-configured.field-0.configured.config c.in_ok-configured.field-0.configured.text.items capsule.0 long_term.0 c.in_ok-table.table in (
-      found,
-      is_opened _ _ c.open_capsule.ensures.unchanged told _ _ capsule.0 _ capsule.1 _ c.open_long_term.ensures.unchanged long_term.0 _ long_term.1 _ c.read_incidents.ensures.unchanged c.in_ok-table.table (c.in_ok-table.ensures.table told) c.in_ok-table.ensures.there _ c.missing_batch.ensures.unchanged _ refl refl
-          (c.in_ok-missing.ensures.reads_capsule capsule.0 capsule_reads) (c.in_ok-missing.ensures.reads_long_term long_term.0 long_term_reads)
-          (c.in_ok-missing.ensures.missing told capsule.0 long_term.0 capsule_reads long_term_reads (reading_of found) refl refl),
+    let media = c.in_ok-configured.ensures.reads told durable in
+    let count = c.in_ok-configured.ensures.rings.count in
+    let on = c.in_ok-configured.field-0.rings.items in
+    let long_term_is = c.index.ensures ∙ get_or_default on 1 _ no_ring (omega (arith, count)) in
+    let table = c.in_ok-table.ensures in
+    let x = contents_of c.in_ok-configured.field-0.configured.config c.in_ok-configured.field-0.configured.text.items media.0 c.in_ok-table.table in
+    let read = are_read _ _ c.open_media.ensures.unchanged told _ _ media.0 on media.1 _ long_term_is _ _ c.deref_mut.ensures.value c.read_incidents.ensures.unchanged in
+    let back = take_front _ c.missing_batch.new.rings _ (c.missing_batch.auto.rings ∙ c.deref_mut.ensures.len) in (
+      x,
+      is_opened _ _ c.open_media.ensures.unchanged told _ _ media.0 on media.1 _ long_term_is c.in_ok-table.table (table.table told) table.there _ (unchanged_join _ _ _ c.read_incidents.ensures.unchanged c.missing_batch.ensures.kept.unchanged) _ refl refl
+          (subst (λ (l : List RingState). AreRead l media.0 (g.M.Media.disk c.missing_batch.new.media)) (sym back) (read_still _ _ media.0 _ _ c.missing_batch.ensures.kept read)) (c.in_ok-batch.ensures.missing told x read),
     )
 
-pub returns-clause-unchanged : goal.returns-clause-unchanged
-returns-clause-unchanged g c =
-    unchanged_join _ _ _ (unchanged_join _ _ _ c.open_capsule.ensures.unchanged c.open_long_term.ensures.unchanged) (unchanged_join _ _ _ c.read_incidents.ensures.unchanged c.missing_batch.ensures.unchanged)
-
-pub returns-clause-cause : goal.returns-clause-cause
-returns-clause-cause g c =
-    part_done _ _ _
-    (none_falls_join _ _ _ (none_falls_join _ _ _ c.open_capsule.ensures.cause.later c.open_long_term.ensures.cause.later) (none_falls_join _ _ _ c.read_incidents.ensures.cause.later c.missing_batch.ensures.cause.later))
-    (λ is. let none : ⊥ = cc in none)
-
-pub returns-in_err-table-clause-unchanged : goal.returns-in_err-table-clause-unchanged
-returns-in_err-table-clause-unchanged g c = unchanged_join _ _ _ (unchanged_join _ _ _ c.open_capsule.ensures.unchanged c.open_long_term.ensures.unchanged) c.read_incidents.ensures.unchanged
+pub returns-clause-shape : goal.returns-clause-shape
+returns-clause-shape g c =
+    let are = c.in_ok-configured.ensures.rings in
+    let before = subst (AreRingsOf c.in_ok-configured.field-0.configured.config (g.M.Media.disk c.args.media.now).sizes) (sym c.deref_mut.ensures.value) are in
+    let lead = before.each 0 0 (omega arith) in
+    let back = take_front _ c.missing_batch.new.rings _ (c.missing_batch.auto.rings ∙ c.deref_mut.ensures.len) in
+    record {
+      rings = subst (AreRingsOf c.in_ok-configured.field-0.configured.config (g.M.Media.disk c.args.media.now).sizes) (sym back) (c.missing_batch.ensures.kept.of_media _ _ before);
+      slots = c.in_ok-table.ensures.size;
+      fits = λ some. subst (λ (n : ℕ). 64 + batch_size c.in_ok-batch.field-0.batch.items + 1 ≤ n) lead.segment (c.in_ok-batch.ensures.fits some);
+      behind = c.in_ok-batch.ensures.behind;
+    }

@@ -2,8 +2,7 @@ use Rattle.std.proofs.Common.{ℕ, arith, refl, sym, ◌∙◌, subst}
 use Rattle.vdr_outside.specs.Disk.{content}
 use Rattle.vdr_outside.proofs.Moments.{size_read}
 use Rattle.vdr_opening.specs.Refusals.{RefusesSuperblock}
-use Rattle.vdr_opening.proofs.Fronts.{named}
-use Rattle.vdr_opening.proofs.Superblocks.{is_superblock, refused_front}
+use Rattle.vdr_opening.proofs.Fronts.{named, is_superblock, refused_front}
 use Rattle.vdr_opening.proofs.superblock.read_superblock.Goals as goal
 
 pub returns-in-Some-clause-legal : goal.returns-in-Some-clause-legal

@@ -1,5 +1,5 @@
 use Rattle.std.proofs.Common.{◌∙◌, arith}
-use Rattle.vdr_opening.proofs.Superblocks.{said_by, gate_byte, says, says_none}
+use Rattle.vdr_opening.proofs.Fronts.{said_by, gate_byte, says, says_none}
 use Rattle.vdr_opening.proofs.superblock.segment_in.Goals as goal
 use Rattle.vdr_opening.proofs.superblock.segment_in.Goals.{then-bytes-via-then-bytes, then-bytes-via-else-bytes+then-segment-lt-SEGMENT_LOW, then-bytes-via-else-bytes+else-segment-lt-SEGMENT_LOW+then-segment-gt-SEGMENT_HIGH}
 

@@ -1,7 +1,7 @@
 use Rattle.std.proofs.Common.{ℕ, sym, ◌∙◌, ap, arith}
 use Rattle.vdr_terms.specs.Legality.{IsBytes}
 use Rattle.vdr_bytes.specs.Numbers.{le_u32}
-use Rattle.vdr_opening.proofs.Texts.{spelled}
+use Rattle.vdr_opening.proofs.Fronts.{spelled}
 use Rattle.vdr_opening.proofs.text.length_in.Goals as goal
 
 pub returns : goal.returns

@@ -1,7 +1,6 @@
 use Rattle.std.proofs.Common.{◌≡◌, length, arith, ◌∙◌, ap}
 use Rattle.vdr_outside.specs.Disk.{Image, content}
-use Rattle.vdr_opening.proofs.Fronts.{named}
-use Rattle.vdr_opening.proofs.Texts.{too_long, text_read, read_part}
+use Rattle.vdr_opening.proofs.Fronts.{named, too_long, text_read, read_part}
 use Rattle.vdr_opening.proofs.text.read_text.Goals as goal
 
 pub returns-then-length-gt-LONGEST-clause-damaged :

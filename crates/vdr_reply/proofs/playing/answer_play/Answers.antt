@@ -1,30 +1,21 @@
-use Rattle.std.proofs.Common.{◌≡◌, ◌⊎◌, ◌++◌, ◌↔◌, ℕ, Bool, true, false, true≢false, List, Some, Result, Ok, Err, length, refl, sym, ap, ◌∙◌, subst}
-use Rattle.std.specs.Prelude.{OnOk, sum, ⊤, if◌then◌else◌, ◌==◌}
+use Rattle.std.proofs.Common.{◌≡◌, ◌⊎◌, ◌++◌, ◌↔◌, ℕ, true, false, true≢false, List, Some, Result, Ok, Err, length, sym, ap, ◌∙◌, subst}
+use Rattle.std.specs.Prelude.{OnOk, sum, ⊤}
 use Rattle.std.specs.Io.KnownBytes.{Appends}
 use Rattle.vdr_terms.specs.Queries.{Query}
 use Rattle.vdr_outside.specs.Causes.{Rose}
 use Rattle.vdr_playback.specs.Playback.{selected}
 use Rattle.vdr_play.specs.Streams.{nothing_seen}
 use Rattle.vdr_play.specs.Texts.{records_text}
+use Rattle.vdr_visit.proofs.Reading.{reads_keep_failed}
 use Rattle.vdr_visit.specs.Refusals.{lacks_channel, lacks_incident}
 use Rattle.vdr_visit.specs.declared.refused.VisitRefused.{VisitRefused}
 use Rattle.vdr_visit.specs.declared.refused.VisitRefused.TheVariants as plays
 use Rattle.vdr_recorder.proofs.Printing.{played_all, played_undamaged}
 use Rattle.vdr_recorder.proofs.Answering.{in_this_call}
-use Rattle.vdr_vault.specs.Plays.{ReadsOn}
-use Rattle.vdr_vault.specs.Vaults.{VaultState}
 use Rattle.vdr_vault.proofs.Playing.{stands_to_read}
 use Rattle.vdr_reply.specs.Texts.{done_line}
 use Rattle.vdr_reply.proofs.Played.{no_memory_answer, played_answer, unnamed_answer}
 use Rattle.vdr_reply.proofs.playing.answer_play.Goals as goal
-
--- a read leaves it as it is whether a write has failed
-failed_by : (b : Bool) (capsule long_term : VaultState) (failed : Bool) → capsule.failed ≡ failed → long_term.failed ≡ failed → (if b then capsule else long_term).failed ≡ failed
-failed_by true capsule long_term failed p q = p
-failed_by false capsule long_term failed p q = q
-
-reads_failed : (m : ℕ) (old new : VaultState) → ReadsOn m old new → new.failed ≡ old.failed
-reads_failed m old new is = ap (λ (x : VaultState). x.failed) is ∙ failed_by (m == 0) _ _ old.failed refl refl
 
 -- the page after what was read
 page_after : {R : Type 0} (res : Result ⊤ (VisitRefused R)) (begun page text : List ℕ) → OnOk res (Appends (Some begun) (Some page) text) → begun ≡ done_line → OnOk res (page ≡ done_line ++ text)
@@ -52,7 +43,7 @@ returns-clause-answered g c = λ opening events t0 told h.
     played_answer opening events t0 c.args.recorder.now (g.M.Media.disk c.args.media.now) h (Rose (sum (g.M.Media.faults c.args.media.now)) (sum (g.M.Media.faults c.play-played.new.media))) c.of_played.result works c.args.wanted.medium c.args.wanted.name.now c.args.wanted.from c.args.wanted.to
     c.play-played.new.self (g.M.Media.disk c.play-played.new.media) c.play-played.result c.play-played.new.out.bytes.items c.of_played.ensures
     (e.looked.done opening events t0 h)
-    (reads_failed _ c.args.recorder.now.vault c.play-played.new.self.vault e.looked.read.vault ∙ works)
+    (reads_keep_failed _ c.args.recorder.now.vault c.play-played.new.self.vault e.looked.read.vault ∙ works)
     found.1
     (λ refused. ap (λ (q : Query). lacks_channel (length channels) q.channel) (sym is) ∙ e.accepted.channel.0 refused)
     (subst (λ (q : Query). (c.play-played.result ≡ Err plays.NoIncident) ↔ ((lacks_channel (length channels) q.channel ≡ false) × (lacks_incident c.args.recorder.now.vault.table q.medium ≡ true))) is e.accepted.incident)

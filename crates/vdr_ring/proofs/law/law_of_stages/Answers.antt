@@ -1,5 +1,5 @@
 use Rattle.vdr_ring.proofs.law.law_of_stages.Goals as goal
-use Rattle.vdr_ring.proofs.Retaining.{victim_is_oldest, closed_retains, begun_retains, done_retains, stages_regular}
+use Rattle.vdr_ring.proofs.Retaining.{victim_is_oldest, closed_retains, begun_retains, done_retains, left_retains, stages_regular}
 
 pub returns-clause-victim : goal.returns-clause-victim
 returns-clause-victim c = victim_is_oldest
@@ -12,6 +12,9 @@ returns-clause-begun c = begun_retains
 
 pub returns-clause-done : goal.returns-clause-done
 returns-clause-done c = done_retains
+
+pub returns-clause-left : goal.returns-clause-left
+returns-clause-left c = left_retains
 
 pub returns-clause-regular : goal.returns-clause-regular
 returns-clause-regular c = stages_regular

@@ -2,7 +2,7 @@ use Rattle.std.proofs.Common.{arith}
 use Rattle.std.specs.Prelude.{sum}
 use Rattle.std.proofs.lemmas.Result.{err_from_is_err_and}
 use Rattle.vdr_outside.proofs.Counts.{sum_not_less}
-use Rattle.vdr_opening.proofs.Formatted.{empty_holds}
+use Rattle.vdr_opening.proofs.Fronts.{empty_holds}
 use Rattle.vdr_command.specs.Outside.{MediaSeen}
 use Rattle.vdr_tool.specs.Trials.{bench, bench_text}
 use Rattle.vdr_tool.proofs.TrialEnds.{count_stops_as, counts_as, refused_as, run_stops_as, tally_is}

@@ -10,8 +10,8 @@ abbrev pub invariant-loop-m : goal.invariant-loop-m
 invariant-loop-m g l = record {
   low : l.fn.from ≤ l.m;
   high : l.m ≤ 2;
-  keeps : KeepsBeside g.M.Media l.fn.from l.m l.fn.vault l.vault l.fn.media l.media;
+  keeps : KeepsBeside g.M.Media l.fn.from l.fn.rings l.rings l.fn.media l.media;
   walks : (ordered : Bool) (sizes : Sizes) (placed : ℕ → List Placed) (first : ℕ) (all : ℕ → List Record) → g.M.Media.tells
-      → ((k : ℕ) → l.fn.from ≤ k → k < 2 → WaitsAt ordered sizes l.fn.from l.fn.vault l.fn.pins placed first all l.fn.records (g.M.Media.disk l.fn.media) k (g.M.Media.disk l.fn.media))
-      → Walks ordered sizes l.fn.from l.fn.vault l.fn.pins placed first all l.fn.records (g.M.Media.disk l.fn.media) l.m l.vault (g.M.Media.disk l.media);
+      → ((k : ℕ) → l.fn.from ≤ k → k < 2 → WaitsAt ordered sizes l.fn.from l.fn.rings l.fn.pins placed first all l.fn.records (g.M.Media.disk l.fn.media) k (g.M.Media.disk l.fn.media))
+      → Walks ordered sizes l.fn.from l.fn.rings l.fn.pins placed first all l.fn.records (g.M.Media.disk l.fn.media) l.m l.rings (g.M.Media.disk l.media);
 }

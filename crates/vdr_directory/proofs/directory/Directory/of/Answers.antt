@@ -1,4 +1,4 @@
-use Rattle.std.proofs.Common.{◌∙◌, ℕ, List, length, Option, None, subst, ap, arith, length-set}
+use Rattle.std.proofs.Common.{◌∙◌, List, length, Option, None, subst, ap, arith, length-set}
 use Rattle.std.proofs.lemmas.List.{take_all, length-replicate}
 use Rattle.vdr_index.specs.declared.known.Known.{Known}
 use Rattle.vdr_directory.specs.Sequence.{Placed}

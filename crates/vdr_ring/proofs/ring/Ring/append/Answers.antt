@@ -13,7 +13,8 @@ returns-clause-kept g c sizes placed first all told reads goes_on start allowed 
       closed = law.closed sizes _ _ _ _ _ placed first all _ made.0 allowed made.1 retains;
       begun = law.begun sizes _ _ _ _ _ placed first all _ made.0 allowed made.1 retains;
       done = law.done sizes _ _ _ _ _ placed first all _ made.0 allowed made.1 retains;
+      left = law.left sizes _ _ _ _ _ placed first all _ made.0 allowed made.1 retains;
     } in (
       changes_weaken _ _ _ _ _ made.2 (λ b h. kept_at_each _ _ _ _ placed all _ made.0 keeps reads.order orders b h),
-      has_kept sizes _ _ _ _ made.0 c.args.self.now c.append_staged.new.self c.append_staged.ensures.ring.same.seconds keeps (law.regular sizes _ _ _ _ _ placed first _ made.0 allowed made.1).2 _ _ made.3,
+      has_kept sizes _ _ _ _ made.0 c.args.self.now c.append_staged.new.self c.append_staged.ensures.ring.same.seconds keeps (law.regular sizes _ _ _ _ _ placed first _ made.0 allowed made.1).3 _ _ made.3,
     )

@@ -1,83 +1,56 @@
-use Rattle.std.proofs.Common.{rules, ◌≡◌, refl, sym, ap, ◌∙◌, ◌+◌, take}
-use Rattle.std.proofs.lemmas.List.{with_items_is}
-use Rattle.std.proofs.lemmas.Option.{none-some}
+use Rattle.std.proofs.Common.{◌≡◌, Option, inl, refl, sym, subst}
+use Rattle.std.specs.Prelude.{MatchOption, ℕ}
 use Rattle.std.proofs.lemmas.Result.{IfOk-from_err}
+use Rattle.vdr_entry.specs.declared.summary.Summary.{Summary}
+use Rattle.vdr_directory.specs.Leaving.{IsLeftBehind, LeavesNone}
 use Rattle.vdr_slots.proofs.Fronts.{front_joined, front_then}
+use Rattle.vdr_ring.specs.Appends.{MayCome}
+use Rattle.vdr_ring.proofs.Beginning.{finds}
+use Rattle.vdr_ring.proofs.Leaving.{leaving, left_by, still_written, done_behind, leaves, left_any, done_before, left_moments, left_reads}
 use Rattle.vdr_ring.proofs.ring.Ring.append_staged.Goals as goal
-use Rattle.vdr_ring.proofs.Adding.{batch_written, appended_before, appended_moments, appended_reads}
 
-pub returns-in_err-newest-clause-appended : goal.returns-in_err-newest-clause-appended
-returns-in_err-newest-clause-appended g c = rw (sym c.self.view_is) (λ placed first told reads goes_on.
-    let made = c.make_room.ensures.made placed first told
-    (record { settled = reads.settled; order = reads.order; directory = reads.directory; loaded = λ j bad. absurd (none-some j bad) })
-    (record { legal = c.write_batch-size.ensures.legal; fits = rw (sym c.self.view_is) at c.requires.fits; goes_on = goes_on }) in
-    (made.0, made.1, appended_before _ _ _ placed made.0 _ _ made.2, IfOk-from_err c.from_residual.result _ c.from_residual.ensures.0))
+pub returns-in_err-slot-clause-appended : goal.returns-in_err-slot-clause-appended
+returns-in_err-slot-clause-appended g c placed first told reads goes_on =
+    let made = c.add.ensures.added placed first told reads goes_on in
+    let may : MayCome c.args.self.now.segment placed first c.args.records.now = record { legal = c.add.ensures.legal; fits = c.requires.fits; goes_on = goes_on } in
+    let found = finds _ _ _ _ placed first c.args.records.now _ told reads.settled reads.order may c.add.ensures.enough.0 c.add.ensures.enough.1 in
+    let left = left_any _ _ _ _ placed first c.args.records.now made.0 _ _ found reads.directory made.1 in (
+      leaving made.0 left.0,
+      (still_written _ _ _ _ placed first c.args.records.now made.0 left.0 made.1, left.1),
+      done_before _ _ _ placed made.0 left.0 _ _ made.2,
+      IfOk-from_err c.from_residual.result _ c.from_residual.ensures.0,
+    )
 
-pub returns-in_err-append_batch-clause-appended : goal.returns-in_err-append_batch-clause-appended
-returns-in_err-append_batch-clause-appended g c = rw (sym c.self.view_is) (λ placed first told reads goes_on.
-    let made = c.in_ok-newest.ensures.made placed first told
-    (record { settled = reads.settled; order = reads.order; directory = reads.directory; loaded = λ j bad. absurd (none-some j bad) })
-    (record { legal = c.write_batch-size.ensures.legal; fits = rw (sym c.self.view_is) at c.requires.fits; goes_on = goes_on }) in
-    let same = rw (sym c.self-2.view_is) at c.make_room.ensures.ring in
-    let ready = rw (sym c.self-2.view_is) at made.3 in
-    let is = (rw (sym c.self-2.view_is) at c.in_ok-newest.ensures.newest).0 in
-    let buffer = rw (sym c.self-2.view_is) at c.make_room.ensures.buffer in
-    let written = ap (take (c.write_batch-size.result + 1)) (c.deref.ensures.value ∙ buffer ∙ with_items_is c.self.inside.buffer _ (c.write_batch-size.auto.into ∙ c.deref_mut.ensures.len)) ∙ batch_written c.args.records.now _ _ _ c.write_batch-size.ensures.size c.write_batch-size.ensures.bytes.is in
-    (made.0, made.1, appended_moments _ _ placed made.0 _ _ _ _ _ _ told same ready is written c.write_batch-size.ensures.legal made.2 c.append_batch.ensures.moments, IfOk-from_err c.from_residual-in_err-append_batch.result _ c.from_residual-in_err-append_batch.ensures.0))
-
-pub invariant_of-self-2 : goal.invariant_of-self-2
-invariant_of-self-2 g c =
-    let i = c.self-2.invariant in
-    (c.extend.ensures.size ∙ i.0, i.1, i.2, i.3, i.4)
+pub returns-in_default-clause-appended : goal.returns-in_default-clause-appended
+returns-in_default-clause-appended g c placed first told reads goes_on =
+    let made = c.in_ok-slot.ensures.added placed first told reads goes_on in
+    let none = subst (λ (o : Option (ℕ × Summary)). MatchOption o (LeavesNone made.0.begun) (λ x. IsLeftBehind made.0.begun x.0 x.1)) c.in_default.is made.3.1 in (
+      leaving made.0 made.0.done,
+      (still_written _ _ _ _ placed first c.args.records.now made.0 made.0.done made.1, inl (none, refl)),
+      done_before _ _ _ placed made.0 made.0.done _ _ made.2,
+      made.3.0,
+    )
 
 pub returns-clause-appended : goal.returns-clause-appended
 returns-clause-appended g c = rw (sym c.self.view_is) (λ placed first told reads goes_on.
-    let made = c.in_ok-newest.ensures.made placed first told
-    (record { settled = reads.settled; order = reads.order; directory = reads.directory; loaded = λ j bad. absurd (none-some j bad) })
-    (record { legal = c.write_batch-size.ensures.legal; fits = rw (sym c.self.view_is) at c.requires.fits; goes_on = goes_on }) in
-    let same = rw (sym c.self-2.view_is) at c.make_room.ensures.ring in
-    let ready = rw (sym c.self-2.view_is) at made.3 in
-    let is = (rw (sym c.self-2.view_is) at c.in_ok-newest.ensures.newest).0 in
-    let buffer = rw (sym c.self-2.view_is) at c.make_room.ensures.buffer in
-    let loaded = rw (sym c.self-2.view_is) at c.make_room.ensures.loaded in
-    let written = ap (take (c.write_batch-size.result + 1)) (c.deref.ensures.value ∙ buffer ∙ with_items_is c.self.inside.buffer _ (c.write_batch-size.auto.into ∙ c.deref_mut.ensures.len)) ∙ batch_written c.args.records.now _ _ _ c.write_batch-size.ensures.size c.write_batch-size.ensures.bytes.is in (
-      made.0,
-      made.1,
-      appended_moments _ _ placed made.0 _ _ _ _ _ _ told same ready is written c.write_batch-size.ensures.legal made.2 c.append_batch.ensures.moments,
-      appended_reads _ _ placed made.0 _ _ _ (g.M.Media.disk c.args.media.now) _ _ told same ready is written c.write_batch-size.ensures.legal _ c.write_batch-size.result (search rules) refl refl refl loaded c.write_batch-size.ensures.size c.extend.ensures.index c.extend.ensures.newest
-          c.extend.ensures.ending c.in_ok-append_batch.ensures.settled,
+    let made = c.in_ok-slot.ensures.added placed first told reads goes_on in
+    let behind = subst (λ (o : Option (ℕ × Summary)). MatchOption o (LeavesNone made.0.begun) (λ x. IsLeftBehind made.0.begun x.0 x.1)) c.in-Some.is made.3.1 in
+    let left = left_by made.0 c.args.records.now c.in-Some.slot c.in-Some.summary behind in
+    let done = done_behind _ _ _ _ placed first c.args.records.now made.0 made.1 c.in-Some.slot c.in-Some.summary behind in
+    let is = leaves _ _ _ _ placed first c.args.records.now made.0 made.1 c.in-Some.slot c.in-Some.summary behind in
+    let same = (rw (sym c.self.view_is) at c.add.ensures.ring).same in
+    let loaded = rw (sym c.self.view_is) at c.add.ensures.loaded in
+    let reads_done = rw (sym c.self.view_is) at made.3.0 in (
+      leaving made.0 left,
+      (still_written _ _ _ _ placed first c.args.records.now made.0 left made.1, is),
+      left_moments c.args.self.now _ placed made.0 c.args.records.now c.in-Some.slot c.in-Some.summary behind done _ _ _ told same reads_done made.2 c.summarize.ensures.moments,
+      left_reads c.args.self.now _ placed made.0 c.args.records.now c.in-Some.slot c.in-Some.summary behind done (g.M.Media.disk c.args.media.now) _ _ told same reads_done c.summarize.result goes_on.some is loaded c.summarize.ensures.settled,
     ))
 
-pub returns-in_err-append_batch-clause-front : goal.returns-in_err-append_batch-clause-front
-returns-in_err-append_batch-clause-front g c = rw (sym c.self.view_is) (
-    let m : c.self-2.inside.area.medium ≡ c.self.inside.area.medium = (rw (sym c.self-2.view_is) at c.make_room.ensures.ring).medium in
-    let front = rw m at c.append_batch.ensures.front in record {
-      meanwhile = λ durable. front_then _ _ _ _ (c.make_room.ensures.front.meanwhile durable) c.make_room.ensures.front.reads (front.meanwhile (c.in_ok-newest.ensures.durable durable));
-      reads = λ told. front_joined _ _ _ (c.make_room.ensures.front.reads told) (front.reads told);
-    })
-
 pub returns-clause-front : goal.returns-clause-front
-returns-clause-front g c = rw (sym c.self.view_is) (
-    let m : c.self-2.inside.area.medium ≡ c.self.inside.area.medium = (rw (sym c.self-2.view_is) at c.make_room.ensures.ring).medium in
-    let front = rw m at c.append_batch.ensures.front in record {
-      meanwhile = λ durable. front_then _ _ _ _ (c.make_room.ensures.front.meanwhile durable) c.make_room.ensures.front.reads (front.meanwhile (c.in_ok-newest.ensures.durable durable));
-      reads = λ told. front_joined _ _ _ (c.make_room.ensures.front.reads told) (front.reads told);
-    })
-
-pub returns-in_err-append_batch-clause-writes : goal.returns-in_err-append_batch-clause-writes
-returns-in_err-append_batch-clause-writes g c = record {
-  others = search rules;
-  sizes = search rules;
-  rises = search rules;
-  counts = search rules;
-  cause = search rules;
-}
-
-pub returns-clause-writes : goal.returns-clause-writes
-returns-clause-writes g c = record {
-  others = search rules;
-  sizes = search rules;
-  rises = search rules;
-  counts = search rules;
-  cause = search rules;
-}
+returns-clause-front g c =
+    let m : c.self.inside.area.medium ≡ c.args.self.now.medium = (rw (sym c.self.view_is) at c.add.ensures.ring).same.medium in
+    let front = rw m at c.summarize.ensures.front in record {
+      meanwhile = λ durable. front_then _ _ _ _ (c.add.ensures.front.meanwhile durable) c.add.ensures.front.reads (front.meanwhile c.in_ok-slot.ensures.durable);
+      reads = λ told. front_joined _ _ _ (c.add.ensures.front.reads told) (front.reads told);
+    }

@@ -1,4 +1,4 @@
-use Rattle.std.proofs.Common.{◌≡◌, ◌<◌, ℕ, length, List, Option, sym, ap, ◌∙◌, subst, arith}
+use Rattle.std.proofs.Common.{length, List, Option, sym, ap, ◌∙◌, subst, arith}
 use Rattle.vdr_index.specs.declared.known.Known.{Known}
 use Rattle.vdr_directory.specs.Indexed.{IsIndexed}
 use Rattle.vdr_directory.specs.Lookup.{ends_since}

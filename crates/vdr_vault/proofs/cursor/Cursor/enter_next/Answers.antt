@@ -6,7 +6,7 @@ use Rattle.vdr_directory.specs.Sequence.{seq_of}
 use Rattle.vdr_index.specs.Indexes.{IsAbove}
 use Rattle.vdr_vault.specs.declared.cursor.Standing.{Standing}
 use Rattle.vdr_vault.specs.contracts.cursor.Cursor.{the_view}
-use Rattle.vdr_vault.proofs.Entering.{entered_left, none_left}
+use Rattle.vdr_vault.proofs.Walking.{entered_left, none_left}
 use Rattle.vdr_vault.proofs.cursor.Cursor.enter_next.Goals as goal
 
 pub returns-in_default-clause-enters : goal.returns-in_default-clause-enters

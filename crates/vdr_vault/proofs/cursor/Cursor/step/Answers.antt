@@ -5,8 +5,8 @@ use Rattle.std.proofs.lemmas.Result.{err_from_is_err_and}
 use Rattle.vdr_terms.specs.Records.{Record}
 use Rattle.vdr_ring.specs.declared.refused.ReadRefused.{ReadRefused}
 use Rattle.vdr_vault.specs.Walks.{AreLeft, slots_read}
-use Rattle.vdr_vault.proofs.Passing.{read_join}
-use Rattle.vdr_vault.proofs.Stepping.{counts_since, found_next, is_behind, refused_next}
+use Rattle.vdr_vault.proofs.Playing.{read_join}
+use Rattle.vdr_vault.proofs.Walking.{counts_since, found_next, is_behind, refused_next}
 use Rattle.vdr_vault.proofs.cursor.Cursor.step.Goals as goal
 
 pub returns-in_err-step_in-clause-plays : goal.returns-in_err-step_in-clause-plays

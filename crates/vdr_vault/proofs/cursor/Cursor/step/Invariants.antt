@@ -2,7 +2,7 @@ use Rattle.std.proofs.Common.{Some}
 use Rattle.vdr_entry.specs.Queries.{asked}
 use Rattle.vdr_index.specs.Indexes.{span_as}
 use Rattle.vdr_vault.specs.Walks.{segments_left}
-use Rattle.vdr_vault.proofs.Stepping.{IsMidway}
+use Rattle.vdr_vault.proofs.Walking.{IsMidway}
 use Rattle.vdr_vault.proofs.cursor.Cursor.step.Given as goal
 
 abbrev pub invariant-loop-self : goal.invariant-loop-self

@@ -1,27 +1,26 @@
-use Rattle.std.proofs.Common.{sym, ap, ◌∙◌, w64, arith}
+use Rattle.std.proofs.Common.{false, refl, sym, ap, ◌∙◌, w64, arith}
 use Rattle.std.proofs.lemmas.Int.{ints, to_z-of_z}
 use Rattle.std.proofs.lemmas.Result.{IfOk-from_err}
 use mir.Val.{SFits}
 use Rattle.vdr_terms.specs.Records.{Record}
 use Rattle.vdr_vault.specs.Vaults.{VaultState}
-use Rattle.vdr_vault.proofs.CommitAll.{gone_on, unfailed}
-use Rattle.vdr_vault.proofs.CommitStands.{told_last, told_next}
+use Rattle.vdr_vault.proofs.CommitAll.{gone_on, told_last, told_next}
+use Rattle.vdr_vault.proofs.Refusals.{stands_so}
 use Rattle.vdr_vault.proofs.vault.Vault.commit.Goals as goal
 
 pub returns-in_err-append_to_all-clause-commits : goal.returns-in_err-append_to_all-clause-commits
 returns-in_err-append_to_all-clause-commits g c = rw (sym c.self.view_is) (λ opening events e taken placed told is stands may.
-    let made = c.append_to_all.ensures.commits opening events e taken placed told is (unfailed opening events _ placed (g.M.Media.disk c.args.media.now) c.if-self.false stands) may in
+    let made = c.append_to_all.ensures.commits opening events e taken placed told is (stands_so opening events placed _ false (g.M.Media.disk c.args.media.now) refl stands) may in
     record { moments = made.moments; done = IfOk-from_err c.from_residual.result _ c.from_residual.ensures.0 })
 
 pub returns-clause-commits : goal.returns-clause-commits
 returns-clause-commits g c = rw (sym c.self.view_is) (λ opening events e taken placed told is stands may.
     let stamp = c.newest.invariant.legal.utc in
     let fits : SFits w64 c.newest.inside.utc = omega (arith, ints, stamp.whole, stamp.in_time) in
-    let made = c.append_to_all.ensures.commits opening events e taken placed told is (unfailed opening events _ placed (g.M.Media.disk c.args.media.now) c.if-self.false stands) may in
+    let made = c.append_to_all.ensures.commits opening events e taken placed told is (stands_so opening events placed _ false (g.M.Media.disk c.args.media.now) refl stands) may in
     let at : VaultState = record {
       config = c.self-2.inside.config;
-      capsule = c.self-2.inside.capsule;
-      long_term = c.self-2.inside.long_term;
+      rings = c.self-2.inside.rings.items;
       table = c.self-2.inside.table;
       next_place = c.self-2.inside.next_place;
       last = c.self-2.inside.last;

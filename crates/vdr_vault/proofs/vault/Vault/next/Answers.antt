@@ -8,22 +8,22 @@ use Rattle.vdr_vault.specs.Vaults.{VaultState}
 use Rattle.vdr_index.specs.Indexes.{span_as}
 use Rattle.vdr_vault.specs.Walks.{AreLeft, slots_read}
 use Rattle.vdr_vault.specs.Plays.{ring_for}
-use Rattle.vdr_vault.proofs.Coming.{asked_two, gives_to_come, holds_on, none_to_come}
-use Rattle.vdr_vault.proofs.Playing.{both_read, readable_still, stands_still}
+use Rattle.vdr_vault.proofs.Coming.{gives_to_come, holds_on, none_to_come}
+use Rattle.vdr_vault.proofs.Playing.{readable_still, rings_still, stands_still}
 use Rattle.vdr_vault.proofs.vault.Vault.next.Goals as goal
 
 pub returns-clause-plays : goal.returns-clause-plays
 returns-clause-plays g c opening events placed records told stands left =
     let query = asked c.args.query.now in
     let before = g.M.Media.disk c.args.media.now in
-    let now = g.M.Media.disk c.seek.new.media in
+    let now = g.M.Media.disk c.step_on.new.media in
     let m = medium_of (asked_medium c.args.query.now.medium) in
-    let both = both_read m c.args.self.now c.seek.new.self before now (asked_two c.args.query.now.medium) c.seek.ensures.vault c.seek.ensures.read in
+    let at_medium = c.medium_of.ensures.number in
     let span = c.in-Some.ensures placed (λ k d within. (stands.media k d within).reads.directory) in
     let reads = (holds_on opening events c.args.self.now placed before stands c.args.query.now.medium).reads in
     let is_left = subst (λ (o : Option Span). AreLeft (slots_read (ring_for c.args.self.now query) before) (placed m) query o c.args.cursor.now records) (sym span) left in
-    gives_to_come query c.args.self.now c.seek.new.self before now placed (Some (span_as c.in-Some.span)) c.seek.new.cursor records c.seek.result told both c.seek.ensures.read span
-    (c.seek.ensures.plays told (placed m) records reads is_left)
+    gives_to_come query c.args.self.now c.step_on.new.self before now placed (Some (span_as c.in-Some.span)) c.step_on.new.cursor records c.step_on.result told
+    (rw at_medium at c.step_on.ensures.vault) (rw at_medium at c.step_on.ensures.read) span ((rw at_medium at c.step_on.ensures.plays) told (placed m) records reads is_left)
 
 pub returns-then-self-clause-plays : goal.returns-then-self-clause-plays
 returns-then-self-clause-plays g c opening events placed records told stands left =
@@ -37,29 +37,28 @@ returns-in_default-clause-plays g c opening events placed records told stands le
 pub returns-clause-keeps : goal.returns-clause-keeps
 returns-clause-keeps g c =
     let before = g.M.Media.disk c.args.media.now in
-    let now = g.M.Media.disk c.seek.new.media in
-    let m = medium_of (asked_medium c.args.query.now.medium) in
-    let both = both_read m c.args.self.now c.seek.new.self before now (asked_two c.args.query.now.medium) c.seek.ensures.vault c.seek.ensures.read in
+    let now = g.M.Media.disk c.step_on.new.media in
+    let vault = rw c.medium_of.ensures.number at c.step_on.ensures.vault in
+    let read = rw c.medium_of.ensures.number at c.step_on.ensures.read in
     record {
-      vault = search rules;
-      rings = search rules;
-      stands = λ opening events placed stands. stands_still opening events placed c.args.self.now c.seek.new.self before now both stands;
-      readable = λ opening events placed readable. readable_still opening events placed c.args.self.now c.seek.new.self before now both readable;
+      vault = vault;
+      rings = rings_still _ c.args.self.now c.step_on.new.self before now vault read c.requires.rings;
+      stands = stands_still _ c.args.self.now c.step_on.new.self before now vault read;
+      readable = readable_still _ c.args.self.now c.step_on.new.self before now vault read;
       unchanged = search rules;
     }
 
 pub returns-clause-reads : goal.returns-clause-reads
 returns-clause-reads g c =
-    let later = c.seek.ensures.counts.later in
+    let counts = rw c.medium_of.ensures.number at c.step_on.ensures.counts in
+    let rose = rw c.medium_of.ensures.number at c.step_on.ensures.cause in
     record {
       failed = search rules;
-      counts = search rules;
-      damaged = search rules;
+      counts = counts.others;
+      damaged = rw c.medium_of.ensures.number at c.step_on.ensures.damaged;
       cause = record {
-        later = later;
-        on_medium = λ e. inr (c.seek.ensures.cause e);
-        in_all = λ e.
-            inr
-            (sum_rose (g.M.Media.faults c.args.media.now) (g.M.Media.faults c.seek.new.media) (medium_of (asked_medium c.args.query.now.medium)) later.same_media later.none_falls (c.seek.ensures.cause e));
+        later = counts.later;
+        on_medium = λ e. inr (rose e);
+        in_all = λ e. inr (sum_rose _ _ _ counts.later.same_media counts.later.none_falls (rose e));
       };
     }

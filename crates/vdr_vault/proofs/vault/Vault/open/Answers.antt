@@ -6,68 +6,67 @@ use Rattle.vdr_outside.specs.Disk.{Durable, Image}
 use Rattle.vdr_outside.proofs.Moments.{moments_and_reads, moments_weaken}
 use Rattle.vdr_media.specs.Formatted.{IsFormatted, IsUnformatted}
 use Rattle.vdr_directory.specs.Sequence.{Placed}
-use Rattle.vdr_opening.specs.Media.{both, Contents, HoldsContents, opening_of, reading_of}
+use Rattle.vdr_opening.specs.Media.{members, Contents, HoldsContents, opening_of, reading_of}
 use Rattle.vdr_opening.specs.Refusals.{IsRefused}
 use Rattle.vdr_vault.specs.Vaults.{IsReadable, VaultState, ShowsHistory, Stands, of_stamp}
 use Rattle.vdr_vault.specs.Regularity.{AreSound}
-use Rattle.vdr_vault.proofs.OpenCauses.{cause_after}
-use Rattle.vdr_vault.proofs.OpenMoments.{goes_on_synced, within_synced}
+use Rattle.vdr_vault.proofs.OpenMoments.{cause_after, goes_on_synced, within_synced}
 use Rattle.vdr_vault.proofs.vault.Vault.open.Goals as goal
 
 -- what the media with this image hold, and the vault tells of it
 abbrev HasContents : Image → VaultState → Type 0
-HasContents image vault = IsFormatted image × (x : Contents) × HoldsContents image x × EndsMeet both (reading_of x) × (vault.config ≡ x.config) × (vault.table ≡ x.table)
+HasContents image vault = IsFormatted image × (x : Contents) × HoldsContents image x × EndsMeet members (reading_of x) × (vault.config ≡ x.config) × (vault.table ≡ x.table)
     × (vault.last ≡ option_map of_stamp (opening_of x).last)
 
 pub returns-clause-moments : goal.returns-clause-moments
-returns-clause-moments g c x told holds meet regular = inr (goes_on_synced (ShowsHistory (opening_of x) []) (g.M.Media.disk c.args.media.now) (g.M.Media.disk c.sync_both.new.media) (g.M.Media.disk c.open_synced.new.media)
-    c.sync_both.ensures.moments (c.open_synced.ensures.moments x told c.in-Ok.ensures.durable (subst (λ (i : Image). HoldsContents i x) (sym (c.sync_both.ensures.reads told)) holds) meet regular))
+returns-clause-moments g c x told holds meet regular = inr (goes_on_synced (ShowsHistory (opening_of x) []) (g.M.Media.disk c.args.media.now) (g.M.Media.disk c.sync_all.new.media) (g.M.Media.disk c.open_synced.new.media)
+    c.sync_all.ensures.moments ((c.open_synced.ensures.meanwhile x told c.in-Ok.ensures.durable (subst (λ (i : Image). HoldsContents i x) (sym (c.sync_all.ensures.reads told)) holds)).moments meet regular))
 
 pub returns-clause-missing : goal.returns-clause-missing
 returns-clause-missing g c x told holds =
-    let mid = subst (λ (i : Image). HoldsContents i x) (sym (c.sync_both.ensures.reads told)) holds in
+    let mid = subst (λ (i : Image). HoldsContents i x) (sym (c.sync_all.ensures.reads told)) holds in
     record {
       level = λ level.
-          let same = c.open_synced.ensures.level x told c.in-Ok.ensures.durable mid level in (
-            moments_and_reads (g.M.Media.disk c.args.media.now) (g.M.Media.disk c.sync_both.new.media) (g.M.Media.disk c.open_synced.new.media) (λ i. (g.M.Media.disk c.args.media.now).now i) c.sync_both.ensures.moments same,
-            same.reads told ∙ c.sync_both.ensures.reads told,
+          let same = (c.open_synced.ensures.meanwhile x told c.in-Ok.ensures.durable mid).level level in (
+            moments_and_reads (g.M.Media.disk c.args.media.now) (g.M.Media.disk c.sync_all.new.media) (g.M.Media.disk c.open_synced.new.media) (λ i. (g.M.Media.disk c.args.media.now).now i) c.sync_all.ensures.moments same,
+            same.reads told ∙ c.sync_all.ensures.reads told,
           );
-      missing = λ meet. within_synced x (g.M.Media.disk c.args.media.now) (g.M.Media.disk c.sync_both.new.media) (g.M.Media.disk c.open_synced.new.media) c.sync_both.ensures.moments
-          (c.open_synced.ensures.within x told c.in-Ok.ensures.durable mid meet);
+      missing = λ meet. within_synced x (g.M.Media.disk c.args.media.now) (g.M.Media.disk c.sync_all.new.media) (g.M.Media.disk c.open_synced.new.media) c.sync_all.ensures.moments
+          ((c.open_synced.ensures.meanwhile x told c.in-Ok.ensures.durable mid).within meet);
     }
 
 pub returns-in_default-clause-missing : goal.returns-in_default-clause-missing
 returns-in_default-clause-missing g c x told holds = record {
-  level = λ level. (c.sync_both.ensures.moments, c.sync_both.ensures.reads told);
-  missing = λ meet. moments_weaken (g.M.Media.disk c.args.media.now) (g.M.Media.disk c.sync_both.new.media) _ _ c.sync_both.ensures.moments (λ i now. inl now);
+  level = λ level. (c.sync_all.ensures.moments, c.sync_all.ensures.reads told);
+  missing = λ meet. moments_weaken (g.M.Media.disk c.args.media.now) (g.M.Media.disk c.sync_all.new.media) _ _ c.sync_all.ensures.moments (λ i now. inl now);
 }
 
 pub returns-clause-opened : goal.returns-clause-opened
 returns-clause-opened g c = record {
   opened = IfOk-weaker c.open_synced.result
-      (λ vault. (x : Contents) → g.M.Media.tells → All (λ m. Durable m (g.M.Media.disk c.sync_both.new.media)) both → HoldsContents (g.M.Media.disk c.sync_both.new.media).reads x → AreSound x
+      (λ vault. (x : Contents) → g.M.Media.tells → All (λ m. Durable m (g.M.Media.disk c.sync_all.new.media)) members → HoldsContents (g.M.Media.disk c.sync_all.new.media).reads x → AreSound x
       → (placed : ℕ → List Placed) × Stands (opening_of x) [] vault placed (g.M.Media.disk c.open_synced.new.media))
       (λ vault. (x : Contents) → g.M.Media.tells → HoldsContents (g.M.Media.disk c.args.media.now).reads x → AreSound x
       → (placed : ℕ → List Placed) × Stands (opening_of x) [] vault placed (g.M.Media.disk c.open_synced.new.media))
-      (λ vault h x told holds regular. h x told c.in-Ok.ensures.durable (subst (λ (i : Image). HoldsContents i x) (sym (c.sync_both.ensures.reads told)) holds) regular)
+      (λ vault h x told holds regular. h x told c.in-Ok.ensures.durable (subst (λ (i : Image). HoldsContents i x) (sym (c.sync_all.ensures.reads told)) holds) regular)
       c.open_synced.ensures.opened;
   contents = IfOk-weaker c.open_synced.result
-      (λ vault. g.M.Media.tells → All (λ m. Durable m (g.M.Media.disk c.sync_both.new.media)) both → HasContents (g.M.Media.disk c.sync_both.new.media).reads vault)
+      (λ vault. g.M.Media.tells → All (λ m. Durable m (g.M.Media.disk c.sync_all.new.media)) members → HasContents (g.M.Media.disk c.sync_all.new.media).reads vault)
       (λ vault. g.M.Media.tells → HasContents (g.M.Media.disk c.args.media.now).reads vault)
-      (λ vault h told. subst (λ (i : Image). HasContents i vault) (c.sync_both.ensures.reads told) (h told c.in-Ok.ensures.durable))
+      (λ vault h told. subst (λ (i : Image). HasContents i vault) (c.sync_all.ensures.reads told) (h told c.in-Ok.ensures.durable))
       c.open_synced.ensures.contents;
   place = IfOk-weaker c.open_synced.result
-      (λ vault. (x : Contents) → g.M.Media.tells → All (λ m. Durable m (g.M.Media.disk c.sync_both.new.media)) both → HoldsContents (g.M.Media.disk c.sync_both.new.media).reads x
+      (λ vault. (x : Contents) → g.M.Media.tells → All (λ m. Durable m (g.M.Media.disk c.sync_all.new.media)) members → HoldsContents (g.M.Media.disk c.sync_all.new.media).reads x
       → vault.next_place ≡ (opening_of x).next_place)
       (λ vault. (x : Contents) → g.M.Media.tells → HoldsContents (g.M.Media.disk c.args.media.now).reads x → vault.next_place ≡ (opening_of x).next_place)
-      (λ vault h x told holds. h x told c.in-Ok.ensures.durable (subst (λ (i : Image). HoldsContents i x) (sym (c.sync_both.ensures.reads told)) holds))
+      (λ vault h x told holds. h x told c.in-Ok.ensures.durable (subst (λ (i : Image). HoldsContents i x) (sym (c.sync_all.ensures.reads told)) holds))
       c.open_synced.ensures.place;
   readable = IfOk-weaker c.open_synced.result
-      (λ vault. (x : Contents) → g.M.Media.tells → All (λ m. Durable m (g.M.Media.disk c.sync_both.new.media)) both → HoldsContents (g.M.Media.disk c.sync_both.new.media).reads x
-      → AreLevel both (reading_of x) → IsReadable (opening_of x) [] vault x.placed (g.M.Media.disk c.open_synced.new.media))
-      (λ vault. (x : Contents) → g.M.Media.tells → HoldsContents (g.M.Media.disk c.args.media.now).reads x → AreLevel both (reading_of x)
+      (λ vault. (x : Contents) → g.M.Media.tells → All (λ m. Durable m (g.M.Media.disk c.sync_all.new.media)) members → HoldsContents (g.M.Media.disk c.sync_all.new.media).reads x
+      → AreLevel members (reading_of x) → IsReadable (opening_of x) [] vault x.placed (g.M.Media.disk c.open_synced.new.media))
+      (λ vault. (x : Contents) → g.M.Media.tells → HoldsContents (g.M.Media.disk c.args.media.now).reads x → AreLevel members (reading_of x)
       → IsReadable (opening_of x) [] vault x.placed (g.M.Media.disk c.open_synced.new.media))
-      (λ vault h x told holds level. h x told c.in-Ok.ensures.durable (subst (λ (i : Image). HoldsContents i x) (sym (c.sync_both.ensures.reads told)) holds) level)
+      (λ vault h x told holds level. h x told c.in-Ok.ensures.durable (subst (λ (i : Image). HoldsContents i x) (sym (c.sync_all.ensures.reads told)) holds) level)
       c.open_synced.ensures.readable;
   works = search rules;
   rings = search rules;
@@ -76,15 +75,15 @@ returns-clause-opened g c = record {
 pub returns-clause-refused : goal.returns-clause-refused
 returns-clause-refused g c = record {
   unformatted = search rules;
-  damaged = λ m offset is told. subst (λ (i : Image). IsFormatted i × IsRefused i m offset) (c.sync_both.ensures.reads told) (c.open_synced.ensures.damaged m offset is told c.in-Ok.ensures.durable);
+  damaged = λ m offset is told. subst (λ (i : Image). IsFormatted i × IsRefused i m offset) (c.sync_all.ensures.reads told) (c.open_synced.ensures.damaged m offset is told c.in-Ok.ensures.durable);
   untouched = search rules;
-  blank = λ told un. moments_and_reads (g.M.Media.disk c.args.media.now) (g.M.Media.disk c.sync_both.new.media) (g.M.Media.disk c.open_synced.new.media) (λ i. (g.M.Media.disk c.args.media.now).now i)
-      c.sync_both.ensures.moments (c.open_synced.ensures.blank told (subst IsUnformatted (sym (c.sync_both.ensures.reads told)) un));
+  blank = λ told un. moments_and_reads (g.M.Media.disk c.args.media.now) (g.M.Media.disk c.sync_all.new.media) (g.M.Media.disk c.open_synced.new.media) (λ i. (g.M.Media.disk c.args.media.now).now i)
+      c.sync_all.ensures.moments (c.open_synced.ensures.blank told (subst IsUnformatted (sym (c.sync_all.ensures.reads told)) un));
 }
 
 pub returns-clause-writes : goal.returns-clause-writes
 returns-clause-writes g c = record {
   others = search rules;
   sizes = search rules;
-  cause = cause_after _ _ _ _ c.sync_both.ensures.cause.later c.open_synced.ensures.cause;
+  cause = cause_after _ _ _ _ c.sync_all.ensures.cause.later c.open_synced.ensures.cause;
 }

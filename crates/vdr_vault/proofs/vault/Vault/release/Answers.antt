@@ -1,6 +1,6 @@
 use Rattle.std.proofs.Common.{rules, sym}
-use Rattle.vdr_vault.proofs.Released.{released}
-use Rattle.vdr_vault.proofs.SaveFaults.{does_so, has_fault, not_failed}
+use Rattle.vdr_vault.proofs.SlotWritten.{released}
+use Rattle.vdr_vault.proofs.Refusals.{does_so, has_fault, not_failed}
 use Rattle.vdr_vault.proofs.vault.Vault.release.Goals as goal
 
 pub returns-clause-releases : goal.returns-clause-releases

@@ -1,7 +1,7 @@
 use Rattle.std.proofs.Common.{rules, refl, sym, ap, ◌∙◌, subst}
 use Rattle.vdr_vault.specs.Vaults.{VaultState, Stands}
 use Rattle.vdr_vault.specs.Saves.{Saves}
-use Rattle.vdr_vault.proofs.SaveFaults.{no_fault_of_damage, not_failed, saves_so, stands_so}
+use Rattle.vdr_vault.proofs.Refusals.{no_fault_of_damage, not_failed, saves_so, stands_so}
 use Rattle.vdr_vault.proofs.vault.Vault.save.Goals as goal
 
 pub returns-clause-saves : goal.returns-clause-saves

@@ -1,0 +1,230 @@
+-- What calls that only read leave as it was.
+use Rattle.std.proofs.Common.{◌≡◌, ℕ, List, sym, ◌∙◌, ap, subst, Option, Some, None, IfSome, get_or, length, ◌<◌, ◌+◌, inl, inr, zero, suc, [], ◌∷◌, ◌++◌, set, take, IfNone, arith, get_or-set_same, get_or-set_other, length-set, ◌≤◌, drop, cond, ◌==◌, Result, Err}
+use Rattle.vdr_outside.specs.Disk.{Disk, Image, Unchanged, content}
+use Rattle.vdr_outside.specs.Parts.{part}
+use Rattle.vdr_slots.specs.Slots.{place_of}
+use Rattle.vdr_directory.specs.Holds.{HoldsPlaced}
+use Rattle.vdr_ring.specs.Rings.{RingState}
+use Rattle.vdr_ring.specs.Rings as rings
+use Rattle.vdr_directory.specs.Sequence.{Placed}
+use Rattle.vdr_media.proofs.Unformatted.{durable_still}
+use Rattle.vdr_terms.specs.Needs.{slots_in}
+use Rattle.vdr_outside.proofs.Moments.{size_read}
+use Rattle.vdr_config.specs.Configuration.{Configuration}
+use Rattle.vdr_config.specs.Sizes.{sizes_of}
+use Rattle.vdr_directory.specs.Opening.{Refuses, HasFaultCause}
+use Rattle.vdr_terms.specs.Slots.{slot_count}
+use Rattle.vdr_opening.specs.Media.{HasFront, members, IsMedium}
+use Rattle.vdr_opening.specs.Refusals.{IsSameText, RefusesSegments, IsLegalBehind, RefusesFrom, RefusesMedium}
+use Rattle.vdr_opening.specs.declared.text.Configured.{Configured}
+use Rattle.vdr_opening.specs.Parts.{ReadsMedium, text_of, AreRead, KeepsRings, HasPartCause, refusal_by}
+use Rattle.std.specs.Prelude.{All, Any, IsErrOf}
+use Rattle.std.proofs.lemmas.Bool.{cases_eq}
+use Rattle.std.proofs.lemmas.List.{get_or_append_left, get_or_push, take-append-le, take_all}
+use Rattle.vdr_media.proofs.Two.{first_of, second_of, all_two}
+use Rattle.vdr_opening.specs.Answers.{IsRingOf, no_ring, ring_at, HasOpenCause}
+use Rattle.vdr_outside.specs.Causes.{NoneFalls, Rose}
+use Rattle.vdr_outside.specs.declared.fault.PartRefused.{PartRefused}
+use Rattle.vdr_outside.specs.declared.fault.PartRefused.TheVariants.{Fault}
+use Rattle.vdr_outside.specs.declared.fault.PartRefused.TheVariants as parts
+use Rattle.vdr_outside.proofs.Counts.{none_falls_join, rose_after, sum_rose}
+use Rattle.vdr_terms.proofs.Results.{same_err}
+use Rattle.vdr_opening.specs.declared.refused.OpenRefused.{OpenRefused}
+use Rattle.vdr_opening.specs.declared.refused.OpenRefused.TheVariants.{Damaged}
+use Rattle.vdr_opening.specs.declared.refused.OpenRefused.TheVariants as refused
+
+module _ {tells tells_images : Type 0} where
+  pub unchanged_join : (a b c : Disk tells tells_images) → Unchanged a b → Unchanged b c → Unchanged a c
+  unchanged_join a b c x y = record {
+    sizes = y.sizes ∙ x.sizes;
+    reads = λ told. y.reads told ∙ x.reads told;
+    clock = y.clock ∙ x.clock;
+    since = λ t i. (λ s. (x.since t i).0 ((y.since t i).0 s), λ s. (y.since t i).1 ((x.since t i).1 s));
+  }
+
+  pub same_content : (m : ℕ) (old new : Disk tells tells_images) → Unchanged old new → tells → content new.reads m ≡ content old.reads m
+  same_content m old new same told = ap (λ (i : Image). content i m) (same.reads told)
+
+  pub reads_still : (ring : RingState) (placed : List Placed) (old new : Disk tells tells_images) → Unchanged old new → rings.Reads ring placed old → rings.Reads ring placed new
+  reads_still ring placed old new same r = record {
+    settled = record {
+      durable = durable_still ring.medium old new same r.settled.durable;
+      reads = λ told. subst (HoldsPlaced ring.segment ring.slots placed) (sym (same_content ring.medium old new same told)) (r.settled.reads told);
+    };
+    order = r.order;
+    directory = r.directory;
+    loaded = λ j is told. r.loaded j is told ∙ ap (λ (l : List ℕ). part l (place_of ring.segment j) ring.segment) (sym (same_content ring.medium old new same told));
+  }
+
+-- The segments of a medium, as its ring reads them or as it is refused.
+
+-- the text is that of the medium before, where there is one
+pub same_text : (before : Option Configured) (now : Configured) → IfSome before (λ first. now ≡ first) → IsSameText (text_of before) now.text.items
+same_text None now same = tt
+same_text (Some first) now same = ap (λ (c : Configured). c.text.items) same
+
+module _ {tells tells_images : Type 0} (m : ℕ) (c : Configuration) (text : List ℕ) (old new : Disk tells tells_images) (same : Unchanged old new) (told : tells) (front : HasFront m c text (content old.reads m)) where
+  counts : slots_in (sizes_of c) (get_or new.sizes m 0) ≡ slot_count c.segment (length (content old.reads m))
+  counts = ap (λ (n : ℕ). slot_count c.segment n) (ap (λ (s : List ℕ). get_or s m 0) same.sizes ∙ sym (size_read old m told))
+
+  pub refuses_segments : (before : Option (List ℕ)) (offset : ℕ) → IsSameText before text → Refuses c.segment (slots_in (sizes_of c) (get_or new.sizes m 0)) (content new.reads m) offset → RefusesSegments m before (content old.reads m) offset
+  refuses_segments before offset same_text refuses = record {
+    config = c;
+    text = text;
+    front = front;
+    same = same_text;
+    refuses = subst (λ (n : ℕ). Refuses c.segment n (content old.reads m) offset) counts
+        (subst (λ (l : List ℕ). Refuses c.segment (slots_in (sizes_of c) (get_or new.sizes m 0)) l offset) (same_content m old new same told) refuses);
+  }
+
+  pub reads_medium : (ring : RingState) (placed : List Placed) → ring.medium ≡ m → ring.segment ≡ c.segment → ring.slots ≡ slots_in (sizes_of c) (get_or old.sizes m 0) → rings.Reads ring placed new → ReadsMedium m c text placed ring new
+  reads_medium ring placed medium_is segment_is slots_are reads =
+      let here : HoldsPlaced ring.segment ring.slots placed (content new.reads m) = subst (λ (k : ℕ). HoldsPlaced ring.segment ring.slots placed (content new.reads k)) medium_is (reads.settled.reads told) in
+      let sized : HoldsPlaced c.segment ring.slots placed (content new.reads m) = subst (λ (n : ℕ). HoldsPlaced n ring.slots placed (content new.reads m)) segment_is here in
+      let whole : get_or old.sizes m 0 ≡ length (content new.reads m) = sym (size_read old m told) ∙ ap length (sym (same_content m old new same told)) in
+      record {
+        legal = record {
+          front = subst (λ (l : List ℕ). HasFront m c text l) (sym (same_content m old new same told)) front;
+          segments = record {
+            holds = subst (λ (n : ℕ). HoldsPlaced c.segment n placed (content new.reads m)) (slots_are ∙ ap (λ (n : ℕ). slot_count c.segment n) whole) sized;
+            order = reads.order;
+          };
+        };
+        reads = reads;
+      }
+
+-- The rings of media, one after another.
+
+-- what holds of all media holds of each, and what holds of one of some
+pub of_all : (P : ℕ → Type 0) (m : ℕ) → m < 2 → All P members → P m
+of_all P zero lt all = all 0 0 (omega arith)
+of_all P (suc zero) lt all = all 1 0 (omega arith)
+of_all P (suc (suc m)) lt all = absurd (omega (arith, lt))
+
+pub any_of : (P : ℕ → Type 0) (m : ℕ) → m < 2 → P m → Any P members
+any_of P zero lt p = first_of P p
+any_of P (suc zero) lt p = second_of P p
+any_of P (suc (suc m)) lt p = absurd (omega (arith, lt))
+
+pub take_front : (n : ℕ) (xs ys : List RingState) → length xs ≡ n → take n (xs ++ ys) ≡ xs
+take_front n xs ys size = take-append-le n xs ys (omega (arith, size)) ∙ take_all n xs (omega (arith, size))
+
+-- one more ring
+pub each_more : (P : ℕ → RingState → Type 0) (on : List RingState) (ring : RingState) (m : ℕ) → length on ≡ m → ((k : ℕ) → k < m → P k (ring_at on k)) → P m ring → (k : ℕ) → k < m + 1 → P k (ring_at (on ++ ring ∷ []) k)
+each_more P on ring m size each here k lt = elim (cases_eq k m) [
+  | inl same ↦ subst (λ (j : ℕ). P j (ring_at (on ++ ring ∷ []) j)) (sym same) (subst (λ (r : RingState). P m r) (sym (get_or_push on ring no_ring m size)) here)
+  | inr other ↦ let below : k < m = grind (arith, lt, other) in subst (λ (r : RingState). P k r) (sym (get_or_append_left on (ring ∷ []) no_ring k (omega (arith, below, size)))) (each k below)
+]
+
+-- what holds with the configuration of the media before holds with that of this one, which is the same
+pub carry : (P : Configured → ℕ → Type 0) (before : Option Configured) (now : Configured) (m : ℕ) → IfNone before (m ≡ 0) → IfSome before (λ first. now ≡ first) → IfSome before (λ first. (k : ℕ) → k < m → P first k) → (k : ℕ) → k < m → P now k
+carry P None now m none same each k lt = absurd (omega (arith, none, lt))
+carry P (Some first) now m none same each k lt = subst (λ (c : Configured). P c k) (sym same) (each k lt)
+
+-- One of them is read
+
+each_set : (P : ℕ → RingState → Type 0) (on : List RingState) (m : ℕ) (new : RingState) → m < length on → ((k : ℕ) → P k (ring_at on k)) → P m new → (k : ℕ) → P k (ring_at (set on m new) k)
+each_set P on m new there each here k = elim (cases_eq k m) [
+  | inl at ↦ subst (λ (j : ℕ). P j (ring_at (set on m new) j)) (sym at) (subst (P m) (sym (get_or-set_same on m new no_ring there)) here)
+  | inr other ↦ subst (P k) (sym (get_or-set_other on m k new no_ring other)) (each k)
+]
+
+ring_of : (c : Configuration) (sizes : List ℕ) (m : ℕ) (ring : RingState) (buffer : List ℕ) (loaded : Option ℕ) → IsRingOf c sizes m ring → IsRingOf c sizes m (record ring { buffer = buffer; loaded = loaded })
+ring_of c sizes m ring buffer loaded is = record { medium = is.medium; segment = is.segment; slots = is.slots; seconds = is.seconds; room = record { there = is.room.there; room = is.room.room } }
+
+module _ {tells tells_images : Type 0} where
+  pub keeps_one : (on : List RingState) (m : ℕ) (ring new : RingState) (before after : Disk tells tells_images) → m < length on → ring ≡ ring_at on m → new ≡ record ring { buffer = new.buffer; loaded = new.loaded }
+      → ((placed : List Placed) → rings.Reads ring placed before → rings.Reads new placed after) → Unchanged before after → KeepsRings on (set on m new) before after
+  keeps_one on m ring new before after there is same reads unchanged = record {
+    of_media = λ c sizes are. record {
+      count = length-set on m new ∙ are.count;
+      each = λ i d lt. each_set (λ k r. IsRingOf c sizes k (ring_at on k) → IsRingOf c sizes k r) on m new there (λ k was. was)
+          (λ was. subst (IsRingOf c sizes m) (sym same) (ring_of c sizes m ring new.buffer new.loaded (subst (IsRingOf c sizes m) (sym is) was))) (get_or members i d) (are.each i d lt);
+    };
+    reads = each_set (λ k r. (placed : List Placed) → rings.Reads (ring_at on k) placed before → rings.Reads r placed after) on m new there (λ k placed. reads_still (ring_at on k) placed before after unchanged)
+        (λ placed r. reads placed (subst (λ (x : RingState). rings.Reads x placed before) (sym is) r));
+    unchanged = unchanged;
+  }
+
+  pub keeps_join : (on mid new : List RingState) (a b c : Disk tells tells_images) → KeepsRings on mid a b → KeepsRings mid new b c → KeepsRings on new a c
+  keeps_join on mid new a b c x y = record {
+    of_media = λ config sizes are. y.of_media config sizes (x.of_media config sizes are);
+    reads = λ m placed r. y.reads m placed (x.reads m placed r);
+    unchanged = unchanged_join a b c x.unchanged y.unchanged;
+  }
+
+  pub read_still : (on new : List RingState) (placed : ℕ → List Placed) (before after : Disk tells tells_images) → KeepsRings on new before after → AreRead on placed before → AreRead new placed after
+  read_still on new placed before after kept read i d lt = kept.reads (get_or members i d) (placed (get_or members i d)) (read i d lt)
+
+-- One medium after another is read, and each is legal behind those before it or refused.
+
+module _ (before : Option (List ℕ)) (image : Image) (m offset : ℕ) where
+  pub refused_at : (k : ℕ) → k < 2 → m ≡ k → RefusesMedium k before (content image k) offset → RefusesFrom before (drop k members) image m offset
+  refused_at zero lt is refuses = inl (is, refuses)
+  refused_at (suc zero) lt is refuses = inl (is, refuses)
+  refused_at (suc (suc k)) lt is refuses = absurd (omega (arith, lt))
+
+  pub legal_at : (k : ℕ) (text : List ℕ) → k < 2 → IsLegalBehind k before text (content image k) → RefusesFrom (Some text) (drop (k + 1) members) image m offset → RefusesFrom before (drop k members) image m offset
+  legal_at zero text lt legal refuses = inr (text, legal, refuses)
+  legal_at (suc zero) text lt legal refuses = inr (text, legal, refuses)
+  legal_at (suc (suc k)) text lt legal refuses = absurd (omega (arith, lt))
+
+pub medium_still : {tells tells_images : Type 0} (m : ℕ) (c : Configuration) (text : List ℕ) (placed : List Placed) (ring : RingState) (old new : Disk tells tells_images) → Unchanged old new → tells → ReadsMedium m c text placed ring old → ReadsMedium m c text placed ring new
+medium_still m c text placed ring old new same told r = record {
+  legal = subst (IsMedium m c text placed) (sym (same_content m old new same told)) r.legal;
+  reads = reads_still ring placed old new same r.reads;
+}
+
+-- the segments of each medium by its number
+pub all_read : (P : Configured → ℕ → List Placed → Type 0) (before : Option Configured) (now : Configured) (m : ℕ) → before ≡ Some now → 2 ≤ m → IfSome before (λ first. (k : ℕ) → k < m → (placed : List Placed) × P first k placed) → (placed : ℕ → List Placed) × All (λ k. P now k (placed k)) members
+all_read P before now m is all each =
+    let known = subst (λ (o : Option Configured). IfSome o (λ first. (k : ℕ) → k < m → (placed : List Placed) × P first k placed)) is each in
+    let first = known 0 (omega (arith, all)) in
+    let second = known 1 (omega (arith, all)) in
+    (λ k. cond (k == 0) first.0 second.0, all_two (λ k. P now k (cond (k == 0) first.0 second.0)) first.1 second.1)
+
+-- Causes of a fault over the calls on the media.
+
+-- a call on one of the media
+pub part_by : {T : Type 0} (m k : ℕ) (a b : List ℕ) (r : Result T PartRefused) → k ≡ m → m < 2 → HasFaultCause k a b r → HasPartCause a b r
+part_by m k a b r is lt h = record {
+  later = h.later;
+  rose = λ fault. any_of (λ n. Rose (get_or a n 0) (get_or b n 0)) m lt (subst (λ n. Rose (get_or a n 0) (get_or b n 0)) is (h.rose fault));
+}
+
+-- an error, after calls that succeeded
+pub part_passed : {T U : Type 0} (a b c : List ℕ) (e : PartRefused) → NoneFalls a b → HasPartCause {T = T} b c (Err e) → HasPartCause {T = U} a c (Err e)
+part_passed a b c e earlier h = record {
+  later = none_falls_join a b c earlier h.later;
+  rose = λ fault.
+      let rose = h.rose (same_err e Fault fault) in
+      (rose.0, rose.1, rose.2, rose.3, rose_after (get_or a rose.1 0) (get_or b rose.1 0) (get_or c rose.1 0) (earlier.none_falls rose.1) rose.4);
+}
+
+-- Causes of an answer of opening
+
+damaged_part : (e : PartRefused) (m offset : ℕ) → refusal_by e ≡ Damaged m offset → e ≡ parts.Damaged m offset
+damaged_part parts.NoMemory m offset is = cc
+damaged_part (parts.Damaged k at) m offset is = cc
+damaged_part parts.Fault m offset is = cc
+
+fault_part : (e : PartRefused) → refusal_by e ≡ refused.Fault → e ≡ parts.Fault
+fault_part parts.NoMemory is = cc
+fault_part (parts.Damaged k at) is = cc
+fault_part parts.Fault is = cc
+
+error_of : {T E : Type 0} (x y : E) → ◌≡◌ {A = Result T E} (Err x) (Err y) → x ≡ y
+error_of x y is = cc
+
+-- an answer where a count of one of the media rose, or that is no fault
+pub open_cause : {T : Type 0} (a c : List ℕ) (r : Result T OpenRefused) → NoneFalls a c → (IsErrOf r refused.Fault → Any (λ m. Rose (get_or a m 0) (get_or c m 0)) members) → HasOpenCause a c r
+open_cause a c r later rose = record { later = later; by_medium = rose; in_all = λ is. let one = rose is in sum_rose a c one.1 later.same_media later.none_falls one.4 }
+
+pub open_failed : {T U : Type 0} (a b c : List ℕ) (e : PartRefused) → NoneFalls a b → HasPartCause {T = T} b c (Err e) → HasOpenCause {T = U} a c (Err (refusal_by e))
+open_failed {T} {U} a b c e earlier h =
+    let whole = part_passed {T = T} {U = T} a b c e earlier h in
+    open_cause a c (Err (refusal_by e)) whole.later (λ fault. whole.rose (ap (λ (x : PartRefused). let y : Result T PartRefused = Err x in y) (fault_part e (error_of (refusal_by e) refused.Fault fault))))
+
+-- the part that was refused, from the answer that it was made into
+pub passed_damaged : {T U : Type 0} (e : PartRefused) (x : OpenRefused) (m offset : ℕ) → x ≡ refusal_by e → ◌≡◌ {A = Result T OpenRefused} (Err x) (Err (Damaged m offset)) → ◌≡◌ {A = Result U PartRefused} (Err e) (Err (parts.Damaged m offset))
+passed_damaged e x m offset is made = let named : e ≡ parts.Damaged m offset = damaged_part e m offset (sym is ∙ error_of x (Damaged m offset) made) in cc

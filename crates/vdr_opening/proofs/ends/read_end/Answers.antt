@@ -1,0 +1,22 @@
+use Rattle.std.proofs.Common.{◌≡◌, ap, ◌∙◌, subst, arith}
+use Rattle.std.proofs.lemmas.List.{get_or_default}
+use Rattle.vdr_ring.specs.Rings.{Reads, RingState}
+use Rattle.vdr_opening.specs.Answers.{no_ring, ring_at}
+use Rattle.vdr_opening.proofs.Rings.{part_by, keeps_one, of_all}
+use Rattle.vdr_opening.proofs.ends.read_end.Goals as goal
+
+pub returns-clause-undamaged : goal.returns-clause-undamaged
+returns-clause-undamaged g c k offset e told placed reads =
+    let count = c.requires.rings.1.count in
+    c.read_last_batch.ensures.batch.undamaged told placed (subst (λ (r : RingState). Reads r placed (g.M.Media.disk c.args.media.now)) (get_or_default c.args.rings.now c.args.m no_ring _ (omega (arith, count))) reads) k offset e
+
+pub returns-clause-kept : goal.returns-clause-kept
+returns-clause-kept g c =
+    let count = c.requires.rings.1.count in
+    keeps_one c.args.rings.now c.args.m _ c.read_last_batch.new.self _ _ (omega (arith, count)) (get_or_default c.args.rings.now c.args.m _ no_ring (omega (arith, count))) c.read_last_batch.ensures.keeps.ring c.read_last_batch.ensures.keeps.reads c.read_last_batch.ensures.keeps.unchanged
+
+pub returns-clause-cause : goal.returns-clause-cause
+returns-clause-cause g c =
+    let count = c.requires.rings.1.count in
+    let is = get_or_default c.args.rings.now c.args.m _ no_ring (omega (arith, count)) in
+    part_by c.args.m _ _ _ _ (ap (λ (r : RingState). r.medium) is ∙ of_all (λ m. (ring_at c.args.rings.now m).medium ≡ m) c.args.m c.requires.few (λ i d lt. (c.requires.rings.1.each i d lt).medium)) c.requires.few c.read_last_batch.ensures.cause

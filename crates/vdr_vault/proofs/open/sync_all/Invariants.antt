@@ -1,0 +1,14 @@
+use Rattle.std.proofs.Common.{◌≡◌, ◌<◌, ℕ}
+use Rattle.vdr_outside.specs.Causes.{NoneFalls}
+use Rattle.vdr_outside.specs.Disk.{Durable}
+use Rattle.vdr_vault.specs.Openings.{LeavesAll}
+use Rattle.vdr_vault.proofs.open.sync_all.Given as goal
+
+abbrev pub invariant-loop-m : goal.invariant-loop-m
+invariant-loop-m g l = record {
+  durable : (k : ℕ) → k < l.m → Durable k (g.M.Media.disk l.media);
+  reads : g.M.Media.tells → (g.M.Media.disk l.media).reads ≡ (g.M.Media.disk l.fn.media).reads;
+  moments : LeavesAll (g.M.Media.disk l.fn.media) (g.M.Media.disk l.media);
+  sizes : (g.M.Media.disk l.media).sizes ≡ (g.M.Media.disk l.fn.media).sizes;
+  later : NoneFalls (g.M.Media.faults l.fn.media) (g.M.Media.faults l.media);
+}
