@@ -2,7 +2,7 @@
 use Rattle.std.proofs.Common.{◌≡◌, ◌≢◌, ◌⊎◌, ◌<◌, ◌≤◌, ℕ, List, [], ◌∷◌, ◌++◌, length, get_or, All, Contains, Option, Some, None, option_map, inl, inr, ⊎_elim, refl, sym, ap, ◌∙◌, subst, arith, length-append}
 use Rattle.std.proofs.lemmas.Option.{none-some, same_Some, get_or_from_slice_get}
 use Rattle.std.proofs.lemmas.List.Elements.{All-contains, Contains-append_cases, Contains-append_left, Contains-append_right}
-use Rattle.vdr_terms.specs.Records.{Record, last}
+use Rattle.vdr_terms.specs.Records.{Record, last, last_after}
 use Rattle.vdr_retention.proofs.Lists.{all_from, contains_cases, contains_here, contains_there, last_behind, last_contained, none_contained}
 use Rattle.vdr_entry.specs.declared.summary.Summary.{Summary}
 use Rattle.vdr_survey.specs.Extents.{extent_of}
@@ -12,10 +12,10 @@ use Rattle.vdr_directory.specs.declared.newest.Newest.{Newest}
 use Rattle.vdr_directory.specs.Sequence.{Placed, records_of, seq_of}
 use Rattle.vdr_directory.specs.Order.{HasNone, MayPrecede, AreInPlace, AreInOrder}
 use Rattle.vdr_directory.specs.Directories.{DirectoryState, ending_by, newest_of}
-use Rattle.vdr_directory.specs.Indexed.{IsKnown, IsKnownAs}
+use Rattle.vdr_directory.specs.Indexed.{IsKnown, IsKnownAs, StandsFor}
 use Rattle.vdr_directory.specs.Holds.{Tells}
 use Rattle.vdr_directory.specs.Leaving.{IsExact, IsLeftBehind, LeavesNone, summarized}
-use Rattle.vdr_directory.proofs.Known.{IsInIndex, IsEarlier, all_behind, in_index, placed_at, some_record}
+use Rattle.vdr_directory.proofs.Known.{IsInIndex, IsEarlier, all_behind, in_index, one_stands, placed_at, some_record}
 use Rattle.vdr_directory.proofs.Leaving.{left_batches}
 use Rattle.vdr_directory.proofs.Telling.{newest_is, newest_told}
 
@@ -28,9 +28,9 @@ alone_or_behind (x ∷ y ∷ ys) p e = ⊎_elim
     (λ (k : (older : List Placed) × (q : Placed) × (y ∷ ys ≡ older ++ q ∷ p ∷ [])). inr (x ∷ k.0, k.1, ap (λ (zs : List Placed). x ∷ zs) k.2))
     (alone_or_behind (y ∷ ys) p e)
 
-pub before_newest : (o : Option Placed) (older : List Placed) (q p : Placed) → AreInPlace o (older ++ q ∷ p ∷ []) → MayPrecede q (p ∷ [])
-before_newest o [] q p h = h.0.precedes
-before_newest o (z ∷ older) q p h = before_newest (Some z) older q p h.1
+pub in_its_place : (o : Option Placed) (older : List Placed) (p : Placed) (rest : List Placed) → AreInPlace o (older ++ p ∷ rest) → MayPrecede p rest
+in_its_place o [] p rest h = h.0.precedes
+in_its_place o (z ∷ older) p rest h = in_its_place (Some z) older p rest h.1
 
 -- a segment of no lesser number is one of the last two
 last_two : (o : Option Placed) (older : List Placed) (q p x : Placed) → AreInPlace o (older ++ q ∷ p ∷ []) → Contains (older ++ q ∷ p ∷ []) x → seq_of q ≤ seq_of x → (x ≡ q) ⊎ (x ≡ p)
@@ -55,17 +55,21 @@ two_in_order placed older q p order split =
 not_none : {X : Type 0} (x : X) (xs : List X) → x ∷ xs ≡ [] → ⊥
 not_none x xs e = cc
 
-pub second_last : (older : List Placed) (q p : Placed) → Contains (older ++ q ∷ p ∷ []) q
-second_last older q p = Contains-append_right older (q ∷ p ∷ []) q (contains_here q (p ∷ []))
+pub in_the_middle : (older : List Placed) (q : Placed) (rest : List Placed) → Contains (older ++ q ∷ rest) q
+in_the_middle older q rest = Contains-append_right older (q ∷ rest) q (contains_here q rest)
+
+-- What is known of a segment without a summary is exact.
+pub known_exactly : (p : Placed) (k : Known) → IsKnown p k → p.segment.header.summary ≡ None → IsExact p k.summary
+known_exactly p k is bare = subst (λ (o : Option Summary). StandsFor o p k.summary) bare is.summary
 
 module _ (count : ℕ) (placed : List Placed) (t : DirectoryState) (tells : Tells count placed t) where
-  -- what is known of a segment with records is exact
-  pub exact_known : (p : Placed) → Contains placed p → (HasNone p → ⊥) → (s : Summary) × IsExact p s
-  exact_known p m some = go (in_index count placed t.index tells.index p m)
+  -- what is known of a segment with records and without a summary is exact
+  pub exact_known : (p : Placed) → Contains placed p → (HasNone p → ⊥) → p.segment.header.summary ≡ None → (s : Summary) × IsExact p s
+  exact_known p m some bare = go (in_index count placed t.index tells.index p m)
     where
       go : IsInIndex t.index p → (s : Summary) × IsExact p s
       go (inl (none, clear)) = absurd (some none)
-      go (inr (k, at, is)) = (k.summary, record { count = is.count; summary = is.summary })
+      go (inr (k, at, is)) = (k.summary, known_exactly p k is bare)
 
   -- what stands before the newest
   pub which_left : (1 < length placed → AreInOrder placed) → LeavesNone placed ⊎ ((slot : ℕ) × (s : Summary) × IsLeftBehind placed slot s)
@@ -73,8 +77,8 @@ module _ (count : ℕ) (placed : List Placed) (t : DirectoryState) (tells : Tell
     where
       behind : (p : Placed) → HasNone p → (older : List Placed) (q : Placed) → placed ≡ older ++ q ∷ p ∷ [] → (slot : ℕ) × (s : Summary) × IsLeftBehind placed slot s
       behind p empty older q split =
-          let before = before_newest None older q p (two_in_order placed older q p order split) in
-          let known = exact_known q (subst (λ (ps : List Placed). Contains ps q) (sym split) (second_last older q p)) before.0 in
+          let before = in_its_place None older q (p ∷ []) (two_in_order placed older q p order split) in
+          let known = exact_known q (subst (λ (ps : List Placed). Contains ps q) (sym split) (in_the_middle older q (p ∷ []))) before.0 (before.1 empty) in
           (q.slot, known.0, record { older = older; left = q; newest = p; split = split; empty = empty; at = refl; none = before.1 empty; exact = known.1 })
 
       at_records : (p : Placed) → last placed ≡ Some p → (rs : List Record) → records_of p ≡ rs → LeavesNone placed ⊎ ((slot : ℕ) × (s : Summary) × IsLeftBehind placed slot s)
@@ -100,8 +104,8 @@ module _ (count : ℕ) (placed : List Placed) (t : DirectoryState) (tells : Tell
   none_left_clear order clear p e none = ⊎_elim
       (λ (alone : placed ≡ p ∷ []). alone)
       (λ (b : (older : List Placed) × (q : Placed) × (placed ≡ older ++ q ∷ p ∷ [])).
-      let some = (before_newest None b.0 b.1 p (two_in_order placed b.0 b.1 p order b.2)).0 in
-      absurd (go b.1 some (in_index count placed t.index tells.index b.1 (subst (λ (ps : List Placed). Contains ps b.1) (sym b.2) (second_last b.0 b.1 p)))))
+      let some = (in_its_place None b.0 b.1 (p ∷ []) (two_in_order placed b.0 b.1 p order b.2)).0 in
+      absurd (go b.1 some (in_index count placed t.index tells.index b.1 (subst (λ (ps : List Placed). Contains ps b.1) (sym b.2) (in_the_middle b.0 b.1 (p ∷ []))))))
       (alone_or_behind placed p e)
     where
       go : (q : Placed) → (HasNone q → ⊥) → IsInIndex t.index q → ⊥
@@ -118,7 +122,7 @@ module _ (count : ℕ) (placed : List Placed) (t : DirectoryState) (tells : Tell
       ⊎_elim
       (λ (alone : placed ≡ p.0 ∷ []). absurd (some_record w.0 newest.known w.3 (lone p.0 w.0 empty (subst (λ (ps : List Placed). Contains ps w.0) alone w.1))))
       (λ (b : (older : List Placed) × (q : Placed) × (placed ≡ older ++ q ∷ p.0 ∷ [])). behind p.0 empty b.0 b.1 b.2 w.0 w.1 w.2 w.3
-      (in_index count placed t.index tells.index b.1 (subst (λ (ps : List Placed). Contains ps b.1) (sym b.2) (second_last b.0 b.1 p.0))))
+      (in_index count placed t.index tells.index b.1 (subst (λ (ps : List Placed). Contains ps b.1) (sym b.2) (in_the_middle b.0 b.1 (p.0 ∷ [])))))
       (alone_or_behind placed p.0 p.1)
     where
       known_is : newest.known ≡ k
@@ -129,55 +133,62 @@ module _ (count : ℕ) (placed : List Placed) (t : DirectoryState) (tells : Tell
 
       behind : (p : Placed) → HasNone p → (older : List Placed) (q : Placed) → placed ≡ older ++ q ∷ p ∷ [] → (w : Placed) → Contains placed w → w.slot ≡ slot → IsKnown w newest.known → IsInIndex t.index q
           → IsLeftBehind placed slot k.summary
-      behind p empty older q split w m there is (inl (none, clear)) = absurd ((before_newest None older q p (two_in_order placed older q p order split)).0 none)
+      behind p empty older q split w m there is (inl (none, clear)) = absurd ((in_its_place None older q (p ∷ []) (two_in_order placed older q p order split)).0 none)
       behind p empty older q split w m there is (inr (l, kept, own)) =
           let le = newest.greatest q.slot l kept in
           let a = own.seq in
           let b = is.seq in
           ⊎_elim
-          (λ (same : w ≡ q). let exact : IsKnown q k = subst (λ (y : Known). IsKnown q y) known_is (subst (λ (x : Placed). IsKnown x newest.known) same is) in record {
+          (λ (same : w ≡ q). let bare : q.segment.header.summary ≡ None = (in_its_place None older q (p ∷ []) (two_in_order placed older q p order split)).1 empty in record {
             older = older;
             left = q;
             newest = p;
             split = split;
             empty = empty;
             at = ap (λ (x : Placed). x.slot) (sym same) ∙ there;
-            none = (before_newest None older q p (two_in_order placed older q p order split)).1 empty;
-            exact = record { count = exact.count; summary = exact.summary };
+            none = bare;
+            exact = known_exactly q k (subst (λ (y : Known). IsKnown q y) known_is (subst (λ (x : Placed). IsKnown x newest.known) same is)) bare;
           })
           (λ (other : w ≡ p). absurd (some_record w newest.known is (subst HasNone (sym other) empty)))
           (last_two None older q p w (two_in_order placed older q p order split) (subst (λ (ps : List Placed). Contains ps w) split m) (omega (arith, le, a, b)))
 
--- The directory tells of the segments also once one of them has its summary.
-known_still : (p : Placed) (s : Summary) (o : Option Known) → IsKnownAs p o → IsKnownAs (summarized p s) o
-known_still p s None none = none
-known_still p s (Some k) is = record { seq = is.seq; first = is.first; count = is.count; summary = is.summary }
+-- The directory tells of the segments also once one of them has its summary, which is what was known of it.
+known_still : (p : Placed) (s : Summary) (o : Option Known) → p.segment.header.summary ≡ None → IsExact p s → IsKnownAs p o → IsKnownAs (summarized p s) o
+known_still p s None bare exact none = none
+known_still p s (Some k) bare exact is = record { seq = is.seq; first = is.first; some = is.some; summary = one_stands None p k.summary s (known_exactly p k is bare) exact }
 
-pub tells_left : (count : ℕ) (older : List Placed) (p newest : Placed) (s : Summary) (t : DirectoryState) → Tells count (older ++ p ∷ newest ∷ []) t → Tells count (older ++ summarized p s ∷ newest ∷ []) t
-tells_left count older p newest s t tells = record {
+newest_still : (p : Placed) (s : Summary) (rest : List Placed) → newest_of (last_after p rest) ≡ newest_of (last_after (summarized p s) rest)
+newest_still p s [] = refl
+newest_still p s (q ∷ rest) = refl
+
+pub tells_left : (count : ℕ) (older : List Placed) (p : Placed) (rest : List Placed) (s : Summary) (t : DirectoryState) → p.segment.header.summary ≡ None → IsExact p s → Tells count (older ++ p ∷ rest) t
+    → Tells count (older ++ summarized p s ∷ rest) t
+tells_left count older p rest s t bare exact tells = record {
   index = record {
     size = tells.index.size;
-    kept = all_from (λ p. IsKnownAs p (get_or t.index p.slot None)) (older ++ summarized p s ∷ newest ∷ []) (λ x m. ⊎_elim
-        (λ (l : Contains older x). kept x (Contains-append_left older (p ∷ newest ∷ []) x l))
-        (λ (l : Contains (summarized p s ∷ newest ∷ []) x). ⊎_elim
-        (λ (e : summarized p s ≡ x). subst (λ (x : Placed). IsKnownAs x (get_or t.index x.slot None)) e (known_still p s (get_or t.index p.slot None) (kept p (second_last older p newest))))
-        (λ (k : Contains (newest ∷ []) x). kept x (Contains-append_right older (p ∷ newest ∷ []) x (contains_there p (newest ∷ []) x k)))
-        (contains_cases (summarized p s) (newest ∷ []) x l))
-        (Contains-append_cases older (summarized p s ∷ newest ∷ []) x m));
-    clear = λ j apart. tells.index.clear j (all_from (λ p. p.slot ≢ j) (older ++ p ∷ newest ∷ []) (λ x m. ⊎_elim
-        (λ (l : Contains older x). not_in j apart x (Contains-append_left older (summarized p s ∷ newest ∷ []) x l))
-        (λ (l : Contains (p ∷ newest ∷ []) x). ⊎_elim
-        (λ (e : p ≡ x). subst (λ (x : Placed). x.slot ≢ j) e (not_in j apart (summarized p s) (second_last older (summarized p s) newest)))
-        (λ (k : Contains (newest ∷ []) x). not_in j apart x (Contains-append_right older (summarized p s ∷ newest ∷ []) x (contains_there (summarized p s) (newest ∷ []) x k)))
-        (contains_cases p (newest ∷ []) x l))
-        (Contains-append_cases older (p ∷ newest ∷ []) x m)));
+    kept = all_from (λ p. IsKnownAs p (get_or t.index p.slot None)) (older ++ summarized p s ∷ rest) (λ x m. ⊎_elim
+        (λ (l : Contains older x). kept x (Contains-append_left older (p ∷ rest) x l))
+        (λ (l : Contains (summarized p s ∷ rest) x). ⊎_elim
+        (λ (e : summarized p s ≡ x). subst (λ (x : Placed). IsKnownAs x (get_or t.index x.slot None)) e (known_still p s (get_or t.index p.slot None) bare exact (kept p (in_the_middle older p rest))))
+        (λ (k : Contains rest x). kept x (Contains-append_right older (p ∷ rest) x (contains_there p rest x k)))
+        (contains_cases (summarized p s) rest x l))
+        (Contains-append_cases older (summarized p s ∷ rest) x m));
+    clear = λ j apart. tells.index.clear j (all_from (λ p. p.slot ≢ j) (older ++ p ∷ rest) (λ x m. ⊎_elim
+        (λ (l : Contains older x). not_in j apart x (Contains-append_left older (summarized p s ∷ rest) x l))
+        (λ (l : Contains (p ∷ rest) x). ⊎_elim
+        (λ (e : p ≡ x). subst (λ (x : Placed). x.slot ≢ j) e (not_in j apart (summarized p s) (in_the_middle older (summarized p s) rest)))
+        (λ (k : Contains rest x). not_in j apart x (Contains-append_right older (summarized p s ∷ rest) x (contains_there (summarized p s) rest x k)))
+        (contains_cases p rest x l))
+        (Contains-append_cases older (p ∷ rest) x m)));
   };
-  newest = tells.newest ∙ ap (option_map newest_of) (last_behind older p (newest ∷ []) ∙ sym (last_behind older (summarized p s) (newest ∷ [])));
-  ending = tells.ending ∙ ap (λ (bs : List (List Record)). option_map ending_by (extent_of bs)) (sym (left_batches older p newest s));
+  newest =
+      tells.newest ∙ ap (option_map newest_of) (last_behind older p rest) ∙ ap (λ (n : Newest). Some n) (newest_still p s rest)
+      ∙ sym (ap (option_map newest_of) (last_behind older (summarized p s) rest));
+  ending = tells.ending ∙ ap (λ (bs : List (List Record)). option_map ending_by (extent_of bs)) (sym (left_batches older p rest s));
 }
   where
-    kept : (x : Placed) → Contains (older ++ p ∷ newest ∷ []) x → IsKnownAs x (get_or t.index x.slot None)
-    kept x m = All-contains (λ p. IsKnownAs p (get_or t.index p.slot None)) (older ++ p ∷ newest ∷ []) x tells.index.kept m
+    kept : (x : Placed) → Contains (older ++ p ∷ rest) x → IsKnownAs x (get_or t.index x.slot None)
+    kept x m = All-contains (λ p. IsKnownAs p (get_or t.index p.slot None)) (older ++ p ∷ rest) x tells.index.kept m
 
-    not_in : (j : ℕ) → All (λ p. p.slot ≢ j) (older ++ summarized p s ∷ newest ∷ []) → (x : Placed) → Contains (older ++ summarized p s ∷ newest ∷ []) x → x.slot ≢ j
-    not_in j apart x m = All-contains (λ p. p.slot ≢ j) (older ++ summarized p s ∷ newest ∷ []) x apart m
+    not_in : (j : ℕ) → All (λ p. p.slot ≢ j) (older ++ summarized p s ∷ rest) → (x : Placed) → Contains (older ++ summarized p s ∷ rest) x → x.slot ≢ j
+    not_in j apart x m = All-contains (λ p. p.slot ≢ j) (older ++ summarized p s ∷ rest) x apart m

@@ -58,7 +58,7 @@ ending_append bs cs =
     ∙ ap (λ (fs : List Record). ending_from (records_in bs ++ records_in cs) fs) (flat_map-append (λ (b : List Record). take 1 b) bs cs)
     ∙ later_by (records_in bs) (first_records bs) (records_in cs) (first_records cs) (are_both bs) (are_both cs)
 
-batches_append : (xs ys : List Placed) → batches_in (xs ++ ys) ≡ batches_in xs ++ batches_in ys
+pub batches_append : (xs ys : List Placed) → batches_in (xs ++ ys) ≡ batches_in xs ++ batches_in ys
 batches_append xs ys = flat_map-append batches_of xs ys
 
 pub ending_behind : (xs ys : List Placed) → ending_in (batches_in (xs ++ ys)) ≡ later (ending_in (batches_in xs)) (ending_in (batches_in ys))

@@ -1,12 +1,12 @@
 -- What a ring's index keeps of its segments, at each step of an append and as a medium is opened.
 use Rattle.std.proofs.Common.{◌≡◌, ◌≢◌, ◌<◌, ◌≤◌, ◌+◌, ◌*◌, ◌^◌, ℕ, zero, suc, List, [], ◌∷◌, ◌++◌, length, get_or, set, take, drop, slice_get, All, Contains, Option, Some, None, ⊎_elim, refl, sym, ap, ◌∙◌, subst, arith, length-set, length-append, length-drop}
-use Rattle.std.specs.Prelude.{replicate}
+use Rattle.std.specs.Prelude.{replicate, unwrap_or}
 use Rattle.std.specs.List.{flat_map, sum_by}
 use Rattle.std.proofs.lemmas.Bool.{cases_eq, cases_lt}
 use Rattle.std.proofs.lemmas.List.{get_or-set_same, get_or-set_other, get_or_past, get_or-replicate, length-replicate, take_more, drop_more, take-append-drop}
 use Rattle.std.proofs.lemmas.List.Sums.{sum_by-cons}
 use Rattle.std.proofs.lemmas.List.Elements.{All-push, All-append, All-contains, Contains-append_left, Contains-append_right, Contains-append_cases}
-use Rattle.std.proofs.lemmas.Option.{slice_get_within}
+use Rattle.std.proofs.lemmas.Option.{none-some, slice_get_within}
 use Rattle.vdr_terms.specs.Records.{Record}
 use Rattle.vdr_terms.specs.Sizes.{batch_size, record_size, records_size}
 use Rattle.vdr_entry.specs.declared.summary.Summary.{Summary}
@@ -17,7 +17,8 @@ use Rattle.vdr_slots.specs.Slots.{place_of}
 use Rattle.vdr_slots.proofs.Holding.{slot_of, slot_long}
 use Rattle.vdr_outside.specs.Parts.{part}
 use Rattle.vdr_survey.specs.Extents.{records_in}
-use Rattle.vdr_survey.specs.Summaries.{Summarises}
+use Rattle.vdr_survey.specs.Summaries.{IsSummaryOf, Summarises}
+use Rattle.vdr_survey.proofs.JoinLemmas.{one_summarised}
 use Rattle.vdr_retention.proofs.Lists.{contains_here, contains_there, contains_cases, all_from}
 use Rattle.vdr_index.specs.declared.known.Known.{Known}
 use Rattle.vdr_directory.specs.declared.entry.Entry.{Entry}
@@ -26,7 +27,8 @@ use Rattle.vdr_directory.specs.Order.{HasNone}
 use Rattle.vdr_directory.specs.Entries.{Describes, Describe}
 use Rattle.vdr_directory.specs.Holds.{HoldsPlaced}
 use Rattle.vdr_directory.proofs.Placing.{distinct_slots}
-use Rattle.vdr_directory.specs.Indexed.{IsKnownAs, IsIndexed, known_by, told_by}
+use Rattle.vdr_directory.specs.Leaving.{IsExact}
+use Rattle.vdr_directory.specs.Indexed.{IsKnownAs, IsIndexed, StandsFor, known_by, told_by}
 
 -- How many records a segment has
 
@@ -66,9 +68,21 @@ few_records segment count placed bytes small h = all_from (λ p. length (records
 pub known_as : (p : Placed) (e : Entry) → Describes p e → length (records_of p) < 2 ^ 32 → IsKnownAs p (told_by e)
 known_as p e d few = go e.survey.summary d.survey.summary
   where
-    go : (o : Option Summary) → Summarises (records_of p) o → IsKnownAs p (known_by e.seq e.first o)
+    exact : (s : Summary) → IsSummaryOf (records_of p) s → IsExact p s
+    exact s is = record { count = let k = is.count in omega (arith, k, few); summary = is }
+
+    stands : (header : Option Summary) (s : Summary) → IsSummaryOf (records_of p) s → StandsFor header p (unwrap_or header s)
+    stands None s is = exact s is
+    stands (Some t) s is = refl
+
+    go : (o : Option Summary) → Summarises (records_of p) o → IsKnownAs p (known_by e.seq e.first e.summary o)
     go None none = none
-    go (Some s) is = record { seq = d.seq; first = d.first; count = let k = is.count in omega (arith, k, few); summary = is }
+    go (Some s) is = record {
+      seq = d.seq;
+      first = d.first;
+      some = λ none. none-some s (one_summarised (records_of p) None (Some s) none is);
+      summary = subst (λ (header : Option Summary). StandsFor header p (unwrap_or e.summary s)) d.summary (stands e.summary s is);
+    }
 
 -- Slots
 

@@ -1,20 +1,22 @@
 -- What an index knows of segments, and where each stands among those in order.
-use Rattle.std.proofs.Common.{◌≡◌, ◌≢◌, ◌⊎◌, ◌<◌, ◌≤◌, ℕ, suc, List, [], ◌∷◌, ◌++◌, get_or, slice_get, All, Contains, Option, Some, None, inl, inr, ⊎_elim, refl, sym, ap, ◌∙◌, subst, arith}
-use Rattle.std.specs.Prelude.{Any, option_map}
+use Rattle.std.proofs.Common.{◌≡◌, ◌≢◌, ◌⊎◌, ◌<◌, ◌≤◌, ℕ, suc, List, [], ◌∷◌, ◌++◌, length, get_or, All, Contains, Option, Some, None, inl, inr, ⊎_elim, refl, sym, ap, ◌∙◌, subst, arith}
+use Rattle.std.specs.Prelude.{Any, IfSome}
 use Rattle.std.proofs.lemmas.Bool.{cases_eq}
 use Rattle.std.proofs.lemmas.Option.{none-some, same_Some, get_or_from_slice_get}
 use Rattle.std.proofs.lemmas.List.Elements.{All-nil, All-cons, All-contains, All-weaker, Contains-append_cases}
-use Rattle.vdr_terms.specs.Records.{Record, second, last}
+use Rattle.vdr_terms.specs.Records.{last}
 use Rattle.vdr_terms.proofs.Somewhere.{any_here, any_there}
 use Rattle.vdr_retention.proofs.Lists.{none_contained, contains_cases}
+use Rattle.vdr_entry.specs.declared.summary.Summary.{Summary}
 use Rattle.vdr_survey.proofs.JoinLemmas.{one_summarised}
 use Rattle.vdr_index.specs.declared.known.Known.{Known}
 use Rattle.vdr_index.specs.Indexes.{Keeps}
 use Rattle.vdr_index.proofs.Ranks.{keeps_at}
 use Rattle.vdr_directory.specs.Sequence.{Placed, first_of, records_of, seq_of}
-use Rattle.vdr_directory.specs.Order.{next_place, HasNone, RunsOn, AreInPlace, AreInOrder}
+use Rattle.vdr_directory.specs.Order.{next_place, Agrees, HasNone, IsCovered, RunsOn, AreInPlace, AreInOrder}
 use Rattle.vdr_directory.specs.Growing.{next_seq}
-use Rattle.vdr_directory.specs.Indexed.{IsKnown, IsKnownAs, IsIndexed}
+use Rattle.vdr_directory.specs.Indexed.{IsKnown, IsKnownAs, IsIndexed, StandsFor}
+use Rattle.vdr_directory.proofs.Agreeing.{exact_covered}
 use Rattle.vdr_directory.proofs.Ordering.{has_records}
 use Rattle.vdr_directory.proofs.Numbering.{seqs_below}
 
@@ -32,15 +34,34 @@ any_or_none (p ∷ ps) j =
 -- What is known of a segment is one
 
 pub some_record : (p : Placed) (k : Known) → IsKnown p k → HasNone p → ⊥
-some_record p k is none =
-    none-some k.summary.first_second (subst (λ (rs : List Record). option_map (λ r. second r.tick) (slice_get rs 0) ≡ Some k.summary.first_second) none is.summary.first_second)
+some_record p k is none = is.some none
+
+pub one_stands : (o : Option Summary) (p : Placed) (s t : Summary) → StandsFor o p s → StandsFor o p t → s ≡ t
+one_stands None p s t a b = same_Some s t (one_summarised (records_of p) (Some s) (Some t) a.summary b.summary)
+one_stands (Some x) p s t a b = a ∙ sym b
 
 one_known : (p : Placed) (k l : Known) → IsKnown p k → IsKnown p l → k ≡ l
-one_known p k l a b = by_fields k l (a.seq ∙ sym b.seq) (a.first ∙ sym b.first)
-    (same_Some k.summary l.summary (one_summarised (records_of p) (Some k.summary) (Some l.summary) a.summary b.summary))
+one_known p k l a b = by_fields k l (a.seq ∙ sym b.seq) (a.first ∙ sym b.first) (one_stands p.segment.header.summary p k.summary l.summary a.summary b.summary)
   where
     by_fields : (k l : Known) → k.seq ≡ l.seq → k.first ≡ l.first → k.summary ≡ l.summary → k ≡ l
     by_fields k l e f g = λ i. record { seq = e i; first = f i; summary = g i }
+
+-- It has as many records as this says, and each is within it.
+
+stands_count : (o : Option Summary) (p : Placed) (s : Summary) → IfSome o (Agrees p) → StandsFor o p s → s.count ≡ length (records_of p)
+stands_count None p s agrees is = is.count
+stands_count (Some t) p s agrees is = ap (λ (x : Summary). x.count) is ∙ agrees.count
+
+stands_covered : (o : Option Summary) (p : Placed) (s : Summary) → RunsOn p → IfSome o (Agrees p) → StandsFor o p s → All (IsCovered s) (records_of p)
+stands_covered None p s runs agrees is = exact_covered (records_of p) s runs.ticks is.summary
+stands_covered (Some t) p s runs agrees is = subst (λ (x : Summary). All (IsCovered x) (records_of p)) (sym is) agrees.covered
+
+module _ (p : Placed) (k : Known) (is : IsKnown p k) (agrees : IfSome p.segment.header.summary (Agrees p)) where
+  pub known_count : k.summary.count ≡ length (records_of p)
+  known_count = stands_count p.segment.header.summary p k.summary agrees is.summary
+
+  pub known_covers : RunsOn p → All (IsCovered k.summary) (records_of p)
+  known_covers runs = stands_covered p.segment.header.summary p k.summary runs agrees is.summary
 
 -- A segment is in the index, or has no records.
 abbrev pub IsInIndex : List (Option Known) → Placed → Type 0
@@ -82,6 +103,13 @@ runs_on o [] h p m = absurd (none_contained p m)
 runs_on o (x ∷ xs) h p m = ⊎_elim
     (λ (e : x ≡ p). subst RunsOn e h.0.runs_on)
     (λ (k : Contains xs p). runs_on (Some x) xs h.1 p k)
+    (contains_cases x xs p m)
+
+pub agrees : (o : Option Placed) (ps : List Placed) → AreInPlace o ps → (p : Placed) → Contains ps p → IfSome p.segment.header.summary (Agrees p)
+agrees o [] h p m = absurd (none_contained p m)
+agrees o (x ∷ xs) h p m = ⊎_elim
+    (λ (e : x ≡ p). subst (λ (q : Placed). IfSome q.segment.header.summary (Agrees q)) e h.0.agrees)
+    (λ (k : Contains xs p). agrees (Some x) xs h.1 p k)
     (contains_cases x xs p m)
 
 -- q comes before p, with all its places.

@@ -14,6 +14,7 @@ pub mod Endings
 pub mod Filing
 pub mod Telling
 pub mod Behind
+pub mod Bringing
 pub mod FrontLemmas
 pub mod Sorting
 pub mod Surveying

@@ -34,7 +34,7 @@ passed_none placed entries d = record {
 }
 
 -- what stands ahead
-pub record Next (placed : List Placed) (entries : List Entry) (i : ℕ) (newest : Option Placed) (rest : List Placed) (e : Entry) : Type 0 where
+pub record Next (entries : List Entry) (i : ℕ) (rest : List Placed) (e : Entry) : Type 0 where
   pub here : Placed
   pub after : List Placed
   pub split : rest ≡ here ∷ after
@@ -42,14 +42,13 @@ pub record Next (placed : List Placed) (entries : List Entry) (i : ℕ) (newest 
   pub ahead : Describe after (drop (i + 1) entries)
   pub slice : Describe after (take (length entries - (i + 1)) (drop (i + 1) entries))
 
-pub next_here : (placed : List Placed) (entries : List Entry) (i : ℕ) (before : Option Entry) (d : Entry) → i < length entries → (h : Passed placed entries i before)
-    → Next placed entries i h.newest h.rest (get_or entries i d)
-next_here placed entries i before d lt h = go h.rest (subst (λ (es : List Entry). Describe h.rest es) cut h.ahead)
+pub next_here : (entries : List Entry) (i : ℕ) (rest : List Placed) (d : Entry) → i < length entries → Describe rest (drop i entries) → Next entries i rest (get_or entries i d)
+next_here entries i rest d lt h = go rest (subst (λ (es : List Entry). Describe rest es) cut h)
   where
     cut : drop i entries ≡ get_or entries i d ∷ drop (i + 1) entries
     cut = rw (add-one, drop-cons entries i d lt)
 
-    go : (rest : List Placed) → Describe rest (get_or entries i d ∷ drop (i + 1) entries) → Next placed entries i h.newest rest (get_or entries i d)
+    go : (rest : List Placed) → Describe rest (get_or entries i d ∷ drop (i + 1) entries) → Next entries i rest (get_or entries i d)
     go [] none = absurd none
     go (p ∷ ps) d = record {
       here = p;
@@ -60,8 +59,16 @@ next_here placed entries i before d lt h = go h.rest (subst (λ (es : List Entry
       slice = subst (λ (es : List Entry). Describe ps es) (sym (take_rest entries (i + 1))) d.1;
     }
 
+pub none_ahead : (entries : List Entry) (i : ℕ) (rest : List Placed) → length entries ≤ i → Describe rest (drop i entries) → rest ≡ []
+none_ahead entries i rest past h = go rest (drop i entries) (omega (arith, past, length-drop i entries)) h
+  where
+    go : (rest : List Placed) (es : List Entry) → length es ≡ 0 → Describe rest es → rest ≡ []
+    go [] es size d = refl
+    go (p ∷ ps) [] size d = absurd d
+    go (p ∷ ps) (e ∷ es) size d = absurd (omega (arith, size))
+
 -- one more in its place
-pub passed_more : (placed : List Placed) (entries : List Entry) (i : ℕ) (before : Option Entry) (e : Entry) → (h : Passed placed entries i before) → (n : Next placed entries i h.newest h.rest e)
+pub passed_more : (placed : List Placed) (entries : List Entry) (i : ℕ) (before : Option Entry) (e : Entry) → (h : Passed placed entries i before) → (n : Next entries i h.rest e)
     → IsInPlace h.newest n.here n.after → Passed placed entries (i + 1) (Some e)
 passed_more placed entries i before e h n place = record {
   newest = Some n.here;
@@ -76,7 +83,7 @@ passed_more placed entries i before e h n place = record {
 }
 
 -- the first that is not
-pub passed_break : (placed : List Placed) (entries : List Entry) (i : ℕ) (before : Option Entry) (e : Entry) → (h : Passed placed entries i before) → (n : Next placed entries i h.newest h.rest e)
+pub passed_break : (placed : List Placed) (entries : List Entry) (i : ℕ) (before : Option Entry) (e : Entry) → (h : Passed placed entries i before) → (n : Next entries i h.rest e)
     → (IsInPlace h.newest n.here n.after → ⊥) → (x : Placed) × (slice_get placed i ≡ Some x) × Breaks None placed x
 passed_break placed entries i before e h n broken = (
   n.here,
@@ -86,12 +93,4 @@ passed_break placed entries i before e h n broken = (
 
 -- all of them
 pub passed_all : (placed : List Placed) (entries : List Entry) (i : ℕ) (before : Option Entry) → length entries ≤ i → Passed placed entries i before → AreInOrder placed
-passed_all placed entries i before past h = h.in_order (go h.rest (drop i entries) none h.ahead)
-  where
-    none : length (drop i entries) ≡ 0
-    none = omega (arith, past, length-drop i entries)
-
-    go : (rest : List Placed) (es : List Entry) → length es ≡ 0 → Describe rest es → AreInPlace h.newest rest
-    go [] es size d = tt
-    go (p ∷ ps) [] size d = absurd d
-    go (p ∷ ps) (e ∷ es) size d = absurd (omega (arith, size))
+passed_all placed entries i before past h = h.in_order (subst (λ (ps : List Placed). AreInPlace h.newest ps) (sym (none_ahead entries i h.rest past h.ahead)) tt)

@@ -12,6 +12,7 @@ use Rattle.vdr_entry.specs.declared.summary.Summary.{Summary}
 use Rattle.vdr_segment.specs.Segments.{Segment, end_of}
 use Rattle.vdr_survey.specs.declared.extent.Extent.{Extent}
 use Rattle.vdr_survey.specs.Summaries.{IsSummaryOf, Summarises}
+use Rattle.vdr_survey.proofs.JoinLemmas.{one_summarised}
 use Rattle.vdr_index.specs.declared.known.Known.{Known}
 use Rattle.vdr_index.specs.Indexes.{IsFirstClear, Keeps}
 use Rattle.vdr_directory.specs.declared.entry.Entry.{Entry}
@@ -24,7 +25,7 @@ use Rattle.vdr_directory.specs.Directories.{DirectoryState, newest_of, newest_by
 use Rattle.vdr_directory.specs.Holds.{Tells}
 use Rattle.vdr_directory.specs.Closed.{IsFull, IsLeastClosed}
 use Rattle.vdr_directory.specs.Growing.{new_segment, next_seq, with_batch_in}
-use Rattle.vdr_directory.specs.Indexed.{IsKnownAs, told_by}
+use Rattle.vdr_directory.specs.Indexed.{IsKnownAs, StandsFor, told_by}
 use Rattle.vdr_directory.proofs.Placing.{distinct_slots}
 use Rattle.vdr_directory.proofs.Ordering.{NewestHasRecords, newest_runs_on, records_with_batch}
 use Rattle.vdr_directory.proofs.Filing.{nothing, described_at, described_length, indexed_closed, indexed_begun, indexed_newest, indexed_none, indexed_more}
@@ -160,17 +161,23 @@ tells_begun count closed slot seq first t u tells apart is = subst (Tells count 
   ending = tells.ending ∙ sym (ending_push closed (new_segment slot seq first));
 })
 
-summarised : (p : Placed) (o : Option Known) → IsKnownAs p o → Summarises (records_of p) (option_map (λ k. k.summary) o)
-summarised p None none = none
-summarised p (Some k) is = is.summary
+-- what is known of a segment without a summary is that of its records
+summarised : (p : Placed) (o : Option Known) → p.segment.header.summary ≡ None → IsKnownAs p o → Summarises (records_of p) (option_map (λ k. k.summary) o)
+summarised p None bare none = none
+summarised p (Some k) bare is = (subst (λ (o : Option Summary). StandsFor o p k.summary) bare is.summary).summary
 
 pub tells_done : (count : ℕ) (slots : List (Option Segment)) (older : List Placed) (newest : Placed) (records : List Record) (t u : DirectoryState) (n : Newest) (size : ℕ) → AreInSequence slots (older ++ newest ∷ [])
-    → length slots ≡ count → length (records_of (with_batch_in newest records)) < 2 ^ 32 → Tells count (older ++ newest ∷ []) t → t.newest ≡ Some n → size ≡ batch_size records → 0 < length records
+    → length slots ≡ count → newest.segment.header.summary ≡ None → length (records_of (with_batch_in newest records)) < 2 ^ 32 → Tells count (older ++ newest ∷ []) t → t.newest ≡ Some n → size ≡ batch_size records → 0 < length records
     → ((before : List Record) → Summarises before (summary_at t.index n.slot) → (s : Summary) × IsSummaryOf (before ++ records) s × (u.index ≡ set t.index n.slot (Some (record { seq = n.seq; first = n.first; summary = s }))))
     → u.newest ≡ Some (record n { end = n.end + size }) → u.ending ≡ ending_in (records ∷ []) → Tells count (older ++ with_batch_in newest records ∷ []) u
-tells_done count slots older newest records t u n size sequence every few tells is long some more now_newest now_ending = record {
+tells_done count slots older newest records t u n size sequence every bare few tells is long some more now_newest now_ending = record {
   index = indexed_newest count older newest (with_batch_in newest records) t.index u.index (Some (record { seq = n.seq; first = n.first; summary = told.0 })) refl within (distinct_slots slots older newest [] sequence).0
-      (record { seq = ap (λ (m : Newest). m.seq) same; first = ap (λ (m : Newest). m.first) same; count = let k = summary.count in omega (arith, k, few); summary = summary })
+      (record {
+        seq = ap (λ (m : Newest). m.seq) same;
+        first = ap (λ (m : Newest). m.first) same;
+        some = λ none. none-some told.0 (one_summarised (records_of (with_batch_in newest records)) None (Some told.0) none summary);
+        summary = subst (λ (o : Option Summary). StandsFor o (with_batch_in newest records) told.0) (sym bare) (record { count = let k = summary.count in omega (arith, k, few); summary = summary });
+      })
       (told.2 ∙ ap (λ (j : ℕ). set t.index j (Some (record { seq = n.seq; first = n.first; summary = told.0 }))) (ap (λ (m : Newest). m.slot) same)) tells.index;
   newest = now_newest ∙ ap (λ (m : Newest). Some m) grown ∙ sym (ap (option_map newest_of) (last_behind older (with_batch_in newest records) []));
   ending = ending_done older newest records u.ending some now_ending;
@@ -181,7 +188,7 @@ tells_done count slots older newest records t u n size sequence every few tells 
 
     told : (s : Summary) × IsSummaryOf (records_of newest ++ records) s × (u.index ≡ set t.index n.slot (Some (record { seq = n.seq; first = n.first; summary = s })))
     told = more (records_of newest) (subst (λ (j : ℕ). Summarises (records_of newest) (summary_at t.index j)) (sym (ap (λ (m : Newest). m.slot) same))
-        (summarised newest (get_or t.index newest.slot None)
+        (summarised newest (get_or t.index newest.slot None) bare
         (All-contains (λ p. IsKnownAs p (get_or t.index p.slot None)) (older ++ newest ∷ []) newest tells.index.kept (Contains-append_right older (newest ∷ []) newest (contains_here newest [])))))
 
     summary : IsSummaryOf (records_of (with_batch_in newest records)) told.0

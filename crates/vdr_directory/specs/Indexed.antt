@@ -1,22 +1,27 @@
 -- What a ring's index keeps of its segments, and which of them may answer a query.
-use Rattle.std.specs.Prelude.{◌≡◌, ◌≢◌, ◌≤◌, ◌&&◌, ℕ, Bool, true, false, List, length, get_or, All, Contains, Option, Some, None}
+use Rattle.std.specs.Prelude.{◌≡◌, ◌≢◌, ◌≤◌, ◌&&◌, ℕ, Bool, true, false, List, length, get_or, unwrap_or, All, Contains, Option, Some, None}
 use Rattle.vdr_terms.specs.Records.{Record}
 use Rattle.vdr_terms.specs.Queries.{Query, Span, in_span, matches, meets}
 use Rattle.vdr_entry.specs.declared.summary.Summary.{Summary}
-use Rattle.vdr_survey.specs.Summaries.{IsSummaryOf}
 use Rattle.vdr_index.specs.declared.known.Known.{Known}
 use Rattle.vdr_index.specs.Indexes.{summary_of}
 use Rattle.vdr_directory.specs.declared.entry.Entry.{Entry}
 use Rattle.vdr_directory.specs.Sequence.{Placed, seq_of, first_of, records_of}
 use Rattle.vdr_directory.specs.Order.{HasNone}
+use Rattle.vdr_directory.specs.Leaving.{IsExact}
 use Rattle.vdr_index.specs.Indexes.{IsAbove}
+
+-- What stands for the records of a segment: its summary where it has one, else what they come to.
+abbrev pub StandsFor : Option Summary → Placed → Summary → Type 0
+StandsFor None p s = IsExact p s
+StandsFor (Some t) p s = s ≡ t
 
 -- This is known of a segment that has records.
 pub record IsKnown (p : Placed) (k : Known) : Type 0 where
   pub seq : k.seq ≡ seq_of p
   pub first : k.first ≡ first_of p
-  pub count : k.summary.count ≡ length (records_of p)
-  pub summary : IsSummaryOf (records_of p) k.summary
+  pub some : HasNone p → ⊥
+  pub summary : StandsFor p.segment.header.summary p k.summary
 
 -- Of a segment without records nothing is known.
 abbrev pub IsKnownAs : Placed → Option Known → Type 0
@@ -29,13 +34,13 @@ pub record IsIndexed (count : ℕ) (placed : List Placed) (index : List (Option 
   pub kept : All (λ p. IsKnownAs p (get_or index p.slot None)) placed
   pub clear : (j : ℕ) → All (λ p. p.slot ≢ j) placed → get_or index j None ≡ None
 
--- What an entry tells of its segment.
-abbrev pub known_by : (seq first : ℕ) → Option Summary → Option Known
-known_by seq first None = None
-known_by seq first (Some s) = Some (record { seq = seq; first = first; summary = s })
+-- What an entry tells of its segment: its own summary where it has one, else that of its survey. Nothing where it has no records.
+abbrev pub known_by : (seq first : ℕ) → (header own : Option Summary) → Option Known
+known_by seq first header None = None
+known_by seq first header (Some s) = Some (record { seq = seq; first = first; summary = unwrap_or header s })
 
 abbrev pub told_by : Entry → Option Known
-told_by e = known_by e.seq e.first e.survey.summary
+told_by e = known_by e.seq e.first e.summary e.survey.summary
 
 -- By what is known of it, the segment may have a record that the query selects of the span.
 pub record Meets (query : Query) (span : Span) (p : Placed) : Type 0 where

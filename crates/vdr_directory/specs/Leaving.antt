@@ -1,5 +1,5 @@
 -- A segment that is left: another one stands behind it, and it gets the summary of its records.
-use Rattle.std.specs.Prelude.{◌≡◌, ℕ, List, [], ◌∷◌, ◌++◌, length, Some, None}
+use Rattle.std.specs.Prelude.{◌≡◌, ℕ, List, [], ◌∷◌, ◌++◌, length, Some, None, IfSome}
 use Rattle.vdr_terms.specs.Records.{last}
 use Rattle.vdr_entry.specs.declared.summary.Summary.{Summary}
 use Rattle.vdr_segment.specs.Segments.{with_summary}
@@ -11,6 +11,10 @@ use Rattle.vdr_directory.specs.Order.{HasNone}
 pub record IsExact (p : Placed) (s : Summary) : Type 0 where
   pub count : s.count ≡ length (records_of p)
   pub summary : IsSummaryOf (records_of p) s
+
+-- A summary that it has is.
+abbrev pub IsExactlySummarized : Placed → Type 0
+IsExactlySummarized p = IfSome p.segment.header.summary (IsExact p)
 
 -- With this summary in its header.
 abbrev pub summarized : Placed → Summary → Placed

@@ -9,5 +9,6 @@ pub mod Holds
 pub mod Closed
 pub mod Growing
 pub mod Leaving
+pub mod Bringing
 pub mod Opening
 pub mod Fronts

@@ -28,12 +28,14 @@ pub record IsCovered (s : Summary) (r : Record) : Type 0 where
   pub greatest : int_le r.utc s.greatest_utc ≡ true
   pub bits : (k : ℕ) → has_channel (Some k) r.bits ≡ true → has_channel (Some k) s.bits ≡ true
 
--- A segment agrees with its summary: it has as many records, and each is within it. The summary may be wider than its records.
+-- A segment agrees with its summary: it has as many records, and each is within it. The summary may be wider than
+-- its records.
 pub record Agrees (p : Placed) (s : Summary) : Type 0 where
   pub count : s.count ≡ length (records_of p)
   pub covered : All (IsCovered s) (records_of p)
 
--- The second in which a segment begins, and that in which it ends: by its summary where it has one, else by its records.
+-- The second in which a segment begins, and that in which it ends: by its summary where it has one, else by its
+-- records.
 abbrev pub begin_second : Option Summary → List Record → Option ℕ
 begin_second o [] = None
 begin_second None (r ∷ rs) = Some (second r.tick)

@@ -63,8 +63,11 @@ impl Directory {
         ensures { self.new ≡ record self.old { index = set self.old.index entry.now.slot (told_by entry.now) } }
     {
         match entry.survey.summary {
-            Some(summary) => self.index.set(entry.slot, entry.seq, entry.first, summary),
             None => self.index.clear(entry.slot),
+            Some(own) => {
+                let summary = entry.summary.unwrap_or(own);
+                self.index.set(entry.slot, entry.seq, entry.first, summary);
+            }
         }
     }
 
@@ -136,8 +139,8 @@ impl Directory {
         }
     }
 
-    /// Where the newest segment has no records: the slot of the one before it, and the summary of its records. None where there is
-    /// no such segment.
+    /// Where the newest segment has no records: the slot of the one before it, and the summary of its records. None where
+    /// there is no such segment.
     pub fn left_behind(&self) -> Option<(u32, Summary)>
         ensures within { IfSome result (λ x. x.0 < count_of self.now) }
         ensures left { (placed : List Placed) → Tells (count_of self.now) placed self.now → (1 < length placed → AreInOrder placed)

@@ -95,17 +95,14 @@ fn ticks_rise(before: &Entry, entry: &Entry) -> bool
     }
 }
 
-// What tells the first and the last second of a segment: its summary where it has one, else that of its records. None where there
-// is no record.
+// What tells the first and the last second of a segment: its summary where it has one, else that of its records. None
+// where there is no record.
 fn seconds_of(entry: &Entry) -> Option<Summary>
     ensures { (p : Placed) → Describes p entry.now → (begin_second p.segment.header.summary (records_of p) ≡ option_map (λ s. s.first_second) result)
         × (end_second p.segment.header.summary (records_of p) ≡ option_map (λ s. s.last_second) result) }
 {
     let own = entry.survey.summary?;
-    match entry.summary {
-        None => Some(own),
-        Some(summary) => Some(summary),
-    }
+    Some(entry.summary.unwrap_or(own))
 }
 
 // Whether seconds do not fall from one segment to another.

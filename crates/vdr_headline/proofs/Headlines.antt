@@ -18,7 +18,7 @@ use Rattle.vdr_opening.specs.Media.{members, Contents, opening_of}
 use Rattle.vdr_vault.specs.Openings.{GoesOnSynced}
 use Rattle.vdr_vault.specs.Regularity.{AreSound, IsRegularMedium}
 use Rattle.vdr_vault.specs.Vaults.{HoldsHistory, ShowsHistory, ring_of}
-use Rattle.vdr_vault.proofs.CommitReady.{one_end}
+use Rattle.vdr_ring.proofs.Continuing.{one_end}
 use Rattle.vdr_recorder.specs.Recordings.{HasRecorded, Passes, RecorderState}
 use Rattle.vdr_recorder.proofs.Opened.{keeps_synced}
 use Rattle.vdr_headline.specs.Headline.{Headline, PlaysBack, RecordingHeadline}

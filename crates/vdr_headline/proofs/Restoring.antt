@@ -12,8 +12,8 @@ use Rattle.vdr_durability.proofs.Restored.{next_added, next_kept}
 use Rattle.vdr_opening.specs.Media.{members, Contents, HoldsContents, IsMedium, reading_of}
 use Rattle.vdr_directory.specs.Order.{AreInOrder, AreInPlace, IsInPlace, next_place}
 use Rattle.vdr_directory.specs.Sequence.{Placed, all_records, batches_in, first_of, records_of}
-use Rattle.vdr_vault.proofs.ReconcileBatch.{placed_runs_on}
-use Rattle.vdr_vault.proofs.ShownImages.{records_are}
+use Rattle.vdr_ring.proofs.Batching.{placed_runs_on}
+use Rattle.vdr_ring.proofs.Records.{records_are}
 use Rattle.vdr_headline.proofs.Ordering.{PlacesRise, rise_join, run_bounds, run_rises}
 
 -- The records of segments in a legal order

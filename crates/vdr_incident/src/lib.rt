@@ -13,3 +13,4 @@ pub use law::{law_of_beside, law_of_tables};
 pub use refused::{ReleaseRefused, TableRefused};
 pub use save::{Save, is_label};
 pub use table::Table;
+pub use writing::LONG_TERM;

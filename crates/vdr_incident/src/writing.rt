@@ -10,8 +10,8 @@ use vdr_outside::{Fault, Media, write_through};
 use vdr_segment::{CLOSED_GATE, OPEN_GATE};
 use vdr_terms::{INCIDENT_SIZE, INCIDENTS_FROM};
 
-/// The number of the long-term medium.
-pub(crate) const LONG_TERM: u8 = 1;
+/// The number of the long-term medium, which has the incident slots.
+pub const LONG_TERM: u8 = 1;
 
 /// Where an incident slot begins on its medium, in bytes.
 pub(crate) fn place_of(slot: u8) -> u64

@@ -1,9 +1,8 @@
 -- Causes over several calls.
-use Rattle.std.proofs.Common.{ℕ, List, get_or, Result, Ok, Err, OnOk}
+use Rattle.std.proofs.Common.{ℕ, List, get_or, Result, Ok, Err}
 use Rattle.std.specs.Prelude.{Any}
 use Rattle.vdr_outside.specs.Causes.{NoneFalls, HasCauseOn, Rose}
 use Rattle.vdr_outside.proofs.Counts.{rose_after, sum_rose, none_falls_join, on_err}
-use Rattle.vdr_terms.proofs.Results.{on_ok_both}
 use Rattle.vdr_media.specs.Answers.{Answer, HasFaultCause}
 use Rattle.vdr_media.specs.Writing.{HasCauseAmong}
 

@@ -1,4 +1,6 @@
+mod bringing;
 mod capsule;
 mod choice;
 mod opening;
+mod wider;
 mod wrapping;

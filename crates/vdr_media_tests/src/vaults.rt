@@ -3,6 +3,7 @@ ghost use Rattle.vdr_terms.specs.Sizes.{batch_size};
 ghost use Rattle.vdr_ring.specs.Rings.{HasMedium};
 
 mod bounding;
+mod bringing;
 mod committing;
 mod opening;
 mod playing;

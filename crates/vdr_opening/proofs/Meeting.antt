@@ -1,9 +1,8 @@
 -- Where the ends of the media meet, as one after another is read.
-use Rattle.std.proofs.Common.{◌≡◌, ◌≤◌, ◌<◌, ◌⊎◌, ◌↔◌, ◌++◌, inl, inr, ℕ, zero, suc, Bool, true, false, List, [], ◌∷◌, length, get_or, Option, Some, refl, sym, ◌∙◌, ap, subst, arith, IsTrue}
+use Rattle.std.proofs.Common.{◌≡◌, ◌≤◌, ◌<◌, ◌⊎◌, ◌↔◌, inl, inr, ℕ, Bool, true, false, List, [], ◌∷◌, length, get_or, Option, Some, refl, sym, ◌∙◌, ap, subst, arith, IsTrue}
 use Rattle.std.specs.Prelude.{All}
 use Rattle.std.proofs.lemmas.List.{get_or_default}
 use Rattle.std.proofs.lemmas.Option.{same_Some}
-use Rattle.std.proofs.lemmas.Grind.{flat_map-append}
 use Rattle.vdr_terms.specs.Records.{Record, last}
 use Rattle.vdr_retention.specs.Layout.{Batches, segment_records}
 use Rattle.vdr_durability.specs.Readings.{EndsMeet, EndsOff, comes_next, ends_before}
@@ -13,27 +12,20 @@ use Rattle.vdr_ring.specs.Lasts.{batch_or_none}
 use Rattle.vdr_ring.specs.Rings.{RingState}
 use Rattle.vdr_ring.specs.Rings as rings
 use Rattle.vdr_directory.specs.Holds.{Tells}
-use Rattle.vdr_directory.specs.Sequence.{Placed, all_records, batches_in, batches_of}
-use Rattle.vdr_media.proofs.Two.{all_two}
+use Rattle.vdr_directory.specs.Sequence.{Placed, all_records, batches_in}
+use Rattle.vdr_media.proofs.Two.{all_two, of_each, all_one}
 use Rattle.vdr_opening.specs.Media.{members, Contents, reading_of, AreThere, HoldsContents, IsMedium}
 use Rattle.vdr_opening.specs.Answers.{IsMissing, no_ring, ring_at, IsOpened, OpenedState}
 use Rattle.vdr_opening.specs.Parts.{AreRead, LacksPlacesAt, ReadsMedium}
-use Rattle.vdr_opening.proofs.Rings.{of_all, reads_still, unchanged_join}
 use Rattle.vdr_history.specs.Histories.{Incident}
 use Rattle.vdr_config.specs.Configuration.{Configuration}
 use Rattle.vdr_directory.specs.Order.{AreInOrder}
 use Rattle.vdr_incident.specs.Tables.{HoldsTable}
 use Rattle.vdr_incident.specs.Tables as incidents
 use Rattle.vdr_opening.specs.Refusals.{AreLegal, IsRefused}
-
-pub all_one : (P : ℕ → Type 0) (m : ℕ) → P m → All P (m ∷ [])
-all_one P m p zero d lt = p
-all_one P m p (suc k) d lt = absurd (omega (arith, lt))
-
--- the records of all batches
-records_are : (placed : List Placed) → all_records placed ≡ segment_records (batches_in placed)
-records_are [] = refl
-records_are (p ∷ ps) = ap (λ (rs : List Record). segment_records (batches_of p) ++ rs) (records_are ps) ∙ sym (flat_map-append (λ (b : List Record). b) (batches_of p) (batches_in ps))
+use Rattle.vdr_outside.proofs.Moments.{unchanged_join}
+use Rattle.vdr_ring.proofs.Still.{reads_still}
+use Rattle.vdr_ring.proofs.Records.{records_are}
 
 one_batch : (x y : List Record) → batch_or_none x ≡ batch_or_none y → x ≡ y
 one_batch [] [] is = refl
@@ -54,12 +46,12 @@ is_batch (r ∷ rs) batches ends = refl
 
 module _ {tells tells_images : Type 0} (on : List RingState) (placed : ℕ → List Placed) (disk : Disk tells tells_images) (read : AreRead on placed disk) (m : ℕ) (lt : m < 2) where
   pub read_at : rings.Reads (ring_at on m) (placed m) disk
-  read_at = of_all (λ k. rings.Reads (ring_at on k) (placed k) disk) m lt read
+  read_at = of_each (λ k. rings.Reads (ring_at on k) (placed k) disk) read m lt
 
   pub ends_as : (d : RingState) (batch lent : List Record) (follows : Bool) → m < length on → lent ≡ batch → ((ps : List Placed) → Tells (get_or on m d).slots ps (get_or on m d).directory → follows ≡ comes_next (last (all_records ps)) lent)
       → ends_before (batch_or_none batch) (batches_in (placed m)) ≡ follows
   ends_as d batch lent follows there lent_is tested =
-      before_is batch (batches_in (placed m)) ∙ ap (λ (rs : List Record). comes_next (last rs) batch) (sym (records_are (placed m))) ∙ ap (λ (l : List Record). comes_next (last (all_records (placed m))) l) (sym lent_is)
+      before_is batch (batches_in (placed m)) ∙ ap (λ (rs : List Record). comes_next (last rs) batch) (records_are (placed m)) ∙ ap (λ (l : List Record). comes_next (last (all_records (placed m))) l) (sym lent_is)
       ∙ sym (tested (placed m) (subst (λ (r : RingState). Tells r.slots (placed m) r.directory) (get_or_default on m no_ring d there) read_at.directory))
 
 -- Below medium m, so many media end with the batch of the first one, and the others directly before it.

@@ -1,15 +1,12 @@
 -- What calls that only read leave as it was.
 use Rattle.std.proofs.Common.{◌≡◌, ℕ, List, sym, ◌∙◌, ap, subst, Option, Some, None, IfSome, get_or, length, ◌<◌, ◌+◌, inl, inr, zero, suc, [], ◌∷◌, ◌++◌, set, take, IfNone, arith, get_or-set_same, get_or-set_other, length-set, ◌≤◌, drop, cond, ◌==◌, Result, Err}
 use Rattle.vdr_outside.specs.Disk.{Disk, Image, Unchanged, content}
-use Rattle.vdr_outside.specs.Parts.{part}
-use Rattle.vdr_slots.specs.Slots.{place_of}
 use Rattle.vdr_directory.specs.Holds.{HoldsPlaced}
 use Rattle.vdr_ring.specs.Rings.{RingState}
 use Rattle.vdr_ring.specs.Rings as rings
 use Rattle.vdr_directory.specs.Sequence.{Placed}
-use Rattle.vdr_media.proofs.Unformatted.{durable_still}
 use Rattle.vdr_terms.specs.Needs.{slots_in}
-use Rattle.vdr_outside.proofs.Moments.{size_read}
+use Rattle.vdr_outside.proofs.Moments.{size_read, unchanged_join}
 use Rattle.vdr_config.specs.Configuration.{Configuration}
 use Rattle.vdr_config.specs.Sizes.{sizes_of}
 use Rattle.vdr_directory.specs.Opening.{Refuses, HasFaultCause}
@@ -21,7 +18,7 @@ use Rattle.vdr_opening.specs.Parts.{ReadsMedium, text_of, AreRead, KeepsRings, H
 use Rattle.std.specs.Prelude.{All, Any, IsErrOf}
 use Rattle.std.proofs.lemmas.Bool.{cases_eq}
 use Rattle.std.proofs.lemmas.List.{get_or_append_left, get_or_push, take-append-le, take_all}
-use Rattle.vdr_media.proofs.Two.{first_of, second_of, all_two}
+use Rattle.vdr_media.proofs.Two.{all_two, any_at}
 use Rattle.vdr_opening.specs.Answers.{IsRingOf, no_ring, ring_at, HasOpenCause}
 use Rattle.vdr_outside.specs.Causes.{NoneFalls, Rose}
 use Rattle.vdr_outside.specs.declared.fault.PartRefused.{PartRefused}
@@ -32,29 +29,11 @@ use Rattle.vdr_terms.proofs.Results.{same_err}
 use Rattle.vdr_opening.specs.declared.refused.OpenRefused.{OpenRefused}
 use Rattle.vdr_opening.specs.declared.refused.OpenRefused.TheVariants.{Damaged}
 use Rattle.vdr_opening.specs.declared.refused.OpenRefused.TheVariants as refused
+use Rattle.vdr_ring.proofs.Still.{reads_still}
 
 module _ {tells tells_images : Type 0} where
-  pub unchanged_join : (a b c : Disk tells tells_images) → Unchanged a b → Unchanged b c → Unchanged a c
-  unchanged_join a b c x y = record {
-    sizes = y.sizes ∙ x.sizes;
-    reads = λ told. y.reads told ∙ x.reads told;
-    clock = y.clock ∙ x.clock;
-    since = λ t i. (λ s. (x.since t i).0 ((y.since t i).0 s), λ s. (y.since t i).1 ((x.since t i).1 s));
-  }
-
   pub same_content : (m : ℕ) (old new : Disk tells tells_images) → Unchanged old new → tells → content new.reads m ≡ content old.reads m
   same_content m old new same told = ap (λ (i : Image). content i m) (same.reads told)
-
-  pub reads_still : (ring : RingState) (placed : List Placed) (old new : Disk tells tells_images) → Unchanged old new → rings.Reads ring placed old → rings.Reads ring placed new
-  reads_still ring placed old new same r = record {
-    settled = record {
-      durable = durable_still ring.medium old new same r.settled.durable;
-      reads = λ told. subst (HoldsPlaced ring.segment ring.slots placed) (sym (same_content ring.medium old new same told)) (r.settled.reads told);
-    };
-    order = r.order;
-    directory = r.directory;
-    loaded = λ j is told. r.loaded j is told ∙ ap (λ (l : List ℕ). part l (place_of ring.segment j) ring.segment) (sym (same_content ring.medium old new same told));
-  }
 
 -- The segments of a medium, as its ring reads them or as it is refused.
 
@@ -94,17 +73,6 @@ module _ {tells tells_images : Type 0} (m : ℕ) (c : Configuration) (text : Lis
       }
 
 -- The rings of media, one after another.
-
--- what holds of all media holds of each, and what holds of one of some
-pub of_all : (P : ℕ → Type 0) (m : ℕ) → m < 2 → All P members → P m
-of_all P zero lt all = all 0 0 (omega arith)
-of_all P (suc zero) lt all = all 1 0 (omega arith)
-of_all P (suc (suc m)) lt all = absurd (omega (arith, lt))
-
-pub any_of : (P : ℕ → Type 0) (m : ℕ) → m < 2 → P m → Any P members
-any_of P zero lt p = first_of P p
-any_of P (suc zero) lt p = second_of P p
-any_of P (suc (suc m)) lt p = absurd (omega (arith, lt))
 
 pub take_front : (n : ℕ) (xs ys : List RingState) → length xs ≡ n → take n (xs ++ ys) ≡ xs
 take_front n xs ys size = take-append-le n xs ys (omega (arith, size)) ∙ take_all n xs (omega (arith, size))
@@ -189,7 +157,7 @@ all_read P before now m is all each =
 pub part_by : {T : Type 0} (m k : ℕ) (a b : List ℕ) (r : Result T PartRefused) → k ≡ m → m < 2 → HasFaultCause k a b r → HasPartCause a b r
 part_by m k a b r is lt h = record {
   later = h.later;
-  rose = λ fault. any_of (λ n. Rose (get_or a n 0) (get_or b n 0)) m lt (subst (λ n. Rose (get_or a n 0) (get_or b n 0)) is (h.rose fault));
+  rose = λ fault. any_at (λ n. Rose (get_or a n 0) (get_or b n 0)) m lt (subst (λ n. Rose (get_or a n 0) (get_or b n 0)) is (h.rose fault));
 }
 
 -- an error, after calls that succeeded

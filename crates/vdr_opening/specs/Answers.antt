@@ -28,7 +28,7 @@ pub record OpenedState : Type 0 where
 
 -- The ring of no medium.
 abbrev pub no_ring : RingState
-no_ring = record { medium = 0; segment = 0; slots = 0; seconds = 0; directory = record { index = []; newest = None; ending = None }; buffer = []; loaded = None }
+no_ring = record { medium = 0; segment = 0; slots = 0; seconds = 0; directory = record { index = []; newest = None; ending = None }; buffer = []; loaded = None; bare = [] }
 
 -- The ring on medium m: that of the index m.
 abbrev pub ring_at : List RingState → ℕ → RingState

@@ -12,11 +12,9 @@ use crate::medium::{AllMedia, open_media};
 use crate::places::read_incidents;
 use crate::{OpenRefused, Opened};
 use std::alloc::Global;
+use vdr_incident::LONG_TERM;
 use vdr_media::are_formatted;
 use vdr_outside::{Media, PartRefused};
-
-// The number of the long-term medium, which has the incident slots.
-const LONG_TERM: usize = 1;
 
 // Reads media that are formatted.
 fn read_formatted<M: Media>(alloc: Global, media: &mut M) -> Result<Opened, PartRefused>
@@ -31,7 +29,7 @@ fn read_formatted<M: Media>(alloc: Global, media: &mut M) -> Result<Opened, Part
         configured,
         mut rings,
     } = open_media(alloc, media)?;
-    let table = read_incidents(media, &configured.config, &rings[LONG_TERM])?;
+    let table = read_incidents(media, &configured.config, &rings[LONG_TERM as usize])?;
     let Missing { batch, lacking } = missing_batch(alloc, media, &mut rings)?;
     Ok(Opened {
         config: configured.config,

@@ -15,23 +15,23 @@ use Rattle.vdr_pace.specs.Media.{EndsBefore, IsMediumOf}
 use Rattle.vdr_pace.proofs.Media.{at_opening}
 use Rattle.vdr_media.proofs.Two.{all_two}
 use Rattle.vdr_directory.specs.Sequence.{Placed, all_records, batches_in, segments_in}
-use Rattle.vdr_ring.specs.Regularity.{AreRegular}
+use Rattle.vdr_ring.specs.Regularity.{AreLaidOut, AreRegular}
 use Rattle.vdr_opening.specs.Media.{Contents, members, reading_of}
 use Rattle.vdr_opening.specs.declared.refused.OpenRefused.{OpenRefused}
 use Rattle.vdr_vault.specs.Openings.{GoesOnSynced, OpensAtEachMoment}
 use Rattle.vdr_vault.specs.Vaults.{VaultState, ShowsHistory, Stands}
-use Rattle.vdr_vault.proofs.ShownImages.{records_are}
-use Rattle.vdr_vault.proofs.CommitReady.{last_of, last_by_batch, regular_batches}
+use Rattle.vdr_ring.proofs.Records.{records_are}
+use Rattle.vdr_ring.proofs.Continuing.{last_of, last_by_batch, regular_batches}
 use Rattle.vdr_recorder.specs.Recordings.{HasRecorded, start_of_opening}
 use Rattle.vdr_run.specs.declared.maker.Maker.{Maker}
 use Rattle.vdr_recorder.proofs.Continuing.{told_at_rest}
 
 module _ (cost usable batch : ℕ) (placed : List Placed) where
-  regular_order : AreRegular cost usable batch placed → AreInOrder (records_in (segments_in placed))
+  regular_order : AreLaidOut cost usable batch placed → AreInOrder (records_in (segments_in placed))
   regular_order (inl none) = subst (λ (ps : List Placed). AreInOrder (records_in (segments_in ps))) (sym none) tt
   regular_order (inr k) = subst (λ (segments : List Batches). AreInOrder (records_in segments)) (sym k.2) k.3.order
 
-  regular_paced : AreRegular cost usable batch placed → (s : ℕ) → sum_by (batches_size_at s) (segments_in placed) ≤ cost
+  regular_paced : AreLaidOut cost usable batch placed → (s : ℕ) → sum_by (batches_size_at s) (segments_in placed) ≤ cost
   regular_paced (inl none) s = subst (λ (ps : List Placed). sum_by (batches_size_at s) (segments_in ps) ≤ cost) (sym none) (omega arith)
   regular_paced (inr k) s = subst (λ (segments : List Batches). sum_by (batches_size_at s) segments ≤ cost) (sym k.2) (k.3.paced s)
 
@@ -111,18 +111,18 @@ module _ {tells tells_images : Type 0} (opening : Opening) (vault : VaultState) 
   same_end : last (all_records (placed 1)) ≡ last (all_records (placed 0))
   same_end =
       ap last (sym (records_are (placed 1)))
-      ∙ last_by_batch (batches_in (placed 1)) (regular_batches (cost (sizes_of vault.config)) (usable (sizes_of vault.config)) vault.config.batch (placed 1) (regular_on 1 (omega arith)))
+      ∙ last_by_batch (batches_in (placed 1)) (regular_batches (cost (sizes_of vault.config)) (usable (sizes_of vault.config)) vault.config.batch (placed 1) (regular_on 1 (omega arith)).layout)
       ∙ ap last_of (stands.level 1 1 (omega arith))
-      ∙ sym (last_by_batch (batches_in (placed 0)) (regular_batches (cost (sizes_of vault.config)) (usable (sizes_of vault.config)) vault.config.batch (placed 0) (regular_on 0 (omega arith))))
+      ∙ sym (last_by_batch (batches_in (placed 0)) (regular_batches (cost (sizes_of vault.config)) (usable (sizes_of vault.config)) vault.config.batch (placed 0) (regular_on 0 (omega arith)).layout))
       ∙ ap last (records_are (placed 0))
 
   medium_opened : (m : ℕ) → AreRegular (cost (sizes_of vault.config)) (usable (sizes_of vault.config)) vault.config.batch (placed m) → EndsBefore (start_of_opening opening) (last (all_records (placed m)))
       → IsMediumOf (sizes_of vault.config) (start_of_opening opening) (segments_in (placed m)) [] (segments_in (placed m))
   medium_opened m regular ends =
       at_opening (sizes_of vault.config) (start_of_opening opening) (segments_in (placed m)) (λ g. ap (λ (s : Settings). s.limits g) stands.settings) (record {
-        order = regular_order (cost (sizes_of vault.config)) (usable (sizes_of vault.config)) vault.config.batch (placed m) regular;
+        order = regular_order (cost (sizes_of vault.config)) (usable (sizes_of vault.config)) vault.config.batch (placed m) regular.layout;
         ends = ends;
-        paced = regular_paced (cost (sizes_of vault.config)) (usable (sizes_of vault.config)) vault.config.batch (placed m) regular;
+        paced = regular_paced (cost (sizes_of vault.config)) (usable (sizes_of vault.config)) vault.config.batch (placed m) regular.layout;
       })
 
   pub has_opened : (t0 : ℕ) (maker : Maker) → t0 ≤ disk.clock → ((image : Image) → disk.since t0 image → ShowsHistory opening [] image)

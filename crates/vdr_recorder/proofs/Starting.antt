@@ -1,5 +1,5 @@
 -- A run's Start is an event of the recorder's history.
-use Rattle.std.proofs.Common.{◌≡◌, ◌≤◌, ◌^◌, ℕ, ℤ, List, [], ◌∷◌, All, true, false, Option, Some, None, Result, Ok, Err, IfSome, option_map, inl, inr, refl, sym, ap, ◌∙◌, subst, arith}
+use Rattle.std.proofs.Common.{◌≡◌, ◌≤◌, ◌^◌, ℕ, ℤ, List, [], All, true, false, Option, Some, None, Result, Ok, Err, IfSome, option_map, inl, inr, refl, sym, ap, ◌∙◌, subst, arith}
 use Rattle.std.proofs.lemmas.List.Elements.{All-contains}
 use Rattle.vdr_terms.specs.Legality.{IsRecord}
 use Rattle.vdr_terms.specs.Records.{Record, last}
@@ -22,7 +22,7 @@ use Rattle.vdr_directory.specs.Holds.{HoldsPlaced}
 use Rattle.vdr_ring.proofs.Beginning.{legal_batches}
 use Rattle.vdr_vault.specs.Vaults.{VaultState, of_stamp, ring_of, tick_utc}
 use Rattle.vdr_vault.proofs.ShownHistory.{held_at}
-use Rattle.vdr_vault.proofs.ShownPlaces.{all_legal}
+use Rattle.vdr_ring.proofs.Records.{all_legal}
 use Rattle.vdr_recorder.specs.Making.{MakesBy}
 use Rattle.vdr_recorder.specs.Recordings.{HasDone, HasRecorded, KeepsEvent, RecorderState}
 use Rattle.vdr_recorder.specs.declared.run.StartRefused.{StartRefused}

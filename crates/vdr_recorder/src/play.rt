@@ -4,6 +4,7 @@ ghost use Rattle.vdr_entry.specs.Queries.{asked};
 ghost use Rattle.vdr_play.specs.Streams.{nothing_seen};
 ghost use Rattle.vdr_vault.specs.Vaults.{AreRings};
 ghost use Rattle.vdr_visit.specs.Refusals.{HasOutputCause, IsAccepted, after_fault, lacks_channel, lacks_incident, unanswered};
+ghost use Rattle.vdr_visit.specs.Visits.{ReadsEachOnce};
 ghost use Rattle.vdr_visit.specs.declared.refused.VisitRefused.TheVariants.{Fault as AFault, NoChannel, NoIncident, Output};
 ghost use Rattle.vdr_recorder.specs.Looks.{HasLooked};
 ghost use Rattle.vdr_recorder.specs.Playing.{HasPlayed};
@@ -64,7 +65,7 @@ impl Visitor for Player {
 
 impl Recorder {
     /// Prints the records that a query selects, in order of place, each as `vdr_play::print_record` does, from new tracks on, and each as it is
-    /// read: it takes no memory. Reads the query's medium alone.
+    /// read: it takes no memory. Reads the query's medium alone, and of it at most a segment for each that meets the query, each once (`bound`).
     ///
     /// `NoChannel` comes before `NoIncident`, and both before `Fault` of a write that had failed. After `Fault` and `Damaged` the lines of
     /// whole records stand in the output, the first of those that are selected; after `Output` a front of the text. On media that hold
@@ -82,6 +83,7 @@ impl Recorder {
         ensures failed { self.old.vault.failed ≡ true → (self.new ≡ self.old) × (media.new ≡ media.old) × (out.new ≡ out.old)
             × (result ≡ after_fault (unanswered (lacks_channel (length self.old.vault.config.channels) query.now.channel) (lacks_incident self.old.vault.table (asked query.now).medium))) }
         ensures looked { HasLooked (asked query.now) self.old self.new (M.disk media.old) (M.disk media.new) (M.bytes_read media.old) (M.bytes_read media.new) (M.faults media.old) (M.faults media.new) (result ≡ Err AFault) }
+        ensures bound { ReadsEachOnce (asked query.now) self.old.vault (M.bytes_read media.old) (M.bytes_read media.new) }
         ensures output { HasOutputCause (O.faults out.old) (O.faults out.new) (result ≡ Err Output) }
     {
         self.visit(media, query, &mut Player::new(), out)

@@ -3,6 +3,7 @@ ghost use Rattle.std.specs.Prelude.{◌≡◌, ◌⊎◌, [], length, true, Err}
 ghost use Rattle.vdr_entry.specs.Queries.{asked};
 ghost use Rattle.vdr_vault.specs.Vaults.{AreRings};
 ghost use Rattle.vdr_visit.specs.Refusals.{HasOutputCause, IsAccepted, after_fault, lacks_channel, lacks_incident, unanswered};
+ghost use Rattle.vdr_visit.specs.Visits.{ReadsEachOnce};
 ghost use Rattle.vdr_visit.specs.declared.refused.VisitRefused.TheVariants.{Fault as AFault, NoChannel, NoIncident, Output};
 ghost use Rattle.vdr_recorder.specs.Looks.{HasLooked};
 ghost use Rattle.vdr_recorder.specs.Playing.{HasTold};
@@ -67,7 +68,8 @@ impl Visitor for SourceCounter {
 
 impl Recorder {
     /// Prints the table of sources of the records that a query selects, each record read once, behind the last of them. It takes memory for
-    /// the table, and `Own` says that there was none. Reads the query's medium alone.
+    /// the table, and `Own` says that there was none. Reads the query's medium alone, and of it at most a segment for each that meets the query, each
+    /// once (`bound`).
     ///
     /// `NoChannel` comes before `NoIncident`, and both before `Fault` of a write that had failed. Nothing is printed unless all records were
     /// read; after `Output` a front of the table is. On media that hold what was recorded, regular or not, `Damaged` never comes.
@@ -85,6 +87,7 @@ impl Recorder {
         ensures failed { self.old.vault.failed ≡ true → (self.new ≡ self.old) × (media.new ≡ media.old) × (out.new ≡ out.old)
             × (result ≡ after_fault (unanswered (lacks_channel (length self.old.vault.config.channels) query.now.channel) (lacks_incident self.old.vault.table (asked query.now).medium))) }
         ensures looked { HasLooked (asked query.now) self.old self.new (M.disk media.old) (M.disk media.new) (M.bytes_read media.old) (M.bytes_read media.new) (M.faults media.old) (M.faults media.new) (result ≡ Err AFault) }
+        ensures bound { ReadsEachOnce (asked query.now) self.old.vault (M.bytes_read media.old) (M.bytes_read media.new) }
         ensures output { HasOutputCause (O.faults out.old) (O.faults out.new) (result ≡ Err Output) }
     {
         self.visit(media, query, &mut SourceCounter::new(alloc), out)

@@ -4,7 +4,7 @@ ghost use Rattle.vdr_entry.specs.Queries.{asked};
 ghost use Rattle.vdr_vault.specs.Vaults.{AreRings};
 ghost use Rattle.vdr_visit.specs.Prints.{whole_text};
 ghost use Rattle.vdr_visit.specs.Refusals.{HasOutputCause, IsAccepted, after_fault, lacks_channel, lacks_incident, unanswered};
-ghost use Rattle.vdr_visit.specs.Visits.{HasVisited};
+ghost use Rattle.vdr_visit.specs.Visits.{HasVisited, ReadsEachOnce};
 ghost use Rattle.vdr_visit.specs.declared.refused.VisitRefused.TheVariants.{Fault as AFault, NoChannel, NoIncident, Output};
 ghost use Rattle.vdr_recorder.specs.Looks.{HasLooked};
 
@@ -22,7 +22,8 @@ impl Recorder {
     }
 
     /// Hands the records that a query selects to the visitor, in order of place, each once, and then their end. What it prints goes to the
-    /// output in few writes, through a buffer of 8,192 bytes. Reads the query's medium alone, and takes no memory of its own.
+    /// output in few writes, through a buffer of 8,192 bytes. Reads the query's medium alone, and of it at most a
+    /// segment for each that meets the query, each once (`bound`). Takes no memory of its own.
     ///
     /// `NoChannel` comes before `NoIncident`, and both before `Fault` of a write that had failed. After `Fault` and `Damaged` the text of
     /// just the records that were handed on stands in the output. On media that hold what was recorded, regular or not, `Damaged` never
@@ -43,6 +44,7 @@ impl Recorder {
         ensures failed { self.old.vault.failed ≡ true → (self.new ≡ self.old) × (media.new ≡ media.old) × (visitor.new ≡ visitor.old) × (out.new ≡ out.old)
             × (result ≡ after_fault (unanswered (lacks_channel (length self.old.vault.config.channels) query.now.channel) (lacks_incident self.old.vault.table (asked query.now).medium))) }
         ensures looked { HasLooked (asked query.now) self.old self.new (M.disk media.old) (M.disk media.new) (M.bytes_read media.old) (M.bytes_read media.new) (M.faults media.old) (M.faults media.new) (result ≡ Err AFault) }
+        ensures bound { ReadsEachOnce (asked query.now) self.old.vault (M.bytes_read media.old) (M.bytes_read media.new) }
         ensures output { HasOutputCause (O.faults out.old) (O.faults out.new) (result ≡ Err Output) }
     {
         visit_selected(&mut self.vault, media, query, visitor, out)

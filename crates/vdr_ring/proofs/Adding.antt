@@ -30,7 +30,7 @@ use Rattle.vdr_ring.specs.Stages.{Stages, BeginsAnew, IsWritten}
 use Rattle.vdr_ring.specs.Appends.{HasRoomFor, MayCome, HasNoRoom, Stands, IsReady}
 use Rattle.vdr_directory.proofs.Filing.{few_records}
 use Rattle.vdr_directory.proofs.Placing.{append_in_sequence}
-use Rattle.vdr_directory.proofs.Ordering.{append_in_order}
+use Rattle.vdr_directory.proofs.Ordering.{append_in_order, newest_in_place}
 use Rattle.vdr_directory.proofs.Telling.{newest_is, newest_told, tells_done}
 use Rattle.vdr_directory.proofs.Endings.{ending_in}
 use Rattle.vdr_directory.proofs.Runs.{EndsWith, ends_with}
@@ -75,7 +75,7 @@ module _ {tells tells_images : Type 0} where
       let done : List Placed = split.older ++ with_batch_in k.0 records ∷ [] in
       let stages : Stages = record { closed = placed; begun = placed; done = done; left = done } in (
         stages,
-        inl (record { older = split.older; newest = k.0; split = split.split; room = omega (arith, end, fits, is); closed = refl; begun = refl; done = refl }),
+        inl (record { older = split.older; newest = k.0; split = split.split; bare = (newest_in_place placed k.0 reads.order k.1).1.precedes; room = omega (arith, end, fits, is); closed = refl; begun = refl; done = refl }),
         changes_none r.medium (HoldsAny r.segment r.slots (placed ∷ placed ∷ placed ∷ [])) d
             (λ i now. any_here (λ (ps : List Placed). HoldsPlaced r.segment r.slots ps _) placed (placed ∷ placed ∷ []) (settled_image r.medium (HoldsPlaced r.segment r.slots placed) d reads.settled i now)),
         record {
@@ -141,24 +141,28 @@ module _ {tells tells_images : Type 0} where
         (λ b h. any_right (λ (ps : List Placed). HoldsPlaced q.segment q.slots ps b) (placed ∷ stages.closed ∷ []) (before ∷ after ∷ [])
         (holds_either q.segment q.slots slots (slots_with_batch slots n.slot ready.newest.segment records) before after b (ready.stands.settled.reads told).sequence sequence (ready.stands.settled.reads told).all_slots every h)))))
 
-    pub appended_reads : (u : RingState) (size : ℕ) → q.segment < 2 ^ 32 → u.medium ≡ q.medium → u.segment ≡ q.segment → u.slots ≡ q.slots → u.loaded ≡ None → size ≡ batch_size records
+    pub appended_reads : (u : RingState) (size : ℕ) → q.segment < 2 ^ 32 → u.medium ≡ q.medium → u.segment ≡ q.segment → u.slots ≡ q.slots → u.loaded ≡ None → u.bare ≡ [] → size ≡ batch_size records
         → ((before : List Record) → Summarises before (summary_at q.directory.index n.slot)
         → (s : Summary) × IsSummaryOf (before ++ records) s × (u.directory.index ≡ set q.directory.index n.slot (Some (record { seq = n.seq; first = n.first; summary = s }))))
         → u.directory.newest ≡ Some (record n { end = n.end + size }) → u.directory.ending ≡ ending_in (records ∷ [])
         → ((slots : List (Option Segment)) (s : Segment) (records : List Record) → Settled q.medium (HoldsSlots q.segment slots) mid → slice_get slots n.slot ≡ Some (Some s) → end_of s ≡ n.end
         → bytes ≡ batch_bytes records ++ closed_gate ∷ [] → IsBatch records → Settled q.medium (HoldsSlots q.segment (slots_with_batch slots n.slot s records)) new)
         → Reads u stages.done new
-    appended_reads u size small medium segment count loaded long index newest ending settled = record {
+    appended_reads u size small medium segment count loaded none_bare long index newest ending settled = record {
       settled = subst (λ (ps : List Placed). Settled u.medium (HoldsPlaced u.segment u.slots ps) new) (sym ready.done)
           (settled_at u.medium q.medium u.segment q.segment u.slots q.slots after new (sym medium) (sym segment) (sym count)
           now);
       order = ready.order;
       directory = subst (λ (k : List Placed × ℕ). Tells k.1 k.0 u.directory) (λ i. (sym ready.done i, sym count i))
-          (tells_done q.slots slots ready.older ready.newest records q.directory u.directory n size (ready.stands.settled.reads told).sequence (ready.stands.settled.reads told).all_slots few ready.stands.directory is long legal.some
+          (tells_done q.slots slots ready.older ready.newest records q.directory u.directory n size (ready.stands.settled.reads told).sequence (ready.stands.settled.reads told).all_slots bare few ready.stands.directory is long legal.some
           index newest ending);
       loaded = λ j bad. absurd (none-some j (sym loaded ∙ bad));
+      bare = inl none_bare;
     }
       where
+        bare : ready.newest.segment.header.summary ≡ None
+        bare = (newest_in_place after (with_batch_in ready.newest records) (subst AreInOrder ready.done ready.order) (last_behind ready.older (with_batch_in ready.newest records) [])).1.precedes
+
         now : Settled q.medium (HoldsPlaced q.segment q.slots after) new
         now = settled_placed q.medium q.segment q.slots (slots_with_batch slots n.slot ready.newest.segment records) after new sequence every
             (settled slots ready.newest.segment records (settled_slots q.medium q.segment q.slots before mid ready.stands.settled told) there ends written legal)

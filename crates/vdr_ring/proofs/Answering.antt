@@ -1,22 +1,21 @@
 -- Which segment a query is asked of next, by what the index keeps.
-use Rattle.std.proofs.Common.{◌≡◌, ◌<◌, ℕ, Bool, true, false, List, [], ◌∷◌, get_or, slice_get, All, Contains, Option, Some, None, refl, sym, ap, ◌∙◌, subst, arith}
-use Rattle.std.specs.Prelude.{option_map}
+use Rattle.std.proofs.Common.{◌≡◌, ◌<◌, ℕ, Bool, true, false, List, get_or, All, Contains, Option, Some, None, refl, sym, ap, ◌∙◌, subst, arith}
+use Rattle.std.specs.Prelude.{option_map, IfSome}
 use Rattle.std.proofs.lemmas.Option.{none-some, same_Some, get_or_from_slice_get}
 use Rattle.std.proofs.lemmas.List.Elements.{All-nil, All-contains}
-use Rattle.vdr_terms.specs.Records.{Record, second}
-use Rattle.vdr_terms.specs.Order.{RunOn}
-use Rattle.vdr_terms.specs.Queries.{Query, Span, IsSummary, meets}
+use Rattle.vdr_terms.specs.Records.{Record}
+use Rattle.vdr_terms.specs.Queries.{Query, Span, meets}
 use Rattle.vdr_entry.specs.declared.summary.Summary.{Summary}
 use Rattle.vdr_retention.proofs.Lists.{all_from}
-use Rattle.vdr_retention.proofs.Summed.{one_of}
+use Rattle.vdr_retention.proofs.Ordered.{places_run}
 use Rattle.vdr_index.specs.declared.known.Known.{Known}
 use Rattle.vdr_index.specs.Indexes.{IsCandidate, IsWithin, Keeps, MayAnswer, summary_of}
 use Rattle.vdr_index.specs.Indexes as indexes
-use Rattle.vdr_directory.specs.Sequence.{Placed, records_of, seq_of}
-use Rattle.vdr_directory.specs.Order.{RunsOn, AreInOrder}
+use Rattle.vdr_directory.specs.Sequence.{Placed, first_of, records_of, seq_of}
+use Rattle.vdr_directory.specs.Order.{Agrees, IsCovered, RunsOn, AreInOrder}
 use Rattle.vdr_index.specs.Indexes.{IsAbove}
 use Rattle.vdr_directory.specs.Indexed.{IsKnown, IsKnownAs, IsIndexed, Meets, IsNextToMeet, HasNoneSelected, is_selected}
-use Rattle.vdr_directory.proofs.Known.{placed_at, kept_of, runs_on}
+use Rattle.vdr_directory.proofs.Known.{agrees, known_count, known_covers, placed_at, kept_of, runs_on}
 
 -- above, in the words of the index
 
@@ -30,25 +29,15 @@ above_ring (Some m) n h = h
 
 -- A record of a segment is within what is known of it
 
-first_place : (first : ℕ) (rs : List Record) (s : ℕ) → RunOn first rs → option_map (λ r. second r.tick) (slice_get rs 0) ≡ Some s → option_map (λ r. r.place) (slice_get rs 0) ≡ Some first
-first_place first [] s h is = absurd (none-some s is)
-first_place first (r ∷ rs) s h is = ap (λ (n : ℕ). Some n) h.0
-
-all_within : (p : Placed) (k : Known) → IsKnown p k → RunsOn p → All (IsWithin k) (records_of p)
-all_within p k is runs = all_from (IsWithin k) (records_of p) (λ r m.
-    let run : RunOn k.first (records_of p) = subst (λ (n : ℕ). RunOn n (records_of p)) (sym is.first) runs.places in
-    let theirs : IsSummary (summary_of k) (records_of p) = record {
-      first = first_place k.first (records_of p) k.summary.first_second run is.summary.first_second;
-      count = is.count;
-      first_second = is.summary.first_second;
-      last_second = is.summary.last_second;
-      utc = is.summary.utc;
-      least = is.summary.least;
-      greatest = is.summary.greatest;
-      bits = is.summary.bits;
-    } in
-    let one = one_of (summary_of k) 0 (records_of p) r theirs run runs.ticks m in
-    record { above = one.above; below = one.below; by_then = one.by_then; least = one.least; greatest = one.greatest; bits = one.bits })
+all_within : (p : Placed) (k : Known) → IsKnown p k → RunsOn p → IfSome p.segment.header.summary (Agrees p) → All (IsWithin k) (records_of p)
+all_within p k is runs agree = all_from (IsWithin k) (records_of p) (λ r m.
+    let place = places_run (first_of p) (records_of p) r runs.places m in
+    let from = place.0 in
+    let below = place.1 in
+    let first = is.first in
+    let count = known_count p k is agree in
+    let one : IsCovered k.summary r = All-contains (IsCovered k.summary) (records_of p) r (known_covers p k is agree runs) m in
+    record { above = omega (arith, from, first); below = omega (arith, below, first, count); by_then = one.no_later; least = one.least; greatest = one.greatest; bits = one.bits })
 
 -- what the law of candidates says
 abbrev pub LeavesOut : Type 0
@@ -83,7 +72,7 @@ module _ (query : Query) (span : Span) (after : Option ℕ) (count : ℕ) (place
     where
       by_test : (k : Known) → IsKnown q k → (b : Bool) → meets query span (summary_of k) ≡ b → HasNoneSelected query span q
       by_test k is true e = absurd (fails (record { known = k; is = is; meets_it = e }))
-      by_test k is false e = law query span k (records_of q) (all_within q k is (runs_on None placed order q m)) e
+      by_test k is false e = law query span k (records_of q) (all_within q k is (runs_on None placed order q m) (agrees None placed order q m)) e
 
       go : (o : Option Known) → IsKnownAs q o → HasNoneSelected query span q
       go None none = subst (λ (rs : List Record). All (λ r. is_selected query span r ≡ false) rs) (sym none) (All-nil (λ (r : Record). is_selected query span r ≡ false))

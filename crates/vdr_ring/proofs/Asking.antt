@@ -1,31 +1,28 @@
 -- What a ring answers of its segments without reading them.
-use Rattle.std.proofs.Common.{◌≡◌, ◌≢◌, ◌<◌, ◌≤◌, ℕ, true, List, [], ◌∷◌, ◌++◌, get_or, All, Any, Contains, Option, Some, None, inl, inr, refl, sym, ap, ◌∙◌, subst, arith, append-nil}
-use Rattle.std.specs.Prelude.{option_map, IfNone, IfSome}
-use Rattle.std.proofs.lemmas.Bool.{leb-true, le-leb}
+use Rattle.std.proofs.Common.{◌≡◌, ◌≢◌, ◌≤◌, ℕ, List, [], ◌∷◌, ◌++◌, get_or, All, Contains, Option, Some, None, inl, inr, refl, sym, ap, ◌∙◌, subst, arith, append-nil}
+use Rattle.std.specs.Prelude.{IfNone, IfSome}
 use Rattle.std.proofs.lemmas.Option.{none-some, same_Some}
-use Rattle.std.proofs.lemmas.List.Elements.{All-nil, All-cons, All-append, All-contains, All-head, All-tail, All-weaker, Contains-append_left, Contains-append_right}
+use Rattle.std.proofs.lemmas.List.Elements.{All-contains, All-head, All-tail, Contains-append_right}
 use Rattle.std.proofs.lemmas.Grind.{flat_map-append}
-use Rattle.vdr_terms.specs.Order.{NeverFalls}
-use Rattle.vdr_terms.specs.Records.{Record, last, second}
+use Rattle.vdr_terms.specs.Records.{Record, last}
 use Rattle.vdr_retention.specs.Layout.{segment_records}
 use Rattle.vdr_retention.proofs.Lists.{contains_here, contains_there, last_contained, all_from}
-use Rattle.vdr_retention.proofs.Retained.{second_rises}
 use Rattle.vdr_segment.specs.Batches.{IsBatch}
 use Rattle.vdr_index.specs.declared.known.Known.{Known}
-use Rattle.vdr_index.specs.Indexes.{IsFirst, IsNewest, IsNextAbove, Keeps}
+use Rattle.vdr_index.specs.Indexes.{IsNewest, IsNextAbove, Keeps}
 use Rattle.vdr_index.specs.Indexes as indexes
 use Rattle.vdr_directory.specs.declared.newest.Newest.{Newest}
-use Rattle.vdr_directory.specs.Sequence.{Placed, seq_of, batches_of, records_of, batches_in, all_records}
+use Rattle.vdr_directory.specs.Sequence.{Placed, seq_of, batches_of, batches_in}
 use Rattle.vdr_directory.specs.Order.{HasNone, AreInOrder}
 use Rattle.vdr_directory.specs.Directories.{DirectoryState, newest_of}
 use Rattle.vdr_directory.specs.Holds.{Tells}
 use Rattle.vdr_index.specs.Indexes.{IsAbove}
-use Rattle.vdr_directory.specs.Lookup.{AreEarlier, IsFirstSince, IsNext, ends_since}
+use Rattle.vdr_directory.specs.Lookup.{IsNext}
 use Rattle.vdr_ring.specs.Lasts.{IsLastSlot}
-use Rattle.vdr_directory.specs.Indexed.{IsKnown, IsIndexed}
+use Rattle.vdr_directory.specs.Indexed.{IsIndexed}
 use Rattle.vdr_directory.proofs.Runs.{last_behind_some}
 use Rattle.vdr_ring.proofs.Staging.{no_batches}
-use Rattle.vdr_directory.proofs.Known.{IsInIndex, IsEarlier, Splits, empty_last, in_index, newest_greatest, placed_at, runs_on, some_record, split_at}
+use Rattle.vdr_directory.proofs.Known.{IsInIndex, IsEarlier, Splits, empty_last, in_index, newest_greatest, placed_at, some_record, split_at}
 use Rattle.vdr_ring.proofs.Answering.{above_index, above_ring}
 use Rattle.vdr_directory.proofs.Telling.{empty_told, newest_told}
 
@@ -87,77 +84,6 @@ module _ (count : ℕ) (placed : List Placed) (t : DirectoryState) (tells : Tell
         let e = empty_told count placed t tells order p m (only_empty p up (in_index count placed t.index tells.index p m)) in
         let same : n ≡ newest_of p = same_Some n (newest_of p) (sym is ∙ e) in
         not (subst (IsAbove after) (sym (ap (λ (m : Newest). m.seq) same)) up)
-
--- The first with a record of a second or a later one
-
--- no record is later than the last
-no_later : (from : ℕ) (rs : List Record) (r : Record) → NeverFalls from rs → last rs ≡ Some r → All (λ x. x.tick ≤ r.tick) rs
-no_later from [] r h is = absurd (none-some r is)
-no_later from (x ∷ []) r h is = All-cons (λ y. y.tick ≤ r.tick) x [] (let e = ap (λ (y : Record). y.tick) (same_Some x r is) in omega (arith, e)) (All-nil (λ y. y.tick ≤ r.tick))
-no_later from (x ∷ y ∷ ys) r h is =
-    let rest : All (λ z. z.tick ≤ r.tick) (y ∷ ys) = no_later x.tick (y ∷ ys) r h.1 is in
-    let next = h.1.0 in
-    let most = All-head (λ z. z.tick ≤ r.tick) y ys rest in
-    All-cons (λ z. z.tick ≤ r.tick) x (y ∷ ys) (omega (arith, next, most)) rest
-
-last_of : (rs : List Record) (s : ℕ) → option_map (λ r. second r.tick) (last rs) ≡ Some s → (r : Record) × (last rs ≡ Some r) × (second r.tick ≡ s)
-last_of rs s is = go (last rs) refl is
-  where
-    go : (o : Option Record) → last rs ≡ o → option_map (λ r. second r.tick) o ≡ Some s → (r : Record) × (last rs ≡ Some r) × (second r.tick ≡ s)
-    go None at is = absurd (none-some s is)
-    go (Some r) at is = (r, at, same_Some (second r.tick) s is)
-
-later_in : (s : ℕ) (p : Placed) (k : Known) → IsKnown p k → s ≤ k.summary.last_second → Any (λ r. s ≤ second r.tick) (records_of p)
-later_in s p k is le =
-    let r = last_of (records_of p) k.summary.last_second is.summary.last_second in
-    let there : Contains (records_of p) r.0 = last_contained (records_of p) r.0 r.1 in
-    let same = r.2 in
-    (there.0, r.0, there.1, there.2, omega (arith, le, same))
-
-still_below : (s a b c : ℕ) → a ≤ b → b ≡ c → (s ≤ c → ⊥) → a < s
-still_below s a b c le same fails = omega (arith, le, same, fails)
-
-earlier_all : (s : ℕ) (ps : List Placed) → ((p : Placed) → Contains ps p → AreEarlier s (records_of p)) → AreEarlier s (all_records ps)
-earlier_all s [] each = All-nil (λ r. second r.tick < s)
-earlier_all s (p ∷ ps) each = All-append (λ r. second r.tick < s) (records_of p) (all_records ps) (each p (contains_here p ps)) (earlier_all s ps (λ q m. each q (contains_there p ps q m)))
-
-module _ (count : ℕ) (placed : List Placed) (index : List (Option Known)) (x : IsIndexed count placed index) (order : AreInOrder placed) (s : ℕ) where
-  earlier_in : (p : Placed) → Contains placed p → ((k : Known) → Keeps index p.slot k → IsKnown p k → s ≤ k.summary.last_second → ⊥) → AreEarlier s (records_of p)
-  earlier_in p m not = go (in_index count placed index x p m)
-    where
-      go : IsInIndex index p → AreEarlier s (records_of p)
-      go (inl (none, at)) = subst (AreEarlier s) (sym none) (All-nil (λ r. second r.tick < s))
-      go (inr (k, at, is)) =
-          let r = last_of (records_of p) k.summary.last_second is.summary.last_second in
-          let same = r.2 in
-          let fails = not k at is in
-          All-weaker (λ x. x.tick ≤ r.0.tick) (λ x. second x.tick < s) (λ x le. let up = second_rises x.tick r.0.tick le in still_below s (second x.tick) (second r.0.tick) k.summary.last_second up same fails)
-          (records_of p) (no_later 0 (records_of p) r.0 (runs_on None placed order p m).ticks r.1)
-
-  pub since_first : (slot seq : ℕ) → (f : IsFirst index (ends_since s) slot) → ((k : Known) → Keeps index slot k → seq ≡ k.seq)
-      → (p : Placed) × IsFirstSince s placed p × (slot ≡ p.slot) × (seq ≡ seq_of p)
-  since_first slot seq f is =
-      let p = placed_at count placed index x slot f.known f.there in
-      let sp = split_at None placed order p.0 p.1 in (
-        p.0,
-        record {
-          before = sp.before;
-          later = sp.after;
-          split = sp.split;
-          earlier = earlier_all s sp.before (λ q n. earlier_in q (subst (λ (ps : List Placed). Contains ps q) (sym sp.split) (Contains-append_left sp.before (p.0 ∷ sp.after) q n))
-              (λ l at is_l le.
-              let up = f.least q.slot l at (le-leb s l.summary.last_second le) in
-              let lt = (All-contains (λ q. IsEarlier q p.0) sp.before q sp.earlier n).0 in
-              let here = p.3.seq in
-              let there = is_l.seq in omega (arith, up, lt, here, there)));
-          reaches = later_in s p.0 f.known p.3 (leb-true s f.known.summary.last_second f.passed);
-        },
-        sym p.2,
-        is f.known f.there ∙ p.3.seq,
-      )
-
-  pub since_none : ((slot : ℕ) (k : Known) → Keeps index slot k → ends_since s k ≡ true → ⊥) → AreEarlier s (all_records placed)
-  since_none none = earlier_all s placed (λ p m. earlier_in p m (λ k at is le. none p.slot k at (le-leb s k.summary.last_second le)))
 
 module _ (count : ℕ) (placed : List Placed) (index : List (Option Known)) (x : IsIndexed count placed index) (order : AreInOrder placed) where
   -- The segment that has the last batch

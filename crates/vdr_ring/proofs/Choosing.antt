@@ -1,60 +1,27 @@
 -- The segment that goes, by what the index knows of it.
-use Rattle.std.proofs.Common.{◌≡◌, ◌↔◌, ◌<◌, ◌+◌, ◌&&◌, ℕ, Bool, true, false, nat_le, List, [], ◌∷◌, ◌++◌, length, map, get_or, slice_get, All, Contains, IsTrue, Option, Some, None, option_map, inl, inr, ⊎_elim, refl, sym, ap, ◌∙◌, subst, arith}
+use Rattle.std.proofs.Common.{◌≡◌, ◌↔◌, ◌<◌, ◌+◌, ◌&&◌, ℕ, Bool, true, nat_le, List, [], ◌∷◌, ◌++◌, length, map, get_or, All, Contains, IsTrue, Option, Some, None, inl, inr, refl, sym, ap, ◌∙◌, subst, arith}
 use Rattle.std.specs.List.{list_all}
-use Rattle.std.proofs.lemmas.Bool.{lt-ltb}
 use Rattle.std.proofs.lemmas.List.Folds.{list_all-map}
-use Rattle.std.proofs.lemmas.Option.{none-some, same_Some, get_or_from_slice_get, slice_get_within}
-use Rattle.std.proofs.lemmas.List.Elements.{All-nil, All-contains, Contains-append_left}
-use Rattle.vdr_terms.specs.Records.{Record, second, last}
-use Rattle.vdr_terms.specs.Order.{RunOn}
-use Rattle.vdr_terms.specs.Windows.{window}
-use Rattle.vdr_retention.specs.Retention.{Pin, AreAmong, AreOutside, HaveNoPlace, within}
-use Rattle.vdr_retention.specs.Victims.{IsExtent, IsLastSecond, MayGo, is_apart}
-use Rattle.vdr_retention.proofs.Lists.{none_contained, contains_here, contains_there, contains_cases, last_contained, all_from}
-use Rattle.vdr_retention.proofs.Needed.{segment_among}
-use Rattle.vdr_retention.proofs.Choice.{may_go_by_numbers-decides}
+use Rattle.std.proofs.lemmas.Option.{none-some, get_or_from_slice_get, slice_get_within}
+use Rattle.std.proofs.lemmas.List.Elements.{All-contains, Contains-append_left}
+use Rattle.vdr_retention.specs.Retention.{Pin}
+use Rattle.vdr_retention.specs.Victims.{IsLastSecond, is_apart}
+use Rattle.vdr_retention.proofs.Lists.{contains_here, last_contained, all_from}
 use Rattle.vdr_index.specs.declared.known.Known.{Known}
 use Rattle.vdr_index.specs.Indexes.{IsAbove, IsFirst, IsNextAbove, Keeps, passes_by}
 use Rattle.vdr_directory.specs.declared.newest.Newest.{Newest}
 use Rattle.vdr_ring.specs.declared.pins.Pin.{Pin as KeptPin}
-use Rattle.vdr_directory.specs.Sequence.{Placed, seq_of, batches_of, records_of, segments_in, all_records}
-use Rattle.vdr_directory.specs.Order.{HasNone, RunsOn, AreInOrder}
+use Rattle.vdr_directory.specs.Sequence.{Placed, seq_of, all_records}
+use Rattle.vdr_directory.specs.Order.{HasNone, AreInOrder}
 use Rattle.vdr_directory.specs.Directories.{DirectoryState, newest_of}
 use Rattle.vdr_directory.specs.Holds.{Tells}
 use Rattle.vdr_directory.specs.Closed.{IsFull}
 use Rattle.vdr_ring.specs.Stages.{IsOldest, IsVictim}
-use Rattle.vdr_ring.specs.Candidates.{goes, known_of, pin_of}
+use Rattle.vdr_ring.specs.Candidates.{MayGoAsKnown, goes, known_of, pin_of}
 use Rattle.vdr_directory.specs.Indexed.{IsKnown}
-use Rattle.vdr_directory.proofs.Known.{IsInIndex, IsEarlier, Splits, in_index, not_before_empty, placed_at, runs_on, split_at}
+use Rattle.vdr_directory.proofs.Known.{IsInIndex, IsEarlier, Splits, agrees, in_index, not_before_empty, placed_at, runs_on, split_at}
 use Rattle.vdr_directory.proofs.Telling.{empty_told, newest_told}
-
--- What is known of a segment is what retention knows it by.
-
-positive : (rs : List Record) (s : ℕ) → option_map (λ r. second r.tick) (slice_get rs 0) ≡ Some s → 0 < length rs
-positive [] s is = absurd (none-some s is)
-positive (r ∷ rs) s is = omega arith
-
-last_second : (rs : List Record) (s : ℕ) → option_map (λ r. second r.tick) (last rs) ≡ Some s → IsLastSecond s rs
-last_second rs s is newest e = same_Some s (second newest.tick) (sym is ∙ ap (option_map (λ (r : Record). second r.tick)) e)
-
-known_is_extent : (p : Placed) (k : Known) → IsKnown p k → RunsOn p → IsExtent (known_of k) (records_of p)
-known_is_extent p k is runs = record {
-  some = sym (lt-ltb 0 (length (records_of p)) (positive (records_of p) k.summary.first_second is.summary.first_second));
-  places = subst (λ (n : ℕ). RunOn n (records_of p)) (sym is.first) runs.places;
-  ends = ap (λ (n : ℕ). k.first + n) is.count;
-  seconds = last_second (records_of p) k.summary.last_second is.summary.last_second;
-}
-
-own_records : (placed : List Placed) (p : Placed) → Contains placed p → AreAmong (records_of p) (all_records placed)
-own_records placed p m = segment_among (segments_in placed) (batches_of p) (contains_map placed p m)
-  where
-    contains_map : (placed : List Placed) (p : Placed) → Contains placed p → Contains (segments_in placed) (batches_of p)
-    contains_map [] p m = absurd (none_contained p m)
-    contains_map (x ∷ xs) p m =
-        ⊎_elim
-        (λ (e : x ≡ p). subst (λ (q : Placed). Contains (segments_in (x ∷ xs)) (batches_of q)) e (contains_here (batches_of x) (segments_in xs)))
-        (λ (k : Contains xs p). contains_there (batches_of x) (segments_in xs) (batches_of p) (contains_map xs p k))
-        (contains_cases x xs p m)
+use Rattle.vdr_ring.proofs.Going.{empty_goes, known_decides, own_records}
 
 -- by what the code tests
 pub goes_by_test : (seconds : ℕ) (pins : List KeptPin) (held : List Pin) (medium_second : ℕ) (k : Known) (o : Option Known) (old apart : Bool) → map pin_of pins ≡ held → o ≡ Some k
@@ -66,28 +33,19 @@ goes_by_test seconds pins held medium_second k o old apart are is e so a =
 pub first_within : (index : List (Option Known)) (test : Known → Bool) (slot : ℕ) → IsFirst index test slot → slot < length index
 first_within index test slot f = slice_get_within index slot (Some f.known) f.there
 
--- A segment without records may always go.
-empty_goes : (seconds : ℕ) (pins : List Pin) (held : List Record) (p : Placed) → HasNone p → MayGo seconds pins held (batches_of p)
-empty_goes seconds pins held p none = record {
-  old = subst (AreOutside seconds held) (sym none) (All-nil (λ (r : Record). Contains (window seconds held) r → ⊥));
-  free = all_from (λ pin. HaveNoPlace pin.a pin.b (records_of p)) pins (λ pin m. subst (HaveNoPlace pin.a pin.b) (sym none) (All-nil (λ r. within pin.a pin.b r ≡ false)));
-}
-
 module _ (seconds : ℕ) (pins : List Pin) (s count : ℕ) (placed : List Placed) (t : DirectoryState) (tells : Tells count placed t) (order : AreInOrder placed) (lasts : IsLastSecond s (all_records placed)) where
-  decides : (p : Placed) (k : Known) → Contains placed p → IsKnown p k → IsTrue (goes seconds pins s k) ↔ MayGo seconds pins (all_records placed) (batches_of p)
-  decides p k m is =
-      let runs = runs_on None placed order p m in
-      may_go_by_numbers-decides seconds pins (all_records placed) (batches_of p) s (known_of k) (known_is_extent p k is runs) runs.ticks (own_records placed p m) lasts
+  decides : (p : Placed) (k : Known) → Contains placed p → IsKnown p k → IsTrue (goes seconds pins s k) ↔ MayGoAsKnown seconds pins (all_records placed) p
+  decides p k m is = known_decides pins p k is (agrees None placed order p m) (runs_on None placed order p m) seconds s (all_records placed) (own_records placed p m) lasts
 
   -- none before this one may go
   none_before : (p : Placed) → Contains placed p → (sp : Splits placed p) → ((other : ℕ) (l : Known) → Keeps t.index other l → goes seconds pins s l ≡ true → l.seq < seq_of p → ⊥)
-      → All (λ q. MayGo seconds pins (all_records placed) (batches_of q) → ⊥) sp.before
-  none_before p m sp least = all_from (λ q. MayGo seconds pins (all_records placed) (batches_of q) → ⊥) sp.before (λ q n may.
+      → All (λ q. MayGoAsKnown seconds pins (all_records placed) q → ⊥) sp.before
+  none_before p m sp least = all_from (λ q. MayGoAsKnown seconds pins (all_records placed) q → ⊥) sp.before (λ q n may.
       let there : Contains placed q = subst (λ (ps : List Placed). Contains ps q) (sym sp.split) (Contains-append_left sp.before (p ∷ sp.after) q n) in
       let earlier : IsEarlier q p = All-contains (λ q. IsEarlier q p) sp.before q sp.earlier n in
       go q there earlier may (in_index count placed t.index tells.index q there))
     where
-      go : (q : Placed) → Contains placed q → IsEarlier q p → MayGo seconds pins (all_records placed) (batches_of q) → IsInIndex t.index q → ⊥
+      go : (q : Placed) → Contains placed q → IsEarlier q p → MayGoAsKnown seconds pins (all_records placed) q → IsInIndex t.index q → ⊥
       go q there earlier may (inl (none, at)) = not_before_empty placed order p q m there earlier none
       go q there earlier may (inr (l, at, is)) = let lt = earlier.0 in let seq = is.seq in least q.slot l at ((decides q l there is).1 may) (omega (arith, lt, seq))
 
@@ -130,21 +88,21 @@ module _ (seconds : ℕ) (pins : List Pin) (s count : ℕ) (placed : List Placed
       empty p clear (inr (k, at, is)) = absurd (none-some k (sym clear ∙ get_or_from_slice_get t.index p.slot (Some k) None at))
 
   pub none_goes : ((slot : ℕ) (k : Known) → Keeps t.index slot k → goes seconds pins s k ≡ true → ⊥) → ((n : Newest) → t.newest ≡ Some n → (k : Known) × (get_or t.index n.slot None ≡ Some k))
-      → All (λ p. MayGo seconds pins (all_records placed) (batches_of p) → ⊥) placed
-  none_goes none some = all_from (λ p. MayGo seconds pins (all_records placed) (batches_of p) → ⊥) placed (λ p m may. go p m may (in_index count placed t.index tells.index p m))
+      → All (λ p. MayGoAsKnown seconds pins (all_records placed) p → ⊥) placed
+  none_goes none some = all_from (λ p. MayGoAsKnown seconds pins (all_records placed) p → ⊥) placed (λ p m may. go p m may (in_index count placed t.index tells.index p m))
     where
-      go : (p : Placed) → Contains placed p → MayGo seconds pins (all_records placed) (batches_of p) → IsInIndex t.index p → ⊥
+      go : (p : Placed) → Contains placed p → MayGoAsKnown seconds pins (all_records placed) p → IsInIndex t.index p → ⊥
       go p m may (inl (empty, at)) = let k = some (newest_of p) (empty_told count placed t tells order p m empty) in none-some k.0 (sym at ∙ k.1)
       go p m may (inr (k, at, is)) = none p.slot k at ((decides p k m is).1 may)
 
 -- Where none may go, it is the oldest of all.
 module _ (seconds count : ℕ) (pins : List Pin) (placed : List Placed) (t : DirectoryState) (tells : Tells count placed t) (order : AreInOrder placed)
-    (none : All (λ p. MayGo seconds pins (all_records placed) (batches_of p) → ⊥) placed) where
+    (none : All (λ p. MayGoAsKnown seconds pins (all_records placed) p → ⊥) placed) where
   in_it : (p : Placed) → Contains placed p → (k : Known) × Keeps t.index p.slot k × IsKnown p k
   in_it p m = go (in_index count placed t.index tells.index p m)
     where
       go : IsInIndex t.index p → (k : Known) × Keeps t.index p.slot k × IsKnown p k
-      go (inl (empty, at)) = absurd (All-contains (λ p. MayGo seconds pins (all_records placed) (batches_of p) → ⊥) placed p none m (empty_goes seconds pins (all_records placed) p empty))
+      go (inl (empty, at)) = absurd (All-contains (λ p. MayGoAsKnown seconds pins (all_records placed) p → ⊥) placed p none m (empty_goes seconds pins (all_records placed) p empty))
       go (inr k) = k
 
   pub forced : (slot : ℕ) → IsNextAbove t.index None slot → (before : List Placed) × (victim : Placed) × (after : List Placed) × IsVictim seconds pins placed before victim after × (slot ≡ victim.slot)

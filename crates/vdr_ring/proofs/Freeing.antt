@@ -11,6 +11,7 @@ use Rattle.vdr_retention.specs.Retention.{Pin}
 use Rattle.vdr_retention.proofs.Lists.{contains_here}
 use Rattle.vdr_terms.proofs.Somewhere.{any_here, any_there}
 use Rattle.vdr_directory.specs.Sequence.{Placed, AreInSequence}
+use Rattle.vdr_directory.specs.Order.{AreInOrder}
 use Rattle.vdr_directory.specs.Directories.{DirectoryState}
 use Rattle.vdr_directory.specs.Holds.{HoldsPlaced, HoldsAny, Tells}
 use Rattle.vdr_ring.specs.Rings.{RingState, Reads}
@@ -97,11 +98,11 @@ module _ {tells tells_images : Type 0} where
         (moments slots (settled_slots m segment count placed old s told) (λ bad. none-some v.1.segment (same_Some None (Some v.1.segment) (sym bad ∙ there))))
         (λ b. holds_either segment count slots (set slots n None) placed left b (s.reads told).sequence closed every every_closed)
 
-    pub freed_stands : (r : RingState) → r.medium ≡ m → r.segment ≡ segment → r.slots ≡ count → r.directory ≡ record t { index = set t.index n None } → n < count → 0 < seconds → 2 ≤ count → NewestHasRecords placed → IsFull count placed
+    pub freed_stands : (r : RingState) → r.medium ≡ m → r.segment ≡ segment → r.slots ≡ count → r.directory ≡ record t { index = set t.index n None } → n < count → 0 < seconds → 2 ≤ count → AreInOrder placed → NewestHasRecords placed → IsFull count placed
         → ((slots : List (Option Segment)) → Settled m (HoldsSlots segment slots) old → Settled m (HoldsSlots segment (slots_closed slots n)) new)
         → IsFree r n left new
-    freed_stands r medium size slots_are is within some two newest full settled =
-        let behind = victim_not_newest count seconds pins placed v.0 v.1 v.2 some two newest full v.3 in
+    freed_stands r medium size slots_are is within some two order newest full settled =
+        let behind = victim_not_newest count seconds pins placed v.0 v.1 v.2 some two order newest full v.3 in
         let apart = distinct_slots slots v.0 v.1 v.2 sequence in
         let tells_left : Tells count left r.directory = tells_closed count slots v.0 v.1 v.2 t r.directory (subst (λ (ps : List Placed). Tells count ps t) split tell) sequence behind (subst NewestHasRecords split newest)
         (is ∙ ap (λ (j : ℕ). record t { index = set t.index j None }) v.4) in

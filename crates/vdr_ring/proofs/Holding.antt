@@ -1,6 +1,6 @@
 -- Which places stand in segments, found by a walk over an index in its order.
 use Rattle.std.proofs.Common.{◌≡◌, ◌<◌, ◌≤◌, ◌⊎◌, inl, inr, ⊎_elim, ℕ, ◌+◌, List, length, get_or, Contains, Option, Some, None, sym, ◌∙◌, ap, subst, arith}
-use Rattle.std.specs.Prelude.{Any}
+use Rattle.std.specs.Prelude.{Any, IfSome}
 use Rattle.std.proofs.lemmas.Bool.{cases_eq, cases_lt}
 use Rattle.std.proofs.lemmas.Option.{none-some, same_Some, get_or_from_slice_get}
 use Rattle.std.proofs.lemmas.List.{get_or_default}
@@ -9,17 +9,17 @@ use Rattle.vdr_index.specs.Indexes.{Keeps}
 use Rattle.vdr_index.specs.Keys.{IsOrdered}
 use Rattle.vdr_index.proofs.Ranks.{Stands, keeps_at, keeps_lt, one_place, place_of, seqs_rise}
 use Rattle.vdr_directory.specs.Sequence.{Placed, first_of}
-use Rattle.vdr_directory.specs.Order.{AreInOrder, HasPlace}
+use Rattle.vdr_directory.specs.Order.{Agrees, AreInOrder, HasPlace}
 use Rattle.vdr_directory.specs.Lookup.{HoldAll}
 use Rattle.vdr_directory.specs.Indexed.{IsKnown, IsIndexed}
-use Rattle.vdr_directory.proofs.Known.{IsInIndex, IsEarlier, in_index, placed_at, which_first}
+use Rattle.vdr_directory.proofs.Known.{IsInIndex, IsEarlier, agrees, in_index, known_count, placed_at, which_first}
 
 -- The segment of which this is known has the place.
 abbrev pub KnownHas : Known → ℕ → Type 0
 KnownHas k place = (k.first ≤ place) × (place < k.first + k.summary.count)
 
-has_by : (p : Placed) (k : Known) (place : ℕ) → IsKnown p k → KnownHas k place → HasPlace place p
-has_by p k place is h = let f = is.first in let c = is.count in let a = h.0 in let b = h.1 in record { from = omega (arith, f, a); below = omega (arith, f, c, b) }
+has_by : (p : Placed) (k : Known) (place : ℕ) → IsKnown p k → IfSome p.segment.header.summary (Agrees p) → KnownHas k place → HasPlace place p
+has_by p k place is agree h = let f = is.first in let c = known_count p k is agree in let a = h.0 in let b = h.1 in record { from = omega (arith, f, a); below = omega (arith, f, c, b) }
 
 -- What was found of the first i slots: the places before this one stand in segments, and none of theirs has this one.
 pub record LeftAt (a place : ℕ) (placed : List Placed) (order : List ℕ) (i : ℕ) : Type 0 where
@@ -60,27 +60,27 @@ module _ (index : List (Option Known)) (order : List ℕ) (o : IsOrdered index o
     there = keeps_at index here k at
 
     -- what is known of it is known of the segment in the slot
-    is_of : (j count : ℕ) (placed : List Placed) → IsIndexed count placed index → (p : Placed) → Contains placed p → p.slot ≡ here → HasPlace j p → KnownHas k j
-    is_of j count placed x p m slot has = go (in_index count placed index x p m)
+    is_of : (j count : ℕ) (placed : List Placed) → IsIndexed count placed index → AreInOrder placed → (p : Placed) → Contains placed p → p.slot ≡ here → HasPlace j p → KnownHas k j
+    is_of j count placed x in_order p m slot has = go (in_index count placed index x p m)
       where
         go : IsInIndex index p → KnownHas k j
         go (inl (none, clear)) = absurd (none-some k (sym clear ∙ ap (λ (j : ℕ). get_or index j None) slot ∙ at))
         go (inr (l, kept, is)) =
             let same : l ≡ k = same_Some l k (sym (get_or_from_slice_get index p.slot (Some l) None kept) ∙ ap (λ (j : ℕ). get_or index j None) slot ∙ at) in
             let f : l.first ≡ first_of p = is.first in
-            let c = is.count in
+            let c = known_count p l is (agrees None placed in_order p m) in
             let from = has.from in
             let below = has.below in
             subst (λ (k : Known). KnownHas k j) same (omega (arith, f, from), omega (arith, f, c, below))
 
     pub left_still : (KnownHas k place → ⊥) → HasLeft a place index order (i + 1)
-    left_still not count placed x in_order = one_more count placed x in_order (λ p m slot has. not (is_of place count placed x p m slot has))
+    left_still not count placed x in_order = one_more count placed x in_order (λ p m slot has. not (is_of place count placed x in_order p m slot has))
 
     -- it has the place, and all up to its last one
     up_to : (count : ℕ) (placed : List Placed) (x : IsIndexed count placed index) → AreInOrder placed → KnownHas k place → (j : ℕ) → a ≤ j → j < k.first + k.summary.count → Any (HasPlace j) placed
     up_to count placed x in_order has j from to = ⊎_elim
         (λ (lt : j < place). (left count placed x in_order).before j from lt)
-        (λ (le : place ≤ j). let low = has.0 in anywhere (has_by p.0 k j p.3 (omega (arith, low, le), to)))
+        (λ (le : place ≤ j). let low = has.0 in anywhere (has_by p.0 k j p.3 (agrees None placed in_order p.0 p.1) (omega (arith, low, le), to)))
         (cases_lt j place)
       where
         p : (p : Placed) × Contains placed p × (p.slot ≡ here) × IsKnown p k
@@ -96,7 +96,7 @@ module _ (index : List (Option Known)) (order : List ℕ) (o : IsOrdered index o
     left_next has count placed x in_order = record {
       before = λ j from to. up_to count placed x in_order has j from to;
       none = λ j d q lt m slot holds. ⊎_elim
-          (λ (e : j ≡ i). let bad = (is_of (k.first + k.summary.count) count placed x q m (slot ∙ ap (λ (n : ℕ). get_or order n d) e ∙ get_or_default order i d 0 within) holds).1 in omega (arith, bad))
+          (λ (e : j ≡ i). let bad = (is_of (k.first + k.summary.count) count placed x in_order q m (slot ∙ ap (λ (n : ℕ). get_or order n d) e ∙ get_or_default order i d 0 within) holds).1 in omega (arith, bad))
           (λ (ne : j ≡ i → ⊥). sooner count placed x in_order q m (in_index count placed index x q m) j d (omega (arith, lt, ne)) slot holds)
           (cases_eq j i);
     }

@@ -112,6 +112,7 @@ module _ {tells tells_images : Type 0} (ring now : RingState) (placed : List Pla
     order = reads.order;
     directory = reads.directory;
     loaded = subst (λ (r : RingState). IsLoaded r read) same (loaded reads.loaded);
+    bare = reads.bare;
   })
 
   module _ (slot : ℕ) (told : tells) (at : now.loaded ≡ Some slot) (found : IsLastSlot placed (Some slot)) where

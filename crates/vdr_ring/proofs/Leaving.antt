@@ -1,33 +1,31 @@
 -- A medium at every moment until the segment that a batch leaves behind has its summary.
-use Rattle.std.proofs.Common.{◌≡◌, ◌≢◌, ◌⊎◌, ℕ, List, [], ◌∷◌, ◌++◌, length, slice_get, Option, Some, None, Result, OnOk, inl, inr, ⊎_elim, refl, sym, ap, ◌∙◌, subst, append_assoc, length-set}
+use Rattle.std.proofs.Common.{◌≡◌, ◌≢◌, ◌⊎◌, ℕ, List, [], ◌∷◌, ◌++◌, slice_get, Option, Some, None, Result, OnOk, inl, inr, ⊎_elim, refl, sym, ap, ◌∙◌, subst, append_assoc}
 use Rattle.std.proofs.lemmas.Option.{none-some, same_Some}
 use Rattle.std.proofs.lemmas.Result.{on_ok_weaker}
 use Rattle.std.proofs.lemmas.List.{same_from_push}
-use Rattle.std.proofs.lemmas.List.Elements.{All-contains}
 use Rattle.vdr_terms.specs.Records.{Record, last}
 use Rattle.vdr_terms.proofs.Somewhere.{any_left, any_right}
 use Rattle.vdr_entry.specs.declared.summary.Summary.{Summary}
 use Rattle.vdr_outside.specs.Disk.{Disk}
 use Rattle.vdr_outside.specs.Moments.{ChangesOnly, Settled}
 use Rattle.vdr_outside.proofs.Moments.{changes_weaken, changes_join}
-use Rattle.vdr_segment.specs.Segments.{Segment, with_summary}
+use Rattle.vdr_segment.specs.Segments.{Segment}
 use Rattle.vdr_slots.specs.Slots.{HoldsSlots, HoldsEither, slots_with_summary}
 use Rattle.vdr_retention.specs.Retention.{Pin}
 use Rattle.vdr_retention.proofs.Lists.{last_contained}
-use Rattle.vdr_directory.specs.Sequence.{Placed, AreInSequence}
+use Rattle.vdr_directory.specs.Sequence.{Placed}
 use Rattle.vdr_directory.specs.Directories.{DirectoryState}
 use Rattle.vdr_directory.specs.Holds.{HoldsPlaced, HoldsAny, Tells}
 use Rattle.vdr_directory.specs.Growing.{with_batch_in}
 use Rattle.vdr_directory.specs.Leaving.{IsLeftBehind, LeavesNone, summarized}
 use Rattle.vdr_directory.proofs.Runs.{ends_with, nil_from_last}
-use Rattle.vdr_directory.proofs.Placing.{replace_in_sequence}
 use Rattle.vdr_directory.proofs.Ordering.{newest_in_place}
-use Rattle.vdr_directory.proofs.Behind.{exact_known, second_last, tells_left, which_left}
+use Rattle.vdr_directory.proofs.Behind.{exact_known, tells_left, which_left}
 use Rattle.vdr_ring.specs.Rings.{RingState, IsSameRing, Reads}
 use Rattle.vdr_ring.specs.Stages.{Stages, BeginsAnew, IsWritten, IsLeft}
 use Rattle.vdr_ring.proofs.Staging.{Finds, leaves_closed, newest_before, left_in_its_order}
 use Rattle.vdr_ring.proofs.Beginning.{next_segment}
-use Rattle.vdr_ring.proofs.Freeing.{holds_either, settled_slots, settled_placed}
+use Rattle.vdr_ring.proofs.Summarizing.{summarized_moments, summarized_settled}
 
 -- The same stages, but for the last.
 abbrev pub leaving : Stages → List Placed → Stages
@@ -39,7 +37,7 @@ left_by stages records slot s b = b.older ++ summarized b.left s ∷ with_batch_
 
 module _ (size count seconds : ℕ) (pins : List Pin) (placed : List Placed) (first : ℕ) (records : List Record) (stages : Stages) where
   pub still_written : (left : List Placed) → IsWritten size count seconds pins placed first records stages → IsWritten size count seconds pins placed first records (leaving stages left)
-  still_written left (inl g) = inl (record { older = g.older; newest = g.newest; split = g.split; room = g.room; closed = g.closed; begun = g.begun; done = g.done })
+  still_written left (inl g) = inl (record { older = g.older; newest = g.newest; split = g.split; bare = g.bare; room = g.room; closed = g.closed; begun = g.begun; done = g.done })
   still_written left (inr b) = inr (record { no_room = b.no_room; slot = b.slot; place = b.place; begun = b.begun; done = b.done })
 
   -- the segment into which the batch goes
@@ -77,7 +75,8 @@ module _ (size count seconds : ℕ) (pins : List Pin) (placed : List Placed) (fi
             let new = next_segment placed b.slot first in
             let w = ends_with stages.closed q e in
             let is : last placed ≡ Some q = sym (leaves_closed size count seconds pins slots placed first records stages finds b).newest ∙ e in
-            let exact = exact_known count placed t tells q (last_contained placed q is) (newest_before size count seconds pins slots placed first records stages finds b q is) in
+            let none = (newest_in_place placed q finds.order is).1.precedes in
+            let exact = exact_known count placed t tells q (last_contained placed q is) (newest_before size count seconds pins slots placed first records stages finds b q is) none in
             inr (
               q.slot,
               exact.0,
@@ -88,7 +87,7 @@ module _ (size count seconds : ℕ) (pins : List Pin) (placed : List Placed) (fi
                 split = b.begun ∙ ap (λ (ps : List Placed). ps ++ new ∷ []) w.split ∙ append_assoc w.older (q ∷ []) (new ∷ []);
                 empty = refl;
                 at = refl;
-                none = (newest_in_place placed q finds.order is).1.precedes;
+                none = none;
                 exact = exact.1;
               },
             )
@@ -127,23 +126,6 @@ module _ {tells tells_images : Type 0} (r q : RingState) (placed : List Placed) 
   abbrev settled : Settled q.medium (HoldsPlaced q.segment q.slots before) mid
   settled = subst (λ (ps : List Placed). Settled q.medium (HoldsPlaced q.segment q.slots ps) mid) done reads.settled
 
-  abbrev slots : List (Option Segment)
-  slots = (settled.reads told).slots
-
-  slots_before : Settled q.medium (HoldsSlots q.segment slots) mid
-  slots_before = settled_slots q.medium q.segment q.slots before mid settled told
-
-  there : slice_get slots slot ≡ Some (Some b.left.segment)
-  there = ap (λ (j : ℕ). slice_get slots j) (sym b.at)
-      ∙ All-contains (λ p. slice_get slots p.slot ≡ Some (Some p.segment)) before b.left (settled.reads told).sequence.there (second_last b.older b.left newest)
-
-  sequence : AreInSequence (slots_with_summary slots slot b.left.segment s) after
-  sequence = subst (λ (j : ℕ). AreInSequence (slots_with_summary slots j b.left.segment s) after) b.at
-      (replace_in_sequence slots b.older b.left (newest ∷ []) (with_summary b.left.segment (Some s)) refl (settled.reads told).sequence)
-
-  every : length (slots_with_summary slots slot b.left.segment s) ≡ q.slots
-  every = length-set slots slot (Some (with_summary b.left.segment (Some s))) ∙ (settled.reads told).all_slots
-
   pub left_moments : ChangesOnly r.medium (HoldsAny r.segment r.slots (placed ∷ stages.closed ∷ stages.begun ∷ stages.done ∷ [])) old mid
       → ((slots : List (Option Segment)) (g : Segment) → Settled q.medium (HoldsSlots q.segment slots) mid → slice_get slots slot ≡ Some (Some g) → g.header.summary ≡ None
       → ChangesOnly q.medium (HoldsEither q.segment slots (slots_with_summary slots slot g s)) mid new)
@@ -152,20 +134,21 @@ module _ {tells tells_images : Type 0} (r q : RingState) (placed : List Placed) 
       changes_join r.medium (HoldsAny r.segment r.slots (placed ∷ stages.closed ∷ stages.begun ∷ stages.done ∷ after ∷ [])) old mid new (done_before r.medium r.segment r.slots placed stages after old mid first)
       (subst (λ (ps : List Placed). ChangesOnly r.medium (HoldsAny r.segment r.slots (placed ∷ stages.closed ∷ stages.begun ∷ ps ∷ after ∷ [])) mid new) (sym done)
       (subst (λ (k : ℕ × ℕ × ℕ). ChangesOnly k.0 (HoldsAny k.1 k.2 (placed ∷ stages.closed ∷ stages.begun ∷ before ∷ after ∷ [])) mid new) (λ i. (same.medium i, same.segment i, same.slots i))
-      (changes_weaken q.medium _ (HoldsAny q.segment q.slots (placed ∷ stages.closed ∷ stages.begun ∷ before ∷ after ∷ [])) mid new (moments slots b.left.segment slots_before there b.none)
-      (λ x h. any_right (λ (ps : List Placed). HoldsPlaced q.segment q.slots ps x) (placed ∷ stages.closed ∷ stages.begun ∷ []) (before ∷ after ∷ [])
-      (holds_either q.segment q.slots slots (slots_with_summary slots slot b.left.segment s) before after x (settled.reads told).sequence sequence (settled.reads told).all_slots every h)))))
+      (changes_weaken q.medium _ (HoldsAny q.segment q.slots (placed ∷ stages.closed ∷ stages.begun ∷ before ∷ after ∷ [])) mid new
+      (summarized_moments q.medium q.segment q.slots b.older b.left (newest ∷ []) slot s b.at b.none mid new told settled moments)
+      (λ x h. any_right (λ (ps : List Placed). HoldsPlaced q.segment q.slots ps x) (placed ∷ stages.closed ∷ stages.begun ∷ []) (before ∷ after ∷ []) h))))
 
-  pub left_reads : {T E : Type 0} (result : Result T E) → records ≢ [] → IsLeft records (leaving stages (left_by stages records slot s b)) → q.loaded ≡ None
+  pub left_reads : {T E : Type 0} (result : Result T E) → records ≢ [] → IsLeft records (leaving stages (left_by stages records slot s b)) → q.loaded ≡ None → q.bare ≡ []
       → ((slots : List (Option Segment)) (g : Segment) → Settled q.medium (HoldsSlots q.segment slots) mid → slice_get slots slot ≡ Some (Some g) → g.header.summary ≡ None
       → OnOk result (Settled q.medium (HoldsSlots q.segment (slots_with_summary slots slot g s)) new))
       → OnOk result (Reads q (left_by stages records slot s b) new)
-  left_reads result some is loaded settled_now =
+  left_reads result some is loaded none_bare settled_now =
       on_ok_weaker result
-      (λ (now : Settled q.medium (HoldsSlots q.segment (slots_with_summary slots slot b.left.segment s)) new). record {
-        settled = settled_placed q.medium q.segment q.slots (slots_with_summary slots slot b.left.segment s) after new sequence every now;
+      (λ (now : Settled q.medium (HoldsPlaced q.segment q.slots after) new). record {
+        settled = now;
         order = left_in_its_order records (leaving stages after) some reads.order is;
-        directory = tells_left q.slots b.older b.left newest s q.directory (subst (λ (ps : List Placed). Tells q.slots ps q.directory) done reads.directory);
+        directory = tells_left q.slots b.older b.left (newest ∷ []) s q.directory b.none b.exact (subst (λ (ps : List Placed). Tells q.slots ps q.directory) done reads.directory);
         loaded = λ j bad. absurd (none-some j (sym loaded ∙ bad));
+        bare = inl none_bare;
       })
-      (settled_now slots b.left.segment slots_before there b.none)
+      (summarized_settled q.medium q.segment q.slots b.older b.left (newest ∷ []) slot s b.at b.none mid new told settled result settled_now)

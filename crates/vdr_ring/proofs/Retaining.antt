@@ -2,8 +2,9 @@
 use Rattle.std.proofs.Common.{◌≡◌, ◌≢◌, ℕ, ◌+◌, ◌<◌, ◌≤◌, ◌⊎◌, inl, inr, ⊎_elim, List, [], ◌∷◌, ◌++◌, length, All, Contains, Option, Some, refl, sym, ap, ◌∙◌, subst, arith, append_assoc}
 use Rattle.std.proofs.lemmas.Bool.{cases_lt}
 use Rattle.std.proofs.lemmas.List.{length-map, length_push, map-append, map_push, same_from_push}
-use Rattle.std.proofs.lemmas.List.Elements.{All-contains, All-map, All-nil, All-cons, Contains-append_right}
+use Rattle.std.proofs.lemmas.List.Elements.{All-contains, All-map, All-nil, All-cons, Contains-append_left, Contains-append_right}
 use Rattle.vdr_terms.specs.Records.{Record, last}
+use Rattle.vdr_terms.specs.Order.{AreInOrder}
 use Rattle.vdr_terms.specs.Needs.{Sizes, cost, usable, needed_slots}
 use Rattle.vdr_terms.specs.Sizes.{batch_size, records_size}
 use Rattle.vdr_segment.specs.Segments.{end_of}
@@ -11,17 +12,22 @@ use Rattle.vdr_retention.specs.Layout.{Batches, batches_size, records_in}
 use Rattle.vdr_retention.specs.Regular.{FollowOn, IsPaced, IsRegular}
 use Rattle.vdr_retention.specs.Retention.{Pin, Retains}
 use Rattle.vdr_retention.specs.Victims.{ArePinsOf, HasVictim, IsOldestCandidate, MayGo}
-use Rattle.vdr_retention.proofs.Lists.{contains_here, last_behind}
+use Rattle.vdr_retention.proofs.Lists.{all_from, contains_cases, contains_here, last_behind, none_contained}
+use Rattle.vdr_retention.proofs.Ordered.{parts_in_order}
 use Rattle.vdr_retention.proofs.Appended.{batch_retains, begin_retains, close_retains, remove_stays_paced}
 use Rattle.vdr_retention.proofs.Paced.{append_stays_regular, begin_stays_paced, begin_stays_regular, full_where_unfit, remove_stays_regular}
 use Rattle.vdr_retention.proofs.Needed.{one_victim}
 use Rattle.vdr_retention.proofs.Victims.{medium_has_victim}
-use Rattle.vdr_directory.specs.Sequence.{Placed, batches_in, batches_of, segments_in, all_records}
+use Rattle.vdr_directory.specs.Sequence.{Placed, batches_of, records_of, segments_in, all_records}
+use Rattle.vdr_directory.specs.Leaving.{IsExactlySummarized}
 use Rattle.vdr_directory.specs.Closed.{IsFull, IsLeastClosed}
 use Rattle.vdr_directory.specs.Growing.{new_segment, next_seq, with_batch_in}
-use Rattle.vdr_directory.proofs.Leaving.{left_batches, left_segments}
+use Rattle.vdr_directory.proofs.Leaving.{left_segments}
 use Rattle.vdr_ring.specs.Stages.{AreStages, BeginsAnew, GoesOn, HasRoom, IsLeft, IsOldest, IsVictim, Stages}
-use Rattle.vdr_ring.specs.Regularity.{AreRegular, IsAllowed}
+use Rattle.vdr_ring.specs.Candidates.{MayGoAsKnown}
+use Rattle.vdr_ring.specs.Regularity.{AreLaidOut, AreRegular, IsAllowed}
+use Rattle.vdr_ring.proofs.Exact.{laid_out_same, stages_exact}
+use Rattle.vdr_ring.proofs.Going.{goes_exactly, known_where_goes, own_records}
 
 -- Segments, as placed and as batches
 
@@ -48,16 +54,56 @@ ends_of (p ∷ ps) = behind p (ends_of ps)
     behind p empty = ends [] p
     behind p (ends older newest) = ends (p ∷ older) newest
 
-newest_regular : (cost usable batch : ℕ) (older : List Placed) (newest : Placed) → AreRegular cost usable batch (older ++ newest ∷ []) → IsRegular cost usable batch (segments_in older) (batches_of newest)
+newest_regular : (cost usable batch : ℕ) (older : List Placed) (newest : Placed) → AreLaidOut cost usable batch (older ++ newest ∷ []) → IsRegular cost usable batch (segments_in older) (batches_of newest)
 newest_regular cost usable batch older newest (inl e) = absurd (not_empty older newest [] e)
 newest_regular cost usable batch older newest (inr (older', newest', split, h)) =
     let k = same_from_push (segments_in older) older' (batches_of newest) newest' (sym (segments_push older newest) ∙ split) in
     subst (λ (p : List Batches × Batches). IsRegular cost usable batch p.0 p.1) (λ i. (sym k.0 i, sym k.1 i)) h
 
-regular_newest : (cost usable batch : ℕ) (older : List Placed) (newest : Placed) → IsRegular cost usable batch (segments_in older) (batches_of newest) → AreRegular cost usable batch (older ++ newest ∷ [])
+regular_newest : (cost usable batch : ℕ) (older : List Placed) (newest : Placed) → IsRegular cost usable batch (segments_in older) (batches_of newest) → AreLaidOut cost usable batch (older ++ newest ∷ [])
 regular_newest cost usable batch older newest h = inr (segments_in older, batches_of newest, segments_push older newest, h)
 
+laid_out_in_order : (cost usable batch : ℕ) (placed : List Placed) → AreLaidOut cost usable batch placed → AreInOrder (all_records placed)
+laid_out_in_order cost usable batch placed (inl none) = subst (λ (ps : List Placed). AreInOrder (all_records ps)) (sym none) tt
+laid_out_in_order cost usable batch placed (inr (older, newest, split, h)) = subst (λ (ss : List Batches). AreInOrder (records_in ss)) (sym split) h.order
+
+in_its_order : (placed : List Placed) → AreInOrder (all_records placed) → (p : Placed) → Contains placed p → AreInOrder (records_of p)
+in_its_order [] order p m = absurd (none_contained p m)
+in_its_order (x ∷ xs) order p m =
+    let parts = parts_in_order (records_of x) (all_records xs) order in
+    ⊎_elim
+    (λ (e : x ≡ p). subst (λ (q : Placed). AreInOrder (records_of q)) e parts.0)
+    (λ (k : Contains xs p). in_its_order xs parts.1 p k)
+    (contains_cases x xs p m)
+
 -- What a configuration allows
+
+-- Its records are in order, and each of its summaries is exact: a segment may go by what is known of it where it may by its records.
+module _ (sizes : Sizes) (m size count seconds : ℕ) (pins : List Pin) (placed : List Placed) (records : List Record) (h : IsAllowed sizes m size count seconds pins placed records) (p : Placed) (there : Contains placed p) where
+  own_order : AreInOrder (records_of p)
+  own_order = in_its_order placed (laid_out_in_order (cost sizes) (usable sizes) sizes.batch placed h.regular.layout) p there
+
+  exact : IsExactlySummarized p
+  exact = All-contains IsExactlySummarized placed p h.regular.exact there
+
+  may_go : MayGoAsKnown seconds pins (all_records placed) p → MayGo seconds pins (all_records placed) (batches_of p)
+  may_go = goes_exactly seconds pins (all_records placed) p (own_records placed p there) exact own_order
+
+  as_known : MayGo seconds pins (all_records placed) (batches_of p) → MayGoAsKnown seconds pins (all_records placed) p
+  as_known = known_where_goes seconds pins (all_records placed) p (own_records placed p there) exact
+
+pub oldest_candidate : (sizes : Sizes) (m size count seconds : ℕ) (pins : List Pin) (placed : List Placed) (records : List Record) (before : List Placed) (victim : Placed) (after : List Placed)
+    → IsAllowed sizes m size count seconds pins placed records → IsOldest seconds pins placed before victim after
+    → IsOldestCandidate seconds pins (segments_in placed) (segments_in before) (batches_of victim) (segments_in after)
+oldest_candidate sizes m size count seconds pins placed records before victim after h k = record {
+  split = ap segments_in k.split ∙ segments_split before victim after;
+  may_go = may_go sizes m size count seconds pins placed records h victim
+      (subst (λ (ps : List Placed). Contains ps victim) (sym k.split) (Contains-append_right before (victim ∷ after) victim (contains_here victim after))) k.may_go;
+  oldest = All-map (λ s. MayGo seconds pins (all_records placed) s → ⊥) batches_of before
+      (all_from (λ p. MayGo seconds pins (all_records placed) (batches_of p) → ⊥) before (λ p m_p may.
+      All-contains (λ p. MayGoAsKnown seconds pins (all_records placed) p → ⊥) before p k.none_before m_p
+      (as_known sizes m size count seconds pins placed records h p (subst (λ (ps : List Placed). Contains ps p) (sym k.split) (Contains-append_left before (victim ∷ after) p m_p)) may)));
+}
 
 -- A newest segment that has no room for the batch has more than the usable bytes.
 full_newest : (sizes : Sizes) (m size count seconds : ℕ) (pins : List Pin) (placed : List Placed) (records : List Record) (newest : Placed) → IsAllowed sizes m size count seconds pins placed records
@@ -76,7 +122,7 @@ module _ (sizes : Sizes) (m size count seconds : ℕ) (pins : List Pin) (older :
   older_victim : HasVictim seconds pins (segments_in older) (batches_of newest)
   older_victim =
       subst (λ (s : ℕ). HasVictim s pins (segments_in older) (batches_of newest)) h.window
-      (medium_has_victim sizes m (segments_in older) (batches_of newest) pins (newest_regular (cost sizes) (usable sizes) sizes.batch older newest h.regular) roomy
+      (medium_has_victim sizes m (segments_in older) (batches_of newest) pins (newest_regular (cost sizes) (usable sizes) sizes.batch older newest h.regular.layout) roomy
       (subst (λ (ss : List Batches). ArePinsOf sizes m (records_in ss) pins) (segments_push older newest) h.saves) enough)
     where
       roomy : 0 < usable sizes
@@ -94,14 +140,13 @@ module _ (sizes : Sizes) (m size count seconds : ℕ) (pins : List Pin) (older :
       → IsOldestCandidate seconds pins (segments_in older ++ batches_of newest ∷ []) (segments_in before) (batches_of victim) (segments_in after)
   candidate before victim after k =
       subst (λ (ss : List Batches). IsOldestCandidate seconds pins ss (segments_in before) (batches_of victim) (segments_in after)) (segments_push older newest)
-      (record {
-        split = ap segments_in k.split ∙ segments_split before victim after;
-        may_go = k.may_go;
-        oldest = All-map (λ s. MayGo seconds pins (all_records (older ++ newest ∷ [])) s → ⊥) batches_of before k.none_before;
-      })
+      (oldest_candidate sizes m size count seconds pins (older ++ newest ∷ []) records before victim after h k)
 
-  not_forced : All (λ p. MayGo seconds pins (all_records (older ++ newest ∷ [])) (batches_of p) → ⊥) (older ++ newest ∷ []) → ⊥
-  not_forced none =
+  not_forced : All (λ p. MayGoAsKnown seconds pins (all_records (older ++ newest ∷ [])) p → ⊥) (older ++ newest ∷ []) → ⊥
+  not_forced unknown =
+      let none : All (λ p. MayGo seconds pins (all_records (older ++ newest ∷ [])) (batches_of p) → ⊥) (older ++ newest ∷ []) =
+      all_from (λ p. MayGo seconds pins (all_records (older ++ newest ∷ [])) (batches_of p) → ⊥) (older ++ newest ∷ []) (λ p there may.
+      All-contains (λ p. MayGoAsKnown seconds pins (all_records (older ++ newest ∷ [])) p → ⊥) (older ++ newest ∷ []) p unknown there (as_known sizes m size count seconds pins (older ++ newest ∷ []) records h p there may)) in
       let v = older_victim in
       let all : All (λ s. MayGo seconds pins (all_records (older ++ newest ∷ [])) s → ⊥) (segments_in (older ++ newest ∷ [])) =
       All-map (λ s. MayGo seconds pins (all_records (older ++ newest ∷ [])) s → ⊥) batches_of (older ++ newest ∷ []) none in
@@ -163,7 +208,7 @@ module _ (sizes : Sizes) (m size count seconds : ℕ) (pins : List Pin) (records
       older,
       newest,
       refl,
-      newest_regular (cost sizes) (usable sizes) sizes.batch older newest h.regular,
+      newest_regular (cost sizes) (usable sizes) sizes.batch older newest h.regular.layout,
       full_newest sizes m size count seconds pins (older ++ newest ∷ []) records newest h (no_room newest (last_behind older newest [])),
     );
     paced = h.paced;
@@ -186,7 +231,7 @@ module _ (sizes : Sizes) (m size count seconds : ℕ) (pins : List Pin) (records
           (remove_stays_regular (cost sizes) (usable sizes) sizes.batch (segments_in before) (batches_of victim) (segments_in rest) (batches_of newest)
           (subst (λ (ss : List Batches). IsRegular (cost sizes) (usable sizes) sizes.batch ss (batches_of newest)) (segments_split before victim rest)
           (newest_regular (cost sizes) (usable sizes) sizes.batch (before ++ victim ∷ rest) newest
-          (subst (λ (ps : List Placed). AreRegular (cost sizes) (usable sizes) sizes.batch ps) (sym (append_assoc before (victim ∷ rest) (newest ∷ []))) h.regular)))),
+          (subst (λ (ps : List Placed). AreLaidOut (cost sizes) (usable sizes) sizes.batch ps) (sym (append_assoc before (victim ∷ rest) (newest ∷ []))) h.regular.layout)))),
       full_newest sizes m size count seconds pins (before ++ victim ∷ (rest ++ newest ∷ [])) records newest h
           (no_room newest (ap last (sym (append_assoc before (victim ∷ rest) (newest ∷ []))) ∙ last_behind (before ++ victim ∷ rest) newest [])),
     );
@@ -208,7 +253,9 @@ module _ (sizes : Sizes) (m size count seconds : ℕ) (pins : List Pin) (records
           (closed_victim before victim after (ends_of after) k.1
           (subst (λ (ps : List Placed). IsAllowed sizes m size count seconds pins ps records) k.0.split h)
           (subst (λ (ps : List Placed). (p : Placed) → last ps ≡ Some p → HasRoom size p records → ⊥) k.0.split b.no_room)
-          (subst (λ (ps : List Placed). MayGo seconds pins (all_records ps) (batches_of victim)) k.0.split k.0.may_go))
+          (subst (λ (ps : List Placed). MayGo seconds pins (all_records ps) (batches_of victim)) k.0.split
+          (may_go sizes m size count seconds pins placed records h victim
+          (subst (λ (ps : List Placed). Contains ps victim) (sym k.0.split) (Contains-append_right before (victim ∷ after) victim (contains_here victim after))) k.0.may_go)))
 
       go : (IsLeastClosed count placed b.slot × (stages.closed ≡ placed))
           ⊎ (IsFull count placed × (before : List Placed) × (victim : Placed) × (after : List Placed) × IsVictim seconds pins placed before victim after × (b.slot ≡ victim.slot) × (stages.closed ≡ before ++ after))
@@ -223,9 +270,9 @@ record LeavesStages (sizes : Sizes) (seconds : ℕ) (pins : List Pin) (placed : 
   retained_closed : (all : List Record) → Retains seconds pins all (all_records placed) → Retains seconds pins all (all_records stages.closed)
   retained_begun : (all : List Record) → Retains seconds pins all (all_records placed) → Retains seconds pins all (all_records stages.begun)
   retained_done : (all : List Record) → Retains seconds pins all (all_records placed) → Retains seconds pins (all ++ records) (all_records stages.done)
-  regular_closed : AreRegular (cost sizes) (usable sizes) sizes.batch stages.closed
-  regular_begun : AreRegular (cost sizes) (usable sizes) sizes.batch stages.begun
-  regular_done : AreRegular (cost sizes) (usable sizes) sizes.batch stages.done
+  layout_closed : AreLaidOut (cost sizes) (usable sizes) sizes.batch stages.closed
+  layout_begun : AreLaidOut (cost sizes) (usable sizes) sizes.batch stages.begun
+  layout_done : AreLaidOut (cost sizes) (usable sizes) sizes.batch stages.done
 
 follows_all : (sizes : Sizes) (seconds : ℕ) (pins : List Pin) (all : List Record) (placed : List Placed) (records : List Record) → IsPaced (cost sizes) sizes.batch (segments_in placed) records
     → Retains seconds pins all (all_records placed) → FollowOn (last all) records
@@ -233,7 +280,7 @@ follows_all sizes seconds pins all placed records paced k = subst (λ (o : Optio
 
 -- the batch behind those of the newest
 batch_stays : (sizes : Sizes) (older : List Placed) (newest : Placed) (records : List Record) → IsRegular (cost sizes) (usable sizes) sizes.batch (segments_in older) (batches_of newest)
-    → IsPaced (cost sizes) sizes.batch (segments_in (older ++ newest ∷ [])) records → AreRegular (cost sizes) (usable sizes) sizes.batch (older ++ with_batch_in newest records ∷ [])
+    → IsPaced (cost sizes) sizes.batch (segments_in (older ++ newest ∷ [])) records → AreLaidOut (cost sizes) (usable sizes) sizes.batch (older ++ with_batch_in newest records ∷ [])
 batch_stays sizes older newest records h paced =
     regular_newest (cost sizes) (usable sizes) sizes.batch older (with_batch_in newest records)
     (append_stays_regular (cost sizes) (usable sizes) sizes.batch (segments_in older) (batches_of newest) records h
@@ -267,11 +314,11 @@ new_regular sizes closed (inr (older, newest, e, h, full)) =
     subst (λ (ss : List Batches). IsRegular (cost sizes) (usable sizes) sizes.batch ss []) (sym (ap segments_in e ∙ segments_push older newest))
     (begin_stays_regular (cost sizes) (usable sizes) sizes.batch (segments_in older) (batches_of newest) full h)
 
-closed_regular : (sizes : Sizes) (closed : List Placed) → AreFull sizes closed → AreRegular (cost sizes) (usable sizes) sizes.batch closed
+closed_regular : (sizes : Sizes) (closed : List Placed) → AreFull sizes closed → AreLaidOut (cost sizes) (usable sizes) sizes.batch closed
 unfolding AreFull
 closed_regular sizes closed (inl e) = inl e
 closed_regular sizes closed (inr (older, newest, e, h, full)) =
-    subst (λ (ps : List Placed). AreRegular (cost sizes) (usable sizes) sizes.batch ps) (sym e) (regular_newest (cost sizes) (usable sizes) sizes.batch older newest h)
+    subst (λ (ps : List Placed). AreLaidOut (cost sizes) (usable sizes) sizes.batch ps) (sym e) (regular_newest (cost sizes) (usable sizes) sizes.batch older newest h)
 
 begins_anew : (sizes : Sizes) (m size count seconds : ℕ) (pins : List Pin) (placed : List Placed) (first : ℕ) (records : List Record) (stages : Stages) → IsAllowed sizes m size count seconds pins placed records
     → BeginsAnew size count seconds pins placed first records stages → LeavesStages sizes seconds pins placed records stages
@@ -288,10 +335,10 @@ begins_anew sizes m size count seconds pins placed first records stages h b =
       retained_done = λ all r. subst (λ (ps : List Placed). Retains seconds pins (all ++ records) (all_records ps)) (sym b.done)
           (batch_kept seconds pins all stages.closed new records (follows_all sizes seconds pins all placed records h.paced r)
           (segment_kept seconds pins all stages.closed b.slot (next_seq (last placed)) first (k.retained all r)));
-      regular_closed = closed_regular sizes stages.closed k.full;
-      regular_begun = subst (λ (ps : List Placed). AreRegular (cost sizes) (usable sizes) sizes.batch ps) (sym b.begun)
+      layout_closed = closed_regular sizes stages.closed k.full;
+      layout_begun = subst (λ (ps : List Placed). AreLaidOut (cost sizes) (usable sizes) sizes.batch ps) (sym b.begun)
           (regular_newest (cost sizes) (usable sizes) sizes.batch stages.closed new regular);
-      regular_done = subst (λ (ps : List Placed). AreRegular (cost sizes) (usable sizes) sizes.batch ps) (sym b.done) (batch_stays sizes stages.closed new records regular paced);
+      layout_done = subst (λ (ps : List Placed). AreLaidOut (cost sizes) (usable sizes) sizes.batch ps) (sym b.done) (batch_stays sizes stages.closed new records regular paced);
     }
 
 goes_on : (sizes : Sizes) (m size count seconds : ℕ) (pins : List Pin) (placed : List Placed) (records : List Record) (stages : Stages) → IsAllowed sizes m size count seconds pins placed records
@@ -302,11 +349,11 @@ goes_on sizes m size count seconds pins placed records stages h g = record {
   retained_done = λ all r. subst (λ (ps : List Placed). Retains seconds pins (all ++ records) (all_records ps)) (sym g.done)
       (batch_kept seconds pins all g.older g.newest records (follows_all sizes seconds pins all placed records h.paced r)
       (subst (λ (ps : List Placed). Retains seconds pins all (all_records ps)) g.split r));
-  regular_closed = subst (λ (ps : List Placed). AreRegular (cost sizes) (usable sizes) sizes.batch ps) (sym g.closed) h.regular;
-  regular_begun = subst (λ (ps : List Placed). AreRegular (cost sizes) (usable sizes) sizes.batch ps) (sym g.begun) h.regular;
-  regular_done = subst (λ (ps : List Placed). AreRegular (cost sizes) (usable sizes) sizes.batch ps) (sym g.done)
+  layout_closed = subst (λ (ps : List Placed). AreLaidOut (cost sizes) (usable sizes) sizes.batch ps) (sym g.closed) h.regular.layout;
+  layout_begun = subst (λ (ps : List Placed). AreLaidOut (cost sizes) (usable sizes) sizes.batch ps) (sym g.begun) h.regular.layout;
+  layout_done = subst (λ (ps : List Placed). AreLaidOut (cost sizes) (usable sizes) sizes.batch ps) (sym g.done)
       (batch_stays sizes g.older g.newest records
-      (newest_regular (cost sizes) (usable sizes) sizes.batch g.older g.newest (subst (λ (ps : List Placed). AreRegular (cost sizes) (usable sizes) sizes.batch ps) g.split h.regular))
+      (newest_regular (cost sizes) (usable sizes) sizes.batch g.older g.newest (subst (λ (ps : List Placed). AreLaidOut (cost sizes) (usable sizes) sizes.batch ps) g.split h.regular.layout))
       (subst (λ (ps : List Placed). IsPaced (cost sizes) sizes.batch (segments_in ps) records) g.split h.paced));
 }
 
@@ -319,23 +366,7 @@ leaves_stages sizes m size count seconds pins placed first records stages h (inr
 pub same_segments : (records : List Record) (stages : Stages) → IsLeft records stages → segments_in stages.left ≡ segments_in stages.done
 same_segments records stages (inl none) = ap segments_in none.1
 same_segments records stages (inr l) =
-    ap segments_in l.left ∙ left_segments l.behind.older l.behind.left (with_batch_in l.behind.newest records) l.summary ∙ ap segments_in (sym l.done)
-
-pub same_batches : (records : List Record) (stages : Stages) → IsLeft records stages → batches_in stages.left ≡ batches_in stages.done
-same_batches records stages (inl none) = ap batches_in none.1
-same_batches records stages (inr l) =
-    ap batches_in l.left ∙ left_batches l.behind.older l.behind.left (with_batch_in l.behind.newest records) l.summary ∙ ap batches_in (sym l.done)
-
-same_nothing : (stages : Stages) → segments_in stages.left ≡ segments_in stages.done → stages.done ≡ [] → stages.left ≡ []
-same_nothing stages same none = nothing stages.left (same ∙ ap segments_in none)
-  where
-    nothing : (placed : List Placed) → segments_in placed ≡ [] → placed ≡ []
-    nothing [] e = refl
-    nothing (p ∷ ps) e = cc
-
-left_regular : (cost usable batch : ℕ) (stages : Stages) → segments_in stages.left ≡ segments_in stages.done → AreRegular cost usable batch stages.done → AreRegular cost usable batch stages.left
-left_regular cost usable batch stages same (inl none) = inl (same_nothing stages same none)
-left_regular cost usable batch stages same (inr (older, newest, split, h)) = inr (older, newest, same ∙ split, h)
+    ap segments_in l.left ∙ left_segments l.behind.older l.behind.left (with_batch_in l.behind.newest records ∷ []) l.summary ∙ ap segments_in (sym l.done)
 
 -- What each stage retains, and that it is regular
 
@@ -361,4 +392,9 @@ module _ (sizes : Sizes) (m size count seconds : ℕ) (pins : List Pin) (placed 
       × AreRegular (cost sizes) (usable sizes) sizes.batch stages.left
   stages_regular records stages h s =
       let k = leaves_stages sizes m size count seconds pins placed first records stages h s in
-      (k.regular_closed, k.regular_begun, k.regular_done, left_regular (cost sizes) (usable sizes) sizes.batch stages (same_segments records stages s.1) k.regular_done)
+      let e = stages_exact size count seconds pins placed first records stages h.regular.exact s in (
+        record { layout = k.layout_closed; exact = e.0 },
+        record { layout = k.layout_begun; exact = e.1 },
+        record { layout = k.layout_done; exact = e.2 },
+        record { layout = laid_out_same (cost sizes) (usable sizes) sizes.batch stages.done stages.left (same_segments records stages s.1) k.layout_done; exact = e.3 },
+      )

@@ -1,5 +1,5 @@
 -- A ring made of what was found on its medium.
-use Rattle.std.proofs.Common.{◌≡◌, ◌≤◌, ℕ, List, Some, sym, subst, arith}
+use Rattle.std.proofs.Common.{◌≡◌, ◌≤◌, ℕ, List, Some, inr, sym, subst, arith}
 use Rattle.vdr_terms.specs.Needs.{Sizes, Fits, slots_in}
 use Rattle.vdr_outside.specs.Disk.{Disk, Image, Durable, Unchanged, content}
 use Rattle.vdr_outside.specs.Moments.{Settled}
@@ -10,6 +10,7 @@ use Rattle.vdr_directory.specs.declared.entry.Entry.{Entry}
 use Rattle.vdr_directory.specs.Sequence.{Placed}
 use Rattle.vdr_directory.specs.Entries.{Describe}
 use Rattle.vdr_directory.specs.Holds.{HoldsPlaced, Tells}
+use Rattle.vdr_directory.specs.Bringing.{bare_of}
 use Rattle.vdr_ring.specs.Rings.{RingState, Reads}
 use Rattle.vdr_directory.specs.Opening.{Refuses, slot_bytes}
 use Rattle.vdr_directory.specs.Fronts.{Finds}
@@ -25,8 +26,9 @@ refused_by segment segment' count count' m m' image offset e f g h = subst (λ (
 module _ {tells tells_images : Type 0} where
   pub ring_reads : (old new : Disk tells tells_images) (ring : RingState) (m : ℕ) (opened : List Entry) → ring.medium ≡ m → ((j : ℕ) → ring.loaded ≡ Some j → ring.buffer ≡ slot_bytes ring.segment j (content old.reads m)) → Unchanged old new → Durable m old → tells
       → Finds ring.segment ring.slots (content old.reads m) opened
-      → ((placed : List Placed) (bytes : List ℕ) → HoldsPlaced ring.segment ring.slots placed bytes → Describe placed opened → Tells ring.slots placed ring.directory) → (placed : List Placed) × Reads ring placed new
-  ring_reads old new ring m opened is held same durable told found directory = (
+      → ((placed : List Placed) (bytes : List ℕ) → HoldsPlaced ring.segment ring.slots placed bytes → Describe placed opened → Tells ring.slots placed ring.directory)
+      → ((placed : List Placed) → Describe placed opened → ring.bare ≡ bare_of placed) → (placed : List Placed) × Reads ring placed new × (ring.bare ≡ bare_of placed)
+  ring_reads old new ring m opened is held same durable told found directory bare = (
     found.placed,
     record {
       settled = subst (λ (k : ℕ). Settled k (HoldsPlaced ring.segment ring.slots found.placed) new) (sym is)
@@ -36,5 +38,7 @@ module _ {tells tells_images : Type 0} where
       loaded = λ j loaded _.
           subst (λ (i : Image). ring.buffer ≡ part (content i ring.medium) (place_of ring.segment j) ring.segment) (sym (same.reads told))
           (subst (λ (k : ℕ). ring.buffer ≡ part (content old.reads k) (place_of ring.segment j) ring.segment) (sym is) (held j loaded));
+      bare = inr (bare found.placed found.describe);
     },
+    bare found.placed found.describe,
   )

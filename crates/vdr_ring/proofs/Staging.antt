@@ -2,7 +2,7 @@
 use Rattle.std.proofs.Common.{◌≡◌, ◌≢◌, ◌⊎◌, ◌<◌, ◌≤◌, ◌+◌, ◌^◌, ℕ, suc, List, [], ◌∷◌, ◌++◌, length, set, slice_get, All, Contains, sum_by, Option, Some, None, inl, inr, refl, sym, ap, ◌∙◌, subst, arith, set-set}
 use Rattle.std.proofs.lemmas.Option.{get_or_from_slice_get, slice_get_within}
 use Rattle.std.proofs.lemmas.List.{length-append, length-set, set-get_or}
-use Rattle.std.proofs.lemmas.List.Elements.{All-head, All-contains}
+use Rattle.std.proofs.lemmas.List.Elements.{All-head, All-contains, Contains-append_right}
 use Rattle.vdr_terms.specs.Records.{Record, last_after, last}
 use Rattle.vdr_terms.specs.Order.{NeverFalls}
 use Rattle.vdr_terms.specs.Sizes.{batch_size}
@@ -11,7 +11,7 @@ use Rattle.vdr_segment.specs.Batches.{IsBatch}
 use Rattle.vdr_segment.specs.Segments.{Segment, with_batch}
 use Rattle.vdr_retention.specs.Layout.{segment_records}
 use Rattle.vdr_retention.specs.Retention.{Pin, AreOutside}
-use Rattle.vdr_retention.proofs.Lists.{last_behind, last_contained}
+use Rattle.vdr_retention.proofs.Lists.{contains_here, last_behind, last_contained}
 use Rattle.vdr_retention.proofs.Retained.{in_the_window}
 use Rattle.vdr_directory.specs.Sequence.{Placed, seq_of, batches_of, records_of, all_records, AreInSequence}
 use Rattle.vdr_directory.specs.Order.{AreInOrder}
@@ -23,6 +23,7 @@ use Rattle.vdr_directory.proofs.Placing.{append_in_sequence, close_in_sequence, 
 use Rattle.vdr_directory.proofs.Ordering.{NewestHasRecords, append_in_order, batch_has_records, close_in_order, begin_in_order, begin_with_batch_in_order, last_in_newest}
 use Rattle.vdr_directory.proofs.Leaving.{left_in_order}
 use Rattle.vdr_directory.proofs.Numbering.{seqs_below, next_seq_low}
+use Rattle.vdr_ring.proofs.Going.{goes_by_records}
 
 -- The newest segment, where it has no room
 
@@ -63,10 +64,12 @@ victim_split seconds pins placed before v after (inl h) = h.split
 victim_split seconds pins placed before v after (inr h) = h.1.split ∙ ap (λ (xs : List Placed). xs ++ v ∷ after) (sym h.0)
 
 -- It is not the newest.
-pub victim_not_newest : (count seconds : ℕ) (pins : List Pin) (placed before : List Placed) (v : Placed) (after : List Placed) → 0 < seconds → 2 ≤ count → NewestHasRecords placed → IsFull count placed
+pub victim_not_newest : (count seconds : ℕ) (pins : List Pin) (placed before : List Placed) (v : Placed) (after : List Placed) → 0 < seconds → 2 ≤ count → AreInOrder placed → NewestHasRecords placed → IsFull count placed
     → IsVictim seconds pins placed before v after → after ≢ []
-victim_not_newest count seconds pins placed before v after some two newest full (inl h) = outside_not_newest seconds placed before v after some newest h.split h.may_go.old
-victim_not_newest count seconds pins placed before v after some two newest full (inr h) = λ none.
+victim_not_newest count seconds pins placed before v after some two order newest full (inl h) =
+    let m : Contains placed v = subst (λ (ps : List Placed). Contains ps v) (sym h.split) (Contains-append_right before (v ∷ after) v (contains_here v after)) in
+    outside_not_newest seconds placed before v after some newest h.split (goes_by_records seconds pins placed v order m h.may_go).old
+victim_not_newest count seconds pins placed before v after some two order newest full (inr h) = λ none.
     let a : length placed ≡ suc (length after) = ap length h.1.split in
     let b : length after ≡ 0 = ap length none in
     omega (arith, a, b, full, two)
@@ -161,7 +164,7 @@ module _ (size count seconds : ℕ) (pins : List Pin) (slots : List (Option Segm
       go (inl h) = subst (λ (xs : List Placed). LeavesClosed slots placed b.slot xs) (sym h.1) (closed_already count slots placed b.slot finds.sequence finds.every finds.order h.0)
       go (inr h) =
           let split : placed ≡ h.1 ++ h.2 ∷ h.3 = victim_split seconds pins placed h.1 h.2 h.3 h.4 in
-          let behind : h.3 ≢ [] = victim_not_newest count seconds pins placed h.1 h.2 h.3 finds.some finds.two newest_before h.0 h.4 in
+          let behind : h.3 ≢ [] = victim_not_newest count seconds pins placed h.1 h.2 h.3 finds.some finds.two finds.order newest_before h.0 h.4 in
           let k : LeavesClosed slots (h.1 ++ h.2 ∷ h.3) h.2.slot (h.1 ++ h.3) = closed_victim slots h.1 h.2 h.3 behind
           (subst (λ (xs : List Placed). AreInSequence slots xs) split finds.sequence)
           (subst AreInOrder split finds.order)
@@ -249,7 +252,7 @@ pub left_in_its_order : (records : List Record) (stages : Stages) → records �
 left_in_its_order records stages some order (inl none) = subst AreInOrder (sym none.1) order
 left_in_its_order records stages some order (inr l) =
     subst AreInOrder (sym l.left)
-    (left_in_order l.behind.left l.summary l.behind.none l.behind.exact l.behind.older (with_batch_in l.behind.newest records) (batch_has_records l.behind.newest records some)
+    (left_in_order l.behind.left l.summary l.behind.none l.behind.exact l.behind.older (with_batch_in l.behind.newest records ∷ []) (batch_has_records l.behind.newest records some)
     (subst AreInOrder l.done order))
 
 -- Each stage is in order.

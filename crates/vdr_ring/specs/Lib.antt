@@ -2,9 +2,12 @@
 pub mod Candidates
 pub mod Rings
 pub mod Stages
+pub mod Bringing
 pub mod Appends
 pub mod Regularity
 pub mod Keeping
 pub mod Visits
 pub mod Lasts
+pub mod Meets
 pub mod Calls
+pub mod Taking

@@ -1,5 +1,5 @@
 -- What a ring's configuration promises of its media, and what an append takes from them (this project's profile).
-use Rattle.std.specs.Prelude.{◌≡◌, ◌⊎◌, ◌<◌, ◌≤◌, ◌+◌, ℕ, List, [], ◌∷◌, ◌++◌}
+use Rattle.std.specs.Prelude.{◌≡◌, ◌⊎◌, ◌<◌, ◌≤◌, ◌+◌, ℕ, List, [], ◌∷◌, ◌++◌, All}
 use Rattle.vdr_terms.specs.Records.{Record}
 use Rattle.vdr_terms.specs.Needs.{Sizes, cost, usable, needed_slots}
 use Rattle.vdr_retention.specs.Layout.{Batches}
@@ -7,11 +7,17 @@ use Rattle.vdr_retention.specs.Regular.{IsPaced, IsRegular}
 use Rattle.vdr_retention.specs.Retention.{Pin}
 use Rattle.vdr_retention.specs.Victims.{ArePinsOf}
 use Rattle.vdr_directory.specs.Sequence.{Placed, segments_in, all_records}
+use Rattle.vdr_directory.specs.Leaving.{IsExactlySummarized}
 
--- A medium without segments is regular, and so is one whose older segments are well filled beside its newest.
-abbrev pub AreRegular : (cost usable batch : ℕ) → List Placed → Type 0
-AreRegular cost usable batch placed =
+-- There are no segments, or the older ones are well filled beside the newest.
+abbrev pub AreLaidOut : (cost usable batch : ℕ) → List Placed → Type 0
+AreLaidOut cost usable batch placed =
     (placed ≡ []) ⊎ ((older : List Batches) × (newest : Batches) × (segments_in placed ≡ older ++ newest ∷ []) × IsRegular cost usable batch older newest)
+
+-- A medium is regular: its segments are laid out so, and each summary is exactly that of its segment's records.
+pub record AreRegular (cost usable batch : ℕ) (placed : List Placed) : Type 0 where
+  pub layout : AreLaidOut cost usable batch placed
+  pub exact : All IsExactlySummarized placed
 
 -- A batch that a configuration allows on its medium m: a ring of `count` slots of `size` bytes and a window of so many
 -- seconds, with these pins and these segments.

@@ -1,5 +1,5 @@
 -- A ring, and what it says of its medium.
-use Rattle.std.specs.Prelude.{◌≡◌, ◌<◌, ◌≤◌, ◌+◌, ◌*◌, ℕ, List, length, get_or, Option, Some}
+use Rattle.std.specs.Prelude.{◌≡◌, ◌⊎◌, ◌<◌, ◌≤◌, ◌+◌, ◌*◌, ℕ, List, [], length, get_or, Option, Some}
 use Rattle.vdr_outside.specs.Disk.{Disk, content}
 use Rattle.vdr_outside.specs.Moments.{Settled}
 use Rattle.vdr_outside.specs.Parts.{part}
@@ -9,8 +9,10 @@ use Rattle.vdr_directory.specs.Sequence.{Placed}
 use Rattle.vdr_directory.specs.Order.{AreInOrder}
 use Rattle.vdr_directory.specs.Holds.{HoldsPlaced, Tells}
 use Rattle.vdr_directory.specs.Directories.{DirectoryState}
+use Rattle.vdr_directory.specs.Bringing.{bare_of}
 
--- A ring: where the slots of its medium stand, its window in seconds, its directory, and the slot that its buffer holds.
+-- A ring: where the slots of its medium stand, its window in seconds, its directory, the slot that its buffer holds, and
+-- the slots of the segments that it brings up.
 pub record RingState : Type 0 where
   pub medium : ℕ
   pub segment : ℕ
@@ -19,6 +21,11 @@ pub record RingState : Type 0 where
   pub directory : DirectoryState
   pub buffer : List ℕ
   pub loaded : Option ℕ
+  pub bare : List ℕ
+
+-- It brings up all segments that are to get a summary, or none.
+abbrev pub BringsUp : RingState → List Placed → Type 0
+BringsUp ring placed = (ring.bare ≡ []) ⊎ (ring.bare ≡ bare_of placed)
 
 -- There is such a medium among those of these sizes, and all its slots stand within it.
 pub record HasMedium (ring : RingState) (sizes : List ℕ) : Type 0 where
@@ -32,6 +39,7 @@ module _ {tells tells_images : Type 0} where
     pub order : AreInOrder placed
     pub directory : Tells ring.slots placed ring.directory
     pub loaded : (j : ℕ) → ring.loaded ≡ Some j → tells → ring.buffer ≡ part (content disk.reads ring.medium) (place_of ring.segment j) ring.segment
+    pub bare : BringsUp ring placed
 
 -- Where its slots stand, and its window, stay as they were.
 pub record IsSameRing (old new : RingState) : Type 0 where

@@ -1,26 +1,26 @@
 -- What a medium holds at each stage of an append.
-use Rattle.std.specs.Prelude.{◌≡◌, ◌⊎◌, ◌≤◌, ◌+◌, ℕ, List, [], ◌∷◌, ◌++◌, All, Some}
+use Rattle.std.specs.Prelude.{◌≡◌, ◌⊎◌, ◌≤◌, ◌+◌, ℕ, List, [], ◌∷◌, ◌++◌, All, Some, None}
 use Rattle.vdr_terms.specs.Records.{Record, last}
 use Rattle.vdr_terms.specs.Sizes.{batch_size}
 use Rattle.vdr_entry.specs.declared.summary.Summary.{Summary}
 use Rattle.vdr_segment.specs.Segments.{end_of}
 use Rattle.vdr_retention.specs.Retention.{Pin}
-use Rattle.vdr_retention.specs.Victims.{MayGo}
-use Rattle.vdr_directory.specs.Sequence.{Placed, batches_of, all_records}
+use Rattle.vdr_directory.specs.Sequence.{Placed, all_records}
 use Rattle.vdr_directory.specs.Closed.{IsFull, IsLeastClosed}
 use Rattle.vdr_directory.specs.Growing.{new_segment, next_seq, with_batch_in}
 use Rattle.vdr_directory.specs.Leaving.{IsLeftBehind, LeavesNone, summarized}
+use Rattle.vdr_ring.specs.Candidates.{MayGoAsKnown}
 
--- The one of least sequence number that may go.
+-- The one of least sequence number that may go, by what is known of each.
 pub record IsOldest (seconds : ℕ) (pins : List Pin) (placed : List Placed) (before : List Placed) (victim : Placed) (after : List Placed) : Type 0 where
   pub split : placed ≡ before ++ victim ∷ after
-  pub may_go : MayGo seconds pins (all_records placed) (batches_of victim)
-  pub none_before : All (λ p. MayGo seconds pins (all_records placed) (batches_of p) → ⊥) before
+  pub may_go : MayGoAsKnown seconds pins (all_records placed) victim
+  pub none_before : All (λ p. MayGoAsKnown seconds pins (all_records placed) p → ⊥) before
 
 -- None may go, which media that are not regular may come to. Then the victim is the oldest.
 pub record IsForced (seconds : ℕ) (pins : List Pin) (placed : List Placed) (victim : Placed) (after : List Placed) : Type 0 where
   pub split : placed ≡ victim ∷ after
-  pub none : All (λ p. MayGo seconds pins (all_records placed) (batches_of p) → ⊥) placed
+  pub none : All (λ p. MayGoAsKnown seconds pins (all_records placed) p → ⊥) placed
 
 -- Which open slot is written over where none is closed, and what stands before and behind it.
 abbrev pub IsVictim : (seconds : ℕ) (pins : List Pin) (placed before : List Placed) (victim : Placed) (after : List Placed) → Type 0
@@ -36,19 +36,20 @@ IsNextSlot count seconds pins placed slot =
 abbrev pub HasRoom : ℕ → Placed → List Record → Type 0
 HasRoom size p records = end_of p.segment + batch_size records + 1 ≤ size
 
--- What each stage of an append leaves: as it was; with the victim closed; with a new segment begun; with the batch; with the
--- summary of the segment that the batch leaves behind.
+-- What each stage of an append leaves: as it was; with the victim closed; with a new segment begun; with the batch;
+-- with the summary of the segment that the batch leaves behind.
 pub record Stages : Type 0 where
   pub closed : List Placed
   pub begun : List Placed
   pub done : List Placed
   pub left : List Placed
 
--- The batch goes into the newest segment.
+-- The batch goes into the newest segment, which has no summary.
 pub record GoesOn (size : ℕ) (placed : List Placed) (records : List Record) (stages : Stages) : Type 0 where
   pub older : List Placed
   pub newest : Placed
   pub split : placed ≡ older ++ newest ∷ []
+  pub bare : newest.segment.header.summary ≡ None
   pub room : HasRoom size newest records
   pub closed : stages.closed ≡ placed
   pub begun : stages.begun ≡ placed

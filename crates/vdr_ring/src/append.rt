@@ -23,15 +23,15 @@ use vdr_outside::{Fault, Media};
 impl Ring {
     /// Appends a batch of records. It goes behind the batches of the newest segment; where it has no room there, a segment is
     /// begun in a closed slot first, and where no slot is closed, the victim's is closed before (`victim`). The new segment's
-    /// sequence number is one above the greatest, its first place that of the first record. Where the batch is the first of
-    /// the newest segment, the segment before that gets its summary then. Each gate is opened or closed by a write of one byte
-    /// behind a sync of what it stands for.
+    /// sequence number is one above the greatest, its first place that of the first record. Where the batch is the first
+    /// of the newest segment, the segment before that gets its summary then. Each gate is opened or closed by a write of
+    /// one byte behind a sync of what it stands for.
     ///
-    /// At every moment a stop leaves the medium as it was, with the victim closed, with the new segment begun, with the batch,
-    /// or with that summary too; after Ok it has both. That is promised where the records go on from where the medium ends:
-    /// their places run on, and their ticks never fall. Where the medium is regular, the batch keeps the pace and the pins are those of
-    /// live saves, each of these is a legal medium that keeps its window and its pinned records. Nothing before the slots is
-    /// touched. Takes no memory.
+    /// At every moment a stop leaves the medium as it was, with the victim closed, with the new segment begun, with the
+    /// batch, or with that summary too; after Ok it has both. That is promised where the records go on from where the
+    /// medium ends: their places run on, and their ticks never fall. Where the medium is regular, the batch keeps the
+    /// pace and the pins are those of live saves, each of these is a legal medium that keeps its window and its pinned
+    /// records. Nothing before the slots is touched. Takes no memory.
     ///
     /// `Fault`: a write or a sync failed, and the count of faults of this medium rose. The ring is then to be opened again
     /// before it is used.

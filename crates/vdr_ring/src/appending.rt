@@ -68,8 +68,8 @@ impl Ring {
     }
 
     /// The slot in which the next segment is begun: the closed one of least index. Where none is closed, that of the victim,
-    /// the segment of least sequence number whose records are all outside the window and of which none has a pinned place
-    /// (this project's profile).
+    /// the segment of least sequence number that, by what is known of it, ends before the window and has no pinned place
+    /// (this project's profile). On a medium whose summaries are exact its records decide.
     pub fn victim(&self, pins: &Pins) -> u32
         ensures within { result < self.now.slots }
         ensures next { (placed : List Placed) → Tells self.now.slots placed self.now.directory → AreInOrder placed
@@ -170,8 +170,8 @@ impl Ring {
         self.begin(media, first.place, pins)
     }
 
-    // Adds a batch, stage by stage, and answers what it leaves behind: the slot of the segment before the newest and the summary of
-    // its records, where the batch is the newest's first.
+    // Adds a batch, stage by stage, and answers what it leaves behind: the slot of the segment before the newest and the
+    // summary of its records, where the batch is the newest's first.
     fn add<M: Media>(
         &mut self,
         media: &mut M,
@@ -189,6 +189,7 @@ impl Ring {
         ensures enough { (1 ≤ self.old.seconds) × (4 ≤ self.old.slots) }
         ensures within { IfOk result (λ left. IfSome left (λ x. x.0 < self.new.slots)) }
         ensures loaded { self.new.loaded ≡ None }
+        ensures bare { OnOk result (self.new.bare ≡ []) }
         ensures ring { StaysOnMedium self.old self.new (M.disk media.new).sizes }
         ensures durable { OnOk result (Durable self.old.medium (M.disk media.new)) }
         ensures front { KeepsFront self.old.medium (M.disk media.old) (M.disk media.new) }
@@ -204,6 +205,7 @@ impl Ring {
             newest.end,
             &self.buffer[..size + 1],
         )?;
+        self.bare.clear();
         let left = self.directory.left_behind();
         self.directory.extend(newest, size, records);
         Ok(left)

@@ -1,14 +1,14 @@
 // Which segment is written over.
 ghost use Rattle.std.specs.Prelude.{◌≡◌, ◌<◌, ◌≤◌, ◌+◌, ℕ, List, All, IfSome, IfNone, find, get_or, nat_le, None};
 ghost use Rattle.std.specs.List.{list_all};
-ghost use Rattle.vdr_retention.specs.Victims.{IsLastSecond, MayGo, is_apart};
+ghost use Rattle.vdr_retention.specs.Victims.{IsLastSecond, is_apart};
 ghost use Rattle.vdr_index.specs.Indexes.{passes_by};
-ghost use Rattle.vdr_directory.specs.Sequence.{Placed, all_records, batches_of};
+ghost use Rattle.vdr_directory.specs.Sequence.{Placed, all_records};
 ghost use Rattle.vdr_directory.specs.Order.{AreInOrder};
 ghost use Rattle.vdr_directory.specs.Directories.{count_of};
 ghost use Rattle.vdr_directory.specs.Holds.{Tells};
 ghost use Rattle.vdr_ring.specs.Stages.{IsOldest};
-ghost use Rattle.vdr_ring.specs.Candidates.{goes, known_of, pin_of};
+ghost use Rattle.vdr_ring.specs.Candidates.{MayGoAsKnown, goes, known_of, pin_of};
 
 use crate::pins::{Pin, Pins};
 use vdr_directory::Directory;
@@ -69,13 +69,14 @@ fn first_to_go(
     slots.iter().copied().find(|slot| may_go(index.known(*slot), medium_second, seconds, pins))
 }
 
-// The slot of the oldest candidate: of the first segment that has no record of the medium's window and no pinned place.
+// The slot of the oldest candidate: of the first segment that, by what is known of it, has no record of the medium's window and no
+// pinned place.
 pub(crate) fn oldest_candidate(directory: &Directory, seconds: u64, pins: &Pins) -> Option<u32>
     ensures within { IfSome result (λ slot. slot < count_of directory.now) }
     ensures some { IfSome result (λ slot. (count : ℕ) (placed : List Placed) → Tells count placed directory.now → AreInOrder placed
         → (before : List Placed) × (victim : Placed) × (after : List Placed) × IsOldest seconds pins.now placed before victim after × (slot ≡ victim.slot)) }
     ensures none { IfNone result ((count : ℕ) (placed : List Placed) → Tells count placed directory.now → AreInOrder placed
-        → All (λ p. MayGo seconds pins.now (all_records placed) (batches_of p) → ⊥) placed) }
+        → All (λ p. MayGoAsKnown seconds pins.now (all_records placed) p → ⊥) placed) }
 {
     let index = directory.index();
     if let Some(slot) = first_to_go(

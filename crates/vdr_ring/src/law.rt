@@ -1,20 +1,27 @@
-ghost use Rattle.std.specs.Prelude.{◌≡◌, ◌≢◌, ◌≤◌, [], ◌∷◌, ◌++◌, ℕ, List};
+ghost use Rattle.std.specs.Prelude.{◌≡◌, ◌≢◌, ◌↔◌, ◌≤◌, [], ◌∷◌, ◌++◌, ℕ, List};
 ghost use Rattle.vdr_terms.specs.Needs.{Sizes, cost, usable};
 ghost use Rattle.vdr_terms.specs.Records.{Record};
 ghost use Rattle.vdr_retention.specs.Retention.{Pin, Retains};
-ghost use Rattle.vdr_directory.specs.Sequence.{Placed, all_records, batches_in};
+ghost use Rattle.vdr_retention.specs.Victims.{IsOldestCandidate};
+ghost use Rattle.vdr_directory.specs.Sequence.{Placed, all_records, batches_in, batches_of, segments_in};
+ghost use Rattle.vdr_directory.specs.Lookup.{HoldAll};
+ghost use Rattle.vdr_directory.specs.Bringing.{AreAlike};
 ghost use Rattle.vdr_directory.specs.Closed.{IsFull};
 ghost use Rattle.vdr_ring.specs.Stages.{AreStages, IsOldest, IsVictim, Stages};
 ghost use Rattle.vdr_ring.specs.Regularity.{AreRegular, IsAllowed, MissOneAtMost};
 
 /// What a ring retains of all the records that it was given, at each stage of an append that its configuration allows: of
 /// all before it once a victim is closed and once a segment is begun, and of the batch too once it is done and once a
-/// segment is left. Where all slots are open there is a victim, an oldest candidate that is not the newest segment. Regular
-/// media stay regular. No batch but the victim's goes, and only whole ones come.
+/// segment is left. Where all slots are open there is a victim, the oldest that may go by what is known of it, which is
+/// not the newest segment. It is the oldest that may go by its records. Regular media stay regular. No batch but the
+/// victim's goes, and only whole ones come.
 pub fn law_of_stages()
     ensures victim { (sizes : Sizes) (m size count seconds : ℕ) (pins : List Pin) (placed : List Placed) (records : List Record) (before : List Placed) (victim : Placed) (after : List Placed)
         → IsAllowed sizes m size count seconds pins placed records → IsFull count placed → IsVictim seconds pins placed before victim after
         → IsOldest seconds pins placed before victim after × (after ≢ []) }
+    ensures candidate { (sizes : Sizes) (m size count seconds : ℕ) (pins : List Pin) (placed : List Placed) (records : List Record) (before : List Placed) (victim : Placed) (after : List Placed)
+        → IsAllowed sizes m size count seconds pins placed records → IsOldest seconds pins placed before victim after
+        → IsOldestCandidate seconds pins (segments_in placed) (segments_in before) (batches_of victim) (segments_in after) }
     ensures closed { (sizes : Sizes) (m size count seconds : ℕ) (pins : List Pin) (placed : List Placed) (first : ℕ) (all records : List Record) (stages : Stages)
         → IsAllowed sizes m size count seconds pins placed records → AreStages size count seconds pins placed first records stages
         → Retains seconds pins all (all_records placed) → Retains seconds pins all (all_records stages.closed) }
@@ -35,4 +42,14 @@ pub fn law_of_stages()
         → AreStages size count seconds pins placed first records stages
         → MissOneAtMost stages.closed placed × (batches_in stages.begun ≡ batches_in stages.closed) × (batches_in stages.done ≡ batches_in stages.closed ++ records ∷ [])
         × (batches_in stages.left ≡ batches_in stages.done) }
+{}
+
+/// Segments that differ in summaries alone are the same batches and records, and hold the same places. Regular ones stay
+/// regular.
+pub fn law_of_alike()
+    ensures segments { (placed now : List Placed) → AreAlike placed now → segments_in now ≡ segments_in placed }
+    ensures batches { (placed now : List Placed) → AreAlike placed now → batches_in now ≡ batches_in placed }
+    ensures records { (placed now : List Placed) → AreAlike placed now → all_records now ≡ all_records placed }
+    ensures holds { (a b : ℕ) (placed now : List Placed) → AreAlike placed now → HoldAll a b placed ↔ HoldAll a b now }
+    ensures regular { (cost usable batch : ℕ) (placed now : List Placed) → AreAlike placed now → AreRegular cost usable batch placed → AreRegular cost usable batch now }
 {}

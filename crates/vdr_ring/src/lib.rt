@@ -1,8 +1,9 @@
-//! One medium as a ring of segments: opened, appended to at every moment, and read.
+//! One medium as a ring of segments: opened, brought up, appended to at every moment, and read.
 #![tactic(auto)]
 
 mod append;
 mod appending;
+mod bringing;
 mod choice;
 mod last_batch;
 mod law;
@@ -16,7 +17,7 @@ mod refused;
 mod ring;
 mod visit;
 
-pub use law::law_of_stages;
+pub use law::{law_of_alike, law_of_stages};
 pub use pins::Pins;
 pub use refused::ReadRefused;
 pub use ring::Ring;

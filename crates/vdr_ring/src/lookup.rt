@@ -1,12 +1,12 @@
-// What a ring's index tells of where places and seconds stand.
-ghost use Rattle.std.specs.Prelude.{◌≡◌, ◌<◌, ◌≤◌, ◌+◌, ◌↔◌, ℕ, true, List, get_or, IsTrue, IfSome, IfNone, None, find};
+// What a ring's index tells of where places stand.
+ghost use Rattle.std.specs.Prelude.{◌≡◌, ◌<◌, ◌≤◌, ◌+◌, ◌↔◌, ℕ, List, IsTrue};
 ghost use Rattle.vdr_index.specs.declared.known.Known.{Known as AKnown};
-ghost use Rattle.vdr_index.specs.Indexes.{IsFirst, Keeps, passes_by};
+ghost use Rattle.vdr_index.specs.Indexes.{Keeps};
 ghost use Rattle.vdr_directory.specs.Sequence.{Placed};
 ghost use Rattle.vdr_directory.specs.Order.{AreInOrder};
 ghost use Rattle.vdr_directory.specs.Indexed.{IsIndexed};
 ghost use Rattle.vdr_index.specs.Indexes.{IsAbove};
-ghost use Rattle.vdr_directory.specs.Lookup.{HoldAll, ends_since};
+ghost use Rattle.vdr_directory.specs.Lookup.{HoldAll};
 
 use vdr_index::{Index, Known};
 
@@ -61,31 +61,4 @@ pub(crate) fn holds_all(index: &Index, a: u64, b: u64) -> bool
         place = known.first + known.summary.count as u64;
     }
     false
-}
-
-// Whether a segment of which this is known has a record of this second of recording time or a later one.
-fn reaches(known: Option<Known>, since: u64) -> bool
-    ensures { result ≡ passes_by (ends_since since) known }
-{
-    match known {
-        Some(known) => since <= known.summary.last_second,
-        None => false,
-    }
-}
-
-fn first_that_reaches(index: &Index, slots: &[u32], since: u64) -> Option<u32>
-    ensures { result ≡ find (λ j. passes_by (ends_since since) (get_or index.now j None)) slots.now }
-{
-    slots
-        .iter()
-        .copied()
-        .find(|slot| reaches(index.known(*slot), since))
-}
-
-// The slot of the first segment with a record of this second or a later one.
-pub(crate) fn first_since(index: &Index, since: u64) -> Option<u32>
-    ensures some { IfSome result (IsFirst index.now (ends_since since)) }
-    ensures none { IfNone result ((slot : ℕ) (k : AKnown) → Keeps index.now slot k → ends_since since k ≡ true → ⊥) }
-{
-    first_that_reaches(index, index.in_order(), since)
 }

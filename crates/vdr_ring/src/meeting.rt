@@ -7,6 +7,7 @@ ghost use Rattle.vdr_directory.specs.Order.{AreInOrder};
 ghost use Rattle.vdr_directory.specs.Holds.{Tells};
 ghost use Rattle.vdr_index.specs.Indexes.{IsAbove};
 ghost use Rattle.vdr_directory.specs.Indexed.{HasNoneSelected, IsNextToMeet, Meets};
+ghost use Rattle.vdr_ring.specs.Meets.{IsKnownToMeet};
 
 use crate::Ring;
 use vdr_entry::Query;
@@ -25,6 +26,7 @@ impl Ring {
     ) -> Option<(u32, u64)>
         ensures within { IfSome result (λ found. found.0 < self.now.slots) }
         ensures above { IfSome result (λ found. IsAbove after found.1) }
+        ensures known { IfSome result (λ found. IsKnownToMeet (asked query.now) (span_as span.now) self.now.directory.index found.0 found.1) }
         ensures some { IfSome result (λ found. (placed : List Placed) → Tells self.now.slots placed self.now.directory
             → (p : Placed) × IsNextToMeet (asked query.now) (span_as span.now) after placed p × (found.0 ≡ p.slot) × (found.1 ≡ seq_of p)) }
         ensures none { IfNone result ((placed : List Placed) → Tells self.now.slots placed self.now.directory

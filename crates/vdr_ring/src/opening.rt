@@ -4,13 +4,14 @@ ghost use Rattle.vdr_outside.specs.Disk.{Durable, Unchanged, content};
 ghost use Rattle.vdr_outside.specs.declared.fault.PartRefused.TheVariants.{Damaged};
 ghost use Rattle.vdr_config.specs.Sizes.{sizes_of, window_of};
 ghost use Rattle.vdr_directory.specs.Sequence.{Placed};
+ghost use Rattle.vdr_directory.specs.Bringing.{bare_of};
 ghost use Rattle.vdr_ring.specs.Rings.{HasMedium, Reads};
 ghost use Rattle.vdr_directory.specs.Opening.{HasFaultCause, Refuses};
 
 use crate::Ring;
 use std::alloc::Global;
 use vdr_config::Config;
-use vdr_directory::{Directory, read_segments};
+use vdr_directory::{Directory, bare_slots, read_segments};
 use vdr_outside::{Media, PartRefused};
 use vdr_slots::Area;
 use vdr_terms::slot_count;
@@ -43,7 +44,8 @@ fn seconds_of(config: &Config, m: u8) -> u64
 }
 
 impl Ring {
-    /// Reads medium m whole and opens it as a ring. It writes nothing.
+    /// Reads medium m whole and opens it as a ring. It writes nothing. Segments that are to get a summary get it by
+    /// `bring_up`.
     ///
     /// `Damaged` names the medium and the first part of it that is not legal, by where that begins, in bytes: first the slots,
     /// in their order, by their headers; then the segments, in order of sequence number, by their batches; then the segments
@@ -57,7 +59,8 @@ impl Ring {
     ) -> Result<Ring, PartRefused>
         requires medium { m < length (M.disk media.old).sizes }
         requires fits { Fits (sizes_of config.now) m (get_or (M.disk media.old).sizes m 0) }
-        ensures reads { IfOk result (λ ring. M.tells → Durable m (M.disk media.old) → (placed : List Placed) × Reads ring placed (M.disk media.new)) }
+        ensures reads { IfOk result (λ ring. M.tells → Durable m (M.disk media.old) → (placed : List Placed) × Reads ring placed (M.disk media.new)
+            × (ring.bare ≡ bare_of placed)) }
         ensures shape { IfOk result (λ ring. (ring.medium ≡ m) × (ring.segment ≡ config.now.segment)
             × (ring.slots ≡ slots_in (sizes_of config.now) (get_or (M.disk media.old).sizes m 0)) × (ring.seconds ≡ window_of config.now m)) }
         ensures room { IfOk result (λ ring. HasMedium ring (M.disk media.old).sizes) }
@@ -74,12 +77,16 @@ impl Ring {
         let Ok(directory) = Directory::of(alloc, area.slots, &opened) else {
             return Err(PartRefused::NoMemory);
         };
+        let Ok(bare) = bare_slots(alloc, &opened) else {
+            return Err(PartRefused::NoMemory);
+        };
         Ok(Ring {
             area,
             seconds: seconds_of(config, m),
             directory,
             buffer,
             loaded,
+            bare,
         })
     }
 }

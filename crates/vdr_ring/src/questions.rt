@@ -6,16 +6,17 @@ ghost use Rattle.vdr_directory.specs.Sequence.{Placed, seq_of, batches_in, all_r
 ghost use Rattle.vdr_directory.specs.Order.{AreInOrder};
 ghost use Rattle.vdr_directory.specs.Holds.{Tells};
 ghost use Rattle.vdr_index.specs.Indexes.{IsAbove};
-ghost use Rattle.vdr_directory.specs.Lookup.{AreEarlier, IsFirstSince, IsNext, HoldAll};
+ghost use Rattle.vdr_directory.specs.Lookup.{IsNext, HoldAll};
 
 use crate::Ring;
-use crate::lookup::{first_since, holds_all, is_above, with_seq};
+use crate::lookup::{holds_all, is_above, with_seq};
 
 impl Ring {
     /// Of the last record the place, the tick in milliseconds, and the stamp in milliseconds since 1970. None exactly where
     /// the medium has no record.
     pub fn last(&self) -> Option<(u64, u64, i64)>
-        ensures { (placed : List Placed) → Tells self.now.slots placed self.now.directory → result ≡ option_map (λ r. (r.place, r.tick, r.utc)) (last (all_records placed)) }
+        ensures kept { result ≡ option_map (λ e. (e.place, e.tick, e.utc)) self.now.directory.ending }
+        ensures last { (placed : List Placed) → Tells self.now.slots placed self.now.directory → result ≡ option_map (λ r. (r.place, r.tick, r.utc)) (last (all_records placed)) }
     {
         self.directory
             .ending()
@@ -47,19 +48,6 @@ impl Ring {
             return None;
         }
         Some((newest.slot, newest.seq))
-    }
-
-    /// The open slot of the first segment with a record of this second of recording time or a later one, and the segment's
-    /// sequence number. None exactly where all records are of earlier seconds.
-    pub fn first_since(&self, second: u64) -> Option<(u32, u64)>
-        ensures within { IfSome result (λ found. found.0 < self.now.slots) }
-        ensures some { IfSome result (λ found. (placed : List Placed) → Tells self.now.slots placed self.now.directory → AreInOrder placed
-            → (p : Placed) × IsFirstSince second placed p × (found.0 ≡ p.slot) × (found.1 ≡ seq_of p)) }
-        ensures none { IfNone result ((placed : List Placed) → Tells self.now.slots placed self.now.directory → AreInOrder placed → AreEarlier second (all_records placed)) }
-    {
-        let index = self.directory.index();
-        let slot = first_since(index, second)?;
-        Some(with_seq(index, slot))
     }
 
     /// Whether all places from a to b stand in open segments, as they do where b is below a.

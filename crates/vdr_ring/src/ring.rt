@@ -14,6 +14,8 @@ pub struct Ring {
     pub(crate) buffer: Vec<u8>,
     // The slot whose bytes the buffer holds.
     pub(crate) loaded: Option<u32>,
+    // The slots of the segments that opening found to lack a summary, until they are brought up.
+    pub(crate) bare: Vec<u32>,
 }
 
 impl Model for Ring {
@@ -23,7 +25,7 @@ impl Model for Ring {
 
     ghost Value = { RingState };
 
-    ghost view = { λ r. record { medium = r.area.medium; segment = r.area.segment; slots = r.area.slots; seconds = r.seconds; directory = r.directory; buffer = r.buffer.items; loaded = r.loaded } };
+    ghost view = { λ r. record { medium = r.area.medium; segment = r.area.segment; slots = r.area.slots; seconds = r.seconds; directory = r.directory; buffer = r.buffer.items; loaded = r.loaded; bare = r.bare.items } };
 
     ghost invariant = { λ r. (count_of r.directory ≡ r.area.slots) × (length r.buffer.items ≡ r.area.segment) × (4 ≤ r.area.slots) × (1 ≤ r.seconds) × (r.seconds ≤ 31_536_000) };
 }

@@ -1,5 +1,5 @@
 -- What is still to come of what a query selects.
-use Rattle.std.proofs.Common.{◌≡◌, ◌<◌, ℕ, Bool, false, List, [], Option, None, option_map, Result, Ok, refl, sym, ap, ◌∙◌, subst, arith}
+use Rattle.std.proofs.Common.{◌≡◌, ℕ, Bool, false, List, Option, None, option_map, Result, Ok, refl, sym, ap, ◌∙◌, subst, arith}
 use Rattle.vdr_terms.specs.Records.{Record, second, last}
 use Rattle.vdr_terms.specs.Order.{AreInOrder}
 use Rattle.vdr_terms.specs.Queries.{Medium, Query, Span}
@@ -20,23 +20,15 @@ use Rattle.vdr_ring.specs.Rings.{RingState}
 use Rattle.vdr_ring.specs.declared.refused.ReadRefused.{ReadRefused}
 use Rattle.vdr_ring.proofs.Medium.{in_order_records}
 use Rattle.vdr_vault.specs.Vaults.{IsReadable, IsReadableAt, VaultState, ring_of}
-use Rattle.vdr_vault.specs.Walks.{CursorState, Slots, AreAhead, AreLeft, GivesNext, HasRead, IsBefore, slots_read}
-use Rattle.vdr_vault.specs.declared.cursor.Standing.{Standing}
+use Rattle.vdr_cursor.specs.Walks.{CursorState, Slots, AreLeft, GivesNext, HasRead, slots_read}
 use Rattle.vdr_vault.specs.Plays.{AreToCome, ReadsOn, ring_for, span_in}
-use Rattle.vdr_vault.proofs.Playing.{same_slots}
+use Rattle.vdr_cursor.proofs.Walking.{new_left}
+use Rattle.vdr_cursor.proofs.Reading.{same_slots}
 
 -- the rings of a vault do not change what a query's medium comes to
 span_with : (vault : VaultState) (rings : List RingState) (placed : ℕ → List Placed) (medium : Medium) → span_in (record vault { rings = rings }) placed medium ≡ span_in vault placed medium
 span_with vault rings placed (WindowOf m) = refl
 span_with vault rings placed (Incident id) = refl
-
--- a cursor that stands in no segment has all records ahead
-all_ahead : (slots : Slots) (placed : List Placed) (c : CursorState) → c.standing ≡ None → AreAhead slots placed c (all_records placed)
-all_ahead slots placed c stands = record {
-  passed = [];
-  split = refl;
-  from = subst (λ (o : Option Standing). IsBefore slots placed o c.visit (all_records placed)) (sym stands) refl;
-}
 
 module _ {tells tells_images : Type 0} where
   pub gives_to_come : (query : Query) (old new : VaultState) (before now : Disk tells tells_images) (placed : ℕ → List Placed) (span : Option Span) (c : CursorState) (records : List Record)
@@ -56,11 +48,8 @@ module _ {tells tells_images : Type 0} where
   none_to_come query vault disk placed c new records none stands item left = (
     left.are ∙ ap (λ (o : Option Span). found query o left.ahead) none,
     item,
-    record {
-      ahead = all_records (placed (medium_of query.medium));
-      are_ahead = all_ahead (slots_read (ring_for vault query) disk) (placed (medium_of query.medium)) new stands;
-      are = sym (ap (λ (o : Option Span). found query o (all_records (placed (medium_of query.medium)))) none);
-    },
+    subst (AreToCome query vault placed disk new) (ap (λ (o : Option Span). found query o (all_records (placed (medium_of query.medium)))) none)
+        (new_left query (span_in vault placed query.medium) (slots_read (ring_for vault query) disk) (placed (medium_of query.medium)) new stands),
   )
 
   module _ (opening : Opening) (events : List Event) (vault : VaultState) (placed : ℕ → List Placed) (disk : Disk tells tells_images) (stands : IsReadable opening events vault placed disk) where
@@ -96,8 +85,5 @@ module _ {tells tells_images : Type 0} where
         let held = all_records (placed m) in
         let found_is : found (asked query) (span_of opening events (asked_medium query.medium)) held ≡ selected opening events (asked query) =
         law (asked query) held holds.order (in_order_records (placed m) holds.reads.order) holds.retains in
-        record {
-          ahead = held;
-          are_ahead = all_ahead (slots_read (ring_of vault m) disk) (placed m) c fresh;
-          are = sym found_is ∙ ap (λ (o : Option Span). found (asked query) o held) (span_is query.medium);
-        }
+        subst (AreToCome (asked query) vault placed disk c) (ap (λ (o : Option Span). found (asked query) o held) (sym (span_is query.medium)) ∙ found_is)
+        (new_left (asked query) (span_in vault placed (asked_medium query.medium)) (slots_read (ring_of vault m) disk) (placed m) c fresh)

@@ -15,13 +15,11 @@ use Rattle.vdr_durability.specs.Shown.{given_with, pins_on, pins_of}
 use Rattle.vdr_durability.proofs.Shows.{all_records_with, incidents_with, recorded_with}
 use Rattle.vdr_outside.specs.Disk.{Disk, SameBut, content}
 use Rattle.vdr_outside.specs.Moments.{ChangesOnly, AtEachMoment}
-use Rattle.vdr_outside.specs.Parts.{part}
-use Rattle.vdr_outside.proofs.Moments.{settled_other, moments_weaken}
+use Rattle.vdr_outside.proofs.Moments.{moments_weaken}
 use Rattle.vdr_config.specs.Configuration.{Configuration, IsConfiguration}
 use Rattle.vdr_config.specs.Sizes.{sizes_of, window_of}
-use Rattle.vdr_slots.specs.Slots.{SameFront, place_of}
+use Rattle.vdr_slots.specs.Slots.{SameFront}
 use Rattle.vdr_directory.specs.Sequence.{Placed, all_records, batches_in, segments_in}
-use Rattle.vdr_directory.specs.Holds.{HoldsPlaced}
 use Rattle.vdr_ring.specs.Rings.{RingState}
 use Rattle.vdr_ring.specs.Rings as rings
 use Rattle.vdr_directory.proofs.Runs.{last_index, after_last}
@@ -30,7 +28,7 @@ use Rattle.vdr_opening.specs.Answers.{IsRingOf, AreRingsOf, ring_at}
 use Rattle.vdr_durability.specs.Soundness.{IsUnbroken}
 use Rattle.vdr_durability.proofs.Unbroken.{unbroken_follows}
 use Rattle.vdr_vault.specs.Vaults.{HoldsHistory, of_stamp, tick_utc, VaultState, ShowsHistory, Stands, ring_of, working, working_from}
-use Rattle.vdr_vault.proofs.CommitStages.{IsAfter, last_of_both, IsReady, done_after}
+use Rattle.vdr_ring.proofs.Allowed.{IsAfter, last_of_both, IsReady, done_after}
 use Rattle.vdr_vault.proofs.ShownImages.{front_stays, table_stays}
 use Rattle.vdr_vault.proofs.ShownPlaces.{stamp_told}
 use Rattle.std.specs.Prelude.{⊤}
@@ -38,18 +36,21 @@ use Rattle.vdr_terms.specs.Needs.{Sizes, cost, usable}
 use Rattle.vdr_retention.proofs.Lists.{none_contained}
 use Rattle.vdr_durability.specs.Keeping.{ShowsEither}
 use Rattle.vdr_outside.specs.declared.fault.Fault.{Fault}
-use Rattle.vdr_media.proofs.Two.{all_two}
+use Rattle.vdr_media.proofs.Two.{all_two, of_all, of_each, any_at}
 use Rattle.vdr_pace.specs.Media.{IsAppended}
 use Rattle.std.proofs.lemmas.Result.{on_ok_weaker}
 use Rattle.vdr_ring.specs.Regularity.{IsAllowed}
 use Rattle.vdr_vault.specs.Calls.{Commits, MayCommit, HasVaultCause}
-use Rattle.vdr_vault.specs.Passes.{IsGiven, Passed, Waits, pins_at, HasCauseFrom}
+use Rattle.vdr_ring.specs.Taking.{IsGiven, Waits}
+use Rattle.vdr_vault.specs.Passes.{Passed, pins_at, HasCauseFrom}
 use Rattle.vdr_vault.proofs.CommitImages.{passing_shows, MeetsEnds, two}
-use Rattle.vdr_vault.proofs.CommitPins.{HoldPins}
-use Rattle.vdr_vault.proofs.CommitReady.{are_there, begins_first, continues, medium_is_ready, one_end, pins_there, windowed}
-use Rattle.vdr_vault.proofs.Members.{of_all, of_each, ring_is, any_at}
+use Rattle.vdr_ring.proofs.Pinned.{HoldPins}
+use Rattle.vdr_ring.proofs.Continuing.{begins_first, continues, one_end}
+use Rattle.vdr_vault.proofs.CommitReady.{are_there, medium_is_ready, pins_there, windowed}
+use Rattle.vdr_vault.proofs.Members.{ring_is}
 use Rattle.vdr_outside.specs.Causes.{HasCauseOn, NoneFalls, Rose}
 use Rattle.vdr_outside.proofs.Counts.{sum_rose}
+use Rattle.vdr_ring.proofs.Taken.{reads_beside}
 
 -- The history with a commit
 
@@ -110,12 +111,7 @@ pub history_meanwhile : {tells tells_images : Type 0} (opening : Opening) (event
     → k ≢ m → ChangesOnly m P old new → (tells → SameBut m old.reads new.reads) → new.sizes ≡ old.sizes → HoldsHistory opening events c k ring placed old → HoldsHistory opening events c k ring placed new
 history_meanwhile opening events c m k ring placed P old new ne moments others sizes h = record {
   is_its = subst (λ (s : List ℕ). IsRingOf c s k ring) (sym sizes) h.is_its;
-  reads = record {
-    settled = settled_other m ring.medium P (HoldsPlaced ring.segment ring.slots placed) old new differs moments others h.reads.settled;
-    order = h.reads.order;
-    directory = h.reads.directory;
-    loaded = λ j is told. h.reads.loaded j is told ∙ ap (λ (bytes : List ℕ). part bytes (place_of ring.segment j) ring.segment) (sym (others told ring.medium differs));
-  };
+  reads = reads_beside ring placed m P old new differs moments others h.reads;
   front = λ told. subst (HasFront k c opening.settings.text) (sym (others told k ne)) (h.front told);
   regular = h.regular;
   order = h.order;

@@ -9,31 +9,29 @@ use Rattle.vdr_retention.specs.Retention.{Pin, Retains, at_places, within}
 use Rattle.vdr_durability.specs.Readings.{next_after, ends_before}
 use Rattle.vdr_durability.specs.Shown.{given_with, pins_of, pins_on}
 use Rattle.vdr_outside.specs.Disk.{Disk, Image, content}
-use Rattle.vdr_outside.specs.Moments.{Changed, ChangesOnly}
 use Rattle.vdr_outside.proofs.Moments.{size_read}
 use Rattle.vdr_config.specs.Configuration.{Configuration}
 use Rattle.vdr_slots.specs.Slots.{SameFront}
-use Rattle.vdr_slots.proofs.Holding.{one_holding}
-use Rattle.vdr_segment.specs.Segments.{Segment}
-use Rattle.vdr_directory.specs.Sequence.{AreInSequence, Placed, all_records, batches_in}
+use Rattle.vdr_directory.specs.Sequence.{Placed, all_records, batches_in}
 use Rattle.vdr_directory.specs.Order.{AreInOrder}
 use Rattle.vdr_directory.specs.Holds.{HoldsPlaced}
 use Rattle.vdr_ring.specs.Rings.{RingState}
-use Rattle.vdr_directory.proofs.Placing.{one_sequence}
 use Rattle.vdr_opening.specs.Media.{members, IsMedium, AreThere, Contents, HoldsContents, reading_of}
 use Rattle.vdr_vault.specs.Vaults.{HoldsHistory, ShowsHistory}
-use Rattle.vdr_vault.specs.Passes.{Lacks, Has, Passes}
-use Rattle.vdr_vault.proofs.CommitStages.{IsBefore, IsReady, StaysRegular, begun_before, begun_stays, closed_before, closed_stays, placed_stays, IsAfter, done_after}
+use Rattle.vdr_ring.specs.Taking.{Lacks, Has}
+use Rattle.vdr_vault.specs.Passes.{Passes}
+use Rattle.vdr_ring.proofs.Allowed.{IsBefore, IsReady, IsAfter, done_after}
 use Rattle.vdr_vault.proofs.ShownImages.{front_stays, table_stays, placed_there, RetainsGiven, shown_level, shown_passed}
 use Rattle.std.proofs.lemmas.List.Elements.{All-nil, Contains-append_left}
 use Rattle.vdr_history.specs.Histories.Act.{Commit}
 use Rattle.vdr_history.specs.Taken.{Captured}
 use Rattle.vdr_retention.proofs.Lists.{contains_filter, filter_test, filter_was}
-use Rattle.vdr_media.proofs.Two.{all_two}
+use Rattle.vdr_media.proofs.Two.{all_two, all_one, of_each}
 use Rattle.vdr_incident.specs.Tables.{HoldsTable}
-use Rattle.vdr_vault.proofs.Members.{all_one, of_each, passed_on}
-use Rattle.vdr_vault.proofs.CommitPins.{HoldPins}
-use Rattle.vdr_vault.proofs.CommitReady.{are_there, waits}
+use Rattle.vdr_vault.proofs.Members.{passed_on}
+use Rattle.vdr_ring.proofs.Pinned.{HoldPins}
+use Rattle.vdr_ring.proofs.Continuing.{waits}
+use Rattle.vdr_vault.proofs.CommitReady.{are_there}
 use Rattle.vdr_vault.proofs.Sounding.{IsSoundAlone, sound_level, sound_passed, unbroken_waiting}
 use Rattle.vdr_durability.proofs.Unbroken.{unbroken_follows, unbroken_held}
 use Rattle.vdr_durability.specs.Soundness.{IsUnbroken}
@@ -41,43 +39,7 @@ use Rattle.vdr_ring.proofs.Medium.{in_order_records}
 use Rattle.vdr_config.specs.Sizes.{sizes_of, window_of}
 use Rattle.vdr_retention.specs.Victims.{ArePinsOf}
 use Rattle.vdr_retention.proofs.Following.{follow_in_order}
-
--- A medium holds one list of segments.
-pub one_placed : (segment count : ℕ) (bytes : List ℕ) (ps qs : List Placed) → HoldsPlaced segment count ps bytes → HoldsPlaced segment count qs bytes → ps ≡ qs
-one_placed segment count bytes ps qs h k =
-    let slots : h.slots ≡ k.slots = one_holding segment h.slots k.slots bytes h.holds k.holds (h.all_slots ∙ sym k.all_slots) in
-    one_sequence k.slots ps qs (subst (λ (xs : List (Option Segment)). AreInSequence xs ps) slots h.sequence) k.sequence
-
--- A medium is legible without the batch.
-pub record HoldsBefore (sizes : Sizes) (m : ℕ) (ring : RingState) (pins : List Pin) (all records : List Record) (placed : List Placed) (bytes : List ℕ) : Type 0 where
-  pub now : List Placed
-  pub holds : HoldsPlaced ring.segment ring.slots now bytes
-  pub order : AreInOrder now
-  pub before : IsBefore ring.seconds pins all placed now
-  pub stays : StaysRegular sizes m pins records now
-
--- So it is while it lacks the batch.
-pub before_of : (sizes : Sizes) (m : ℕ) (ring : RingState) (pins : List Pin) (all records : List Record) (placed : List Placed) (first : ℕ) → IsReady sizes m ring.segment ring.slots ring.seconds pins all records placed
-    → (was bytes : List ℕ) → Lacks true ring pins placed first records was bytes → HoldsBefore sizes m ring pins all records placed bytes
-before_of sizes m ring pins all records placed first ready was bytes l = ⊎_elim
-    (λ (e : l.now ≡ placed). held placed e (record { ends = refl; retains = ready.retains; pinned = ready.pinned })
-    (placed_stays sizes m ring.segment ring.slots ring.seconds pins all records placed ready))
-    (λ s. ⊎_elim
-    (λ (e : l.now ≡ s.0.closed). held s.0.closed e (closed_before sizes m ring.segment ring.slots ring.seconds pins all records placed first ready s.0 s.1)
-    (closed_stays sizes m ring.segment ring.slots ring.seconds pins all records placed first ready s.0 s.1))
-    (λ (e : l.now ≡ s.0.begun). held s.0.begun e (begun_before sizes m ring.segment ring.slots ring.seconds pins all records placed first ready s.0 s.1)
-    (begun_stays sizes m ring.segment ring.slots ring.seconds pins all records placed first ready s.0 s.1))
-    s.2)
-    l.stage
-  where
-    held : (ps : List Placed) → l.now ≡ ps → IsBefore ring.seconds pins all placed ps → StaysRegular sizes m pins records ps → HoldsBefore sizes m ring pins all records placed bytes
-    held ps e before stays = record {
-      now = l.now;
-      holds = l.holds;
-      order = l.order refl;
-      before = subst (IsBefore ring.seconds pins all placed) (sym e) before;
-      stays = subst (StaysRegular sizes m pins records) (sym e) stays;
-    }
+use Rattle.vdr_ring.proofs.Lacking.{HoldsBefore, before_of}
 
 -- The segments of two media.
 abbrev pub two : List Placed → List Placed → ℕ → List Placed
@@ -93,16 +55,6 @@ pub record MeetsEnds (opening : Opening) (events : List Event) (placed : ℕ →
   pub follow : All (λ m. FollowOn (last (given_with opening events m)) records) members
 
 module _ {tells tells_images : Type 0} where
-  pub changes_both : (m : ℕ) (P Q : List ℕ → Type 0) (old new : Disk tells tells_images) → ChangesOnly m P old new → ChangesOnly m Q old new → ChangesOnly m (λ bytes. P bytes × Q bytes) old new
-  changes_both m P Q old new first second = record {
-    later = first.later;
-    each = λ i left. joined i (first.each i left) (second.each i left);
-    before = λ t i le left. ⊎_elim (λ since. inl since) (λ p. ⊎_elim (λ since. inl since) (λ q. inr (joined i p q)) (second.before t i le left)) (first.before t i le left);
-  }
-    where
-      joined : (i : Image) → Changed m P old.now i → Changed m Q old.now i → Changed m (λ bytes. P bytes × Q bytes) old.now i
-      joined i p q = record { image = p.image; was = p.was; others = p.others; has = (p.has, q.has) }
-
   module _ (opening : Opening) (events : List Event) (c : Configuration) (m : ℕ) (ring : RingState) (placed : List Placed) (disk : Disk tells tells_images) (h : HoldsHistory opening events c m ring placed disk) where
     -- A medium is legible with these segments, where nothing before its slots was touched.
     pub legible_with : (told : tells) (now : List Placed) (bytes : List ℕ) → SameFront (content disk.reads m) bytes → HoldsPlaced ring.segment ring.slots now bytes → AreInOrder now → IsMedium m c opening.settings.text now bytes

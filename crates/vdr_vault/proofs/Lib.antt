@@ -2,9 +2,7 @@ pub mod Members
 pub mod PinsTaken
 pub mod ShownPlaces
 pub mod ShownHistory
-pub mod CommitStages
 pub mod ShownImages
-pub mod CommitPins
 pub mod CommitReady
 pub mod OpenContents
 pub mod ReconcileBatch
@@ -13,10 +11,12 @@ pub mod OpenMoments
 pub mod CommitImages
 pub mod CommitAll
 pub mod Passed
-pub mod Walking
+pub mod Brought
+pub mod Alike
 pub mod Playing
 pub mod Coming
-pub mod Since
+pub mod Budgeting
+pub mod OfWindow
 pub mod Refusals
 pub mod SlotWritten
 pub mod SavePlaces

@@ -1,37 +1,15 @@
 -- The media of a vault, and the ring on each.
-use Rattle.std.proofs.Common.{◌≡◌, ◌≢◌, ◌<◌, ◌==◌, ℕ, zero, suc, Bool, true, false, List, [], ◌∷◌, get_or, length, Some, Vec, refl, sym, ◌∙◌, subst, arith}
+use Rattle.std.proofs.Common.{◌≡◌, ◌≢◌, ◌<◌, ◌==◌, ℕ, Bool, true, false, List, [], ◌∷◌, get_or, length, Some, Vec, refl, sym, ◌∙◌, subst, arith}
 use Rattle.std.specs.Vec.{with_items}
 use Rattle.std.proofs.lemmas.List.{get_or_default, with_items_is}
-use Rattle.std.proofs.lemmas.List.Elements.{All-cons, All-nil}
 use Rattle.std.proofs.lemmas.Bool.{eqb-false, eqb-true}
-use Rattle.std.specs.Prelude.{All, Any}
 use Rattle.vdr_terms.specs.Records.{Record, last}
 use Rattle.vdr_durability.specs.Readings.{IsPassedOn, Reading, ends_before}
 use Rattle.vdr_config.specs.Configuration.{Configuration}
-use Rattle.vdr_media.proofs.Two.{first_of, second_of}
+use Rattle.vdr_media.proofs.Two.{of_each, all_one}
 use Rattle.vdr_ring.specs.Rings.{RingState}
 use Rattle.vdr_opening.specs.Answers.{AreRingsOf, IsRingOf, ring_at}
 use Rattle.vdr_opening.specs.Media.{members}
-
--- What holds of all media holds of each.
-pub of_each : (P : ℕ → Type 0) → All P members → (k : ℕ) → k < 2 → P k
-of_each P all zero lt = all 0 0 (omega arith)
-of_each P all (suc zero) lt = all 1 1 (omega arith)
-of_each P all (suc (suc k)) lt = absurd (omega (arith, lt))
-
--- And what holds of each holds of all.
-pub of_all : (P : ℕ → Type 0) → ((k : ℕ) → k < 2 → P k) → All P members
-of_all P each zero d lt = each 0 (omega arith)
-of_all P each (suc zero) d lt = each 1 (omega arith)
-of_all P each (suc (suc k)) d lt = absurd (omega (arith, lt))
-
-pub any_at : (P : ℕ → Type 0) (m : ℕ) → m < 2 → P m → Any P members
-any_at P zero lt here = first_of P here
-any_at P (suc zero) lt here = second_of P here
-any_at P (suc (suc m)) lt here = absurd (omega (arith, lt))
-
-pub all_one : (P : ℕ → Type 0) (m : ℕ) → P m → All P (m ∷ [])
-all_one P m here = All-cons P m [] here (All-nil P)
 
 -- The first medium ends with a batch, and the other one before it.
 pub passed_on : (batch : List Record) (r : Reading) → last (r.batches 0) ≡ Some batch → ends_before (Some batch) (r.batches 1) ≡ true → IsPassedOn members (0 ∷ []) (1 ∷ []) batch r

@@ -14,7 +14,7 @@ use Rattle.vdr_durability.proofs.Restored.{ends_not_before, last_in_order, level
 use Rattle.vdr_durability.proofs.Shows.{opened_shows, retains_itself}
 use Rattle.vdr_outside.specs.Disk.{Disk, Durable, Image}
 use Rattle.vdr_config.specs.Sizes.{window_of}
-use Rattle.vdr_media.proofs.Two.{all_two}
+use Rattle.vdr_media.proofs.Two.{all_two, all_one}
 use Rattle.vdr_directory.specs.Sequence.{Placed, all_records, batches_in}
 use Rattle.vdr_directory.specs.Order.{AreInOrder}
 use Rattle.vdr_ring.proofs.Medium.{in_order_records}
@@ -24,10 +24,10 @@ use Rattle.vdr_opening.specs.Media.{members, Contents, HoldsContents, IsMedium, 
 use Rattle.vdr_opening.specs.Settings.{settings_of}
 use Rattle.vdr_opening.specs.Answers.{IsMissing, IsOpened, OpenedState, ring_at}
 use Rattle.vdr_opening.proofs.ContentsHeld.{are_legal, one_capsule, one_config, one_incidents, one_long_term}
-use Rattle.vdr_vault.proofs.Members.{all_one}
 use Rattle.vdr_vault.specs.Regularity.{AreSound}
 use Rattle.vdr_vault.specs.Vaults.{ShowsHistory, of_stamp, tick_utc}
-use Rattle.vdr_vault.proofs.ShownImages.{are_members, has_long_term, records_are}
+use Rattle.vdr_ring.proofs.Records.{records_are}
+use Rattle.vdr_vault.proofs.ShownImages.{are_members, has_long_term}
 use Rattle.vdr_vault.proofs.ShownPlaces.{stamp_told}
 
 -- Readings with the same batches: where their ends meet, and what one lacks.

@@ -1,5 +1,5 @@
 -- Causes of faults over the calls of an opening.
-use Rattle.std.proofs.Common.{◌≡◌, ℕ, List, [], ◌∷◌, get_or, Result, Ok, Err, refl, subst, ◌≢◌, ◌<◌, ◌⊎◌, inl, inr, None, option_map, false, All, Contains, sym, ap, ◌∙◌, arith, append-nil}
+use Rattle.std.proofs.Common.{◌≡◌, ℕ, List, [], get_or, Result, Ok, Err, refl, subst, ◌⊎◌, inl, inr, None, option_map, false, All, Contains, sym, ap, ◌∙◌, arith, append-nil}
 use Rattle.std.specs.Prelude.{Any, IsErrOf}
 use Rattle.vdr_outside.specs.Causes.{HasCauseOn, NoneFalls, Rose}
 use Rattle.vdr_outside.proofs.Counts.{none_falls_join, none_fell, on_err, rose_after, sum_rose}
@@ -30,7 +30,8 @@ use Rattle.vdr_ring.specs.Rings as rings
 use Rattle.vdr_opening.specs.Settings.{settings_of}
 use Rattle.vdr_vault.specs.Regularity.{AreSound}
 use Rattle.vdr_vault.specs.Vaults.{IsReadable, IsReadableAt, VaultState, ShowsHistory, ring_of, tick_utc}
-use Rattle.vdr_vault.proofs.ShownImages.{has_capsule, has_long_term, records_are}
+use Rattle.vdr_ring.proofs.Records.{records_are}
+use Rattle.vdr_vault.proofs.ShownImages.{has_capsule, has_long_term}
 use Rattle.vdr_vault.proofs.ReconcileBatch.{held_within}
 use Rattle.vdr_vault.proofs.OpenContents.{held_durable, opened_on, restored_shown}
 

@@ -13,7 +13,7 @@ use Rattle.vdr_outside.specs.Disk.{Disk, Image, content, Durable, SameBut}
 use Rattle.vdr_outside.specs.Moments.{Changed, AtEachMoment, ChangesOnly}
 use Rattle.vdr_outside.proofs.Moments.{size_read, moments_none, moments_weaken}
 use Rattle.vdr_config.specs.Sizes.{sizes_of, window_of}
-use Rattle.vdr_media.proofs.Two.{all_two}
+use Rattle.vdr_media.proofs.Two.{all_two, of_all, of_each}
 use Rattle.vdr_slots.specs.Slots.{SameFront}
 use Rattle.vdr_directory.specs.Sequence.{Placed, all_records, batches_in}
 use Rattle.vdr_directory.specs.Order.{AreInOrder}
@@ -22,8 +22,8 @@ use Rattle.vdr_ring.specs.Rings.{RingState}
 use Rattle.vdr_ring.specs.Regularity.{AreRegular, MissOneAtMost}
 use Rattle.vdr_ring.specs.Stages.{AreStages, Stages}
 use Rattle.vdr_opening.specs.Media.{members, Contents, HoldsContents, IsMedium, opening_of, reading_of, AreThere, HasFront}
-use Rattle.vdr_vault.proofs.Members.{of_all, of_each, ring_is}
-use Rattle.vdr_vault.specs.Passes.{HaveBatch}
+use Rattle.vdr_vault.proofs.Members.{ring_is}
+use Rattle.vdr_ring.specs.Taking.{HaveBatch}
 use Rattle.vdr_vault.specs.Vaults.{ShowsHistory, AreRings, HoldsHistory, VaultState, Stands, of_stamp, ring_of, tick_utc}
 use Rattle.vdr_durability.specs.Soundness.{IsUnbroken}
 use Rattle.vdr_vault.specs.Regularity.{AreSound, IsRegularMedium, IsUnbrokenMedium}
@@ -32,12 +32,13 @@ use Rattle.vdr_retention.proofs.Following.{follow_in_order}
 use Rattle.vdr_vault.proofs.Sounding.{IsSoundAlone, no_pins, sound_level, sound_passed, unbroken_waiting, missing_is_paced, pins_read, segments_read, AreOpened, capsule_restored, long_term_restored, opened_shown, passed_still, waiting_shown, with_long_term, with_placed, level_opened}
 use Rattle.vdr_durability.proofs.Unbroken.{unbroken_held}
 use Rattle.vdr_vault.proofs.ShownImages.{front_stays, table_stays, placed_there}
-use Rattle.vdr_vault.proofs.CommitPins.{HoldPins}
+use Rattle.vdr_ring.proofs.Pinned.{HoldPins}
 use Rattle.vdr_vault.proofs.CommitReady.{are_there, pins_there, windowed}
-use Rattle.vdr_vault.proofs.CommitStages.{IsAfter, IsReady, StaysRegular, done_after}
+use Rattle.vdr_ring.proofs.Allowed.{IsAfter, IsReady, StaysRegular, done_after}
 use Rattle.vdr_media.proofs.Formats.{zero_one}
-use Rattle.vdr_vault.proofs.CommitImages.{before_of}
-use Rattle.vdr_vault.proofs.ReconcileBatch.{last_runs_on, HasIt, Lacks, LacksIt, first_place, lacked_follows, lacked_order, had_order, appending_within, held_within, lacked_goes_on}
+use Rattle.vdr_ring.proofs.Lacking.{before_of}
+use Rattle.vdr_ring.proofs.Batching.{last_runs_on}
+use Rattle.vdr_vault.proofs.ReconcileBatch.{HasIt, Lacks, LacksIt, first_place, lacked_follows, lacked_order, had_order, appending_within, held_within, lacked_goes_on}
 use Rattle.vdr_history.specs.Histories.{Incident, stamp_of}
 use Rattle.vdr_config.specs.Configuration.{Configuration, IsConfiguration}
 use Rattle.vdr_ring.specs.Rings as rings
@@ -54,8 +55,10 @@ use Rattle.vdr_terms.specs.Sizes.{batch_size}
 use Rattle.vdr_outside.specs.declared.fault.Fault.{Fault}
 use Rattle.vdr_vault.specs.Openings.{EndsWithin, GoesOnBehind, Reconciles, opened_with}
 use Rattle.vdr_vault.proofs.OpenContents.{held_durable}
-use Rattle.vdr_vault.specs.Passes.{IsGiven, Passed, Waits, pins_at}
-use Rattle.vdr_vault.proofs.Passed.{last_changed, not_at, reads_beside}
+use Rattle.vdr_ring.specs.Taking.{IsGiven, Waits}
+use Rattle.vdr_vault.specs.Passes.{Passed, pins_at}
+use Rattle.vdr_ring.proofs.Taken.{reads_beside}
+use Rattle.vdr_vault.proofs.Passed.{last_changed, not_at}
 
 module _ {tells tells_images : Type 0} (x : Contents) (batch : List Record) (ring : RingState) (disk : Disk tells tells_images) (h : Lacks x batch ring disk) (sound : AreSound x) where
   order_at : All (λ m. AreInOrder (x.placed m)) members

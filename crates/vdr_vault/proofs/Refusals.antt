@@ -1,5 +1,5 @@
 -- When a call on the table of incidents answers a fault, and what the vault knows of it then.
-use Rattle.std.proofs.Common.{◌≡◌, ◌⊎◌, inr, ℕ, Bool, false, List, [], ◌∷◌, ◌++◌, get_or, Result, Ok, Err, OnOk, sym, ap, ◌∙◌, subst, refl}
+use Rattle.std.proofs.Common.{◌≡◌, inr, ℕ, Bool, false, List, [], ◌∷◌, ◌++◌, get_or, Result, Ok, Err, OnOk, sym, ap, ◌∙◌, subst, refl}
 use Rattle.std.specs.Result.{result_eq}
 use Rattle.vdr_history.specs.Histories.{Event, Opening}
 use Rattle.vdr_outside.specs.Causes.{NoneFalls, Rose}

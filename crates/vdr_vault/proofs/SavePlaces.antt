@@ -1,24 +1,23 @@
 -- The places of an incident, and what of them stands on the long-term medium.
-use Rattle.std.proofs.Common.{◌≡◌, ◌⊎◌, ⊎_elim, ◌<◌, ◌≤◌, ◌+◌, ◌==◌, ℕ, List, [], ◌∷◌, ◌++◌, find, slice_get, option_map, Option, Some, None, refl, sym, ap, ◌∙◌, subst, arith}
+use Rattle.std.proofs.Common.{◌≡◌, ⊎_elim, ◌<◌, ◌≤◌, ◌+◌, ◌==◌, ℕ, List, [], ◌∷◌, find, slice_get, option_map, Some, None, refl, sym, ap, ◌∙◌, subst, arith}
 use Rattle.std.specs.Prelude.{Any, Contains}
 use Rattle.std.proofs.lemmas.Bool.{and_parts, cond-true, cond-false, eq-eqb, leb-true, ne_eqb}
-use Rattle.std.proofs.lemmas.List.Elements.{All-contains, Contains-append_cases}
+use Rattle.std.proofs.lemmas.List.Elements.{All-contains}
 use Rattle.std.proofs.lemmas.Option.{none-some, same_Some}
 use Rattle.vdr_terms.specs.Order.{AreInOrder as RecordsAreInOrder, RunOn}
 use Rattle.vdr_terms.specs.Records.{Record, last, last_after, second}
 use Rattle.vdr_terms.specs.Windows.{window}
-use Rattle.vdr_terms.proofs.Somewhere.{any_left, any_right}
 use Rattle.vdr_retention.specs.Retention.{at_places, within}
 use Rattle.vdr_retention.specs.Victims.{SpansAtMost}
 use Rattle.vdr_retention.proofs.Lists.{contains_here, filter_test, filter_was, last_contained, none_contained}
 use Rattle.vdr_retention.proofs.Ordered.{by_place, no_later, places_run}
 use Rattle.vdr_retention.proofs.Retained.{in_the_window, recent}
 use Rattle.vdr_directory.specs.Lookup.{HoldAll}
-use Rattle.vdr_directory.specs.Order.{AreInOrder, AreInPlace, HasPlace}
-use Rattle.vdr_directory.specs.Sequence.{Placed, all_records, first_of, records_of}
+use Rattle.vdr_directory.specs.Order.{AreInOrder, HasPlace}
+use Rattle.vdr_directory.specs.Sequence.{Placed, all_records}
 use Rattle.vdr_durability.specs.Soundness.{IsUnbroken}
 use Rattle.vdr_vault.specs.Saves.{first_in_window}
-use Rattle.vdr_vault.proofs.CommitPins.{any_one, record_at}
+use Rattle.vdr_ring.proofs.Pinned.{record_at, placed_at}
 
 -- No record has a greater place or tick than the last one.
 pub before_last : (xs : List Record) (newest r : Record) → RecordsAreInOrder xs → last xs ≡ Some newest → Contains xs r → (r.place ≤ newest.place) × (r.tick ≤ newest.tick)
@@ -83,17 +82,6 @@ module _ (seconds a : ℕ) (xs : List Record) (newest : Record) (order : Records
       let same : f.newest ≡ newest = same_Some f.newest newest (sym f.ends ∙ ends) in
       let close : second newest.tick < second first.r.tick + seconds = subst (λ (x : Record). second x.tick < second first.r.tick + seconds) same f.close in
       omega (arith, rises, late, close)
-
--- A recorded place stands in a segment.
-placed_at : (o : Option Placed) (placed : List Placed) (r : Record) → AreInPlace o placed → Contains (all_records placed) r → Any (HasPlace r.place) placed
-placed_at o [] r order there = absurd (none_contained r there)
-placed_at o (p ∷ ps) r order there =
-    ⊎_elim
-    (λ (k : Contains (records_of p) r).
-    let at = places_run (first_of p) (records_of p) r order.0.runs_on.places k in
-    any_left (HasPlace r.place) (p ∷ []) ps (any_one (HasPlace r.place) p (record { from = at.0; below = at.1 })))
-    (λ (k : Contains (all_records ps) r). any_right (HasPlace r.place) (p ∷ []) ps (placed_at (Some p) ps r order.1 k))
-    (Contains-append_cases (records_of p) (all_records ps) r there)
 
 -- Where no place of the window is skipped, all places of the incident stand in the segments.
 pub unbroken_holds : (seconds a : ℕ) (placed : List Placed) (newest : Record) → 0 < seconds → AreInOrder placed → last (all_records placed) ≡ Some newest → first_in_window seconds (all_records placed) ≡ Some a

@@ -34,16 +34,16 @@ use Rattle.vdr_ring.proofs.Medium.{in_order_records}
 use Rattle.vdr_vault.specs.Saves.{Saves, first_in_window, refusal_from, save_refusal}
 use Rattle.vdr_vault.specs.Vaults.{HoldsHistory, VaultState, Stands, of_stamp, ring_of}
 use Rattle.vdr_vault.specs.declared.refused.SaveRefused.{SaveRefused}
-use Rattle.vdr_vault.proofs.CommitReady.{one_end}
+use Rattle.vdr_ring.proofs.Continuing.{one_end}
 use Rattle.vdr_vault.proofs.SlotWritten.{table_settled, MayStand, slot_written, IsWritten, written_does}
 use Rattle.vdr_vault.proofs.SavePlaces.{IsFirst, a_first, find_last, first_is, first_there, spans, unbroken_holds}
-use Rattle.vdr_vault.proofs.ShownPlaces.{all_legal}
+use Rattle.vdr_ring.proofs.Records.{all_legal}
 use Rattle.vdr_directory.specs.Order.{AreInOrder}
 use Rattle.vdr_directory.specs.Holds.{Tells}
 use Rattle.vdr_ring.specs.Rings.{Reads}
 use Rattle.vdr_durability.proofs.Unbroken.{unbroken_less}
 use Rattle.vdr_vault.specs.Plays.{ReadsOn}
-use Rattle.vdr_vault.specs.Walks.{HasRead}
+use Rattle.vdr_cursor.specs.Walks.{HasRead}
 use Rattle.vdr_vault.proofs.Playing.{stands_still}
 
 -- What an accepted save has.

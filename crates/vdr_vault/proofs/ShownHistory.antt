@@ -23,7 +23,8 @@ use Rattle.vdr_vault.specs.Vaults.{VaultState, HoldsHistory, ShowsHistory, Stand
 use Rattle.vdr_durability.specs.Soundness.{IsUnbroken}
 use Rattle.vdr_vault.specs.Regularity.{AreSound}
 use Rattle.vdr_vault.proofs.ShownImages.{placed_there, shown_level}
-use Rattle.vdr_vault.proofs.Playing.{other_read, stands_over}
+use Rattle.vdr_cursor.proofs.Reading.{other_read}
+use Rattle.vdr_vault.proofs.Playing.{stands_over}
 use Rattle.vdr_vault.proofs.Sounding.{IsSoundAlone, sound_level}
 use Rattle.vdr_durability.proofs.Unbroken.{unbroken_held}
 use Rattle.vdr_directory.specs.Order.{AreInOrder as InOrder}

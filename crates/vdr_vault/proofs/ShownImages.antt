@@ -17,7 +17,6 @@ use Rattle.vdr_incident.specs.Saves.{IsIncidentSlot}
 use Rattle.vdr_incident.specs.Tables.{HoldsTable}
 use Rattle.vdr_opening.specs.Media.{HasFront, members, Contents, HoldsContents, IsMedium, reading_of}
 use Rattle.std.proofs.lemmas.List.Elements.{All-nil, All-cons, All-weaker}
-use Rattle.std.proofs.lemmas.Grind.{flat_map-append}
 use Rattle.vdr_terms.specs.Records.{Record, last}
 use Rattle.vdr_terms.specs.Order.{AreInOrder as RecordsAreInOrder}
 use Rattle.vdr_history.specs.Histories.Act.{Commit}
@@ -30,13 +29,14 @@ use Rattle.vdr_durability.specs.Readings.{AreLevel, AreMembers, IsPassedOn}
 use Rattle.vdr_durability.specs.Shown.{Shows, pins_on}
 use Rattle.vdr_durability.proofs.Shows.{commit_shows, level_shows}
 use Rattle.vdr_outside.specs.Disk.{Image, content}
-use Rattle.vdr_directory.specs.Sequence.{Placed, all_records, batches_in, batches_of}
+use Rattle.vdr_directory.specs.Sequence.{Placed, all_records, batches_in}
 use Rattle.vdr_directory.specs.Holds.{HoldsPlaced}
 use Rattle.vdr_ring.specs.Rings.{RingState}
 use Rattle.vdr_ring.proofs.Medium.{in_order_records}
 use Rattle.vdr_opening.specs.Answers.{IsRingOf}
 use Rattle.vdr_vault.specs.Regularity.{AreSound}
 use Rattle.vdr_vault.specs.Vaults.{ShowsHistory}
+use Rattle.vdr_ring.proofs.Records.{records_are}
 
 not_ok : {A : Type 0} (e : ConfigBad) (x : A) → ◌≡◌ {A = Result A ConfigBad} (Err e) (Ok x) → ⊥
 not_ok e x h = cc
@@ -105,13 +105,6 @@ has_capsule = contains_here 0 (1 ∷ [])
 
 pub has_long_term : Contains members 1
 has_long_term = contains_there 0 (1 ∷ []) 1 (contains_here 1 [])
-
--- The records of the batches of a medium are its records.
-pub records_are : (placed : List Placed) → segment_records (batches_in placed) ≡ all_records placed
-records_are [] = refl
-records_are (p ∷ ps) =
-    flat_map-append (λ (b : List Record). b) (batches_of p) (batches_in ps)
-    ∙ ap (λ (rs : List Record). segment_records (batches_of p) ++ rs) (records_are ps)
 
 -- What medium m was given is retained in these segments.
 abbrev pub RetainsGiven : Opening → List Event → (given : ℕ → List Record) → (placed : ℕ → List Placed) → ℕ → Type 0

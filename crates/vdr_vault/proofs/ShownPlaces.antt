@@ -1,29 +1,17 @@
 -- Places on a medium are low enough for the next one.
-use Rattle.std.proofs.Common.{◌≡◌, ◌+◌, ◌-◌, ◌^◌, ◌<◌, ℕ, ℤ, min, List, [], ◌∷◌, All, Option, Some, None, option_map, refl, sym, ap, ◌∙◌, arith}
+use Rattle.std.proofs.Common.{◌≡◌, ◌+◌, ◌-◌, ◌^◌, ◌<◌, ℕ, ℤ, min, List, Option, Some, None, option_map, refl, sym, ap, ◌∙◌, arith}
 use Rattle.std.proofs.lemmas.Option.{same_Some}
-use Rattle.std.proofs.lemmas.List.Elements.{All-nil, All-head, All-tail, All-append, All-contains}
+use Rattle.std.proofs.lemmas.List.Elements.{All-contains}
 use Rattle.vdr_terms.specs.Records.{Record, last}
 use Rattle.vdr_terms.specs.Legality.{IsRecord}
-use Rattle.vdr_segment.specs.Batches.{IsBatch}
-use Rattle.vdr_retention.specs.Layout.{Batches, segment_records}
 use Rattle.vdr_retention.proofs.Lists.{last_contained}
 use Rattle.vdr_history.specs.Histories.{stamp_of}
 use Rattle.vdr_durability.specs.Readings.{next_after}
-use Rattle.vdr_directory.specs.Sequence.{Placed, all_records, batches_of}
+use Rattle.vdr_directory.specs.Sequence.{Placed, all_records}
 use Rattle.vdr_directory.specs.Holds.{HoldsPlaced}
 use Rattle.vdr_ring.proofs.Beginning.{legal_batches}
 use Rattle.vdr_vault.specs.Vaults.{of_stamp, tick_utc}
-
-pub legal_records : (batches : Batches) → All IsBatch batches → All IsRecord (segment_records batches)
-legal_records [] h = All-nil IsRecord
-legal_records (b ∷ batches) h = All-append IsRecord b (segment_records batches) (All-head IsBatch b batches h).legal (legal_records batches (All-tail IsBatch b batches h))
-
-pub all_legal : (placed : List Placed) → All (λ p. All IsBatch (batches_of p)) placed → All IsRecord (all_records placed)
-all_legal [] h = All-nil IsRecord
-all_legal (p ∷ placed) h =
-    All-append IsRecord (segment_records (batches_of p)) (all_records placed)
-    (legal_records (batches_of p) (All-head (λ p. All IsBatch (batches_of p)) p placed h))
-    (all_legal placed (All-tail (λ p. All IsBatch (batches_of p)) p placed h))
+use Rattle.vdr_ring.proofs.Records.{all_legal}
 
 pub next_is_low : (segment count : ℕ) (placed : List Placed) (bytes : List ℕ) → HoldsPlaced segment count placed bytes → next_after (last (all_records placed)) < 2 ^ 64
 next_is_low segment count placed bytes holds = go (last (all_records placed)) refl

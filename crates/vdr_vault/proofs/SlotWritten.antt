@@ -1,5 +1,5 @@
 -- What stays on the long-term medium while one incident slot is written.
-use Rattle.std.proofs.Common.{◌≡◌, inl, inr, ◌<◌, ◌≤◌, ◌+◌, ℕ, List, length, [], ◌∷◌, sym, ap, ◌∙◌, subst, arith, zero, suc, ◌++◌, Option, Some, None, refl, ◌⊎◌, ⊎_elim, ◌*◌, Result, OnOk, All, option_map, ◌-◌}
+use Rattle.std.proofs.Common.{◌≡◌, inl, inr, ◌<◌, ◌≤◌, ◌+◌, ℕ, List, length, [], ◌∷◌, sym, ap, ◌∙◌, subst, arith, zero, suc, ◌++◌, Option, Some, None, refl, ◌⊎◌, ⊎_elim, Result, OnOk, All, option_map, ◌-◌}
 use Rattle.vdr_outside.specs.Parts.{part}
 use Rattle.vdr_config.specs.Configuration.{Configuration, IsConfiguration}
 use Rattle.vdr_config.specs.Sizes.{sizes_of}
@@ -246,6 +246,7 @@ module _ {tells tells_images : Type 0} (opening : Opening) (events : List Event)
             ∙ subst (λ (k : ℕ). part (content old.reads k) (place_of (ring_of vault 1).segment j) (ring_of vault 1).segment ≡ part (content new.reads k) (place_of (ring_of vault 1).segment j) (ring_of vault 1).segment)
             (sym its)
             (sym (slot_beside slot low (content old.reads 1) (content new.reads 1) (settled.reads told).beside (place_of (ring_of vault 1).segment j) (ring_of vault 1).segment (omega arith)));
+        bare = long_term.reads.bare;
       };
       front = λ told. front_beside slot low (content old.reads 1) (content new.reads 1) (settled.reads told).beside 1 vault.config opening.settings.text (long_term.front told);
       regular = long_term.regular;

@@ -1,5 +1,6 @@
 -- Soundness of media that were just formatted, and of the contents of one image.
-use Rattle.std.proofs.Common.{◌≡◌, ◌≤◌, inl, ℕ, zero, suc, List, [], ◌∷◌, replicate, None, refl, sym, ap, subst, arith}
+use Rattle.std.proofs.Common.{◌≡◌, inl, ℕ, zero, suc, List, [], replicate, None, refl, sym, ap, subst, arith}
+use Rattle.std.proofs.lemmas.List.Elements.{All-nil}
 use Rattle.vdr_retention.specs.Retention.{Pin}
 use Rattle.vdr_retention.specs.Victims.{ArePinsOf}
 use Rattle.vdr_retention.proofs.Lists.{none_contained}
@@ -10,6 +11,7 @@ use Rattle.vdr_config.specs.Configuration.{Configuration}
 use Rattle.vdr_config.specs.Sizes.{sizes_of}
 use Rattle.vdr_media.proofs.Two.{all_two}
 use Rattle.vdr_directory.specs.Sequence.{batches_in}
+use Rattle.vdr_directory.specs.Leaving.{IsExactlySummarized}
 use Rattle.vdr_opening.specs.Media.{members, Contents, HoldsContents, nothing_on, reading_of}
 use Rattle.vdr_opening.proofs.ContentsHeld.{are_legal, one_capsule, one_config, one_configured_text, one_incidents, one_long_term}
 use Rattle.vdr_vault.specs.Regularity.{AreSound, IsRegularMedium, IsUnbrokenMedium}
@@ -27,7 +29,7 @@ no_pins_on c m pins none = subst (ArePinsOf (sizes_of c) m []) (sym none) (recor
 
 regular_nothing : (c : Configuration) (text : List ℕ) (m : ℕ) → pins_on m (replicate c.incident_slots None) ≡ [] → IsRegularMedium (nothing_on c text) m
 regular_nothing c text m none = record {
-  segments = inl refl;
+  segments = record { layout = inl refl; exact = All-nil IsExactlySummarized };
   order = tt;
   paced = λ s. omega arith;
   pins = no_pins_on c m (pins_on m (replicate c.incident_slots None)) none;

@@ -14,13 +14,14 @@ use Rattle.vdr_durability.specs.Regularity as layouts
 use Rattle.vdr_durability.specs.Shown.{pins_on}
 use Rattle.vdr_durability.proofs.Regular.{lacked_is_paced, pins_allowed, level_regular, passed_regular}
 use Rattle.vdr_config.specs.Sizes.{sizes_of, window_of}
-use Rattle.vdr_media.proofs.Two.{all_two}
+use Rattle.vdr_media.proofs.Two.{all_two, all_one}
 use Rattle.vdr_directory.specs.Sequence.{Placed, all_records, batches_in, segments_in}
-use Rattle.vdr_ring.specs.Regularity.{AreRegular}
+use Rattle.vdr_ring.specs.Regularity.{AreLaidOut, AreRegular}
 use Rattle.vdr_opening.specs.Media.{members, Contents, reading_of, AreThere, HoldsContents, opening_of}
 use Rattle.vdr_vault.specs.Regularity.{AreRegularMedia, IsRegularMedium, AreSound, IsUnbrokenMedium}
-use Rattle.vdr_vault.proofs.CommitStages.{segments_batches}
-use Rattle.vdr_vault.proofs.ShownImages.{has_capsule, has_long_term, are_members, records_are}
+use Rattle.vdr_ring.proofs.Allowed.{segments_batches}
+use Rattle.vdr_ring.proofs.Records.{records_are}
+use Rattle.vdr_vault.proofs.ShownImages.{has_capsule, has_long_term, are_members}
 use Rattle.vdr_retention.specs.Retention.{Retains, Pin}
 use Rattle.vdr_durability.proofs.Restored.{ends_not_before, follow_is_in_order, level_restored, next_added, next_kept, passed_leads}
 use Rattle.vdr_durability.proofs.Shows.{reconciled_shows, reconciling_shows, retains_itself}
@@ -28,7 +29,7 @@ use Rattle.vdr_outside.specs.Disk.{Image}
 use Rattle.vdr_directory.specs.Order.{AreInOrder}
 use Rattle.vdr_ring.proofs.Medium.{in_order_records}
 use Rattle.vdr_opening.specs.Settings.{settings_of}
-use Rattle.vdr_vault.proofs.Members.{all_one, passed_on}
+use Rattle.vdr_vault.proofs.Members.{passed_on}
 use Rattle.vdr_vault.specs.Vaults.{ShowsHistory, reading_with}
 use Rattle.vdr_history.specs.Histories.{Incident}
 use Rattle.vdr_retention.proofs.Following.{follow_in_order, follow_no_earlier}
@@ -39,16 +40,16 @@ use Rattle.vdr_durability.specs.Soundness.{IsUnbroken}
 use Rattle.vdr_durability.proofs.Unbroken.{unbroken_held}
 
 -- The layout of a regular medium. One without a segment has an empty newest one.
-abbrev pub layout_of : {c u b : ℕ} {placed : List Placed} → AreRegular c u b placed → Layout
+abbrev pub layout_of : {c u b : ℕ} {placed : List Placed} → AreLaidOut c u b placed → Layout
 layout_of (inl none) = record { older = []; newest = [] }
 layout_of (inr (older, newest, split, regular)) = record { older = older; newest = newest }
 
 module _ (c u b : ℕ) (placed : List Placed) where
-  pub laid_out : (r : AreRegular c u b placed) → batches_in placed ≡ all_batches (segments_of (layout_of r))
+  pub laid_out : (r : AreLaidOut c u b placed) → batches_in placed ≡ all_batches (segments_of (layout_of r))
   laid_out (inl none) = ap batches_in none
   laid_out (inr (older, newest, split, regular)) = sym (segments_batches placed) ∙ ap all_batches split
 
-  pub as_laid_out : (r : AreRegular c u b placed) → IsRegular c u b (layout_of r).older (layout_of r).newest
+  pub as_laid_out : (r : AreLaidOut c u b placed) → IsRegular c u b (layout_of r).older (layout_of r).newest
   as_laid_out (inl none) = record {
     order = tt;
     filled = All-nil (λ segment. u < batches_size segment);
@@ -58,18 +59,18 @@ module _ (c u b : ℕ) (placed : List Placed) where
   }
   as_laid_out (inr (older, newest, split, regular)) = regular
 
-  paced_there : (r : AreRegular c u b placed) (records : List Record) → IsPaced c b (segments_of (layout_of r)) records → IsPaced c b (segments_in placed) records
+  paced_there : (r : AreLaidOut c u b placed) (records : List Record) → IsPaced c b (segments_of (layout_of r)) records → IsPaced c b (segments_in placed) records
   paced_there (inl none) records h = subst (λ (ps : List Placed). IsPaced c b (segments_in ps) records) (sym none) (record { some = h.some; short = h.short; order = h.order; paced = λ s. h.paced s })
   paced_there (inr (older, newest, split, regular)) records h = subst (λ (segments : List Batches). IsPaced c b segments records) (sym split) h
 
   -- and the other way
-  pub paced_laid_out : (r : AreRegular c u b placed) (records : List Record) → IsPaced c b (segments_in placed) records → IsPaced c b (segments_of (layout_of r)) records
+  pub paced_laid_out : (r : AreLaidOut c u b placed) (records : List Record) → IsPaced c b (segments_in placed) records → IsPaced c b (segments_of (layout_of r)) records
   paced_laid_out (inl none) records h =
       let k : IsPaced c b [] records = subst (λ (ps : List Placed). IsPaced c b (segments_in ps) records) none h in
       record { some = k.some; short = k.short; order = k.order; paced = λ s. k.paced s }
   paced_laid_out (inr (older, newest, split, regular)) records h = subst (λ (segments : List Batches). IsPaced c b segments records) split h
 
-  records_there : (r : AreRegular c u b placed) → records_in (segments_of (layout_of r)) ≡ all_records placed
+  records_there : (r : AreLaidOut c u b placed) → records_in (segments_of (layout_of r)) ≡ all_records placed
   records_there (inl none) = ap all_records (sym none)
   records_there (inr (older, newest, split, regular)) = ap records_in (sym split)
 
@@ -81,12 +82,12 @@ module _ (x : Contents) (regular : AreRegularMedia x) where
   second = regular 1 1 (omega arith)
 
   abbrev layout_at : ℕ → Layout
-  layout_at zero = layout_of first.segments
-  layout_at (suc m) = layout_of second.segments
+  layout_at zero = layout_of first.segments.layout
+  layout_at (suc m) = layout_of second.segments.layout
 
-  member : (m : ℕ) (h : IsRegularMedium x m) → IsRegularMember (sizes_of x.config) members (reading_of x) m (layout_of h.segments)
+  member : (m : ℕ) (h : IsRegularMedium x m) → IsRegularMember (sizes_of x.config) members (reading_of x) m (layout_of h.segments.layout)
   member m h = record {
-    as_read = record { laid_out = laid_out _ _ _ (x.placed m) h.segments; segments = as_laid_out _ _ _ (x.placed m) h.segments };
+    as_read = record { laid_out = laid_out _ _ _ (x.placed m) h.segments.layout; segments = as_laid_out _ _ _ (x.placed m) h.segments.layout };
     order = h.order;
     paced = h.paced;
     pins = h.pins;
@@ -98,9 +99,9 @@ module _ (x : Contents) (regular : AreRegularMedia x) where
   -- The pins of each medium as it reads are those that its configuration allows.
   pub pins_read : All (λ m. ArePinsOf (sizes_of x.config) m (all_records (x.placed m)) (pins_on m x.table)) members
   pins_read = all_two (λ m. ArePinsOf (sizes_of x.config) m (all_records (x.placed m)) (pins_on m x.table))
-      (subst (λ (rs : List Record). ArePinsOf (sizes_of x.config) 0 rs (pins_on 0 x.table)) (records_there _ _ _ (x.placed 0) first.segments)
+      (subst (λ (rs : List Record). ArePinsOf (sizes_of x.config) 0 rs (pins_on 0 x.table)) (records_there _ _ _ (x.placed 0) first.segments.layout)
       (pins_allowed (sizes_of x.config) members layout_at (reading_of x) are_regular 0 has_capsule))
-      (subst (λ (rs : List Record). ArePinsOf (sizes_of x.config) 1 rs (pins_on 1 x.table)) (records_there _ _ _ (x.placed 1) second.segments)
+      (subst (λ (rs : List Record). ArePinsOf (sizes_of x.config) 1 rs (pins_on 1 x.table)) (records_there _ _ _ (x.placed 1) second.segments.layout)
       (pins_allowed (sizes_of x.config) members layout_at (reading_of x) are_regular 1 has_long_term))
 
   pub segments_read : All (λ m. AreRegular (cost (sizes_of x.config)) (usable (sizes_of x.config)) x.config.batch (x.placed m)) members
@@ -109,7 +110,7 @@ module _ (x : Contents) (regular : AreRegularMedia x) where
   -- The batch that the long-term medium lacks may come next on it.
   pub missing_is_paced : (batch : List Record) (place : ℕ) → leading_batch members (reading_of x) ≡ Some batch → ends_before (Some batch) (batches_in (x.placed 1)) ≡ true → RunOn place batch
       → IsPaced (cost (sizes_of x.config)) x.config.batch (segments_in (x.placed 1)) batch
-  missing_is_paced batch place leads waits run = paced_there _ _ _ (x.placed 1) second.segments batch
+  missing_is_paced batch place leads waits run = paced_there _ _ _ (x.placed 1) second.segments.layout batch
       (lacked_is_paced (sizes_of x.config) members layout_at (reading_of x) 1 batch place are_regular has_long_term has_capsule leads waits run)
 
 -- What media show while they are opened, by the segments that they have.
@@ -230,8 +231,8 @@ IsRegularOn c placed = AreRegular (cost (sizes_of c)) (usable (sizes_of c)) c.ba
 
 module _ (x : Contents) (first : IsRegularOn x.config (x.placed 0)) (second : IsRegularOn x.config (x.placed 1)) where
   abbrev layout_on : ℕ → Layout
-  layout_on zero = layout_of first
-  layout_on (suc m) = layout_of second
+  layout_on zero = layout_of first.layout
+  layout_on (suc m) = layout_of second.layout
 
   abbrev AsRead : ℕ → Type 0
   AsRead m = IsRegularAsRead (sizes_of x.config) (reading_of x) m (layout_on m)
@@ -241,8 +242,8 @@ module _ (x : Contents) (first : IsRegularOn x.config (x.placed 0)) (second : Is
 
   as_read : All AsRead members
   as_read = all_two AsRead
-      (record { laid_out = laid_out _ _ _ (x.placed 0) first; segments = as_laid_out _ _ _ (x.placed 0) first })
-      (record { laid_out = laid_out _ _ _ (x.placed 1) second; segments = as_laid_out _ _ _ (x.placed 1) second })
+      (record { laid_out = laid_out _ _ _ (x.placed 0) first.layout; segments = as_laid_out _ _ _ (x.placed 0) first.layout })
+      (record { laid_out = laid_out _ _ _ (x.placed 1) second.layout; segments = as_laid_out _ _ _ (x.placed 1) second.layout })
 
   medium_of : (m : ℕ) (r : IsRegularOn x.config (x.placed m)) (layout : Layout) → IsRegularMember (sizes_of x.config) members (reading_of x) m layout → IsRegularMedium x m
   medium_of m r layout h = record { segments = r; order = h.order; paced = h.paced; pins = h.pins }
@@ -256,7 +257,7 @@ module _ (x : Contents) (first : IsRegularOn x.config (x.placed 0)) (second : Is
   pub passed_is_regular : (batch : List Record) → IsPassedOn members (0 ∷ []) (1 ∷ []) batch (reading_of x) → IsPaced (cost (sizes_of x.config)) x.config.batch (segments_in (x.placed 1)) batch
       → All Pinned members → AreRegularMedia x
   passed_is_regular batch passed paced pins = media_of (passed_regular (sizes_of x.config) members layout_on (reading_of x) (0 ∷ []) (1 ∷ []) batch passed as_read pins
-      (all_one (λ m. IsPaced (cost (sizes_of x.config)) x.config.batch (segments_of (layout_on m)) batch) 1 (paced_laid_out _ _ _ (x.placed 1) second batch paced)))
+      (all_one (λ m. IsPaced (cost (sizes_of x.config)) x.config.batch (segments_of (layout_on m)) batch) 1 (paced_laid_out _ _ _ (x.placed 1) second.layout batch paced)))
 
 -- What is known of a medium by itself.
 pub record IsSoundAlone (c : Configuration) (m : ℕ) (placed : List Placed) (table : List (Option Incident)) (records : List Record) : Type 0 where

@@ -17,7 +17,7 @@ use Rattle.vdr_vault.specs.declared.refused.SaveRefused.TheVariants.{Damaged, Fa
 use Rattle.vdr_vault.specs.Vaults.{AreRings, IsReadable, VaultState, Stands, of_stamp, ring_of, tick_utc}
 use Rattle.vdr_vault.specs.Calls.{HasVaultCause, SameElsewhere}
 use Rattle.vdr_vault.specs.Saves.{HasFaultOn, save_refusal}
-use Rattle.vdr_vault.specs.Walks.{CursorState, MayStep}
+use Rattle.vdr_cursor.specs.Walks.{CursorState, MayStep}
 use Rattle.vdr_vault.specs.Plays.{HasReadCause, ReadsNoOther, ReadsOn}
 
 -- Where a write had failed before, the call does nothing; and where it fails, the next one does nothing.

@@ -3,8 +3,8 @@ pub mod Vaults
 pub mod Regularity
 pub mod Calls
 pub mod Openings
-pub mod Walks
 pub mod Plays
 pub mod Saves
 pub mod Keeps
 pub mod Passes
+pub mod Bringing

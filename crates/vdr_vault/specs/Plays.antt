@@ -1,5 +1,5 @@
 -- What a play of a vault answers.
-use Rattle.std.specs.Prelude.{◌≡◌, ◌≢◌, ◌⊎◌, ℕ, Bool, true, List, length, get_or, sum, Option, option_map, Result, Err}
+use Rattle.std.specs.Prelude.{◌≡◌, ◌≢◌, ◌⊎◌, ℕ, Bool, true, List, length, get_or, sum, Option, Some, None, option_map, Result, Err}
 use Rattle.vdr_terms.specs.Records.{Record, second, last}
 use Rattle.vdr_terms.specs.Queries.{Medium, Query, Span}
 use Rattle.vdr_terms.specs.Queries.Medium.{WindowOf, Incident}
@@ -14,16 +14,41 @@ use Rattle.vdr_ring.specs.Rings.{RingState}
 use Rattle.vdr_ring.specs.declared.refused.ReadRefused.{ReadRefused}
 use Rattle.vdr_ring.specs.declared.refused.ReadRefused.TheVariants.{Fault}
 use Rattle.vdr_vault.specs.Vaults.{VaultState, ring_of}
-use Rattle.vdr_vault.specs.Walks.{CursorState, AreLeft, slots_read}
+use Rattle.vdr_cursor.specs.declared.cursor.Standing.{Standing}
+use Rattle.vdr_cursor.specs.Budgets.{IsOfSegments, budget}
+use Rattle.vdr_cursor.specs.Walks.{CursorState, AreLeft, slots_read}
 
 -- What a query's medium comes to, by the segments of the media: the seconds up to the last record's, or an incident's places.
 abbrev pub span_in : VaultState → (placed : ℕ → List Placed) → Medium → Option Span
 span_in vault placed (WindowOf m) = option_map (λ r. Window (second r.tick) (window_of vault.config m)) (last (all_records (placed m)))
 span_in vault placed (Incident id) = option_map (λ incident. Places incident.a incident.b) (live vault.table id)
 
+-- The same, by what the vault keeps of its media.
+abbrev pub span_by : VaultState → Medium → Option Span
+span_by vault (WindowOf m) = option_map (λ e. Window (second e.tick) (window_of vault.config m)) (ring_of vault m).directory.ending
+span_by vault (Incident id) = option_map (λ incident. Places incident.a incident.b) (live vault.table id)
+
 -- The ring that a query reads.
 abbrev pub ring_for : VaultState → Query → RingState
 ring_for vault query = ring_of vault (medium_of query.medium)
+
+-- The bytes that steps from there on read at most of a span, if there is one.
+abbrev pub budget_of : RingState → Query → Option Span → Option Standing → ℕ
+budget_of ring query None standing = 0
+budget_of ring query (Some span) standing = budget ring query span standing
+
+-- The bytes that steps from there on read at most of what the query's medium comes to.
+abbrev pub budget_for : VaultState → Query → Option Standing → ℕ
+budget_for vault query standing = budget_of (ring_for vault query) query (span_by vault query.medium) standing
+
+-- The bytes that a whole play of the query reads at most.
+abbrev pub whole_budget : VaultState → Query → ℕ
+whole_budget vault query = budget_for vault query None
+
+-- They are a segment's for each segment of the query's medium that meets it, each once; none where it comes to nothing.
+abbrev pub AreOfSegments : Query → VaultState → (placed : ℕ → List Placed) → Option Span → Type 0
+AreOfSegments query vault placed None = whole_budget vault query ≡ 0
+AreOfSegments query vault placed (Some span) = (whole_budget vault query ≡ budget (ring_for vault query) query span None) × IsOfSegments query span (ring_for vault query) (placed (medium_of query.medium))
 
 -- Only the buffer of the ring on medium m may have changed.
 pub record ReadsOn (m : ℕ) (old new : VaultState) : Type 0 where

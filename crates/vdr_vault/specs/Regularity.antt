@@ -11,8 +11,8 @@ use Rattle.vdr_config.specs.Sizes.{sizes_of, window_of}
 use Rattle.vdr_ring.specs.Regularity.{AreRegular}
 use Rattle.vdr_opening.specs.Media.{members, Contents, reading_of}
 
--- Medium m is regular as it is, and restored: well filled segments, records in order, no second with more bytes than its cost,
--- and live incidents that span no more seconds than an incident has.
+-- Medium m is regular as it is, and restored: well filled segments with exact summaries, records in order, no second with more bytes
+-- than its cost, and live incidents that span no more seconds than an incident has.
 pub record IsRegularMedium (x : Contents) (m : ℕ) : Type 0 where
   pub segments : AreRegular (cost (sizes_of x.config)) (usable (sizes_of x.config)) x.config.batch (x.placed m)
   pub order : AreInOrder (records_on (restored members (reading_of x)) m)

@@ -6,10 +6,11 @@ ghost use Rattle.vdr_terms.specs.Sizes.{batch_size};
 ghost use Rattle.vdr_config.specs.Configuration.{Configuration};
 ghost use Rattle.vdr_directory.specs.Sequence.{Placed};
 ghost use Rattle.vdr_opening.specs.Answers.{AreRingsOf, ring_at};
-ghost use Rattle.vdr_vault.specs.Passes.{HasCauseFrom, KeepsBeside, Passed, Waits, pins_at};
+ghost use Rattle.vdr_ring.specs.Taking.{Waits};
+ghost use Rattle.vdr_vault.specs.Passes.{HasCauseFrom, KeepsBeside, Passed, pins_at};
 
-use crate::vault::LONG_TERM;
 use vdr_entry::Record;
+use vdr_incident::LONG_TERM;
 use vdr_outside::{Fault, Media};
 use vdr_ring::{Pins, Ring};
 

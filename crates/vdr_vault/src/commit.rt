@@ -11,11 +11,12 @@ ghost use Rattle.vdr_vault.specs.Keeps.{GoesOn, KeepsVault, StopsAtFault, Writes
 
 use crate::Vault;
 use crate::appending::append_from;
+use crate::bringing::bring_up_all;
 use vdr_entry::Record;
 use vdr_outside::{Fault, Media};
 
 impl Vault {
-    // Appends the batch to all media, in their order. The long-term medium keeps the live saves.
+    // Brings all media up, and appends the batch to them, in their order. The long-term medium keeps the live saves.
     fn append_to_all<M: Media>(&mut self, media: &mut M, records: &[Record]) -> Result<(), Fault>
         requires rings { AreRings self.old (M.disk media.old).sizes }
         requires some { 0 < length records.now }
@@ -33,11 +34,13 @@ impl Vault {
         ensures cause { HasVaultCause false (M.faults media.old) (M.faults media.new) result }
     {
         let pins = self.pins();
+        bring_up_all(&mut self.rings, media)?;
         append_from(&mut self.rings, 0, media, records, &pins)
     }
 
-    /// Commits records as one batch: appends it to the capsule, and then to the long-term medium. Ok means that both have it. At every
-    /// moment a stop leaves media that show what was recorded before, or that with the batch. Takes no memory.
+    /// Commits records as one batch: appends it to the capsule, and then to the long-term medium. Ok means that both have it. Before
+    /// that the first commit behind an opening brings the media up: it writes the summary of each segment that opening found to lack
+    /// one. At every moment a stop leaves media that show what was recorded before, or that with the batch. Takes no memory.
     ///
     /// The records are at least one and at most `batch` bytes of the configuration. What the media show is promised where the records
     /// continue the history and keep its pace (`MayCommit`).

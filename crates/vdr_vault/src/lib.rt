@@ -2,8 +2,8 @@
 #![tactic(auto)]
 
 mod appending;
+mod bringing;
 mod commit;
-mod cursor;
 mod law;
 mod open;
 mod pins;
@@ -13,7 +13,7 @@ mod refused;
 mod saving;
 mod vault;
 
-pub use cursor::Cursor;
 pub use law::{law_of_sound_media, law_of_vaults};
+pub use play::{law_of_budgets, number_of};
 pub use refused::SaveRefused;
 pub use vault::Vault;

@@ -129,10 +129,12 @@ impl Vault {
     /// `NotFormatted` and `Damaged` come exactly as `vdr_opening::read_media` says, and nothing was written. `Fault`: a call failed, and
     /// the count of faults of that medium rose.
     ///
-    /// Nothing but the long-term medium is written, of legible media at most the batch that it lacks, and where both end with the last
-    /// batch nothing is. Where the media are sound, a stop at each moment leaves what a stop before the call might have left, until the
-    /// syncs have succeeded; from then on media that show what was opened, with the batch that the long-term medium lacks. Of media that
-    /// are not formatted it leaves what a stop before the call might have left, whatever is answered.
+    /// Nothing but the long-term medium is written, of legible media at most the batch that it lacks, with the summary of the segment
+    /// which that leaves, and where both end with the last batch nothing is. Segments that lack a summary get it with the first commit,
+    /// those of a medium to which opening appended with the first commit behind a later opening. Where the media are sound, a stop at
+    /// each moment leaves what a stop before the call might have left, until the syncs have succeeded; from then on media that show what
+    /// was opened, with the batch that the long-term medium lacks. Of media that are not formatted it leaves what a stop before the call
+    /// might have left, whatever is answered.
     pub fn open<M: Media>(alloc: Global, media: &mut M) -> Result<Vault, OpenRefused>
         requires two { 2 ≤ length (M.disk media.old).sizes }
         requires three { length (M.disk media.old).sizes ≤ 3 }

@@ -4,6 +4,7 @@ ghost use Rattle.vdr_terms.specs.Queries.Span.{Window};
 ghost use Rattle.vdr_history.specs.Histories.{Event, Opening};
 ghost use Rattle.vdr_playback.specs.Playback.{medium_of, selected};
 ghost use Rattle.vdr_outside.specs.Causes.{Rose};
+ghost use Rattle.vdr_entry.specs.declared.query.Query.{Query as Asked};
 ghost use Rattle.vdr_entry.specs.Queries.{asked, asked_medium};
 ghost use Rattle.vdr_directory.specs.Sequence.{Placed, all_records};
 ghost use Rattle.vdr_directory.specs.Holds.{Tells};
@@ -11,15 +12,17 @@ ghost use Rattle.vdr_ring.specs.Rings.{Reads};
 ghost use Rattle.vdr_ring.specs.Visits.{IsLoaded};
 ghost use Rattle.vdr_ring.specs.declared.refused.ReadRefused.TheVariants.{Fault as AFault, Damaged};
 ghost use Rattle.vdr_opening.specs.Media.{members};
-ghost use Rattle.vdr_vault.specs.Vaults.{AreRings, IsReadable, ring_of};
+ghost use Rattle.vdr_vault.specs.Vaults.{AreRings, IsReadable, VaultState, ring_of};
 ghost use Rattle.vdr_index.specs.Indexes.{span_as};
-ghost use Rattle.vdr_vault.specs.Walks.{AreLeft, CountsOn, GivesNext, HasRead, MayStep, slots_read};
+ghost use Rattle.vdr_cursor.specs.Budgets.{Spends, budget};
+ghost use Rattle.vdr_cursor.specs.Walks.{AreLeft, CountsOn, GivesNext, HasRead, MayStep, slots_read};
 ghost use Rattle.vdr_vault.specs.Keeps.{KeepsPlayed, ReadsForPlay, StandsAfter};
-ghost use Rattle.vdr_vault.specs.Plays.{AreToCome, ReadsOn, ring_for, span_in};
+ghost use Rattle.vdr_vault.specs.Plays.{AreOfSegments, AreToCome, ReadsOn, budget_for, ring_for, span_by, span_in, whole_budget};
 
-use crate::vault::LONG_TERM;
-use crate::{Cursor, Vault};
+use crate::Vault;
+use vdr_cursor::{Cursor, law_of_budget};
 use vdr_entry::{Medium, Query};
+use vdr_incident::LONG_TERM;
 use vdr_index::Span;
 use vdr_outside::Media;
 use vdr_playback::law_of_playback;
@@ -28,7 +31,8 @@ use vdr_survey::Selection;
 
 // The window that ends with the second of a medium's last record. None where it has no record.
 fn window_of(ring: &Ring, seconds: u64) -> Option<Span>
-    ensures { (placed : List Placed) → Tells ring.now.slots placed ring.now.directory
+    ensures kept { option_map span_as result ≡ option_map (λ e. Window (second e.tick) seconds) ring.now.directory.ending }
+    ensures last { (placed : List Placed) → Tells ring.now.slots placed ring.now.directory
         → option_map span_as result ≡ option_map (λ r. Window (second r.tick) seconds) (last (all_records placed)) }
 {
     let (_, tick, _) = ring.last()?;
@@ -38,8 +42,8 @@ fn window_of(ring: &Ring, seconds: u64) -> Option<Span>
     })
 }
 
-// The number of the medium that a query of this one reads.
-fn medium_of(medium: Medium) -> u8
+/// The number of the medium that a query of this one reads.
+pub fn number_of(medium: Medium) -> u8
     ensures number { result ≡ medium_of (asked_medium medium) }
     ensures member { result < 2 }
 {
@@ -49,10 +53,19 @@ fn medium_of(medium: Medium) -> u8
     }
 }
 
+/// What a whole play reads at most: a segment's bytes for each segment of the query's medium that meets it.
+pub fn law_of_budgets<M: Media>(media: &M)
+    ensures { (query : Asked) (opening : Opening) (events : List Event) (vault : VaultState) (placed : ℕ → List Placed) → IsReadable opening events vault placed (M.disk media.now)
+        → AreOfSegments (asked query) vault placed (span_in vault placed (asked query).medium) }
+{
+    law_of_budget();
+}
+
 impl Vault {
     // What the query's medium comes to. None where it has no record, or the incident is not live.
     fn span_of(&self, medium: Medium) -> Option<Span>
-        ensures { (placed : ℕ → List Placed) → All (λ m. Tells (ring_of self.now m).slots (placed m) (ring_of self.now m).directory) members
+        ensures kept { option_map span_as result ≡ span_by self.now (asked_medium medium) }
+        ensures last { (placed : ℕ → List Placed) → All (λ m. Tells (ring_of self.now m).slots (placed m) (ring_of self.now m).directory) members
             → option_map span_as result ≡ span_in self.now placed (asked_medium medium) }
     {
         if let Medium::Incident(id) = medium {
@@ -62,7 +75,7 @@ impl Vault {
                 b: save.b,
             });
         }
-        let m = medium_of(medium);
+        let m = number_of(medium);
         window_of(self.ring(m), self.config.window(m))
     }
 
@@ -80,6 +93,8 @@ impl Vault {
         ensures vault { ReadsOn m self.old self.new }
         ensures read { HasRead (ring_of self.old m) (ring_of self.new m) (M.disk media.old) (M.disk media.new) }
         ensures counts { CountsOn m (M.bytes_read media.old) (M.bytes_read media.new) (M.faults media.old) (M.faults media.new) }
+        ensures spends { Spends m (budget (ring_of self.old m) (asked selection.now.query) (span_as selection.now.span) cursor.old.standing)
+            (budget (ring_of self.new m) (asked selection.now.query) (span_as selection.now.span) cursor.new.standing) (M.bytes_read media.old) (M.bytes_read media.new) result }
         ensures may { MayStep (ring_of self.new m) cursor.new }
         ensures item { cursor.new.visit.item ≢ None ↔ (result ≡ Ok true) }
         ensures plays { M.tells → (placed : List Placed) (records : List Entry) → Reads (ring_of self.old m) placed (M.disk media.old)
@@ -94,7 +109,8 @@ impl Vault {
 
     /// Steps to the first record that the query selects, wherever the cursor stood. False exactly where it selects none, as of an
     /// incident that is not live. Reads the query's medium alone: of the capsule's window the capsule, else the long-term medium.
-    /// Takes no memory.
+    /// This step and those of `next` behind it, however many, read at most a segment for each that may have a record that is selected
+    /// (`spends`). Takes no memory.
     ///
     /// `Fault`: a write had failed before, and nothing was called; or a read failed, and the count of faults of that medium rose.
     /// `Damaged` names that medium. It never comes of media that hold what was recorded, regular or not.
@@ -110,6 +126,8 @@ impl Vault {
         ensures cursor { StandsAfter (ring_for self.new (asked query.now)) cursor.new result }
         ensures keeps { KeepsPlayed M.Media (medium_of (asked query.now).medium) self.old self.new media.old media.new }
         ensures reads { ReadsForPlay M.Media (medium_of (asked query.now).medium) self.old self.new media.old media.new result }
+        ensures spends { Spends (medium_of (asked query.now).medium) (whole_budget self.old (asked query.now)) (budget_for self.new (asked query.now) cursor.new.standing)
+            (M.bytes_read media.old) (M.bytes_read media.new) result }
     {
         law_of_playback();
         *cursor = Cursor::new();
@@ -117,7 +135,8 @@ impl Vault {
     }
 
     /// Steps to the next record that the query selects. False exactly where no further one is there. Reads the query's medium
-    /// alone: of the capsule's window the capsule, else the long-term medium. Takes no memory.
+    /// alone: of the capsule's window the capsule, else the long-term medium. The segment in which the cursor stands is read again
+    /// only where another slot was loaded since. Takes no memory.
     ///
     /// The cursor is new, or its last step was for this query, and no other cursor's came since (`may`).
     ///
@@ -137,6 +156,8 @@ impl Vault {
         ensures cursor { StandsAfter (ring_for self.new (asked query.now)) cursor.new result }
         ensures keeps { KeepsPlayed M.Media (medium_of (asked query.now).medium) self.old self.new media.old media.new }
         ensures reads { ReadsForPlay M.Media (medium_of (asked query.now).medium) self.old self.new media.old media.new result }
+        ensures spends { Spends (medium_of (asked query.now).medium) (budget_for self.old (asked query.now) cursor.old.standing) (budget_for self.new (asked query.now) cursor.new.standing)
+            (M.bytes_read media.old) (M.bytes_read media.new) result }
     {
         if self.failed {
             *cursor = Cursor::new();
@@ -150,6 +171,6 @@ impl Vault {
             span,
             query: *query,
         };
-        self.step_on(medium_of(query.medium), media, &selection, cursor)
+        self.step_on(number_of(query.medium), media, &selection, cursor)
     }
 }

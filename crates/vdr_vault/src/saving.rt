@@ -14,18 +14,17 @@ ghost use Rattle.vdr_ring.specs.Visits.{IsLoaded};
 ghost use Rattle.vdr_incident.specs.Saves.{IsSave};
 ghost use Rattle.vdr_incident.specs.declared.refused.ReleaseRefused.TheVariants.{Fault as AReleaseFault, NoSuch};
 ghost use Rattle.vdr_vault.specs.Vaults.{AreRings, Stands, of_stamp, ring_of};
-ghost use Rattle.vdr_vault.specs.Walks.{HasRead};
+ghost use Rattle.vdr_cursor.specs.Walks.{HasRead};
 ghost use Rattle.vdr_vault.specs.Plays.{ReadsNoOther, ReadsOn};
 ghost use Rattle.vdr_vault.specs.Saves.{Does, HasFaultOn, Saves, first_in_window, save_refusal};
 ghost use Rattle.vdr_vault.specs.Keeps.{FailsWhere, FreesSlot, KeepsHistory, MeetsDamage, PutsIncident, RefusesRelease, RefusesSave, WritesToLongTerm};
 ghost use Rattle.vdr_vault.specs.declared.refused.SaveRefused.{SaveRefused as Refused};
 ghost use Rattle.vdr_vault.specs.declared.refused.SaveRefused.TheVariants.{Damaged, Fault as AFault, Label, Nothing, TableFull};
 
-use crate::cursor::Cursor;
-use crate::vault::LONG_TERM;
 use crate::{SaveRefused, Vault};
+use vdr_cursor::Cursor;
 use vdr_entry::{Medium, Query};
-use vdr_incident::{ReleaseRefused, Save, is_label};
+use vdr_incident::{LONG_TERM, ReleaseRefused, Save, is_label};
 use vdr_index::Span;
 use vdr_outside::Media;
 use vdr_survey::Selection;
@@ -93,15 +92,6 @@ impl Vault {
         ensures cause { HasFaultOn 1 false (M.faults media.old) (M.faults media.new) (result ≡ Err AFault) }
     {
         let seconds = self.incident_seconds();
-        let Some(mut cursor) = Cursor::since(
-            self.ring(LONG_TERM),
-            last_second.saturating_add(1).saturating_sub(seconds),
-        ) else {
-            return Err(SaveRefused::Damaged {
-                medium: LONG_TERM,
-                offset: 0,
-            });
-        };
         let selection = Selection {
             span: Span::Window {
                 last: last_second,
@@ -109,6 +99,7 @@ impl Vault {
             },
             query: ALL,
         };
+        let mut cursor = Cursor::new();
         if !self.step_on(LONG_TERM, media, &selection, &mut cursor)? {
             return Err(SaveRefused::Damaged {
                 medium: LONG_TERM,

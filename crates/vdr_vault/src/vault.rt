@@ -10,9 +10,6 @@ use vdr_config::Config;
 use vdr_incident::Table;
 use vdr_ring::Ring;
 
-// The medium with the incident saves.
-pub(crate) const LONG_TERM: u8 = 1;
-
 /// The capsule and the long-term medium as they were opened, without the media themselves: the configuration, a ring on each, and the
 /// table of incident saves. After a fault of a write all its calls answer `Fault` and touch nothing, until the media are opened again.
 #[derive(Drop)]

@@ -8,7 +8,7 @@ use Rattle.vdr_terms.specs.Order.{AreInOrder}
 use Rattle.vdr_terms.specs.Records.{Record}
 use Rattle.vdr_ring.specs.declared.refused.ReadRefused.{ReadRefused}
 use Rattle.vdr_ring.specs.declared.refused.ReadRefused.TheVariants as reads
-use Rattle.vdr_vault.specs.Walks.{GivesNext}
+use Rattle.vdr_cursor.specs.Walks.{GivesNext}
 use Rattle.vdr_visit.specs.Prints.{text_of}
 use Rattle.vdr_visit.specs.Refusals.{stop_by}
 use Rattle.vdr_visit.specs.Visits.{AreVisited, HasMade}

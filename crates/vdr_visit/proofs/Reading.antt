@@ -1,5 +1,5 @@
 -- What reads change of a vault: the buffer of one ring.
-use Rattle.std.proofs.Common.{◌≡◌, ◌≤◌, ◌⊎◌, inl, inr, ⊎_elim, ℕ, Bool, true, List, get_or, sum, ap, ◌∙◌, arith}
+use Rattle.std.proofs.Common.{◌≡◌, ◌≤◌, ◌⊎◌, inl, inr, ⊎_elim, ℕ, Bool, true, List, get_or, sum, ap, ◌∙◌, subst, arith, Result, Ok, OnOk}
 use Rattle.vdr_terms.specs.Queries.{Query}
 use Rattle.vdr_playback.specs.Playback.{medium_of}
 use Rattle.vdr_outside.specs.Causes.{Rose}
@@ -32,6 +32,10 @@ reads_join m x y z h k = record {
   ring = k.ring ∙ ap (λ (r : RingState). record r { buffer = (ring_of z m).buffer; loaded = (ring_of z m).loaded }) h.ring;
   others = λ n other. k.others n other ∙ h.others n other;
 }
+
+-- What holds after Ok, of a call that answered it.
+pub left_of : {T E P : Type 0} {result : Result T E} {x : T} → result ≡ Ok x → OnOk result P → P
+left_of {P = P} is h = subst (λ (r : Result _ _). OnOk r P) is h
 
 -- A query's medium was read twice.
 pub only_read_join : {tells tells_images : Type 0} (query : Query) (x y z : VaultState) (before mid after : Disk tells tells_images) (read_before read_mid read_after : List ℕ)

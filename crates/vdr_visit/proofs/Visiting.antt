@@ -1,5 +1,5 @@
 -- The records that a query selects are visited one by one.
-use Rattle.std.proofs.Common.{◌≡◌, ◌≢◌, ◌≤◌, ◌^◌, ℕ, List, Bool, true, Option, None}
+use Rattle.std.proofs.Common.{◌≡◌, ◌≢◌, ◌≤◌, ◌+◌, ◌^◌, get_or, ℕ, List, Bool, true, Option, None}
 use Rattle.std.specs.Io.KnownBytes.{Appends}
 use Rattle.vdr_terms.specs.Order.{AreInOrder}
 use Rattle.vdr_terms.specs.Queries.{Query}
@@ -13,8 +13,8 @@ use Rattle.vdr_entry.specs.Queries.{asked}
 use Rattle.vdr_entry.specs.declared.query.Query.{Query as Asked}
 use Rattle.vdr_directory.specs.Sequence.{Placed}
 use Rattle.vdr_vault.specs.Vaults.{AreRings, IsReadable, VaultState, Stands}
-use Rattle.vdr_vault.specs.Walks.{CursorState, MayStep}
-use Rattle.vdr_vault.specs.Plays.{AreToCome, ReadsNoOther, ReadsOn, ring_for}
+use Rattle.vdr_cursor.specs.Walks.{CursorState, MayStep}
+use Rattle.vdr_vault.specs.Plays.{AreToCome, ReadsNoOther, ReadsOn, budget_for, ring_for, whole_budget}
 use Rattle.vdr_vault.proofs.Coming.{holds_on}
 use Rattle.vdr_visit.specs.Prints.{text_of}
 use Rattle.vdr_visit.proofs.Between.{IsBetween}
@@ -28,6 +28,7 @@ module _ {tells tells_images S : Type 0} where
     pub reads : ReadsOn (medium_of query.medium) first now
     pub unchanged : Unchanged before after
     pub counts : ReadsNoOther (medium_of query.medium) read_before read_now
+    pub spent : get_or read_now (medium_of query.medium) 0 + budget_for now query cursor.standing ≤ get_or read_before (medium_of query.medium) 0 + whole_budget first query
     pub later : NoneFalls faults_before faults_now
     pub output : output_before ≤ output_now
     pub may : MayStep (ring_for now query) cursor

@@ -9,7 +9,8 @@ use Rattle.vdr_outside.specs.Disk.{Disk, Unchanged}
 use Rattle.vdr_outside.specs.Writes.{AppendsFront}
 use Rattle.vdr_directory.specs.Sequence.{Placed}
 use Rattle.vdr_vault.specs.Vaults.{AreRings, IsReadable, VaultState, Stands}
-use Rattle.vdr_vault.specs.Plays.{ReadsNoOther, ReadsOn}
+use Rattle.vdr_cursor.specs.Budgets.{ReadsAtMost}
+use Rattle.vdr_vault.specs.Plays.{ReadsNoOther, ReadsOn, whole_budget}
 use Rattle.vdr_visit.specs.Prints.{text_of}
 use Rattle.vdr_visit.specs.declared.refused.VisitRefused.{VisitRefused}
 use Rattle.vdr_visit.specs.declared.refused.VisitRefused.TheVariants.{NoChannel, NoIncident, Fault, Damaged, Output, Own}
@@ -35,6 +36,10 @@ AreVisited seen records (Err Fault) = (rest : List Record) × (records ≡ seen 
 AreVisited seen records (Err (Damaged m offset)) = ⊥
 AreVisited seen records (Err Output) = (rest : List Record) × (records ≡ seen ++ rest)
 AreVisited seen records (Err (Own reason)) = (rest : List Record) × (records ≡ seen ++ rest)
+
+-- Of the query's medium at most a segment's bytes for each segment that meets the query were read, each once, and none of another medium.
+abbrev pub ReadsEachOnce : Query → VaultState → (read_before read_now : List ℕ) → Type 0
+ReadsEachOnce query vault read_before read_now = ReadsAtMost (medium_of query.medium) (whole_budget vault query) read_before read_now
 
 module _ {tells tells_images : Type 0} where
   -- Some records were handed to a visitor, who made this of them. Where the vault's media can be read they are those that the query selects,

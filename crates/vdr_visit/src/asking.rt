@@ -1,6 +1,5 @@
 // What a query asks for, and whether it is there.
 ghost use Rattle.std.specs.Prelude.{◌≡◌, length};
-ghost use Rattle.vdr_playback.specs.Playback.{medium_of};
 ghost use Rattle.vdr_entry.specs.Queries.{asked, asked_medium};
 ghost use Rattle.vdr_visit.specs.Refusals.{lacks_channel, lacks_incident, unanswered};
 
@@ -40,14 +39,4 @@ pub fn accept<R>(vault: &Vault, query: &Query) -> Result<(), VisitRefused<R>>
         return Err(VisitRefused::NoIncident);
     }
     Ok(())
-}
-
-/// The number of the medium that a query reads.
-pub(crate) fn number_of(medium: Medium) -> u8
-    ensures { result ≡ medium_of (asked_medium medium) }
-{
-    match medium {
-        Medium::Capsule => 0,
-        Medium::LongTerm | Medium::Incident(_) => 1,
-    }
 }

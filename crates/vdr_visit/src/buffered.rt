@@ -5,7 +5,7 @@ ghost use Rattle.vdr_entry.specs.Queries.{asked};
 ghost use Rattle.vdr_vault.specs.Vaults.{AreRings};
 ghost use Rattle.vdr_visit.specs.Prints.{whole_text};
 ghost use Rattle.vdr_visit.specs.Refusals.{HasOutputCause, HasVisitCause};
-ghost use Rattle.vdr_visit.specs.Visits.{HasOnlyRead, HasVisited};
+ghost use Rattle.vdr_visit.specs.Visits.{HasOnlyRead, HasVisited, ReadsEachOnce};
 ghost use Rattle.vdr_visit.specs.declared.refused.VisitRefused.TheVariants.{Fault as AFault, NoChannel, NoIncident, Output};
 
 use crate::each::visit_all;
@@ -53,6 +53,7 @@ pub(crate) fn visit_lent<'a, M: Media, V: Visitor, O: Sink, B: Opening>(
         B.start (O.taken result.0.sink.now) result.1 }
     ensures asked { (result.1 ≡ Err NoChannel) ⊎ (result.1 ≡ Err NoIncident) → ⊥ }
     ensures read { HasOnlyRead (asked query.now) vault.old vault.new (M.disk media.old) (M.disk media.new) (M.bytes_read media.old) (M.bytes_read media.new) }
+    ensures bound { ReadsEachOnce (asked query.now) vault.old (M.bytes_read media.old) (M.bytes_read media.new) }
     ensures cause { HasVisitCause (medium_of (asked query.now).medium) vault.old.failed (M.faults media.old) (M.faults media.new) (result.1 ≡ Err AFault) }
     ensures output { HasOutputCause (O.faults lent.entry.sink.now) (O.faults result.0.sink.now) (result.1 ≡ Err Output) }
 {

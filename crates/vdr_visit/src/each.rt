@@ -6,15 +6,15 @@ ghost use Rattle.vdr_ring.specs.declared.refused.ReadRefused.TheVariants as read
 ghost use Rattle.vdr_vault.specs.Vaults.{AreRings};
 ghost use Rattle.vdr_visit.specs.Prints.{text_of, whole_text};
 ghost use Rattle.vdr_visit.specs.Refusals.{HasOutputCause, HasVisitCause};
-ghost use Rattle.vdr_visit.specs.Visits.{HasOnlyRead, HasVisited};
+ghost use Rattle.vdr_visit.specs.Visits.{HasOnlyRead, HasVisited, ReadsEachOnce};
 ghost use Rattle.vdr_visit.specs.declared.refused.VisitRefused.TheVariants.{Fault as AFault, NoChannel, NoIncident, Output};
 
-use crate::asking::number_of;
 use crate::{VisitRefused, Visitor};
+use vdr_cursor::Cursor;
 use vdr_entry::{Medium, Query, Record};
 use vdr_outside::{Media, Sink};
 use vdr_ring::ReadRefused;
-use vdr_vault::{Cursor, Vault};
+use vdr_vault::{Vault, number_of};
 
 // The least place that is expected behind this record, whose own is not below the least that was expected.
 fn place_behind(item: &Record, medium: Medium, least: u64) -> Result<u64, ReadRefused>
@@ -47,6 +47,7 @@ fn visit_each<M: Media, V: Visitor, O: Sink>(
         (O.taken out.old) (O.taken out.new) result }
     ensures asked { (result ≡ Err NoChannel) ⊎ (result ≡ Err NoIncident) → ⊥ }
     ensures read { HasOnlyRead (asked query.now) vault.old vault.new (M.disk media.old) (M.disk media.new) (M.bytes_read media.old) (M.bytes_read media.new) }
+    ensures bound { ReadsEachOnce (asked query.now) vault.old (M.bytes_read media.old) (M.bytes_read media.new) }
     ensures cause { HasVisitCause (medium_of (asked query.now).medium) vault.old.failed (M.faults media.old) (M.faults media.new) (result ≡ Err AFault) }
     ensures output { HasOutputCause (O.faults out.old) (O.faults out.new) (result ≡ Err Output) }
 {
@@ -78,6 +79,7 @@ pub(crate) fn visit_all<M: Media, V: Visitor, O: Sink>(
         (O.taken out.old) (O.taken out.new) result }
     ensures asked { (result ≡ Err NoChannel) ⊎ (result ≡ Err NoIncident) → ⊥ }
     ensures read { HasOnlyRead (asked query.now) vault.old vault.new (M.disk media.old) (M.disk media.new) (M.bytes_read media.old) (M.bytes_read media.new) }
+    ensures bound { ReadsEachOnce (asked query.now) vault.old (M.bytes_read media.old) (M.bytes_read media.new) }
     ensures cause { HasVisitCause (medium_of (asked query.now).medium) vault.old.failed (M.faults media.old) (M.faults media.new) (result ≡ Err AFault) }
     ensures output { HasOutputCause (O.faults out.old) (O.faults out.new) (result ≡ Err Output) }
 {

@@ -75,6 +75,11 @@ impl<M: Media + Drop> Capsule<M> {
             .is_ok()
     }
 
+    // Brings the ring up, and tells whether it was.
+    pub(super) fn bring_up(&mut self) -> bool {
+        self.ring.bring_up(&mut self.media).is_ok()
+    }
+
     // How many records the last batch has, and the place of the first. None where it is not read or has none.
     pub(super) fn last_batch(&mut self, alloc: Global) -> Option<(usize, u64)> {
         let batch = self.ring.read_last_batch(alloc, &mut self.media).ok()?;

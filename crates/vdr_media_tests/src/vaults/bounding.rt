@@ -34,7 +34,12 @@ const SEGMENTS: [(u64, u64, i64, u64); 3] = [
     (10, 60_000, 3_000, 0b100),
 ];
 
-fn append_all<M: Media>(rt: &impl Abort, alloc: Global, media: &mut M, m: u8) -> Result<(), Fail> {
+pub(super) fn append_all<M: Media>(
+    rt: &impl Abort,
+    alloc: Global,
+    media: &mut M,
+    m: u8,
+) -> Result<(), Fail> {
     for segment in &SEGMENTS {
         let mut ring = ring_on(rt, alloc, media, BENCH, m)?;
         append(media, &mut ring, &five(rt, segment))?;
@@ -112,6 +117,56 @@ fn a_play_reads_the_segments_that_meet(rt: HostRuntime) -> Result<(), Fail> {
             before.1.wrapping_add(long_term),
         );
         assert!(rt; bytes_read(vault.media()) == read, "{query:?}");
+        media = vault.into_media();
+    }
+    Ok(())
+}
+
+// Appends fourteen batches to a medium, each of five records of its own second, of which two at a time have one stamp. The last two have
+// the stamp 6,000.
+fn append_many<M: Media>(rt: &impl Abort, alloc: Global, media: &mut M, m: u8) -> Result<(), Fail> {
+    for number in 0..14u32 {
+        let stamp = i64::from(number / 2) * 1_000;
+        let segment = (
+            u64::from(number) * 5,
+            u64::from(number) * 30_000,
+            stamp,
+            0b001,
+        );
+        let mut ring = ring_on(rt, alloc, media, BENCH, m)?;
+        append(media, &mut ring, &five(rt, &segment))?;
+    }
+    Ok(())
+}
+
+// Media with these batches.
+fn recorded_long(rt: &impl Abort, alloc: Global) -> Result<MemoryMedia, Fail> {
+    let contents = contents_of(alloc, &formatted(rt, alloc, BENCH, BENCH_SIZES)?)?;
+    let mut media = stopping(rt, alloc, contents, None)?;
+    append_many(rt, alloc, &mut media, 0)?;
+    append_many(rt, alloc, &mut media, 1)?;
+    Ok(media)
+}
+
+#[test]
+fn a_play_of_the_last_stamp_reads_its_two_segments(rt: HostRuntime) -> Result<(), Fail> {
+    let alloc = rt.alloc();
+    let mut media = recorded_long(&rt, alloc)?;
+    for &(medium, m) in &[(Medium::Capsule, 0), (Medium::LongTerm, 1)] {
+        let query = Query {
+            medium,
+            channel: None,
+            from: 6_000,
+            to: 6_000,
+        };
+        let vault = VaultBench::open(&rt, alloc, media)?;
+        let before = vault.media().bytes_read(m);
+        let (given, vault) = count(&rt, vault, query);
+        assert!(rt; given == 10, "medium {m}");
+        assert!(rt;
+            vault.media().bytes_read(m) == before.wrapping_add(2 * SEGMENT),
+            "medium {m}"
+        );
         media = vault.into_media();
     }
     Ok(())

@@ -7,12 +7,13 @@ use std::alloc::Global;
 use std::marker::Model;
 use std::process::Abort;
 use std::test::Fail;
+use vdr_cursor::Cursor;
 use vdr_entry::{Query, Record};
 use vdr_incident::ReleaseRefused;
 use vdr_opening::OpenRefused;
 use vdr_outside::Media;
 use vdr_ring::ReadRefused;
-use vdr_vault::{Cursor, SaveRefused, Vault};
+use vdr_vault::{SaveRefused, Vault};
 
 #[derive(Drop)]
 pub(super) struct VaultBench<M: Media> {
@@ -55,7 +56,7 @@ impl<M: Media + Drop> VaultBench<M> {
 
     /// Whether a Start is recorded at this place and tick.
     pub(super) fn commit(&mut self, rt: &impl Abort, place: u64, tick: u64) -> bool {
-        assert!(rt; place < 10 && tick < 100_000 && self.vault.config().batch >= 2_048);
+        assert!(rt; place < 100 && tick < 100_000 && self.vault.config().batch >= 2_048);
         let item = Record::start(0, place, tick, UTC);
         self.vault.commit(&mut self.media, &[item]).is_ok()
     }
@@ -118,7 +119,7 @@ impl<M: Media> Model for Play<M> {
     ghost use Rattle.vdr_entry.specs.Queries.{asked};
     ghost use Rattle.vdr_vault.specs.Vaults.{AreRings};
     ghost use Rattle.vdr_vault.specs.Plays.{ring_for};
-    ghost use Rattle.vdr_vault.specs.Walks.{MayStep};
+    ghost use Rattle.vdr_cursor.specs.Walks.{MayStep};
 
     ghost Value = { ⊤ };
 

@@ -8,13 +8,13 @@ loop-i-init c placed d = passed_none placed _ d
 pub loop-i-preserved : goal.loop-i-preserved
 loop-i-preserved c placed d =
     let h = c.loop-i.invariant placed d in
-    let n = next_here placed _ _ _ _ (omega arith) h in
+    let n = next_here _ _ h.rest _ (omega arith) h.ahead in
     passed_more placed _ _ _ _ h n ((c.is_in_place.ensures h.newest n.here n.after h.described n.described n.slice h.runs_on).0 c.if-not-is_in_place.false)
 
 pub returns-then-not-is_in_place-clause-some : goal.returns-then-not-is_in_place-clause-some
 returns-then-not-is_in_place-clause-some c placed d =
     let h = c.loop-i.invariant placed d in
-    let n = next_here placed _ _ _ _ (omega arith) h in
+    let n = next_here _ _ h.rest _ (omega arith) h.ahead in
     passed_break placed _ _ _ _ h n (λ place. let is = (c.is_in_place.ensures h.newest n.here n.after h.described n.described n.slice h.runs_on).1 place in cc)
 
 pub returns-clause-none : goal.returns-clause-none

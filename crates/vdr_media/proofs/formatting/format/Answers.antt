@@ -8,7 +8,7 @@ use Rattle.vdr_media.proofs.Formats.{formats_after_reads, formats_unchanged, bes
 use Rattle.vdr_media.proofs.Two.{first_of}
 use Rattle.vdr_media.proofs.Unformatted.{unchanged_moments, durable_still}
 use Rattle.vdr_media.proofs.formatting.format.Goals as goal
-use Rattle.vdr_media.proofs.formatting.format.Goals.{else-formatted-via-then-formatted+else-not-again, else-formatted-via-else-formatted}
+use Rattle.vdr_media.proofs.formatting.format.Goals.{else-formatted-via-then-formatted+else-not-again}
 
 -- media that are not formatted, or are to be formatted again
 unless_again : {P : Type 0} (formatted again : Bool) → ((formatted ≡ true) × (again ≡ true)) ⊎ (formatted ≡ false) → (formatted ≡ false → P) → again ≡ false → P

@@ -2,8 +2,9 @@ use Rattle.std.proofs.Common.{◌≡◌, ap, ◌∙◌, subst, arith}
 use Rattle.std.proofs.lemmas.List.{get_or_default}
 use Rattle.vdr_ring.specs.Rings.{Reads, RingState}
 use Rattle.vdr_opening.specs.Answers.{no_ring, ring_at}
-use Rattle.vdr_opening.proofs.Rings.{part_by, keeps_one, of_all}
+use Rattle.vdr_opening.proofs.Rings.{part_by, keeps_one}
 use Rattle.vdr_opening.proofs.ends.read_end.Goals as goal
+use Rattle.vdr_media.proofs.Two.{of_each}
 
 pub returns-clause-undamaged : goal.returns-clause-undamaged
 returns-clause-undamaged g c k offset e told placed reads =
@@ -19,4 +20,4 @@ pub returns-clause-cause : goal.returns-clause-cause
 returns-clause-cause g c =
     let count = c.requires.rings.1.count in
     let is = get_or_default c.args.rings.now c.args.m _ no_ring (omega (arith, count)) in
-    part_by c.args.m _ _ _ _ (ap (λ (r : RingState). r.medium) is ∙ of_all (λ m. (ring_at c.args.rings.now m).medium ≡ m) c.args.m c.requires.few (λ i d lt. (c.requires.rings.1.each i d lt).medium)) c.requires.few c.read_last_batch.ensures.cause
+    part_by c.args.m _ _ _ _ (ap (λ (r : RingState). r.medium) is ∙ of_each (λ m. (ring_at c.args.rings.now m).medium ≡ m) (λ i d lt. (c.requires.rings.1.each i d lt).medium) c.args.m c.requires.few) c.requires.few c.read_last_batch.ensures.cause

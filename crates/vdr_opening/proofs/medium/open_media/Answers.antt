@@ -10,8 +10,10 @@ use Rattle.vdr_opening.specs.Answers.{IsRingOf, ring_at}
 use Rattle.vdr_opening.specs.Media.{IsMedium}
 use Rattle.vdr_opening.specs.Parts.{ReadsMedium, text_of}
 use Rattle.vdr_opening.specs.Refusals.{RefusesMedium}
-use Rattle.vdr_opening.proofs.Rings.{all_read, legal_at, medium_still, refused_at, carry, each_more, of_all, same_content, unchanged_join, same_text}
+use Rattle.vdr_opening.proofs.Rings.{all_read, legal_at, medium_still, refused_at, carry, each_more, same_content, same_text}
 use Rattle.vdr_opening.proofs.medium.open_media.Goals as goal
+use Rattle.vdr_outside.proofs.Moments.{unchanged_join}
+use Rattle.vdr_media.proofs.Two.{of_each}
 
 pub returns-in_err-configured-clause-damaged : goal.returns-in_err-configured-clause-damaged
 returns-in_err-configured-clause-damaged g c =
@@ -42,9 +44,9 @@ loop-m-preserved g c =
       reads = λ told durable. each_more (λ k ring. (placed : List Placed) × ReadsMedium k found.config found.text.items placed ring one) c.loop-m.rings.items _ c.loop-m.m inv.count
           (λ k lt. let was = carry (λ first k. (placed : List Placed) × ReadsMedium k first.config first.text.items placed (ring_at c.loop-m.rings.items k) (g.M.Media.disk c.loop-m.media)) c.loop-m.before found c.loop-m.m inv.first call.same (inv.reads told durable) k lt in
           (was.0, medium_still k _ _ was.0 _ _ _ c.open_medium.ensures.unchanged told was.1))
-          (call.reads told (durable_still c.loop-m.m _ _ inv.unchanged (of_all (λ k. Durable k start) c.loop-m.m high durable)));
+          (call.reads told (durable_still c.loop-m.m _ _ inv.unchanged (of_each (λ k. Durable k start) durable c.loop-m.m high)));
       behind = λ told durable m offset refuses.
-          let read = call.reads told (durable_still c.loop-m.m _ _ inv.unchanged (of_all (λ k. Durable k start) c.loop-m.m high durable)) in
+          let read = call.reads told (durable_still c.loop-m.m _ _ inv.unchanged (of_each (λ k. Durable k start) durable c.loop-m.m high)) in
           inv.behind told durable m offset (legal_at (text_of c.loop-m.before) start.reads m offset c.loop-m.m found.text.items high
           (record { config = found.config; placed = read.0; legal = subst (IsMedium c.loop-m.m found.config found.text.items read.0) (same_content c.loop-m.m _ _ unchanged told) read.1.legal; same = same_text c.loop-m.before found call.same }) refuses);
       unchanged = unchanged;

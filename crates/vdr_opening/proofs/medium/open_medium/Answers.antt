@@ -7,8 +7,9 @@ use Rattle.vdr_terms.proofs.Results.{same_err}
 use Rattle.vdr_opening.specs.Media.{HasFront}
 use Rattle.vdr_opening.specs.Parts.{text_of}
 use Rattle.vdr_opening.specs.Refusals.{RefusesConfiguration}
-use Rattle.vdr_opening.proofs.Rings.{unchanged_join, same_content, refuses_segments, reads_medium, same_text}
+use Rattle.vdr_opening.proofs.Rings.{same_content, refuses_segments, reads_medium, same_text}
 use Rattle.vdr_opening.proofs.medium.open_medium.Goals as goal
+use Rattle.vdr_outside.proofs.Moments.{unchanged_join}
 
 pub returns-in_err-configured-clause-damaged : goal.returns-in_err-configured-clause-damaged
 returns-in_err-configured-clause-damaged g c =

@@ -7,8 +7,9 @@ use Rattle.vdr_ring.specs.Rings.{RingState}
 use Rattle.vdr_opening.specs.Answers.{AreRingsOf, no_ring}
 use Rattle.vdr_opening.specs.Parts.{AreRead}
 use Rattle.vdr_opening.proofs.Meeting.{are_read, contents_of, ends_refused, incidents_refused, is_opened}
-use Rattle.vdr_opening.proofs.Rings.{unchanged_join, part_by, part_passed, read_still, take_front}
+use Rattle.vdr_opening.proofs.Rings.{part_by, part_passed, read_still, take_front}
 use Rattle.vdr_opening.proofs.reading.read_formatted.Goals as goal
+use Rattle.vdr_outside.proofs.Moments.{unchanged_join}
 
 pub returns-in_err-configured-clause-damaged : goal.returns-in_err-configured-clause-damaged
 returns-in_err-configured-clause-damaged g c =

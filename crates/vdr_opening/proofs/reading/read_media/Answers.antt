@@ -6,8 +6,9 @@ use Rattle.vdr_outside.specs.Disk.{Image}
 use Rattle.vdr_media.proofs.Two.{first_of}
 use Rattle.vdr_media.proofs.Unformatted.{durable_still}
 use Rattle.vdr_opening.specs.Refusals.{IsRefused}
-use Rattle.vdr_opening.proofs.Rings.{unchanged_join, open_cause, open_failed, passed_damaged}
+use Rattle.vdr_opening.proofs.Rings.{open_cause, open_failed, passed_damaged}
 use Rattle.vdr_opening.proofs.reading.read_media.Goals as goal
+use Rattle.vdr_outside.proofs.Moments.{unchanged_join}
 
 pub returns-in_err-are_formatted-clause-cause : goal.returns-in_err-are_formatted-clause-cause
 returns-in_err-are_formatted-clause-cause g c =

@@ -1,8 +1,11 @@
 use Rattle.vdr_ring.proofs.law.law_of_stages.Goals as goal
-use Rattle.vdr_ring.proofs.Retaining.{victim_is_oldest, closed_retains, begun_retains, done_retains, left_retains, stages_regular}
+use Rattle.vdr_ring.proofs.Retaining.{victim_is_oldest, oldest_candidate, closed_retains, begun_retains, done_retains, left_retains, stages_regular}
 
 pub returns-clause-victim : goal.returns-clause-victim
 returns-clause-victim c = victim_is_oldest
+
+pub returns-clause-candidate : goal.returns-clause-candidate
+returns-clause-candidate c = oldest_candidate
 
 pub returns-clause-closed : goal.returns-clause-closed
 returns-clause-closed c = closed_retains

@@ -1,9 +1,9 @@
-use Rattle.std.proofs.Common.{rules, ◌+◌}
+use Rattle.std.proofs.Common.{rules}
 use Rattle.vdr_outside.specs.Disk.{Durable}
-use Rattle.vdr_vault.proofs.Members.{any_at}
 use Rattle.vdr_vault.proofs.OpenMoments.{cause_of_call, cause_of_error}
 use Rattle.vdr_vault.proofs.Passed.{upto}
 use Rattle.vdr_vault.proofs.open.sync_all.Goals as goal
+use Rattle.vdr_media.proofs.Two.{any_at}
 
 pub returns-in_err-sync-clause-cause : goal.returns-in_err-sync-clause-cause
 returns-in_err-sync-clause-cause g c = cause_of_error _ _ _ c.sync.result _

@@ -5,4 +5,4 @@ use Rattle.vdr_vault.proofs.ShownPlaces.{next_is, next_is_low}
 
 pub returns-in-Some-clause-next_place : goal.returns-in-Some-clause-next_place
 returns-in-Some-clause-next_place c placed bytes tells holds =
-    next_is (last (all_records placed)) c.last.result _ _ _ _ (c.last.ensures placed tells) c.in-Some.is c.saturating_add.ensures (next_is_low _ _ placed bytes holds)
+    next_is (last (all_records placed)) c.last.result _ _ _ _ (c.last.ensures.last placed tells) c.in-Some.is c.saturating_add.ensures (next_is_low _ _ placed bytes holds)

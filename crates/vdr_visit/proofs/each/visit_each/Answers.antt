@@ -7,10 +7,10 @@ use Rattle.vdr_outside.proofs.Moments.{unchanged_join}
 use Rattle.vdr_entry.specs.Queries.{asked, asked_medium}
 use Rattle.vdr_ring.specs.declared.refused.ReadRefused.{ReadRefused}
 use Rattle.vdr_vault.specs.Plays.{AreToCome, HasReadCause}
-use Rattle.vdr_vault.specs.Walks.{GivesNext}
+use Rattle.vdr_cursor.specs.Walks.{GivesNext}
 use Rattle.vdr_visit.proofs.Between.{all_visited, at_first, failed_behind, never_low, read_failed, still_has, visited_next, with_next}
 use Rattle.vdr_visit.proofs.Printing.{front_of, front_of_none, printed_next, stopped_front, stopped_made, stopped_text, text_at}
-use Rattle.vdr_visit.proofs.Reading.{reads_join, reads_keep_failed}
+use Rattle.vdr_visit.proofs.Reading.{left_of, reads_join, reads_keep_failed}
 use Rattle.vdr_visit.proofs.Stopping.{answered, not_low, output_cause, stopped, visit_cause}
 use Rattle.vdr_visit.proofs.Visiting.{selected_in_order}
 use Rattle.vdr_visit.proofs.each.visit_each.Goals as goal
@@ -29,12 +29,33 @@ returns-in_err-found-clause-visited g c first had =
       front = λ opening events placed told readable. front_of_none _ _;
     }
 
+pub returns-in_err-found-clause-bound : goal.returns-in_err-found-clause-bound
+returns-in_err-found-clause-bound g c = record { others = c.first.ensures.reads.counts; own = c.first.ensures.spends.within }
+
+pub returns-in_err-least-clause-bound : goal.returns-in_err-least-clause-bound
+returns-in_err-least-clause-bound g c = let i = c.loop-found.invariant in record { others = i.counts; own = let spent = i.spent in omega (arith, spent) }
+
+pub returns-in_err-visit-clause-bound : goal.returns-in_err-visit-clause-bound
+returns-in_err-visit-clause-bound g c = let i = c.loop-found.invariant in record { others = i.counts; own = let spent = i.spent in omega (arith, spent) }
+
+pub returns-in_err-found-2-clause-bound : goal.returns-in_err-found-2-clause-bound
+returns-in_err-found-2-clause-bound g c =
+    let i = c.loop-found.invariant in
+    record {
+      others = λ k other. c.next.ensures.reads.counts k other ∙ i.counts k other;
+      own = let before = i.spent in let now = c.next.ensures.spends.within in omega (arith, before, now);
+    }
+
+pub returns-clause-bound : goal.returns-clause-bound
+returns-clause-bound g c = let i = c.loop-found.invariant in record { others = i.counts; own = let spent = i.spent in omega (arith, spent) }
+
 pub loop-found-init : goal.loop-found-init
 loop-found-init g c = record {
   rings = c.first.ensures.keeps.rings;
   reads = c.first.ensures.keeps.vault;
   unchanged = c.first.ensures.keeps.unchanged;
   counts = c.first.ensures.reads.counts;
+  spent = left_of (c.in_ok-found.was) c.first.ensures.spends.left;
   later = c.first.ensures.reads.cause.later;
   output = omega arith;
   may = c.first.ensures.cursor.may;
@@ -147,6 +168,7 @@ loop-found-preserved g c =
       reads = reads_join m c.args.vault.now c.loop-found.vault c.next.new.self i.reads c.next.ensures.keeps.vault;
       unchanged = unchanged_join (g.M.Media.disk c.args.media.now) (g.M.Media.disk c.loop-found.media) (g.M.Media.disk c.next.new.media) i.unchanged c.next.ensures.keeps.unchanged;
       counts = λ k other. c.next.ensures.reads.counts k other ∙ i.counts k other;
+      spent = let before = i.spent in let now = left_of c.in_ok-found-2.was c.next.ensures.spends.left in omega (arith, before, now);
       later = none_falls_join (g.M.Media.faults c.args.media.now) (g.M.Media.faults c.loop-found.media) (g.M.Media.faults c.next.new.media) i.later c.next.ensures.reads.cause.later;
       output = let before = i.output in let now = c.visit.ensures.cause.later in omega (arith, before, now);
       may = c.next.ensures.cursor.may;

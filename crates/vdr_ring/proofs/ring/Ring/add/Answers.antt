@@ -6,21 +6,21 @@ use Rattle.std.proofs.lemmas.Result.{IfOk-from_err}
 use Rattle.vdr_directory.specs.Sequence.{Placed}
 use Rattle.vdr_directory.specs.Holds.{Tells}
 use Rattle.vdr_directory.specs.Leaving.{IsLeftBehind, LeavesNone}
-use Rattle.vdr_slots.proofs.Fronts.{front_joined, front_then}
+use Rattle.vdr_ring.proofs.Alike.{front_more}
 use Rattle.vdr_ring.proofs.ring.Ring.add.Goals as goal
 use Rattle.vdr_ring.proofs.Adding.{batch_written, appended_before, appended_moments, appended_reads}
 
 pub returns-in_err-newest-clause-added : goal.returns-in_err-newest-clause-added
 returns-in_err-newest-clause-added g c = rw (sym c.self.view_is) (λ placed first told reads goes_on.
     let made = c.make_room.ensures.made placed first told
-    (record { settled = reads.settled; order = reads.order; directory = reads.directory; loaded = λ j bad. absurd (none-some j bad) })
+    (record { settled = reads.settled; order = reads.order; directory = reads.directory; loaded = λ j bad. absurd (none-some j bad); bare = reads.bare })
     (record { legal = c.write_batch-size.ensures.legal; fits = rw (sym c.self.view_is) at c.requires.fits; goes_on = goes_on }) in
     (made.0, made.1, appended_before _ _ _ placed made.0 _ _ made.2, IfOk-from_err c.from_residual.result _ c.from_residual.ensures.0))
 
 pub returns-in_err-append_batch-clause-added : goal.returns-in_err-append_batch-clause-added
 returns-in_err-append_batch-clause-added g c = rw (sym c.self.view_is) (λ placed first told reads goes_on.
     let made = c.in_ok-newest.ensures.made placed first told
-    (record { settled = reads.settled; order = reads.order; directory = reads.directory; loaded = λ j bad. absurd (none-some j bad) })
+    (record { settled = reads.settled; order = reads.order; directory = reads.directory; loaded = λ j bad. absurd (none-some j bad); bare = reads.bare })
     (record { legal = c.write_batch-size.ensures.legal; fits = rw (sym c.self.view_is) at c.requires.fits; goes_on = goes_on }) in
     let same = rw (sym c.self-2.view_is) at c.make_room.ensures.ring in
     let ready = rw (sym c.self-2.view_is) at made.3 in
@@ -37,7 +37,7 @@ invariant_of-self-2 g c =
 pub returns-clause-added : goal.returns-clause-added
 returns-clause-added g c = rw (sym c.self.view_is) (λ placed first told reads goes_on.
     let made = c.in_ok-newest.ensures.made placed first told
-    (record { settled = reads.settled; order = reads.order; directory = reads.directory; loaded = λ j bad. absurd (none-some j bad) })
+    (record { settled = reads.settled; order = reads.order; directory = reads.directory; loaded = λ j bad. absurd (none-some j bad); bare = reads.bare })
     (record { legal = c.write_batch-size.ensures.legal; fits = rw (sym c.self.view_is) at c.requires.fits; goes_on = goes_on }) in
     let same = rw (sym c.self-2.view_is) at c.make_room.ensures.ring in
     let ready = rw (sym c.self-2.view_is) at made.3 in
@@ -49,7 +49,7 @@ returns-clause-added g c = rw (sym c.self.view_is) (λ placed first told reads g
       made.1,
       appended_moments _ _ placed made.0 _ _ _ _ _ _ told same ready is written c.write_batch-size.ensures.legal made.2 c.append_batch.ensures.moments,
       (
-        appended_reads _ _ placed made.0 _ _ _ (g.M.Media.disk c.args.media.now) _ _ told same ready is written c.write_batch-size.ensures.legal _ c.write_batch-size.result (search rules) refl refl refl loaded c.write_batch-size.ensures.size c.extend.ensures.index c.extend.ensures.newest
+        appended_reads _ _ placed made.0 _ _ _ (g.M.Media.disk c.args.media.now) _ _ told same ready is written c.write_batch-size.ensures.legal _ c.write_batch-size.result (search rules) refl refl refl loaded c.clear.ensures.items c.write_batch-size.ensures.size c.extend.ensures.index c.extend.ensures.newest
             c.extend.ensures.ending c.in_ok-append_batch.ensures.settled,
         subst (λ (ps : List Placed). MatchOption c.left_behind-left.result (LeavesNone ps) (λ x. IsLeftBehind ps x.0 x.1)) (sym ready.begun)
             (c.left_behind-left.ensures.left (ready.older ++ ready.newest ∷ []) (subst (λ (n : ℕ). Tells n (ready.older ++ ready.newest ∷ []) c.self-2.inside.directory) (sym c.self-2.invariant.0) ready.stands.directory) ready.begun_order),
@@ -59,18 +59,12 @@ returns-clause-added g c = rw (sym c.self.view_is) (λ placed first told reads g
 pub returns-in_err-append_batch-clause-front : goal.returns-in_err-append_batch-clause-front
 returns-in_err-append_batch-clause-front g c = rw (sym c.self.view_is) (
     let m : c.self-2.inside.area.medium ≡ c.self.inside.area.medium = (rw (sym c.self-2.view_is) at c.make_room.ensures.ring).medium in
-    let front = rw m at c.append_batch.ensures.front in record {
-      meanwhile = λ durable. front_then _ _ _ _ (c.make_room.ensures.front.meanwhile durable) c.make_room.ensures.front.reads (front.meanwhile (c.in_ok-newest.ensures.durable durable));
-      reads = λ told. front_joined _ _ _ (c.make_room.ensures.front.reads told) (front.reads told);
-    })
+    front_more _ _ _ _ c.make_room.ensures.front c.in_ok-newest.ensures.durable (rw m at c.append_batch.ensures.front))
 
 pub returns-clause-front : goal.returns-clause-front
 returns-clause-front g c = rw (sym c.self.view_is) (
     let m : c.self-2.inside.area.medium ≡ c.self.inside.area.medium = (rw (sym c.self-2.view_is) at c.make_room.ensures.ring).medium in
-    let front = rw m at c.append_batch.ensures.front in record {
-      meanwhile = λ durable. front_then _ _ _ _ (c.make_room.ensures.front.meanwhile durable) c.make_room.ensures.front.reads (front.meanwhile (c.in_ok-newest.ensures.durable durable));
-      reads = λ told. front_joined _ _ _ (c.make_room.ensures.front.reads told) (front.reads told);
-    })
+    front_more _ _ _ _ c.make_room.ensures.front c.in_ok-newest.ensures.durable (rw m at c.append_batch.ensures.front))
 
 pub returns-in_err-append_batch-clause-writes : goal.returns-in_err-append_batch-clause-writes
 returns-in_err-append_batch-clause-writes g c = record {

@@ -3,7 +3,7 @@ use Rattle.std.specs.Prelude.{MatchOption, ℕ}
 use Rattle.std.proofs.lemmas.Result.{IfOk-from_err}
 use Rattle.vdr_entry.specs.declared.summary.Summary.{Summary}
 use Rattle.vdr_directory.specs.Leaving.{IsLeftBehind, LeavesNone}
-use Rattle.vdr_slots.proofs.Fronts.{front_joined, front_then}
+use Rattle.vdr_ring.proofs.Alike.{front_more}
 use Rattle.vdr_ring.specs.Appends.{MayCome}
 use Rattle.vdr_ring.proofs.Beginning.{finds}
 use Rattle.vdr_ring.proofs.Leaving.{leaving, left_by, still_written, done_behind, leaves, left_any, done_before, left_moments, left_reads}
@@ -40,17 +40,15 @@ returns-clause-appended g c = rw (sym c.self.view_is) (λ placed first told read
     let is = leaves _ _ _ _ placed first c.args.records.now made.0 made.1 c.in-Some.slot c.in-Some.summary behind in
     let same = (rw (sym c.self.view_is) at c.add.ensures.ring).same in
     let loaded = rw (sym c.self.view_is) at c.add.ensures.loaded in
+    let none_bare = rw (sym c.self.view_is) at c.in_ok-slot.ensures.bare in
     let reads_done = rw (sym c.self.view_is) at made.3.0 in (
       leaving made.0 left,
       (still_written _ _ _ _ placed first c.args.records.now made.0 left made.1, is),
       left_moments c.args.self.now _ placed made.0 c.args.records.now c.in-Some.slot c.in-Some.summary behind done _ _ _ told same reads_done made.2 c.summarize.ensures.moments,
-      left_reads c.args.self.now _ placed made.0 c.args.records.now c.in-Some.slot c.in-Some.summary behind done (g.M.Media.disk c.args.media.now) _ _ told same reads_done c.summarize.result goes_on.some is loaded c.summarize.ensures.settled,
+      left_reads c.args.self.now _ placed made.0 c.args.records.now c.in-Some.slot c.in-Some.summary behind done (g.M.Media.disk c.args.media.now) _ _ told same reads_done c.summarize.result goes_on.some is loaded none_bare c.summarize.ensures.settled,
     ))
 
 pub returns-clause-front : goal.returns-clause-front
 returns-clause-front g c =
     let m : c.self.inside.area.medium ≡ c.args.self.now.medium = (rw (sym c.self.view_is) at c.add.ensures.ring).same.medium in
-    let front = rw m at c.summarize.ensures.front in record {
-      meanwhile = λ durable. front_then _ _ _ _ (c.add.ensures.front.meanwhile durable) c.add.ensures.front.reads (front.meanwhile c.in_ok-slot.ensures.durable);
-      reads = λ told. front_joined _ _ _ (c.add.ensures.front.reads told) (front.reads told);
-    }
+    front_more _ _ _ _ c.add.ensures.front (λ durable. c.in_ok-slot.ensures.durable) (rw m at c.summarize.ensures.front)

@@ -2,7 +2,7 @@ use Rattle.std.proofs.Common.{◌≡◌, sym, ap, ◌∙◌, arith}
 use Rattle.vdr_directory.specs.declared.newest.Newest.{Newest}
 use Rattle.vdr_directory.specs.Directories.{DirectoryState, count_of}
 use Rattle.std.proofs.lemmas.Result.{IfOk-from_err}
-use Rattle.vdr_slots.proofs.Fronts.{front_joined, front_then}
+use Rattle.vdr_ring.proofs.Alike.{front_more}
 use Rattle.vdr_ring.proofs.ring.Ring.begin.Goals as goal
 use Rattle.vdr_ring.proofs.Beginning.{stages_begun, next_segment, begins, begun_before, begun_moments, begun_stands, begun_table, begun_in_order, free_at, ready_at}
 
@@ -61,15 +61,9 @@ returns-clause-newest g c =
 pub returns-in_err-begin_segment-clause-front : goal.returns-in_err-begin_segment-clause-front
 returns-in_err-begin_segment-clause-front g c =
     let m : c.self.inside.area.medium ≡ c.args.self.now.medium = (rw (sym c.self.view_is) at c.free_slot.ensures.ring).medium in
-    let front = rw m at c.begin_segment.ensures.front in record {
-      meanwhile = λ durable. front_then _ _ _ _ (c.free_slot.ensures.front.meanwhile durable) c.free_slot.ensures.front.reads (front.meanwhile (c.in_ok-slot.ensures.durable durable));
-      reads = λ told. front_joined _ _ _ (c.free_slot.ensures.front.reads told) (front.reads told);
-    }
+    front_more _ _ _ _ c.free_slot.ensures.front c.in_ok-slot.ensures.durable (rw m at c.begin_segment.ensures.front)
 
 pub returns-clause-front : goal.returns-clause-front
 returns-clause-front g c =
     let m : c.self.inside.area.medium ≡ c.args.self.now.medium = (rw (sym c.self.view_is) at c.free_slot.ensures.ring).medium in
-    let front = rw m at c.begin_segment.ensures.front in record {
-      meanwhile = λ durable. front_then _ _ _ _ (c.free_slot.ensures.front.meanwhile durable) c.free_slot.ensures.front.reads (front.meanwhile (c.in_ok-slot.ensures.durable durable));
-      reads = λ told. front_joined _ _ _ (c.free_slot.ensures.front.reads told) (front.reads told);
-    }
+    front_more _ _ _ _ c.free_slot.ensures.front c.in_ok-slot.ensures.durable (rw m at c.begin_segment.ensures.front)

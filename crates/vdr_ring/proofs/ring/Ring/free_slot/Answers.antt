@@ -41,7 +41,7 @@ returns-clause-freed g c = rw (sym c.self.view_is) (λ placed first records told
       freed_moments _ _ _ _ _ placed _ _ v _ _ told reads.settled reads.directory c.close_slot.ensures.moments,
       (
         refl,
-        freed_stands _ _ _ _ _ placed _ _ v _ _ told reads.settled reads.directory _ refl refl refl c.close.ensures (rw (sym c.self.view_is) at c.victim_slot-slot.ensures.within) (omega (arith, i.3)) (omega (arith, i.2))
+        freed_stands _ _ _ _ _ placed _ _ v _ _ told reads.settled reads.directory _ refl refl refl c.close.ensures (rw (sym c.self.view_is) at c.victim_slot-slot.ensures.within) (omega (arith, i.3)) (omega (arith, i.2)) reads.order
             (newest_has_records _ placed records (legal_batches _ _ placed _ (reads.settled.reads told)) may.fits no_room) full c.in_ok-close_slot.ensures.settled,
       ),
     ))

@@ -1,8 +1,9 @@
 use Rattle.std.proofs.Common.{ℕ, List, length, Option, sym, ap, ◌∙◌, subst, arith}
 use Rattle.vdr_entry.specs.Queries.{asked}
 use Rattle.vdr_index.specs.declared.known.Known.{Known}
-use Rattle.vdr_index.specs.Indexes.{IsAbove, span_as}
+use Rattle.vdr_index.specs.Indexes.{IsAbove, Keeps, span_as}
 use Rattle.vdr_directory.specs.Indexed.{IsIndexed}
+use Rattle.vdr_ring.specs.Rings.{RingState}
 use Rattle.vdr_ring.proofs.Answering.{above_ring, found_next, none_meets, passed_none, passed_some, seq_kept, seq_read, never_none}
 use Rattle.vdr_ring.proofs.ring.Ring.next_candidate.Goals as goal
 
@@ -30,6 +31,16 @@ pub returns-clause-above : goal.returns-clause-above
 returns-clause-above c =
     let seq_is = seq_read _ _ _ (seq_kept _ (asked c.args.query.now) (span_as c.args.span.now) c.args.after c.in_ok-slot.slot c.in_ok-slot.ensures.some) (sym c.get.ensures ∙ c.in-Some.is) in
     above_ring c.args.after c.in-Some.seq (subst (λ (n : ℕ). IsAbove c.args.after n) (sym seq_is) c.in_ok-slot.ensures.some.may.above)
+
+pub returns-clause-known : goal.returns-clause-known
+returns-clause-known c =
+    let found = c.in_ok-slot.ensures.some in
+    record {
+      known = found.known;
+      there = subst (λ (index : List (Option Known)). Keeps index c.in_ok-slot.slot found.known) (c.index-index.ensures.index ∙ ap (λ (r : RingState). r.directory.index) c.self.view_is) found.there;
+      number = sym (seq_read _ _ _ (seq_kept _ (asked c.args.query.now) (span_as c.args.span.now) c.args.after c.in_ok-slot.slot found) (sym c.get.ensures ∙ c.in-Some.is));
+      meets_it = found.may.meets_it;
+    }
 
 pub returns-clause-some : goal.returns-clause-some
 returns-clause-some c = rw (sym c.self.view_is) (λ placed tells.

@@ -48,3 +48,4 @@ returns-clause-reads g c told durable =
     (λ placed bytes holds describe.
     c.in-Ok-of.ensures.told c.area_of-area.result.segment placed bytes (let high = c.area_of-area.result.segment_high in omega (arith, high)) holds
     (subst (λ (es : List Entry). Describe placed es) (sym c.deref.ensures.value) describe))
+    (λ placed describe. c.in-Ok-bare_slots.ensures placed (subst (λ (es : List Entry). Describe placed es) (sym c.deref-2.ensures.value) describe))

@@ -1,39 +1,67 @@
-use Rattle.std.proofs.Common.{◌≢◌, ◌≤◌, inr, ℕ, zero, suc, List, refl, sym, ◌∙◌, subst, arith}
+use Rattle.std.proofs.Common.{◌+◌, ◌≤◌, List, refl, rules, sym, ◌∙◌, subst}
+use Rattle.std.proofs.lemmas.Result.{IfOk-from_err}
 use Rattle.vdr_terms.specs.Records.{last}
+use Rattle.vdr_terms.specs.Sizes.{batch_size}
+use Rattle.vdr_outside.proofs.Counts.{none_falls_join, on_err}
 use Rattle.vdr_ring.specs.Rings.{RingState}
 use Rattle.vdr_opening.specs.Answers.{AreRingsOf}
 use Rattle.vdr_vault.specs.Calls.{Commits}
 use Rattle.vdr_vault.specs.Vaults.{working_from}
 use Rattle.vdr_vault.specs.contracts.vault.Vault.{the_view}
+use Rattle.vdr_vault.proofs.Alike.{brought_extends, committed_behind, rings_read}
+use Rattle.vdr_vault.proofs.Brought.{cause_behind, lent_twice}
 use Rattle.vdr_vault.proofs.Members.{same_rings}
 use Rattle.vdr_vault.proofs.CommitAll.{committed, vault_cause}
 use Rattle.vdr_vault.proofs.vault.Vault.append_to_all.Goals as goal
 
-beyond : (k : ℕ) → k ≢ 0 → k ≢ 1 → 2 ≤ k
-beyond zero other other' = absurd (other refl)
-beyond (suc zero) other other' = absurd (other' refl)
-beyond (suc (suc k)) other other' = omega arith
+pub returns-in_err-bring_up_all-clause-commits : goal.returns-in_err-bring_up_all-clause-commits
+returns-in_err-bring_up_all-clause-commits g c = rw (sym c.self.view_is) (λ opening events e taken placed told is stands may.
+    let legal = (rw (sym c.self.view_is) at c.pins-pins.ensures).legal in
+    let call = rw c.deref_mut.ensures.value at c.bring_up_all.ensures in
+    record {
+      moments = brought_extends opening events _ placed _ stands told legal.slots_high _ (call.brought placed told (rings_read opening events _ placed _ stands)).moments e;
+      done = IfOk-from_err c.from_residual.result _ c.from_residual.ensures.0;
+    })
+
+pub returns-in_err-bring_up_all-clause-keeps : goal.returns-in_err-bring_up_all-clause-keeps
+returns-in_err-bring_up_all-clause-keeps g c =
+    let are = rw (sym c.self.view_is) at c.requires.rings in
+    let after = (rw c.deref_mut.ensures.value at c.bring_up_all.ensures.keeps).rings _ are in
+    let same = same_rings c.self.inside.rings c.bring_up_all.new.rings are after in
+    rw (sym c.self.view_is) (record { config = refl; table = refl; rings = subst (AreRingsOf c.self.inside.config (g.M.Media.disk c.bring_up_all.new.media).sizes) (sym same) after })
+
+pub returns-in_err-bring_up_all-clause-cause : goal.returns-in_err-bring_up_all-clause-cause
+returns-in_err-bring_up_all-clause-cause g c = vault_cause _ _ _ c.bring_up_all.ensures.keeps.later (on_err _ c.in_err-bring_up_all.ensures.cause)
+
+pub append_from-requires-clause-rings : goal.append_from-requires-clause-rings
+append_from-requires-clause-rings g c =
+    let are = rw (sym c.self.view_is) at c.requires.rings in
+    let mid = (rw c.deref_mut.ensures.value at c.bring_up_all.ensures.keeps).rings _ are in
+    let fits : 64 + batch_size c.args.records.now + 1 ≤ c.self.inside.config.segment = search rules in
+    (c.self.inside.config, subst (AreRingsOf c.self.inside.config (g.M.Media.disk c.bring_up_all.new.media).sizes) (sym (c.deref_mut-2.ensures.value ∙ same_rings c.self.inside.rings c.bring_up_all.new.rings are mid)) mid, fits)
 
 pub returns-clause-commits : goal.returns-clause-commits
 returns-clause-commits g c = rw (sym c.self.view_is) (λ opening events e taken placed told is stands may.
     let are = rw (sym c.self.view_is) at c.requires.rings in
-    let call = rw c.deref_mut.ensures.value at c.append_from.ensures in
-    let after = call.keeps.rings _ are in
+    let up = rw c.deref_mut.ensures.value at c.in_ok-bring_up_all.ensures in
+    let mid = up.keeps.rings _ are in
+    let call = rw (c.deref_mut-2.ensures.value ∙ same_rings c.self.inside.rings c.bring_up_all.new.rings are mid) at c.append_from.ensures in
     let pins = rw (sym c.self.view_is) at c.pins-pins.ensures in
-    let same = same_rings c.self.inside.rings c.append_from.new.rings are after in
+    let done = up.brought placed told (rings_read opening events _ placed _ stands) in
     subst (λ (rs : List RingState). Commits opening events e c.args.records.now placed (working_from (last c.args.records.now) (record (the_view c.self.inside) { rings = rs })) (g.M.Media.disk c.args.media.now)
-    (g.M.Media.disk c.append_from.new.media) c.append_from.result) (sym same)
-    (committed opening events e _ taken is _ placed _ stands may pins.legal told c.pins-pins.result pins.pins c.append_from.new.rings (g.M.Media.disk c.append_from.new.media) c.append_from.result call.passed after call.keeps.fronts))
+    (g.M.Media.disk c.append_from.new.media) c.append_from.result) (sym (lent_twice g.M.Media c.self.inside.rings are up.keeps call.keeps))
+    (committed_behind opening events _ placed _ stands told pins.legal.slots_high _ done.moments c.bring_up_all.new.rings mid (up.keeps.fronts told) done.done e c.args.records.now _ _ c.append_from.result may (λ now stands may.
+    committed opening events e _ taken is _ now _ stands may pins.legal told c.pins-pins.result pins.pins c.append_from.new.rings (g.M.Media.disk c.append_from.new.media) c.append_from.result call.passed (call.keeps.rings _ mid) call.keeps.fronts)))
 
 pub returns-clause-keeps : goal.returns-clause-keeps
 returns-clause-keeps g c =
     let are = rw (sym c.self.view_is) at c.requires.rings in
-    let after = (rw c.deref_mut.ensures.value at c.append_from.ensures.keeps).rings _ are in
-    let same = same_rings c.self.inside.rings c.append_from.new.rings are after in
-    rw (sym c.self.view_is) (record { config = refl; table = refl; rings = subst (AreRingsOf c.self.inside.config (g.M.Media.disk c.append_from.new.media).sizes) (sym same) after })
-
-pub returns-clause-others : goal.returns-clause-others
-returns-clause-others g c told k other other' = c.append_from.ensures.keeps.others told k (inr (beyond k other other'))
+    let up = rw c.deref_mut.ensures.value at c.bring_up_all.ensures.keeps in
+    let mid = up.rings _ are in
+    let call = rw (c.deref_mut-2.ensures.value ∙ same_rings c.self.inside.rings c.bring_up_all.new.rings are mid) at c.append_from.ensures.keeps in
+    rw (sym c.self.view_is) (record { config = refl; table = refl; rings = subst (AreRingsOf c.self.inside.config (g.M.Media.disk c.append_from.new.media).sizes) (sym (lent_twice g.M.Media c.self.inside.rings are up call)) (call.rings _ mid) })
 
 pub returns-clause-cause : goal.returns-clause-cause
-returns-clause-cause g c = vault_cause _ _ _ c.append_from.ensures.keeps.later c.append_from.ensures.cause
+returns-clause-cause g c =
+    let first = c.bring_up_all.ensures.keeps.later in
+    vault_cause _ _ _ (none_falls_join _ _ _ first c.append_from.ensures.keeps.later) (cause_behind _ _ _ _ first c.append_from.ensures.cause)

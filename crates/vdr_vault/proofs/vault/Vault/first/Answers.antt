@@ -1,5 +1,9 @@
-use Rattle.vdr_playback.specs.Playback.{selected}
+use Rattle.std.proofs.Common.{Option, subst}
+use Rattle.vdr_playback.specs.Playback.{medium_of, selected}
 use Rattle.vdr_entry.specs.Queries.{asked}
+use Rattle.vdr_cursor.specs.declared.cursor.Standing.{Standing}
+use Rattle.vdr_cursor.specs.Budgets.{Spends}
+use Rattle.vdr_vault.specs.Plays.{budget_for}
 use Rattle.vdr_vault.proofs.Coming.{selected_to_come}
 use Rattle.vdr_vault.proofs.vault.Vault.first.Goals as goal
 
@@ -7,3 +11,9 @@ pub returns-clause-plays : goal.returns-clause-plays
 returns-clause-plays g c opening events placed told stands =
     c.next.ensures.plays opening events placed (selected opening events (asked c.args.query.now)) told stands
     (selected_to_come opening events c.args.self.now placed (g.M.Media.disk c.args.media.now) stands (c.law_of_playback.ensures.retained opening events) c.args.query.now c.new.result c.new.ensures.standing)
+
+pub returns-clause-spends : goal.returns-clause-spends
+returns-clause-spends g c =
+    let query = asked c.args.query.now in
+    subst (λ (o : Option Standing). Spends (medium_of query.medium) (budget_for c.args.self.now query o) (budget_for c.next.new.self query c.next.new.cursor.standing) (g.M.Media.bytes_read c.args.media.now)
+    (g.M.Media.bytes_read c.next.new.media) c.next.result) c.new.ensures.standing c.next.ensures.spends

@@ -1,47 +1,33 @@
-use Rattle.std.proofs.Common.{◌≤◌, ◌+◌, ◌-◌, ◌<◌, ℕ, Some, Err, sym, ap, ◌∙◌, arith}
+use Rattle.std.proofs.Common.{◌<◌, ℕ, Some, Err, sym, ap, ◌∙◌}
 use Rattle.vdr_terms.specs.Records.{Record}
 use Rattle.vdr_terms.specs.Windows.{window}
 use Rattle.vdr_directory.specs.Sequence.{all_records}
 use Rattle.vdr_ring.specs.declared.refused.ReadRefused.{ReadRefused}
 use Rattle.vdr_vault.specs.Vaults.{ring_of}
 use Rattle.vdr_vault.specs.Saves.{first_in_window}
-use Rattle.vdr_vault.specs.Walks.{slots_read}
 use Rattle.vdr_vault.proofs.Refusals.{cause_of_read, damage_handed_on}
-use Rattle.vdr_vault.proofs.Since.{first_is, never_damaged, never_none, reached}
+use Rattle.vdr_vault.proofs.OfWindow.{first_is, never_damaged, never_none}
 use Rattle.vdr_vault.proofs.vault.Vault.first_of_incident.Goals as goal
-
-pub returns-in_default-clause-undamaged : goal.returns-in_default-clause-undamaged
-returns-in_default-clause-undamaged g c placed newest m offset told reads ends at is =
-    let some : 0 < c.incident_seconds-seconds.result = c.incident_seconds-seconds.ensures.some in
-    let low : c.saturating_sub.result ≤ c.args.last_second + 1 - c.incident_seconds-seconds.result = omega (arith, c.saturating_add.ensures, c.saturating_sub.ensures) in
-    reached (ring_of c.args.self.now 1) (g.M.Media.disk c.args.media.now) placed reads told c.incident_seconds-seconds.result c.args.last_second c.saturating_sub.result some low newest ends at
-    ((rw c.ring.ensures at c.in_default.ensures.none) placed reads.directory reads.order)
 
 pub returns-in_err-step_on-clause-undamaged : goal.returns-in_err-step_on-clause-undamaged
 returns-in_err-step_on-clause-undamaged g c placed newest m offset told reads ends at is =
     let some : 0 < c.incident_seconds-seconds.result = c.incident_seconds-seconds.ensures.some in
-    let low : c.saturating_sub.result ≤ c.args.last_second + 1 - c.incident_seconds-seconds.result = omega (arith, c.saturating_add.ensures, c.saturating_sub.ensures) in
-    let since = (rw c.ring.ensures at c.in-Some.ensures.ahead) (slots_read (ring_of c.args.self.now 1) (g.M.Media.disk c.args.media.now)) placed reads.directory reads.order in
-    never_damaged (ring_of c.args.self.now 1) (g.M.Media.disk c.args.media.now) placed reads told c.incident_seconds-seconds.result c.args.last_second c.saturating_sub.result some low newest ends at _ since _ _ _
+    never_damaged (ring_of c.args.self.now 1) (g.M.Media.disk c.args.media.now) placed reads told c.incident_seconds-seconds.result c.args.last_second some newest ends at c.new-cursor.result c.new-cursor.ensures.standing _ _ _
     (c.step_on.ensures.plays told placed (window c.incident_seconds-seconds.result (all_records placed)) reads) m offset
     (c.in_err-step_on.was ∙ ap (λ (e : ReadRefused). Err e) (damage_handed_on m offset c.in_err-step_on.field-0.0 c.from_residual.result c.from_residual.ensures.1 is))
 
 pub returns-then-not-branch-clause-undamaged : goal.returns-then-not-branch-clause-undamaged
 returns-then-not-branch-clause-undamaged g c placed newest m offset told reads ends at is =
     let some : 0 < c.incident_seconds-seconds.result = c.incident_seconds-seconds.ensures.some in
-    let low : c.saturating_sub.result ≤ c.args.last_second + 1 - c.incident_seconds-seconds.result = omega (arith, c.saturating_add.ensures, c.saturating_sub.ensures) in
-    let since = (rw c.ring.ensures at c.in-Some.ensures.ahead) (slots_read (ring_of c.args.self.now 1) (g.M.Media.disk c.args.media.now)) placed reads.directory reads.order in
-    never_none (ring_of c.args.self.now 1) (g.M.Media.disk c.args.media.now) placed reads told c.incident_seconds-seconds.result c.args.last_second c.saturating_sub.result some low newest ends at _ since _ _ _
+    never_none (ring_of c.args.self.now 1) (g.M.Media.disk c.args.media.now) placed reads told c.incident_seconds-seconds.result c.args.last_second some newest ends at c.new-cursor.result c.new-cursor.ensures.standing _ _ _
     (c.step_on.ensures.plays told placed (window c.incident_seconds-seconds.result (all_records placed)) reads) c.in_ok-step_on.field-0 c.in_ok-step_on.was c.if-not-branch.true
 
 pub returns-clause-found : goal.returns-clause-found
 returns-clause-found g c placed newest told reads ends at =
     let some : 0 < c.incident_seconds-seconds.result = c.incident_seconds-seconds.ensures.some in
-    let low : c.saturating_sub.result ≤ c.args.last_second + 1 - c.incident_seconds-seconds.result = omega (arith, c.saturating_add.ensures, c.saturating_sub.ensures) in
-    let since = (rw c.ring.ensures at c.in-Some.ensures.ahead) (slots_read (ring_of c.args.self.now 1) (g.M.Media.disk c.args.media.now)) placed reads.directory reads.order in
     ap (λ (n : ℕ). first_in_window n (all_records placed)) (sym c.incident_seconds-seconds.ensures.seconds)
-    ∙ first_is (ring_of c.args.self.now 1) (g.M.Media.disk c.args.media.now) placed reads told c.incident_seconds-seconds.result c.args.last_second c.saturating_sub.result some low newest ends at _ since _ _ _
-    (c.step_on.ensures.plays told placed (window c.incident_seconds-seconds.result (all_records placed)) reads) c.in_ok-step_on.field-0 c.in_ok-step_on.was c.if-not-branch.false c.in-Some-item.item.now (sym c.in-Some-item.ensures)
+    ∙ first_is (ring_of c.args.self.now 1) (g.M.Media.disk c.args.media.now) placed reads told c.incident_seconds-seconds.result c.args.last_second some newest ends at c.new-cursor.result c.new-cursor.ensures.standing _ _ _
+    (c.step_on.ensures.plays told placed (window c.incident_seconds-seconds.result (all_records placed)) reads) c.in_ok-step_on.field-0 c.in_ok-step_on.was c.if-not-branch.false c.in-Some.item.now (sym c.in-Some.ensures)
     ∙ ap (λ (r : Record). Some r.place) (sym c.item-2.view_is)
 
 pub returns-in_err-step_on-clause-damaged : goal.returns-in_err-step_on-clause-damaged

@@ -1,4 +1,4 @@
-use Rattle.std.proofs.Common.{rules, inr, Option, Some, sym, ap, ◌∙◌, subst}
+use Rattle.std.proofs.Common.{rules, arith, inr, Option, Some, sym, ap, ◌∙◌, subst}
 use Rattle.std.proofs.lemmas.Bool.{false≢true}
 use Rattle.vdr_terms.specs.Queries.{Span}
 use Rattle.vdr_playback.specs.Playback.{medium_of}
@@ -6,8 +6,9 @@ use Rattle.vdr_outside.proofs.Counts.{sum_rose}
 use Rattle.vdr_entry.specs.Queries.{asked, asked_medium}
 use Rattle.vdr_vault.specs.Vaults.{VaultState}
 use Rattle.vdr_index.specs.Indexes.{span_as}
-use Rattle.vdr_vault.specs.Walks.{AreLeft, slots_read}
-use Rattle.vdr_vault.specs.Plays.{ring_for}
+use Rattle.vdr_cursor.specs.Walks.{AreLeft, slots_read}
+use Rattle.vdr_vault.specs.Plays.{budget_for, ring_for}
+use Rattle.vdr_vault.proofs.Budgeting.{spends_for, spends_nothing}
 use Rattle.vdr_vault.proofs.Coming.{gives_to_come, holds_on, none_to_come}
 use Rattle.vdr_vault.proofs.Playing.{readable_still, rings_still, stands_still}
 use Rattle.vdr_vault.proofs.vault.Vault.next.Goals as goal
@@ -18,8 +19,8 @@ returns-clause-plays g c opening events placed records told stands left =
     let before = g.M.Media.disk c.args.media.now in
     let now = g.M.Media.disk c.step_on.new.media in
     let m = medium_of (asked_medium c.args.query.now.medium) in
-    let at_medium = c.medium_of.ensures.number in
-    let span = c.in-Some.ensures placed (λ k d within. (stands.media k d within).reads.directory) in
+    let at_medium = c.number_of.ensures.number in
+    let span = c.in-Some.ensures.last placed (λ k d within. (stands.media k d within).reads.directory) in
     let reads = (holds_on opening events c.args.self.now placed before stands c.args.query.now.medium).reads in
     let is_left = subst (λ (o : Option Span). AreLeft (slots_read (ring_for c.args.self.now query) before) (placed m) query o c.args.cursor.now records) (sym span) left in
     gives_to_come query c.args.self.now c.step_on.new.self before now placed (Some (span_as c.in-Some.span)) c.step_on.new.cursor records c.step_on.result told
@@ -32,14 +33,14 @@ returns-then-self-clause-plays g c opening events placed records told stands lef
 pub returns-in_default-clause-plays : goal.returns-in_default-clause-plays
 returns-in_default-clause-plays g c opening events placed records told stands left =
     none_to_come (asked c.args.query.now) c.args.self.now (g.M.Media.disk c.args.media.now) placed c.args.cursor.now c.new-in_default.result records
-    (sym (c.in_default.ensures placed (λ k d within. (stands.media k d within).reads.directory))) c.new-in_default.ensures.standing c.new-in_default.ensures.item left
+    (sym (c.in_default.ensures.last placed (λ k d within. (stands.media k d within).reads.directory))) c.new-in_default.ensures.standing c.new-in_default.ensures.item left
 
 pub returns-clause-keeps : goal.returns-clause-keeps
 returns-clause-keeps g c =
     let before = g.M.Media.disk c.args.media.now in
     let now = g.M.Media.disk c.step_on.new.media in
-    let vault = rw c.medium_of.ensures.number at c.step_on.ensures.vault in
-    let read = rw c.medium_of.ensures.number at c.step_on.ensures.read in
+    let vault = rw c.number_of.ensures.number at c.step_on.ensures.vault in
+    let read = rw c.number_of.ensures.number at c.step_on.ensures.read in
     record {
       vault = vault;
       rings = rings_still _ c.args.self.now c.step_on.new.self before now vault read c.requires.rings;
@@ -50,15 +51,29 @@ returns-clause-keeps g c =
 
 pub returns-clause-reads : goal.returns-clause-reads
 returns-clause-reads g c =
-    let counts = rw c.medium_of.ensures.number at c.step_on.ensures.counts in
-    let rose = rw c.medium_of.ensures.number at c.step_on.ensures.cause in
+    let counts = rw c.number_of.ensures.number at c.step_on.ensures.counts in
+    let rose = rw c.number_of.ensures.number at c.step_on.ensures.cause in
     record {
       failed = search rules;
       counts = counts.others;
-      damaged = rw c.medium_of.ensures.number at c.step_on.ensures.damaged;
+      damaged = rw c.number_of.ensures.number at c.step_on.ensures.damaged;
       cause = record {
         later = counts.later;
         on_medium = λ e. inr (rose e);
         in_all = λ e. inr (sum_rose _ _ _ counts.later.same_media counts.later.none_falls (rose e));
       };
     }
+
+pub returns-then-self-clause-spends : goal.returns-then-self-clause-spends
+returns-then-self-clause-spends g c = record { within = omega arith; left = tt }
+
+pub returns-in_default-clause-spends : goal.returns-in_default-clause-spends
+returns-in_default-clause-spends g c =
+    let query = asked c.args.query.now in
+    spends_nothing (medium_of query.medium) query c.args.self.now (budget_for c.args.self.now query c.args.cursor.now.standing) c.new-in_default.result.standing (g.M.Media.bytes_read c.args.media.now)
+    (sym c.in_default.ensures.kept)
+
+pub returns-clause-spends : goal.returns-clause-spends
+returns-clause-spends g c =
+    spends_for (asked c.args.query.now) c.args.self.now c.step_on.new.self (span_as c.in-Some.span) c.args.cursor.now.standing c.step_on.new.cursor.standing (g.M.Media.bytes_read c.args.media.now)
+    (g.M.Media.bytes_read c.step_on.new.media) c.step_on.result (sym c.in-Some.ensures.kept) (rw c.number_of.ensures.number at c.step_on.ensures.vault) (rw c.number_of.ensures.number at c.step_on.ensures.spends)

@@ -1,0 +1,5 @@
+pub mod Reading
+pub mod Walking
+pub mod Spending
+pub mod Counting
+pub mod Midway

@@ -1,0 +1,13 @@
+use Rattle.vdr_entry.specs.Queries.{asked}
+use Rattle.vdr_index.specs.Indexes.{span_as}
+use Rattle.vdr_cursor.specs.Walks.{segments_left}
+use Rattle.vdr_cursor.proofs.Midway.{IsMidway}
+use Rattle.vdr_cursor.proofs.cursor.Cursor.step.Given as goal
+
+abbrev pub invariant-loop-self : goal.invariant-loop-self
+invariant-loop-self g l =
+    IsMidway l.initial.ring l.ring l.initial.self l.self (g.M.Media.disk l.initial.media) (g.M.Media.disk l.media) (g.M.Media.bytes_read l.initial.media) (g.M.Media.bytes_read l.media)
+    (g.M.Media.faults l.initial.media) (g.M.Media.faults l.media) (asked l.selection.query) (span_as l.selection.span)
+
+abbrev pub decreases-loop-self : goal.decreases-loop-self
+decreases-loop-self g l = segments_left l.self.standing

@@ -1,0 +1,3 @@
+-- A cursor over the records of one ring.
+pub mod Walks
+pub mod Budgets
