@@ -1,9 +1,12 @@
--- By exclusion: media that can't be opened are refused by their own refusal.
-use Rattle.std.proofs.Common.{◌≡◌, inl, inr, ℕ, refl}
-use Rattle.vdr_durability.specs.Readings.{EndsMeet}
+-- By exclusion: media that can't be opened are refused by their own refusal. A run begins on what was read as on what is held.
+use Rattle.std.proofs.Common.{◌≡◌, ◌∙◌, ap, inl, inr, ℕ, List, [], None, refl}
+use Rattle.vdr_terms.specs.Records.{last}
+use Rattle.vdr_history.specs.Histories.{stamp_of}
+use Rattle.vdr_durability.specs.Readings.{EndsMeet, Reading, next_after, records_on, restored}
 use Rattle.vdr_outside.specs.Disk.{Image}
 use Rattle.vdr_media.specs.Formatted.{IsFormatted, IsUnformatted}
-use Rattle.vdr_opening.specs.Media.{members, Contents, HoldsContents, reading_of}
+use Rattle.vdr_directory.specs.Sequence.{Placed, batches_in}
+use Rattle.vdr_opening.specs.Media.{members, Contents, HoldsContents, HoldsParts, opening_of, parts_of, reading_of}
 use Rattle.vdr_opening.specs.Refusals.{IsRefused}
 use Rattle.vdr_command.specs.Opened.{OneAnswer, RefusesAll}
 use Rattle.vdr_command.specs.declared.status.Status.{Status}
@@ -14,10 +17,10 @@ pub damaged_alike : (m offset k other : ℕ) → (m ≡ k) × (offset ≡ other)
 damaged_alike m offset k other same = λ i. Damaged (same.0 i) (same.1 i)
 
 -- What can be opened is not refused.
-pub legible_refused : (image : Image) (law : OneAnswer image) (status : Status) → IsFormatted image → (x : Contents) → HoldsContents image x → EndsMeet members (reading_of x) → RefusesAll image status
-legible_refused image law status formatted x holds meet = record {
+pub opened_refused : (image : Image) (law : OneAnswer image) (status : Status) → IsFormatted image → (x : Contents) → HoldsParts image x → EndsMeet members (reading_of x) → RefusesAll image status
+opened_refused image law status formatted x holds meet = record {
   unformatted = λ un. absurd (never_both image formatted un);
-  damaged = λ f m offset r. absurd (law.either x m offset holds meet r);
+  damaged = λ f m offset r. absurd (law.opens x m offset holds meet r);
 }
 
 pub unformatted_refused : (image : Image) → IsUnformatted image → RefusesAll image Unformatted
@@ -31,3 +34,16 @@ damaged_refused image law k at formatted refused = record {
 
 pub memory_refused : (image : Image) → RefusesAll image NoMemory
 memory_refused image = record { unformatted = λ un. inr refl; damaged = λ f m offset r. inr refl }
+
+-- The next place and the last stamp are those of one medium.
+abbrev reading_at : List Placed → Reading
+reading_at placed = record { batches = λ m. batches_in placed; table = []; text = [] }
+
+-- A run begins on what was read of legible media as on what they hold.
+pub last_read : (image : Image) → OneAnswer image → (x y : Contents) → HoldsParts image x → HoldsContents image y → (opening_of x).last ≡ (opening_of y).last
+last_read image law x y hx hy =
+    ap (λ (ps : List Placed). stamp_of (last (records_on (restored members (reading_at ps)) 0)) None) (law.known x (parts_of y) hx (law.parts y hy)) ∙ law.last y hy
+
+pub place_read : (image : Image) → OneAnswer image → (x y : Contents) → HoldsParts image x → HoldsContents image y → (opening_of x).next_place ≡ (opening_of y).next_place
+place_read image law x y hx hy =
+    ap (λ (ps : List Placed). next_after (last (records_on (restored members (reading_at ps)) 0))) (law.known x (parts_of y) hx (law.parts y hy)) ∙ law.place y hy

@@ -11,16 +11,16 @@ use Rattle.vdr_outside.proofs.Moments.{moments_and_reads}
 use Rattle.vdr_config.specs.Grammar.{configuration}
 use Rattle.vdr_media.specs.Formatted.{IsFormatted, IsUnformatted}
 use Rattle.vdr_opening.specs.Answers.{HasOpenCause}
-use Rattle.vdr_opening.specs.Media.{members, Contents, HoldsContents, opening_of, reading_of}
+use Rattle.vdr_opening.specs.Media.{members, Contents, HoldsContents, HoldsParts, opening_of, reading_of}
 use Rattle.vdr_opening.specs.Refusals.{IsRefused}
 use Rattle.vdr_opening.specs.declared.refused.OpenRefused.{OpenRefused}
 use Rattle.vdr_opening.specs.declared.refused.OpenRefused.TheVariants as openings
 use Rattle.vdr_recorder.specs.Recordings.{HasDone, RecorderState}
-use Rattle.vdr_vault.specs.Openings.{EndsWithin, GoesOnSynced, LeavesAll, OpensAtEachMoment}
+use Rattle.vdr_vault.specs.Openings.{EndsWithin, GoesOnSynced, IsToldBy, LeavesAll, OpensAtEachMoment}
 use Rattle.vdr_vault.proofs.OpenMoments.{never_both}
 use Rattle.vdr_vault.specs.Vaults.{VaultState, ShowsHistory}
 use Rattle.vdr_command.specs.Endings.{IsWorkDone}
-use Rattle.vdr_command.specs.Opened.{AddsMissing, AreLooks, ContentsKept, IsLegibleWith, IsUnbegun, IsUnopened, KeepsContents, MayLeave, MediaEnds, WasRecorded, newest_of}
+use Rattle.vdr_command.specs.Opened.{AddsMissing, AreLooks, ContentsKept, IsOpenableWith, IsUnbegun, IsUnopened, KeepsContents, MayLeave, MediaEnds, WasRecorded}
 use Rattle.vdr_command.specs.Statuses.{status_of_opening}
 use Rattle.vdr_command.specs.Outside.{MediaSeen}
 use Rattle.vdr_command.specs.declared.status.Status.{Status}
@@ -120,7 +120,7 @@ module _ {tells tells_images : Type 0} where
     unformatted = λ e. let none : ⊥ = cc in absurd none;
     damaged = tt;
     fault = λ e. let none : ⊥ = cc in absurd none;
-    legible = λ done. absurd done;
+    openable = λ done. absurd done;
     others = others;
     blank = blank;
     kept = λ x t holds meet regular. kept_by_opening x (config_read old.disk.reads x holds) regular MayBe NoMemory old.disk new.disk result may (λ worked. absurd worked)
@@ -133,7 +133,7 @@ module _ {tells tells_images : Type 0} where
         unformatted = λ e. (record { leaves = same.0; reads = same.1 }, unformatted is);
         damaged = tt;
         fault = λ e. let none : ⊥ = cc in absurd none;
-        legible = λ done. absurd done;
+        openable = λ done. absurd done;
         others = others;
         blank = blank;
         kept = λ x t holds meet regular. inl (tt, same.0);
@@ -144,7 +144,7 @@ module _ {tells tells_images : Type 0} where
         unformatted = λ e. let none : ⊥ = cc in absurd none;
         damaged = inl (record { leaves = same.0; reads = same.1 }, damaged m offset is);
         fault = λ e. let none : ⊥ = cc in absurd none;
-        legible = λ done. absurd done;
+        openable = λ done. absurd done;
         others = others;
         blank = blank;
         kept = λ x t holds meet regular. inl (tt, same.0);
@@ -153,7 +153,7 @@ module _ {tells tells_images : Type 0} where
     unformatted = λ e. let none : ⊥ = cc in absurd none;
     damaged = tt;
     fault = λ e. cause.in_all is;
-    legible = λ done. absurd done;
+    openable = λ done. absurd done;
     others = others;
     blank = blank;
     kept = λ x t holds meet regular. kept_by_opening x (config_read old.disk.reads x holds) regular MayBe MediaFault old.disk new.disk result may (λ worked. absurd worked) (λ failed. tt) (moments x t holds meet regular);
@@ -161,40 +161,42 @@ module _ {tells tells_images : Type 0} where
 
   -- The work was done.
   pub worked_ends : (Can : Contents → Type 0) (Met : Type 0) (MayBe : List Event → Type 0) (old new : MediaSeen tells tells_images) (status : Status) → IsWorkDone status
-      → (tells → IsLegibleWith old.disk.reads Can) → (tells → SameBut 1 old.disk.reads new.disk.reads)
+      → (tells → IsOpenableWith old.disk.reads Can) → (tells → SameBut 1 old.disk.reads new.disk.reads)
       → ((x : Contents) → tells → HoldsContents old.disk.reads x → EndsMeet members (reading_of x) → WasRecorded x → KeepsContents x MayBe status old.disk new.disk)
       → MediaEnds Can Met MayBe old new status
-  worked_ends Can Met MayBe old new status done legible others kept = ⊎_elim
+  worked_ends Can Met MayBe old new status done opens others kept = ⊎_elim
       (λ (is : status ≡ Done). subst (λ (s : Status). MediaEnds Can Met MayBe old new s) (sym is) (record {
         unformatted = λ e. let none : ⊥ = cc in absurd none;
         damaged = tt;
         fault = λ e. let none : ⊥ = cc in absurd none;
-        legible = λ d. legible;
+        openable = λ d. opens;
         others = others;
-        blank = λ t un. absurd (never_both old.disk.reads (legible t).0 un);
+        blank = λ t un. absurd (never_both old.disk.reads (opens t).0 un);
         kept = λ x t holds meet regular. inr (subst (λ (s : Status). KeepsContents x MayBe s old.disk new.disk) is (kept x t holds meet regular));
       }))
       (λ (is : status ≡ OutputFault). subst (λ (s : Status). MediaEnds Can Met MayBe old new s) (sym is) (record {
         unformatted = λ e. let none : ⊥ = cc in absurd none;
         damaged = tt;
         fault = λ e. let none : ⊥ = cc in absurd none;
-        legible = λ d. legible;
+        openable = λ d. opens;
         others = others;
-        blank = λ t un. absurd (never_both old.disk.reads (legible t).0 un);
+        blank = λ t un. absurd (never_both old.disk.reads (opens t).0 un);
         kept = λ x t holds meet regular. inr (subst (λ (s : Status). KeepsContents x MayBe s old.disk new.disk) is (kept x t holds meet regular));
       }))
       (done_either status done)
 
-  -- The contents whose configuration, incidents and last record the vault has.
+  -- The vault was opened on these media, and tells what was read of them.
   abbrev pub OpenedOn : Disk tells tells_images → VaultState → Type 0
-  OpenedOn old vault = tells → IsFormatted old.reads × (x : Contents) × HoldsContents old.reads x × EndsMeet members (reading_of x)
-      × (vault.config ≡ x.config) × (vault.table ≡ x.table) × (vault.last ≡ newest_of x)
+  OpenedOn old vault = tells → IsFormatted old.reads × (x : Contents) × HoldsParts old.reads x × EndsMeet members (reading_of x) × IsToldBy x vault
 
-  -- What was opened is legible.
-  pub legible_so : (Can : Contents → Type 0) (old : Disk tells tells_images) (vault : VaultState) → OpenedOn old vault
-      → ((x : Contents) → tells → HoldsContents old.reads x → vault.config ≡ x.config → vault.table ≡ x.table → vault.last ≡ newest_of x → Can x)
-      → tells → IsLegibleWith old.reads Can
-  legible_so Can old vault contents can t = let c = contents t in (c.0, c.1, c.2, c.3, can c.1 t c.2 c.4 c.5 c.6)
+  -- Where they are legible it tells what they hold.
+  abbrev pub TellsOn : Disk tells tells_images → VaultState → Type 0
+  TellsOn old vault = (x : Contents) → tells → HoldsContents old.reads x → EndsMeet members (reading_of x) × IsToldBy x vault
+
+  -- What was opened can be, and what the vault tells holds of what was read.
+  pub opened_so : (Can : Contents → Type 0) (old : Disk tells tells_images) (vault : VaultState) → OpenedOn old vault
+      → ((x : Contents) → IsToldBy x vault → Can x) → tells → IsOpenableWith old.reads Can
+  opened_so Can old vault parts can t = let p = parts t in (p.0, p.1, p.2, p.3, can p.1 p.4)
 
   -- What the media read as after a call that was one event, where the vault goes on.
   pub reads_done : (x : Contents) (act : Act) (after : RecorderState) (t0 : ℕ) (mid new : Disk tells tells_images) (done : HasDone (opening_of x) [] t0 act after mid new) → after.vault.failed ≡ false → tells

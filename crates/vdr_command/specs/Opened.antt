@@ -5,7 +5,7 @@ use Rattle.vdr_history.specs.Histories.Act.{Look}
 use Rattle.vdr_durability.specs.Readings.{EndsMeet}
 use Rattle.vdr_outside.specs.Disk.{Disk, Image, SameBut}
 use Rattle.vdr_media.specs.Formatted.{IsFormatted, IsUnformatted}
-use Rattle.vdr_opening.specs.Media.{members, Contents, HoldsContents, opening_of, reading_of}
+use Rattle.vdr_opening.specs.Media.{members, Contents, HoldsContents, HoldsParts, opening_of, parts_of, reading_of}
 use Rattle.vdr_opening.specs.Refusals.{IsRefused}
 use Rattle.vdr_vault.specs.Openings.{LeavesAll, WritesMissing}
 use Rattle.vdr_vault.specs.Regularity.{AreSound}
@@ -49,9 +49,9 @@ PrintsText text status old new = ⊤
 abbrev pub WasRecorded : Contents → Type 0
 WasRecorded x = AreSound x
 
--- The image is legible, the ends of its media meet, and P holds of its contents.
-abbrev pub IsLegibleWith : Image → (Contents → Type 0) → Type 0
-IsLegibleWith image P = IsFormatted image × (x : Contents) × HoldsContents image x × EndsMeet members (reading_of x) × P x
+-- What opening reads of the image is legal, the ends of its media meet, and P holds of what was read.
+abbrev pub IsOpenableWith : Image → (Contents → Type 0) → Type 0
+IsOpenableWith image P = IsFormatted image × (x : Contents) × HoldsParts image x × EndsMeet members (reading_of x) × P x
 
 -- Tick and utc of the last record of these contents.
 abbrev pub newest_of : Contents → Option (ℕ × ℤ)
@@ -87,10 +87,10 @@ module _ {tells tells_images : Type 0} where
   abbrev pub IsRefusedAt : Disk tells tells_images → Disk tells tells_images → (m offset : ℕ) → Type 0
   IsRefusedAt old new m offset = IsUntouched old new × (tells → IsFormatted old.reads × IsRefused old.reads m offset)
 
-  -- Legible media were answered as damaged nevertheless, where a part was read that opening leaves unread: what they hold is not
-  -- sound.
+  -- Media that can be opened were answered as damaged nevertheless, where a part was read that opening leaves unread: they are not
+  -- legible, or what they hold is not sound.
   abbrev pub MetUnsound : Disk tells tells_images → (Can : Contents → Type 0) → Type 0
-  MetUnsound old Can = tells → IsLegibleWith old.reads Can × ((x : Contents) → HoldsContents old.reads x → WasRecorded x → ⊥)
+  MetUnsound old Can = tells → IsOpenableWith old.reads Can × ((x : Contents) → HoldsContents old.reads x → WasRecorded x → ⊥)
 
   -- At most the batch that the long-term medium lacks is written, and where both media end with the last one nothing is, whether
   -- they are sound or not.
@@ -116,7 +116,7 @@ module _ {tells tells_images : Type 0} where
     pub unformatted : status ≡ Unformatted → IsUntouched old.disk new.disk × (tells → IsUnformatted old.disk.reads)
     pub damaged : IfDamaged status (λ m offset. IsRefusedAt old.disk new.disk m offset ⊎ Met)
     pub fault : status ≡ MediaFault → MediaFailed old new
-    pub legible : IsWorkDone status → tells → IsLegibleWith old.disk.reads Can
+    pub openable : IsWorkDone status → tells → IsOpenableWith old.disk.reads Can
     -- nothing but the long-term medium is written
     pub others : tells → SameBut 1 old.disk.reads new.disk.reads
     -- what was recorded stays, on each medium and at every moment
@@ -129,11 +129,22 @@ pub record RefusesAll (image : Image) (status : Status) : Type 0 where
   pub unformatted : IsUnformatted image → (status ≡ Unformatted) ⊎ (status ≡ NoMemory)
   pub damaged : IsFormatted image → (m offset : ℕ) → IsRefused image m offset → (status ≡ Damaged m offset) ⊎ (status ≡ NoMemory)
 
--- What media hold, and how they are refused, has one answer.
+-- What opening reads of media, and how it refuses them, has one answer. Of legible media it reads so much of what they hold, and that
+-- ends as they do.
 pub record OneAnswer (image : Image) : Type 0 where
-  pub config : (x y : Contents) → HoldsContents image x → HoldsContents image y → x.config ≡ y.config
+  -- what is read is one
+  pub config : (x y : Contents) → HoldsParts image x → HoldsParts image y → x.config ≡ y.config
+  pub known : (x y : Contents) → HoldsParts image x → HoldsParts image y → x.placed 0 ≡ y.placed 0
+  pub table : (x y : Contents) → HoldsParts image x → HoldsParts image y → x.table ≡ y.table
+  -- so much is read of legible media
+  pub parts : (x : Contents) → HoldsContents image x → HoldsParts image (parts_of x)
+  -- and a run begins on it as it does on all that they hold
+  pub last : (x : Contents) → HoldsContents image x → (opening_of (parts_of x)).last ≡ (opening_of x).last
+  pub place : (x : Contents) → HoldsContents image x → (opening_of (parts_of x)).next_place ≡ (opening_of x).next_place
+  -- what they hold is one
   pub placed : (x y : Contents) → HoldsContents image x → HoldsContents image y → x.placed 0 ≡ y.placed 0
-  pub table : (x y : Contents) → HoldsContents image x → HoldsContents image y → x.table ≡ y.table
   pub formatted : (x : Contents) → HoldsContents image x → IsUnformatted image → ⊥
+  -- what can be opened is not refused, and so what is legible is not
+  pub opens : (x : Contents) (m offset : ℕ) → HoldsParts image x → EndsMeet members (reading_of x) → IsRefused image m offset → ⊥
   pub either : (x : Contents) (m offset : ℕ) → HoldsContents image x → EndsMeet members (reading_of x) → IsRefused image m offset → ⊥
   pub one : (m offset k other : ℕ) → IsRefused image m offset → IsRefused image k other → (m ≡ k) × (offset ≡ other)

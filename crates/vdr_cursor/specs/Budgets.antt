@@ -1,5 +1,5 @@
 -- How many bytes a play may still read of a medium: of each segment that may have a record that the query selects, once.
-use Rattle.std.specs.Prelude.{◌≡◌, ◌≢◌, ◌≤◌, ◌+◌, ◌*◌, ◌==◌, ◌&&◌, nat_lt, if◌then◌else◌, count_by, ℕ, Bool, true, false, List, length, get_or, All, Option, Some, None, Result, OnOk}
+use Rattle.std.specs.Prelude.{◌≤◌, ◌+◌, ◌*◌, ◌==◌, ◌&&◌, nat_lt, if◌then◌else◌, count_by, ℕ, Bool, true, false, List, length, get_or, All, Option, Some, None, Result, OnOk}
 use mathlib.Core.List.{Sublist}
 use Rattle.vdr_terms.specs.Queries.{Query, Span, meets}
 use Rattle.vdr_index.specs.declared.known.Known.{Known}
@@ -48,8 +48,3 @@ pub record IsOfSegments (query : Query) (span : Span) (ring : RingState) (placed
 pub record Spends {T E : Type 0} (m had has : ℕ) (before now : List ℕ) (result : Result T E) : Type 0 where
   pub within : get_or now m 0 ≤ get_or before m 0 + had
   pub left : OnOk result (get_or now m 0 + has ≤ get_or before m 0 + had)
-
--- At most so many more bytes of medium m were read, and none of another.
-pub record ReadsAtMost (m n : ℕ) (before now : List ℕ) : Type 0 where
-  pub others : (k : ℕ) → k ≢ m → get_or now k 0 ≡ get_or before k 0
-  pub own : get_or now m 0 ≤ get_or before m 0 + n

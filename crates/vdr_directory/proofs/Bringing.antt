@@ -8,13 +8,15 @@ use Rattle.vdr_terms.proofs.Somewhere.{any_cases, any_here, any_none, any_there}
 use Rattle.vdr_retention.specs.Layout.{segment_records}
 use Rattle.vdr_entry.specs.declared.summary.Summary.{Summary}
 use Rattle.vdr_directory.specs.Sequence.{Placed, batches_of, first_of, records_of, segments_in, batches_in}
-use Rattle.vdr_directory.specs.Order.{HasNone, HasPlace, MayPrecede}
+use Rattle.vdr_directory.specs.Order.{AreInPlace, HasNone, HasPlace, MayPrecede}
+use Rattle.vdr_directory.specs.Knowns.{AreInPlaceBy}
 use Rattle.vdr_survey.specs.declared.extent.Extent.{Extent}
 use Rattle.vdr_directory.specs.declared.entry.Entry.{Entry}
 use Rattle.vdr_directory.specs.Entries.{Describe}
+use Rattle.vdr_directory.specs.Indexed.{extent_by}
 use Rattle.vdr_directory.specs.Leaving.{IsExact, summarized}
-use Rattle.vdr_directory.specs.Bringing.{AreAlike, MayHaveSummary, bare_of, has_no_summary, has_some, is_bare, may_have_summary}
-use Rattle.vdr_directory.proofs.Extents.{TellsExtent, tells_extent}
+use Rattle.vdr_directory.specs.Bringing.{AreAlike, EndsBare, MayHaveSummary, bare_of, has_no_summary, has_some, is_bare, may_have_summary}
+use Rattle.vdr_directory.proofs.Extents.{TellsExtent, read_all, tells_extent}
 use Rattle.vdr_directory.proofs.Passing.{Next, none_ahead}
 
 pub alike_self : (placed : List Placed) → AreAlike placed placed
@@ -144,27 +146,46 @@ some_before p (q ∷ x ∷ rest) may h = h
 -- What was found bare of the first i, and the others ahead.
 pub record FoundBare (placed : List Placed) (entries : List Entry) (i : ℕ) (bare : List ℕ) : Type 0 where
   pub rest : List Placed
+  pub ends : EndsBare rest
   pub ahead : Describe rest (drop i entries)
   pub found : bare_of placed ≡ bare ++ bare_of rest
 
-pub found_none : (placed : List Placed) (entries : List Entry) → Describe placed entries → FoundBare placed entries 0 []
-found_none placed entries d = record { rest = placed; ahead = d; found = refl }
+pub ends_bare : (o : Option Placed) (ps : List Placed) → AreInPlace o ps → EndsBare ps
+ends_bare o [] h = tt
+ends_bare o (p ∷ []) h = h.0.precedes
+ends_bare o (p ∷ q ∷ ps) h = ends_bare (Some p) (q ∷ ps) h.1
+
+pub ends_bare_by : (o : Option Placed) (ps : List Placed) → AreInPlaceBy o ps → EndsBare ps
+ends_bare_by o [] h = tt
+ends_bare_by o (p ∷ []) h = h.0.precedes
+ends_bare_by o (p ∷ q ∷ ps) h = ends_bare_by (Some p) (q ∷ ps) h.1
+
+ends_behind : (p : Placed) (ps : List Placed) → EndsBare (p ∷ ps) → EndsBare ps
+ends_behind p [] h = tt
+ends_behind p (q ∷ ps) h = h
+
+pub found_none : (placed : List Placed) (entries : List Entry) → EndsBare placed → Describe placed entries → FoundBare placed entries 0 []
+found_none placed entries ends d = record { rest = placed; ends = ends; ahead = d; found = refl }
 
 module _ (placed : List Placed) (entries : List Entry) (i : ℕ) (bare : List ℕ) (e : Entry) (h : FoundBare placed entries i bare) (n : Next entries i h.rest e) where
   split : (b : Bool) → is_bare n.here n.after ≡ b → bare_of placed ≡ bare ++ (if b then n.here.slot ∷ bare_of n.after else bare_of n.after)
   split b is = h.found ∙ ap (λ (ps : List Placed). bare ++ bare_of ps) n.split ∙ ap (λ (b : Bool). bare ++ (if b then n.here.slot ∷ bare_of n.after else bare_of n.after)) is
 
+  pub after_bare : EndsBare n.after
+  after_bare = ends_behind n.here n.after (subst EndsBare n.split h.ends)
+
   -- one more that is
   pub found_bare : is_bare n.here n.after ≡ true → FoundBare placed entries (i + 1) (bare ++ e.slot ∷ [])
   found_bare is = record {
     rest = n.after;
+    ends = after_bare;
     ahead = n.ahead;
     found = split true is ∙ ap (λ (j : ℕ). bare ++ j ∷ bare_of n.after) (sym n.described.slot) ∙ sym (append_assoc bare (e.slot ∷ []) (bare_of n.after));
   }
 
   -- and one that is not
   pub found_other : is_bare n.here n.after ≡ false → FoundBare placed entries (i + 1) bare
-  found_other is = record { rest = n.after; ahead = n.ahead; found = split false is }
+  found_other is = record { rest = n.after; ends = after_bare; ahead = n.ahead; found = split false is }
 
 pub found_all : (placed : List Placed) (entries : List Entry) (i : ℕ) (bare : List ℕ) → length entries ≤ i → FoundBare placed entries i bare → bare ≡ bare_of placed
 found_all placed entries i bare past h = sym (h.found ∙ ap (λ (ps : List Placed). bare ++ bare_of ps) (none_ahead entries i h.rest past h.ahead) ∙ append-nil bare)
@@ -175,14 +196,15 @@ has_extent [] (Some x) h = absurd (none-some h.first h.begins)
 has_extent (r ∷ rs) (Some x) h = refl
 
 -- what one entry alone tells
-pub one_behind : (ps : List Placed) (es : List Entry) (d : Entry) → length es ≡ 1 → Describe ps es → is_some (get_or es 0 d).survey.extent ≡ may_have_summary ps
-one_behind [] [] d one h = absurd (omega (arith, one))
-one_behind [] (e ∷ es) d one h = absurd h
-one_behind (p ∷ []) [] d one h = absurd h
-one_behind (p ∷ []) (e ∷ es) d one h = has_extent (records_of p) e.survey.extent (tells_extent p e h.0)
-one_behind (p ∷ q ∷ ps) [] d one h = absurd h
-one_behind (p ∷ q ∷ ps) (e ∷ []) d one h = absurd h.1
-one_behind (p ∷ q ∷ ps) (e ∷ f ∷ es) d one h = absurd (omega (arith, one))
+pub one_behind : (ps : List Placed) (es : List Entry) (d : Entry) → length es ≡ 1 → EndsBare ps → Describe ps es → is_some (extent_by (get_or es 0 d).survey) ≡ may_have_summary ps
+one_behind [] [] d one ends h = absurd (omega (arith, one))
+one_behind [] (e ∷ es) d one ends h = absurd h
+one_behind (p ∷ []) [] d one ends h = absurd h
+one_behind (p ∷ []) (e ∷ es) d one ends h =
+    has_extent (records_of p) (extent_by e.survey) (subst (λ (rs : List Record). TellsExtent rs (extent_by e.survey)) (read_all p ends) (tells_extent p e h.0))
+one_behind (p ∷ q ∷ ps) [] d one ends h = absurd h
+one_behind (p ∷ q ∷ ps) (e ∷ []) d one ends h = absurd h.1
+one_behind (p ∷ q ∷ ps) (e ∷ f ∷ es) d one ends h = absurd (omega (arith, one))
 
 -- Alike segments hold the same places.
 same_place : (place : ℕ) (p q : Placed) → first_of q ≡ first_of p → batches_of q ≡ batches_of p → HasPlace place p → HasPlace place q

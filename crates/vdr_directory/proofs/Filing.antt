@@ -1,11 +1,11 @@
 -- What a ring's index keeps of its segments, at each step of an append and as a medium is opened.
-use Rattle.std.proofs.Common.{◌≡◌, ◌≢◌, ◌<◌, ◌≤◌, ◌+◌, ◌*◌, ◌^◌, ℕ, zero, suc, List, [], ◌∷◌, ◌++◌, length, get_or, set, take, drop, slice_get, All, Contains, Option, Some, None, ⊎_elim, refl, sym, ap, ◌∙◌, subst, arith, length-set, length-append, length-drop}
-use Rattle.std.specs.Prelude.{replicate, unwrap_or}
+use Rattle.std.proofs.Common.{◌≡◌, ◌≢◌, ◌<◌, ◌≤◌, ◌+◌, ◌*◌, ◌^◌, ℕ, zero, suc, List, [], ◌∷◌, ◌++◌, length, get_or, set, take, drop, slice_get, All, Contains, Option, Some, None, inl, inr, ⊎_elim, refl, sym, ap, ◌∙◌, subst, arith, length-set, length-append, length-drop}
+use Rattle.std.specs.Prelude.{◌⊎◌, option_map, replicate}
 use Rattle.std.specs.List.{flat_map, sum_by}
 use Rattle.std.proofs.lemmas.Bool.{cases_eq, cases_lt}
 use Rattle.std.proofs.lemmas.List.{get_or-set_same, get_or-set_other, get_or_past, get_or-replicate, length-replicate, take_more, drop_more, take-append-drop}
 use Rattle.std.proofs.lemmas.List.Sums.{sum_by-cons}
-use Rattle.std.proofs.lemmas.List.Elements.{All-push, All-append, All-contains, Contains-append_left, Contains-append_right, Contains-append_cases}
+use Rattle.std.proofs.lemmas.List.Elements.{All-nil, All-cons, All-push, All-append, All-contains, Contains-append_left, Contains-append_right, Contains-append_cases}
 use Rattle.std.proofs.lemmas.Option.{none-some, slice_get_within}
 use Rattle.vdr_terms.specs.Records.{Record}
 use Rattle.vdr_terms.specs.Sizes.{batch_size, record_size, records_size}
@@ -16,6 +16,7 @@ use Rattle.vdr_segment.proofs.ChangeLemmas.{length-batches}
 use Rattle.vdr_slots.specs.Slots.{place_of}
 use Rattle.vdr_slots.proofs.Holding.{slot_of, slot_long}
 use Rattle.vdr_outside.specs.Parts.{part}
+use Rattle.vdr_survey.specs.declared.extent.Survey.{Survey}
 use Rattle.vdr_survey.specs.Extents.{records_in}
 use Rattle.vdr_survey.specs.Summaries.{IsSummaryOf, Summarises}
 use Rattle.vdr_survey.proofs.JoinLemmas.{one_summarised}
@@ -23,12 +24,13 @@ use Rattle.vdr_retention.proofs.Lists.{contains_here, contains_there, contains_c
 use Rattle.vdr_index.specs.declared.known.Known.{Known}
 use Rattle.vdr_directory.specs.declared.entry.Entry.{Entry}
 use Rattle.vdr_directory.specs.Sequence.{Placed, batches_of, records_of, AreInSequence}
-use Rattle.vdr_directory.specs.Order.{HasNone}
+use Rattle.vdr_directory.specs.Order.{AreInPlace, AreInOrder, HasNone, MayPrecede}
 use Rattle.vdr_directory.specs.Entries.{Describes, Describe}
 use Rattle.vdr_directory.specs.Holds.{HoldsPlaced}
 use Rattle.vdr_directory.proofs.Placing.{distinct_slots}
 use Rattle.vdr_directory.specs.Leaving.{IsExact}
-use Rattle.vdr_directory.specs.Indexed.{IsKnownAs, IsIndexed, StandsFor, known_by, told_by}
+use Rattle.vdr_directory.specs.Indexed.{IsKnownAs, IsIndexed, StandsFor, summary_by, told_by}
+use Rattle.vdr_directory.proofs.Extents.{IsBare, IsSummarized, bare_or_not}
 
 -- How many records a segment has
 
@@ -45,14 +47,14 @@ records_of_batches (b ∷ bs) =
     let e = sum_by-cons batch_size b bs in omega (arith, k, here, long, e)
 
 -- as many as have room in its bytes, at the most
-few_in_bytes : (bytes : List ℕ) (bs : List (List Record)) → AreBatches bytes bs → length (records_in bs) ≤ length bytes
+pub few_in_bytes : (bytes : List ℕ) (bs : List (List Record)) → AreBatches bytes bs → length (records_in bs) ≤ length bytes
 few_in_bytes bytes bs a =
     let k = records_of_batches bs in
     let l = length-batches bs in
     let s = ap length a.spelled in
     let e = length-append (flat_map batch_bytes bs) (a.gate ∷ a.rest) in omega (arith, k, l, s, e)
 
-length_drop : (n : ℕ) (xs : List ℕ) → length (drop n xs) ≤ length xs
+pub length_drop : (n : ℕ) (xs : List ℕ) → length (drop n xs) ≤ length xs
 length_drop n xs = let e = length-drop n xs in omega (arith, e)
 
 pub few_records : (segment count : ℕ) (placed : List Placed) (bytes : List ℕ) → segment < 2 ^ 32 → HoldsPlaced segment count placed bytes → All (λ p. length (records_of p) < 2 ^ 32) placed
@@ -65,24 +67,43 @@ few_records segment count placed bytes small h = all_from (λ p. length (records
 
 -- What an entry tells
 
-pub known_as : (p : Placed) (e : Entry) → Describes p e → length (records_of p) < 2 ^ 32 → IsKnownAs p (told_by e)
-known_as p e d few = go e.survey.summary d.survey.summary
+pub known_as : (p : Placed) (e : Entry) → Describes p e → ((s : Summary) → p.segment.header.summary ≡ Some s → HasNone p → ⊥) → length (records_of p) < 2 ^ 32 → IsKnownAs p (told_by e)
+known_as p e d has few = go (bare_or_not p e d)
   where
+    Told : Option Summary → Type 0
+    Told o = IsKnownAs p (option_map (λ s. record { seq = e.seq; first = e.first; summary = s }) o)
+
     exact : (s : Summary) → IsSummaryOf (records_of p) s → IsExact p s
     exact s is = record { count = let k = is.count in omega (arith, k, few); summary = is }
 
-    stands : (header : Option Summary) (s : Summary) → IsSummaryOf (records_of p) s → StandsFor header p (unwrap_or header s)
-    stands None s is = exact s is
-    stands (Some t) s is = refl
-
-    go : (o : Option Summary) → Summarises (records_of p) o → IsKnownAs p (known_by e.seq e.first e.summary o)
-    go None none = none
-    go (Some s) is = record {
+    own : p.segment.header.summary ≡ None → (o : Option Summary) → Summarises (records_of p) o → Told o
+    own none None is = is
+    own none (Some s) is = record {
       seq = d.seq;
       first = d.first;
-      some = λ none. none-some s (one_summarised (records_of p) None (Some s) none is);
-      summary = subst (λ (header : Option Summary). StandsFor header p (unwrap_or e.summary s)) d.summary (stands e.summary s is);
+      some = λ empty. none-some s (one_summarised (records_of p) None (Some s) empty is);
+      summary = subst (λ (header : Option Summary). StandsFor header p s) (sym none) (exact s is);
     }
+
+    go : IsBare p e ⊎ IsSummarized p e → IsKnownAs p (told_by e)
+    go (inl b) = subst (λ (x : Option Summary × Option Survey). Told (summary_by x.0 x.1)) (λ i. (sym b.header i, sym b.is i)) (own b.none b.survey.summary b.surveys.summary)
+    go (inr t) = subst (λ (o : Option Summary). Told (summary_by o e.survey)) (sym t.header) (record {
+      seq = d.seq;
+      first = d.first;
+      some = has t.summary t.some;
+      summary = subst (λ (header : Option Summary). StandsFor header p t.summary) (sym t.some) refl;
+    })
+
+-- In a legal order a segment that has a summary has records.
+summarized_have : (o : Option Placed) (ps : List Placed) → AreInPlace o ps → All (λ p. (s : Summary) → p.segment.header.summary ≡ Some s → HasNone p → ⊥) ps
+summarized_have o [] h = All-nil (λ (p : Placed). (s : Summary) → p.segment.header.summary ≡ Some s → HasNone p → ⊥)
+summarized_have o (p ∷ ps) h =
+    All-cons (λ (p : Placed). (s : Summary) → p.segment.header.summary ≡ Some s → HasNone p → ⊥) p ps (go ps h.0.precedes) (summarized_have (Some p) ps h.1)
+  where
+    go : (ps : List Placed) → MayPrecede p ps → (s : Summary) → p.segment.header.summary ≡ Some s → HasNone p → ⊥
+    go [] none s is empty = none-some s (sym none ∙ is)
+    go (q ∷ []) h s is empty = h.0 empty
+    go (q ∷ x ∷ rest) h s is empty = h empty
 
 -- Slots
 
@@ -192,11 +213,11 @@ nothing = record { slot = 0; segment = record { header = record { seq = 0; first
 
 -- one more segment is told
 pub indexed_more : (count : ℕ) (slots : List (Option Segment)) (placed : List Placed) (es : List Entry) (i : ℕ) (index now : List (Option Known)) (d : Entry) → AreInSequence slots placed → length slots ≡ count
-    → All (λ p. length (records_of p) < 2 ^ 32) placed → Describe placed es → i < length es → now ≡ set index (get_or es i d).slot (told_by (get_or es i d)) → IsIndexed count (take i placed) index
+    → All (λ p. length (records_of p) < 2 ^ 32) placed → AreInOrder placed → Describe placed es → i < length es → now ≡ set index (get_or es i d).slot (told_by (get_or es i d)) → IsIndexed count (take i placed) index
     → IsIndexed count (take (i + 1) placed) now
-indexed_more count slots placed es i index now d sequence every few describe lt is h =
+indexed_more count slots placed es i index now d sequence every few order describe lt is h =
     subst (λ (ps : List Placed). IsIndexed count ps now) (sym (take_more placed i none within))
-    (indexed_next count (take i placed) at index now (told_by e) there_within apart (known_as at e described (few i none within)) (is ∙ ap (λ (n : ℕ). set index n (told_by e)) described.slot) h)
+    (indexed_next count (take i placed) at index now (told_by e) there_within apart (known_as at e described (summarized_have None placed order i none within) (few i none within)) (is ∙ ap (λ (n : ℕ). set index n (told_by e)) described.slot) h)
   where
     none : Placed
     none = nothing

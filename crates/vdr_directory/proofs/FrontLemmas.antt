@@ -1,16 +1,11 @@
 -- The fronts of a medium's slots, one more at a time.
-use Rattle.std.proofs.Common.{◌≡◌, ◌<◌, ◌+◌, ℕ, true, List, [], ◌∷◌, ◌++◌, map, All, Contains, Option, Some, None, inl, inr, ⊎_elim, refl, sym, ap, ◌∙◌, subst, arith, append-nil}
+use Rattle.std.proofs.Common.{◌≡◌, ◌<◌, ◌+◌, ℕ, List, [], ◌∷◌, ◌++◌, map, All, Contains, Option, Some, None, inl, inr, ⊎_elim, refl, sym, ap, ◌∙◌, subst, arith, append-nil}
 use Rattle.std.proofs.lemmas.Bool.{cases_eq}
-use Rattle.std.proofs.lemmas.Option.{none-some}
 use Rattle.std.proofs.lemmas.List.Elements.{All-contains, Contains-append_left, Contains-append_right, Contains-append_cases}
-use Rattle.vdr_entry.specs.declared.summary.Summary.{Summary}
 use Rattle.vdr_segment.specs.declared.header.Header.{Header}
 use Rattle.vdr_segment.specs.Gates.{IsOpenAt}
 use Rattle.vdr_segment.specs.Headers.{IsHeader}
 use Rattle.vdr_slots.specs.Slots.{IsFront, place_of}
-use Rattle.vdr_survey.specs.declared.extent.Survey.{Survey}
-use Rattle.vdr_survey.specs.Summaries.{Summarises}
-use Rattle.vdr_survey.specs.Surveys.{Surveys}
 use Rattle.vdr_retention.proofs.Lists.{none_contained, contains_here, contains_there, contains_cases, all_from}
 use Rattle.vdr_directory.specs.declared.entry.Entry.{Entry}
 use Rattle.vdr_directory.specs.Entries.{slot_of}
@@ -21,14 +16,6 @@ use Rattle.vdr_directory.specs.Fronts.{Ascends, entry_of, opened_by, AreSlots, H
 pub no_front : (bytes : List ℕ) (front : Option Header) → IsOpenAt bytes 0 → ((h : Header) → IsHeader bytes h → ⊥) → IsFront bytes front → ⊥
 no_front bytes None opened none is = is opened
 no_front bytes (Some h) opened none is = none h is.1
-
-no_summary : (o : Option Summary) → Summarises [] o → o ≡ None
-no_summary None h = refl
-no_summary (Some s) h = absurd (none-some s.first_second h.first_second)
-
--- the survey of no batch
-pub empty_survey : (first : ℕ) (s : Survey) → s.end ≡ 64 → Surveys first [] s → s ≡ record { end = 64; extent = None; in_order = true; summary = None }
-empty_survey first s end h = let extent : s.extent ≡ None = h.extent in let order : s.in_order ≡ true = h.in_order.1 (tt, tt) in let summary : s.summary ≡ None = no_summary s.summary h.summary in λ i. record { end = end i; extent = extent i; in_order = order i; summary = summary i }
 
 -- The numbers of slots
 
@@ -58,9 +45,6 @@ pub slots_push : (es : List Entry) (e : Entry) → map slot_of (es ++ e ∷ []) 
 slots_push [] e = refl
 slots_push (x ∷ es) e = ap (λ (js : List ℕ). x.slot ∷ js) (slots_push es e)
 
-pub slots_none : AreSlots 0 []
-slots_none = all_from (λ j. j < 0) [] (λ j m. absurd (none_contained j m))
-
 slots_more : (n : ℕ) (opened : List Entry) (front : Option Header) → AreSlots n opened → AreSlots (n + 1) (opened ++ opened_by n front)
 slots_more n opened None h = subst (AreSlots (n + 1)) (sym (append-nil opened)) (below_still (map slot_of opened) n h)
 slots_more n opened (Some header) h = subst (λ (js : List ℕ). All (λ j. j < n + 1) js) (sym (slots_push opened (entry_of n header))) (below_more (map slot_of opened) n h)
@@ -70,12 +54,6 @@ opened_ascend n opened None below h = subst (λ (es : List Entry). Ascends (map 
 opened_ascend n opened (Some header) below h = subst Ascends (sym (slots_push opened (entry_of n header))) (ascends_more (map slot_of opened) n h below)
 
 -- What they tell
-
-pub fronts_none : (segment : ℕ) (bytes : List ℕ) → TellFronts segment 0 bytes []
-fronts_none segment bytes = record {
-  headers = all_from (HasHeader segment bytes) [] (λ e m. absurd (none_contained e m));
-  each = λ j lt. absurd (omega (arith, lt));
-}
 
 module _ (segment n : ℕ) (bytes : List ℕ) (opened : List Entry) (h : TellFronts segment n bytes opened) where
   -- one more that is closed, and one that is open
@@ -132,10 +110,9 @@ module _ (segment n : ℕ) (bytes : List ℕ) (opened : List Entry) (h : TellFro
   refuses_header count offset lt at broken = record { slot = n; within = lt; legal = front_known; broken = broken; at = at }
 
 -- the entry as it is pushed
-pub entry_pushed : (es new : List Entry) (slot : ℕ) (front : Option Header) (header : Header) (s : Survey) → front ≡ Some header → s ≡ record { end = 64; extent = None; in_order = true; summary = None }
-    → new ≡ es ++ (record { slot = slot; seq = header.seq; first = header.first; summary = header.summary; survey = s }) ∷ [] → new ≡ es ++ opened_by slot front
-entry_pushed es new slot front header s is empty pushed =
-    pushed ∙ (λ i. es ++ (record { slot = slot; seq = header.seq; first = header.first; summary = header.summary; survey = empty i }) ∷ []) ∙ ap (λ (o : Option Header). es ++ opened_by slot o) (sym is)
+pub entry_pushed : (es new : List Entry) (slot : ℕ) (front : Option Header) (header : Header) → front ≡ Some header
+    → new ≡ es ++ (record { slot = slot; seq = header.seq; first = header.first; summary = header.summary; survey = None }) ∷ [] → new ≡ es ++ opened_by slot front
+entry_pushed es new slot front header is pushed = pushed ∙ ap (λ (o : Option Header). es ++ opened_by slot o) (sym is)
 
 -- with the slot that was added
 pub slots_added : (n : ℕ) (opened o : List Entry) (front : Option Header) → o ≡ opened ++ opened_by n front → AreSlots n opened → AreSlots (n + 1) o

@@ -13,7 +13,8 @@ use Rattle.vdr_index.specs.declared.known.Known.{Known}
 use Rattle.vdr_index.specs.Indexes.{Keeps}
 use Rattle.vdr_index.proofs.Ranks.{keeps_at}
 use Rattle.vdr_directory.specs.Sequence.{Placed, first_of, records_of, seq_of}
-use Rattle.vdr_directory.specs.Order.{next_place, Agrees, HasNone, IsCovered, RunsOn, AreInPlace, AreInOrder}
+use Rattle.vdr_survey.specs.Audits.{IsCovered}
+use Rattle.vdr_directory.specs.Order.{next_place, Agrees, HasNone, RunsOn, AreInPlace, AreInOrder}
 use Rattle.vdr_directory.specs.Growing.{next_seq}
 use Rattle.vdr_directory.specs.Indexed.{IsKnown, IsKnownAs, IsIndexed, StandsFor}
 use Rattle.vdr_directory.proofs.Agreeing.{exact_covered}

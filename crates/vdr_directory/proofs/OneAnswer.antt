@@ -1,20 +1,24 @@
 -- Opening a medium has one answer.
-use Rattle.std.proofs.Common.{◌≡◌, ◌<◌, ◌≤◌, ◌+◌, ℕ, List, [], ◌∷◌, ◌++◌, drop, slice_get, get_or, All, Contains, Option, Some, None, inl, inr, ⊎_elim, refl, sym, ap, ap₂, ◌∙◌, subst, arith}
+use Rattle.std.proofs.Common.{◌≡◌, ◌<◌, ◌≤◌, ◌+◌, ℕ, List, [], ◌∷◌, ◌++◌, map, drop, All, Contains, Option, Some, None, inl, inr, ⊎_elim, refl, sym, ap, ap₂, ◌∙◌, subst, arith}
 use Rattle.std.proofs.lemmas.Bool.{cases_eq, cases_lt}
-use Rattle.std.proofs.lemmas.List.Elements.{All-contains, All-head, All-tail, Contains-append_right}
-use Rattle.std.proofs.lemmas.Option.{slice_get-get_or, none-some}
+use Rattle.std.proofs.lemmas.List.Elements.{All-nil, All-cons, All-contains, All-head, All-tail, Contains-append_right}
 use Rattle.vdr_terms.specs.Records.{Record}
-use Rattle.vdr_segment.specs.Segments.{Segment, AreBatches}
-use Rattle.vdr_slots.specs.Slots.{IsFront, header_of, place_of}
-use Rattle.vdr_slots.proofs.Holding.{slot_of as slot_held, one_holding, front_at, one_front}
+use Rattle.vdr_entry.specs.declared.summary.Summary.{Summary}
+use Rattle.vdr_segment.specs.Segments.{AreBatches}
+use Rattle.vdr_slots.specs.Slots.{IsFront, place_of}
+use Rattle.vdr_slots.proofs.Holding.{one_front}
 use Rattle.vdr_survey.specs.Surveys.{BreaksAt}
 use Rattle.vdr_survey.proofs.SpanLemmas.{one_break, never_both}
 use Rattle.vdr_retention.proofs.Lists.{none_contained, contains_here, contains_there, contains_cases}
-use Rattle.vdr_directory.specs.Sequence.{Placed, AreInSequence}
-use Rattle.vdr_directory.specs.Order.{AreInOrder, Breaks}
+use Rattle.vdr_directory.specs.Sequence.{Placed}
+use Rattle.vdr_directory.specs.declared.entry.Entry.{Entry}
+use Rattle.vdr_directory.specs.Knowns.{AreInOrderBy, BreaksBy, known_of}
+use Rattle.vdr_directory.specs.Entries.{Describe}
+use Rattle.vdr_directory.specs.Fronts.{Finds}
 use Rattle.vdr_directory.specs.Holds.{HoldsPlaced}
-use Rattle.vdr_directory.specs.Opening.{front_bytes, slot_bytes, Headed, IsEarlier, RiseBySeq, AreHeaders, RefusesHeader, RefusesBatch, RefusesOrder, Refuses}
-use Rattle.vdr_directory.proofs.Placing.{one_sequence}
+use Rattle.vdr_directory.specs.Opening.{AreBatchesRead, AreKnown, headed_of, front_bytes, slot_bytes, Headed, IsEarlier, RiseBySeq, AreHeaders, RefusesHeader, RefusesBatch, RefusesOrder, Refuses}
+use Rattle.vdr_directory.proofs.Finding.{IsRead}
+use Rattle.vdr_directory.proofs.Knowing.{describe_known, known_held, known_once}
 use Rattle.vdr_directory.proofs.Breaking.{breaks_never, breaks_once}
 
 -- The headers of a medium are one list
@@ -61,10 +65,15 @@ module _ (segment count : ℕ) (bytes : List ℕ) where
   one_headed : (xs ys : List Headed) → AreHeaders segment count bytes xs → AreHeaders segment count bytes ys → xs ≡ ys
   one_headed xs ys h k = same_headed xs ys h.rising k.rising (other_has xs ys h k) (other_has ys xs k h)
 
+  -- The parts are one
+
+  pub one_known : (ps qs : List Placed) → AreKnown segment count bytes ps → AreKnown segment count bytes qs → ps ≡ qs
+  one_known ps qs h k = known_once segment bytes ps qs (one_headed (map headed_of ps) (map headed_of qs) h.headers k.headers) h.batches k.batches
+
   -- The first with a batch that is not legal
 
   abbrev IsLegal : Headed → Type 0
-  IsLegal x = (batches : List (List Record)) × AreBatches (drop 64 (slot_bytes segment x.slot bytes)) batches
+  IsLegal x = x.header.summary ≡ None → (batches : List (List Record)) × AreBatches (drop 64 (slot_bytes segment x.slot bytes)) batches
 
   first_broken : (b c : List Headed) (x y : Headed) (a d : List Headed) → b ++ x ∷ a ≡ c ++ y ∷ d → All IsLegal b → All IsLegal c → (IsLegal x → ⊥) → (IsLegal y → ⊥) → x ≡ y
   first_broken [] [] x y a d e hb hc nx ny = cc
@@ -72,41 +81,37 @@ module _ (segment count : ℕ) (bytes : List ℕ) where
   first_broken (z ∷ b) [] x y a d e hb hc nx ny = let same : z ≡ y = cc in absurd (ny (subst IsLegal same (All-head IsLegal z b hb)))
   first_broken (z ∷ b) (w ∷ c) x y a d e hb hc nx ny = let rest : b ++ x ∷ a ≡ c ++ y ∷ d = cc in first_broken b c x y a d rest (All-tail IsLegal z b hb) (All-tail IsLegal w c hc) nx ny
 
-  broken_illegal : (x : Headed) (at : ℕ) → BreaksAt (slot_bytes segment x.slot bytes) at → IsLegal x → ⊥
-  broken_illegal x at b l = never_both (slot_bytes segment x.slot bytes) l.0 at l.1 b
+  broken_illegal : (x : Headed) (at : ℕ) → x.header.summary ≡ None → BreaksAt (slot_bytes segment x.slot bytes) at → IsLegal x → ⊥
+  broken_illegal x at bare b l = let k = l bare in never_both (slot_bytes segment x.slot bytes) k.0 at k.1 b
 
-  -- A medium that holds segments
-
-  one_placed : (ps qs : List Placed) → HoldsPlaced segment count ps bytes → HoldsPlaced segment count qs bytes → ps ≡ qs
-  one_placed ps qs h k =
-      let slots : h.slots ≡ k.slots = one_holding segment h.slots k.slots bytes h.holds k.holds (h.all_slots ∙ sym k.all_slots) in
-      one_sequence k.slots ps qs (subst (λ (xs : List (Option Segment)). AreInSequence xs ps) slots h.sequence) k.sequence
-
-  held_at : (ps : List Placed) (j : ℕ) → (h : HoldsPlaced segment count ps bytes) → j < count → slice_get h.slots j ≡ Some (get_or h.slots j None)
-  held_at ps j h lt = slice_get-get_or h.slots j None (omega (arith, lt, h.all_slots))
+  -- A medium whose parts are legal
 
   -- has all headers
-  no_header_refused : (ps : List Placed) (offset : ℕ) → 64 ≤ segment → HoldsPlaced segment count ps bytes → RefusesHeader segment count bytes offset → ⊥
-  no_header_refused ps offset long h r = r.broken (header_of (get_or h.slots r.slot None)) (front_at segment r.slot h.slots (get_or h.slots r.slot None) bytes h.holds (held_at ps r.slot h r.within) long)
+  no_header_refused : (ps : List Placed) (offset : ℕ) → AreKnown segment count bytes ps → RefusesHeader segment count bytes offset → ⊥
+  no_header_refused ps offset h r = let f = h.headers.fronts r.slot r.within in r.broken f.0 f.1
 
-  -- and all batches
-  no_batch_refused : (ps : List Placed) (offset : ℕ) → 64 ≤ segment → HoldsPlaced segment count ps bytes → RefusesBatch segment count bytes offset → ⊥
-  no_batch_refused ps offset long h r =
-      let t = All-contains (λ x. (x.slot < count) × IsFront (front_bytes segment x.slot bytes) (Some x.header)) r.headed r.here r.headers.there
-      (subst (λ (xs : List Headed). Contains xs r.here) (sym r.split) (Contains-append_right r.before (r.here ∷ r.after) r.here (contains_here r.here r.after))) in
-      go (get_or h.slots r.here.slot None) (held_at ps r.here.slot h t.0) t.1
-    where
-      go : (held : Option Segment) → slice_get h.slots r.here.slot ≡ Some held → IsFront (front_bytes segment r.here.slot bytes) (Some r.here.header) → ⊥
-      go None at front = none-some r.here.header (one_front (front_bytes segment r.here.slot bytes) None (Some r.here.header) (front_at segment r.here.slot h.slots None bytes h.holds at long) front)
-      go (Some s) at front = never_both (slot_bytes segment r.here.slot bytes) s.batches r.at (slot_held segment r.here.slot h.slots (Some s) bytes h.holds at).1.batches r.broken
+  -- and all batches that are read
+  read_legal : (p : Placed) → IsRead segment bytes p → IsLegal (headed_of p)
+  read_legal p h none = (p.segment.batches, subst (λ (o : Option Summary). AreBatchesRead o (drop 64 (slot_bytes segment p.slot bytes)) p.segment.batches) none h)
 
-  no_order_refused : (ps : List Placed) (offset : ℕ) → HoldsPlaced segment count ps bytes → AreInOrder ps → RefusesOrder segment count bytes offset → ⊥
-  no_order_refused ps offset h order r = breaks_never None ps r.here order (subst (λ (xs : List Placed). Breaks None xs r.here) (one_placed r.placed ps r.holds h) r.breaks)
+  all_legal : (ps : List Placed) → All (IsRead segment bytes) ps → All IsLegal (map headed_of ps)
+  all_legal [] h = All-nil IsLegal
+  all_legal (p ∷ ps) h = All-cons IsLegal (headed_of p) (map headed_of ps) (read_legal p (All-head (IsRead segment bytes) p ps h)) (all_legal ps (All-tail (IsRead segment bytes) p ps h))
 
-  pub never_refused : (ps : List Placed) (offset : ℕ) → 64 ≤ segment → HoldsPlaced segment count ps bytes → AreInOrder ps → Refuses segment count bytes offset → ⊥
-  never_refused ps offset long h order (inl r) = no_header_refused ps offset long h r
-  never_refused ps offset long h order (inr (inl r)) = no_batch_refused ps offset long h r
-  never_refused ps offset long h order (inr (inr r)) = no_order_refused ps offset h order r
+  no_batch_refused : (ps : List Placed) (offset : ℕ) → AreKnown segment count bytes ps → RefusesBatch segment count bytes offset → ⊥
+  no_batch_refused ps offset h r =
+      let same : r.headed ≡ map headed_of ps = one_headed r.headed (map headed_of ps) r.headers h.headers in
+      let there : Contains (map headed_of ps) r.here =
+      subst (λ (xs : List Headed). Contains xs r.here) (sym r.split ∙ same) (Contains-append_right r.before (r.here ∷ r.after) r.here (contains_here r.here r.after)) in
+      broken_illegal r.here r.at r.bare r.broken (All-contains IsLegal (map headed_of ps) r.here (all_legal ps h.batches) there)
+
+  no_order_refused : (ps : List Placed) (offset : ℕ) → AreKnown segment count bytes ps → AreInOrderBy ps → RefusesOrder segment count bytes offset → ⊥
+  no_order_refused ps offset h order r = breaks_never None ps r.here order (subst (λ (xs : List Placed). BreaksBy None xs r.here) (one_known r.known ps r.are h) r.breaks)
+
+  pub never_refused : (ps : List Placed) (offset : ℕ) → AreKnown segment count bytes ps → AreInOrderBy ps → Refuses segment count bytes offset → ⊥
+  never_refused ps offset h order (inl r) = no_header_refused ps offset h r
+  never_refused ps offset h order (inr (inl r)) = no_batch_refused ps offset h r
+  never_refused ps offset h order (inr (inr r)) = no_order_refused ps offset h order r
 
   -- Two refusals
 
@@ -132,22 +137,27 @@ module _ (segment count : ℕ) (bytes : List ℕ) where
       ∙ sym s.is
     where
       here : r.here ≡ s.here
-      here = first_broken r.before s.before r.here s.here r.after s.after (sym r.split ∙ one_headed r.headed s.headed r.headers s.headers ∙ s.split) r.legal s.legal (broken_illegal r.here r.at r.broken) (broken_illegal s.here s.at s.broken)
+      here = first_broken r.before s.before r.here s.here r.after s.after (sym r.split ∙ one_headed r.headed s.headed r.headers s.headers ∙ s.split) r.legal s.legal (broken_illegal r.here r.at r.bare r.broken) (broken_illegal s.here s.at s.bare s.broken)
 
       slots : r.here.slot ≡ s.here.slot
       slots = ap (λ (x : Headed). x.slot) here
 
   one_order_refused : (m n : ℕ) → RefusesOrder segment count bytes m → RefusesOrder segment count bytes n → m ≡ n
   one_order_refused m n r s =
-      r.at ∙ ap (λ (p : Placed). place_of segment p.slot) (breaks_once None s.placed r.here s.here (subst (λ (ps : List Placed). Breaks None ps r.here) (one_placed r.placed s.placed r.holds s.holds) r.breaks) s.breaks) ∙ sym s.at
+      r.at ∙ ap (λ (p : Placed). place_of segment p.slot) (breaks_once None s.known r.here s.here (subst (λ (ps : List Placed). BreaksBy None ps r.here) (one_known r.known s.known r.are s.are) r.breaks) s.breaks) ∙ sym s.at
 
-  pub one_refusal : (m n : ℕ) → 64 ≤ segment → Refuses segment count bytes m → Refuses segment count bytes n → m ≡ n
-  one_refusal m n long (inl r) (inl s) = one_header_refused m n r s
-  one_refusal m n long (inl r) (inr (inl s)) = absurd (headers_first m n r s)
-  one_refusal m n long (inl r) (inr (inr s)) = absurd (no_header_refused s.placed m long s.holds r)
-  one_refusal m n long (inr (inl r)) (inl s) = absurd (headers_first n m s r)
-  one_refusal m n long (inr (inl r)) (inr (inl s)) = one_batch_refused m n r s
-  one_refusal m n long (inr (inl r)) (inr (inr s)) = absurd (no_batch_refused s.placed m long s.holds r)
-  one_refusal m n long (inr (inr r)) (inl s) = absurd (no_header_refused r.placed n long r.holds s)
-  one_refusal m n long (inr (inr r)) (inr (inl s)) = absurd (no_batch_refused r.placed n long r.holds s)
-  one_refusal m n long (inr (inr r)) (inr (inr s)) = one_order_refused m n r s
+  pub one_refusal : (m n : ℕ) → Refuses segment count bytes m → Refuses segment count bytes n → m ≡ n
+  one_refusal m n (inl r) (inl s) = one_header_refused m n r s
+  one_refusal m n (inl r) (inr (inl s)) = absurd (headers_first m n r s)
+  one_refusal m n (inl r) (inr (inr s)) = absurd (no_header_refused s.known m s.are r)
+  one_refusal m n (inr (inl r)) (inl s) = absurd (headers_first n m s r)
+  one_refusal m n (inr (inl r)) (inr (inl s)) = one_batch_refused m n r s
+  one_refusal m n (inr (inl r)) (inr (inr s)) = absurd (no_batch_refused s.known m s.are r)
+  one_refusal m n (inr (inr r)) (inl s) = absurd (no_header_refused r.known n r.are s)
+  one_refusal m n (inr (inr r)) (inr (inl s)) = absurd (no_batch_refused r.known n r.are s)
+  one_refusal m n (inr (inr r)) (inr (inr s)) = one_order_refused m n r s
+
+-- On a medium that holds segments the entries that tell of what is known tell of the segments.
+pub found_legible : (segment count : ℕ) (bytes : List ℕ) (es : List Entry) (placed : List Placed) → 64 ≤ segment → HoldsPlaced segment count placed bytes → Finds segment count bytes es → Describe placed es
+found_legible segment count bytes es placed long holds f =
+    describe_known placed es (subst (λ (ps : List Placed). Describe ps es) (one_known segment count bytes f.known (map known_of placed) f.are (known_held segment count bytes placed long holds)) f.describe)

@@ -4,7 +4,7 @@ use Rattle.std.specs.Prelude.{IfSome}
 use Rattle.std.proofs.lemmas.List.{take_rest}
 use Rattle.vdr_directory.specs.declared.entry.Entry.{Entry}
 use Rattle.vdr_directory.specs.Sequence.{Placed}
-use Rattle.vdr_directory.specs.Order.{RunsOn, IsInPlace, AreInPlace, AreInOrder, Breaks}
+use Rattle.vdr_directory.specs.Knowns.{RunsOnBy, IsInPlaceBy, AreInPlaceBy, AreInOrderBy, BreaksBy}
 use Rattle.vdr_directory.specs.Entries.{Describes, DescribesAny, Describe}
 
 -- The first i of the segments are in their places, the one before the rest is described by this entry, if there is one, and
@@ -14,9 +14,9 @@ pub record Passed (placed : List Placed) (entries : List Entry) (i : ℕ) (befor
   pub rest : List Placed
   pub described : DescribesAny newest before
   pub ahead : Describe rest (drop i entries)
-  pub runs_on : IfSome newest RunsOn
-  pub in_order : AreInPlace newest rest → AreInOrder placed
-  pub breaks : (x : Placed) → Breaks newest rest x → Breaks None placed x
+  pub runs_on : IfSome newest RunsOnBy
+  pub in_order : AreInPlaceBy newest rest → AreInOrderBy placed
+  pub breaks : (x : Placed) → BreaksBy newest rest x → BreaksBy None placed x
   pub at : slice_get placed i ≡ slice_get rest 0
   pub behind : (k : ℕ) → slice_get placed (i + suc k) ≡ slice_get rest (suc k)
 
@@ -69,28 +69,28 @@ none_ahead entries i rest past h = go rest (drop i entries) (omega (arith, past,
 
 -- one more in its place
 pub passed_more : (placed : List Placed) (entries : List Entry) (i : ℕ) (before : Option Entry) (e : Entry) → (h : Passed placed entries i before) → (n : Next entries i h.rest e)
-    → IsInPlace h.newest n.here n.after → Passed placed entries (i + 1) (Some e)
+    → IsInPlaceBy h.newest n.here n.after → Passed placed entries (i + 1) (Some e)
 passed_more placed entries i before e h n place = record {
   newest = Some n.here;
   rest = n.after;
   described = n.described;
   ahead = n.ahead;
   runs_on = place.runs_on;
-  in_order = λ after. h.in_order (subst (λ (ps : List Placed). AreInPlace h.newest ps) (sym n.split) (place, after));
-  breaks = λ x b. h.breaks x (subst (λ (ps : List Placed). Breaks h.newest ps x) (sym n.split) (inr (place, b)));
+  in_order = λ after. h.in_order (subst (λ (ps : List Placed). AreInPlaceBy h.newest ps) (sym n.split) (place, after));
+  breaks = λ x b. h.breaks x (subst (λ (ps : List Placed). BreaksBy h.newest ps x) (sym n.split) (inr (place, b)));
   at = h.behind 0 ∙ ap (λ (ps : List Placed). slice_get ps 1) n.split;
   behind = λ k. ap (λ (m : ℕ). slice_get placed m) (omega arith) ∙ h.behind (suc k) ∙ ap (λ (ps : List Placed). slice_get ps (suc (suc k))) n.split;
 }
 
 -- the first that is not
 pub passed_break : (placed : List Placed) (entries : List Entry) (i : ℕ) (before : Option Entry) (e : Entry) → (h : Passed placed entries i before) → (n : Next entries i h.rest e)
-    → (IsInPlace h.newest n.here n.after → ⊥) → (x : Placed) × (slice_get placed i ≡ Some x) × Breaks None placed x
+    → (IsInPlaceBy h.newest n.here n.after → ⊥) → (x : Placed) × (slice_get placed i ≡ Some x) × BreaksBy None placed x
 passed_break placed entries i before e h n broken = (
   n.here,
   h.at ∙ ap (λ (ps : List Placed). slice_get ps 0) n.split,
-  h.breaks n.here (subst (λ (ps : List Placed). Breaks h.newest ps n.here) (sym n.split) (inl (refl, broken))),
+  h.breaks n.here (subst (λ (ps : List Placed). BreaksBy h.newest ps n.here) (sym n.split) (inl (refl, broken))),
 )
 
 -- all of them
-pub passed_all : (placed : List Placed) (entries : List Entry) (i : ℕ) (before : Option Entry) → length entries ≤ i → Passed placed entries i before → AreInOrder placed
-passed_all placed entries i before past h = h.in_order (subst (λ (ps : List Placed). AreInPlace h.newest ps) (sym (none_ahead entries i h.rest past h.ahead)) tt)
+pub passed_all : (placed : List Placed) (entries : List Entry) (i : ℕ) (before : Option Entry) → length entries ≤ i → Passed placed entries i before → AreInOrderBy placed
+passed_all placed entries i before past h = h.in_order (subst (λ (ps : List Placed). AreInPlaceBy h.newest ps) (sym (none_ahead entries i h.rest past h.ahead)) tt)

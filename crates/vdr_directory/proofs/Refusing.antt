@@ -3,6 +3,8 @@ use Rattle.std.proofs.Common.{◌≡◌, ◌<◌, ◌+◌, ℕ, List, [], ◌∷
 use Rattle.std.proofs.lemmas.Option.{same_Some, none-some}
 use Rattle.std.proofs.lemmas.List.Elements.{All-nil, All-cons, All-head, All-tail}
 use Rattle.vdr_terms.specs.Records.{Record}
+use Rattle.vdr_entry.specs.declared.summary.Summary.{Summary}
+use Rattle.vdr_survey.specs.declared.extent.Survey.{Survey}
 use Rattle.vdr_segment.specs.declared.header.Header.{Header}
 use Rattle.vdr_segment.specs.Segments.{AreBatches}
 use Rattle.vdr_slots.specs.Slots.{IsFront, place_of}
@@ -12,7 +14,7 @@ use Rattle.vdr_retention.proofs.Lists.{none_contained, contains_here, contains_t
 use Rattle.vdr_directory.specs.declared.entry.Entry.{Entry}
 use Rattle.vdr_directory.specs.Entries.{slot_of}
 use Rattle.vdr_directory.specs.Opening.{front_bytes, slot_bytes, Headed, IsEarlier, RiseBySeq, AreHeaders, RefusesBatch}
-use Rattle.vdr_directory.specs.Fronts.{HasHeader, TellFronts, IsSurveyed, BreaksAmong}
+use Rattle.vdr_directory.specs.Fronts.{HasHeader, HasSurveyUnless, TellFronts, IsSurveyed, BreaksAmong}
 use Rattle.vdr_directory.proofs.Sequencing.{IsSooner, AreSooner}
 use Rattle.vdr_directory.proofs.FrontLemmas.{front_known}
 
@@ -21,6 +23,7 @@ use Rattle.vdr_directory.proofs.FrontLemmas.{front_known}
 pub record Heads (segment : ℕ) (bytes : List ℕ) (e : Entry) (x : Headed) : Type 0 where
   pub slot : x.slot ≡ e.slot
   pub seq : x.header.seq ≡ e.seq
+  pub summary : x.header.summary ≡ e.summary
   pub front : IsFront (front_bytes segment x.slot bytes) (Some x.header)
 
 abbrev pub Head_all : (segment : ℕ) (bytes : List ℕ) → List Entry → List Headed → Type 0
@@ -35,7 +38,7 @@ module _ (segment : ℕ) (bytes : List ℕ) where
   heading (e ∷ es) h =
       let k : HasHeader segment bytes e = All-head (HasHeader segment bytes) e es h in
       let rest : (xs : List Headed) × Head_all segment bytes es xs = heading es (All-tail (HasHeader segment bytes) e es h) in
-      let r : (xs : List Headed) × Head_all segment bytes (e ∷ es) xs = ((record { slot = e.slot; header = k.header }) ∷ rest.0, (record { slot = refl; seq = sym k.seq; front = k.front }, rest.1)) in
+      let r : (xs : List Headed) × Head_all segment bytes (e ∷ es) xs = ((record { slot = e.slot; header = k.header }) ∷ rest.0, (record { slot = refl; seq = sym k.seq; summary = sym k.summary; front = k.front }, rest.1)) in
       r
 
   -- those of a list in two parts
@@ -87,17 +90,25 @@ module _ (segment : ℕ) (bytes : List ℕ) where
       let k = headed_at es xs j h.1 l in (k.0, contains_there x xs k.0 k.1, k.2, k.3))
       (contains_cases e.slot (map slot_of es) j m)
 
-  legal_before : (es : List Entry) (xs : List Headed) → Head_all segment bytes es xs → All (IsSurveyed segment bytes) es → All (λ x. (batches : List (List Record)) × AreBatches (drop 64 (slot_bytes segment x.slot bytes)) batches) xs
-  legal_before es [] h s = All-nil (λ (x : Headed). (batches : List (List Record)) × AreBatches (drop 64 (slot_bytes segment x.slot bytes)) batches)
+  abbrev IsLegal : Headed → Type 0
+  IsLegal x = x.header.summary ≡ None → (batches : List (List Record)) × AreBatches (drop 64 (slot_bytes segment x.slot bytes)) batches
+
+  legal_one : (e : Entry) (x : Headed) → Heads segment bytes e x → IsSurveyed segment bytes e → IsLegal x
+  legal_one e x h s none = go e.summary e.survey (sym h.summary ∙ none) s
+    where
+      go : (o : Option Summary) (v : Option Survey) → o ≡ None → HasSurveyUnless segment e.slot bytes e.first o v → (batches : List (List Record)) × AreBatches (drop 64 (slot_bytes segment x.slot bytes)) batches
+      go None None is k = absurd k
+      go None (Some v) is k = (k.batches, subst (λ (i : ℕ). AreBatches (drop 64 (slot_bytes segment i bytes)) k.batches) (sym h.slot) k.legal)
+      go (Some t) v is k = absurd (none-some t (sym is))
+
+  legal_before : (es : List Entry) (xs : List Headed) → Head_all segment bytes es xs → All (IsSurveyed segment bytes) es → All IsLegal xs
+  legal_before es [] h s = All-nil IsLegal
   legal_before [] (x ∷ xs) h s = absurd h
   legal_before (e ∷ es) (x ∷ xs) h s =
-      let k : IsSurveyed segment bytes e = All-head (IsSurveyed segment bytes) e es s in
-      All-cons (λ (x : Headed). (batches : List (List Record)) × AreBatches (drop 64 (slot_bytes segment x.slot bytes)) batches) x xs
-      (k.batches, subst (λ (i : ℕ). AreBatches (drop 64 (slot_bytes segment i bytes)) k.batches) (sym h.0.slot) k.legal)
-      (legal_before es xs h.1 (All-tail (IsSurveyed segment bytes) e es s))
+      All-cons IsLegal x xs (legal_one e x h.0 (All-head (IsSurveyed segment bytes) e es s)) (legal_before es xs h.1 (All-tail (IsSurveyed segment bytes) e es s))
 
   module _ (n : ℕ) (es : List Entry) (within : All (λ j. j < n) (map slot_of es)) (fronts : TellFronts segment n bytes es) (sooner : AreSooner es) where
-    are_headers : (xs : List Headed) → Head_all segment bytes es xs → AreHeaders segment n bytes xs
+    pub are_headers : (xs : List Headed) → Head_all segment bytes es xs → AreHeaders segment n bytes xs
     are_headers xs heads = record {
       fronts = λ j lt.
           let f = front_known segment n bytes es fronts j lt in
@@ -128,6 +139,7 @@ module _ (segment : ℕ) (bytes : List ℕ) where
           after = p.back;
           split = p.are;
           legal = legal_before b.before p.front p.heads_front b.legal;
+          bare = p.heads_mid.summary ∙ b.bare;
           at = b.broken.at;
           broken = subst (λ (i : ℕ). BreaksAt (slot_bytes segment i bytes) b.broken.at) (sym p.heads_mid.slot) b.broken.broken;
           is = b.broken.is ∙ ap (λ (i : ℕ). place_of segment i + b.broken.at) (sym p.heads_mid.slot);

@@ -1,8 +1,8 @@
 -- What a ring's directory tells of its segments, at each step of an append and as a medium is opened.
-use Rattle.std.proofs.Common.{◌≡◌, ◌≢◌, ◌<◌, ◌+◌, ◌-◌, ◌^◌, ℕ, suc, min, List, [], ◌∷◌, ◌++◌, length, map, get_or, set, take, slice_get, All, Contains, Option, Some, None, option_map, inl, inr, ⊎_elim, refl, sym, ap, ◌∙◌, subst, arith}
-use Rattle.std.specs.Prelude.{Any, replicate, IfNone, IfSome}
+use Rattle.std.proofs.Common.{◌≡◌, ◌≢◌, ◌<◌, ◌+◌, ◌-◌, ◌^◌, ℕ, suc, min, List, [], ◌∷◌, ◌++◌, length, map, get_or, set, slice_get, All, Contains, Option, Some, None, option_map, inl, inr, ⊎_elim, refl, sym, ap, ◌∙◌, subst, arith}
+use Rattle.std.specs.Prelude.{Any, IfNone, IfSome}
 use Rattle.std.proofs.lemmas.Option.{none-some, same_Some, slice_get_within, get_or_from_slice_get}
-use Rattle.std.proofs.lemmas.List.{length-map, take_more}
+use Rattle.std.proofs.lemmas.List.{length-map}
 use Rattle.std.proofs.lemmas.List.Sums.{sum_by_push}
 use Rattle.std.proofs.lemmas.List.Elements.{All-contains, Contains-append_right}
 use Rattle.vdr_terms.specs.Records.{Record, last}
@@ -10,25 +10,21 @@ use Rattle.vdr_terms.specs.Sizes.{batch_size}
 use Rattle.vdr_retention.proofs.Lists.{contains_here, last_behind, last_contained, all_from}
 use Rattle.vdr_entry.specs.declared.summary.Summary.{Summary}
 use Rattle.vdr_segment.specs.Segments.{Segment, end_of}
-use Rattle.vdr_survey.specs.declared.extent.Extent.{Extent}
 use Rattle.vdr_survey.specs.Summaries.{IsSummaryOf, Summarises}
 use Rattle.vdr_survey.proofs.JoinLemmas.{one_summarised}
 use Rattle.vdr_index.specs.declared.known.Known.{Known}
 use Rattle.vdr_index.specs.Indexes.{IsFirstClear, Keeps}
-use Rattle.vdr_directory.specs.declared.entry.Entry.{Entry}
 use Rattle.vdr_directory.specs.declared.newest.Newest.{Newest}
-use Rattle.vdr_directory.specs.declared.newest.Ending.{Ending}
-use Rattle.vdr_directory.specs.Sequence.{Placed, seq_of, batches_of, records_of, batches_in, AreInSequence}
+use Rattle.vdr_directory.specs.Sequence.{Placed, seq_of, batches_of, records_of, AreInSequence}
 use Rattle.vdr_directory.specs.Order.{HasNone, RunsOn, AreInOrder}
-use Rattle.vdr_directory.specs.Entries.{Describes, Describe}
-use Rattle.vdr_directory.specs.Directories.{DirectoryState, newest_of, newest_by, ending_by, later, slot_in, summary_at}
+use Rattle.vdr_directory.specs.Directories.{DirectoryState, newest_of, slot_in, summary_at}
 use Rattle.vdr_directory.specs.Holds.{Tells}
 use Rattle.vdr_directory.specs.Closed.{IsFull, IsLeastClosed}
 use Rattle.vdr_directory.specs.Growing.{new_segment, next_seq, with_batch_in}
-use Rattle.vdr_directory.specs.Indexed.{IsKnownAs, StandsFor, told_by}
+use Rattle.vdr_directory.specs.Indexed.{IsKnownAs, StandsFor}
 use Rattle.vdr_directory.proofs.Placing.{distinct_slots}
 use Rattle.vdr_directory.proofs.Ordering.{NewestHasRecords, newest_runs_on, records_with_batch}
-use Rattle.vdr_directory.proofs.Filing.{nothing, described_at, described_length, indexed_closed, indexed_begun, indexed_newest, indexed_none, indexed_more}
+use Rattle.vdr_directory.proofs.Filing.{indexed_closed, indexed_begun, indexed_newest}
 use Rattle.vdr_directory.proofs.Endings.{ending_in, ending_closed, ending_done, ending_push}
 use Rattle.vdr_directory.proofs.Known.{IsInIndex, IsEarlier, any_or_none, empty_last, in_index, not_before_empty}
 use Rattle.vdr_directory.proofs.Counting.{as_many, slots_distinct, slot_contained, slot_there}
@@ -46,13 +42,6 @@ module _ (count : ℕ) (placed : List Placed) (t : DirectoryState) (tells : Tell
 
   pub newest_is : (p : Placed) → last placed ≡ Some p → t.newest ≡ Some (newest_of p)
   newest_is p is = tells.newest ∙ ap (option_map newest_of) is
-
-  pub no_newest : t.newest ≡ None → last placed ≡ None
-  no_newest is = go (last placed) (sym is ∙ tells.newest)
-    where
-      go : (o : Option Placed) → None ≡ option_map newest_of o → o ≡ None
-      go None e = refl
-      go (Some p) e = absurd (none-some (newest_of p) e)
 
   -- the number behind its
   pub next_seq_is : AreInOrder placed → (n : Newest) (m : ℕ) → t.newest ≡ Some n → m ≡ min (n.seq + 1) (2 ^ 64 - 1) → m ≡ next_seq (last placed)
@@ -207,31 +196,3 @@ tells_done count slots older newest records t u n size sequence every bare few t
 
     grown : ◌≡◌ {A = Newest} (record n { end = n.end + size }) (newest_of (with_batch_in newest records))
     grown = λ i. record { slot = (same i).slot; seq = (same i).seq; first = (same i).first; end = ends i }
-
--- As a medium is opened
-
-pub tells_none : (count : ℕ) (t : DirectoryState) → t ≡ record { index = replicate count None; newest = None; ending = None } → Tells count [] t
-tells_none count t is = subst (Tells count []) (sym is) (record { index = indexed_none count (replicate count None) refl; newest = refl; ending = refl })
-
-pub tells_more : (count : ℕ) (slots : List (Option Segment)) (placed : List Placed) (es : List Entry) (i : ℕ) (t u : DirectoryState) (d : Entry) → AreInSequence slots placed → length slots ≡ count
-    → All (λ p. length (records_of p) < 2 ^ 32) placed → Describe placed es → i < length es → u.index ≡ set t.index (get_or es i d).slot (told_by (get_or es i d)) → u.newest ≡ Some (newest_by (get_or es i d))
-    → u.ending ≡ later t.ending (option_map ending_by (get_or es i d).survey.extent) → Tells count (take i placed) t → Tells count (take (i + 1) placed) u
-tells_more count slots placed es i t u d sequence every few describe lt index newest ending tells = record {
-  index = indexed_more count slots placed es i t.index u.index d sequence every few describe lt index tells.index;
-  newest = newest ∙ ap (λ (m : Newest). Some m) same ∙ sym (ap (option_map newest_of) (ap last more ∙ last_behind (take i placed) at []));
-  ending = ending ∙ ap (λ (o : Option Ending). later o (option_map ending_by (get_or es i d).survey.extent)) tells.ending
-      ∙ ap (λ (o : Option Extent). later (ending_in (batches_in (take i placed))) (option_map ending_by o)) described.survey.extent
-      ∙ sym (ending_push (take i placed) at) ∙ ap (λ (ps : List Placed). ending_in (batches_in ps)) (sym more);
-}
-  where
-    at : Placed
-    at = get_or placed i nothing
-
-    described : Describes at (get_or es i d)
-    described = described_at placed es i nothing d describe lt
-
-    more : take (i + 1) placed ≡ take i placed ++ at ∷ []
-    more = take_more placed i nothing (let k = described_length placed es describe in omega (arith, k, lt))
-
-    same : newest_by (get_or es i d) ≡ newest_of at
-    same = λ j. record { slot = described.slot j; seq = described.seq j; first = described.first j; end = described.survey.end j }

@@ -26,6 +26,12 @@ abbrev pub has_no_summary : Option Summary → Bool
 has_no_summary None = true
 has_no_summary (Some s) = false
 
+-- The newest of these has no summary.
+abbrev pub EndsBare : List Placed → Type 0
+EndsBare [] = ⊤
+EndsBare (p ∷ []) = p.segment.header.summary ≡ None
+EndsBare (p ∷ q ∷ ps) = EndsBare (q ∷ ps)
+
 -- A segment is to get a summary before these.
 abbrev pub is_bare : Placed → List Placed → Bool
 is_bare p rest = has_no_summary p.segment.header.summary && may_have_summary rest

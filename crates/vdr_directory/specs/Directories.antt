@@ -4,7 +4,6 @@ use Rattle.vdr_entry.specs.declared.summary.Summary.{Summary}
 use Rattle.vdr_segment.specs.Segments.{end_of}
 use Rattle.vdr_survey.specs.declared.extent.Extent.{Extent}
 use Rattle.vdr_index.specs.declared.known.Known.{Known}
-use Rattle.vdr_directory.specs.declared.entry.Entry.{Entry}
 use Rattle.vdr_directory.specs.declared.newest.Newest.{Newest}
 use Rattle.vdr_directory.specs.declared.newest.Ending.{Ending}
 use Rattle.vdr_directory.specs.Sequence.{Placed, seq_of, first_of}
@@ -18,12 +17,9 @@ pub record DirectoryState : Type 0 where
 abbrev pub count_of : DirectoryState → ℕ
 count_of t = length t.index
 
--- What is kept of the newest segment, and what its entry says of it.
+-- What is kept of the newest segment.
 abbrev pub newest_of : Placed → Newest
 newest_of p = record { slot = p.slot; seq = seq_of p; first = first_of p; end = end_of p.segment }
-
-abbrev pub newest_by : Entry → Newest
-newest_by e = record { slot = e.slot; seq = e.seq; first = e.first; end = e.survey.end }
 
 abbrev pub slot_in : Option Newest → Option ℕ
 slot_in None = None

@@ -1,7 +1,6 @@
 -- What reading a medium's slots tells, up to its directory. Of it public clauses cite `BreaksIn` alone.
-use Rattle.std.specs.Prelude.{int_le, ◌≡◌, ◌⊎◌, ◌<◌, ◌≤◌, ◌+◌, ℕ, true, List, [], ◌∷◌, ◌++◌, map, drop, All, Contains, Option, Some, None, ⊤}
+use Rattle.std.specs.Prelude.{◌≡◌, ◌⊎◌, ◌<◌, ◌≤◌, ◌+◌, ℕ, List, [], ◌∷◌, ◌++◌, map, drop, All, Contains, Option, Some, None, ⊤}
 use Rattle.vdr_terms.specs.Records.{Record}
-use Rattle.vdr_terms.specs.Queries.{has_channel}
 use Rattle.vdr_entry.specs.declared.summary.Summary.{Summary}
 use Rattle.vdr_segment.specs.declared.header.Header.{Header}
 use Rattle.vdr_segment.specs.Segments.{AreBatches}
@@ -10,10 +9,10 @@ use Rattle.vdr_survey.specs.declared.extent.Survey.{Survey}
 use Rattle.vdr_survey.specs.Surveys.{Surveys, BreaksAt}
 use Rattle.vdr_directory.specs.declared.entry.Entry.{Entry}
 use Rattle.vdr_directory.specs.Sequence.{Placed}
-use Rattle.vdr_directory.specs.Order.{AreInOrder}
+use Rattle.vdr_directory.specs.Knowns.{AreInOrderBy}
 use Rattle.vdr_directory.specs.Entries.{Describe, slot_of}
-use Rattle.vdr_directory.specs.Holds.{HoldsPlaced}
-use Rattle.vdr_directory.specs.Opening.{front_bytes, slot_bytes}
+use Rattle.vdr_directory.specs.Indexed.{extent_by}
+use Rattle.vdr_directory.specs.Opening.{AreKnown, front_bytes, slot_bytes}
 
 -- The entry of an open slot before its segment is surveyed, and the slot by this front, where it is open.
 abbrev pub entry_of : ℕ → Header → Entry
@@ -22,7 +21,7 @@ entry_of slot header = record {
   seq = header.seq;
   first = header.first;
   summary = header.summary;
-  survey = record { end = 64; extent = None; in_order = true; summary = None };
+  survey = None;
 }
 
 abbrev pub opened_by : ℕ → Option Header → List Entry
@@ -80,29 +79,34 @@ pub record BreaksIn (segment slot : ℕ) (bytes : List ℕ) (offset : ℕ) : Typ
   pub broken : BreaksAt (slot_bytes segment slot bytes) at
   pub is : offset ≡ place_of segment slot + at
 
-abbrev pub IsSurveyed : (segment : ℕ) (bytes : List ℕ) → Entry → Type 0
-IsSurveyed segment bytes e = HasSurvey segment e.slot bytes e.first e.survey
+-- It has legal batches and this is their survey, where its header has no summary. Where it has one there is no survey.
+abbrev pub HasSurveyUnless : (segment slot : ℕ) (bytes : List ℕ) (first : ℕ) (header : Option Summary) → Option Survey → Type 0
+HasSurveyUnless segment slot bytes first None None = ⊥
+HasSurveyUnless segment slot bytes first None (Some survey) = HasSurvey segment slot bytes first survey
+HasSurveyUnless segment slot bytes first (Some s) survey = survey ≡ None
 
--- The first of these segments with a batch that is not legal has it at this offset of the medium.
+abbrev pub IsSurveyed : (segment : ℕ) (bytes : List ℕ) → Entry → Type 0
+IsSurveyed segment bytes e = HasSurveyUnless segment e.slot bytes e.first e.summary e.survey
+
+-- Of these segments, the first without a summary with a batch that is not legal has it at this offset of the medium.
 pub record BreaksAmong (segment : ℕ) (bytes : List ℕ) (entries : List Entry) (offset : ℕ) : Type 0 where
   pub before : List Entry
   pub here : Entry
   pub after : List Entry
   pub split : entries ≡ before ++ here ∷ after
   pub legal : All (IsSurveyed segment bytes) before
+  pub bare : here.summary ≡ None
   pub broken : BreaksIn segment here.slot bytes offset
 
--- The slots hold legal segments, in a legal order, and these entries tell of them.
+-- The parts of a medium that opening reads are legal and in a legal order, as far as it knows, and these entries tell of them.
 pub record Finds (segment count : ℕ) (bytes : List ℕ) (opened : List Entry) : Type 0 where
-  pub placed : List Placed
-  pub holds : HoldsPlaced segment count placed bytes
-  pub order : AreInOrder placed
-  pub describe : Describe placed opened
+  pub known : List Placed
+  pub are : AreKnown segment count bytes known
+  pub order : AreInOrderBy known
+  pub describe : Describe known opened
 
--- All that some records have in common is within a summary.
-pub record Covers (s own : Summary) : Type 0 where
-  pub first : s.first_second ≤ own.first_second
-  pub ends : own.last_second ≤ s.last_second
-  pub least : int_le s.least_utc own.least_utc ≡ true
-  pub greatest : int_le own.greatest_utc s.greatest_utc ≡ true
-  pub bits : (k : ℕ) → has_channel (Some k) own.bits ≡ true → has_channel (Some k) s.bits ≡ true
+-- The slot that is held behind these segments, in order of sequence number, is that of the newest where that was read and
+-- has batches. Where it has none it is that of the one before it, where that was read.
+pub record HoldsLatest (opened : List Entry) (held : Option ℕ) : Type 0 where
+  pub newest : (older : List Entry) (e : Entry) → opened ≡ older ++ e ∷ [] → (extent_by e.survey ≡ None → ⊥) → held ≡ Some e.slot
+  pub before : (older : List Entry) (d e : Entry) → opened ≡ older ++ d ∷ e ∷ [] → extent_by e.survey ≡ None → d.summary ≡ None → held ≡ Some d.slot

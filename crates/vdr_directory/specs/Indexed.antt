@@ -1,8 +1,10 @@
 -- What a ring's index keeps of its segments, and which of them may answer a query.
-use Rattle.std.specs.Prelude.{◌≡◌, ◌≢◌, ◌≤◌, ◌&&◌, ℕ, Bool, true, false, List, length, get_or, unwrap_or, All, Contains, Option, Some, None}
+use Rattle.std.specs.Prelude.{◌≡◌, ◌≢◌, ◌≤◌, ◌&&◌, ℕ, Bool, true, false, List, length, get_or, option_map, All, Contains, Option, Some, None}
 use Rattle.vdr_terms.specs.Records.{Record}
 use Rattle.vdr_terms.specs.Queries.{Query, Span, in_span, matches, meets}
 use Rattle.vdr_entry.specs.declared.summary.Summary.{Summary}
+use Rattle.vdr_survey.specs.declared.extent.Extent.{Extent}
+use Rattle.vdr_survey.specs.declared.extent.Survey.{Survey}
 use Rattle.vdr_index.specs.declared.known.Known.{Known}
 use Rattle.vdr_index.specs.Indexes.{summary_of}
 use Rattle.vdr_directory.specs.declared.entry.Entry.{Entry}
@@ -34,13 +36,19 @@ pub record IsIndexed (count : ℕ) (placed : List Placed) (index : List (Option 
   pub kept : All (λ p. IsKnownAs p (get_or index p.slot None)) placed
   pub clear : (j : ℕ) → All (λ p. p.slot ≢ j) placed → get_or index j None ≡ None
 
--- What an entry tells of its segment: its own summary where it has one, else that of its survey. Nothing where it has no records.
-abbrev pub known_by : (seq first : ℕ) → (header own : Option Summary) → Option Known
-known_by seq first header None = None
-known_by seq first header (Some s) = Some (record { seq = seq; first = first; summary = unwrap_or header s })
+-- What an entry tells of its segment: the summary of its header where there is one, else that of its survey. Nothing where it has
+-- no records.
+abbrev pub summary_by : Option Summary → Option Survey → Option Summary
+summary_by None None = None
+summary_by None (Some survey) = survey.summary
+summary_by (Some s) survey = Some s
+
+abbrev pub extent_by : Option Survey → Option Extent
+extent_by None = None
+extent_by (Some survey) = survey.extent
 
 abbrev pub told_by : Entry → Option Known
-told_by e = known_by e.seq e.first e.summary e.survey.summary
+told_by e = option_map (λ s. record { seq = e.seq; first = e.first; summary = s }) (summary_by e.summary e.survey)
 
 -- By what is known of it, the segment may have a record that the query selects of the span.
 pub record Meets (query : Query) (span : Span) (p : Placed) : Type 0 where

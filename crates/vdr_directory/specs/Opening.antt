@@ -1,18 +1,19 @@
--- What opening a medium refuses: the first part that is not legal. First come the headers, in order of slot; then the batches
--- of the segments, in order of sequence number; then the order of the segments (this project's profile).
-use Rattle.std.specs.Prelude.{◌≡◌, ◌⊎◌, ◌<◌, ◌+◌, ℕ, List, [], ◌∷◌, ◌++◌, All, Contains, drop, get_or, Option, Some, None, Result, IsErrOf, ⊤}
+-- What opening a medium refuses: the first part that is not legal. First come the headers, in order of slot; then, in order of
+-- sequence number, the batches of the segments whose header has no summary. Then comes the order of the segments, by what is known
+-- of them (this project's profile). No batch of another segment is read.
+use Rattle.std.specs.Prelude.{◌≡◌, ◌⊎◌, ◌<◌, ◌+◌, ℕ, List, [], ◌∷◌, ◌++◌, map, All, Contains, drop, get_or, Option, Some, None, Result, IsErrOf, ⊤}
 use Rattle.vdr_terms.specs.Records.{Record}
 use Rattle.vdr_outside.specs.Causes.{NoneFalls, Rose}
 use Rattle.vdr_outside.specs.Parts.{part}
 use Rattle.vdr_outside.specs.declared.fault.PartRefused.{PartRefused}
 use Rattle.vdr_outside.specs.declared.fault.PartRefused.TheVariants.{Fault}
+use Rattle.vdr_entry.specs.declared.summary.Summary.{Summary}
 use Rattle.vdr_segment.specs.declared.header.Header.{Header}
 use Rattle.vdr_segment.specs.Segments.{AreBatches}
 use Rattle.vdr_slots.specs.Slots.{IsFront, place_of}
 use Rattle.vdr_survey.specs.Surveys.{BreaksAt}
 use Rattle.vdr_directory.specs.Sequence.{Placed}
-use Rattle.vdr_directory.specs.Order.{Breaks}
-use Rattle.vdr_directory.specs.Holds.{HoldsPlaced}
+use Rattle.vdr_directory.specs.Knowns.{BreaksBy}
 
 -- The front of a slot, and its whole bytes.
 abbrev pub front_bytes : (segment slot : ℕ) → List ℕ → List ℕ
@@ -48,7 +49,8 @@ pub record AreHeaders (segment count : ℕ) (bytes : List ℕ) (headed : List He
   pub there : All (λ x. (x.slot < count) × IsFront (front_bytes segment x.slot bytes) (Some x.header)) headed
   pub rising : RiseBySeq headed
 
--- The first segment, in order of sequence number, with a batch that is not legal, and where the first such batch stands.
+-- The first segment, in order of sequence number, whose header has no summary and that has a batch that is not legal, and where
+-- the first such batch stands.
 pub record RefusesBatch (segment count : ℕ) (bytes : List ℕ) (offset : ℕ) : Type 0 where
   pub headed : List Headed
   pub headers : AreHeaders segment count bytes headed
@@ -56,17 +58,32 @@ pub record RefusesBatch (segment count : ℕ) (bytes : List ℕ) (offset : ℕ) 
   pub here : Headed
   pub after : List Headed
   pub split : headed ≡ before ++ here ∷ after
-  pub legal : All (λ x. (batches : List (List Record)) × AreBatches (drop 64 (slot_bytes segment x.slot bytes)) batches) before
+  pub legal : All (λ x. x.header.summary ≡ None → (batches : List (List Record)) × AreBatches (drop 64 (slot_bytes segment x.slot bytes)) batches) before
+  pub bare : here.header.summary ≡ None
   pub at : ℕ
   pub broken : BreaksAt (slot_bytes segment here.slot bytes) at
   pub is : offset ≡ place_of segment here.slot + at
 
--- All segments are legal, and this is the first that breaks the order in the medium.
+-- The batches of a segment, as opening reads them: all where its header has no summary, and else none.
+abbrev pub AreBatchesRead : Option Summary → List ℕ → List (List Record) → Type 0
+AreBatchesRead None bytes batches = AreBatches bytes batches
+AreBatchesRead (Some s) bytes batches = batches ≡ []
+
+abbrev pub headed_of : Placed → Headed
+headed_of p = record { slot = p.slot; header = p.segment.header }
+
+-- These are the open slots of a medium as opening knows them, in order of sequence number. All headers are legal, and so are the
+-- batches of those without a summary.
+pub record AreKnown (segment count : ℕ) (bytes : List ℕ) (known : List Placed) : Type 0 where
+  pub headers : AreHeaders segment count bytes (map headed_of known)
+  pub batches : All (λ p. AreBatchesRead p.segment.header.summary (drop 64 (slot_bytes segment p.slot bytes)) p.segment.batches) known
+
+-- All that is read of the segments is legal, and this is the first that breaks the order in the medium.
 pub record RefusesOrder (segment count : ℕ) (bytes : List ℕ) (offset : ℕ) : Type 0 where
-  pub placed : List Placed
-  pub holds : HoldsPlaced segment count placed bytes
+  pub known : List Placed
+  pub are : AreKnown segment count bytes known
   pub here : Placed
-  pub breaks : Breaks None placed here
+  pub breaks : BreaksBy None known here
   pub at : offset ≡ place_of segment here.slot
 
 abbrev pub Refuses : (segment count : ℕ) → List ℕ → ℕ → Type 0

@@ -1,9 +1,9 @@
 -- The order in a medium: how each segment stands among the others (this project's profile).
-use Rattle.std.specs.Prelude.{◌≡◌, ◌⊎◌, ◌<◌, ◌≤◌, ◌+◌, ◌^◌, ℕ, suc, true, int_le, List, [], ◌∷◌, length, slice_get, All, Option, Some, None, IfSome, ⊤}
+use Rattle.std.specs.Prelude.{◌≡◌, ◌⊎◌, ◌<◌, ◌≤◌, ◌+◌, ◌^◌, ℕ, suc, List, [], ◌∷◌, length, slice_get, All, Option, Some, None, IfSome, ⊤}
 use Rattle.vdr_terms.specs.Records.{Record, last, last_after, second}
 use Rattle.vdr_terms.specs.Order.{RunOn, NeverFalls}
-use Rattle.vdr_terms.specs.Queries.{has_channel}
 use Rattle.vdr_entry.specs.declared.summary.Summary.{Summary}
+use Rattle.vdr_survey.specs.Audits.{IsCovered}
 use Rattle.vdr_directory.specs.Sequence.{Placed, seq_of, first_of, records_of}
 
 -- The place after a segment's last record, of one without records its first place.
@@ -19,14 +19,6 @@ pub record RunsOn (p : Placed) : Type 0 where
   pub by_place : seq_of p ≤ first_of p
   pub places : RunOn (first_of p) (records_of p)
   pub ticks : NeverFalls 0 (records_of p)
-
--- A record is within a summary of its segment.
-pub record IsCovered (s : Summary) (r : Record) : Type 0 where
-  pub no_earlier : s.first_second ≤ second r.tick
-  pub no_later : second r.tick ≤ s.last_second
-  pub least : int_le s.least_utc r.utc ≡ true
-  pub greatest : int_le r.utc s.greatest_utc ≡ true
-  pub bits : (k : ℕ) → has_channel (Some k) r.bits ≡ true → has_channel (Some k) s.bits ≡ true
 
 -- A segment agrees with its summary: it has as many records, and each is within it. The summary may be wider than
 -- its records.

@@ -8,14 +8,17 @@ ghost use Rattle.vdr_directory.specs.declared.newest.Newest.{Newest as ANewest};
 ghost use Rattle.vdr_directory.specs.Sequence.{Placed};
 ghost use Rattle.vdr_directory.specs.Order.{AreInOrder};
 ghost use Rattle.vdr_directory.specs.Entries.{Describe};
-ghost use Rattle.vdr_directory.specs.Directories.{count_of, ending_by, later, newest_by, slot_in, summary_at};
-ghost use Rattle.vdr_directory.specs.Indexed.{told_by};
+ghost use Rattle.vdr_directory.specs.Directories.{count_of, ending_by, slot_in, summary_at};
+ghost use Rattle.vdr_directory.specs.Indexed.{IsIndexed, told_by};
 ghost use Rattle.vdr_directory.specs.Holds.{HoldsPlaced, Tells};
+ghost use Rattle.vdr_directory.specs.Knowns.{AreInOrderBy};
+ghost use Rattle.vdr_directory.specs.Opening.{AreKnown};
+ghost use Rattle.vdr_directory.specs.Telling.{IsIndexedBy, TellsBy};
 ghost use Rattle.vdr_directory.specs.Leaving.{IsLeftBehind, LeavesNone};
 ghost use Rattle.vdr_directory.specs.Closed.{IsFull, IsLeastClosed};
 
 use crate::entry::Entry;
-use crate::newest::{Ending, Newest, ending_by, ending_of};
+use crate::newest::{Ending, Newest, ending_among, ending_of, newest_among};
 use std::alloc::Global;
 use std::marker::Model;
 use vdr_entry::{Record, Summary};
@@ -23,8 +26,8 @@ use vdr_index::{Index, NoMemory};
 use vdr_segment::HEADER_SIZE;
 use vdr_survey::summary_with;
 
-/// What is known of the segments of a medium without reading them. The slot of each that has records has it in the index; the newest
-/// may have none, and then its slot is clear there. But for `of` nothing takes memory.
+/// What is known of the segments of a medium without reading them. The slot of each that has records has it in the
+/// index; the newest may have none, and then its slot is clear there. But for `of` nothing takes memory.
 #[derive(Drop)]
 pub struct Directory {
     index: Index,
@@ -62,45 +65,49 @@ impl Directory {
         requires { entry.now.slot < count_of self.old }
         ensures { self.new ≡ record self.old { index = set self.old.index entry.now.slot (told_by entry.now) } }
     {
-        match entry.survey.summary {
+        match entry.known_summary() {
             None => self.index.clear(entry.slot),
-            Some(own) => {
-                let summary = entry.summary.unwrap_or(own);
-                self.index.set(entry.slot, entry.seq, entry.first, summary);
-            }
+            Some(summary) => self.index.set(entry.slot, entry.seq, entry.first, summary),
         }
     }
 
-    // Takes down the segment of an entry, which comes behind all others.
-    fn add(&mut self, entry: &Entry)
-        requires { entry.now.slot < count_of self.old }
-        ensures index { self.new.index ≡ set self.old.index entry.now.slot (told_by entry.now) }
-        ensures newest { self.new.newest ≡ Some (newest_by entry.now) }
-        ensures ending { self.new.ending ≡ later self.old.ending (option_map ending_by entry.now.survey.extent) }
+    // A directory of so many slots whose index knows of these segments.
+    fn of_all(alloc: Global, slots: u32, opened: &[Entry]) -> Result<Directory, NoMemory>
+        requires { All (λ e. e.slot < slots) opened.now }
+        ensures size { IfOk result (λ t. count_of t ≡ slots) }
+        ensures told { IfOk result (λ t. (segment : ℕ) (placed : List Placed) (bytes : List ℕ) → segment < 2 ^ 32 → HoldsPlaced segment slots placed bytes
+            → AreInOrder placed → Describe placed opened.now → IsIndexed slots placed t.index) }
+        ensures known { IfOk result (λ t. (segment : ℕ) (known : List Placed) (bytes : List ℕ) → segment < 2 ^ 32 → AreKnown segment slots bytes known
+            → AreInOrderBy known → Describe known opened.now → IsIndexedBy slots known t.index) }
     {
-        self.tell(entry);
-        self.newest = Some(Newest {
-            slot: entry.slot,
-            seq: entry.seq,
-            first: entry.first,
-            end: entry.survey.end,
-        });
-        if let Some(extent) = entry.survey.extent {
-            self.ending = Some(ending_by(extent));
+        let mut directory = Directory::with_slots(alloc, slots)?;
+        for entry in opened {
+            directory.tell(entry);
         }
+        Ok(directory)
     }
 
-    /// The directory of a medium of so many slots with these open segments, in order of sequence number. All other slots are closed.
+    // Takes down the newest segment, and the end of the records.
+    fn end_with(&mut self, newest: Option<Newest>, ending: Option<Ending>)
+        requires { IfSome newest (λ n. n.slot < count_of self.old) }
+        ensures { self.new ≡ record self.old { newest = newest; ending = ending } }
+    {
+        self.newest = newest;
+        self.ending = ending;
+    }
+
+    /// The directory of a medium of so many slots with these open segments, in order of sequence number. All other
+    /// slots are closed.
     pub fn of(alloc: Global, slots: u32, opened: &[Entry]) -> Result<Directory, NoMemory>
         requires { All (λ e. e.slot < slots) opened.now }
         ensures size { IfOk result (λ t. count_of t ≡ slots) }
         ensures told { IfOk result (λ t. (segment : ℕ) (placed : List Placed) (bytes : List ℕ) → segment < 2 ^ 32 → HoldsPlaced segment slots placed bytes
-            → Describe placed opened.now → Tells slots placed t) }
+            → AreInOrder placed → Describe placed opened.now → Tells slots placed t) }
+        ensures known { IfOk result (λ t. (segment : ℕ) (known : List Placed) (bytes : List ℕ) → segment < 2 ^ 32 → AreKnown segment slots bytes known
+            → AreInOrderBy known → Describe known opened.now → TellsBy slots known t) }
     {
-        let mut directory = Directory::with_slots(alloc, slots)?;
-        for entry in opened {
-            directory.add(entry);
-        }
+        let mut directory = Directory::of_all(alloc, slots, opened)?;
+        directory.end_with(newest_among(opened), ending_among(opened));
         Ok(directory)
     }
 
@@ -139,8 +146,8 @@ impl Directory {
         }
     }
 
-    /// Where the newest segment has no records: the slot of the one before it, and the summary of its records. None where
-    /// there is no such segment.
+    /// Where the newest segment has no records: the slot of the one before it, and the summary of its records. None
+    /// where there is no such segment.
     pub fn left_behind(&self) -> Option<(u32, Summary)>
         ensures within { IfSome result (λ x. x.0 < count_of self.now) }
         ensures left { (placed : List Placed) → Tells (count_of self.now) placed self.now → (1 < length placed → AreInOrder placed)

@@ -1,5 +1,8 @@
+ghost use Rattle.std.specs.Prelude.{◌≡◌};
+ghost use Rattle.vdr_directory.specs.Indexed.{extent_by, summary_by};
+
 use vdr_entry::Summary;
-use vdr_survey::Survey;
+use vdr_survey::{Extent, Survey};
 
 /// What opening a medium finds of an open segment.
 #[derive(Clone, Copy, Debug, PartialEq, Eq, Drop)]
@@ -12,6 +15,26 @@ pub struct Entry {
     pub first: u64,
     /// The summary in its header. None where its gate is closed.
     pub summary: Option<Summary>,
-    /// What its batches come to.
-    pub survey: Survey,
+    /// What its batches come to. None where the header has a summary: then they are not read.
+    pub survey: Option<Survey>,
+}
+
+impl Entry {
+    // From where to where its records reach. None where there is none, and where they are not read.
+    pub(crate) fn extent(&self) -> Option<Extent>
+        ensures { result ≡ extent_by self.now.survey }
+    {
+        self.survey?.extent
+    }
+
+    // What is known of its records: the summary of its header where there is one, else that of its survey. None where
+    // it has no records.
+    pub(crate) fn known_summary(&self) -> Option<Summary>
+        ensures { result ≡ summary_by self.now.summary self.now.survey }
+    {
+        match self.summary {
+            Some(summary) => Some(summary),
+            None => self.survey?.summary,
+        }
+    }
 }

@@ -1,5 +1,6 @@
 // What the fronts of a medium's slots tell: which are open, and their headers.
-ghost use Rattle.std.specs.Prelude.{◌≡◌, ◌++◌, ◌<◌, ℕ, Option, IfOk, OnOk, map};
+ghost use Rattle.std.specs.Prelude.{◌≡◌, ◌++◌, ◌<◌, ◌*◌, ℕ, Option, IfOk, OnOk, map};
+ghost use Rattle.vdr_outside.specs.Causes.{counted};
 ghost use Rattle.vdr_outside.specs.Disk.{Unchanged, content};
 ghost use Rattle.vdr_outside.specs.declared.fault.PartRefused.TheVariants.{Damaged};
 ghost use Rattle.vdr_segment.specs.declared.header.Header.{Header as AHeader};
@@ -7,6 +8,7 @@ ghost use Rattle.vdr_slots.specs.Areas.{HasRoom};
 ghost use Rattle.vdr_slots.specs.Slots.{IsFront, place_of};
 ghost use Rattle.vdr_directory.specs.Entries.{slot_of};
 ghost use Rattle.vdr_directory.specs.Opening.{HasFaultCause, RefusesHeader, front_bytes};
+ghost use Rattle.vdr_directory.specs.Costs.{ReadsAtMost};
 ghost use Rattle.vdr_directory.specs.Fronts.{AreSlots, Ascends, TellFronts, opened_by};
 
 use crate::entry::Entry;
@@ -14,7 +16,6 @@ use std::alloc::{AllocError, Global};
 use vdr_outside::{Media, PartRefused};
 use vdr_segment::{HEADER_SIZE, Header, OPEN_GATE, read_header};
 use vdr_slots::{Area, read_front};
-use vdr_survey::Survey;
 
 // Adds a slot with this header, if it is open.
 fn add(opened: &mut Vec<Entry>, slot: u32, front: Option<Header>) -> Result<(), AllocError>
@@ -28,7 +29,7 @@ fn add(opened: &mut Vec<Entry>, slot: u32, front: Option<Header>) -> Result<(), 
         seq: header.seq,
         first: header.first,
         summary: header.summary,
-        survey: Survey::empty(),
+        survey: None,
     })?;
     Ok(())
 }
@@ -41,6 +42,7 @@ fn header_in<M: Media>(media: &mut M, area: Area, slot: u32) -> Result<Option<He
     ensures damaged { (k offset : ℕ) → result ≡ Err (Damaged k offset) → (k ≡ area.medium) × (offset ≡ place_of area.segment slot)
         × (M.tells → (front : Option AHeader) → IsFront (front_bytes area.segment slot (content (M.disk media.old).reads area.medium)) front → ⊥) }
     ensures unchanged { Unchanged (M.disk media.old) (M.disk media.new) }
+    ensures counts { M.bytes_read media.new ≡ counted (M.bytes_read media.old) area.medium 64 }
     ensures cause { HasFaultCause area.medium (M.faults media.old) (M.faults media.new) result }
 {
     let mut bytes = [0; HEADER_SIZE];
@@ -72,6 +74,7 @@ pub(crate) fn read_fronts<M: Media>(
     ensures damaged { (k offset : ℕ) → result ≡ Err (Damaged k offset) → (k ≡ area.medium)
         × (M.tells → RefusesHeader area.segment area.slots (content (M.disk media.old).reads area.medium) offset) }
     ensures unchanged { Unchanged (M.disk media.old) (M.disk media.new) }
+    ensures counts { ReadsAtMost area.medium (64 * area.slots) (M.bytes_read media.old) (M.bytes_read media.new) }
     ensures cause { HasFaultCause area.medium (M.faults media.old) (M.faults media.new) result }
 {
     let Ok(mut opened) = Vec::with_capacity(alloc, area.slots as usize) else {

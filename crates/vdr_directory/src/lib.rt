@@ -14,6 +14,6 @@ mod surveys;
 pub use bare::bare_slots;
 pub use directory::Directory;
 pub use entry::Entry;
-pub use law::law_of_opening;
+pub use law::{law_of_knowns, law_of_opening};
 pub use newest::{Ending, Newest};
 pub use segments::read_segments;

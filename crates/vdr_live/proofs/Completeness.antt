@@ -108,8 +108,8 @@ module _ {tells tells_images : Type 0} (turns : ℕ) (ports_old ports_new : List
 
       all_of : (o : Outcome) (summary : List ℕ) (status : Status) → end.outcome ≡ o → PrintsSession o summary status was next → RecordsAll old.disk.reads status
       all_of outcomes.Done summary status is (inl done) = subst (λ (s : Status). RecordsAll old.disk.reads s) (sym done.0) (record {
-        unformatted = λ un. absurd (never_both old.disk.reads (ends.legible told).0 un);
-        damaged = λ f m offset r. let l = ends.legible told in absurd (law.either l.1 m offset l.2 l.3 r);
+        unformatted = λ un. absurd (never_both old.disk.reads (ends.openable told).0 un);
+        damaged = λ f m offset r. let l = ends.openable told in absurd (law.opens l.1 m offset l.2 l.3 r);
         place = λ x holds meet sound high. absurd (too_high (opening_of x).next_place high (means outcomes.Done is x holds sound).place);
         tick = λ x holds meet sound low high. absurd (too_high (base_after (opening_of x).last) high (means outcomes.Done is x holds sound).base);
         done = λ x holds meet sound may. tt;
@@ -123,15 +123,15 @@ module _ {tells tells_images : Type 0} (turns : ℕ) (ports_old ports_new : List
         done = λ x holds meet sound may. tt;
       })
       all_of outcomes.Place summary status is p = subst (λ (s : Status). RecordsAll old.disk.reads s) (sym p.0) (record {
-        unformatted = λ un. absurd (never_both old.disk.reads (ends.legible told).0 un);
-        damaged = λ f m offset r. let l = ends.legible told in absurd (law.either l.1 m offset l.2 l.3 r);
+        unformatted = λ un. absurd (never_both old.disk.reads (ends.openable told).0 un);
+        damaged = λ f m offset r. let l = ends.openable told in absurd (law.opens l.1 m offset l.2 l.3 r);
         place = λ x holds meet sound high. inl refl;
         tick = λ x holds meet sound low high. absurd (too_high (opening_of x).next_place (means outcomes.Place is x holds sound) low);
         done = λ x holds meet sound may. absurd (too_high (opening_of x).next_place (means outcomes.Place is x holds sound) may.place);
       })
       all_of outcomes.Tick summary status is p = subst (λ (s : Status). RecordsAll old.disk.reads s) (sym p.0) (record {
-        unformatted = λ un. absurd (never_both old.disk.reads (ends.legible told).0 un);
-        damaged = λ f m offset r. let l = ends.legible told in absurd (law.either l.1 m offset l.2 l.3 r);
+        unformatted = λ un. absurd (never_both old.disk.reads (ends.openable told).0 un);
+        damaged = λ f m offset r. let l = ends.openable told in absurd (law.opens l.1 m offset l.2 l.3 r);
         place = λ x holds meet sound high. absurd (too_high (opening_of x).next_place high (means outcomes.Tick is x holds sound).0);
         tick = λ x holds meet sound low high. inl refl;
         done = λ x holds meet sound may. absurd (too_high (base_after (opening_of x).last) (means outcomes.Tick is x holds sound).1 may.base);

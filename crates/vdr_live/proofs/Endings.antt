@@ -8,7 +8,6 @@ use Rattle.vdr_outside.specs.Disk.{Image}
 use Rattle.vdr_outside.specs.declared.port.Port.{Ghosts as PortTells}
 use Rattle.vdr_outside.proofs.Counts.{rose_after, sum_not_less}
 use Rattle.vdr_config.specs.Configuration.{Configuration}
-use Rattle.vdr_media.specs.Formatted.{IsFormatted}
 use Rattle.vdr_opening.specs.Media.{members, Contents, HoldsContents, opening_of, reading_of}
 use Rattle.vdr_vault.specs.Calls.{SameElsewhere}
 use Rattle.vdr_vault.specs.Openings.{OpensAtEachMoment}
@@ -25,6 +24,7 @@ use Rattle.vdr_session.specs.declared.session.SessionEnd.{SessionEnd}
 use Rattle.vdr_headline.proofs.Passing.{passes_opened}
 use Rattle.vdr_headline.proofs.Playing.{config_read}
 use Rattle.vdr_command.specs.Opened.{WasRecorded}
+use Rattle.vdr_command.proofs.OpenedLemmas.{OpenedOn, TellsOn, opened_so}
 use Rattle.vdr_command.specs.Outside.{MediaSeen}
 use Rattle.vdr_live.specs.Links.{AreReplied, seen_links}
 use Rattle.vdr_live.specs.Ports.{seen_ports}
@@ -39,8 +39,7 @@ same_twice old mid new first then = λ k a b. then k a b ∙ first k a b
 
 module _ {P L tells tells_images : Type 0} (port_tells : PortTells P) (link_tells : LinkTells L) (turns : ℕ) (lanes_old lanes_new : List (Lane P)) (desks_old desks_new : List (Desk L Mark)) (old mid new : MediaSeen tells tells_images) (r : RecorderState) (end : SessionEnd)
     (olds : length lanes_old ≡ 16) (news : length lanes_new ≡ 16)
-    (contents : tells → IsFormatted old.disk.reads × (x : Contents) × HoldsContents old.disk.reads x × EndsMeet members (reading_of x) × (r.vault.config ≡ x.config))
-    (one : (x y : Contents) → HoldsContents old.disk.reads x → HoldsContents old.disk.reads y → (x.config ≡ y.config) × (EndsMeet members (reading_of x) → EndsMeet members (reading_of y)))
+    (parts : OpenedOn old.disk r.vault) (contents : TellsOn old.disk r.vault)
     (opened : (x : Contents) → tells → HoldsContents old.disk.reads x → WasRecorded x → (t0 : ℕ) × (old.disk.clock ≤ t0) × (t0 ≤ mid.disk.clock) × HasRecorded (opening_of x) [] t0 r mid.disk)
     (moments : (x : Contents) → tells → HoldsContents old.disk.reads x → EndsMeet members (reading_of x) → WasRecorded x
     → OpensAtEachMoment {T = RecorderState} old.disk mid.disk (Ok r) (ShowsHistory (opening_of x) []))
@@ -64,9 +63,9 @@ module _ {P L tells tells_images : Type 0} (port_tells : PortTells P) (link_tell
     links = asks_links link_tells turns end.outcome lanes_new desks_old desks_new desks told;
     groups = groups;
     recorded = λ x t holds sound.
-        let was = contents t in
-        let same = was.4 ∙ (one was.1 x was.2 holds).0 in
-        let meet = (one was.1 x was.2 holds).1 was.3 in
+        let was = contents x t holds in
+        let same = was.1.config in
+        let meet = was.0 in
         let begun = opened x t holds sound in
         let reads = config_read old.disk.reads x holds in
         let made = session.told t (opening_of x) begun.0 begun.3 in
@@ -78,7 +77,7 @@ module _ {P L tells tells_images : Type 0} (port_tells : PortTells P) (link_tell
         turns (seen_links link_tells desks_old) (seen_links link_tells desks_new)
         (subst (λ (c : Configuration). AreReplied turns c.channels rose end.outcome (opening_of x) made.0 (seen_links link_tells desks_old) (seen_links link_tells desks_new)) same
         (are_replied link_tells turns r.vault.config.channels (Rose (sum mid.faults) (sum new.faults)) rose end.outcome (opening_of x) made.0 desks_old desks_new desks.as_many since made.3));
-    legible = λ t. let was = contents t in (was.0, was.1, was.2, was.3, ap (λ (c : Configuration). c.groups) (sym was.4));
+    openable = opened_so (λ x. x.config.groups ≡ r.vault.config.groups) old.disk r.vault parts (λ x read. ap (λ (c : Configuration). c.groups) (sym read.config));
     others = λ t. same_twice old.disk.reads mid.disk.reads new.disk.reads (first_others t) (others t);
     fault = risen;
   }

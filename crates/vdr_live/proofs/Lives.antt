@@ -23,7 +23,7 @@ use Rattle.vdr_live.specs.Recordings.{RecordingEnds}
 
 module _ {tells tells_images : Type 0} (turns : ℕ) (ports_old ports_new : List PortSeen) (links_old links_new : List LinkSeen) (old new : MediaSeen tells tells_images) where
   pub record_lives : (answer : Result SessionEnd OpenRefused) → RecordingEnds turns ports_old ports_new links_old links_new old new answer → tells_images → AreOurs old.disk → StayOurs old.disk new.disk
-  record_lives (Ok end) ends told ours = ours_opened old.disk new.disk told ours (λ t un. absurd (never_both old.disk.reads (ends.legible t).0 un)) (λ x t holds meet sound.
+  record_lives (Ok end) ends told ours = ours_opened old.disk new.disk told ours (λ t un. absurd (never_both old.disk.reads (ends.openable t).0 un)) (λ x t holds meet sound.
       headline_ours x (AccountsForSession x (MediaFailed old new) _ turns links_old links_new end)
       ((end.outcome ≡ MediaFault) × MediaFailed old new) old.disk new.disk (ends.recorded x t holds sound))
   record_lives (Err refused) ends told ours = media_lives old new (status_of_opening refused) ends.media told ours

@@ -17,7 +17,7 @@ use Rattle.vdr_capture.specs.declared.sums.Outcome.TheVariants as outcomes
 use Rattle.vdr_session.specs.Sessions.{HasGroups, is_closed}
 use Rattle.vdr_session.specs.declared.session.SessionEnd.{SessionEnd}
 use Rattle.vdr_command.specs.Endings.{IsDone}
-use Rattle.vdr_command.specs.Opened.{IsLegibleWith, MediaEnds, WasRecorded}
+use Rattle.vdr_command.specs.Opened.{IsOpenableWith, MediaEnds, WasRecorded}
 use Rattle.vdr_command.specs.Statuses.{status_of_opening}
 use Rattle.vdr_command.specs.Outside.{MediaFailed, MediaSeen, NothingFailed, OutputFailed, OutputSeen, Outside, Prints, PrintsFront, Writes}
 use Rattle.vdr_tool.specs.Summaries.{summary_text}
@@ -81,7 +81,7 @@ module _ {tells tells_images : Type 0} (turns : ℕ) (ports_old ports_new : List
     -- one history of what the ports gave, whole and at every moment, and in it the orders of the links
     pub recorded : (x : Contents) → tells → HoldsContents old.disk.reads x → WasRecorded x
         → SessionHeadline x (MediaFailed old new) given turns links_old links_new end old.disk new.disk
-    pub legible : tells → IsLegibleWith old.disk.reads (λ x. x.config.groups ≡ rates)
+    pub openable : tells → IsOpenableWith old.disk.reads (λ x. x.config.groups ≡ rates)
     pub others : tells → SameElsewhere old.disk.reads new.disk.reads
     pub fault : end.outcome ≡ outcomes.MediaFault → MediaFailed old new
 

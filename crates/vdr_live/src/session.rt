@@ -9,7 +9,7 @@ use std::alloc::Global;
 use std::sync::Wait;
 use std::thread::Threads;
 use vdr_capture::Lane;
-use vdr_opening::{OpenRefused, law_of_contents};
+use vdr_opening::OpenRefused;
 use vdr_outside::{Link, Media, Port};
 use vdr_recorder::Recorder;
 use vdr_session::{Desk, Mark, SessionEnd, record_at_desks};
@@ -39,7 +39,6 @@ pub(crate) fn record_ports<
         (record { disk = M.disk media.new; faults = M.faults media.new; bytes_read = M.bytes_read media.new }) result }
     ensures sizes { (M.disk media.new).sizes ≡ (M.disk media.old).sizes }
 {
-    law_of_contents();
     let recorder = Recorder::open(alloc, media)?;
     Ok(record_at_desks(rt, alloc, recorder, media, lanes, desks, turns))
 }

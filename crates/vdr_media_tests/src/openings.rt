@@ -7,7 +7,7 @@ use std::test::Fail;
 use vdr_entry::Record;
 use vdr_media::format;
 use vdr_memory::RamMedia;
-use vdr_opening::{OpenRefused, law_of_contents, law_of_refusals, read_media};
+use vdr_opening::{OpenRefused, law_of_contents, law_of_parts, law_of_refusals, read_media};
 use vdr_outside::Media;
 use vdr_segment::write_batch;
 use vdr_slots::{Area, append_batch, begin_segment};
@@ -155,6 +155,7 @@ fn media_are_opened_or_refused_at_their_first_illegal_part(rt: HostRuntime) -> R
         assert!(&rt; try_case(&rt, rt.alloc(), case)? == case.2);
     }
     law_of_contents();
+    law_of_parts();
     law_of_refusals();
     Ok(())
 }

@@ -1,3 +1,4 @@
+mod belied;
 mod bringing;
 mod capsule;
 mod choice;

@@ -9,8 +9,8 @@ use vdr_memory::{Call, MemoryMedia, RamMedia, Torn, Work};
 use vdr_outside::{Fault, Media};
 use vdr_segment::{HEADER_SIZE, OPEN_GATE, Walk, walk, write_batch};
 use vdr_slots::{
-    Area, append_batch, begin_segment, close_slot, law_of_fronts, law_of_slots, read_front,
-    read_slot, summarize,
+    Area, append_batch, begin_segment, close_slot, law_of_fronts, law_of_slots, read_first_gate,
+    read_front, read_slot, summarize,
 };
 
 // Two slots of 8,192 bytes on medium 1, which has room for them.
@@ -137,6 +137,8 @@ fn batches_in(
     let mut slot = vec![in alloc; 0; area.segment as usize]?;
     assert!(rt; read_slot(&mut media, area, 1, &mut slot).is_ok());
     assert!(rt; slot.starts_with(&front));
+    let area = area_on(rt, &media);
+    assert!(rt; read_first_gate(&mut media, area, 1).ok() == slot.get(64).copied());
     if front[0] != OPEN_GATE {
         return Ok(None);
     }

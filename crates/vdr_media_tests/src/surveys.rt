@@ -1,7 +1,8 @@
 use vdr_entry::{Record, Summary};
 use vdr_segment::write_batch;
 use vdr_survey::{
-    Extent, Position, Survey, law_of_positions, law_of_surveys, step, summary_with, survey,
+    Extent, Position, Survey, audit, law_of_audits, law_of_positions, law_of_surveys, step,
+    summary_with, survey,
 };
 
 /// The second batch begins at 163 and ends at 212, where a closed gate stands.
@@ -81,6 +82,54 @@ fn a_survey_tells_end_extent_and_order(rt: HostRuntime) {
     }
     assert!(rt; survey(&segment, 39) == Ok(unordered));
     law_of_surveys();
+}
+
+#[test]
+fn an_audit_tells_where_a_segment_differs_from_a_summary(rt: HostRuntime) {
+    let (segment, _) = two_batches();
+    for (summary, want) in [
+        (SUMMARY, Ok(())),
+        (
+            Summary {
+                last_second: 9,
+                bits: 0b1111,
+                ..SUMMARY
+            },
+            Ok(()),
+        ),
+        (
+            Summary {
+                count: 4,
+                ..SUMMARY
+            },
+            Err(212),
+        ),
+        (
+            Summary {
+                count: 2,
+                ..SUMMARY
+            },
+            Err(163),
+        ),
+        (
+            Summary {
+                greatest_utc: UTC + 399,
+                ..SUMMARY
+            },
+            Err(163),
+        ),
+        (
+            Summary {
+                bits: 0b101,
+                ..SUMMARY
+            },
+            Err(64),
+        ),
+    ] {
+        assert!(rt; audit(&segment, 40, &summary) == want, "{summary:?}");
+    }
+    assert!(rt; audit(&segment, 39, &SUMMARY) == Err(64));
+    law_of_audits();
 }
 
 /// The places of the records that steps give, and the offset at which they break, None where they end.

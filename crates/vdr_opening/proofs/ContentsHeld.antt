@@ -1,5 +1,5 @@
 -- An image holds one list of contents.
-use Rattle.std.proofs.Common.{◌≡◌, ℕ, ◌+◌, ◌<◌, ◌≤◌, ◌^◌, List, [], length, Option, Result, Ok, inl, inr, sym, ap, ◌∙◌, subst, append-nil, arith, ◌↔◌, suc, Bool, true, false, ◌∷◌, ◌++◌, get_or, take, drop, Some, None, refl, IsTrue, add-one, drop-cons}
+use Rattle.std.proofs.Common.{◌≡◌, All, ℕ, ◌+◌, ◌<◌, ◌≤◌, ◌^◌, List, [], length, Option, Result, Ok, inl, inr, sym, ap, ◌∙◌, subst, append-nil, arith, ◌↔◌, suc, Bool, true, false, ◌∷◌, ◌++◌, get_or, take, drop, Some, None, refl, IsTrue, add-one, drop-cons}
 use Rattle.vdr_history.specs.Histories.{Incident, live}
 use Rattle.vdr_bytes.specs.Numbers.{le_u32, u32_at}
 use Rattle.vdr_bytes.proofs.NumberLemmas.{read_u32}
@@ -16,15 +16,14 @@ use Rattle.vdr_config.specs.Configuration.{Configuration}
 use Rattle.vdr_config.specs.Grammar.{configuration}
 use Rattle.vdr_terms.specs.Slots.{slot_count}
 use Rattle.vdr_media.specs.Layout.{text_from}
-use Rattle.vdr_media.specs.Medium.{HoldsText}
+use Rattle.vdr_media.specs.Medium.{HoldsText, IsSuperblock}
 use Rattle.vdr_media.specs.Formatted.{IsUnformatted}
 use Rattle.vdr_media.proofs.Rooms.{text_fits}
-use Rattle.vdr_opening.specs.Media.{HasFront, HasSegments, Contents, HoldsContents, AreThere}
-use Rattle.vdr_opening.specs.Refusals.{AreLegal}
+use Rattle.vdr_opening.specs.Media.{members, HasFront, HasSegments, IsMedium, Contents, HoldsContents, AreThereBy}
 use Rattle.std.specs.Prelude.{option_and_then}
 use Rattle.std.proofs.lemmas.List.{take-append-drop, length-take-le, get_or-take}
 use Rattle.std.proofs.lemmas.Option.{slice_get-get_or}
-use Rattle.vdr_directory.specs.Lookup.{HoldAll}
+use Rattle.vdr_directory.specs.Telling.{HoldAllBy}
 use Rattle.vdr_opening.specs.Parts.{IsThere, LacksPlaces}
 
 -- One medium
@@ -66,9 +65,18 @@ one_segments : {c d : Configuration} {ps qs : List Placed} {bytes : List ℕ} �
 one_segments {c} {d} {ps} {qs} {bytes} same h k =
     one_placed (subst (λ (e : Configuration). HoldsPlaced e.segment (slot_count e.segment (length bytes)) ps bytes) same h.holds) k.holds
 
+-- Their incident slots hold one table.
+pub table_once : {c d : Configuration} {xs ys : List (Option Incident)} {bytes : List ℕ} → c ≡ d → HoldsTable c.incident_slots xs bytes → HoldsTable d.incident_slots ys bytes → xs ≡ ys
+table_once {c} {d} {xs} {ys} {bytes} same held kept =
+    one_table d.incident_slots xs ys bytes (subst (λ (e : Configuration). HoldsTable e.incident_slots xs bytes) same held) kept
+
 -- Legal media
 
-module _ {image : Image} {c d : Configuration} {s t : List ℕ} {ps qs : ℕ → List Placed} (h : AreLegal image c s ps) (k : AreLegal image d t qs) where
+-- Each medium is legal, with one configuration.
+pub record AreMedia (image : Image) (c : Configuration) (text : List ℕ) (placed : ℕ → List Placed) : Type 0 where
+  pub each : All (λ m. IsMedium m c text (placed m) (content image m)) members
+
+module _ {image : Image} {c d : Configuration} {s t : List ℕ} {ps qs : ℕ → List Placed} (h : AreMedia image c s ps) (k : AreMedia image d t qs) where
   pub one_config : c ≡ d
   one_config = (one_front (h.each 0 0 (omega arith)).front (k.each 0 0 (omega arith)).front).0
 
@@ -81,39 +89,39 @@ module _ {image : Image} {c d : Configuration} {s t : List ℕ} {ps qs : ℕ →
   pub one_long_term : ps 1 ≡ qs 1
   one_long_term = one_segments one_config (h.each 1 0 (omega arith)).segments (k.each 1 0 (omega arith)).segments
 
-  -- Their incident slots hold one table.
   pub one_incidents : {xs ys : List (Option Incident)}
       → HoldsTable c.incident_slots xs (content image 1) → HoldsTable d.incident_slots ys (content image 1) → xs ≡ ys
-  one_incidents {xs} {ys} held kept =
-      one_table d.incident_slots xs ys (content image 1)
-      (subst (λ (e : Configuration). HoldsTable e.incident_slots xs (content image 1)) one_config held) kept
+  one_incidents held kept = table_once one_config held kept
 
 -- Contents
 
-pub are_legal : {image : Image} {x : Contents} → HoldsContents image x → AreLegal image x.config x.text x.placed
+pub are_legal : {image : Image} {x : Contents} → HoldsContents image x → AreMedia image x.config x.text x.placed
 are_legal h = record { each = h.media }
 
--- Media that hold contents are formatted.
+-- A medium with a superblock is formatted, and so are media that hold contents.
+pub never_unformatted : (m segment : ℕ) (image : Image) → IsSuperblock m segment (content image 0) → IsUnformatted image → ⊥
+never_unformatted m segment image h (inl small) = let room = h.room in omega (arith, small, room)
+never_unformatted m segment image h (inr closed) = closed h.gate
+
 pub are_formatted : (image : Image) (x : Contents) → HoldsContents image x → IsUnformatted image → ⊥
-are_formatted image x h (inl small) = let room = (h.media 0 0 (omega arith)).front.superblock.room in omega (arith, small, room)
-are_formatted image x h (inr closed) = closed (h.media 0 0 (omega arith)).front.superblock.gate
+are_formatted image x h = never_unformatted 0 x.config.segment image (h.media 0 0 (omega arith)).front.superblock
 
 -- Whether the places of the live incidents are there, slot by slot.
 
 live_at : (table : List (Option Incident)) (k : ℕ) (d : Option Incident) → k < length table → live table (suc k) ≡ get_or table k d
 live_at table k d lt = ap (λ (o : Option (Option Incident)). option_and_then (λ slot. slot) o) (slice_get-get_or table k d lt)
 
-module _ (placed : List Placed) where
-  pub all_there : (table : List (Option Incident)) (n : ℕ) → length table ≡ n → ((k : ℕ) → k < n → IsThere placed (live table (suc k))) → AreThere table placed
-  all_there table n size each k d lt = subst (IsThere placed) (live_at table k d lt) (each k (omega (arith, lt, size)))
+module _ (known : List Placed) where
+  pub all_there : (table : List (Option Incident)) (n : ℕ) → length table ≡ n → ((k : ℕ) → k < n → IsThere known (live table (suc k))) → AreThereBy table known
+  all_there table n size each k d lt = subst (IsThere known) (live_at table k d lt) (each k (omega (arith, lt, size)))
 
-  front_there : (table : List (Option Incident)) (n : ℕ) → n ≤ length table → ((k : ℕ) → k < n → IsThere placed (live table (suc k))) → AreThere (take n table) placed
+  front_there : (table : List (Option Incident)) (n : ℕ) → n ≤ length table → ((k : ℕ) → k < n → IsThere known (live table (suc k))) → AreThereBy (take n table) known
   front_there table n within each k d lt =
       let long : length (take n table) ≡ n = length-take-le n table within in
       let below : k < n = omega (arith, lt, long) in
-      subst (IsThere placed) (live_at table k d (omega (arith, below, within)) ∙ sym (get_or-take n table k d below)) (each k below)
+      subst (IsThere known) (live_at table k d (omega (arith, below, within)) ∙ sym (get_or-take n table k d below)) (each k below)
 
-  lacks_at : (table : List (Option Incident)) (slot : ℕ) (o : Option Incident) → slot < length table → ((k : ℕ) → k < slot → IsThere placed (live table (suc k))) → get_or table slot None ≡ o → (IsThere placed o → ⊥) → LacksPlaces table placed slot
+  lacks_at : (table : List (Option Incident)) (slot : ℕ) (o : Option Incident) → slot < length table → ((k : ℕ) → k < slot → IsThere known (live table (suc k))) → get_or table slot None ≡ o → (IsThere known o → ⊥) → LacksPlaces table known slot
   lacks_at table slot None lt each is missing = absurd (missing tt)
   lacks_at table slot (Some x) lt each is missing = record {
     before = take slot table;
@@ -125,18 +133,18 @@ module _ (placed : List Placed) where
     missing = missing;
   }
 
-  pub lacks : (table : List (Option Incident)) (slot n : ℕ) (here : Bool) → length table ≡ n → slot < n → ((k : ℕ) → k < slot → IsThere placed (live table (suc k))) → IsTrue here ↔ IsThere placed (live table (suc slot)) → here ≡ false → LacksPlaces table placed slot
+  pub lacks : (table : List (Option Incident)) (slot n : ℕ) (here : Bool) → length table ≡ n → slot < n → ((k : ℕ) → k < slot → IsThere known (live table (suc k))) → IsTrue here ↔ IsThere known (live table (suc slot)) → here ≡ false → LacksPlaces table known slot
   lacks table slot n here size lt each tested not_there =
       let within : slot < length table = omega (arith, size, lt) in
       lacks_at table slot (get_or table slot None) within each refl
-      (λ there. let yes_there = tested.1 (subst (IsThere placed) (sym (live_at table slot None within)) there) in let none : ⊥ = cc in none)
+      (λ there. let yes_there = tested.1 (subst (IsThere known) (sym (live_at table slot None within)) there) in let none : ⊥ = cc in none)
 
 -- what the code finds of a slot
-pub there_by : (placed : List Placed) (table : List (Option Incident)) (slot a b : ℕ) (x : Incident) (here : Bool) → Some x ≡ live table (slot + 1) → a ≡ x.a → b ≡ x.b → IsTrue here ↔ HoldAll a b placed → IsTrue here ↔ IsThere placed (live table (suc slot))
-there_by placed table slot a b x here is a_is b_is tested =
-    let both : HoldAll a b placed ≡ HoldAll x.a x.b placed = λ i. HoldAll (a_is i) (b_is i) placed in
-    let there : IsTrue here ↔ IsThere placed (Some x) = subst (λ (P : Type 0). IsTrue here ↔ P) both tested in
-    subst (λ (o : Option Incident). IsTrue here ↔ IsThere placed o) (is ∙ ap (λ (n : ℕ). live table n) (add-one slot)) there
+pub there_by : (known : List Placed) (table : List (Option Incident)) (slot a b : ℕ) (x : Incident) (here : Bool) → Some x ≡ live table (slot + 1) → a ≡ x.a → b ≡ x.b → IsTrue here ↔ HoldAllBy a b known → IsTrue here ↔ IsThere known (live table (suc slot))
+there_by known table slot a b x here is a_is b_is tested =
+    let both : HoldAllBy a b known ≡ HoldAllBy x.a x.b known = λ i. HoldAllBy (a_is i) (b_is i) known in
+    let there : IsTrue here ↔ IsThere known (Some x) = subst (λ (P : Type 0). IsTrue here ↔ P) both tested in
+    subst (λ (o : Option Incident). IsTrue here ↔ IsThere known o) (is ∙ ap (λ (n : ℕ). live table n) (add-one slot)) there
 
-pub there_if_free : (placed : List Placed) (table : List (Option Incident)) (slot : ℕ) → None ≡ live table (slot + 1) → IsTrue true ↔ IsThere placed (live table (suc slot))
-there_if_free placed table slot is = subst (λ (o : Option Incident). IsTrue true ↔ IsThere placed o) (is ∙ ap (λ (n : ℕ). live table n) (add-one slot)) (λ _. tt, λ _. refl)
+pub there_if_free : (known : List Placed) (table : List (Option Incident)) (slot : ℕ) → None ≡ live table (slot + 1) → IsTrue true ↔ IsThere known (live table (suc slot))
+there_if_free known table slot is = subst (λ (o : Option Incident). IsTrue true ↔ IsThere known o) (is ∙ ap (λ (n : ℕ). live table n) (add-one slot)) (λ _. tt, λ _. refl)

@@ -1,5 +1,9 @@
 pub mod Refusals
 pub mod ContentsHeld
+pub mod PartsHeld
+pub mod SameEnds
 pub mod Rings
 pub mod Meeting
+pub mod Legible
 pub mod Fronts
+pub mod Costs

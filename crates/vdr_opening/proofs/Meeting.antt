@@ -11,20 +11,20 @@ use Rattle.vdr_outside.specs.Disk.{Disk, Image, Unchanged, content}
 use Rattle.vdr_ring.specs.Lasts.{batch_or_none}
 use Rattle.vdr_ring.specs.Rings.{RingState}
 use Rattle.vdr_ring.specs.Rings as rings
-use Rattle.vdr_directory.specs.Holds.{Tells}
+use Rattle.vdr_directory.specs.Knowns.{AreInOrderBy}
+use Rattle.vdr_directory.specs.Telling.{TellsBy}
 use Rattle.vdr_directory.specs.Sequence.{Placed, all_records, batches_in}
 use Rattle.vdr_media.proofs.Two.{all_two, of_each, all_one}
-use Rattle.vdr_opening.specs.Media.{members, Contents, reading_of, AreThere, HoldsContents, IsMedium}
-use Rattle.vdr_opening.specs.Answers.{IsMissing, no_ring, ring_at, IsOpened, OpenedState}
-use Rattle.vdr_opening.specs.Parts.{AreRead, LacksPlacesAt, ReadsMedium}
+use Rattle.vdr_opening.specs.Media.{members, Contents, reading_of, AreThereBy, HoldsParts, IsMediumBy}
+use Rattle.vdr_opening.specs.Answers.{IsMissing, no_ring, ring_at, IsOpenedBy, OpenedState}
+use Rattle.vdr_opening.specs.Parts.{AreKnownTo, LacksPlacesAt, KnowsMedium}
 use Rattle.vdr_history.specs.Histories.{Incident}
 use Rattle.vdr_config.specs.Configuration.{Configuration}
-use Rattle.vdr_directory.specs.Order.{AreInOrder}
 use Rattle.vdr_incident.specs.Tables.{HoldsTable}
 use Rattle.vdr_incident.specs.Tables as incidents
 use Rattle.vdr_opening.specs.Refusals.{AreLegal, IsRefused}
 use Rattle.vdr_outside.proofs.Moments.{unchanged_join}
-use Rattle.vdr_ring.proofs.Still.{reads_still}
+use Rattle.vdr_ring.proofs.Still.{knows_still}
 use Rattle.vdr_ring.proofs.Records.{records_are}
 
 one_batch : (x y : List Record) → batch_or_none x ≡ batch_or_none y → x ≡ y
@@ -42,17 +42,17 @@ is_batch : (batch : List Record) (batches : Batches) → ends_before (batch_or_n
 is_batch [] batches ends = cc
 is_batch (r ∷ rs) batches ends = refl
 
--- What is read of a medium
+-- What is known of a medium
 
-module _ {tells tells_images : Type 0} (on : List RingState) (placed : ℕ → List Placed) (disk : Disk tells tells_images) (read : AreRead on placed disk) (m : ℕ) (lt : m < 2) where
-  pub read_at : rings.Reads (ring_at on m) (placed m) disk
-  read_at = of_each (λ k. rings.Reads (ring_at on k) (placed k) disk) read m lt
+module _ {tells tells_images : Type 0} (on : List RingState) (known : ℕ → List Placed) (disk : Disk tells tells_images) (are : AreKnownTo on known disk) (m : ℕ) (lt : m < 2) where
+  pub known_at : rings.Knows (ring_at on m) (known m) disk
+  known_at = of_each (λ k. rings.Knows (ring_at on k) (known k) disk) are m lt
 
-  pub ends_as : (d : RingState) (batch lent : List Record) (follows : Bool) → m < length on → lent ≡ batch → ((ps : List Placed) → Tells (get_or on m d).slots ps (get_or on m d).directory → follows ≡ comes_next (last (all_records ps)) lent)
-      → ends_before (batch_or_none batch) (batches_in (placed m)) ≡ follows
+  pub ends_as : (d : RingState) (batch lent : List Record) (follows : Bool) → m < length on → lent ≡ batch → ((ps : List Placed) → TellsBy (get_or on m d).slots ps (get_or on m d).directory → follows ≡ comes_next (last (all_records ps)) lent)
+      → ends_before (batch_or_none batch) (batches_in (known m)) ≡ follows
   ends_as d batch lent follows there lent_is tested =
-      before_is batch (batches_in (placed m)) ∙ ap (λ (rs : List Record). comes_next (last rs) batch) (records_are (placed m)) ∙ ap (λ (l : List Record). comes_next (last (all_records (placed m))) l) (sym lent_is)
-      ∙ sym (tested (placed m) (subst (λ (r : RingState). Tells r.slots (placed m) r.directory) (get_or_default on m no_ring d there) read_at.directory))
+      before_is batch (batches_in (known m)) ∙ ap (λ (rs : List Record). comes_next (last rs) batch) (records_are (known m)) ∙ ap (λ (l : List Record). comes_next (last (all_records (known m))) l) (sym lent_is)
+      ∙ sym (tested (known m) (subst (λ (r : RingState). TellsBy r.slots (known m) r.directory) (get_or_default on m no_ring d there) known_at.directory))
 
 -- Below medium m, so many media end with the batch of the first one, and the others directly before it.
 pub record EndBelow (batch : List Record) (lacking m : ℕ) (placed : ℕ → List Placed) : Type 0 where
@@ -107,40 +107,41 @@ not_same a b x y same tested differ a_is b_is is =
     let none : ⊥ = cc in
     none
 
--- What the media hold as a whole, or where they are refused, from what was found of each over calls that only read.
+-- What is read of the media as a whole, or where they are refused, from what was found of each over calls that only
+-- read.
 
 abbrev pub contents_of : Configuration → (text : List ℕ) → (ℕ → List Placed) → List (Option Incident) → Contents
-contents_of c text placed table = record { config = c; text = text; placed = placed; table = table }
+contents_of c text known table = record { config = c; text = text; placed = known; table = table }
 
-module _ {tells tells_images : Type 0} (start one : Disk tells tells_images) (same : Unchanged start one) (told : tells) (c : Configuration) (text : List ℕ) (placed : ℕ → List Placed) (on : List RingState)
-    (each : All (λ m. ReadsMedium m c text (placed m) (ring_at on m) one) members) (long_term : RingState) (long_term_is : long_term ≡ ring_at on 1) where
-  are_legal : AreLegal start.reads c text placed
-  are_legal = record { each = λ i d lt. subst (λ (image : Image). IsMedium (get_or members i d) c text (placed (get_or members i d)) (content image (get_or members i d))) (same.reads told) (each i d lt).legal }
+module _ {tells tells_images : Type 0} (start one : Disk tells tells_images) (same : Unchanged start one) (told : tells) (c : Configuration) (text : List ℕ) (known : ℕ → List Placed) (on : List RingState)
+    (each : All (λ m. KnowsMedium m c text (known m) (ring_at on m) one) members) (long_term : RingState) (long_term_is : long_term ≡ ring_at on 1) where
+  are_legal : AreLegal start.reads c text known
+  are_legal = record { each = λ i d lt. subst (λ (image : Image). IsMediumBy (get_or members i d) c text (known (get_or members i d)) (content image (get_or members i d))) (same.reads told) (each i d lt).legal }
 
   -- what the directory of the long-term medium's ring says, of its segments
-  said : (P : List Placed → Type 0) → ((ps : List Placed) → Tells long_term.slots ps long_term.directory → AreInOrder ps → P ps) → P (placed 1)
+  said : (P : List Placed → Type 0) → ((ps : List Placed) → TellsBy long_term.slots ps long_term.directory → AreInOrderBy ps → P ps) → P (known 1)
   said P all =
-      let reads : rings.Reads long_term (placed 1) one = subst (λ (ring : RingState). rings.Reads ring (placed 1) one) (sym long_term_is) (each 1 0 (omega arith)).reads in
-      all (placed 1) reads.directory reads.order
+      let knows : rings.Knows long_term (known 1) one = subst (λ (ring : RingState). rings.Knows ring (known 1) one) (sym long_term_is) (each 1 0 (omega arith)).knows in
+      all (known 1) knows.directory knows.order
 
   pub incidents_refused : (m offset : ℕ) → m ≡ 1
       → incidents.Refuses c.incident_slots (content one.reads 1) offset
-      ⊎ ((ps : List Placed) → Tells long_term.slots ps long_term.directory → AreInOrder ps → LacksPlacesAt c.incident_slots ps (content one.reads 1) offset) → IsRefused start.reads m offset
+      ⊎ ((ps : List Placed) → TellsBy long_term.slots ps long_term.directory → AreInOrderBy ps → LacksPlacesAt c.incident_slots ps (content one.reads 1) offset) → IsRefused start.reads m offset
   incidents_refused m offset is (inl refuses) = inr (inl (record {
     config = c;
     text = text;
-    placed = placed;
+    known = known;
     legal = are_legal;
     refuses = subst (λ (image : Image). incidents.Refuses c.incident_slots (content image 1) offset) (same.reads told) refuses;
     on = is;
   }))
   incidents_refused m offset is (inr lacks) =
-      let found = subst (λ (image : Image). LacksPlacesAt c.incident_slots (placed 1) (content image 1) offset) (same.reads told) (said (λ ps. LacksPlacesAt c.incident_slots ps (content one.reads 1) offset) lacks) in
+      let found = subst (λ (image : Image). LacksPlacesAt c.incident_slots (known 1) (content image 1) offset) (same.reads told) (said (λ ps. LacksPlacesAt c.incident_slots ps (content one.reads 1) offset) lacks) in
       let at = found.lacks in
       inr (inr (inl (record {
         config = c;
         text = text;
-        placed = placed;
+        known = known;
         legal = are_legal;
         before = at.before;
         here = at.here;
@@ -152,30 +153,29 @@ module _ {tells tells_images : Type 0} (start one : Disk tells tells_images) (sa
         on = is;
       })))
 
-  pub are_read : (two : Disk tells tells_images) (lent : List RingState) → lent ≡ on → Unchanged one two → AreRead lent placed two
-  are_read two lent is still = subst (λ (l : List RingState). AreRead l placed two) (sym is) (λ i d lt. reads_still (ring_at on (get_or members i d)) (placed (get_or members i d)) one two still (each i d lt).reads)
+  pub are_known : (two : Disk tells tells_images) (lent : List RingState) → lent ≡ on → Unchanged one two → AreKnownTo lent known two
+  are_known two lent is still = subst (λ (l : List RingState). AreKnownTo l known two) (sym is) (λ i d lt. knows_still (ring_at on (get_or members i d)) (known (get_or members i d)) one two still (each i d lt).knows)
 
-  module _ (table : List (Option Incident)) (holds : HoldsTable c.incident_slots table (content one.reads 1)) (there : (ps : List Placed) → Tells long_term.slots ps long_term.directory → AreInOrder ps → AreThere table ps) where
+  module _ (table : List (Option Incident)) (holds : HoldsTable c.incident_slots table (content one.reads 1)) (there : (ps : List Placed) → TellsBy long_term.slots ps long_term.directory → AreInOrderBy ps → AreThereBy table ps) where
     abbrev found : Contents
-    found = contents_of c text placed table
+    found = contents_of c text known table
 
-    holds_contents : HoldsContents start.reads found
-    holds_contents = record {
+    pub holds_parts : HoldsParts start.reads found
+    holds_parts = record {
       media = are_legal.each;
       table = subst (λ (image : Image). HoldsTable c.incident_slots table (content image 1)) (same.reads told) holds;
-      there = said (AreThere table) there;
+      there = said (AreThereBy table) there;
     }
 
     pub ends_refused : (m offset : ℕ) → (offset ≡ 0) × EndsOff members (reading_of found) m → IsRefused start.reads m offset
-    ends_refused m offset off = inr (inr (inr (record { contents = found; holds = holds_contents; off = off.1; at = off.0 })))
+    ends_refused m offset off = inr (inr (inr (record { parts = found; holds = holds_parts; off = off.1; at = off.0 })))
 
-    pub is_opened : (last : Disk tells tells_images) → Unchanged one last → (o : OpenedState) → o.config ≡ c → o.table ≡ table → AreRead o.rings placed last
-        → EndsMeet members (reading_of found) × IsMissing o.missing o.lacking (reading_of found) → IsOpened o found last
-    is_opened last still o config_is table_is reads ends = record {
-      holds = subst (λ (image : Image). HoldsContents image found) (sym ((unchanged_join start one last same still).reads told)) holds_contents;
+    pub is_opened_by : (last : Disk tells tells_images) → Unchanged one last → (o : OpenedState) → o.config ≡ c → o.table ≡ table → AreKnownTo o.rings known last
+        → EndsMeet members (reading_of found) × IsMissing o.missing o.lacking (reading_of found) → IsOpenedBy o found last
+    is_opened_by last still o config_is table_is knows ends = record {
+      holds = subst (λ (image : Image). HoldsParts image found) (sym ((unchanged_join start one last same still).reads told)) holds_parts;
       meet = ends.0;
       config = config_is;
-      rings = reads;
+      rings = knows;
       table = table_is;
-      missing = ends.1;
     }

@@ -1,26 +1,27 @@
 -- Opening has one answer: which part is the first that is not legal, and where.
-use Rattle.std.proofs.Common.{◌≡◌, ℕ, List, [], ◌∷◌, length, All, Option, Some, None, inl, inr, sym, ◌∙◌, subst, arith, true, ◌++◌, ap, append_assoc, ◌⊎◌, refl}
-use Rattle.std.proofs.lemmas.List.Elements.{All-head, All-tail, All-cons, All-nil, All-contains, Contains-append_right}
+use Rattle.std.proofs.Common.{◌≡◌, ℕ, List, [], ◌∷◌, length, All, Option, Some, None, inl, inr, sym, ◌∙◌, subst, arith, ◌++◌, ap, ◌⊎◌, refl}
+use Rattle.std.proofs.lemmas.List.Elements.{All-head, All-tail, All-contains, Contains-append_right}
 use Rattle.vdr_outside.specs.Disk.{Image, content}
 use Rattle.vdr_directory.specs.Sequence.{Placed, batches_in}
 use Rattle.vdr_directory.specs.Opening.{Refuses}
+use Rattle.vdr_directory.specs.Telling.{HoldAllBy}
 use Rattle.vdr_directory.proofs.OneAnswer.{never_refused, one_refusal}
 use Rattle.vdr_config.specs.Configuration.{Configuration}
 use Rattle.vdr_terms.specs.Slots.{slot_count}
-use Rattle.vdr_opening.specs.Media.{members, HasFront, IsMedium, AreThere, Contents, HoldsContents, reading_of}
-use Rattle.vdr_opening.specs.Refusals.{IsSameText, RefusesSegments, RefusesMedium, RefusesFrom, AreLegal, RefusesIncidents, RefusesPlaces, RefusesEnds, IsRefused}
-use Rattle.vdr_opening.proofs.ContentsHeld.{one_front, are_legal, one_config, one_capsule, one_long_term, one_incidents}
-use Rattle.vdr_terms.specs.Records.{Record, last}
-use Rattle.vdr_durability.specs.Readings.{Reading, EndBy, EndsMeet, EndsOff, ends_before}
+use Rattle.vdr_durability.specs.Readings.{EndsMeet, EndsOff}
+use Rattle.vdr_durability.proofs.Meeting.{none_off, one_off}
 use Rattle.vdr_history.specs.Histories.{Incident}
 use Rattle.vdr_retention.proofs.Lists.{contains_here}
-use Rattle.vdr_durability.proofs.Meeting.{none_off, one_off}
-use Rattle.vdr_directory.specs.Lookup.{HoldAll}
 use Rattle.vdr_incident.specs.Tables.{HoldsTable, place_of}
 use Rattle.vdr_incident.specs.Tables as incidents
 use Rattle.vdr_incident.proofs.Holding.{held_not_refused as table_not_refused, one_refused}
 use Rattle.vdr_media.proofs.Two.{all_two}
+use Rattle.vdr_opening.specs.Media.{members, HasFront, IsMediumBy, AreThereBy, Contents, HoldsParts, reading_of}
+use Rattle.vdr_opening.specs.Refusals.{IsSameText, RefusesSegments, RefusesMedium, RefusesFrom, AreLegal, RefusesIncidents, RefusesPlaces, RefusesEnds, IsRefused}
 use Rattle.vdr_opening.specs.Parts.{IsThere}
+use Rattle.vdr_opening.proofs.ContentsHeld.{one_front, table_once}
+use Rattle.vdr_opening.proofs.PartsHeld.{are_legal, one_config, one_capsule, one_long_term}
+use Rattle.vdr_opening.proofs.SameEnds.{EndsAlike, same_end, same_off}
 
 -- The slots of a configuration are refused at this offset.
 abbrev RefusesSlots : Configuration → List ℕ → ℕ → Type 0
@@ -35,19 +36,16 @@ module _ (m : ℕ) (before : Option (List ℕ)) (bytes : List ℕ) where
   refused_under {c} offset h r = subst (λ (d : Configuration). RefusesSlots d bytes offset) (one_front r.front h).0 r.refuses
 
   -- A medium that is legal is not refused.
-  legal_medium : {c : Configuration} {text : List ℕ} {placed : List Placed} (offset : ℕ)
-      → IsMedium m c text placed bytes → IsSameText before text → RefusesMedium m before bytes offset → ⊥
+  legal_medium : {c : Configuration} {text : List ℕ} {known : List Placed} (offset : ℕ)
+      → IsMediumBy m c text known bytes → IsSameText before text → RefusesMedium m before bytes offset → ⊥
   legal_medium {c} offset h same (inl r) = r.broken c.segment h.front.superblock
   legal_medium {c} {text} offset h same (inr (inl r)) = r.broken c text h.front same
-  legal_medium {c} {text} {placed} offset h same (inr (inr r)) =
-      let low = h.front.superblock.segment_low in
-      never_refused c.segment (slot_count c.segment (length bytes)) bytes placed offset (omega (arith, low))
-      h.segments.holds h.segments.order (refused_under offset h.front r)
+  legal_medium {c} {text} {known} offset h same (inr (inr r)) =
+      never_refused c.segment (slot_count c.segment (length bytes)) bytes known offset h.segments.are h.segments.order (refused_under offset h.front r)
 
   segments_once : (a b : ℕ) → RefusesSegments m before bytes a → RefusesSegments m before bytes b → a ≡ b
   segments_once a b r s =
-      let low = s.front.superblock.segment_low in
-      one_refusal s.config.segment (slot_count s.config.segment (length bytes)) bytes a b (omega (arith, low)) (refused_under a s.front r) s.refuses
+      one_refusal s.config.segment (slot_count s.config.segment (length bytes)) bytes a b (refused_under a s.front r) s.refuses
 
   -- It is refused at one offset.
   medium_once : (a b : ℕ) → RefusesMedium m before bytes a → RefusesMedium m before bytes b → a ≡ b
@@ -64,15 +62,15 @@ module _ (m : ℕ) (before : Option (List ℕ)) (bytes : List ℕ) where
 -- One medium after the other
 
 module _ (image : Image) where
-  legal_from : (ks : List ℕ) (before : Option (List ℕ)) (c : Configuration) (text : List ℕ) (placed : ℕ → List Placed) (m offset : ℕ)
-      → All (λ k. IsMedium k c text (placed k) (content image k)) ks → IsSameText before text → RefusesFrom before ks image m offset → ⊥
-  legal_from [] before c text placed m offset h same r = r
-  legal_from (k ∷ ks) before c text placed m offset h same (inl (e, r)) =
-      legal_medium k before (content image k) offset (All-head (λ k. IsMedium k c text (placed k) (content image k)) k ks h) same r
-  legal_from (k ∷ ks) before c text placed m offset h same (inr (t, l, more)) =
-      let first = All-head (λ k. IsMedium k c text (placed k) (content image k)) k ks h in
-      let others = All-tail (λ k. IsMedium k c text (placed k) (content image k)) k ks h in
-      legal_from ks (Some t) c text placed m offset others (one_front first.front l.legal.front).1 more
+  legal_from : (ks : List ℕ) (before : Option (List ℕ)) (c : Configuration) (text : List ℕ) (known : ℕ → List Placed) (m offset : ℕ)
+      → All (λ k. IsMediumBy k c text (known k) (content image k)) ks → IsSameText before text → RefusesFrom before ks image m offset → ⊥
+  legal_from [] before c text known m offset h same r = r
+  legal_from (k ∷ ks) before c text known m offset h same (inl (e, r)) =
+      legal_medium k before (content image k) offset (All-head (λ k. IsMediumBy k c text (known k) (content image k)) k ks h) same r
+  legal_from (k ∷ ks) before c text known m offset h same (inr (t, l, more)) =
+      let first = All-head (λ k. IsMediumBy k c text (known k) (content image k)) k ks h in
+      let others = All-tail (λ k. IsMediumBy k c text (known k) (content image k)) k ks h in
+      legal_from ks (Some t) c text known m offset others (one_front first.front l.legal.front).1 more
 
   pub from_once : (ks : List ℕ) (before : Option (List ℕ)) (m n a b : ℕ)
       → RefusesFrom before ks image m a → RefusesFrom before ks image n b → (m ≡ n) × (a ≡ b)
@@ -84,52 +82,9 @@ module _ (image : Image) where
       from_once ks (Some u) m n a b (subst (λ (text : List ℕ). RefusesFrom (Some text) ks image m a) (one_front l.legal.front g.legal.front).1 r) s
 
   -- Media that are legal are not refused before their incidents.
-  pub media_legal : {c : Configuration} {text : List ℕ} {placed : ℕ → List Placed} (m offset : ℕ)
-      → AreLegal image c text placed → RefusesFrom None members image m offset → ⊥
-  media_legal {c} {text} {placed} m offset h r = legal_from members None c text placed m offset h.each tt r
-
--- Whether ends meet, and where they don't, depends on the batches of these media alone.
-
-module _ (r s : Reading) where
-  abbrev IsSame : ℕ → Type 0
-  IsSame m = r.batches m ≡ s.batches m
-
-  same_lack : (batch : Option (List Record)) (ms : List ℕ) → All IsSame ms
-      → All (λ k. ends_before batch (r.batches k) ≡ true) ms → All (λ k. ends_before batch (s.batches k) ≡ true) ms
-  same_lack batch ms same all k d lt = ap (λ (batches : List (List Record)). ends_before batch batches) (sym (same k d lt)) ∙ all k d lt
-
-  ends_by : (batch : Option (List Record)) (ms : List ℕ) → All IsSame ms → EndBy r batch ms → EndBy s batch ms
-  ends_by batch [] same h = tt
-  ends_by batch (m ∷ ms) same (inl (e, more)) =
-      inl (ap (λ (batches : List (List Record)). last batches) (sym (All-head IsSame m ms same)) ∙ e, ends_by batch ms (All-tail IsSame m ms same) more)
-  ends_by batch (m ∷ ms) same (inr all) = inr (same_lack batch (m ∷ ms) same all)
-
-  same_ends : (ms : List ℕ) → All IsSame ms → EndsMeet ms r → EndsMeet ms s
-  same_ends [] same h = tt
-  same_ends (m ∷ ms) same h =
-      let first = ap (λ (batches : List (List Record)). last batches) (All-head IsSame m ms same) in
-      subst (λ (batch : Option (List Record)). EndBy s batch (m ∷ ms)) first (ends_by (last (r.batches m)) (m ∷ ms) same h)
-
-  same_front : (xs ys : List ℕ) → All IsSame (xs ++ ys) → All IsSame xs
-  same_front [] ys h = All-nil IsSame
-  same_front (x ∷ xs) ys h = All-cons IsSame x xs (All-head IsSame x (xs ++ ys) h) (same_front xs ys (All-tail IsSame x (xs ++ ys) h))
-
-pub same_off : (r s : Reading) (numbers : List ℕ) (m : ℕ) → All (λ k. r.batches k ≡ s.batches k) numbers → EndsOff numbers r m → EndsOff numbers s m
-same_off r s numbers m same h = record {
-  before = h.before;
-  after = h.after;
-  split = h.split;
-  meet = same_ends r s h.before (same_front r s h.before (m ∷ h.after) along) h.meet;
-  off = λ meet. h.off (same_ends s r (h.before ++ m ∷ []) (λ k d lt. sym (up_to k d lt)) meet);
-}
-  where
-    along : All (λ k. r.batches k ≡ s.batches k) (h.before ++ m ∷ h.after)
-    along = subst (λ (ms : List ℕ). All (λ k. r.batches k ≡ s.batches k) ms) h.split same
-
-    up_to : All (λ k. r.batches k ≡ s.batches k) (h.before ++ m ∷ [])
-    up_to =
-        same_front r s (h.before ++ m ∷ []) h.after
-        (subst (λ (ms : List ℕ). All (λ k. r.batches k ≡ s.batches k) ms) (sym (append_assoc h.before (m ∷ []) h.after)) along)
+  pub media_legal : {c : Configuration} {text : List ℕ} {known : ℕ → List Placed} (m offset : ℕ)
+      → AreLegal image c text known → RefusesFrom None members image m offset → ⊥
+  media_legal {c} {text} {known} m offset h r = legal_from members None c text known m offset h.each tt r
 
 -- Opening has one answer: each part is tested behind those that are legal, so that no two parts are the first that is not.
 
@@ -148,36 +103,36 @@ one_index P (z ∷ b) (w ∷ c) x y a d e hb hc nx ny =
 
 module _ (image : Image) where
   -- The slots are refused under the configuration of media that are legal, which is one.
-  slots_under : {c : Configuration} {text : List ℕ} {placed : ℕ → List Placed} (m offset : ℕ)
-      → AreLegal image c text placed → RefusesIncidents image m offset → incidents.Refuses c.incident_slots (content image 1) offset
+  slots_under : {c : Configuration} {text : List ℕ} {known : ℕ → List Placed} (m offset : ℕ)
+      → AreLegal image c text known → RefusesIncidents image m offset → incidents.Refuses c.incident_slots (content image 1) offset
   slots_under m offset h r = subst (λ (d : Configuration). incidents.Refuses d.incident_slots (content image 1) offset) (one_config r.legal h) r.refuses
 
   slots_once : (m n a b : ℕ) → RefusesIncidents image m a → RefusesIncidents image n b → (m ≡ n) × (a ≡ b)
   slots_once m n a b r s = (r.on ∙ sym s.on, one_refused s.config.incident_slots a b (content image 1) (slots_under m a s.legal r) s.refuses)
 
   -- Where a table is held no slot is refused by its bytes.
-  table_legal : {c : Configuration} {text : List ℕ} {placed : ℕ → List Placed} (table : List (Option Incident)) (m offset : ℕ)
-      → AreLegal image c text placed → HoldsTable c.incident_slots table (content image 1) → RefusesIncidents image m offset → ⊥
+  table_legal : {c : Configuration} {text : List ℕ} {known : ℕ → List Placed} (table : List (Option Incident)) (m offset : ℕ)
+      → AreLegal image c text known → HoldsTable c.incident_slots table (content image 1) → RefusesIncidents image m offset → ⊥
   table_legal {c} table m offset h held r = table_not_refused c.incident_slots offset table (content image 1) held (slots_under m offset h r)
 
   places_once : (m n a b : ℕ) → RefusesPlaces image m a → RefusesPlaces image n b → (m ≡ n) × (a ≡ b)
   places_once m n a b r s = (r.on ∙ sym s.on, r.at ∙ ap place_of index ∙ sym s.at)
     where
-      placed : r.placed 1 ≡ s.placed 1
-      placed = one_long_term r.legal s.legal
+      same : r.known 1 ≡ s.known 1
+      same = one_long_term r.legal s.legal
 
       index : length r.before ≡ length s.before
       index =
-          one_index (IsThere (s.placed 1)) r.before s.before (Some r.here) (Some s.here) r.after s.after (one_incidents r.legal s.legal r.table s.table)
-          (subst (λ (ps : List Placed). AreThere r.before ps) placed r.there) s.there
-          (subst (λ (ps : List Placed). HoldAll r.here.a r.here.b ps → ⊥) placed r.missing) s.missing
+          one_index (IsThere (s.known 1)) r.before s.before (Some r.here) (Some s.here) r.after s.after (table_once (one_config r.legal s.legal) r.table s.table)
+          (subst (λ (ps : List Placed). AreThereBy r.before ps) same r.there) s.there
+          (subst (λ (ps : List Placed). HoldAllBy r.here.a r.here.b ps → ⊥) same r.missing) s.missing
 
-  -- Where contents are held, the places of all saves are there.
-  places_legal : (x : Contents) (m offset : ℕ) → HoldsContents image x → RefusesPlaces image m offset → ⊥
-  places_legal x m offset h r = r.missing (subst (λ (ps : List Placed). HoldAll r.here.a r.here.b ps) (sym (one_long_term r.legal (are_legal h))) there)
+  -- Where all that is read is legal, the places of all saves are there.
+  places_legal : (x : Contents) (m offset : ℕ) → HoldsParts image x → RefusesPlaces image m offset → ⊥
+  places_legal x m offset h r = r.missing (subst (λ (ps : List Placed). HoldAllBy r.here.a r.here.b ps) (sym (one_long_term r.legal (are_legal h))) there)
     where
-      all : AreThere (r.before ++ Some r.here ∷ r.after) (x.placed 1)
-      all = subst (λ (slots : List (Option Incident)). AreThere slots (x.placed 1)) (sym (one_incidents r.legal (are_legal h) r.table h.table)) h.there
+      all : AreThereBy (r.before ++ Some r.here ∷ r.after) (x.placed 1)
+      all = subst (λ (slots : List (Option Incident)). AreThereBy slots (x.placed 1)) (sym (table_once (one_config r.legal (are_legal h)) r.table h.table)) h.there
 
       there : IsThere (x.placed 1) (Some r.here)
       there =
@@ -186,25 +141,25 @@ module _ (image : Image) where
 
   -- The ends
 
-  -- All contents of the image have one first medium whose end is off.
+  -- What is read of the image has one first medium whose end is off.
   one_end : (x y : Contents) (m : ℕ)
-      → HoldsContents image x → HoldsContents image y → EndsOff members (reading_of x) m → EndsOff members (reading_of y) m
+      → HoldsParts image x → HoldsParts image y → EndsOff members (reading_of x) m → EndsOff members (reading_of y) m
   one_end x y m h k off =
       same_off (reading_of x) (reading_of y) members m
-      (all_two (λ m. batches_in (x.placed m) ≡ batches_in (y.placed m))
-      (ap batches_in (one_capsule (are_legal h) (are_legal k))) (ap batches_in (one_long_term (are_legal h) (are_legal k)))) off
+      (all_two (EndsAlike (reading_of x) (reading_of y))
+      (same_end (ap batches_in (one_capsule (are_legal h) (are_legal k)))) (same_end (ap batches_in (one_long_term (are_legal h) (are_legal k))))) off
 
   ends_once : (m n a b : ℕ) → RefusesEnds image m a → RefusesEnds image n b → (m ≡ n) × (a ≡ b)
-  ends_once m n a b r s = (one_off members (reading_of s.contents) m n (one_end r.contents s.contents m r.holds s.holds r.off) s.off, r.at ∙ sym s.at)
+  ends_once m n a b r s = (one_off members (reading_of s.parts) m n (one_end r.parts s.parts m r.holds s.holds r.off) s.off, r.at ∙ sym s.at)
 
 -- All parts
 
--- Media that hold contents whose ends meet are not refused.
-pub held_not_refused : (image : Image) (x : Contents) (m offset : ℕ) → HoldsContents image x → EndsMeet members (reading_of x) → IsRefused image m offset → ⊥
+-- Media of which all that is read is legal and whose ends meet are not refused.
+pub held_not_refused : (image : Image) (x : Contents) (m offset : ℕ) → HoldsParts image x → EndsMeet members (reading_of x) → IsRefused image m offset → ⊥
 held_not_refused image x m offset h meet (inl r) = media_legal image m offset (are_legal h) r
 held_not_refused image x m offset h meet (inr (inl r)) = table_legal image x.table m offset (are_legal h) h.table r
 held_not_refused image x m offset h meet (inr (inr (inl r))) = places_legal image x m offset h r
-held_not_refused image x m offset h meet (inr (inr (inr r))) = none_off members (reading_of x) m meet (one_end image r.contents x m r.holds h r.off)
+held_not_refused image x m offset h meet (inr (inr (inr r))) = none_off members (reading_of x) m meet (one_end image r.parts x m r.holds h r.off)
 
 -- A part is refused where those before it are legal.
 module _ (image : Image) (m n a b : ℕ) where
@@ -215,10 +170,10 @@ module _ (image : Image) (m n a b : ℕ) where
 
   slots_first : RefusesIncidents image m a → RefusesPlaces image n b ⊎ RefusesEnds image n b → ⊥
   slots_first r (inl s) = table_legal image (s.before ++ Some s.here ∷ s.after) m a s.legal s.table r
-  slots_first r (inr s) = table_legal image s.contents.table m a (are_legal s.holds) s.holds.table r
+  slots_first r (inr s) = table_legal image s.parts.table m a (are_legal s.holds) s.holds.table r
 
   places_first : RefusesPlaces image m a → RefusesEnds image n b → ⊥
-  places_first r s = places_legal image s.contents m a s.holds r
+  places_first r s = places_legal image s.parts m a s.holds r
 
 -- Those that are refused are refused at one offset of one medium.
 pub one_answer : (image : Image) (m offset k other : ℕ) → IsRefused image m offset → IsRefused image k other → (m ≡ k) × (offset ≡ other)

@@ -2,6 +2,7 @@
 use Rattle.std.proofs.Common.{◌≡◌, ℕ, List, sym, ◌∙◌, ap, subst, Option, Some, None, IfSome, get_or, length, ◌<◌, ◌+◌, inl, inr, zero, suc, [], ◌∷◌, ◌++◌, set, take, IfNone, arith, get_or-set_same, get_or-set_other, length-set, ◌≤◌, drop, cond, ◌==◌, Result, Err}
 use Rattle.vdr_outside.specs.Disk.{Disk, Image, Unchanged, content}
 use Rattle.vdr_directory.specs.Holds.{HoldsPlaced}
+use Rattle.vdr_directory.specs.Order.{AreInOrder}
 use Rattle.vdr_ring.specs.Rings.{RingState}
 use Rattle.vdr_ring.specs.Rings as rings
 use Rattle.vdr_directory.specs.Sequence.{Placed}
@@ -9,12 +10,12 @@ use Rattle.vdr_terms.specs.Needs.{slots_in}
 use Rattle.vdr_outside.proofs.Moments.{size_read, unchanged_join}
 use Rattle.vdr_config.specs.Configuration.{Configuration}
 use Rattle.vdr_config.specs.Sizes.{sizes_of}
-use Rattle.vdr_directory.specs.Opening.{Refuses, HasFaultCause}
+use Rattle.vdr_directory.specs.Opening.{AreKnown, Refuses, HasFaultCause}
 use Rattle.vdr_terms.specs.Slots.{slot_count}
-use Rattle.vdr_opening.specs.Media.{HasFront, members, IsMedium}
+use Rattle.vdr_opening.specs.Media.{HasFront, members, IsMedium, IsMediumBy}
 use Rattle.vdr_opening.specs.Refusals.{IsSameText, RefusesSegments, IsLegalBehind, RefusesFrom, RefusesMedium}
 use Rattle.vdr_opening.specs.declared.text.Configured.{Configured}
-use Rattle.vdr_opening.specs.Parts.{ReadsMedium, text_of, AreRead, KeepsRings, HasPartCause, refusal_by}
+use Rattle.vdr_opening.specs.Parts.{KnowsMedium, ReadsLegal, text_of, AreKnownTo, KeepsRings, HasPartCause, refusal_by}
 use Rattle.std.specs.Prelude.{All, Any, IsErrOf}
 use Rattle.std.proofs.lemmas.Bool.{cases_eq}
 use Rattle.std.proofs.lemmas.List.{get_or_append_left, get_or_push, take-append-le, take_all}
@@ -29,13 +30,13 @@ use Rattle.vdr_terms.proofs.Results.{same_err}
 use Rattle.vdr_opening.specs.declared.refused.OpenRefused.{OpenRefused}
 use Rattle.vdr_opening.specs.declared.refused.OpenRefused.TheVariants.{Damaged}
 use Rattle.vdr_opening.specs.declared.refused.OpenRefused.TheVariants as refused
-use Rattle.vdr_ring.proofs.Still.{reads_still}
+use Rattle.vdr_ring.proofs.Still.{knows_still, reads_still}
 
 module _ {tells tells_images : Type 0} where
   pub same_content : (m : ℕ) (old new : Disk tells tells_images) → Unchanged old new → tells → content new.reads m ≡ content old.reads m
   same_content m old new same told = ap (λ (i : Image). content i m) (same.reads told)
 
--- The segments of a medium, as its ring reads them or as it is refused.
+-- The segments of a medium, as its ring knows them or as it is refused.
 
 -- the text is that of the medium before, where there is one
 pub same_text : (before : Option Configured) (now : Configured) → IfSome before (λ first. now ≡ first) → IsSameText (text_of before) now.text.items
@@ -56,21 +57,29 @@ module _ {tells tells_images : Type 0} (m : ℕ) (c : Configuration) (text : Lis
         (subst (λ (l : List ℕ). Refuses c.segment (slots_in (sizes_of c) (get_or new.sizes m 0)) l offset) (same_content m old new same told) refuses);
   }
 
-  pub reads_medium : (ring : RingState) (placed : List Placed) → ring.medium ≡ m → ring.segment ≡ c.segment → ring.slots ≡ slots_in (sizes_of c) (get_or old.sizes m 0) → rings.Reads ring placed new → ReadsMedium m c text placed ring new
-  reads_medium ring placed medium_is segment_is slots_are reads =
-      let here : HoldsPlaced ring.segment ring.slots placed (content new.reads m) = subst (λ (k : ℕ). HoldsPlaced ring.segment ring.slots placed (content new.reads k)) medium_is (reads.settled.reads told) in
-      let sized : HoldsPlaced c.segment ring.slots placed (content new.reads m) = subst (λ (n : ℕ). HoldsPlaced n ring.slots placed (content new.reads m)) segment_is here in
+  pub knows_medium : (ring : RingState) (known : List Placed) → ring.medium ≡ m → ring.segment ≡ c.segment → ring.slots ≡ slots_in (sizes_of c) (get_or old.sizes m 0) → rings.Knows ring known new → KnowsMedium m c text known ring new
+  knows_medium ring known medium_is segment_is slots_are knows =
+      let here : AreKnown ring.segment ring.slots (content new.reads m) known = subst (λ (k : ℕ). AreKnown ring.segment ring.slots (content new.reads k) known) medium_is (knows.are told) in
+      let sized : AreKnown c.segment ring.slots (content new.reads m) known = subst (λ (n : ℕ). AreKnown n ring.slots (content new.reads m) known) segment_is here in
       let whole : get_or old.sizes m 0 ≡ length (content new.reads m) = sym (size_read old m told) ∙ ap length (sym (same_content m old new same told)) in
       record {
         legal = record {
           front = subst (λ (l : List ℕ). HasFront m c text l) (sym (same_content m old new same told)) front;
           segments = record {
-            holds = subst (λ (n : ℕ). HoldsPlaced c.segment n placed (content new.reads m)) (slots_are ∙ ap (λ (n : ℕ). slot_count c.segment n) whole) sized;
-            order = reads.order;
+            are = subst (λ (n : ℕ). AreKnown c.segment n (content new.reads m) known) (slots_are ∙ ap (λ (n : ℕ). slot_count c.segment n) whole) sized;
+            order = knows.order;
           };
         };
-        reads = reads;
+        knows = knows;
       }
+
+-- What the ring reads where its medium is legal, from what it reads of the medium's slots.
+pub reads_legal : {tells tells_images : Type 0} (m : ℕ) (c : Configuration) (text : List ℕ) (ring : RingState) (old new : Disk tells tells_images) → Unchanged old new → tells
+    → ((placed : List Placed) → HoldsPlaced c.segment (slots_in (sizes_of c) (get_or old.sizes m 0)) placed (content old.reads m) → AreInOrder placed → rings.Reads ring placed new) → ReadsLegal m c text ring new
+reads_legal m c text ring old new same told reads placed legal =
+    let there : HoldsPlaced c.segment (slot_count c.segment (length (content old.reads m))) placed (content old.reads m) =
+    subst (λ (l : List ℕ). HoldsPlaced c.segment (slot_count c.segment (length l)) placed l) (same_content m old new same told) legal.segments.holds in
+    reads placed (subst (λ (n : ℕ). HoldsPlaced c.segment (slot_count c.segment n) placed (content old.reads m)) (size_read old m told) there) legal.segments.order
 
 -- The rings of media, one after another.
 
@@ -102,8 +111,9 @@ ring_of c sizes m ring buffer loaded is = record { medium = is.medium; segment =
 
 module _ {tells tells_images : Type 0} where
   pub keeps_one : (on : List RingState) (m : ℕ) (ring new : RingState) (before after : Disk tells tells_images) → m < length on → ring ≡ ring_at on m → new ≡ record ring { buffer = new.buffer; loaded = new.loaded }
-      → ((placed : List Placed) → rings.Reads ring placed before → rings.Reads new placed after) → Unchanged before after → KeepsRings on (set on m new) before after
-  keeps_one on m ring new before after there is same reads unchanged = record {
+      → ((placed : List Placed) → rings.Reads ring placed before → rings.Reads new placed after) → ((known : List Placed) → rings.Knows ring known before → rings.Knows new known after)
+      → Unchanged before after → KeepsRings on (set on m new) before after
+  keeps_one on m ring new before after there is same reads knows unchanged = record {
     of_media = λ c sizes are. record {
       count = length-set on m new ∙ are.count;
       each = λ i d lt. each_set (λ k r. IsRingOf c sizes k (ring_at on k) → IsRingOf c sizes k r) on m new there (λ k was. was)
@@ -111,6 +121,8 @@ module _ {tells tells_images : Type 0} where
     };
     reads = each_set (λ k r. (placed : List Placed) → rings.Reads (ring_at on k) placed before → rings.Reads r placed after) on m new there (λ k placed. reads_still (ring_at on k) placed before after unchanged)
         (λ placed r. reads placed (subst (λ (x : RingState). rings.Reads x placed before) (sym is) r));
+    knows = each_set (λ k r. (known : List Placed) → rings.Knows (ring_at on k) known before → rings.Knows r known after) on m new there (λ k known. knows_still (ring_at on k) known before after unchanged)
+        (λ known r. knows known (subst (λ (x : RingState). rings.Knows x known before) (sym is) r));
     unchanged = unchanged;
   }
 
@@ -118,11 +130,12 @@ module _ {tells tells_images : Type 0} where
   keeps_join on mid new a b c x y = record {
     of_media = λ config sizes are. y.of_media config sizes (x.of_media config sizes are);
     reads = λ m placed r. y.reads m placed (x.reads m placed r);
+    knows = λ m known r. y.knows m known (x.knows m known r);
     unchanged = unchanged_join a b c x.unchanged y.unchanged;
   }
 
-  pub read_still : (on new : List RingState) (placed : ℕ → List Placed) (before after : Disk tells tells_images) → KeepsRings on new before after → AreRead on placed before → AreRead new placed after
-  read_still on new placed before after kept read i d lt = kept.reads (get_or members i d) (placed (get_or members i d)) (read i d lt)
+  pub known_still : (on new : List RingState) (known : ℕ → List Placed) (before after : Disk tells tells_images) → KeepsRings on new before after → AreKnownTo on known before → AreKnownTo new known after
+  known_still on new known before after kept knows i d lt = kept.knows (get_or members i d) (known (get_or members i d)) (knows i d lt)
 
 -- One medium after another is read, and each is legal behind those before it or refused.
 
@@ -137,18 +150,31 @@ module _ (before : Option (List ℕ)) (image : Image) (m offset : ℕ) where
   legal_at (suc zero) text lt legal refuses = inr (text, legal, refuses)
   legal_at (suc (suc k)) text lt legal refuses = absurd (omega (arith, lt))
 
-pub medium_still : {tells tells_images : Type 0} (m : ℕ) (c : Configuration) (text : List ℕ) (placed : List Placed) (ring : RingState) (old new : Disk tells tells_images) → Unchanged old new → tells → ReadsMedium m c text placed ring old → ReadsMedium m c text placed ring new
-medium_still m c text placed ring old new same told r = record {
-  legal = subst (IsMedium m c text placed) (sym (same_content m old new same told)) r.legal;
-  reads = reads_still ring placed old new same r.reads;
-}
+-- What a ring knows, and what it reads where its medium is legal, stays where nothing is written.
+module _ {tells tells_images : Type 0} (m : ℕ) (c : Configuration) (text : List ℕ) (ring : RingState) (old new : Disk tells tells_images) (same : Unchanged old new) (told : tells) where
+  pub medium_still : (known : List Placed) → KnowsMedium m c text known ring old → KnowsMedium m c text known ring new
+  medium_still known r = record {
+    legal = subst (IsMediumBy m c text known) (sym (same_content m old new same told)) r.legal;
+    knows = knows_still ring known old new same r.knows;
+  }
 
--- the segments of each medium by its number
-pub all_read : (P : Configured → ℕ → List Placed → Type 0) (before : Option Configured) (now : Configured) (m : ℕ) → before ≡ Some now → 2 ≤ m → IfSome before (λ first. (k : ℕ) → k < m → (placed : List Placed) × P first k placed) → (placed : ℕ → List Placed) × All (λ k. P now k (placed k)) members
-all_read P before now m is all each =
-    let known = subst (λ (o : Option Configured). IfSome o (λ first. (k : ℕ) → k < m → (placed : List Placed) × P first k placed)) is each in
-    let first = known 0 (omega (arith, all)) in
-    let second = known 1 (omega (arith, all)) in
+  pub legal_still : ReadsLegal m c text ring old → ReadsLegal m c text ring new
+  legal_still reads placed legal = reads_still ring placed old new same (reads placed (subst (IsMedium m c text placed) (same_content m old new same told) legal))
+
+-- The media with the configuration of them all
+
+-- what is said of each
+pub each_read : (P : Configured → ℕ → Type 0) (before : Option Configured) (now : Configured) (m : ℕ) → before ≡ Some now → 2 ≤ m → IfSome before (λ first. (k : ℕ) → k < m → P first k) → All (P now) members
+each_read P before now m is all each =
+    let known = subst (λ (o : Option Configured). IfSome o (λ first. (k : ℕ) → k < m → P first k)) is each in
+    all_two (P now) (known 0 (omega (arith, all))) (known 1 (omega (arith, all)))
+
+-- what is known of each by its number
+pub all_known : (P : Configured → ℕ → List Placed → Type 0) (before : Option Configured) (now : Configured) (m : ℕ) → before ≡ Some now → 2 ≤ m → IfSome before (λ first. (k : ℕ) → k < m → (known : List Placed) × P first k known) → (known : ℕ → List Placed) × All (λ k. P now k (known k)) members
+all_known P before now m is all each =
+    let each_is = subst (λ (o : Option Configured). IfSome o (λ first. (k : ℕ) → k < m → (known : List Placed) × P first k known)) is each in
+    let first = each_is 0 (omega (arith, all)) in
+    let second = each_is 1 (omega (arith, all)) in
     (λ k. cond (k == 0) first.0 second.0, all_two (λ k. P now k (cond (k == 0) first.0 second.0)) first.1 second.1)
 
 -- Causes of a fault over the calls on the media.

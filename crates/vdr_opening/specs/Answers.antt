@@ -14,7 +14,7 @@ use Rattle.vdr_ring.specs.Rings.{RingState, HasMedium}
 use Rattle.vdr_ring.specs.Rings as rings
 use Rattle.vdr_opening.specs.declared.refused.OpenRefused.{OpenRefused}
 use Rattle.vdr_opening.specs.declared.refused.OpenRefused.TheVariants.{Damaged, Fault, NotFormatted}
-use Rattle.vdr_opening.specs.Media.{members, Contents, HoldsContents, reading_of}
+use Rattle.vdr_opening.specs.Media.{members, Contents, HoldsContents, HoldsParts, reading_of}
 use Rattle.vdr_opening.specs.Refusals.{IsRefused}
 
 -- What was opened: the configuration, a ring on each medium in order of number, the incidents, and the batch that the media from a
@@ -72,6 +72,14 @@ module _ {tells tells_images : Type 0} where
     pub rings : All (λ m. rings.Reads (ring_at o.rings m) (x.placed m) disk) members
     pub table : o.table ≡ x.table
     pub missing : IsMissing o.missing o.lacking (reading_of x)
+
+  -- What opening reads of the media is this, and so it was opened.
+  pub record IsOpenedBy (o : OpenedState) (x : Contents) (disk : Disk tells tells_images) : Type 0 where
+    pub holds : HoldsParts disk.reads x
+    pub meet : EndsMeet members (reading_of x)
+    pub config : o.config ≡ x.config
+    pub rings : All (λ m. rings.Knows (ring_at o.rings m) (x.placed m) disk) members
+    pub table : o.table ≡ x.table
 
   -- The media that are read were not formatted, or this is the first part that is not legal.
   pub record RefusesAsRead {T : Type 0} (result : Result T OpenRefused) (disk : Disk tells tells_images) : Type 0 where

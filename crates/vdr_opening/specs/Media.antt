@@ -1,5 +1,5 @@
 -- What the capsule and the long-term medium hold, by the parts of their bytes (this project's profile).
-use Rattle.std.specs.Prelude.{◌≡◌, ℕ, List, [], length, replicate, All, IfSome, Option, None}
+use Rattle.std.specs.Prelude.{◌≡◌, ℕ, List, [], length, map, replicate, All, IfSome, Option, None}
 use Rattle.vdr_history.specs.Histories.{Incident, Opening}
 use Rattle.vdr_durability.specs.Readings.{Reading}
 use Rattle.vdr_durability.specs.Shown.{opened}
@@ -12,6 +12,9 @@ use Rattle.vdr_directory.specs.Sequence.{Placed, batches_in}
 use Rattle.vdr_directory.specs.Order.{AreInOrder}
 use Rattle.vdr_directory.specs.Holds.{HoldsPlaced}
 use Rattle.vdr_directory.specs.Lookup.{HoldAll}
+use Rattle.vdr_directory.specs.Knowns.{AreInOrderBy, known_of}
+use Rattle.vdr_directory.specs.Opening.{AreKnown}
+use Rattle.vdr_directory.specs.Telling.{HoldAllBy}
 use Rattle.vdr_incident.specs.Tables.{HoldsTable}
 use Rattle.vdr_opening.specs.Settings.{settings_of}
 
@@ -50,6 +53,30 @@ pub record HoldsContents (image : Image) (x : Contents) : Type 0 where
   pub media : All (λ m. IsMedium m x.config x.text (x.placed m) (content image m)) members
   pub table : HoldsTable x.config.incident_slots x.table (content image 1)
   pub there : AreThere x.table (x.placed 1)
+
+-- What opening reads of media's contents: all, but for the batches of segments whose header has a summary.
+abbrev pub parts_of : Contents → Contents
+parts_of x = record x { placed = λ m. map known_of (x.placed m) }
+
+-- The slots of a medium hold segments of which opening knows this, in a legal order as far as it knows.
+pub record HasKnowns (c : Configuration) (known : List Placed) (bytes : List ℕ) : Type 0 where
+  pub are : AreKnown c.segment (slot_count c.segment (length bytes)) bytes known
+  pub order : AreInOrderBy known
+
+-- What opening reads of medium m, but for its incident slots, is legal.
+pub record IsMediumBy (m : ℕ) (c : Configuration) (text : List ℕ) (known : List Placed) (bytes : List ℕ) : Type 0 where
+  pub front : HasFront m c text bytes
+  pub segments : HasKnowns c known bytes
+
+-- All places of each live incident stand in these segments, by what is known of them.
+abbrev pub AreThereBy : List (Option Incident) → List Placed → Type 0
+AreThereBy table known = All (λ slot. IfSome slot (λ incident. HoldAllBy incident.a incident.b known)) table
+
+-- What opening reads of the image is legal, and is this. Batches that it leaves unread may be broken.
+pub record HoldsParts (image : Image) (x : Contents) : Type 0 where
+  pub media : All (λ m. IsMediumBy m x.config x.text (x.placed m) (content image m)) members
+  pub table : HoldsTable x.config.incident_slots x.table (content image 1)
+  pub there : AreThereBy x.table (x.placed 1)
 
 -- What contents read as.
 abbrev pub reading_of : Contents → Reading

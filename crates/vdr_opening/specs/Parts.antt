@@ -7,7 +7,7 @@ use Rattle.vdr_outside.specs.declared.fault.PartRefused.{PartRefused}
 use Rattle.vdr_outside.specs.declared.fault.PartRefused.TheVariants as parts
 use Rattle.vdr_config.specs.Configuration.{Configuration}
 use Rattle.vdr_segment.specs.Gates.{IsOpenAt}
-use Rattle.vdr_directory.specs.Lookup.{HoldAll}
+use Rattle.vdr_directory.specs.Telling.{HoldAllBy}
 use Rattle.vdr_ring.specs.Rings.{RingState}
 use Rattle.vdr_ring.specs.Rings as rings
 use Rattle.vdr_directory.specs.Sequence.{Placed}
@@ -17,7 +17,7 @@ use Rattle.vdr_media.specs.Layout.{superblock_bytes}
 use Rattle.vdr_opening.specs.declared.refused.OpenRefused.{OpenRefused}
 use Rattle.vdr_opening.specs.declared.refused.OpenRefused.TheVariants.{NoMemory, Damaged, Fault}
 use Rattle.vdr_opening.specs.declared.text.Configured.{Configured}
-use Rattle.vdr_opening.specs.Media.{members, AreThere, IsMedium}
+use Rattle.vdr_opening.specs.Media.{members, AreThereBy, IsMedium, IsMediumBy}
 use Rattle.vdr_opening.specs.Answers.{AreRingsOf, ring_at}
 
 -- The text of the configuration of the medium before, where there is one.
@@ -43,41 +43,46 @@ pub record HasRoomBefore (m : ℕ) (sizes : List ℕ) : Type 0 where
   pub room : 32768 ≤ get_or sizes m 0
 
 module _ {tells tells_images : Type 0} where
-  -- Medium m is legal but for its incident slots, and the ring reads so.
-  pub record ReadsMedium (m : ℕ) (c : Configuration) (text : List ℕ) (placed : List Placed) (ring : RingState) (disk : Disk tells tells_images) : Type 0 where
-    pub legal : IsMedium m c text placed (content disk.reads m)
-    pub reads : rings.Reads ring placed disk
+  -- What opening reads of medium m is legal but for its incident slots, and the ring knows it.
+  pub record KnowsMedium (m : ℕ) (c : Configuration) (text : List ℕ) (known : List Placed) (ring : RingState) (disk : Disk tells tells_images) : Type 0 where
+    pub legal : IsMediumBy m c text known (content disk.reads m)
+    pub knows : rings.Knows ring known disk
 
-  -- The ring on each of the media reads as these segments.
-  abbrev pub AreRead : List RingState → (ℕ → List Placed) → Disk tells tells_images → Type 0
-  AreRead on placed disk = All (λ m. rings.Reads (ring_at on m) (placed m) disk) members
+  -- The ring reads as the segments of its medium, where that is legal.
+  abbrev pub ReadsLegal : (m : ℕ) (c : Configuration) (text : List ℕ) → RingState → Disk tells tells_images → Type 0
+  ReadsLegal m c text ring disk = (placed : List Placed) → IsMedium m c text placed (content disk.reads m) → rings.Reads ring placed disk
+
+  -- The ring on each of the media knows these segments.
+  abbrev pub AreKnownTo : List RingState → (ℕ → List Placed) → Disk tells tells_images → Type 0
+  AreKnownTo on known disk = All (λ m. rings.Knows (ring_at on m) (known m) disk) members
 
   -- Rings read from their media: each is that of its medium as it was, and reads as it did. Nothing was written.
   pub record KeepsRings (old new : List RingState) (before after : Disk tells tells_images) : Type 0 where
     pub of_media : (c : Configuration) (sizes : List ℕ) → AreRingsOf c sizes old → AreRingsOf c sizes new
     pub reads : (m : ℕ) (placed : List Placed) → rings.Reads (ring_at old m) placed before → rings.Reads (ring_at new m) placed after
+    pub knows : (m : ℕ) (known : List Placed) → rings.Knows (ring_at old m) known before → rings.Knows (ring_at new m) known after
     pub unchanged : Unchanged before after
 
--- An incident slot is free, or all places of its incident stand in these segments.
+-- An incident slot is free, or all places of its incident stand in these segments, by what is known of them.
 abbrev pub IsThere : List Placed → Option Incident → Type 0
-IsThere placed slot = IfSome slot (λ incident. HoldAll incident.a incident.b placed)
+IsThere known slot = IfSome slot (λ incident. HoldAllBy incident.a incident.b known)
 
 -- The slot of this index is the first whose places do not all stand in these segments.
-pub record LacksPlaces (table : List (Option Incident)) (placed : List Placed) (slot : ℕ) : Type 0 where
+pub record LacksPlaces (table : List (Option Incident)) (known : List Placed) (slot : ℕ) : Type 0 where
   pub before : List (Option Incident)
   pub here : Incident
   pub after : List (Option Incident)
   pub split : table ≡ before ++ Some here ∷ after
   pub index : length before ≡ slot
-  pub there : AreThere before placed
-  pub missing : HoldAll here.a here.b placed → ⊥
+  pub there : AreThereBy before known
+  pub missing : HoldAllBy here.a here.b known → ⊥
 
 -- These bytes hold a table of so many slots, and the first whose places do not all stand in these segments begins at this offset.
-pub record LacksPlacesAt (slots : ℕ) (placed : List Placed) (bytes : List ℕ) (offset : ℕ) : Type 0 where
+pub record LacksPlacesAt (slots : ℕ) (known : List Placed) (bytes : List ℕ) (offset : ℕ) : Type 0 where
   pub table : List (Option Incident)
   pub holds : HoldsTable slots table bytes
   pub slot : ℕ
-  pub lacks : LacksPlaces table placed slot
+  pub lacks : LacksPlaces table known slot
   pub at : offset ≡ place_of slot
 
 -- The count of no medium falls. A fault comes only where that of one of the media rose.

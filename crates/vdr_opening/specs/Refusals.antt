@@ -1,6 +1,6 @@
--- The first part of the media that is not legal, in the order in which opening tests them (this project's profile): on one medium
--- after the other its superblock, its configuration, its segments and their order; then the incident slots by their bytes; then
--- by whether their places are there; then whether the ends of the media meet.
+-- The first part of the media that is not legal, in the order in which opening tests them (this project's profile). On one
+-- medium after the other these are its superblock, its configuration, its segments and their order. Then come the incident
+-- slots, by their bytes and then by whether their places are there; then whether the ends of the media meet.
 use Rattle.std.specs.Prelude.{◌≡◌, ◌⊎◌, ◌∷◌, ◌++◌, ℕ, List, [], length, All, IfSome, Option, Some, None}
 use Rattle.vdr_history.specs.Histories.{Incident}
 use Rattle.vdr_durability.specs.Readings.{EndsOff}
@@ -10,11 +10,11 @@ use Rattle.vdr_terms.specs.Slots.{slot_count}
 use Rattle.vdr_media.specs.Layout.{text_from}
 use Rattle.vdr_media.specs.Medium.{IsSuperblock}
 use Rattle.vdr_directory.specs.Sequence.{Placed}
-use Rattle.vdr_directory.specs.Lookup.{HoldAll}
+use Rattle.vdr_directory.specs.Telling.{HoldAllBy}
 use Rattle.vdr_directory.specs.Opening.{Refuses}
 use Rattle.vdr_incident.specs.Tables.{HoldsTable, place_of}
 use Rattle.vdr_incident.specs.Tables as incidents
-use Rattle.vdr_opening.specs.Media.{members, HasFront, IsMedium, Contents, HoldsContents, reading_of}
+use Rattle.vdr_opening.specs.Media.{members, HasFront, IsMediumBy, Contents, HoldsParts, reading_of}
 
 -- The text is that of the medium before, where there is one.
 abbrev pub IsSameText : Option (List ℕ) → List ℕ → Type 0
@@ -44,11 +44,11 @@ pub record RefusesSegments (m : ℕ) (before : Option (List ℕ)) (bytes : List 
 abbrev pub RefusesMedium : (m : ℕ) (before : Option (List ℕ)) (bytes : List ℕ) (offset : ℕ) → Type 0
 RefusesMedium m before bytes offset = RefusesSuperblock m bytes offset ⊎ (RefusesConfiguration m before bytes offset ⊎ RefusesSegments m before bytes offset)
 
--- Medium m is legal behind one with this configuration, and has this text.
+-- What opening reads of medium m is legal behind one with this configuration, and has this text.
 pub record IsLegalBehind (m : ℕ) (before : Option (List ℕ)) (text bytes : List ℕ) : Type 0 where
   pub config : Configuration
-  pub placed : List Placed
-  pub legal : IsMedium m config text placed bytes
+  pub known : List Placed
+  pub legal : IsMediumBy m config text known bytes
   pub same : IsSameText before text
 
 -- The first of these media that is not legal is m.
@@ -58,39 +58,39 @@ RefusesFrom before (k ∷ ks) image m offset =
     ((m ≡ k) × RefusesMedium k before (content image k) offset)
     ⊎ ((text : List ℕ) × IsLegalBehind k before text (content image k) × RefusesFrom (Some text) ks image m offset)
 
--- Each medium is legal, with one configuration.
-pub record AreLegal (image : Image) (c : Configuration) (text : List ℕ) (placed : ℕ → List Placed) : Type 0 where
-  pub each : All (λ m. IsMedium m c text (placed m) (content image m)) members
+-- What opening reads of each medium is legal, with one configuration.
+pub record AreLegal (image : Image) (c : Configuration) (text : List ℕ) (known : ℕ → List Placed) : Type 0 where
+  pub each : All (λ m. IsMediumBy m c text (known m) (content image m)) members
 
 -- The media are, and the first incident slot that is not is at this offset.
 pub record RefusesIncidents (image : Image) (m offset : ℕ) : Type 0 where
   pub config : Configuration
   pub text : List ℕ
-  pub placed : ℕ → List Placed
-  pub legal : AreLegal image config text placed
+  pub known : ℕ → List Placed
+  pub legal : AreLegal image config text known
   pub refuses : incidents.Refuses config.incident_slots (content image 1) offset
   pub on : m ≡ 1
 
--- The incident slots are, and the first whose places are not all there is at this offset.
+-- The incident slots are, and the first whose places are not all there is at this offset, by what is known of the segments.
 pub record RefusesPlaces (image : Image) (m offset : ℕ) : Type 0 where
   pub config : Configuration
   pub text : List ℕ
-  pub placed : ℕ → List Placed
-  pub legal : AreLegal image config text placed
+  pub known : ℕ → List Placed
+  pub legal : AreLegal image config text known
   pub before : List (Option Incident)
   pub here : Incident
   pub after : List (Option Incident)
   pub table : HoldsTable config.incident_slots (before ++ Some here ∷ after) (content image 1)
-  pub there : All (λ slot. IfSome slot (λ incident. HoldAll incident.a incident.b (placed 1))) before
-  pub missing : HoldAll here.a here.b (placed 1) → ⊥
+  pub there : All (λ slot. IfSome slot (λ incident. HoldAllBy incident.a incident.b (known 1))) before
+  pub missing : HoldAllBy here.a here.b (known 1) → ⊥
   pub at : offset ≡ place_of (length before)
   pub on : m ≡ 1
 
 -- All parts are legal, and medium m is the first whose end is off.
 pub record RefusesEnds (image : Image) (m offset : ℕ) : Type 0 where
-  pub contents : Contents
-  pub holds : HoldsContents image contents
-  pub off : EndsOff members (reading_of contents) m
+  pub parts : Contents
+  pub holds : HoldsParts image parts
+  pub off : EndsOff members (reading_of parts) m
   pub at : offset ≡ 0
 
 -- The first part that is not legal is at this offset of medium m.

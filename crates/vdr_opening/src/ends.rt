@@ -1,17 +1,17 @@
 // Whether the ends of the media meet, and which batch some of them lack.
-ghost use Rattle.std.specs.Prelude.{◌≡◌, ◌≢◌, ◌+◌, ◌<◌, ◌≤◌, ℕ, List, [], length, Err, IfOk};
+ghost use Rattle.std.specs.Prelude.{◌≡◌, ◌≢◌, ◌+◌, ◌<◌, ◌≤◌, ℕ, List, [], length, All, Err, IfOk};
 ghost use Rattle.vdr_terms.specs.Records.{last};
 ghost use Rattle.vdr_terms.specs.Sizes.{batch_size};
 ghost use Rattle.vdr_durability.specs.Readings.{EndsMeet, EndsOff, comes_next};
 ghost use Rattle.vdr_config.specs.Configuration.{Configuration};
 ghost use Rattle.vdr_outside.specs.declared.fault.PartRefused.TheVariants.{Damaged};
-ghost use Rattle.vdr_directory.specs.Holds.{Tells};
-ghost use Rattle.vdr_ring.specs.Rings.{Reads};
+ghost use Rattle.vdr_directory.specs.Telling.{TellsBy};
+ghost use Rattle.vdr_ring.specs.Rings.{HoldsNewest, Knows};
 ghost use Rattle.vdr_ring.specs.Lasts.{batch_or_none};
 ghost use Rattle.vdr_directory.specs.Sequence.{Placed, all_records, batches_in};
 ghost use Rattle.vdr_opening.specs.Media.{members, Contents, reading_of};
 ghost use Rattle.vdr_opening.specs.Answers.{AreRingsOf, IsMissing, ring_at};
-ghost use Rattle.vdr_opening.specs.Parts.{AreRead, HasPartCause, KeepsRings};
+ghost use Rattle.vdr_opening.specs.Parts.{AreKnownTo, HasPartCause, KeepsRings};
 
 use crate::MEMBERS;
 use crate::same::same_records;
@@ -20,10 +20,10 @@ use vdr_entry::Record;
 use vdr_outside::{Media, PartRefused};
 use vdr_ring::Ring;
 
-// Whether a batch may come next on the ring's medium: it begins at the place after the last record, at place 0 where there is none, and
-// no earlier than that record.
+// Whether a batch may come next on the ring's medium: it begins at the place after the last record, at place 0 where there
+// is none, and no earlier than that record.
 fn follows(batch: &[Record], ring: &Ring) -> bool
-    ensures { (placed : List Placed) → Tells ring.now.slots placed ring.now.directory → result ≡ comes_next (last (all_records placed)) batch.now }
+    ensures { (known : List Placed) → TellsBy ring.now.slots known ring.now.directory → result ≡ comes_next (last (all_records known)) batch.now }
 {
     let Some(first) = batch.first() else {
         return false;
@@ -43,10 +43,12 @@ fn read_end<M: Media>(
 ) -> Result<Vec<Record>, PartRefused>
     requires few { m < 2 }
     requires rings { (c : Configuration) × AreRingsOf c (M.disk media.old).sizes rings.old }
-    ensures batch { IfOk result (λ batch. M.tells → (placed : List Placed) → Reads (ring_at rings.old m) placed (M.disk media.old) → batch_or_none batch.items ≡ last (batches_in placed)) }
+    ensures batch { IfOk result (λ batch. M.tells → (known : List Placed) → Knows (ring_at rings.old m) known (M.disk media.old) → batch_or_none batch.items ≡ last (batches_in known)) }
     ensures fits { IfOk result (λ batch. batch.items ≢ [] → 64 + batch_size batch.items + 1 ≤ (ring_at rings.old m).segment) }
-    ensures undamaged { (k offset : ℕ) → result ≡ Err (Damaged k offset) → M.tells → (placed : List Placed) → Reads (ring_at rings.old m) placed (M.disk media.old) → ⊥ }
+    ensures undamaged { (k offset : ℕ) → result ≡ Err (Damaged k offset) → M.tells → (known : List Placed) → Knows (ring_at rings.old m) known (M.disk media.old) → ⊥ }
     ensures kept { KeepsRings rings.old rings.new (M.disk media.old) (M.disk media.new) }
+    ensures others { (k : ℕ) → k ≢ m → ring_at rings.new k ≡ ring_at rings.old k }
+    ensures counts { HoldsNewest (ring_at rings.old m) → M.bytes_read media.new ≡ M.bytes_read media.old }
     ensures cause { HasPartCause (M.faults media.old) (M.faults media.new) result }
 {
     let ring = &mut rings[m as usize];
@@ -62,8 +64,8 @@ pub(crate) struct Missing {
     pub(crate) lacking: u8,
 }
 
-/// Reads the last batch of each medium, and gives the one that some lack, behind those that have it. `Damaged` names the
-/// first medium at which the ends no longer meet. It ends neither with the first one's batch, as all before it, nor
+/// Reads the last batch of each medium, and gives the one that some lack, behind those that have it. `Damaged` names
+/// the first medium at which the ends no longer meet. It ends neither with the first one's batch, as all before it, nor
 /// directly before that batch, so that it could come next there.
 pub(crate) fn missing_batch<M: Media>(
     alloc: Global,
@@ -71,13 +73,14 @@ pub(crate) fn missing_batch<M: Media>(
     rings: &mut [Ring],
 ) -> Result<Missing, PartRefused>
     requires { (c : Configuration) × AreRingsOf c (M.disk media.old).sizes rings.old }
-    ensures missing { IfOk result (λ missing. M.tells → (x : Contents) → AreRead rings.old x.placed (M.disk media.old)
+    ensures missing { IfOk result (λ missing. M.tells → (x : Contents) → AreKnownTo rings.old x.placed (M.disk media.old)
         → EndsMeet members (reading_of x) × IsMissing missing.batch.items missing.lacking (reading_of x)) }
     ensures fits { IfOk result (λ missing. missing.batch.items ≢ [] → 64 + batch_size missing.batch.items + 1 ≤ (ring_at rings.old 0).segment) }
     ensures behind { IfOk result (λ missing. missing.batch.items ≢ [] → (0 < missing.lacking) × (missing.lacking < length members)) }
-    ensures damaged { (m offset : ℕ) → result ≡ Err (Damaged m offset) → M.tells → (x : Contents) → AreRead rings.old x.placed (M.disk media.old)
+    ensures damaged { (m offset : ℕ) → result ≡ Err (Damaged m offset) → M.tells → (x : Contents) → AreKnownTo rings.old x.placed (M.disk media.old)
         → (offset ≡ 0) × EndsOff members (reading_of x) m }
     ensures kept { KeepsRings rings.old rings.new (M.disk media.old) (M.disk media.new) }
+    ensures counts { All (λ m. HoldsNewest (ring_at rings.old m)) members → M.bytes_read media.new ≡ M.bytes_read media.old }
     ensures cause { HasPartCause (M.faults media.old) (M.faults media.new) result }
 {
     let batch = read_end(alloc, media, rings, 0)?;

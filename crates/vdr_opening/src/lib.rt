@@ -12,7 +12,7 @@ mod same;
 mod superblock;
 mod text;
 
-pub use law::{law_of_contents, law_of_empty_media, law_of_refusals};
+pub use law::{law_of_contents, law_of_empty_media, law_of_parts, law_of_refusals};
 pub use medium::MEMBERS;
 pub use opened::Opened;
 pub use reading::read_media;

@@ -3,12 +3,15 @@ ghost use Rattle.std.specs.Prelude.{◌≡◌, ◌<◌, ◌≤◌, ℕ, List, le
 ghost use Rattle.vdr_outside.specs.Disk.{Durable, Unchanged, content};
 ghost use Rattle.vdr_outside.specs.declared.fault.PartRefused.TheVariants.{Damaged};
 ghost use Rattle.vdr_config.specs.Grammar.{configuration};
+ghost use Rattle.vdr_directory.specs.Costs.{ReadsAtMost};
 ghost use Rattle.vdr_directory.specs.Opening.{HasFaultCause};
 ghost use Rattle.vdr_directory.specs.Sequence.{Placed};
+ghost use Rattle.vdr_ring.specs.Rings.{HoldsNewest};
 ghost use Rattle.vdr_opening.specs.Media.{members};
+ghost use Rattle.vdr_opening.specs.Costs.{ReadsParts, opening_bytes};
 ghost use Rattle.vdr_opening.specs.Refusals.{RefusesFrom, RefusesMedium};
 ghost use Rattle.vdr_opening.specs.Answers.{AreRingsOf, IsRingOf, ring_at};
-ghost use Rattle.vdr_opening.specs.Parts.{HasPartCause, ReadsMedium, text_of};
+ghost use Rattle.vdr_opening.specs.Parts.{HasPartCause, KnowsMedium, ReadsLegal, text_of};
 
 use crate::superblock::read_superblock;
 use crate::text::{Configured, read_configuration};
@@ -46,7 +49,11 @@ fn open_medium<M: Media>(
     requires few { m < 2 }
     requires before { IfSome before (λ first. configuration first.text.items ≡ Ok first.config) }
     ensures reads { IfOk result (λ medium. M.tells → Durable m (M.disk media.old)
-        → (placed : List Placed) × ReadsMedium m medium.configured.config medium.configured.text.items placed medium.ring (M.disk media.new)) }
+        → ReadsLegal m medium.configured.config medium.configured.text.items medium.ring (M.disk media.new)) }
+    ensures parts { IfOk result (λ medium. M.tells
+        → (known : List Placed) × KnowsMedium m medium.configured.config medium.configured.text.items known medium.ring (M.disk media.new)
+        × ReadsAtMost m (opening_bytes 16408 medium.ring.segment medium.ring.slots known) (M.bytes_read media.old) (M.bytes_read media.new)) }
+    ensures held { IfOk result (λ medium. M.tells → HoldsNewest medium.ring) }
     ensures configured { IfOk result (λ medium. configuration medium.configured.text.items ≡ Ok medium.configured.config) }
     ensures same { IfOk result (λ medium. IfSome before (λ first. medium.configured ≡ first)) }
     ensures ring { IfOk result (λ medium. IsRingOf medium.configured.config (M.disk media.old).sizes m medium.ring) }
@@ -61,12 +68,16 @@ fn open_medium<M: Media>(
     Ok(Medium { configured, ring })
 }
 
-/// Reads the media in order of number. The configuration is that of them all. `Damaged` names the first part that is
-/// not legal.
+/// Reads the media in order of number, of a segment whose header has a summary that alone. The configuration is that of
+/// them all. `Damaged` names the first part that is read and not legal.
 pub(crate) fn open_media<M: Media>(alloc: Global, media: &mut M) -> Result<AllMedia, PartRefused>
     requires { 2 ≤ length (M.disk media.old).sizes }
-    ensures reads { IfOk result (λ all. M.tells → All (λ m. Durable m (M.disk media.old)) members → (placed : ℕ → List Placed)
-        × All (λ m. ReadsMedium m all.configured.config all.configured.text.items (placed m) (ring_at all.rings.items m) (M.disk media.new)) members) }
+    ensures reads { IfOk result (λ all. M.tells → All (λ m. Durable m (M.disk media.old)) members
+        → All (λ m. ReadsLegal m all.configured.config all.configured.text.items (ring_at all.rings.items m) (M.disk media.new)) members) }
+    ensures parts { IfOk result (λ all. M.tells → (known : ℕ → List Placed)
+        × All (λ m. KnowsMedium m all.configured.config all.configured.text.items (known m) (ring_at all.rings.items m) (M.disk media.new)) members
+        × ReadsParts 16408 all.configured.config.segment known (M.disk media.old).sizes (M.bytes_read media.old) (M.bytes_read media.new)) }
+    ensures held { IfOk result (λ all. M.tells → All (λ m. HoldsNewest (ring_at all.rings.items m)) members) }
     ensures rings { IfOk result (λ all. AreRingsOf all.configured.config (M.disk media.old).sizes all.rings.items) }
     ensures damaged { (m offset : ℕ) → result ≡ Err (Damaged m offset) → M.tells → All (λ k. Durable k (M.disk media.old)) members
         → RefusesFrom None members (M.disk media.old).reads m offset }

@@ -2,9 +2,10 @@ ghost use Rattle.std.specs.Prelude.{◌≡◌, ◌≤◌, ℕ, length, All, IfOk
 ghost use Rattle.vdr_outside.specs.Disk.{Durable, Unchanged};
 ghost use Rattle.vdr_outside.specs.declared.fault.PartRefused.TheVariants.{Damaged as PartDamaged};
 ghost use Rattle.vdr_media.specs.Formatted.{IsFormatted};
-ghost use Rattle.vdr_opening.specs.Media.{Contents, members};
+ghost use Rattle.vdr_opening.specs.Media.{Contents, HoldsContents, members};
+ghost use Rattle.vdr_opening.specs.Costs.{ReadsParts, ReadsToOpen};
 ghost use Rattle.vdr_opening.specs.Refusals.{IsRefused};
-ghost use Rattle.vdr_opening.specs.Answers.{FitsMedia, HasOpenCause, IsOpened, RefusesAsRead};
+ghost use Rattle.vdr_opening.specs.Answers.{FitsMedia, HasOpenCause, IsOpened, IsOpenedBy, RefusesAsRead};
 ghost use Rattle.vdr_opening.specs.Parts.{HasPartCause};
 
 use crate::ends::{Missing, missing_batch};
@@ -19,7 +20,10 @@ use vdr_outside::{Media, PartRefused};
 // Reads media that are formatted.
 fn read_formatted<M: Media>(alloc: Global, media: &mut M) -> Result<Opened, PartRefused>
     requires { 2 ≤ length (M.disk media.old).sizes }
-    ensures opened { IfOk result (λ o. M.tells → All (λ m. Durable m (M.disk media.old)) members → (x : Contents) × IsOpened o x (M.disk media.new)) }
+    ensures opened { IfOk result (λ o. M.tells → All (λ m. Durable m (M.disk media.old)) members → (x : Contents) → HoldsContents (M.disk media.old).reads x
+        → IsOpened o x (M.disk media.new)) }
+    ensures parts { IfOk result (λ o. M.tells → (x : Contents) × IsOpenedBy o x (M.disk media.new)
+        × ReadsParts 24600 x.config.segment x.placed (M.disk media.old).sizes (M.bytes_read media.old) (M.bytes_read media.new)) }
     ensures shape { IfOk result (λ o. FitsMedia o (M.disk media.old).sizes) }
     ensures damaged { (m offset : ℕ) → result ≡ Err (PartDamaged m offset) → M.tells → All (λ k. Durable k (M.disk media.old)) members → IsRefused (M.disk media.old).reads m offset }
     ensures unchanged { Unchanged (M.disk media.old) (M.disk media.new) }
@@ -40,17 +44,25 @@ fn read_formatted<M: Media>(alloc: Global, media: &mut M) -> Result<Opened, Part
     })
 }
 
-/// Reads the capsule and the long-term medium, and writes nothing. Where medium 0 decides that the media are formatted, each part of
-/// them is tested in order (`OpenRefused::Damaged`): on the capsule and then on the long-term medium the superblock (offset 0), the
-/// configuration (offset 12,288), the headers of the segments, in order of slot, their batches, in order of sequence number, and
-/// their order; then the incident slots by their bytes; then by whether their places are in segments of the long-term medium; then
-/// the two ends, at offset 0 of the long-term medium: they meet where both media end with one batch, or the long-term
-/// medium ends directly before the capsule's last batch, which may come next there by its place and its tick (this project's profile).
-/// A third medium is not looked at.
+/// Reads the capsule and the long-term medium, and writes nothing. Where medium 0 decides that the media are formatted,
+/// each part of them is tested in order (`OpenRefused::Damaged`). On the capsule and then on the long-term medium these
+/// are the superblock (offset 0), the configuration (offset 12,288) and the segments. Of these come first the headers, in
+/// order of slot; then the batches of those whose header has no summary, in order of sequence number; then the order of
+/// all. Behind both media come the incident slots by their bytes, and then by whether their places are in segments of the
+/// long-term medium.
+///
+/// Last come the two ends, at offset 0 of the long-term medium. They meet where both media end with one batch, or the
+/// long-term medium ends directly before the capsule's last batch, which may come next there by its place and its tick
+/// (this project's profile). A third medium is not looked at. The batches of a segment whose header has a summary are not
+/// read: they may be broken, or not agree with it, and are judged where they are read. Of each medium it reads at most
+/// 32,768 bytes of what stands before its slots, 64 of each slot, and whole the segments whose header has no summary.
 pub fn read_media<M: Media>(alloc: Global, media: &mut M) -> Result<Opened, OpenRefused>
     requires two { 2 ≤ length (M.disk media.old).sizes }
     requires three { length (M.disk media.old).sizes ≤ 3 }
-    ensures opened { IfOk result (λ o. M.tells → All (λ m. Durable m (M.disk media.old)) members → (x : Contents) × IsOpened o x (M.disk media.new)) }
+    ensures opened { IfOk result (λ o. M.tells → All (λ m. Durable m (M.disk media.old)) members → (x : Contents) → HoldsContents (M.disk media.old).reads x
+        → IsOpened o x (M.disk media.new)) }
+    ensures parts { IfOk result (λ o. M.tells → (x : Contents) × IsOpenedBy o x (M.disk media.new)
+        × ReadsToOpen x (M.disk media.old).sizes (M.bytes_read media.old) (M.bytes_read media.new)) }
     ensures formatted { IfOk result (λ o. M.tells → IsFormatted (M.disk media.old).reads) }
     ensures shape { IfOk result (λ o. FitsMedia o (M.disk media.old).sizes) }
     ensures refused { RefusesAsRead result (M.disk media.old) }

@@ -2,6 +2,7 @@
 ghost use Rattle.std.specs.Prelude.{◌≡◌, ◌<◌, ◌≤◌, ℕ, length, get_or, drop, Err, IfOk, IfSome, IfNone};
 ghost use Rattle.vdr_outside.specs.Disk.{Unchanged, content};
 ghost use Rattle.vdr_outside.specs.declared.fault.PartRefused.TheVariants.{Damaged};
+ghost use Rattle.vdr_directory.specs.Costs.{ReadsAtMost};
 ghost use Rattle.vdr_directory.specs.Opening.{HasFaultCause};
 ghost use Rattle.vdr_media.specs.Medium.{IsSuperblock};
 ghost use Rattle.vdr_opening.specs.Refusals.{RefusesSuperblock};
@@ -49,6 +50,7 @@ pub(crate) fn read_superblock<M: Media>(media: &mut M, m: u8) -> Result<u32, Par
     ensures damaged { (k offset : ℕ) → result ≡ Err (Damaged k offset) → (k ≡ m)
         × (M.tells → RefusesSuperblock m (content (M.disk media.old).reads m) offset) }
     ensures unchanged { Unchanged (M.disk media.old) (M.disk media.new) }
+    ensures counts { ReadsAtMost m 23 (M.bytes_read media.old) (M.bytes_read media.new) }
     ensures cause { HasFaultCause m (M.faults media.old) (M.faults media.new) result }
 {
     let size = media.size(m);

@@ -2,12 +2,14 @@
 ghost use Rattle.std.specs.Prelude.{◌≡◌, ◌<◌, ◌≤◌, ◌^◌, ◌↔◌, ℕ, List, length, get_or, Err, Ok, IfOk, IfSome, IsTrue};
 ghost use Rattle.vdr_terms.specs.Needs.{Fits};
 ghost use Rattle.vdr_bytes.specs.Numbers.{le_u32};
+ghost use Rattle.vdr_outside.specs.Causes.{counted};
 ghost use Rattle.vdr_outside.specs.Disk.{Unchanged, content};
 ghost use Rattle.vdr_outside.specs.Parts.{part};
 ghost use Rattle.vdr_outside.specs.declared.fault.PartRefused.TheVariants.{Damaged, Fault};
 ghost use Rattle.vdr_config.specs.Configuration.{Configuration};
 ghost use Rattle.vdr_config.specs.Grammar.{configuration};
 ghost use Rattle.vdr_config.specs.Sizes.{sizes_of};
+ghost use Rattle.vdr_directory.specs.Costs.{ReadsAtMost};
 ghost use Rattle.vdr_directory.specs.Opening.{HasFaultCause};
 ghost use Rattle.vdr_media.specs.Layout.{text_from};
 ghost use Rattle.vdr_media.specs.Medium.{HoldsText, IsSuperblock};
@@ -57,6 +59,7 @@ fn read_length<M: Media>(media: &mut M, m: u8) -> Result<u32, PartRefused>
     ensures small { IfOk result (λ n. n < 2 ^ 32) }
     ensures legal { (k offset : ℕ) → result ≡ Err (Damaged k offset) → ⊥ }
     ensures unchanged { Unchanged (M.disk media.old) (M.disk media.new) }
+    ensures counts { M.bytes_read media.new ≡ counted (M.bytes_read media.old) m 4 }
     ensures cause { HasFaultCause m (M.faults media.old) (M.faults media.new) result }
 {
     let mut bytes = [0; 4];
@@ -72,6 +75,7 @@ fn read_text<M: Media>(alloc: Global, media: &mut M, m: u8) -> Result<Vec<u8>, P
     ensures damaged { (k offset : ℕ) → result ≡ Err (Damaged k offset) → (k ≡ m) × (offset ≡ text_from)
         × (M.tells → (text : List ℕ) → length text ≤ 16380 → HoldsText text (content (M.disk media.old).reads m) → ⊥) }
     ensures unchanged { Unchanged (M.disk media.old) (M.disk media.new) }
+    ensures counts { ReadsAtMost m 16384 (M.bytes_read media.old) (M.bytes_read media.new) }
     ensures cause { HasFaultCause m (M.faults media.old) (M.faults media.new) result }
 {
     let length = read_length(media, m)?;
@@ -148,6 +152,7 @@ pub(crate) fn read_configuration<M: Media>(
     ensures damaged { (k offset : ℕ) → result ≡ Err (Damaged k offset) → (k ≡ m)
         × (M.tells → RefusesConfiguration m (text_of before) (content (M.disk media.old).reads m) offset) }
     ensures unchanged { Unchanged (M.disk media.old) (M.disk media.new) }
+    ensures counts { ReadsAtMost m 16384 (M.bytes_read media.old) (M.bytes_read media.new) }
     ensures cause { HasFaultCause m (M.faults media.old) (M.faults media.new) result }
 {
     let text = read_text(alloc, media, m)?;

@@ -1,5 +1,5 @@
 -- What `wav` and `picture` answer, from what the calls on the media ensure.
-use Rattle.std.proofs.Common.{◌≡◌, ◌≤◌, ◌↔◌, ◌⊎◌, inl, inr, ⊎_elim, ℕ, ℤ, List, [], Bool, true, false, if◌then◌else◌, length, Option, Some, None, Result, Ok, Err, refl, sym, ap, ◌∙◌, subst}
+use Rattle.std.proofs.Common.{◌≡◌, ◌≤◌, ◌⊎◌, inl, inr, ⊎_elim, ℕ, List, [], Bool, true, false, if◌then◌else◌, length, Option, Some, None, Result, Ok, Err, refl, sym, ap, ◌∙◌, subst}
 use Rattle.std.specs.Bool.{⊤}
 use Rattle.std.specs.Prelude.{IfErr, bytes_eq}
 use Rattle.std.proofs.KnownBytes.{Appends-nil}
@@ -18,7 +18,7 @@ use Rattle.vdr_opening.specs.declared.refused.OpenRefused.TheVariants as opening
 use Rattle.vdr_recorder.specs.Looks.{HasLooked}
 use Rattle.vdr_recorder.specs.Recordings.{HasRecorded, RecorderState}
 use Rattle.vdr_vault.proofs.Playing.{stands_to_read}
-use Rattle.vdr_vault.specs.Openings.{OpensAtEachMoment}
+use Rattle.vdr_vault.specs.Openings.{IsToldBy, OpensAtEachMoment}
 use Rattle.vdr_vault.specs.Vaults.{IsReadable, VaultState, ShowsHistory}
 use Rattle.vdr_visit.specs.Refusals.{HasOutputCause, IsAccepted, lacks_channel, lacks_incident, unanswered}
 use Rattle.vdr_visit.specs.declared.refused.VisitRefused.{VisitRefused}
@@ -28,13 +28,13 @@ use Rattle.vdr_export.specs.declared.file.File.{File}
 use Rattle.vdr_export.specs.declared.refused.ExportRefused.{ExportRefused}
 use Rattle.vdr_export.specs.declared.refused.ExportRefused.TheVariants as exports
 use Rattle.vdr_export.proofs.Refusing.{looked_as}
-use Rattle.vdr_command.specs.Opened.{AddsMissing, AreLooks, IfDamaged, IsLegibleWith, IsRefusedAt, MediaEnds, PrintsText, WasRecorded}
+use Rattle.vdr_command.specs.Opened.{AddsMissing, AreLooks, IfDamaged, IsOpenableWith, IsRefusedAt, MediaEnds, PrintsText, WasRecorded}
 use Rattle.vdr_command.specs.Outside.{MediaSeen, OutputSeen, Outside, PrintsFront, Writes}
 use Rattle.vdr_command.specs.StatusLine.{channel_line}
 use Rattle.vdr_command.specs.Statuses.{status_of_opening}
 use Rattle.vdr_command.specs.declared.status.Status.{Status}
 use Rattle.vdr_command.specs.declared.status.Status.TheVariants as ends
-use Rattle.vdr_command.proofs.OpenedLemmas.{OpenedOn, legible_so}
+use Rattle.vdr_command.proofs.OpenedLemmas.{OpenedOn, TellsOn, opened_so}
 use Rattle.vdr_readout.specs.Exports.{CanExport, ExportEnds, IfRefusal, IsJudged, IsExportStatus, WritesFile, file_in, kind_at, made_of, status_of_export, wished}
 use Rattle.vdr_readout.specs.Reads.{AskedPlay, CanBeRead, CanPlay, IfItself, IsOwnStatus, LacksChannel, LacksIncident, MetUnreadable, PlayEnds, all_records, channel_in, id_of, query_of, records_asked, status_by}
 use Rattle.vdr_readout.specs.declared.exporting.Wish.{Wish}
@@ -93,7 +93,7 @@ module _ {tells tells_images : Type 0} (wish : Wish) (asked : AskedPlay) (old ne
       refused = refusals _;
     };
     kind = λ k. absurd (kind k);
-    legible = λ judged. absurd (unjudged judged);
+    openable = λ judged. absurd (unjudged judged);
     damaged = damage;
     output = λ o. absurd (output o);
     line = λ c. absurd (channel c);
@@ -120,31 +120,29 @@ module _ {tells tells_images : Type 0} (wish : Wish) (asked : AskedPlay) (old ne
 
   -- No such channel is configured.
   pub channel_exports : {T : Type 0} (result : Result T OpenRefused) (r : T) → result ≡ Ok r
-      → (vault : VaultState) → LacksChannel vault.config asked.channel → OpenedOn old.media.disk vault
+      → (vault : VaultState) → LacksChannel vault.config asked.channel → OpenedOn old.media.disk vault → TellsOn old.media.disk vault
       → (tells → SameBut 1 old.media.disk.reads new.media.disk.reads)
       → ((x : Contents) → tells → HoldsContents old.media.disk.reads x → EndsMeet members (reading_of x) → WasRecorded x → OpensAtEachMoment old.media.disk new.media.disk result (ShowsHistory (opening_of x) []))
-      → ((x y : Contents) → HoldsContents old.media.disk.reads x → HoldsContents old.media.disk.reads y → x.config ≡ y.config)
       → Writes (channel_line asked.channel) old.output new.output → AddsMissing old.media.disk new.media.disk → ExportEnds wish asked old new ends.NoChannel
-  channel_exports result r is vault lacks contents others moments same wrote adds = record {
+  channel_exports result r is vault lacks parts contents others moments wrote adds = record {
     own = tt;
     written = λ x file t holds can of.
-        let c = contents t in
-        let config : vault.config ≡ x.config = c.4 ∙ same c.1 x c.2 holds in
+        let config : vault.config ≡ x.config = (contents x t holds).1.config in
         let none : file_in wish x.config asked.channel ≡ None = lacks_no_file wish x.config asked.channel (subst (λ (d : Configuration). LacksChannel d asked.channel) config lacks) in
         let clash : Some file ≡ None = sym of ∙ none in let no : ⊥ = cc in absurd no;
     kind = λ e. let none : ⊥ = cc in absurd none;
-    legible = λ judged. absurd judged;
+    openable = λ judged. absurd judged;
     damaged = tt;
     output = λ e. let none : ⊥ = cc in absurd none;
     line = λ e. wrote;
     silent = inr (inl tt);
-    media = channel_ends asked.medium asked.channel old.media new.media result r is vault lacks contents others moments;
+    media = channel_ends asked.medium asked.channel old.media new.media result r is vault lacks parts others moments;
     missing = adds;
   }
 
   module _ (mid : MediaSeen tells tells_images) (r after : RecorderState) (query : Query) (wants : Wants r.vault.config asked.medium asked.channel asked.from asked.to query)
       (works : r.vault.failed ≡ false)
-      (contents : OpenedOn old.media.disk r.vault)
+      (parts : OpenedOn old.media.disk r.vault) (contents : TellsOn old.media.disk r.vault)
       (opened : (x : Contents) → tells → HoldsContents old.media.disk.reads x → WasRecorded x
       → (t0 : ℕ) × (old.media.disk.clock ≤ t0) × (t0 ≤ mid.disk.clock) × HasRecorded (opening_of x) [] t0 r mid.disk)
       (readable : (x : Contents) → tells → HoldsContents old.media.disk.reads x → AreLevel members (reading_of x) → IsReadable (opening_of x) [] r.vault x.placed mid.disk)
@@ -165,7 +163,7 @@ module _ {tells tells_images : Type 0} (wish : Wish) (asked : AskedPlay) (old ne
           → HasLooked query r after mid.disk new.media.disk mid.bytes_read new.media.bytes_read mid.faults new.media.faults (ended ≡ Err stops.Fault)
           → IfItself ended IsOwnStatus → PlayEnds asked.medium asked.channel old.media new.media (status_by (λ (s : Status). s) ended asked.medium)
       media_so ended accepted never looked own =
-          read_ends asked old.media mid new.media r after query ended wants works contents opened readable accepted never looked later others (λ (s : Status). s) own result moments
+          read_ends asked old.media mid new.media r after query ended wants works parts opened readable accepted never looked later others (λ (s : Status). s) own result moments
 
       channel_there : lacks_channel (length r.vault.config.channels) query.channel ≡ false
       channel_there = ap (λ (q : Query). lacks_channel (length r.vault.config.channels) q.channel) wants.is ∙ asked_within r.vault.config asked.channel
@@ -194,12 +192,12 @@ module _ {tells tells_images : Type 0} (wish : Wish) (asked : AskedPlay) (old ne
           incident = (λ e. absurd (incident e), λ lacks. absurd (true_false _ lacks.1 lives));
         }
 
-        can_play : (x : Contents) → r.vault.config ≡ x.config → r.vault.table ≡ x.table → CanPlay x asked.medium asked.channel
-        can_play x config table = record {
-          channel = λ lacks. wants.there (subst (λ (d : Configuration). LacksChannel d asked.channel) (sym config) lacks);
+        can_play : (x : Contents) → IsToldBy x r.vault → CanPlay x asked.medium asked.channel
+        can_play x read = record {
+          channel = λ lacks. wants.there (subst (λ (d : Configuration). LacksChannel d asked.channel) (sym read.config) lacks);
           incident = λ lacks. true_false (lacks_incident r.vault.table query.medium)
               (ap (λ (q : Query). lacks_incident r.vault.table q.medium) wants.is
-              ∙ lacks_from r.vault.table asked.medium (subst (λ (t : List (Option histories.Incident)). LacksIncident t asked.medium) (sym table) lacks)) lives;
+              ∙ lacks_from r.vault.table asked.medium (subst (λ (t : List (Option histories.Incident)). LacksIncident t asked.medium) (sym read.table) lacks)) lives;
         }
 
         file_is : (found : Option File) → found ≡ wished wish (kind_at r.vault.config.channels query.channel) → file_in wish r.vault.config asked.channel ≡ found
@@ -207,17 +205,15 @@ module _ {tells tells_images : Type 0} (wish : Wish) (asked : AskedPlay) (old ne
 
         -- The channel is of another kind.
         pub kind_exports : (found : Option File) → found ≡ wished wish (kind_at r.vault.config.channels query.channel) → found ≡ None
-            → ((x y : Contents) → HoldsContents old.media.disk.reads x → HoldsContents old.media.disk.reads y → x.config ≡ y.config)
             → HasLooked query r after mid.disk new.media.disk mid.bytes_read new.media.bytes_read mid.faults new.media.faults ⊥ → new.output ≡ old.output → ExportEnds wish asked old new ends.ExportKind
-        kind_exports found is none same looked still = record {
+        kind_exports found is none looked still = record {
           own = tt;
           written = λ x file t holds can of.
-              let c = contents t in
-              let config : r.vault.config ≡ x.config = c.4 ∙ same c.1 x c.2 holds in
+              let config : r.vault.config ≡ x.config = (contents x t holds).1.config in
               let clash : Some file ≡ None = sym of ∙ ap (λ (d : Configuration). file_in wish d asked.channel) (sym config) ∙ file_is found is ∙ none in let no : ⊥ = cc in absurd no;
-          kind = λ e. legible_so (λ x. CanPlay x asked.medium asked.channel × (file_in wish x.config asked.channel ≡ None)) old.media.disk r.vault contents
-              (λ x t holds c k l. (can_play x c k, ap (λ (d : Configuration). file_in wish d asked.channel) (sym c) ∙ file_is found is ∙ none));
-          legible = λ judged. absurd judged;
+          kind = λ e. opened_so (λ x. CanPlay x asked.medium asked.channel × (file_in wish x.config asked.channel ≡ None)) old.media.disk r.vault parts
+              (λ x read. (can_play x read, ap (λ (d : Configuration). file_in wish d asked.channel) (sym read.config) ∙ file_is found is ∙ none));
+          openable = λ judged. absurd judged;
           damaged = tt;
           output = λ e. let no : ⊥ = cc in absurd no;
           line = λ e. let no : ⊥ = cc in absurd no;
@@ -229,26 +225,24 @@ module _ {tells tells_images : Type 0} (wish : Wish) (asked : AskedPlay) (old ne
 
         -- The file was to be written.
         module _ (found : Option File) (is : found ≡ wished wish (kind_at r.vault.config.channels query.channel)) (file : File) (some : found ≡ Some file)
-            (same : (x y : Contents) → HoldsContents old.media.disk.reads x → HoldsContents old.media.disk.reads y → x.config ≡ y.config) (out : Result ⊤ ExportRefused)
+            (out : Result ⊤ ExportRefused)
             (made : (opening : Opening) (events : List Event) (placed : ℕ → List Placed) → tells → IsReadable opening events r.vault placed mid.disk
             → FileEnds (file_of file (selected opening events query)) old.output.taken new.output.taken out)
             (looked : HasLooked query r after mid.disk new.media.disk mid.bytes_read new.media.bytes_read mid.faults new.media.faults (out ≡ Err exports.Fault)) where
           made_is : (x : Contents) → tells → HoldsContents old.media.disk.reads x → file_of file (selected (opening_of x) [] query) ≡ made_of x asked file
           unfolding made_of records_asked
           made_is x t holds =
-              let c = contents t in
-              let config : r.vault.config ≡ x.config = c.4 ∙ same c.1 x c.2 holds in
+              let config : r.vault.config ≡ x.config = (contents x t holds).1.config in
               ap (λ (q : Query). file_of file (selected (opening_of x) [] q)) (wants.is ∙ ap (λ (d : Configuration). query_of d asked.medium asked.channel asked.from asked.to) config)
 
           one_file : (x : Contents) → tells → HoldsContents old.media.disk.reads x → (other : File) → file_in wish x.config asked.channel ≡ Some other → other ≡ file
           one_file x t holds other of =
-              let c = contents t in
-              let config : r.vault.config ≡ x.config = c.4 ∙ same c.1 x c.2 holds in
+              let config : r.vault.config ≡ x.config = (contents x t holds).1.config in
               let both_are : Some other ≡ Some file = sym of ∙ ap (λ (d : Configuration). file_in wish d asked.channel) (sym config) ∙ file_is found is ∙ some in cc
 
-          exportable : tells → IsLegibleWith old.media.disk.reads (CanExport wish asked)
-          exportable = legible_so (CanExport wish asked) old.media.disk r.vault contents
-              (λ x t holds c k l. (can_play x c k, (file, ap (λ (d : Configuration). file_in wish d asked.channel) (sym c) ∙ file_is found is ∙ some)))
+          exportable : tells → IsOpenableWith old.media.disk.reads (CanExport wish asked)
+          exportable = opened_so (CanExport wish asked) old.media.disk r.vault parts
+              (λ x read. (can_play x read, (file, ap (λ (d : Configuration). file_in wish d asked.channel) (sym read.config) ∙ file_is found is ∙ some)))
 
           pub made_exports : IfErr out (IsFileRefusal file) → IfErr out (λ why. MayBeBegun file why ⊎ (new.output ≡ old.output)) → HasOutputCause old.output.faults new.output.faults (out ≡ Err exports.Output)
               → ExportEnds wish asked old new (status_of_export out)
@@ -260,7 +254,7 @@ module _ {tells tells_images : Type 0} (wish : Wish) (asked : AskedPlay) (old ne
                 (subst (λ (m : Result (List ℕ) ExportRefused). WritesFile m (status_of_export out) old.output new.output) (made_is x t holds)
                 (writes_so old.output new.output _ out (made (opening_of x) [] read.0 t read.1)));
             kind = λ e. absurd ((not_asked out).2 e);
-            legible = λ judged. exportable;
+            openable = λ judged. exportable;
             damaged = of_damage out _ (λ m offset told. inr (λ t. (
               exportable t,
               λ x holds can.

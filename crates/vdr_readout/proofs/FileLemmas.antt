@@ -1,5 +1,5 @@
 -- What the writing of a file comes to, as the page of the command says it.
-use Rattle.std.proofs.Common.{◌≡◌, ◌⊎◌, inl, inr, ⊎_elim, ℕ, List, [], ◌∷◌, Bool, true, false, if◌then◌else◌, Option, Some, None, Result, Ok, Err, refl, ap, ◌∙◌, subst}
+use Rattle.std.proofs.Common.{◌≡◌, ◌⊎◌, inl, inr, ⊎_elim, ℕ, List, [], ◌∷◌, Bool, true, false, if◌then◌else◌, Option, Some, None, Result, Ok, Err, refl, ap, subst}
 use Rattle.std.specs.Bool.{⊤}
 use Rattle.std.specs.Prelude.{IfErr, length, nat_le}
 use Rattle.std.specs.List.{flat_map}

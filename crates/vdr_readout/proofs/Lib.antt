@@ -2,6 +2,7 @@ pub mod ListLemmas
 pub mod PlayCompleteness
 pub mod OwnStatuses
 pub mod ReadLemmas
+pub mod CostLemmas
 pub mod Rows
 pub mod PlayLemmas
 pub mod FileLemmas

@@ -160,6 +160,7 @@ module _ {tells tells_images R : Type 0} {asked : AskedPlay} {Has : List Record 
         silent = play_silent asked old.media.disk Has status_of first fresh old.output new.output status told.shown;
         media = told.media;
         missing = told.missing;
+        bytes = told.bytes;
         complete = λ none t. plays_all asked.medium asked.channel old.media new.media t law status (λ is. none.output (output is)) (λ is. none.media (told.media.media.fault is)) own told.media;
       }
 

@@ -1,6 +1,6 @@
 -- What a command that reads records out answers, from what the calls on the media ensure.
 use Rattle.std.specs.Prelude.{sum, true, false, ⊤, bytes_eq, length, is_none}
-use Rattle.std.proofs.Common.{◌≡◌, ◌≤◌, ◌↔◌, ◌∷◌, inl, inr, ⊎_elim, ℕ, ℤ, List, [], Option, Some, None, Result, Ok, Err, refl, sym, ap, subst, ◌∙◌}
+use Rattle.std.proofs.Common.{◌≡◌, ◌≤◌, ◌∷◌, inl, inr, ⊎_elim, ℕ, ℤ, List, [], Option, Some, None, Result, Ok, Err, refl, sym, ap, subst, ◌∙◌}
 use Rattle.std.proofs.KnownBytes.{Appends-nil}
 use Rattle.vdr_terms.specs.Queries.{Query}
 use Rattle.vdr_history.specs.Histories.{Act, Event, Opening, incidents, live, records_of_act, table_after}
@@ -29,7 +29,8 @@ use Rattle.vdr_vault.proofs.OpenMoments.{never_both}
 use Rattle.vdr_vault.proofs.Playing.{stands_to_read}
 use Rattle.vdr_vault.proofs.ShownHistory.{stands_silent, stands_still}
 use Rattle.vdr_vault.specs.Vaults.{IsReadable, VaultState, ShowsHistory, Stands}
-use Rattle.vdr_command.specs.Opened.{AddsMissing, AreLooks, IsLegibleWith, KeepsContents, MediaEnds, WasRecorded}
+use Rattle.vdr_command.specs.Opened.{AddsMissing, AreLooks, IsOpenableWith, KeepsContents, MediaEnds, WasRecorded}
+use Rattle.vdr_command.specs.Endings.{IsWorkDone}
 use Rattle.vdr_command.specs.Statuses.{status_of_opening}
 use Rattle.vdr_command.specs.Outside.{MediaSeen, Outside, OutputFailed, OutputSeen, PrintsFront, Writes}
 use Rattle.vdr_command.specs.StatusLine.{channel_line}
@@ -44,7 +45,7 @@ use Rattle.vdr_command.specs.declared.status.Status.{Status}
 use Rattle.vdr_command.specs.declared.status.Status.TheVariants.{Done, Words, Config, Small, Unformatted, Formatted, Damaged, MediaFault, PortFault, LinkFault, InputFault, OutputFault, NoMemory, Feed, NoChannel, NoIncident, SaveRefused, Place, Tick, ExportKind, ExportNothing, ExportMixed, ExportLong, ExportPart}
 use Rattle.vdr_headline.proofs.Playing.{config_read}
 use Rattle.vdr_headline.proofs.Resting.{stand_reads}
-use Rattle.vdr_command.proofs.OpenedLemmas.{OpenedOn, kept_by_call, kept_opened, legible_so, no_looks, one_look, worked_ends}
+use Rattle.vdr_command.proofs.OpenedLemmas.{OpenedOn, TellsOn, kept_by_call, kept_opened, no_looks, one_look, opened_so, worked_ends}
 use Rattle.vdr_readout.proofs.OwnStatuses.{own_status}
 
 none_of : {A : Type 0} (o : Option A) → is_none o ≡ true → o ≡ None
@@ -72,6 +73,13 @@ pub asked_within : (c : Configuration) (name : List ℕ) → lacks_channel (leng
 asked_within c name = has_number (length c.channels) (channel_asked c name)
     (λ k is. position_within (λ channel. bytes_eq channel.name name) c.channels k (number_if (bytes_eq name all_records) (channel_in c name) k is))
 
+-- Where opening is refused the work is not done.
+pub not_done : (refused : OpenRefused) → IsWorkDone (status_of_opening refused) → ⊥
+not_done openings.NoMemory done = done
+not_done openings.NotFormatted done = done
+not_done (openings.Damaged m offset) done = done
+not_done openings.Fault done = done
+
 module _ {tells tells_images : Type 0} where
   -- A play ends so where it is not of its own refusals.
   pub with_media : (medium : Played) (name : List ℕ) (old new : MediaSeen tells tells_images) (refused : OpenRefused)
@@ -88,17 +96,17 @@ module _ {tells tells_images : Type 0} where
       → (tells → SameBut 1 old.disk.reads new.disk.reads)
       → ((x : Contents) → tells → HoldsContents old.disk.reads x → EndsMeet members (reading_of x) → WasRecorded x → OpensAtEachMoment old.disk new.disk result (ShowsHistory (opening_of x) []))
       → PlayEnds medium name old new NoChannel
-  channel_ends medium name old new result r is vault lacks contents others moments = record {
+  channel_ends medium name old new result r is vault lacks parts others moments = record {
     media = record {
       unformatted = λ e. let none : ⊥ = cc in absurd none;
       damaged = tt;
       fault = λ e. let none : ⊥ = cc in absurd none;
-      legible = λ played. absurd played;
+      openable = λ played. absurd played;
       others = others;
-      blank = λ t un. absurd (never_both old.disk.reads (contents t).0 un);
+      blank = λ t un. absurd (never_both old.disk.reads (parts t).0 un);
       kept = λ x t holds meet regular. inr (kept_opened x (config_read old.disk.reads x holds) regular AreLooks NoChannel old.disk new.disk result r is no_looks (λ worked. absurd worked) (moments x t holds meet regular));
     };
-    no_channel = λ e. legible_so (λ x. LacksChannel x.config name) old.disk vault contents (λ x t holds c k l. subst (λ (d : Configuration). LacksChannel d name) c lacks);
+    no_channel = λ e. opened_so (λ x. LacksChannel x.config name) old.disk vault parts (λ x read. subst (λ (d : Configuration). LacksChannel d name) read.config lacks);
     no_incident = tt;
   }
 
@@ -148,6 +156,7 @@ module _ {tells tells_images : Type 0} where
         (opening_shown asked old.media.disk Has Stops status_of line last old.output refused);
     media = with_media asked.medium asked.channel old.media new.media refused media;
     missing = missing;
+    bytes = λ worked. absurd (not_done refused worked);
   }
 
   pub channel_reads : {T R : Type 0} (asked : AskedPlay) (Has : List Record → Type 0) (Stops : List Record → R → Type 0) (status_of : R → Status) (line : List Record → Record → List ℕ) (last : List Record → List ℕ)
@@ -156,10 +165,11 @@ module _ {tells tells_images : Type 0} where
       → (tells → SameBut 1 old.media.disk.reads new.media.disk.reads)
       → ((x : Contents) → tells → HoldsContents old.media.disk.reads x → EndsMeet members (reading_of x) → WasRecorded x → OpensAtEachMoment old.media.disk new.media.disk result (ShowsHistory (opening_of x) []))
       → Writes (channel_line asked.channel) old.output new.output → AddsMissing old.media.disk new.media.disk → ReadsOut asked Has Stops status_of line last old new NoChannel
-  channel_reads asked Has Stops status_of line last old new result r is vault lacks contents others moments wrote missing = record {
+  channel_reads asked Has Stops status_of line last old new result r is vault lacks parts others moments wrote missing = record {
     shown = (wrote, lacks.0);
-    media = channel_ends asked.medium asked.channel old.media new.media result r is vault lacks contents others moments;
+    media = channel_ends asked.medium asked.channel old.media new.media result r is vault lacks parts others moments;
     missing = missing;
+    bytes = λ worked. absurd worked;
   }
 
 -- A visit of media that can be read never meets damage.
@@ -169,7 +179,7 @@ pub never_damaged : {tells tells_images R : Type 0} {query : Query} {vault : Vau
 never_damaged {R = R} {query = query} v opening events placed m offset t readable is =
     subst (λ (o : Result ⊤ (VisitRefused R)). AreVisited v.seen (selected opening events query) o) is (v.are opening events placed t readable)
 
--- Over one vault, which was opened on media that held some contents, a query is asked that stands for these words.
+-- Over one vault, which was opened on media, a query is asked that stands for these words.
 pub record Wants (config : Configuration) (medium : Played) (name : List ℕ) (from to : ℤ) (query : Query) : Type 0 where
   pub is : query ≡ query_of config medium name from to
   pub there : LacksChannel config name → ⊥
@@ -182,7 +192,7 @@ module _ {tells tells_images R : Type 0} (asked : AskedPlay) (old mid new : Medi
     (r after : RecorderState) (query : Query) (ended : Result ⊤ (VisitRefused R))
     (wants : Wants r.vault.config asked.medium asked.channel asked.from asked.to query)
     (works : r.vault.failed ≡ false)
-    (contents : OpenedOn old.disk r.vault)
+    (parts : OpenedOn old.disk r.vault)
     (opened : (x : Contents) → tells → HoldsContents old.disk.reads x → WasRecorded x
     → (t0 : ℕ) × (old.disk.clock ≤ t0) × (t0 ≤ mid.disk.clock) × HasRecorded (opening_of x) [] t0 r mid.disk)
     (readable : (x : Contents) → tells → HoldsContents old.disk.reads x → AreLevel members (reading_of x) → IsReadable (opening_of x) [] r.vault x.placed mid.disk) where
@@ -207,7 +217,7 @@ module _ {tells tells_images R : Type 0} (asked : AskedPlay) (old mid new : Medi
       (work.placed, work.stands)
 
   -- What can be read can be read by the vault.
-  to_read : (x : Contents) → tells → HoldsContents old.disk.reads x → CanBeRead x → (placed : ℕ → List Placed) × IsReadable (opening_of x) [] r.vault placed mid.disk
+  pub to_read : (x : Contents) → tells → HoldsContents old.disk.reads x → CanBeRead x → (placed : ℕ → List Placed) × IsReadable (opening_of x) [] r.vault placed mid.disk
   to_read x t holds (inl sound) = let stands = standing x t holds sound in (stands.0, stands_to_read (opening_of x) [] r.vault stands.0 mid.disk stands.1)
   to_read x t holds (inr level) = (x.placed, readable x t holds level)
 
@@ -235,10 +245,10 @@ module _ {tells tells_images R : Type 0} (asked : AskedPlay) (old mid new : Medi
       others_too : tells → SameBut 1 old.disk.reads new.disk.reads
       others_too t = subst (λ (image : Image). SameBut 1 old.disk.reads image) (sym (looked.read.unchanged.reads t)) (others t)
 
-      playable : (ended ≡ Err stops.NoIncident → ⊥) → tells → IsLegibleWith old.disk.reads (λ x. CanPlay x asked.medium asked.channel)
-      playable found = legible_so (λ x. CanPlay x asked.medium asked.channel) old.disk r.vault contents (λ x t holds c k l. record {
-        channel = λ lacks. wants.there (subst (λ (d : Configuration). LacksChannel d asked.channel) (sym c) lacks);
-        incident = λ lacks. found (accepted.incident.1 (channel_is_there, misses_from (lacks_from r.vault.table asked.medium (subst (λ (table : List (Option histories.Incident)). LacksIncident table asked.medium) (sym k) lacks))));
+      playable : (ended ≡ Err stops.NoIncident → ⊥) → tells → IsOpenableWith old.disk.reads (λ x. CanPlay x asked.medium asked.channel)
+      playable found = opened_so (λ x. CanPlay x asked.medium asked.channel) old.disk r.vault parts (λ x read. record {
+        channel = λ lacks. wants.there (subst (λ (d : Configuration). LacksChannel d asked.channel) (sym read.config) lacks);
+        incident = λ lacks. found (accepted.incident.1 (channel_is_there, misses_from (lacks_from r.vault.table asked.medium (subst (λ (table : List (Option histories.Incident)). LacksIncident table asked.medium) (sym read.table) lacks))));
       })
 
       irregular : (k offset : ℕ) → ended ≡ Err (stops.Damaged k offset) → tells → (x : Contents) → HoldsContents old.disk.reads x → CanBeRead x → ⊥
@@ -261,17 +271,17 @@ module _ {tells tells_images R : Type 0} (asked : AskedPlay) (old mid new : Medi
           unformatted = λ e. let none : ⊥ = cc in absurd none;
           damaged = tt;
           fault = λ e. let none : ⊥ = cc in absurd none;
-          legible = λ done. absurd done;
+          openable = λ done. absurd done;
           others = others_too;
-          blank = λ t un. absurd (never_both old.disk.reads (contents t).0 un);
+          blank = λ t un. absurd (never_both old.disk.reads (parts t).0 un);
           kept = λ x t holds meet regular. inr (kept_with_look _ x t holds meet regular);
         };
         no_channel = λ e. let none : ⊥ = cc in absurd none;
         no_incident = (
           medium_is r.vault.table asked.medium misses,
-          legible_so (λ x. (LacksChannel x.config asked.channel → ⊥) × LacksIncident x.table asked.medium) old.disk r.vault contents (λ x t holds c k l. (
-            (λ lacks. wants.there (subst (λ (d : Configuration). LacksChannel d asked.channel) (sym c) lacks)),
-            subst (λ (table : List (Option histories.Incident)). LacksIncident table asked.medium) k (lacks_is r.vault.table asked.medium misses),
+          opened_so (λ x. (LacksChannel x.config asked.channel → ⊥) × LacksIncident x.table asked.medium) old.disk r.vault parts (λ x read. (
+            (λ lacks. wants.there (subst (λ (d : Configuration). LacksChannel d asked.channel) (sym read.config) lacks)),
+            subst (λ (table : List (Option histories.Incident)). LacksIncident table asked.medium) read.table (lacks_is r.vault.table asked.medium misses),
           )),
         );
       }
@@ -280,9 +290,9 @@ module _ {tells tells_images R : Type 0} (asked : AskedPlay) (old mid new : Medi
           unformatted = λ e. let none : ⊥ = cc in absurd none;
           damaged = tt;
           fault = λ e. rose is;
-          legible = λ done. absurd done;
+          openable = λ done. absurd done;
           others = others_too;
-          blank = λ t un. absurd (never_both old.disk.reads (contents t).0 un);
+          blank = λ t un. absurd (never_both old.disk.reads (parts t).0 un);
           kept = λ x t holds meet regular. inr (kept_with_look _ x t holds meet regular);
         };
         no_channel = λ e. let none : ⊥ = cc in absurd none;
@@ -293,9 +303,9 @@ module _ {tells tells_images R : Type 0} (asked : AskedPlay) (old mid new : Medi
           unformatted = λ e. let none : ⊥ = cc in absurd none;
           damaged = inr (λ t. (playable (λ e. let clash : Err (stops.Damaged k offset) ≡ Err stops.NoIncident = sym is ∙ e in let none : ⊥ = cc in absurd none) t, irregular k offset is t));
           fault = λ e. let none : ⊥ = cc in absurd none;
-          legible = λ done. absurd done;
+          openable = λ done. absurd done;
           others = others_too;
-          blank = λ t un. absurd (never_both old.disk.reads (contents t).0 un);
+          blank = λ t un. absurd (never_both old.disk.reads (parts t).0 un);
           kept = λ x t holds meet regular. inr (kept_with_look _ x t holds meet regular);
         };
         no_channel = λ e. let none : ⊥ = cc in absurd none;
@@ -309,34 +319,33 @@ module _ {tells tells_images R : Type 0} (asked : AskedPlay) (old mid new : Medi
       ends_so (Err (stops.Own reason)) is =
           let s = status_of reason in
           let mine : IsOwnStatus s = subst (λ (o : Result ⊤ (VisitRefused R)). IfItself o (λ why. IsOwnStatus (status_of why))) is own in
-          let parts = own_status s _ _ mine in
+          let owned = own_status s _ _ mine in
           record {
             media = record {
               unformatted = λ e. absurd (subst IsOwnStatus e mine);
-              damaged = parts.0;
+              damaged = owned.0;
               fault = λ e. absurd (subst IsOwnStatus e mine);
-              legible = λ done. absurd (parts.2 done);
+              openable = λ done. absurd (owned.2 done);
               others = others_too;
-              blank = λ t un. absurd (never_both old.disk.reads (contents t).0 un);
+              blank = λ t un. absurd (never_both old.disk.reads (parts t).0 un);
               kept = λ x t holds meet regular. inr (kept_with_look _ x t holds meet regular);
             };
             no_channel = λ e. absurd (subst IsOwnStatus e mine);
-            no_incident = parts.1;
+            no_incident = owned.1;
           }
 
       pub read_ends : PlayEnds asked.medium asked.channel old new (status_by status_of ended asked.medium)
       read_ends = ends_so ended refl
 
       -- What stands in the output.
-      module _ (same : (x y : Contents) → HoldsContents old.disk.reads x → HoldsContents old.disk.reads y → x.config ≡ y.config) (Has : List Record → Type 0) (Stops : List Record → R → Type 0)
+      module _ (contents : TellsOn old.disk r.vault) (Has : List Record → Type 0) (Stops : List Record → R → Type 0)
           (line : List Record → Record → List ℕ) (last : List Record → List ℕ) (was next : OutputSeen)
           (visited : HasVisited query r.vault mid.disk Has Stops line (whole_text line last) was.taken next.taken ended) (unread : ended ≡ Err stops.NoIncident → next ≡ was)
           (blamed : ended ≡ Err stops.Output → OutputFailed was next) where
         selected_is : (x : Contents) → tells → HoldsContents old.disk.reads x → selected (opening_of x) [] query ≡ records_asked x asked
         unfolding records_asked
         selected_is x t holds =
-            let c = contents t in
-            let config : r.vault.config ≡ x.config = c.4 ∙ same c.1 x c.2 holds in
+            let config : r.vault.config ≡ x.config = (contents x t holds).1.config in
             ap (λ (q : Query). selected (opening_of x) [] q) (wants.is ∙ ap (λ (d : Configuration). query_of d asked.medium asked.channel asked.from asked.to) config)
 
         are_visited : (x : Contents) → tells → HoldsContents old.disk.reads x → CanBeRead x → AreVisited visited.seen (records_asked x asked) ended
@@ -366,7 +375,7 @@ module _ {tells tells_images R : Type 0} (asked : AskedPlay) (old mid new : Medi
               seen = visited.seen;
               stops = made.0;
               first = are;
-              legible = playable (λ e. let clash : Err (stops.Own reason) ≡ Err stops.NoIncident = sym is ∙ e in let none : ⊥ = cc in absurd none);
+              openable = playable (λ e. let clash : Err (stops.Own reason) ≡ Err stops.NoIncident = sym is ∙ e in let none : ⊥ = cc in absurd none);
               printed = (made.1, made.2, made.3, made.4);
             })
 

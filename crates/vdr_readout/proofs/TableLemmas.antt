@@ -1,6 +1,5 @@
 -- What a command owes that prints a table, from what reading out ensures.
 use Rattle.std.proofs.Common.{◌≡◌, ◌⊎◌, inl, inr, ⊎_elim, ◌++◌, ℕ, ℤ, List, [], fold, refl, sym, ap, subst, ◌∙◌}
-use Rattle.std.specs.Bool.{⊤}
 use Rattle.std.proofs.KnownBytes.{Appends-nil}
 use Rattle.vdr_terms.specs.Records.{Record}
 use Rattle.vdr_playback.specs.Sources.{Row}
@@ -148,6 +147,7 @@ module _ {tells tells_images R : Type 0} {asked : AskedPlay} {Has : List Record 
         silent = table_silent asked plain text old.media.disk Has Stops last last_is old.output new.output status told.shown;
         media = told.media;
         missing = told.missing;
+        bytes = told.bytes;
         complete = λ none t. plays_all asked.medium asked.channel old.media new.media t law status (λ is. none.output (output is)) (λ is. none.media (told.media.media.fault is)) own told.media;
       }
 

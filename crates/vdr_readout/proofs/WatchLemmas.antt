@@ -149,6 +149,7 @@ module _ {tells tells_images R : Type 0} {medium : Medium} {Has : List Record �
     silent = owed.silent;
     media = told.media;
     missing = told.missing;
+    bytes = told.bytes;
     complete = λ none t. plays_all medium all_records old.media new.media t law status (λ is. none.output (owed.output is)) (λ is. none.media (told.media.media.fault is)) owed.own told.media;
   }
 

@@ -17,7 +17,7 @@ use Rattle.vdr_opening.specs.Media.{members, Contents, HoldsContents, reading_of
 use Rattle.vdr_control.specs.Orders.PlainOrder.{Play as PlayOrder}
 use Rattle.vdr_control.specs.Plays.{SpellsPlay}
 use Rattle.vdr_command.specs.Endings.{IsDone}
-use Rattle.vdr_command.specs.Opened.{AddsMissing, IfDamaged, IsLegibleWith, IsRefusedAt, PrintsText, RefusesAll}
+use Rattle.vdr_command.specs.Opened.{AddsMissing, IfDamaged, IsOpenableWith, IsRefusedAt, PrintsText, RefusesAll}
 use Rattle.vdr_command.specs.Outside.{NothingFailed, OutputFailed, OutputSeen, Outside, PrintsFront, Writes}
 use Rattle.vdr_command.specs.Promises.{Promise}
 use Rattle.vdr_command.specs.StatusLine.{IsNoChannel, channel_line}
@@ -142,8 +142,8 @@ module _ {tells tells_images : Type 0} where
     pub written : (x : Contents) (file : File) → tells → HoldsContents old.media.disk.reads x → CanBeRead x → file_in wish x.config asked.channel ≡ Some file
         → WritesFile (made_of x asked file) status old.output new.output
     -- each refusal and failure comes only with its cause
-    pub kind : status ≡ ExportKind → tells → IsLegibleWith old.media.disk.reads (λ x. CanPlay x asked.medium asked.channel × (file_in wish x.config asked.channel ≡ None))
-    pub legible : IsJudged status → tells → IsLegibleWith old.media.disk.reads (CanExport wish asked)
+    pub kind : status ≡ ExportKind → tells → IsOpenableWith old.media.disk.reads (λ x. CanPlay x asked.medium asked.channel × (file_in wish x.config asked.channel ≡ None))
+    pub openable : IsJudged status → tells → IsOpenableWith old.media.disk.reads (CanExport wish asked)
     pub damaged : IfDamaged status (λ m offset. IsRefusedAt old.media.disk new.media.disk m offset ⊎ MetUnreadable old.media.disk (CanExport wish asked))
     pub output : status ≡ OutputFault → OutputFailed old.output new.output
     pub line : status ≡ NoChannel → Writes (channel_line asked.channel) old.output new.output

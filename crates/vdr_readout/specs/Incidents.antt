@@ -4,10 +4,11 @@ use Rattle.vdr_history.specs.Histories.{Incident, live}
 use Rattle.vdr_durability.specs.Readings.{EndsMeet}
 use Rattle.vdr_outside.specs.Disk.{Image}
 use Rattle.vdr_entry.specs.Utc.{utc_text}
-use Rattle.vdr_opening.specs.Media.{members, Contents, HoldsContents, reading_of}
+use Rattle.vdr_opening.specs.Costs.{ReadsToOpen}
+use Rattle.vdr_opening.specs.Media.{members, Contents, HoldsContents, HoldsParts, reading_of}
 use Rattle.vdr_command.specs.Endings.{IsDone, IsWorkDone}
 use Rattle.vdr_command.specs.Opened.{AddsMissing, AreLooks, MediaEnds, PrintsText, RefusesAll}
-use Rattle.vdr_command.specs.Outside.{NothingFailed, OutputFailed, Outside}
+use Rattle.vdr_command.specs.Outside.{MediaSeen, NothingFailed, OutputFailed, Outside}
 use Rattle.vdr_command.specs.Promises.{Promise}
 use Rattle.vdr_command.specs.declared.status.Status.{Status}
 use Rattle.vdr_command.specs.declared.status.Status.TheVariants.{Done, Unformatted, Damaged, MediaFault, OutputFault, NoMemory}
@@ -52,14 +53,19 @@ IsListStatus OutputFault = ⊤
 IsListStatus NoMemory = ⊤
 IsListStatus status = ⊥
 
--- Any legible media are listed.
+-- Any media that can be opened are listed.
 abbrev pub CanList : Contents → Type 0
 CanList x = ⊤
 
--- What is legible is listed, and what is not is refused by its own refusal, or there was no memory.
+-- What is legible is listed, and what can't be opened is refused by its own refusal, or there was no memory.
 pub record ListsAll (image : Image) (status : Status) : Type 0 where
   pub refused : RefusesAll image status
   pub done : (x : Contents) → HoldsContents image x → EndsMeet members (reading_of x) → IsDone status
+
+-- Where the work was done, no more was read of the media than opening reads.
+abbrev pub HasOnlyOpened : {tells tells_images : Type 0} → (old new : MediaSeen tells tells_images) → Status → Type 0
+HasOnlyOpened {tells} old new status =
+    IsWorkDone status → (x : Contents) → tells → HoldsParts old.disk.reads x → ReadsToOpen x old.disk.sizes old.bytes_read new.bytes_read
 
 -- What `incidents` owes.
 pub record Lists {tells tells_images : Type 0} (old new : Outside tells tells_images) (status : Status) : Type 0 where
@@ -72,6 +78,8 @@ pub record Lists {tells tells_images : Type 0} (old new : Outside tells tells_im
   -- the media, and what is said of them
   pub media : MediaEnds CanList ⊥ AreLooks old.media new.media status
   pub missing : AddsMissing old.media.disk new.media.disk
+  -- no more is read than opening reads
+  pub bytes : HasOnlyOpened old.media new.media status
   -- nothing else comes in the place of the list, or of a refusal, but want of memory
   pub complete : NothingFailed old new → tells → ListsAll old.media.disk.reads status
 

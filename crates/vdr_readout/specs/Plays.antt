@@ -13,7 +13,7 @@ use Rattle.vdr_command.specs.Promises.{Promise}
 use Rattle.vdr_command.specs.StatusLine.{IsNoChannel, channel_line}
 use Rattle.vdr_command.specs.declared.status.Status.{Status}
 use Rattle.vdr_command.specs.declared.status.Status.TheVariants.{Done, Unformatted, Damaged, MediaFault, OutputFault, NoMemory, NoChannel, NoIncident}
-use Rattle.vdr_readout.specs.Reads.{AreFirst, AskedPlay, CanBeRead, PlayEnds, PlaysAll, records_asked}
+use Rattle.vdr_readout.specs.Reads.{AreFirst, AskedPlay, CanBeRead, HasReadFew, PlayEnds, PlaysAll, records_asked}
 
 -- What is printed of media with these contents.
 abbrev pub play_text : Contents → AskedPlay → List ℕ
@@ -61,6 +61,8 @@ pub record Plays {tells tells_images : Type 0} (asked : AskedPlay) (old new : Ou
   -- the media, and what is said of them
   pub media : PlayEnds asked.medium asked.channel old.media new.media status
   pub missing : AddsMissing old.media.disk new.media.disk
+  -- of media that can be read no more is read than what opening reads and the segments that meet the query
+  pub bytes : HasReadFew asked old.media new.media status
   -- nothing else comes in the place of a play, or of a refusal, but want of memory
   pub complete : NothingFailed old new → tells → PlaysAll asked.medium asked.channel old.media.disk.reads status
 

@@ -1,22 +1,30 @@
 -- What is said of every command that opens recorded media, finds a channel and an incident there, and reads records out.
-use Rattle.std.specs.Prelude.{◌≡◌, ◌≢◌, ◌⊎◌, ◌++◌, if◌then◌else◌, ℕ, ℤ, List, [], position, bytes_eq, codes, Option, None, Result, Ok, Err, ⊤}
+use Rattle.std.specs.Prelude.{◌≡◌, ◌≢◌, ◌⊎◌, ◌++◌, ◌*◌, if◌then◌else◌, ℕ, ℤ, List, [], length, get_or, position, bytes_eq, codes, All, Option, Some, None, Result, Ok, Err, ⊤}
+use mathlib.Core.List.{Sublist}
 use Rattle.vdr_terms.specs.Records.{Record}
-use Rattle.vdr_terms.specs.Queries.{Query}
+use Rattle.vdr_terms.specs.Queries.{Query, Span}
+use Rattle.vdr_terms.specs.Slots.{slot_count}
 use Rattle.vdr_history.specs.Histories.{live}
 use Rattle.vdr_history.specs.Histories as histories
 use Rattle.vdr_durability.specs.Readings.{AreLevel, EndsMeet}
-use Rattle.vdr_playback.specs.Playback.{selected}
-use Rattle.vdr_outside.specs.Disk.{Disk, Image}
+use Rattle.vdr_playback.specs.Playback.{medium_of, selected}
+use Rattle.vdr_outside.specs.Disk.{Disk, Image, content}
 use Rattle.vdr_config.specs.Configuration.{Configuration}
+use Rattle.vdr_directory.specs.Costs.{ReadsAtMost}
+use Rattle.vdr_directory.specs.Holds.{HoldsPlaced}
+use Rattle.vdr_directory.specs.Indexed.{Meets}
+use Rattle.vdr_directory.specs.Sequence.{Placed}
 use Rattle.vdr_entry.specs.Queries.{asked_medium}
 use Rattle.vdr_entry.specs.declared.query.Medium.{Medium}
 use Rattle.vdr_entry.specs.declared.query.Medium.TheVariants.{Capsule, LongTerm, Incident}
-use Rattle.vdr_opening.specs.Media.{members, Contents, HoldsContents, opening_of, reading_of}
+use Rattle.vdr_opening.specs.Costs.{ReadsToOpen}
+use Rattle.vdr_opening.specs.Media.{members, Contents, HoldsContents, opening_of, parts_of, reading_of}
+use Rattle.vdr_vault.specs.Plays.{span_among}
 use Rattle.vdr_visit.specs.Prints.{text_of, whole_text}
 use Rattle.vdr_visit.specs.declared.refused.VisitRefused.{VisitRefused}
 use Rattle.vdr_visit.specs.declared.refused.VisitRefused.TheVariants as stops
-use Rattle.vdr_command.specs.Endings.{IsDone}
-use Rattle.vdr_command.specs.Opened.{AddsMissing, AreLooks, IfNoIncident, IsLegibleWith, MediaEnds, RefusesAll, WasRecorded}
+use Rattle.vdr_command.specs.Endings.{IsDone, IsWorkDone}
+use Rattle.vdr_command.specs.Opened.{AddsMissing, AreLooks, IfNoIncident, IsOpenableWith, MediaEnds, RefusesAll, WasRecorded}
 use Rattle.vdr_command.specs.Outside.{MediaSeen, OutputFailed, OutputSeen, Outside, Prints, PrintsFront, Writes}
 use Rattle.vdr_command.specs.StatusLine.{channel_line}
 use Rattle.vdr_command.specs.declared.status.Status.{Status}
@@ -77,6 +85,11 @@ id_of Capsule = 0
 id_of LongTerm = 0
 id_of (Incident id) = id
 
+-- By what is known of them these segments may have a record that the query selects, of what its medium comes to; none where that is nothing.
+abbrev pub MeetAll : Query → Option Span → List Placed → Type 0
+MeetAll query None met = met ≡ []
+MeetAll query (Some span) met = All (Meets query span) met
+
 -- How a visit of this medium ends the command, by what stands for a visitor's own reason.
 abbrev pub status_by : {R : Type 0} → (R → Status) → Result ⊤ (VisitRefused R) → Medium → Status
 status_by status_of (Ok all) medium = Done
@@ -110,16 +123,16 @@ IfItself (Err stops.Output) P = ⊤
 IfItself (Err (stops.Own reason)) P = P reason
 
 module _ {tells tells_images : Type 0} where
-  -- The media are legible, and of none that can be read.
+  -- The media can be opened, but hold no contents that can be read.
   abbrev pub MetUnreadable : Disk tells tells_images → (Can : Contents → Type 0) → Type 0
-  MetUnreadable old Can = tells → IsLegibleWith old.reads Can × ((x : Contents) → HoldsContents old.reads x → CanBeRead x → ⊥)
+  MetUnreadable old Can = tells → IsOpenableWith old.reads Can × ((x : Contents) → HoldsContents old.reads x → CanBeRead x → ⊥)
 
   -- What is said where the media were opened, by what they read as at entry.
   pub record PlayEnds (medium : Medium) (name : List ℕ) (old new : MediaSeen tells tells_images) (status : Status) : Type 0 where
     pub media : MediaEnds (λ x. CanPlay x medium name) (MetUnreadable old.disk (λ x. CanPlay x medium name)) AreLooks old new status
     -- each refusal of the words comes only in its case
-    pub no_channel : status ≡ NoChannel → tells → IsLegibleWith old.disk.reads (λ x. LacksChannel x.config name)
-    pub no_incident : IfNoIncident status (λ id. (medium ≡ Incident id) × (tells → IsLegibleWith old.disk.reads (λ x. (LacksChannel x.config name → ⊥) × LacksIncident x.table medium)))
+    pub no_channel : status ≡ NoChannel → tells → IsOpenableWith old.disk.reads (λ x. LacksChannel x.config name)
+    pub no_incident : IfNoIncident status (λ id. (medium ≡ Incident id) × (tells → IsOpenableWith old.disk.reads (λ x. (LacksChannel x.config name → ⊥) × LacksIncident x.table medium)))
 
   -- These are the records that are asked for, where the media can be read.
   abbrev pub AreAsked : AskedPlay → Disk tells tells_images → List Record → Type 0
@@ -141,7 +154,7 @@ module _ {tells tells_images : Type 0} where
     pub seen : List Record
     pub stops : Stops seen reason
     pub first : AreFirst asked disk seen
-    pub legible : tells → IsLegibleWith disk.reads (λ x. CanPlay x asked.medium asked.channel)
+    pub openable : tells → IsOpenableWith disk.reads (λ x. CanPlay x asked.medium asked.channel)
     pub printed : (first : List Record) × (rest : List Record) × (seen ≡ first ++ rest) × Prints (text_of line first) old new
 
   -- What stands in the output before the line of the status.
@@ -157,12 +170,33 @@ module _ {tells tells_images : Type 0} where
   ShowsReading asked disk Has Stops status_of line last old new (NoIncident id) = new ≡ old
   ShowsReading asked disk Has Stops status_of line last old new status = ((status ≡ NoMemory) × (new ≡ old)) ⊎ StoppedItself asked disk Stops status_of line old new status
 
+  -- What a query reads at most of media with these contents: of each medium what opening reads, and then, of its own medium, a segment's
+  -- bytes for each of these segments. All of them meet it, and each counts once.
+  pub record ReadsFew (query : Query) (x : Contents) (old new : MediaSeen tells tells_images) : Type 0 where
+    -- the segments that each medium holds once it is opened
+    pub placed : ℕ → List Placed
+    pub holds : All (λ m. HoldsPlaced x.config.segment (slot_count x.config.segment (get_or new.disk.sizes m 0)) (placed m) (content new.disk.reads m)) members
+    -- those that meet the query
+    pub met : List Placed
+    pub some : Sublist met (placed (medium_of query.medium))
+    pub meet : MeetAll query (span_among x.config x.table placed query.medium) met
+    -- what was read of each medium when they were opened, and what of the query's since
+    pub opened : List ℕ
+    pub to_open : ReadsToOpen (parts_of x) old.disk.sizes old.bytes_read opened
+    pub to_read : ReadsAtMost (medium_of query.medium) (x.config.segment * length met) opened new.bytes_read
+
+  -- Where the work was done on media that can be read, no more was read than that.
+  abbrev pub HasReadFew : AskedPlay → (old new : MediaSeen tells tells_images) → Status → Type 0
+  HasReadFew asked old new status = IsWorkDone status → (x : Contents) → tells → HoldsContents old.disk.reads x → CanBeRead x
+      → ReadsFew (query_of x.config asked.medium asked.channel asked.from asked.to) x old new
+
   -- What such a command owes, by what its visitor is, prints and may stop for.
   pub record ReadsOut {R : Type 0} (asked : AskedPlay) (Has : List Record → Type 0) (Stops : List Record → R → Type 0) (status_of : R → Status) (line : List Record → Record → List ℕ) (last : List Record → List ℕ)
       (old new : Outside tells tells_images) (status : Status) : Type 0 where
     pub shown : ShowsReading asked old.media.disk Has Stops status_of line last old.output new.output status
     pub media : PlayEnds asked.medium asked.channel old.media new.media status
     pub missing : AddsMissing old.media.disk new.media.disk
+    pub bytes : HasReadFew asked old.media new.media status
 
 -- What may be read out is, and what may not is refused by its own refusal, or there was no memory.
 pub record PlaysAll (medium : Medium) (name : List ℕ) (image : Image) (status : Status) : Type 0 where

@@ -8,7 +8,7 @@ use Rattle.vdr_command.specs.Outside.{NothingFailed, OutputFailed, Outside, Prin
 use Rattle.vdr_command.specs.declared.status.Status.{Status}
 use Rattle.vdr_command.specs.declared.status.Status.TheVariants.{NoChannel, OutputFault}
 use Rattle.vdr_readout.specs.Plays.{IsPlayStatus}
-use Rattle.vdr_readout.specs.Reads.{AskedPlay, CanBeRead, PlayEnds, PlaysAll, records_asked}
+use Rattle.vdr_readout.specs.Reads.{AskedPlay, CanBeRead, HasReadFew, PlayEnds, PlaysAll, records_asked}
 
 -- All records are asked for, of whatever channel, and `text` is the text of their table.
 pub record TellsTable {tells tells_images : Type 0} (asked : AskedPlay) (text : List Record → List ℕ) (old new : Outside tells tells_images) (status : Status) : Type 0 where
@@ -23,5 +23,7 @@ pub record TellsTable {tells tells_images : Type 0} (asked : AskedPlay) (text : 
   -- the media, and what is said of them, are as for a play of these records
   pub media : PlayEnds asked.medium asked.channel old.media new.media status
   pub missing : AddsMissing old.media.disk new.media.disk
+  -- of media that can be read no more is read than what opening reads and the segments that meet the query
+  pub bytes : HasReadFew asked old.media new.media status
   -- nothing else comes in the place of the table, or of a refusal, but want of memory
   pub complete : NothingFailed old new → tells → PlaysAll asked.medium asked.channel old.media.disk.reads status

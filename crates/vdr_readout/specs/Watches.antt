@@ -12,7 +12,7 @@ use Rattle.vdr_command.specs.Promises.{Promise}
 use Rattle.vdr_command.specs.declared.status.Status.{Status}
 use Rattle.vdr_command.specs.declared.status.Status.TheVariants.{Damaged, MediaFault, NoChannel, NoMemory, OutputFault}
 use Rattle.vdr_readout.specs.Plays.{IsPlayStatus}
-use Rattle.vdr_readout.specs.Reads.{AreFirst, CanBeRead, PlayEnds, PlaysAll, all_records, records_asked}
+use Rattle.vdr_readout.specs.Reads.{AreFirst, CanBeRead, HasReadFew, PlayEnds, PlaysAll, all_records, records_asked}
 use Rattle.vdr_readout.specs.Sources.{whole_of}
 
 -- What is printed of media with these contents: what all these records show, and their end.
@@ -41,6 +41,8 @@ pub record TellsWatch {tells tells_images : Type 0} (medium : Medium) (old new :
   -- the media, and what is said of them, are as for a play of all records
   pub media : PlayEnds medium all_records old.media new.media status
   pub missing : AddsMissing old.media.disk new.media.disk
+  -- of media that can be read no more is read than what opening reads and the segments that meet the query
+  pub bytes : HasReadFew (whole_of medium) old.media new.media status
   -- nothing else comes in the place of the text, or of a refusal, but want of memory
   pub complete : NothingFailed old new → tells → PlaysAll medium all_records old.media.disk.reads status
 

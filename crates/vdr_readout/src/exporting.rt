@@ -11,7 +11,6 @@ use std::convert::Infallible;
 use vdr_command::{Outer, Status, World, law_of_openings, report_channel};
 use vdr_config::{ChannelKind, Config};
 use vdr_export::{Block, ExportRefused, File, export_file};
-use vdr_opening::law_of_contents;
 use vdr_outside::{Media, Sink, Source};
 use vdr_recorder::Recorder;
 
@@ -74,7 +73,6 @@ fn export<I: Source + Drop, O: Sink + Drop, M: Media + Drop>(
     ensures sizes { (M.disk world.new.media).sizes ≡ (M.disk world.old.media).sizes }
     ensures unread { world.new.input ≡ world.old.input }
 {
-    law_of_contents();
     let mut recorder = Recorder::open(alloc, &mut world.media)?;
     let Some(query) = query_of(&recorder, wanted) else {
         report_channel(wanted.channel, &mut world.output);

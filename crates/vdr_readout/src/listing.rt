@@ -8,7 +8,7 @@ ghost use Rattle.vdr_outside.specs.Writes.{AppendsFront};
 ghost use Rattle.vdr_entry.specs.Utc.{utc_text};
 ghost use Rattle.vdr_opening.specs.Media.{Contents, HoldsContents};
 ghost use Rattle.vdr_command.specs.Endings.{IsWorkDone, ending};
-ghost use Rattle.vdr_readout.specs.Incidents.{CanList, IsListStatus, Lists, incident_row, incidents_text, row_if};
+ghost use Rattle.vdr_readout.specs.Incidents.{CanList, HasOnlyOpened, IsListStatus, Lists, incident_row, incidents_text, row_if};
 ghost use Rattle.vdr_command.specs.Opened.{AddsMissing, AreLooks, MediaEnds, PrintsText};
 ghost use Rattle.vdr_command.specs.declared.status.Status.TheVariants.{OutputFault, Words};
 
@@ -18,7 +18,6 @@ use std::alloc::Global;
 use vdr_command::{Outer, ROOM, Status, World, law_of_openings, push_text};
 use vdr_entry::write_utc;
 use vdr_incident::Save;
-use vdr_opening::law_of_contents;
 use vdr_outside::{Failed, Media, Sink, Source, write_all};
 use vdr_recorder::Recorder;
 use vdr_terms::MOST_INCIDENTS;
@@ -93,6 +92,7 @@ fn list<I: Source + Drop, O: Sink + Drop, M: Media + Drop>(
     requires three { length (M.disk world.old.media).sizes ≤ 3 }
     ensures statuses { IsListStatus (ending result) }
     ensures missing { AddsMissing (M.disk world.old.media) (M.disk world.new.media) }
+    ensures bytes { let at = ⟦<World<I, O, M> as Outer>⟧.outside in HasOnlyOpened (at world.old).media (at world.new).media (ending result) }
     ensures media { let at = ⟦<World<I, O, M> as Outer>⟧.outside in MediaEnds CanList ⊥ AreLooks (at world.old).media (at world.new).media (ending result) }
     ensures printed { let at = ⟦<World<I, O, M> as Outer>⟧.outside in (x : Contents) → M.tells → HoldsContents (M.disk world.old.media).reads x
         → PrintsText (incidents_text x.table) (ending result) (at world.old).output (at world.new).output }
@@ -102,7 +102,6 @@ fn list<I: Source + Drop, O: Sink + Drop, M: Media + Drop>(
     ensures sizes { (M.disk world.new.media).sizes ≡ (M.disk world.old.media).sizes }
     ensures unread { world.new.input ≡ world.old.input }
 {
-    law_of_contents();
     let recorder = Recorder::open(alloc, &mut world.media)?;
     match print_incidents(&recorder, &mut world.output) {
         Ok(()) => Ok(()),

@@ -8,9 +8,10 @@ ghost use Rattle.vdr_readout.specs.Reads.{IfItself, IsOwnStatus, LacksChannel, R
 use std::alloc::{AllocError, Global};
 use vdr_command::{Outer, Status, World, report_channel};
 use vdr_entry::{Medium, Query};
-use vdr_opening::law_of_contents;
+use vdr_opening::law_of_parts;
 use vdr_outside::{Media, Sink, Source};
 use vdr_recorder::Recorder;
+use vdr_vault::law_of_budgets;
 use vdr_visit::{VisitRefused, Visitor};
 
 /// The channel's name that stands for all records.
@@ -108,6 +109,9 @@ pub(crate) fn query_of(recorder: &Recorder, wanted: Wanted<'_>) -> Option<Query>
 ///
 /// `Unformatted`, `Damaged` and want of memory come of opening; then `NoChannel`, and then `NoIncident`, before anything is read.
 /// `MediaFault` and `Damaged` may come while reading; then the lines of whole records stand in the output, the first ones.
+///
+/// Where the work is done on media that can be read, it reads no more than opening does, and a segment for each that meets what is
+/// wanted, each once.
 pub fn read_out<I: Source + Drop, O: Sink + Drop, M: Media + Drop, V: Visitor>(
     alloc: Global,
     wanted: Wanted<'_>,
@@ -124,8 +128,9 @@ where
     ensures sizes { (M.disk world.new.media).sizes ≡ (M.disk world.old.media).sizes }
     ensures unread { world.new.input ≡ world.old.input }
 {
-    law_of_contents();
     let mut recorder = Recorder::open(alloc, &mut world.media)?;
+    law_of_parts();
+    law_of_budgets(&world.media);
     let Some(query) = query_of(&recorder, wanted) else {
         report_channel(wanted.channel, &mut world.output);
         return Err(Status::NoChannel);

@@ -1,13 +1,13 @@
 -- A recorder that was opened has an empty history over its opening.
-use Rattle.std.proofs.Common.{◌≡◌, ◌≢◌, ◌<◌, ◌≤◌, ℕ, List, [], ◌∷◌, sum_by, zero, suc, true, false, Option, Some, None, Result, Ok, Err, inl, inr, refl, sym, ap, ◌∙◌, subst, arith, true≢false}
-use Rattle.std.proofs.lemmas.List.Elements.{All-nil, All-cons, All-head, All-tail}
+use Rattle.std.proofs.Common.{◌≡◌, ◌≢◌, ◌<◌, ◌≤◌, ℕ, List, [], sum_by, zero, suc, true, false, Option, Some, None, Result, Ok, Err, inl, inr, refl, sym, ap, ◌∙◌, subst, arith, true≢false}
+use Rattle.std.proofs.lemmas.List.Elements.{All-nil}
 use Rattle.vdr_terms.specs.Needs.{cost, usable}
 use Rattle.vdr_terms.specs.Order.{AreInOrder}
 use Rattle.vdr_terms.specs.Records.{Record, last}
 use Rattle.vdr_history.specs.Histories.{Event, Opening, Settings, stamp_of}
 use Rattle.vdr_history.specs.Runs.{RunStart}
 use Rattle.vdr_retention.specs.Layout.{Batches, batches_size_at, records_in}
-use Rattle.vdr_durability.specs.Readings.{EndBy, EndsMeet, Reading, ends_before, leading_batch, next_after}
+use Rattle.vdr_durability.specs.Readings.{next_after}
 use Rattle.vdr_durability.specs.Keeping.{Keeps}
 use Rattle.vdr_outside.specs.Disk.{Disk, Image}
 use Rattle.vdr_config.specs.Sizes.{sizes_of}
@@ -16,7 +16,6 @@ use Rattle.vdr_pace.proofs.Media.{at_opening}
 use Rattle.vdr_media.proofs.Two.{all_two}
 use Rattle.vdr_directory.specs.Sequence.{Placed, all_records, batches_in, segments_in}
 use Rattle.vdr_ring.specs.Regularity.{AreLaidOut, AreRegular}
-use Rattle.vdr_opening.specs.Media.{Contents, members, reading_of}
 use Rattle.vdr_opening.specs.declared.refused.OpenRefused.{OpenRefused}
 use Rattle.vdr_vault.specs.Openings.{GoesOnSynced, OpensAtEachMoment}
 use Rattle.vdr_vault.specs.Vaults.{VaultState, ShowsHistory, Stands}
@@ -38,33 +37,6 @@ module _ (cost usable batch : ℕ) (placed : List Placed) where
 ends_at : (start : RunStart) (o : Option Record) → start.place ≡ next_after o → start.last ≡ stamp_of o None → EndsBefore start o
 ends_at start None place stamp = tt
 ends_at start (Some r) place stamp = (sym place, stamp)
-
--- Where the ends meet depends on what both media read as alone.
-waits_same : (batch : Option (List Record)) (r s : Reading) (m : ℕ) → r.batches m ≡ s.batches m → ends_before batch (r.batches m) ≡ true → ends_before batch (s.batches m) ≡ true
-waits_same batch r s m same h = ap (ends_before batch) (sym same) ∙ h
-
-module _ (r s : Reading) (first : r.batches 0 ≡ s.batches 0) (second : r.batches 1 ≡ s.batches 1) where
-  same_lead : leading_batch members r ≡ leading_batch members s
-  same_lead = ap last first
-
-  end_second : (batch : Option (List Record)) → EndBy r batch (1 ∷ []) → EndBy s batch (1 ∷ [])
-  end_second batch (inl (here, more)) = inl (ap last (sym second) ∙ here, tt)
-  end_second batch (inr wait) =
-      inr (All-cons (λ k. ends_before batch (s.batches k) ≡ true) 1 []
-      (waits_same batch r s 1 second (All-head (λ k. ends_before batch (r.batches k) ≡ true) 1 [] wait)) (All-nil (λ k. ends_before batch (s.batches k) ≡ true)))
-
-  end_both : (batch : Option (List Record)) → EndBy r batch members → EndBy s batch members
-  end_both batch (inl (here, more)) = inl (ap last (sym first) ∙ here, end_second batch more)
-  end_both batch (inr wait) = inr (all_two (λ k. ends_before batch (s.batches k) ≡ true)
-      (waits_same batch r s 0 first (All-head (λ k. ends_before batch (r.batches k) ≡ true) 0 (1 ∷ []) wait))
-      (waits_same batch r s 1 second (All-head (λ k. ends_before batch (r.batches k) ≡ true) 1 [] (All-tail (λ k. ends_before batch (r.batches k) ≡ true) 0 (1 ∷ []) wait))))
-
-  pub meet_same : EndsMeet members r → EndsMeet members s
-  meet_same h = subst (λ (batch : Option (List Record)). EndBy s batch members) same_lead (end_both (leading_batch members r) h)
-
--- Contents of one image have one end.
-pub meet_as : (x y : Contents) → (x.placed 0 ≡ y.placed 0) × (x.placed 1 ≡ y.placed 1) → EndsMeet members (reading_of x) → EndsMeet members (reading_of y)
-meet_as x y same = meet_same (reading_of x) (reading_of y) (ap batches_in same.0) (ap batches_in same.1)
 
 -- The syncs had succeeded where the opening did.
 pub synced_where : {tells tells_images T : Type 0} (old new : Disk tells tells_images) (result : Result T OpenRefused) (x : T) (shows : Image → Type 0) → result ≡ Ok x

@@ -14,15 +14,16 @@ use Rattle.vdr_config.specs.Sizes.{limits_in}
 use Rattle.vdr_outside.specs.declared.media.Media.{Ghosts as MediaTells}
 use Rattle.vdr_outside.specs.Disk.{Disk}
 use Rattle.vdr_media.specs.Formatted.{IsFormatted}
-use Rattle.vdr_opening.specs.Media.{members, Contents, HoldsContents, opening_of, reading_of}
+use Rattle.vdr_opening.specs.Media.{members, Contents, HoldsContents, HoldsParts, opening_of, reading_of}
 use Rattle.vdr_opening.specs.declared.refused.OpenRefused.{OpenRefused}
+use Rattle.vdr_vault.specs.Openings.{IsToldBy}
 use Rattle.vdr_vault.specs.declared.refused.SaveRefused.{SaveRefused}
 use Rattle.vdr_vault.specs.declared.refused.SaveRefused.TheVariants.{Damaged}
 use Rattle.vdr_vault.specs.Calls.{SameElsewhere}
 use Rattle.vdr_vault.specs.Keeps.{KeepsHistory}
 use Rattle.vdr_vault.specs.Regularity.{AreSound}
 use Rattle.vdr_vault.specs.Saves.{save_refusal}
-use Rattle.vdr_vault.specs.Vaults.{AreRings, IsReadable, VaultState, of_stamp}
+use Rattle.vdr_vault.specs.Vaults.{AreRings, IsReadable, VaultState}
 use Rattle.vdr_recorder.specs.declared.run.StartRefused.{StartRefused}
 use Rattle.vdr_recorder.specs.declared.run.StartRefused.TheVariants.{Place, Tick, Fault}
 use Rattle.vdr_run.specs.Making.{counted_of}
@@ -147,16 +148,15 @@ pub record EndsRun (old new : RecorderState) (sizes : List ℕ) : Type 0 where
   pub rings : AreRings new.vault sizes
 
 module _ {tells tells_images : Type 0} where
-  -- The recorder that was opened, and what the media hold of it. They were formatted and legible, and where they are sound it has
-  -- recorded nothing yet.
+  -- The recorder that was opened, and what the media hold of it. They were formatted, what opening reads of
+  -- them was legal, and where they are sound it has recorded nothing yet.
   pub record OpensRecorder (result : Result RecorderState OpenRefused) (old new : Disk tells tells_images) : Type 0 where
     -- where the media are sound, nothing is recorded on them since a moment of the call
     pub opened : IfOk result (λ r. (x : Contents) → tells → HoldsContents old.reads x → AreSound x → (t0 : ℕ) × (old.clock ≤ t0) × (t0 ≤ new.clock) × HasRecorded (opening_of x) [] t0 r new)
-    -- the media were formatted, and what the recorder tells is what they hold
-    pub contents : IfOk result (λ r. tells → IsFormatted old.reads × (x : Contents) × HoldsContents old.reads x
-        × EndsMeet members (reading_of x) × (r.vault.config ≡ x.config) × (r.vault.table ≡ x.table) × (r.vault.last ≡ option_map of_stamp (opening_of x).last))
-    -- the next place is that of what they hold
-    pub place : IfOk result (λ r. (x : Contents) → tells → HoldsContents old.reads x → r.vault.next_place ≡ (opening_of x).next_place)
+    -- the media were formatted, and what the recorder tells is what was read of them
+    pub parts : IfOk result (λ r. tells → IsFormatted old.reads × (x : Contents) × HoldsParts old.reads x × EndsMeet members (reading_of x) × IsToldBy x r.vault)
+    -- where they are legible it is what they hold
+    pub contents : IfOk result (λ r. (x : Contents) → tells → HoldsContents old.reads x → EndsMeet members (reading_of x) × IsToldBy x r.vault)
     -- where both end with the last batch it can be read
     pub readable : IfOk result (λ r. (x : Contents) → tells → HoldsContents old.reads x → AreLevel members (reading_of x) → IsReadable (opening_of x) [] r.vault x.placed new)
     -- no write has failed

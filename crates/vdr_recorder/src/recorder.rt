@@ -1,5 +1,5 @@
 // A recorder without its media, how it is opened, and what it answers without a call on them.
-ghost use Rattle.std.specs.Prelude.{◌≡◌, ◌≤◌, ◌<◌, List, [], length, count_by, is_some, option_map, false, Err};
+ghost use Rattle.std.specs.Prelude.{◌≡◌, ◌≤◌, ◌<◌, List, [], length, count_by, is_some, option_map, false, Err, IfOk};
 ghost use Rattle.vdr_history.specs.Histories.{Event, Opening, done, incidents};
 ghost use Rattle.vdr_history.specs.Recorder.{recorder_after};
 ghost use Rattle.vdr_history.specs.RunStates.{state_left};
@@ -7,7 +7,8 @@ ghost use Rattle.vdr_history.specs.Runs.{RunStart, last_tick};
 ghost use Rattle.vdr_history.specs.Sums.{counted_by, recorded_in};
 ghost use Rattle.vdr_history.specs.Taken.{Captured as CapturedTold};
 ghost use Rattle.vdr_durability.specs.Readings.{EndsMeet};
-ghost use Rattle.vdr_opening.specs.Media.{Contents, HoldsContents, members, opening_of, reading_of};
+ghost use Rattle.vdr_opening.specs.Costs.{ReadsToOpen};
+ghost use Rattle.vdr_opening.specs.Media.{Contents, HoldsContents, HoldsParts, members, opening_of, reading_of};
 ghost use Rattle.vdr_opening.specs.declared.refused.OpenRefused.TheVariants.{Damaged, NotFormatted};
 ghost use Rattle.vdr_vault.specs.Openings.{OpensAtEachMoment, ReachesLongTerm, RefusesMedia, WritesMissing};
 ghost use Rattle.vdr_vault.specs.Regularity.{AreSound};
@@ -21,7 +22,7 @@ use crate::making::maker_for;
 use std::alloc::Global;
 use std::marker::Model;
 use vdr_config::Config;
-use vdr_opening::{OpenRefused, law_of_contents};
+use vdr_opening::OpenRefused;
 use vdr_outside::Media;
 use vdr_run::Maker;
 use vdr_vault::Vault;
@@ -70,9 +71,10 @@ impl Recorder {
         ensures moments { (x : Contents) → M.tells → HoldsContents (M.disk media.old).reads x → EndsMeet members (reading_of x) → AreSound x
             → OpensAtEachMoment (M.disk media.old) (M.disk media.new) result (ShowsHistory (opening_of x) []) }
         ensures refused { RefusesMedia result (M.disk media.old) (M.disk media.new) }
+        ensures bytes { IfOk result (λ _. (x : Contents) → M.tells → HoldsParts (M.disk media.old).reads x
+            → ReadsToOpen x (M.disk media.old).sizes (M.bytes_read media.old) (M.bytes_read media.new)) }
         ensures writes { ReachesLongTerm M.Media media.old media.new result }
     {
-        law_of_contents();
         let vault = Vault::open(alloc, media)?;
         let config = vault.config();
         // The maker has room for a batch of this many bytes.

@@ -10,7 +10,7 @@ use Rattle.vdr_outside.specs.Filling.{ReadsFewer}
 use Rattle.vdr_feed.specs.Feed.{Reaches, feed_header, longest_feed}
 use Rattle.vdr_feed.specs.Reader.{IfKnown}
 use Rattle.vdr_media.specs.Formatted.{IsFormatted}
-use Rattle.vdr_opening.specs.Media.{members, Contents, HoldsContents, opening_of, reading_of}
+use Rattle.vdr_opening.specs.Media.{members, Contents, HoldsParts, opening_of, reading_of}
 use Rattle.vdr_recorder.specs.Recordings.{start_of_opening}
 use Rattle.vdr_recorder.specs.Refusals.{MayBegin}
 use Rattle.vdr_replay.specs.declared.ended.Replayed.{Replayed}
@@ -65,7 +65,7 @@ TellsHeader left now (Err Place) = IfKnown left (λ bytes. take 8 bytes ≡ feed
 TellsHeader left now (Err Tick) = IfKnown left (λ bytes. take 8 bytes ≡ feed_header)
 TellsHeader left now (Err Media) = IfKnown left (λ bytes. take 8 bytes ≡ feed_header)
 
--- Whether a run begins is decided by what the media hold, sound or not, and how its feed ends by their configuration.
+-- Whether a run begins is decided by what opening reads of the media, sound or not, and how its feed ends by their configuration.
 abbrev pub Decides : Contents → (left now : Option (List ℕ)) → Result Replayed ReplayRefused → Type 0
 Decides x left now (Ok r) = MayBegin (opening_of x) × IfKnown left (λ bytes. (feed : List FeedItem) × ReadsFeed x.config.groups bytes now r.end feed × AreConfigured x.config.groups feed)
 Decides x left now (Err Place) = 2 ^ 62 ≤ (opening_of x).next_place
@@ -77,9 +77,9 @@ Decides x left now (Err NotFormatted) = ⊤
 Decides x left now (Err (Damaged medium offset)) = ⊤
 Decides x left now (Err Media) = ⊤
 
--- The image is formatted, and its media hold contents whose ends meet, of which P holds.
-abbrev pub IsLegible : Image → (P : Contents → Type 0) → Type 0
-IsLegible image P = IsFormatted image × (x : Contents) × HoldsContents image x × EndsMeet members (reading_of x) × P x
+-- The image is formatted, what opening reads of it is legal and its ends meet, and P holds of what was read.
+abbrev pub IsOpenable : Image → (P : Contents → Type 0) → Type 0
+IsOpenable image P = IsFormatted image × (x : Contents) × HoldsParts image x × EndsMeet members (reading_of x) × P x
 
 -- What is said where the media were opened, and not refused before.
 abbrev pub IfOpened : Result Replayed ReplayRefused → Type 0 → Type 0

@@ -12,7 +12,7 @@ use Rattle.vdr_opening.specs.Refusals.{IsRefused}
 use Rattle.vdr_vault.specs.Calls.{SameElsewhere}
 use Rattle.vdr_vault.specs.Openings.{LeavesAll, WritesMissing}
 use Rattle.vdr_vault.specs.Regularity.{AreSound}
-use Rattle.vdr_replay.specs.Answers.{Answers, Decides, EndsAtHeader, HasReplayCause, IfOpened, IsLegible, RefusesMedia, RefusesRun, TellsHeader}
+use Rattle.vdr_replay.specs.Answers.{Answers, Decides, EndsAtHeader, HasReplayCause, IfOpened, IsOpenable, RefusesMedia, RefusesRun, TellsHeader}
 use Rattle.vdr_replay.specs.Headline.{LeavesHistory}
 use Rattle.vdr_replay.specs.declared.ended.FeedEnd.TheVariants.{Whole, Input as InputEnds}
 use Rattle.vdr_replay.specs.declared.ended.Replayed.{Replayed}
@@ -36,8 +36,8 @@ pub record ReplaysFeed {M I : Type 0} (media : MediaTells M) (source : SourceTel
 
   -- a header is refused, or can't be read, exactly where it is none, or the source fails in it
   pub header : TellsHeader (source.left before) (source.left after) result
-  -- where the media were opened they are legible, and decide whether the run begins and how its feed ends
-  pub legible : media.tells → IfOpened result (IsLegible (media.disk old).reads (λ x. Decides x (source.left before) (source.left after) result))
+  -- where the media were opened, what was read of them decides whether the run begins and how its feed ends
+  pub openable : media.tells → IfOpened result (IsOpenable (media.disk old).reads (λ x. Decides x (source.left before) (source.left after) result))
   -- media are refused as not formatted only where they are
   pub unformatted : result ≡ Err NotFormatted → media.tells → IsUnformatted (media.disk old).reads
   -- and as damaged only at their first part that is not legal

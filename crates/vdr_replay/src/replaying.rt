@@ -10,7 +10,7 @@ ghost use Rattle.vdr_opening.specs.Refusals.{IsRefused};
 ghost use Rattle.vdr_vault.specs.Calls.{SameElsewhere};
 ghost use Rattle.vdr_vault.specs.Openings.{LeavesAll, WritesMissing};
 ghost use Rattle.vdr_vault.specs.Regularity.{AreSound};
-ghost use Rattle.vdr_replay.specs.Answers.{Answers, Decides, EndsAtHeader, HasReplayCause, IfOpened, IsLegible, RefusesMedia, RefusesRun, TellsHeader};
+ghost use Rattle.vdr_replay.specs.Answers.{Answers, Decides, EndsAtHeader, HasReplayCause, IfOpened, IsOpenable, RefusesMedia, RefusesRun, TellsHeader};
 ghost use Rattle.vdr_replay.specs.Headline.{LeavesHistory};
 ghost use Rattle.vdr_replay.specs.Replays.{ReplaysFeed};
 ghost use Rattle.vdr_replay.specs.declared.ended.FeedEnd.TheVariants.{Whole, Input as InputEnds};
@@ -21,7 +21,6 @@ use crate::running::record_run;
 use crate::{ReplayRefused, Replayed};
 use std::alloc::Global;
 use vdr_feed::{FeedReader, LONGEST_FEED};
-use vdr_opening::law_of_contents;
 use vdr_outside::{Media, Source};
 use vdr_recorder::Recorder;
 
@@ -41,7 +40,7 @@ fn record_feed<I: Source, M: Media>(
     ensures header { TellsHeader (I.left input.old) (I.left input.new) result }
     ensures unopened { EndsAtHeader result → media.new ≡ media.old }
     ensures untouched { RefusesMedia result → LeavesAll (M.disk media.old) (M.disk media.new) × (M.tells → (M.disk media.new).reads ≡ (M.disk media.old).reads) }
-    ensures legible { M.tells → IfOpened result (IsLegible (M.disk media.old).reads (λ x. Decides x (I.left input.old) (I.left input.new) result)) }
+    ensures openable { M.tells → IfOpened result (IsOpenable (M.disk media.old).reads (λ x. Decides x (I.left input.old) (I.left input.new) result)) }
     ensures missing { RefusesRun result → (x : Contents) → M.tells → HoldsContents (M.disk media.old).reads x → WritesMissing x (M.disk media.old) (M.disk media.new) }
     ensures beside { RefusesRun result → M.tells → SameBut 1 (M.disk media.old).reads (M.disk media.new).reads }
     ensures whole { IfOk result (λ r. r.end ≡ Whole → IsAtEnd (I.left input.new)) }
@@ -54,7 +53,6 @@ fn record_feed<I: Source, M: Media>(
     ensures sizes { (M.disk media.new).sizes ≡ (M.disk media.old).sizes }
     ensures cause { HasReplayCause (M.faults media.old) (M.faults media.new) result }
 {
-    law_of_contents();
     let mut reader = FeedReader::new(LONGEST_FEED);
     reader.header(input)?;
     let mut recorder = Recorder::open(alloc, media)?;

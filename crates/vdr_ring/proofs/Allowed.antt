@@ -28,7 +28,8 @@ use Rattle.vdr_ring.proofs.Medium.{in_order_records}
 use Rattle.vdr_directory.proofs.Ordering.{has_records}
 use Rattle.vdr_directory.proofs.Behind.{in_the_middle}
 use Rattle.vdr_ring.proofs.Going.{goes_by_records}
-use Rattle.vdr_ring.proofs.Retaining.{begun_retains, closed_retains, done_retains, left_retains, same_segments, stages_regular, victim_is_oldest}
+use Rattle.vdr_ring.proofs.Oldest.{victim_is_oldest}
+use Rattle.vdr_ring.proofs.Retaining.{begun_retains, closed_retains, done_retains, left_retains, same_segments, stages_regular}
 use Rattle.vdr_ring.proofs.Pinned.{HoldPins, more_places, pins_begun, pins_stay, pins_with, place_recorded, victim_in_place}
 use Rattle.vdr_ring.specs.Taking.{HaveBatch}
 use Rattle.vdr_ring.proofs.Records.{records_are}

@@ -12,7 +12,8 @@ use Rattle.vdr_index.specs.declared.known.Known.{Known}
 use Rattle.vdr_index.specs.Indexes.{IsCandidate, IsWithin, Keeps, MayAnswer, summary_of}
 use Rattle.vdr_index.specs.Indexes as indexes
 use Rattle.vdr_directory.specs.Sequence.{Placed, first_of, records_of, seq_of}
-use Rattle.vdr_directory.specs.Order.{Agrees, IsCovered, RunsOn, AreInOrder}
+use Rattle.vdr_survey.specs.Audits.{IsCovered}
+use Rattle.vdr_directory.specs.Order.{Agrees, RunsOn, AreInOrder}
 use Rattle.vdr_index.specs.Indexes.{IsAbove}
 use Rattle.vdr_directory.specs.Indexed.{IsKnown, IsKnownAs, IsIndexed, Meets, IsNextToMeet, HasNoneSelected, is_selected}
 use Rattle.vdr_directory.proofs.Known.{agrees, known_count, known_covers, placed_at, kept_of, runs_on}

@@ -17,7 +17,8 @@ use Rattle.vdr_retention.proofs.Ordered.{latest}
 use Rattle.vdr_retention.proofs.Retained.{in_the_window, outside_by_test}
 use Rattle.vdr_index.specs.declared.known.Known.{Known}
 use Rattle.vdr_directory.specs.Sequence.{Placed, batches_of, records_of, segments_in, all_records}
-use Rattle.vdr_directory.specs.Order.{Agrees, AreInOrder, HasNone, IsCovered, RunsOn, end_second}
+use Rattle.vdr_survey.specs.Audits.{IsCovered}
+use Rattle.vdr_directory.specs.Order.{Agrees, AreInOrder, HasNone, RunsOn, end_second}
 use Rattle.vdr_directory.specs.Leaving.{IsExact, IsExactlySummarized}
 use Rattle.vdr_directory.specs.Indexed.{IsKnown, StandsFor}
 use Rattle.vdr_directory.proofs.Agreeing.{exact_ends}

@@ -1,30 +1,38 @@
 -- The last batch of a segment as it is walked over and read, and of a medium.
-use Rattle.std.proofs.Common.{◌≡◌, ◌≢◌, ◌<◌, ◌≤◌, ◌+◌, ◌-◌, ℕ, List, [], ◌∷◌, ◌++◌, length, take, drop, All, Some, slice_get, refl, sym, ap, ◌∙◌, subst, arith, append-nil}
-use Rattle.std.proofs.lemmas.List.{append_assoc, length-drop, length-take}
-use Rattle.std.proofs.lemmas.List.Elements.{All-nil, All-contains, All-head, All-tail}
+use Rattle.std.proofs.Common.{◌≡◌, ◌≢◌, ◌<◌, ◌≤◌, ◌+◌, ◌-◌, ℕ, List, [], ◌∷◌, ◌++◌, length, take, drop, map, All, Contains, Option, Some, None, ⊎_elim, refl, sym, ap, ◌∙◌, subst, arith, append-nil}
+use Rattle.std.proofs.lemmas.List.{append_assoc, length-drop, length-take, take-take}
+use Rattle.std.proofs.lemmas.Option.{none-some}
+use Rattle.std.proofs.lemmas.List.Elements.{All-nil, All-contains, All-head, All-tail, All-weaker}
 use Rattle.std.proofs.lemmas.List.Sums.{sum_by-cons, sum_by_push}
 use Rattle.vdr_terms.specs.Records.{Record, last, last_after}
 use Rattle.vdr_terms.specs.Legality.{IsRecord}
 use Rattle.vdr_terms.specs.Sizes.{record_size, records_size, batch_size}
-use Rattle.vdr_outside.specs.Disk.{Disk, Unchanged, content}
+use Rattle.vdr_outside.specs.Disk.{Disk, Image, Unchanged, content}
 use Rattle.vdr_outside.proofs.Moments.{settled_still}
+use Rattle.vdr_entry.specs.declared.summary.Summary.{Summary}
 use Rattle.vdr_entry.specs.Reading.{Begins}
 use Rattle.vdr_entry.specs.Spelling.{records_bytes}
 use Rattle.vdr_entry.proofs.ReadingLemmas.{one_record}
+use Rattle.vdr_segment.specs.declared.header.Header.{Header}
+use Rattle.vdr_segment.specs.Headers.{IsHeader}
 use Rattle.vdr_segment.specs.Batches.{AreRecords, IsBatch}
 use Rattle.vdr_segment.specs.Segments.{AreBatches}
 use Rattle.vdr_segment.specs.Walks.{Walks}
 use Rattle.vdr_segment.specs.declared.step.Walk.TheVariants.{Batch}
 use Rattle.vdr_segment.proofs.WalkLemmas.{first_begins, records_behind, begun_size}
 use Rattle.vdr_segment.proofs.BatchListLemmas.{one_batches}
-use Rattle.vdr_slots.proofs.Holding.{slot_of}
+use Rattle.vdr_segment.proofs.SegmentLemmas.{one_header}
+use Rattle.vdr_slots.specs.Slots.{IsFront, place_of}
 use Rattle.vdr_survey.specs.Surveys.{BreaksAt}
 use Rattle.vdr_survey.proofs.SpanLemmas.{Front, front_none, front_more, span_records, never_both}
-use Rattle.vdr_retention.proofs.Lists.{last_behind}
+use Rattle.vdr_retention.proofs.Lists.{contains_cases, last_behind, none_contained}
 use Rattle.vdr_directory.specs.Sequence.{Placed, batches_of, batches_in}
 use Rattle.vdr_directory.specs.Holds.{HoldsPlaced}
-use Rattle.vdr_ring.specs.Rings.{RingState, Reads}
-use Rattle.vdr_ring.specs.Visits.{IsLoaded}
+use Rattle.vdr_directory.specs.Knowns.{summary_of}
+use Rattle.vdr_directory.specs.Opening.{AreBatchesRead, AreKnown, Headed, front_bytes, headed_of, slot_bytes}
+use Rattle.vdr_ring.specs.Rings.{Knows, RingState, Reads}
+use Rattle.vdr_ring.specs.Belied.{IsBelied}
+use Rattle.vdr_ring.specs.Visits.{IsLoaded, slot_read}
 use Rattle.vdr_ring.specs.Lasts.{batch_or_none, AreOfBatch, IsLastSlot}
 
 -- The batches that were walked over, the last of which has these bytes of records.
@@ -104,10 +112,10 @@ pub batches_read : (buffer bytes : List ℕ) (read : List Record) (bs batches : 
     → AreBatches (drop 64 buffer) batches → batch_or_none read ≡ last batches
 batches_read buffer bytes read bs batches a newest h b = batch_read bytes read bs a.legal newest h ∙ ap last (one_batches (drop 64 buffer) bs batches a b)
 
-module _ {tells tells_images : Type 0} (ring now : RingState) (placed : List Placed) (disk read : Disk tells tells_images) (reads : Reads ring placed disk)
-    (same : now ≡ record ring { buffer = now.buffer; loaded = now.loaded }) (unchanged : Unchanged disk read) (loaded : IsLoaded ring disk → IsLoaded now read) where
-  pub reads_on : Reads now placed read
-  reads_on = subst (λ (r : RingState). Reads r placed read) (sym same) (record {
+module _ {tells tells_images : Type 0} (ring now : RingState) (disk read : Disk tells tells_images) (same : now ≡ record ring { buffer = now.buffer; loaded = now.loaded })
+    (unchanged : Unchanged disk read) (loaded : IsLoaded ring disk → IsLoaded now read) where
+  pub reads_on : (placed : List Placed) → Reads ring placed disk → Reads now placed read
+  reads_on placed reads = subst (λ (r : RingState). Reads r placed read) (sym same) (record {
     settled = settled_still ring.medium (HoldsPlaced ring.segment ring.slots placed) disk read unchanged reads.settled;
     order = reads.order;
     directory = reads.directory;
@@ -115,17 +123,61 @@ module _ {tells tells_images : Type 0} (ring now : RingState) (placed : List Pla
     bare = reads.bare;
   })
 
-  module _ (slot : ℕ) (told : tells) (at : now.loaded ≡ Some slot) (found : IsLastSlot placed (Some slot)) where
+  pub knows_on : (known : List Placed) → Knows ring known disk → Knows now known read
+  knows_on known knows = subst (λ (r : RingState). Knows r known read) (sym same) (record {
+    are = λ told. subst (λ (i : Image). AreKnown ring.segment ring.slots (content i ring.medium) known) (sym (unchanged.reads told)) (knows.are told);
+    order = knows.order;
+    directory = knows.directory;
+    loaded = subst (λ (r : RingState). IsLoaded r read) same (loaded knows.loaded);
+  })
+
+  module _ (known : List Placed) (knows : Knows ring known disk) (slot : ℕ) (told : tells) (at : now.loaded ≡ Some slot) (found : IsLastSlot known (Some slot)) where
     stands : AreBatches (drop 64 now.buffer) (batches_of found.0)
     stands =
-        let h = reads_on.settled.reads told in
-        let there : slice_get h.slots slot ≡ Some (Some found.0.segment) =
-        subst (λ (j : ℕ). slice_get h.slots j ≡ Some (Some found.0.segment)) found.2 (All-contains (λ p. slice_get h.slots p.slot ≡ Some (Some p.segment)) placed found.0 h.sequence.there found.1) in
-        subst (λ (xs : List ℕ). AreBatches (drop 64 xs) (batches_of found.0)) (sym (reads_on.loaded slot at told))
-        (slot_of now.segment slot h.slots (Some found.0.segment) (content read.reads now.medium) h.holds there).1.batches
+        let k = knows_on known knows in
+        let there : AreBatchesRead (summary_of found.0) (drop 64 (slot_bytes now.segment found.0.slot (content read.reads now.medium))) (batches_of found.0) =
+        All-contains (λ p. AreBatchesRead p.segment.header.summary (drop 64 (slot_bytes now.segment p.slot (content read.reads now.medium))) p.segment.batches) known found.0 (k.are told).batches found.1 in
+        let bare : AreBatches (drop 64 (slot_bytes now.segment found.0.slot (content read.reads now.medium))) (batches_of found.0) =
+        subst (λ (o : Option Summary). AreBatchesRead o (drop 64 (slot_bytes now.segment found.0.slot (content read.reads now.medium))) (batches_of found.0)) found.3 there in
+        subst (λ (xs : List ℕ). AreBatches (drop 64 xs) (batches_of found.0)) (sym (k.loaded slot at told))
+        (subst (λ (j : ℕ). AreBatches (drop 64 (slot_bytes now.segment j (content read.reads now.medium))) (batches_of found.0)) found.2 bare)
 
-    pub last_is : (records : List Record) → ((batches : List (List Record)) → AreBatches (drop 64 now.buffer) batches → batch_or_none records ≡ last batches) → batch_or_none records ≡ last (batches_in placed)
-    last_is records h = h (batches_of found.0) stands ∙ sym found.3
+    pub last_is : (records : List Record) → ((batches : List (List Record)) → AreBatches (drop 64 now.buffer) batches → batch_or_none records ≡ last batches) → batch_or_none records ≡ last (batches_in known)
+    last_is records h = h (batches_of found.0) stands ∙ sym found.4
 
     pub none_breaks : (offset : ℕ) → BreaksAt now.buffer offset → ⊥
     none_breaks offset broken = never_both now.buffer (batches_of found.0) offset stands broken
+
+-- What is known of a medium's segments
+
+-- their batches are legal
+pub known_batches : {tells tells_images : Type 0} (ring : RingState) (known : List Placed) (disk : Disk tells tells_images) → tells → Knows ring known disk → All (λ p. All IsBatch (batches_of p)) known
+known_batches ring known disk told knows =
+    All-weaker (λ p. AreBatchesRead p.segment.header.summary (drop 64 (slot_bytes ring.segment p.slot (content disk.reads ring.medium))) p.segment.batches) (λ p. All IsBatch (batches_of p))
+    (λ p read. go (summary_of p) p read) known (knows.are told).batches
+  where
+    go : (o : Option Summary) (p : Placed) → AreBatchesRead o (drop 64 (slot_bytes ring.segment p.slot (content disk.reads ring.medium))) (batches_of p) → All IsBatch (batches_of p)
+    go None p read = read.legal
+    go (Some s) p none = subst (All IsBatch) (sym none) (All-nil IsBatch)
+
+headed_there : (P : Headed → Type 0) (ps : List Placed) (p : Placed) → All P (map headed_of ps) → Contains ps p → P (headed_of p)
+headed_there P [] p h m = absurd (none_contained p m)
+headed_there P (x ∷ xs) p h m = ⊎_elim
+    (λ (e : x ≡ p). subst (λ (y : Placed). P (headed_of y)) e (All-head P (headed_of x) (map headed_of xs) h))
+    (λ (k : Contains xs p). headed_there P xs p (All-tail P (headed_of x) (map headed_of xs) h) k)
+    (contains_cases x xs p m)
+
+-- and the slot with the last one has no summary with which it could disagree
+pub last_unbelied : {tells tells_images : Type 0} (ring : RingState) (known : List Placed) (disk : Disk tells tells_images) (slot at : ℕ) → tells → Knows ring known disk → IsLastSlot known (Some slot)
+    → IsBelied (slot_read ring slot disk) at → ⊥
+last_unbelied ring known disk slot at told knows found belied =
+    let bytes = content disk.reads ring.medium in
+    let inside = belied.differs.inside in
+    let behind = belied.differs.behind in
+    let long : 64 ≤ ring.segment = omega (arith, inside, behind, length-take ring.segment (drop (place_of ring.segment slot) bytes)) in
+    let front = headed_there (λ x. (x.slot < ring.slots) × IsFront (front_bytes ring.segment x.slot bytes) (Some x.header)) known found.0 (knows.are told).headers.there found.1 in
+    let mine : IsHeader (front_bytes ring.segment slot bytes) found.0.segment.header = subst (λ (j : ℕ). IsHeader (front_bytes ring.segment j bytes) found.0.segment.header) found.2 front.1.1 in
+    let cut : take 64 (slot_bytes ring.segment slot bytes) ≡ front_bytes ring.segment slot bytes = take-take 64 ring.segment (drop (place_of ring.segment slot) bytes) long in
+    let theirs : IsHeader (front_bytes ring.segment slot bytes) belied.header = subst (λ (xs : List ℕ). IsHeader xs belied.header) cut belied.is in
+    let same : belied.header ≡ found.0.segment.header = one_header _ belied.header found.0.segment.header theirs mine in
+    none-some belied.summary (sym found.3 ∙ ap (λ (h : Header). h.summary) (sym same) ∙ belied.has)

@@ -3,6 +3,7 @@ pub mod Going
 pub mod Staging
 pub mod Choosing
 pub mod Exact
+pub mod Oldest
 pub mod Retaining
 pub mod Answering
 pub mod Freeing
@@ -13,11 +14,14 @@ pub mod Leaving
 pub mod Alike
 pub mod AlikeMedia
 pub mod Keeping
+pub mod ByKnowns
 pub mod Holding
+pub mod Legible
 pub mod Visiting
 pub mod Faults
 pub mod LastBatch
 pub mod Asking
+pub mod Newest
 pub mod Shaping
 pub mod Pinned
 pub mod Records

@@ -1,5 +1,5 @@
 -- What the calls that read a ring's slots keep, and what they answer.
-use Rattle.std.specs.Prelude.{◌≡◌, ◌≢◌, ◌↔◌, ◌<◌, ◌≤◌, ◌+◌, ℕ, Bool, true, List, [], get_or, IfOk, OnOk, Some, None, Result, Ok, Err}
+use Rattle.std.specs.Prelude.{◌≡◌, ◌≢◌, ◌⊎◌, ◌↔◌, ◌<◌, ◌≤◌, ◌+◌, ℕ, Bool, true, List, [], get_or, IfOk, OnOk, Some, None, Result, Ok, Err}
 use Rattle.std.specs.declared.alloc.Global.{Global}
 use Rattle.std.specs.declared.vec.Vec.{Vec}
 use Rattle.vdr_terms.specs.Records.{Record, last}
@@ -12,9 +12,10 @@ use Rattle.vdr_outside.specs.Disk.{Unchanged, content}
 use Rattle.vdr_slots.specs.Slots.{place_of}
 use Rattle.vdr_survey.specs.declared.selection.Selection.{Selection}
 use Rattle.vdr_directory.specs.Sequence.{Placed, batches_in}
-use Rattle.vdr_ring.specs.Rings.{HasMedium, Reads, RingState}
+use Rattle.vdr_ring.specs.Rings.{HasMedium, Knows, Reads, RingState}
 use Rattle.vdr_ring.specs.Visits.{AreAhead, VisitState, IsLoaded, StandsIn, Steps, Visits, slot_read}
 use Rattle.vdr_directory.specs.Fronts.{BreaksIn}
+use Rattle.vdr_ring.specs.Belied.{IsBelied}
 use Rattle.vdr_ring.specs.Lasts.{batch_or_none}
 use Rattle.vdr_ring.specs.declared.refused.ReadRefused.{ReadRefused}
 use Rattle.vdr_ring.specs.declared.refused.ReadRefused.TheVariants.{Damaged}
@@ -29,6 +30,8 @@ pub record OnlyReads {M : Type 0} (media : MediaTells M) (old new : RingState) (
   pub bytes : IsLoaded old (media.disk before) → IsLoaded new (media.disk after)
   -- what the medium read as it still does
   pub reads : (placed : List Placed) → Reads old placed (media.disk before) → Reads new placed (media.disk after)
+  -- what was known of its parts still is
+  pub knows : (known : List Placed) → Knows old known (media.disk before) → Knows new known (media.disk after)
   -- nothing was written
   pub unchanged : Unchanged (media.disk before) (media.disk after)
 
@@ -63,13 +66,14 @@ pub record ReadsUnlessLoaded {M : Type 0} (media : MediaTells M) (slot : ℕ) (r
 -- The records of the medium's last batch, or the first batch of its slot that is not legal.
 pub record GivesLastBatch {M : Type 0} (media : MediaTells M) (ring : RingState) (before : M) (result : Result (Vec Record Global) PartRefused) : Type 0 where
   -- they are those of the last batch, none where there is none
-  pub batch : IfOk result (λ records. media.tells → (placed : List Placed) → Reads ring placed (media.disk before) → batch_or_none records.items ≡ last (batches_in placed))
+  pub batch : IfOk result (λ records. media.tells → (known : List Placed) → Knows ring known (media.disk before) → batch_or_none records.items ≡ last (batches_in known))
   -- a segment that has no other batch has room for them
   pub fits : IfOk result (λ records. records.items ≢ [] → 64 + batch_size records.items + 1 ≤ ring.segment)
-  -- a medium that reads as segments has no damage
-  pub undamaged : media.tells → (placed : List Placed) → Reads ring placed (media.disk before) → (m offset : ℕ) → result ≡ Err (APartDamaged m offset) → ⊥
+  -- a medium whose parts are known has no damage there
+  pub undamaged : media.tells → (known : List Placed) → Knows ring known (media.disk before) → (m offset : ℕ) → result ≡ Err (APartDamaged m offset) → ⊥
   -- damage is on the ring's medium
   pub medium : (m offset : ℕ) → result ≡ Err (APartDamaged m offset) → m ≡ ring.medium
-  -- and where a batch of one of its slots is not legal
+  -- and where a batch of one of its slots is not legal, or does not agree with the summary of its segment
   pub offset : media.tells → IsLoaded ring (media.disk before) → (m offset : ℕ) → result ≡ Err (APartDamaged m offset)
-      → (slot : ℕ) × (slot < ring.slots) × BreaksIn ring.segment slot (content (media.disk before).reads ring.medium) offset
+      → (slot : ℕ) × (slot < ring.slots) × (BreaksIn ring.segment slot (content (media.disk before).reads ring.medium) offset
+      ⊎ ((at : ℕ) × IsBelied (slot_read ring slot (media.disk before)) at × (offset ≡ place_of ring.segment slot + at)))

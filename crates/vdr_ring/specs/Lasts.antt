@@ -3,6 +3,7 @@ use Rattle.std.specs.Prelude.{◌≡◌, ℕ, List, [], ◌∷◌, Contains, Opt
 use Rattle.vdr_terms.specs.Records.{Record, last}
 use Rattle.vdr_segment.specs.Batches.{AreRecords}
 use Rattle.vdr_directory.specs.Sequence.{Placed, batches_of, batches_in}
+use Rattle.vdr_directory.specs.Knowns.{summary_of}
 
 -- A batch, or none where there is no record.
 abbrev pub batch_or_none : List Record → Option (List Record)
@@ -14,7 +15,8 @@ abbrev pub AreOfBatch : List ℕ → Option (List Record) → Type 0
 AreOfBatch bytes None = bytes ≡ []
 AreOfBatch bytes (Some records) = AreRecords bytes records
 
--- The last batch of all these segments is the last one of the segment in this slot. Where no slot is given they have none.
+-- The last batch of all these segments is the last one of the segment in this slot, whose header has no summary. Where no slot is
+-- given they have none.
 abbrev pub IsLastSlot : List Placed → Option ℕ → Type 0
-IsLastSlot placed None = last (batches_in placed) ≡ None
-IsLastSlot placed (Some slot) = (p : Placed) × Contains placed p × (p.slot ≡ slot) × (last (batches_in placed) ≡ last (batches_of p))
+IsLastSlot known None = last (batches_in known) ≡ None
+IsLastSlot known (Some slot) = (p : Placed) × Contains known p × (p.slot ≡ slot) × (summary_of p ≡ None) × (last (batches_in known) ≡ last (batches_of p))

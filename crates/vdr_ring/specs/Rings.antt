@@ -3,11 +3,15 @@ use Rattle.std.specs.Prelude.{◌≡◌, ◌⊎◌, ◌<◌, ◌≤◌, ◌+◌,
 use Rattle.vdr_outside.specs.Disk.{Disk, content}
 use Rattle.vdr_outside.specs.Moments.{Settled}
 use Rattle.vdr_outside.specs.Parts.{part}
+use Rattle.vdr_index.specs.Indexes.{IsNewest}
 use Rattle.vdr_terms.specs.Slots.{slots_from}
 use Rattle.vdr_slots.specs.Slots.{place_of}
 use Rattle.vdr_directory.specs.Sequence.{Placed}
 use Rattle.vdr_directory.specs.Order.{AreInOrder}
 use Rattle.vdr_directory.specs.Holds.{HoldsPlaced, Tells}
+use Rattle.vdr_directory.specs.Knowns.{AreInOrderBy}
+use Rattle.vdr_directory.specs.Opening.{AreKnown}
+use Rattle.vdr_directory.specs.Telling.{TellsBy}
 use Rattle.vdr_directory.specs.Directories.{DirectoryState}
 use Rattle.vdr_directory.specs.Bringing.{bare_of}
 
@@ -40,6 +44,17 @@ module _ {tells tells_images : Type 0} where
     pub directory : Tells ring.slots placed ring.directory
     pub loaded : (j : ℕ) → ring.loaded ≡ Some j → tells → ring.buffer ≡ part (content disk.reads ring.medium) (place_of ring.segment j) ring.segment
     pub bare : BringsUp ring placed
+
+  -- The parts of the ring's medium that opening reads are these, in a legal order, and the directory tells of them.
+  pub record Knows (ring : RingState) (known : List Placed) (disk : Disk tells tells_images) : Type 0 where
+    pub are : tells → AreKnown ring.segment ring.slots (content disk.reads ring.medium) known
+    pub order : AreInOrderBy known
+    pub directory : TellsBy ring.slots known ring.directory
+    pub loaded : (j : ℕ) → ring.loaded ≡ Some j → tells → ring.buffer ≡ part (content disk.reads ring.medium) (place_of ring.segment j) ring.segment
+
+-- Its buffer holds the slot of the segment that has the last record, if any.
+abbrev pub HoldsNewest : RingState → Type 0
+HoldsNewest ring = (slot : ℕ) → IsNewest ring.directory.index slot → ring.loaded ≡ Some slot
 
 -- Where its slots stand, and its window, stay as they were.
 pub record IsSameRing (old new : RingState) : Type 0 where

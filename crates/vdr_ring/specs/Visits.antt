@@ -8,6 +8,7 @@ use Rattle.vdr_survey.specs.declared.selection.Selection.{Selection}
 use Rattle.vdr_survey.specs.Selections.{Passes, StartsSelected, is_selected}
 use Rattle.vdr_survey.specs.Positions.{front, IsAt, HasAhead, IsBrokenAt, StepsOver}
 use Rattle.vdr_directory.specs.Sequence.{Placed, records_of}
+use Rattle.vdr_ring.specs.Belied.{IsBelied}
 use Rattle.vdr_ring.specs.Rings.{RingState}
 use Rattle.vdr_directory.specs.Opening.{slot_bytes}
 use Rattle.vdr_ring.specs.declared.refused.ReadRefused.{ReadRefused}
@@ -52,8 +53,9 @@ Steps selection medium slot place bytes old (Ok false) new =
 Steps selection medium slot place bytes old (Err Fault) new = new ≡ without_item old
 Steps selection medium slot place bytes old (Err (Damaged m offset)) new =
     IsOpenAt bytes 0 × (m ≡ medium) × (new ≡ without_item old)
-    × ((IsAt bytes (position_in slot old) × (q : Position) × Passes bytes selection (position_in slot old) q × IsBrokenAt bytes q × (offset ≡ place + q.to))
-    ⊎ ((IsAt bytes (position_in slot old) → ⊥) × (offset ≡ place)))
+    × (((at : ℕ) × IsBelied bytes at × (offset ≡ place + at))
+    ⊎ ((IsAt bytes (position_in slot old) × (q : Position) × Passes bytes selection (position_in slot old) q × IsBrokenAt bytes q × (offset ≡ place + q.to))
+    ⊎ ((IsAt bytes (position_in slot old) → ⊥) × (offset ≡ place))))
 
 -- These records of a segment are ahead: those behind the visit where it stands in its slot, else all of them.
 abbrev pub IsAhead : (bytes : List ℕ) (p : Placed) → VisitState → List Record → Type 0

@@ -7,16 +7,17 @@ ghost use Rattle.vdr_outside.specs.declared.fault.PartRefused.TheVariants.{Damag
 ghost use Rattle.vdr_segment.specs.Batches.{AreRecords, IsBatch};
 ghost use Rattle.vdr_segment.specs.Segments.{AreBatches};
 ghost use Rattle.vdr_survey.specs.Surveys.{BreaksAt};
+ghost use Rattle.vdr_index.specs.Indexes.{IsNewest};
 ghost use Rattle.vdr_slots.specs.Slots.{place_of};
 ghost use Rattle.vdr_directory.specs.Sequence.{Placed};
-ghost use Rattle.vdr_directory.specs.Order.{AreInOrder};
-ghost use Rattle.vdr_directory.specs.Holds.{Tells};
-ghost use Rattle.vdr_ring.specs.Rings.{HasMedium};
+ghost use Rattle.vdr_directory.specs.Knowns.{AreInOrderBy};
+ghost use Rattle.vdr_directory.specs.Telling.{TellsBy};
+ghost use Rattle.vdr_ring.specs.Rings.{HasMedium, HoldsNewest};
 ghost use Rattle.vdr_directory.specs.Opening.{HasFaultCause};
 ghost use Rattle.vdr_ring.specs.Lasts.{batch_or_none, AreOfBatch, IsLastSlot};
 ghost use Rattle.vdr_ring.specs.Calls.{GivesLastBatch, OnlyReads};
 
-use crate::Ring;
+use crate::{ReadRefused, Ring};
 use std::alloc::{AllocError, Global};
 use vdr_entry::{Record, read_record};
 use vdr_outside::{Media, PartRefused};
@@ -62,8 +63,9 @@ impl Ring {
     // The slot of the last segment that has records.
     fn last_slot(&self) -> Option<u32>
         ensures within { IfSome result (λ slot. slot < self.now.slots) }
-        ensures found { (placed : List Placed) → Tells self.now.slots placed self.now.directory → AreInOrder placed → All (λ p. All IsBatch p.segment.batches) placed
-            → IsLastSlot placed result }
+        ensures found { (known : List Placed) → TellsBy self.now.slots known self.now.directory → AreInOrderBy known → All (λ p. All IsBatch p.segment.batches) known
+            → IsLastSlot known result }
+        ensures newest { IfSome result (IsNewest self.now.directory.index) }
     {
         self.directory.index().newest()
     }
@@ -93,12 +95,13 @@ impl Ring {
         }
     }
 
-    /// The records of the medium's last batch, in order; none where the medium has no record. A segment that has no other batch
-    /// has room for them. Reads one slot whole where it is not the one read last, else nothing.
+    /// The records of the medium's last batch, in order; none where the medium has no record. A segment that has no
+    /// other batch has room for them. Reads one slot whole where it is not the one read last, else nothing. So nothing
+    /// is read of a ring that was just opened.
     ///
-    /// `Damaged` names the medium and the first batch of that slot that is not legal, by where it begins, in bytes: since the
-    /// ring was opened the bytes have changed. `NoMemory`: there was no room for the records. `Fault`: the read failed, and the
-    /// count of faults of this medium rose.
+    /// `Damaged` names the medium and where a batch of that slot begins, in bytes. It is the first that is not legal, or
+    /// does not agree with the summary of its segment: since the ring was opened the bytes have changed. `NoMemory`:
+    /// there was no room for the records. `Fault`: the read failed, and the count of faults of this medium rose.
     pub fn read_last_batch<M: Media>(
         &mut self,
         alloc: Global,
@@ -109,14 +112,18 @@ impl Ring {
         ensures batch { GivesLastBatch M.Media self.old media.old result }
         ensures counts { (M.bytes_read media.new ≡ M.bytes_read media.old)
             ⊎ (M.bytes_read media.new ≡ counted (M.bytes_read media.old) self.old.medium self.old.segment) }
+        ensures held { HoldsNewest self.old → M.bytes_read media.new ≡ M.bytes_read media.old }
         ensures cause { HasFaultCause self.old.medium (M.faults media.old) (M.faults media.new) result }
     {
         let Some(slot) = self.last_slot() else {
             return Ok(Vec::new(alloc));
         };
-        let Ok(_) = self.load(media, slot) else {
-            return Err(PartRefused::Fault);
-        };
-        self.last_loaded(alloc, slot)
+        match self.load(media, slot) {
+            Ok(_) => self.last_loaded(alloc, slot),
+            Err(ReadRefused::Fault) => Err(PartRefused::Fault),
+            Err(ReadRefused::Damaged { medium, offset }) => {
+                Err(PartRefused::Damaged { medium, offset })
+            }
+        }
     }
 }

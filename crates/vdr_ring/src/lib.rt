@@ -3,6 +3,7 @@
 
 mod append;
 mod appending;
+mod audit;
 mod bringing;
 mod choice;
 mod last_batch;

@@ -3,10 +3,8 @@ ghost use Rattle.std.specs.Prelude.{◌≡◌, ◌<◌, ◌≤◌, ◌+◌, ◌�
 ghost use Rattle.vdr_index.specs.declared.known.Known.{Known as AKnown};
 ghost use Rattle.vdr_index.specs.Indexes.{Keeps};
 ghost use Rattle.vdr_directory.specs.Sequence.{Placed};
-ghost use Rattle.vdr_directory.specs.Order.{AreInOrder};
-ghost use Rattle.vdr_directory.specs.Indexed.{IsIndexed};
 ghost use Rattle.vdr_index.specs.Indexes.{IsAbove};
-ghost use Rattle.vdr_directory.specs.Lookup.{HoldAll};
+ghost use Rattle.vdr_directory.specs.Telling.{HoldAllBy, IsIndexedBy, RiseBy};
 
 use vdr_index::{Index, Known};
 
@@ -41,7 +39,7 @@ fn has_place(known: Known, place: u64) -> bool
 
 // Whether all places from a to b stand in the segments of an index.
 pub(crate) fn holds_all(index: &Index, a: u64, b: u64) -> bool
-    ensures { (count : ℕ) (placed : List Placed) → IsIndexed count placed index.now → AreInOrder placed → IsTrue result ↔ HoldAll a b placed }
+    ensures { (count : ℕ) (known : List Placed) → IsIndexedBy count known index.now → RiseBy known → IsTrue result ↔ HoldAllBy a b known }
 {
     if a > b {
         return true;

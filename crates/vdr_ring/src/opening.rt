@@ -5,7 +5,10 @@ ghost use Rattle.vdr_outside.specs.declared.fault.PartRefused.TheVariants.{Damag
 ghost use Rattle.vdr_config.specs.Sizes.{sizes_of, window_of};
 ghost use Rattle.vdr_directory.specs.Sequence.{Placed};
 ghost use Rattle.vdr_directory.specs.Bringing.{bare_of};
-ghost use Rattle.vdr_ring.specs.Rings.{HasMedium, Reads};
+ghost use Rattle.vdr_ring.specs.Rings.{HasMedium, HoldsNewest, Knows, Reads};
+ghost use Rattle.vdr_directory.specs.Order.{AreInOrder};
+ghost use Rattle.vdr_directory.specs.Holds.{HoldsPlaced};
+ghost use Rattle.vdr_directory.specs.Costs.{ReadsAtMost, lacking};
 ghost use Rattle.vdr_directory.specs.Opening.{HasFaultCause, Refuses};
 
 use crate::Ring;
@@ -44,13 +47,17 @@ fn seconds_of(config: &Config, m: u8) -> u64
 }
 
 impl Ring {
-    /// Reads medium m whole and opens it as a ring. It writes nothing. Segments that are to get a summary get it by
-    /// `bring_up`.
+    /// Reads the headers of medium m, and whole the segments whose header has no summary, and opens it as a ring.
+    /// Of the newest it reads the first gate, and the rest where that is open. So the slot that has the last record is
+    /// the one read last. It writes nothing. Segments that are to get a summary get it by `bring_up`. The batches of a
+    /// segment that has a summary are not read, so they may be broken, or not agree with it. Such a segment is judged
+    /// when it is read.
     ///
-    /// `Damaged` names the medium and the first part of it that is not legal, by where that begins, in bytes: first the slots,
-    /// in their order, by their headers; then the segments, in order of sequence number, by their batches; then the segments
-    /// in that order by how each stands among the others (this project's profile). `NoMemory`: there was no room for the directory
-    /// or one segment. `Fault`: a read failed, and the count of faults of this medium rose.
+    /// `Damaged` names the medium and the first part of it that is not legal, by where that begins, in bytes. First come
+    /// the slots, in their order, by their headers; then, in order of sequence number, the segments without a summary, by
+    /// their batches. Then come all segments in that order, by how each stands among the others, as far as is known of
+    /// it (this project's profile). `NoMemory`: there was no room for the directory or one segment. `Fault`: a read
+    /// failed, and the count of faults of this medium rose.
     pub fn open<M: Media>(
         alloc: Global,
         media: &mut M,
@@ -59,8 +66,12 @@ impl Ring {
     ) -> Result<Ring, PartRefused>
         requires medium { m < length (M.disk media.old).sizes }
         requires fits { Fits (sizes_of config.now) m (get_or (M.disk media.old).sizes m 0) }
-        ensures reads { IfOk result (λ ring. M.tells → Durable m (M.disk media.old) → (placed : List Placed) × Reads ring placed (M.disk media.new)
-            × (ring.bare ≡ bare_of placed)) }
+        ensures reads { IfOk result (λ ring. M.tells → Durable m (M.disk media.old) → (placed : List Placed)
+            → HoldsPlaced config.now.segment (slots_in (sizes_of config.now) (get_or (M.disk media.old).sizes m 0)) placed (content (M.disk media.old).reads m) → AreInOrder placed
+            → Reads ring placed (M.disk media.new) × (ring.bare ≡ bare_of placed)) }
+        ensures parts { IfOk result (λ ring. M.tells → (known : List Placed) × Knows ring known (M.disk media.new)
+            × ReadsAtMost m (1 + 64 * ring.slots + ring.segment * lacking known) (M.bytes_read media.old) (M.bytes_read media.new)) }
+        ensures held { IfOk result (λ ring. M.tells → HoldsNewest ring) }
         ensures shape { IfOk result (λ ring. (ring.medium ≡ m) × (ring.segment ≡ config.now.segment)
             × (ring.slots ≡ slots_in (sizes_of config.now) (get_or (M.disk media.old).sizes m 0)) × (ring.seconds ≡ window_of config.now m)) }
         ensures room { IfOk result (λ ring. HasMedium ring (M.disk media.old).sizes) }

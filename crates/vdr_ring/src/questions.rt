@@ -7,6 +7,8 @@ ghost use Rattle.vdr_directory.specs.Order.{AreInOrder};
 ghost use Rattle.vdr_directory.specs.Holds.{Tells};
 ghost use Rattle.vdr_index.specs.Indexes.{IsAbove};
 ghost use Rattle.vdr_directory.specs.Lookup.{IsNext, HoldAll};
+ghost use Rattle.vdr_directory.specs.Knowns.{AreInOrderBy};
+ghost use Rattle.vdr_directory.specs.Telling.{HoldAllBy, TellsBy};
 
 use crate::Ring;
 use crate::lookup::{holds_all, is_above, with_seq};
@@ -17,6 +19,7 @@ impl Ring {
     pub fn last(&self) -> Option<(u64, u64, i64)>
         ensures kept { result ≡ option_map (λ e. (e.place, e.tick, e.utc)) self.now.directory.ending }
         ensures last { (placed : List Placed) → Tells self.now.slots placed self.now.directory → result ≡ option_map (λ r. (r.place, r.tick, r.utc)) (last (all_records placed)) }
+        ensures known { (known : List Placed) → TellsBy self.now.slots known self.now.directory → result ≡ option_map (λ r. (r.place, r.tick, r.utc)) (last (all_records known)) }
     {
         self.directory
             .ending()
@@ -52,7 +55,8 @@ impl Ring {
 
     /// Whether all places from a to b stand in open segments, as they do where b is below a.
     pub fn holds(&self, a: u64, b: u64) -> bool
-        ensures { (placed : List Placed) → Tells self.now.slots placed self.now.directory → AreInOrder placed → IsTrue result ↔ HoldAll a b placed }
+        ensures placed { (placed : List Placed) → Tells self.now.slots placed self.now.directory → AreInOrder placed → IsTrue result ↔ HoldAll a b placed }
+        ensures known { (known : List Placed) → TellsBy self.now.slots known self.now.directory → AreInOrderBy known → IsTrue result ↔ HoldAllBy a b known }
     {
         holds_all(self.directory.index(), a, b)
     }

@@ -1,24 +1,28 @@
-ghost use Rattle.std.specs.Prelude.{◌≡◌, ◌≢◌, ◌⊎◌, ◌↔◌, ◌<◌, ◌≤◌, ◌+◌, true, IsTrue, IfOk, IfSome, IfNone, OnOk, OnErr, Option, Some, None, Ok, Err};
-ghost use Rattle.vdr_outside.specs.Causes.{HasCauseOn, counted};
+ghost use Rattle.std.specs.Prelude.{◌≡◌, ◌≢◌, ◌⊎◌, ◌↔◌, ◌<◌, ◌≤◌, ◌+◌, ℕ, get_or, true, false, IsTrue, IfOk, IfSome, IfNone, OnOk, OnErr, Option, Some, None, Ok, Err};
+ghost use Rattle.vdr_outside.specs.Causes.{NoneFalls, Rose, counted};
 ghost use Rattle.vdr_outside.specs.Disk.{Unchanged};
 ghost use Rattle.vdr_segment.specs.Gates.{IsOpenAt};
 ghost use Rattle.vdr_slots.specs.Slots.{place_of};
 ghost use Rattle.vdr_survey.specs.Positions.{IsAt};
 ghost use Rattle.vdr_ring.specs.Rings.{HasMedium};
-ghost use Rattle.vdr_ring.specs.Visits.{StandsIn, IsLoaded, position_in, Steps};
+ghost use Rattle.vdr_ring.specs.Belied.{IsBelied};
+ghost use Rattle.vdr_ring.specs.Visits.{StandsIn, IsLoaded, position_in, slot_read, Steps};
 ghost use Rattle.vdr_ring.specs.Calls.{OnlyReads, ReadsUnlessLoaded, StepsInSlot};
 ghost use Rattle.vdr_ring.specs.declared.refused.ReadRefused.TheVariants.{Fault as AFault, Damaged};
 
+use crate::audit::belied;
 use crate::visit::stands_in;
 use crate::{ReadRefused, Ring, Visit};
-use vdr_outside::{Fault, Media};
+use vdr_outside::Media;
 use vdr_segment::OPEN_GATE;
 use vdr_slots::read_slot;
 use vdr_survey::{Position, Selection};
 
 impl Ring {
-    // Reads a slot into the buffer, where the buffer does not hold it already. Says whether it did.
-    pub(crate) fn load<M: Media>(&mut self, media: &mut M, slot: u32) -> Result<bool, Fault>
+    // Reads a slot into the buffer, where the buffer does not hold it already, and audits its segment where the header
+    // has a summary. Says whether the buffer held it. `Damaged` names the first batch that is not legal or does not
+    // agree with the summary, or where the batches end with too few records. Then no slot is loaded.
+    pub(crate) fn load<M: Media>(&mut self, media: &mut M, slot: u32) -> Result<bool, ReadRefused>
         requires room { HasMedium self.old (M.disk media.old).sizes }
         requires within { slot < self.old.slots }
         ensures ring { self.new ≡ record self.old { buffer = self.new.buffer; loaded = self.new.loaded } }
@@ -26,16 +30,23 @@ impl Ring {
         ensures held { IfOk result (λ held. IsTrue held → (self.old.loaded ≡ Some slot) × (self.new.buffer ≡ self.old.buffer)) }
         ensures failed { OnErr result (self.new.loaded ≡ None) }
         ensures bytes { IsLoaded self.old (M.disk media.old) → IsLoaded self.new (M.disk media.new) }
+        ensures audited { IfOk result (λ held. (held ≡ false) → (at : ℕ) → IsBelied self.new.buffer at → ⊥) }
+        ensures damaged { (m offset : ℕ) → result ≡ Err (Damaged m offset) → (m ≡ self.old.medium)
+            × (M.tells → (at : ℕ) × IsBelied (slot_read self.old slot (M.disk media.old)) at × (offset ≡ place_of self.old.segment slot + at)) }
         ensures unchanged { Unchanged (M.disk media.old) (M.disk media.new) }
         ensures again { self.old.loaded ≡ Some slot → M.bytes_read media.new ≡ M.bytes_read media.old }
         ensures once { self.old.loaded ≢ Some slot → M.bytes_read media.new ≡ counted (M.bytes_read media.old) self.old.medium self.old.segment }
-        ensures cause { HasCauseOn self.old.medium (M.faults media.old) (M.faults media.new) result }
+        ensures later { NoneFalls (M.faults media.old) (M.faults media.new) }
+        ensures rose { result ≡ Err AFault → Rose (get_or (M.faults media.old) self.old.medium 0) (get_or (M.faults media.new) self.old.medium 0) }
     {
         if self.loaded == Some(slot) {
             return Ok(true);
         }
         self.loaded = None;
         read_slot(media, self.area, slot, &mut self.buffer)?;
+        if let Some(at) = belied(&self.buffer) {
+            return Err(self.damaged(slot, at));
+        }
         self.loaded = Some(slot);
         Ok(false)
     }
@@ -104,17 +115,21 @@ impl Ring {
         }
     }
 
-    /// Steps to the next record of the segment in a slot that is selected. False exactly where no further one is there, as in a slot
-    /// that is closed, after which the visit stands in none. A visit that is new begins at the first record of the slot, and so
-    /// does one that stands in another slot. The slot is read whole where the last step was in another one, or an `append` came
-    /// since; else nothing is read. Of a record that is not selected only the head is looked at. It takes no memory.
+    /// Steps to the next record of the segment in a slot that is selected. False exactly where no further one is there,
+    /// as in a slot that is closed, after which the visit stands in none. A visit that is new begins at the first record
+    /// of the slot, and so does one that stands in another slot. The slot is read whole where the last step was in
+    /// another one, or an `append` came since; else nothing is read. Of a record that is not selected only the head is
+    /// looked at. It takes no memory.
     ///
-    /// The visit is new, or its last step was by this ring and no other visit's came since (`stands`): then it may go on in
-    /// the buffer without a look at what is behind it.
+    /// The visit is new, or its last step was by this ring and no other visit's came since (`stands`): then it may go on
+    /// in the buffer without a look at what is behind it.
     ///
-    /// `Damaged` names the medium and where a batch begins, in bytes, exactly where that batch is not legal and no record before it is
-    /// selected. Where the bytes have changed so that no record begins where the visit stands, it names the slot. `Fault`: the read failed. Where a
-    /// step is refused, the visit stays where it is, without a record.
+    /// `Damaged` names the medium and an offset, in bytes. A segment whose header has a summary is judged by that as it
+    /// is read. The offset is where the first batch begins that is not legal or does not agree with it, or where the
+    /// batches end with fewer records than it counts. Of another segment it is where a batch begins, exactly where that
+    /// is not legal and no record before it is selected. Where the bytes have changed so that no record begins where the
+    /// visit stands, it is that of the slot. `Fault`: the read failed. Where a step is refused, the visit stays where it
+    /// is, without a record.
     pub fn read_span<M: Media>(
         &mut self,
         media: &mut M,

@@ -5,7 +5,8 @@ use vdr_outside::Fault;
 pub enum ReadRefused {
     /// A call on the media failed, and the count of faults of that medium rose.
     Fault,
-    /// A batch of this medium is not legal. It begins at this offset, in bytes.
+    /// A batch of this medium is not legal, or does not agree with the summary of its segment. It begins at this offset,
+    /// in bytes. Where a segment has fewer records than its summary counts, this is where its batches end.
     Damaged { medium: u8, offset: u64 },
 }
 

@@ -9,5 +9,5 @@ mod writing;
 
 pub use area::Area;
 pub use law::{law_of_fronts, law_of_slots};
-pub use reading::{read_front, read_slot};
+pub use reading::{read_first_gate, read_front, read_slot};
 pub use writing::{append_batch, begin_segment, close_slot, summarize};

@@ -4,5 +4,7 @@ pub mod StretchLemmas
 pub mod SurveyLemmas
 pub mod SpanLemmas
 pub mod WalkLemmas
+pub mod CoverLemmas
+pub mod AuditLemmas
 pub mod StepLemmas
 pub mod PassLemmas

@@ -70,7 +70,7 @@ span_some segment at b h = (batch_shows (drop at segment) b (batch_from segment 
 abbrev pub HasNone : List ℕ → Type 0
 HasNone bytes = (b : List Record) → HasBatchAt bytes 0 b → ⊥
 
-stands : (bytes rest : List ℕ) (b : List Record) → IsBatch b → bytes ≡ batch_bytes b ++ rest → 0 < length rest → HasBatchAt bytes 0 b
+pub stands : (bytes rest : List ℕ) (b : List Record) → IsBatch b → bytes ≡ batch_bytes b ++ rest → 0 < length rest → HasBatchAt bytes 0 b
 stands bytes rest b legal is some =
     let behind : drop (0 + batch_size b) bytes ≡ rest =
     ap (λ (j : ℕ). drop j bytes) (zero-add (batch_size b)) ∙ ap (λ (xs : List ℕ). drop (batch_size b) xs) is ∙ drop-front (batch_size b) (batch_bytes b) rest (length-batch_bytes b) in
@@ -80,7 +80,7 @@ stands bytes rest b legal is some =
       room = omega (arith, ap length is, length-append (batch_bytes b) rest, length-batch_bytes b, some);
     }
 
-longer : (xs rest : List ℕ) → 0 < length rest → 0 < length (xs ++ rest)
+pub longer : (xs rest : List ℕ) → 0 < length rest → 0 < length (xs ++ rest)
 longer xs rest some = omega (arith, length-append xs rest, some)
 
 -- the bytes are these batches and this rest, at which no batch stands

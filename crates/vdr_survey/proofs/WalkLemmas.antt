@@ -38,15 +38,15 @@ met_records segment at from to w = (w.0, span_records segment at from to w.0 w.1
 module _ (segment : List ℕ) (first : ℕ) (s next : Survey) (from to : ℕ) (t : Stretch) (r : Reached segment first s) (w : Walks segment s.end (Batch from to))
     (c : (records : List Record) × AreRecords (take (to - from) (drop from segment)) records × ComesTo records t)
     (joined : (bs : List (List Record)) (rs : List Record) → Surveys first bs s → ComesTo rs t → to ≡ s.end + batch_size rs → Surveys first (bs ++ rs ∷ []) next) where
-  survey_next : Surveys first (r.batches ++ w.0 ∷ []) next
+  pub survey_next : Surveys first (r.batches ++ w.0 ∷ []) next
   survey_next =
       let same : c.0 ≡ w.0 = one_records _ c.0 w.0 c.1 (span_records segment s.end from to w.0 w.1 w.2 w.3) in
       joined r.batches w.0 r.survey (subst (λ (rs : List Record). ComesTo rs t) same c.2) (omega (arith, w.2, w.3))
 
-  front_next : Front segment to (r.batches ++ w.0 ∷ [])
+  pub front_next : Front segment to (r.batches ++ w.0 ∷ [])
   front_next = front_more segment s.end to r.batches w.0 r.front w.1 (omega (arith, w.2, w.3))
 
-  end_next : to ≡ next.end
+  pub end_next : to ≡ next.end
   end_next = front_next.behind ∙ sym survey_next.end
 
   pub reached_more : Reached segment first next

@@ -3,5 +3,6 @@ pub mod Extents
 pub mod Summaries
 pub mod Surveys
 pub mod Stretches
+pub mod Audits
 pub mod Positions
 pub mod Selections

@@ -4,6 +4,8 @@ ghost use Rattle.vdr_segment.specs.Segments.{AreBatches};
 ghost use Rattle.vdr_survey.specs.declared.extent.Survey.{Survey as ASurvey};
 ghost use Rattle.vdr_survey.specs.declared.position.Position.{Position as APosition};
 ghost use Rattle.vdr_survey.specs.Surveys.{Surveys, BreaksAt};
+ghost use Rattle.vdr_entry.specs.declared.summary.Summary.{Summary as ASummary};
+ghost use Rattle.vdr_survey.specs.Audits.{Agree, DisagreesAt};
 ghost use Rattle.vdr_survey.specs.Positions.{HasAhead};
 
 /// A survey has one answer: a segment has legal batches or breaks, never both; its batches and what they come to are one,
@@ -18,4 +20,11 @@ pub fn law_of_surveys()
 /// From a position on one list of records is ahead at the most.
 pub fn law_of_positions()
     ensures { (segment : List ℕ) (p : APosition) (rs qs : List Entry) → HasAhead segment p rs → HasAhead segment p qs → rs ≡ qs }
+{}
+
+/// An audit has one answer: the batches of a segment agree with its summary, or the segment disagrees at one offset.
+pub fn law_of_audits()
+    ensures either { (segment : List ℕ) (first : ℕ) (s : ASummary) (bs : List (List Entry)) (at : ℕ) → AreBatches (drop 64 segment) bs → Agree first s bs
+        → DisagreesAt segment first s at → ⊥ }
+    ensures offset { (segment : List ℕ) (first : ℕ) (s : ASummary) (m n : ℕ) → DisagreesAt segment first s m → DisagreesAt segment first s n → m ≡ n }
 {}

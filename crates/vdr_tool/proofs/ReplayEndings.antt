@@ -101,7 +101,7 @@ replay_ends media source old new before after answer told = record {
   untouched = λ refuses. let same = told.untouched refuses in record { leaves = same.0; reads = same.1 };
   missing = told.missing;
   header = told.header;
-  legible = told.legible;
+  openable = told.openable;
   unformatted = told.unformatted;
   damaged = told.damaged;
   others = told.others;

@@ -2,11 +2,9 @@
 use Rattle.std.specs.Prelude.{OnOk}
 use Rattle.std.specs.Io.KnownBytes.{Appends}
 use Rattle.std.proofs.Common.{◌≡◌, ◌≤◌, ◌<◌, ◌^◌, ◌∷◌, ◌++◌, inl, inr, ℕ, List, [], take, Option, None, Some, Result, Ok, Err, refl, sym, ap, subst, ◌∙◌, arith}
-use Rattle.vdr_terms.specs.Records.{FeedItem, last}
+use Rattle.vdr_terms.specs.Records.{FeedItem}
 use Rattle.vdr_terms.specs.declared.rate.Rate.{Rate}
-use Rattle.vdr_history.specs.Histories.{stamp_of}
 use Rattle.vdr_history.specs.Runs.{base_after}
-use Rattle.vdr_durability.specs.Readings.{Reading, next_after, records_on, restored}
 use Rattle.vdr_outside.specs.Causes.{HasCause}
 use Rattle.vdr_outside.specs.Disk.{Image}
 use Rattle.vdr_outside.specs.Writes.{AppendsFront}
@@ -14,10 +12,9 @@ use Rattle.vdr_feed.specs.Feed.{feed_header, longest_feed}
 use Rattle.vdr_feed.specs.Reader.{IfKnown}
 use Rattle.vdr_feed.proofs.Unique.{begins as has_header}
 use Rattle.vdr_media.specs.Formatted.{IsFormatted, IsUnformatted}
-use Rattle.vdr_opening.specs.Media.{members, Contents, HoldsContents, opening_of}
+use Rattle.vdr_opening.specs.Media.{Contents, HoldsContents, HoldsParts, opening_of, parts_of}
 use Rattle.vdr_opening.specs.Refusals.{IsRefused}
 use Rattle.vdr_config.specs.Configuration.{Configuration}
-use Rattle.vdr_directory.specs.Sequence.{Placed, batches_in}
 use Rattle.vdr_replay.specs.Answers.{Decides, IfOpened, TellsHeader}
 use Rattle.vdr_replay.specs.Feeding.{AreConfigured, ReadsFeed, RefusesNext}
 use Rattle.vdr_replay.specs.declared.ended.FeedEnd.{FeedEnd}
@@ -26,7 +23,7 @@ use Rattle.vdr_replay.specs.declared.ended.Replayed.{Replayed}
 use Rattle.vdr_replay.specs.declared.ended.ReplayRefused.{ReplayRefused}
 use Rattle.vdr_replay.specs.declared.ended.ReplayRefused.TheVariants as stops
 use Rattle.vdr_command.specs.Endings.{IsDone, IsRefusal}
-use Rattle.vdr_command.specs.Opened.{IsLegibleWith, OneAnswer}
+use Rattle.vdr_command.specs.Opened.{IsOpenableWith, OneAnswer}
 use Rattle.vdr_command.specs.Outside.{MediaFailed, MediaSeen, OutputSeen}
 use Rattle.vdr_command.specs.StatusLine.{Wrote}
 use Rattle.vdr_recorder.specs.Refusals.{MayBegin}
@@ -37,7 +34,7 @@ use Rattle.vdr_command.specs.declared.status.Status.{Status}
 use Rattle.vdr_command.specs.declared.status.Status.TheVariants.{Done, MediaFault, InputFault, OutputFault, Feed}
 use Rattle.vdr_tool.proofs.FeedLemmas.{not_refused, one_refusal}
 use Rattle.vdr_vault.proofs.OpenMoments.{never_both}
-use Rattle.vdr_command.proofs.OpenedCompleteness.{damaged_alike}
+use Rattle.vdr_command.proofs.OpenedCompleteness.{damaged_alike, last_read, place_read}
 
 -- A feed that is refused behind its header has one.
 reads_header : (rates : List (Option Rate)) (bytes : List ℕ) (number offset : ℕ) (items : List FeedItem) → RefusesNext rates bytes number offset items → take 8 bytes ≡ feed_header
@@ -55,32 +52,26 @@ is_done_as status is = subst IsDone (sym is) tt
 is_refused_as : (status : Status) (number offset other at : ℕ) → status ≡ Feed other at → (number ≡ other) × (offset ≡ at) → IsRefusal number offset status
 is_refused_as status number offset other at is same = subst (IsRefusal number offset) (sym is) (sym same.0, sym same.1)
 
--- The next place and the last stamp are those of one medium.
-abbrev reading_at : List Placed → Reading
-reading_at placed = record { batches = λ m. batches_in placed; table = []; text = [] }
+-- The tick that a run begins with is so much.
+base_read : (image : Image) → OneAnswer image → (x y : Contents) → HoldsParts image x → HoldsContents image y → base_after (opening_of x).last ≡ base_after (opening_of y).last
+base_read image law x y hx hy = ap base_after (last_read image law x y hx hy)
 
-next_is : (image : Image) → OneAnswer image → (x y : Contents) → HoldsContents image x → HoldsContents image y → (opening_of x).next_place ≡ (opening_of y).next_place
-next_is image law x y hx hy = ap (λ (ps : List Placed). next_after (last (records_on (restored members (reading_at ps)) 0))) (law.placed x y hx hy)
-
-base_is : (image : Image) → OneAnswer image → (x y : Contents) → HoldsContents image x → HoldsContents image y → base_after (opening_of x).last ≡ base_after (opening_of y).last
-base_is image law x y hx hy = ap (λ (ps : List Placed). base_after (stamp_of (last (records_on (restored members (reading_at ps)) 0)) None)) (law.placed x y hx hy)
-
-may_too : (image : Image) → OneAnswer image → (x y : Contents) → HoldsContents image x → HoldsContents image y → MayBegin (opening_of x) → MayBegin (opening_of y)
+may_too : (image : Image) → OneAnswer image → (x y : Contents) → HoldsParts image x → HoldsContents image y → MayBegin (opening_of x) → MayBegin (opening_of y)
 may_too image law x y hx hy may = record {
-  place = subst (λ (n : ℕ). n < 2 ^ 62) (next_is image law x y hx hy) may.place;
-  base = subst (λ (n : ℕ). n < 2 ^ 62) (base_is image law x y hx hy) may.base;
+  place = subst (λ (n : ℕ). n < 2 ^ 62) (place_read image law x y hx hy) may.place;
+  base = subst (λ (n : ℕ). n < 2 ^ 62) (base_read image law x y hx hy) may.base;
 }
 
 -- All that may be said of a status by its answer, in one place: what `replay` ends with where no object outside fails.
 module _ {tells tells_images : Type 0} (bytes : List ℕ) (now : Option (List ℕ)) (old new : MediaSeen tells tells_images) (was next : OutputSeen)
     (told : tells) (law : OneAnswer old.disk.reads) where
-  abbrev Legible : Result Replayed ReplayRefused → Type 0
-  Legible answer = IsLegibleWith old.disk.reads (λ x. Decides x (Some bytes) now answer)
+  abbrev Opened : Result Replayed ReplayRefused → Type 0
+  Opened answer = IsOpenableWith old.disk.reads (λ x. Decides x (Some bytes) now answer)
 
   no_place : (n : ℕ) → 2 ^ 62 ≤ n → n < 2 ^ 62 → ⊥
   no_place n high low = omega (arith, high, low)
 
-  closed : (status : Status) (run : Replayed) → (status ≡ InputFault → ⊥) → (status ≡ OutputFault → ⊥) → take 8 bytes ≡ feed_header → Legible (Ok run)
+  closed : (status : Status) (run : Replayed) → (status ≡ InputFault → ⊥) → (status ≡ OutputFault → ⊥) → take 8 bytes ≡ feed_header → Opened (Ok run)
       → (end : FeedEnd) → run.end ≡ end → (summary : List ℕ) → PrintsRun end summary status was next → ReplaysAll bytes old.disk.reads status
   closed status run input output header (formatted, y, hy, my, decides) ends.Whole is summary prints =
       let may = decides.0 in
@@ -91,16 +82,16 @@ module _ {tells tells_images : Type 0} (bytes : List ℕ) (now : Option (List �
       record {
         header = λ other. absurd (other header);
         unformatted = λ h un. absurd (never_both old.disk.reads formatted un);
-        damaged = λ h f m offset r. absurd (law.either y m offset hy my r);
+        damaged = λ h f m offset r. absurd (law.opens y m offset hy my r);
         place = λ x h holds meet high. absurd (no_place (opening_of x).next_place high (may_too old.disk.reads law y x hy holds may).place);
         tick = λ x h holds meet low high. absurd (no_place (base_after (opening_of x).last) high (may_too old.disk.reads law y x hy holds may).base);
         refused = λ x items number offset holds meet begins reads known.
-            let same = law.config y x hy holds in
+            let same = law.config y (parts_of x) hy (law.parts x holds) in
             absurd (not_refused x.config.groups bytes number offset feed items (subst (λ (c : Configuration). AreConfigured c.groups feed) same configured) known
             (subst (λ (e : FeedEnd). ReadsFeed x.config.groups bytes now e feed) is (subst (λ (c : Configuration). ReadsFeed c.groups bytes now run.end feed) same read)) reads);
         done = λ x items holds meet begins whole known. is_done_as status done;
       }
-  closed status run input output header legible ends.Input is summary prints = absurd (input prints.0)
+  closed status run input output header opened ends.Input is summary prints = absurd (input prints.0)
   closed status run input output header (formatted, y, hy, my, decides) (ends.Refused other at) is summary prints =
       let may = decides.0 in
       let feed = decides.1.0 in
@@ -109,25 +100,25 @@ module _ {tells tells_images : Type 0} (bytes : List ℕ) (now : Option (List �
       record {
         header = λ no. absurd (no header);
         unformatted = λ h un. absurd (never_both old.disk.reads formatted un);
-        damaged = λ h f m offset r. absurd (law.either y m offset hy my r);
+        damaged = λ h f m offset r. absurd (law.opens y m offset hy my r);
         place = λ x h holds meet high. absurd (no_place (opening_of x).next_place high (may_too old.disk.reads law y x hy holds may).place);
         tick = λ x h holds meet low high. absurd (no_place (base_after (opening_of x).last) high (may_too old.disk.reads law y x hy holds may).base);
         refused = λ x items number offset holds meet begins reads known.
-            let same = law.config y x hy holds in
+            let same = law.config y (parts_of x) hy (law.parts x holds) in
             is_refused_as status number offset other at prints.0
             (one_refusal x.config.groups bytes number offset other at items feed known (subst (λ (c : Configuration). AreConfigured c.groups feed) same configured) reads
             (subst (λ (e : FeedEnd). ReadsFeed x.config.groups bytes now e feed) is (subst (λ (c : Configuration). ReadsFeed c.groups bytes now run.end feed) same read)));
         done = λ x items holds meet begins whole known.
-            let same = law.config y x hy holds in
+            let same = law.config y (parts_of x) hy (law.parts x holds) in
             absurd (not_refused x.config.groups bytes other at items feed known (subst (λ (c : Configuration). AreConfigured c.groups feed) same configured) whole
             (subst (λ (e : FeedEnd). ReadsFeed x.config.groups bytes now e feed) is (subst (λ (c : Configuration). ReadsFeed c.groups bytes now run.end feed) same read)));
       }
 
-  stopped : (stop : ReplayRefused) → (status_of_replay stop ≡ InputFault → ⊥) → (status_of_replay stop ≡ MediaFault → ⊥) → TellsHeader (Some bytes) now (Err stop) → IfOpened (Err stop) (Legible (Err stop))
+  stopped : (stop : ReplayRefused) → (status_of_replay stop ≡ InputFault → ⊥) → (status_of_replay stop ≡ MediaFault → ⊥) → TellsHeader (Some bytes) now (Err stop) → IfOpened (Err stop) (Opened (Err stop))
       → (◌≡◌ {A = Result Replayed ReplayRefused} (Err stop) (Err stops.NotFormatted) → tells → IsUnformatted old.disk.reads)
       → ((m offset : ℕ) → ◌≡◌ {A = Result Replayed ReplayRefused} (Err stop) (Err (stops.Damaged m offset)) → tells → IsFormatted old.disk.reads × IsRefused old.disk.reads m offset)
       → ReplaysAll bytes old.disk.reads (status_of_replay stop)
-  stopped stops.NoMemory input media header legible unformatted damaged = record {
+  stopped stops.NoMemory input media header opened unformatted damaged = record {
     header = λ no. absurd (no header);
     unformatted = λ h un. inr refl;
     damaged = λ h f m offset r. inr refl;
@@ -136,9 +127,9 @@ module _ {tells tells_images : Type 0} (bytes : List ℕ) (now : Option (List �
     refused = λ x feed number offset holds meet may reads known. tt;
     done = λ x feed holds meet may whole known. tt;
   }
-  stopped stops.Input input media header legible unformatted damaged = absurd (input refl)
-  stopped stops.Media input media header legible unformatted damaged = absurd (media refl)
-  stopped (stops.Refused number offset) input media header legible unformatted damaged = record {
+  stopped stops.Input input media header opened unformatted damaged = absurd (input refl)
+  stopped stops.Media input media header opened unformatted damaged = absurd (media refl)
+  stopped (stops.Refused number offset) input media header opened unformatted damaged = record {
     header = λ no. (header.0, header.1);
     unformatted = λ h un. absurd (header.2 h);
     damaged = λ h f m offset r. absurd (header.2 h);
@@ -147,7 +138,7 @@ module _ {tells tells_images : Type 0} (bytes : List ℕ) (now : Option (List �
     refused = λ x feed n at holds meet may reads known. absurd (header.2 (reads_header x.config.groups bytes n at feed reads));
     done = λ x feed holds meet may whole known. absurd (header.2 (has_header longest_feed bytes feed [] whole));
   }
-  stopped stops.NotFormatted input media header legible unformatted damaged =
+  stopped stops.NotFormatted input media header opened unformatted damaged =
       let un = unformatted refl told in
       record {
         header = λ no. absurd (no header);
@@ -158,7 +149,7 @@ module _ {tells tells_images : Type 0} (bytes : List ℕ) (now : Option (List �
         refused = λ x feed n at holds meet may reads known. absurd (law.formatted x holds un);
         done = λ x feed holds meet may whole known. absurd (law.formatted x holds un);
       }
-  stopped (stops.Damaged k at) input media header legible unformatted damaged =
+  stopped (stops.Damaged k at) input media header opened unformatted damaged =
       let r = damaged k at refl told in
       record {
         header = λ no. absurd (no header);
@@ -172,7 +163,7 @@ module _ {tells tells_images : Type 0} (bytes : List ℕ) (now : Option (List �
   stopped stops.Place input media header (formatted, y, hy, my, high) unformatted damaged = record {
     header = λ no. absurd (no header);
     unformatted = λ h un. absurd (never_both old.disk.reads formatted un);
-    damaged = λ h f m offset r. absurd (law.either y m offset hy my r);
+    damaged = λ h f m offset r. absurd (law.opens y m offset hy my r);
     place = λ x h holds meet also. inl refl;
     tick = λ x h holds meet low also. absurd (no_place (opening_of x).next_place (too_high x holds) low);
     refused = λ x feed n at holds meet may reads known. absurd (no_place (opening_of x).next_place (too_high x holds) may.place);
@@ -180,34 +171,34 @@ module _ {tells tells_images : Type 0} (bytes : List ℕ) (now : Option (List �
   }
     where
       too_high : (x : Contents) → HoldsContents old.disk.reads x → 2 ^ 62 ≤ (opening_of x).next_place
-      too_high x holds = subst (λ (n : ℕ). 2 ^ 62 ≤ n) (next_is old.disk.reads law y x hy holds) high
+      too_high x holds = subst (λ (n : ℕ). 2 ^ 62 ≤ n) (place_read old.disk.reads law y x hy holds) high
   stopped stops.Tick input media header (formatted, y, hy, my, decides) unformatted damaged = record {
     header = λ no. absurd (no header);
     unformatted = λ h un. absurd (never_both old.disk.reads formatted un);
-    damaged = λ h f m offset r. absurd (law.either y m offset hy my r);
-    place = λ x h holds meet also. absurd (no_place (opening_of x).next_place also (subst (λ (n : ℕ). n < 2 ^ 62) (next_is old.disk.reads law y x hy holds) decides.0));
+    damaged = λ h f m offset r. absurd (law.opens y m offset hy my r);
+    place = λ x h holds meet also. absurd (no_place (opening_of x).next_place also (subst (λ (n : ℕ). n < 2 ^ 62) (place_read old.disk.reads law y x hy holds) decides.0));
     tick = λ x h holds meet below also. inl refl;
     refused = λ x feed n at holds meet may reads known. absurd (no_place (base_after (opening_of x).last) (too_late x holds) may.base);
     done = λ x feed holds meet may whole known. absurd (no_place (base_after (opening_of x).last) (too_late x holds) may.base);
   }
     where
       too_late : (x : Contents) → HoldsContents old.disk.reads x → 2 ^ 62 ≤ base_after (opening_of x).last
-      too_late x holds = subst (λ (n : ℕ). 2 ^ 62 ≤ n) (base_is old.disk.reads law y x hy holds) decides.1
+      too_late x holds = subst (λ (n : ℕ). 2 ^ 62 ≤ n) (base_read old.disk.reads law y x hy holds) decides.1
 
   by_answer : (status : Status) (answer : Result Replayed ReplayRefused) → (status ≡ InputFault → ⊥) → (status ≡ OutputFault → ⊥) → (status ≡ MediaFault → ⊥)
-      → TellsRun answer status was next → TellsHeader (Some bytes) now answer → IfOpened answer (Legible answer)
+      → TellsRun answer status was next → TellsHeader (Some bytes) now answer → IfOpened answer (Opened answer)
       → (answer ≡ Err stops.NotFormatted → tells → IsUnformatted old.disk.reads)
       → ((m offset : ℕ) → answer ≡ Err (stops.Damaged m offset) → tells → IsFormatted old.disk.reads × IsRefused old.disk.reads m offset)
       → ReplaysAll bytes old.disk.reads status
-  by_answer status (Ok run) input output media prints header legible unformatted damaged = closed status run input output header legible run.end refl _ prints
-  by_answer status (Err stop) input output media prints header legible unformatted damaged =
+  by_answer status (Ok run) input output media prints header opened unformatted damaged = closed status run input output header opened run.end refl _ prints
+  by_answer status (Err stop) input output media prints header opened unformatted damaged =
       subst (λ (s : Status). ReplaysAll bytes old.disk.reads s) (sym prints.0)
-      (stopped stop (λ is. input (prints.0 ∙ is)) (λ is. media (prints.0 ∙ is)) header legible unformatted damaged)
+      (stopped stop (λ is. input (prints.0 ∙ is)) (λ is. media (prints.0 ∙ is)) header opened unformatted damaged)
 
   pub replays_all : (status : Status) (answer : Result Replayed ReplayRefused) → (status ≡ InputFault → ⊥) → (status ≡ OutputFault → ⊥) → (status ≡ MediaFault → ⊥)
       → TellsRun answer status was next → ReplayEnds (Some bytes) now old new answer → ReplaysAll bytes old.disk.reads status
   replays_all status answer input output media tells_it ends =
-      by_answer status answer input output media tells_it ends.header (ends.legible told) ends.unformatted ends.damaged
+      by_answer status answer input output media tells_it ends.header (ends.openable told) ends.unformatted ends.damaged
 
 -- The media's fault has its cause.
 stop_at_fault : (stop : ReplayRefused) → status_of_replay stop ≡ MediaFault → ◌≡◌ {A = Result Replayed ReplayRefused} (Err stop) (Err stops.Media)

@@ -1,28 +1,17 @@
 -- By exclusion: what may be listed, saved or released is, and what may not is refused by its own refusal.
-use Rattle.std.proofs.Common.{◌≡◌, inl, inr, ⊎_elim, ℕ, ℤ, List, ◌∷◌, [], Option, Some, None, option_map, refl, sym, ap, subst, ◌∙◌}
-use Rattle.std.proofs.lemmas.List.Elements.{All-head}
-use Rattle.vdr_terms.specs.Records.{last}
+use Rattle.std.proofs.Common.{◌≡◌, inl, inr, ⊎_elim, ℕ, List, Option, Some, None, option_map, refl, sym, ap, subst, ◌∙◌}
 use Rattle.vdr_history.specs.Histories.{Event, Incident, live}
-use Rattle.vdr_outside.specs.Disk.{Image, content}
-use Rattle.vdr_directory.specs.Sequence.{Placed, all_records}
-use Rattle.vdr_opening.specs.Media.{Contents, HoldsContents, IsMedium}
-use Rattle.vdr_vault.specs.Vaults.{tick_utc}
-use Rattle.vdr_vault.proofs.OpenContents.{newest_opened}
-use Rattle.vdr_command.specs.Opened.{IfNoIncident, IsLegibleWith, MediaEnds, MetUnsound, OneAnswer, newest_of}
+use Rattle.vdr_history.specs.Runs.{Stamp}
+use Rattle.vdr_opening.specs.Media.{Contents, HoldsContents, HoldsParts, parts_of}
+use Rattle.vdr_vault.specs.Vaults.{of_stamp}
+use Rattle.vdr_command.specs.Opened.{IfNoIncident, IsOpenableWith, MediaEnds, MetUnsound, OneAnswer, newest_of}
 use Rattle.vdr_command.specs.Outside.{MediaSeen}
 use Rattle.vdr_tool.specs.Releases.{CanRelease, IsReleaseStatus, ReleasesAll}
 use Rattle.vdr_tool.specs.Saves.{CanSave, IfSaveRefused, IsJudged, IsSaveStatus, SavesAll, save_cause}
 use Rattle.vdr_command.specs.declared.status.SaveCause.{SaveCause}
 use Rattle.vdr_command.specs.declared.status.Status.{Status}
 use Rattle.vdr_command.specs.declared.status.Status.TheVariants.{Done, Words, Config, Small, Unformatted, Formatted, Damaged, MediaFault, PortFault, LinkFault, InputFault, OutputFault, NoMemory, Feed, NoChannel, NoIncident, SaveRefused, Place, Tick, ExportKind, ExportNothing, ExportMixed, ExportLong, ExportPart}
-use Rattle.vdr_command.proofs.OpenedCompleteness.{damaged_refused, legible_refused, memory_refused, unformatted_refused}
-
--- The last record of what the image holds is one.
-one_newest : (image : Image) (law : OneAnswer image) (x y : Contents) → HoldsContents image x → HoldsContents image y → newest_of x ≡ newest_of y
-one_newest image law x y holds also =
-    let first = All-head (λ m. IsMedium m x.config x.text (x.placed m) (content image m)) 0 (1 ∷ []) holds.media in
-    let second = All-head (λ m. IsMedium m y.config y.text (y.placed m) (content image m)) 0 (1 ∷ []) also.media in
-    sym (newest_opened x first.segments.order) ∙ (ap (λ (placed : List Placed). option_map tick_utc (last (all_records placed))) (law.placed x y holds also) ∙ newest_opened y second.segments.order)
+use Rattle.vdr_command.proofs.OpenedCompleteness.{damaged_refused, last_read, memory_refused, opened_refused, unformatted_refused}
 
 one_cause : (a b : SaveCause) (found : Option SaveCause) → found ≡ Some a → found ≡ Some b → SaveRefused a ≡ SaveRefused b
 one_cause a b found first second = let same : Some a ≡ Some b = sym first ∙ second in cc
@@ -36,20 +25,20 @@ not_both_live table other id saved same is none =
     let clash : Some saved ≡ None = sym is ∙ (ap (λ (t : List (Option Incident)). live t id) same ∙ none) in let no_one : ⊥ = cc in absurd no_one
 
 module _ {tells tells_images : Type 0} (old new : MediaSeen tells tells_images) (told : tells) (law : OneAnswer old.disk.reads) (MayBe : List Event → Type 0) where
-  -- A save is judged in one way on all contents of the image.
-  judged_too : (label : List ℕ) (cause : Option SaveCause) (x y : Contents) → HoldsContents old.disk.reads x → HoldsContents old.disk.reads y → IsJudged label cause x → IsJudged label cause y
+  -- A save is judged by what was read as by what is held.
+  judged_too : (label : List ℕ) (cause : Option SaveCause) (x y : Contents) → HoldsParts old.disk.reads x → HoldsContents old.disk.reads y → IsJudged label cause x → IsJudged label cause y
   judged_too label cause x y holds also judged =
-      subst (λ (newest : Option (ℕ × ℤ)). save_cause label newest y.table ≡ cause) (one_newest old.disk.reads law x y holds also)
-      (subst (λ (table : List (Option Incident)). save_cause label (newest_of x) table ≡ cause) (law.table x y holds also) judged)
+      subst (λ (stamp : Option Stamp). save_cause label (option_map of_stamp stamp) y.table ≡ cause) (last_read old.disk.reads law x y holds also)
+      (subst (λ (table : List (Option Incident)). save_cause label (newest_of x) table ≡ cause) (law.table x (parts_of y) holds (law.parts y also)) judged)
 
   pub saves_all : (label : List ℕ) (status : Status) → (status ≡ OutputFault → ⊥) → (status ≡ MediaFault → ⊥) → IsSaveStatus status
       → MediaEnds (CanSave label) (MetUnsound old.disk (CanSave label)) MayBe old new status
-      → IfSaveRefused status (λ cause. tells → IsLegibleWith old.disk.reads (IsJudged label (Some cause)))
+      → IfSaveRefused status (λ cause. tells → IsOpenableWith old.disk.reads (IsJudged label (Some cause)))
       → SavesAll label old.disk.reads status
   saves_all label Done output media own ends refused =
-      let p = ends.legible tt told in
+      let p = ends.openable tt told in
       record {
-        refused = legible_refused old.disk.reads law Done p.0 p.1 p.2 p.3;
+        refused = opened_refused old.disk.reads law Done p.0 p.1 p.2 p.3;
         cause = λ x cause holds meet is. no_cause cause (save_cause label (newest_of x) x.table) (judged_too label None p.1 x p.2 holds p.4) is;
         done = λ x holds meet recorded can. tt;
       }
@@ -70,7 +59,7 @@ module _ {tells tells_images : Type 0} (old new : MediaSeen tells tells_images) 
       (λ unsound. let h = unsound told in
       let p = h.0 in
       record {
-        refused = legible_refused old.disk.reads law (Damaged k at) p.0 p.1 p.2 p.3;
+        refused = opened_refused old.disk.reads law (Damaged k at) p.0 p.1 p.2 p.3;
         cause = λ x cause holds meet is. no_cause cause (save_cause label (newest_of x) x.table) (judged_too label None p.1 x p.2 holds p.4) is;
         done = λ x holds meet recorded can. absurd (h.1 x holds recorded);
       })
@@ -78,7 +67,7 @@ module _ {tells tells_images : Type 0} (old new : MediaSeen tells tells_images) 
   saves_all label (SaveRefused why) output media own ends refused =
       let h = refused told in
       record {
-        refused = legible_refused old.disk.reads law (SaveRefused why) h.0 h.1 h.2 h.3;
+        refused = opened_refused old.disk.reads law (SaveRefused why) h.0 h.1 h.2 h.3;
         cause = λ x cause holds meet is. inl (one_cause why cause (save_cause label (newest_of x) x.table) (judged_too label (Some why) h.1 x h.2 holds h.4) is);
         done = λ x holds meet recorded can. no_cause why (save_cause label (newest_of x) x.table) can (judged_too label (Some why) h.1 x h.2 holds h.4);
       }
@@ -109,13 +98,13 @@ module _ {tells tells_images : Type 0} (old new : MediaSeen tells tells_images) 
 
   pub releases_all : (id : ℕ) (status : Status) → (status ≡ MediaFault → ⊥) → IsReleaseStatus status
       → MediaEnds (CanRelease id) ⊥ MayBe old new status
-      → IfNoIncident status (λ asked. (asked ≡ id) × (tells → IsLegibleWith old.disk.reads (λ x. live x.table id ≡ None)))
+      → IfNoIncident status (λ asked. (asked ≡ id) × (tells → IsOpenableWith old.disk.reads (λ x. live x.table id ≡ None)))
       → ReleasesAll id old.disk.reads status
   releases_all id Done media own ends missing =
-      let p = ends.legible tt told in
+      let p = ends.openable tt told in
       record {
-        refused = legible_refused old.disk.reads law Done p.0 p.1 p.2 p.3;
-        incident = λ x holds meet none. not_both_live p.1.table x.table id p.4.0 (law.table p.1 x p.2 holds) p.4.1 none;
+        refused = opened_refused old.disk.reads law Done p.0 p.1 p.2 p.3;
+        incident = λ x holds meet none. not_both_live p.1.table x.table id p.4.0 (law.table p.1 (parts_of x) p.2 (law.parts x holds)) p.4.1 none;
         done = λ x holds meet can. tt;
       }
   releases_all id Unformatted media own ends missing =
@@ -137,9 +126,9 @@ module _ {tells tells_images : Type 0} (old new : MediaSeen tells tells_images) 
   releases_all id (NoIncident asked) media own ends missing =
       let h = missing.1 told in
       record {
-        refused = legible_refused old.disk.reads law (NoIncident asked) h.0 h.1 h.2 h.3;
+        refused = opened_refused old.disk.reads law (NoIncident asked) h.0 h.1 h.2 h.3;
         incident = λ x holds meet none. inl (ap (λ (n : ℕ). NoIncident n) missing.0);
-        done = λ x holds meet can. not_both_live x.table h.1.table id can.0 (law.table x h.1 holds h.2) can.1 h.4;
+        done = λ x holds meet can. not_both_live x.table h.1.table id can.0 (law.table (parts_of x) h.1 (law.parts x holds) h.2) can.1 h.4;
       }
   releases_all id NoMemory media own ends missing = record { refused = memory_refused old.disk.reads; incident = λ x holds meet none. inr refl; done = λ x holds meet can. tt }
   releases_all id MediaFault media own ends missing = absurd (media refl)

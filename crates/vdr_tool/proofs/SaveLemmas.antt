@@ -23,7 +23,7 @@ use Rattle.vdr_vault.specs.Vaults.{VaultState, ShowsHistory, Stands}
 use Rattle.vdr_vault.specs.declared.refused.SaveRefused.{SaveRefused as Refused}
 use Rattle.vdr_vault.specs.declared.refused.SaveRefused.TheVariants as saves
 use Rattle.vdr_command.specs.Endings.{IsWorkDone}
-use Rattle.vdr_command.specs.Opened.{AddsMissing, AreLooks, IfNoIncident, IsLegibleWith, IsOneEvent, IsUnbegun, KeepsContents, MayLeave, MediaEnds, MetUnsound, PrintsText, WasRecorded}
+use Rattle.vdr_command.specs.Opened.{AddsMissing, AreLooks, IfNoIncident, IsOpenableWith, IsOneEvent, IsUnbegun, KeepsContents, MayLeave, MediaEnds, MetUnsound, PrintsText, WasRecorded}
 use Rattle.vdr_command.specs.Statuses.{status_of_opening}
 use Rattle.vdr_command.specs.Outside.{MediaSeen, OutputSeen, Prints, PrintsFront}
 use Rattle.vdr_tool.specs.Releases.{CanRelease, IsReleaseStatus, ReleasesId, status_of_release}
@@ -34,7 +34,7 @@ use Rattle.vdr_command.specs.declared.status.SaveCause.TheVariants.{Label, Nothi
 use Rattle.vdr_command.specs.declared.status.Status.{Status}
 use Rattle.vdr_command.specs.declared.status.Status.TheVariants.{Done, MediaFault, OutputFault, SaveRefused}
 use Rattle.vdr_headline.proofs.Playing.{config_read}
-use Rattle.vdr_command.proofs.OpenedLemmas.{OpenedOn, done_either, kept_by_call, legible_so, missing_looked, missing_still, one_look, reads_done, worked_ends}
+use Rattle.vdr_command.proofs.OpenedLemmas.{OpenedOn, done_either, kept_by_call, missing_looked, missing_still, one_look, opened_so, reads_done, worked_ends}
 
 -- Of a refused opening nothing is printed.
 pub prints_nothing : (text : List ℕ) (refused : OpenRefused) (old new : OutputSeen) → PrintsText text (status_of_opening refused) old new
@@ -88,7 +88,7 @@ never_fault true (Some stamp) (Some slot) is = let none : ⊥ = cc in absurd non
 
 module _ {tells tells_images : Type 0} (old mid new : MediaSeen tells tells_images) (r after : RecorderState)
     (works : r.vault.failed ≡ false)
-    (contents : OpenedOn old.disk r.vault)
+    (parts : OpenedOn old.disk r.vault)
     (opened : (x : Contents) → tells → HoldsContents old.disk.reads x → WasRecorded x
     → (t0 : ℕ) × (old.disk.clock ≤ t0) × (t0 ≤ mid.disk.clock) × HasRecorded (opening_of x) [] t0 r mid.disk)
     (later : NoneFalls old.faults mid.faults) (others : tells → SameBut 1 old.disk.reads mid.disk.reads) (beside : tells → SameBut 1 mid.disk.reads new.disk.reads) where
@@ -114,10 +114,10 @@ module _ {tells tells_images : Type 0} (old mid new : MediaSeen tells tells_imag
       → saved ≡ Err (saves.Damaged m offset) → ⊥)
     where
       -- How the label is judged on these media.
-      judged : (found : Option Refused) → save_refusal label r.vault ≡ found → tells → IsLegibleWith old.disk.reads (IsJudged label (cause_if found))
-      judged found is = legible_so (IsJudged label (cause_if found)) old.disk r.vault contents (λ x t holds c k l.
-          subst (λ (newest : Option (ℕ × ℤ)). save_cause label newest x.table ≡ cause_if found) l
-          (subst (λ (table : List (Option Incident)). save_cause label r.vault.last table ≡ cause_if found) k (ap (λ (o : Option Refused). cause_if o) is)))
+      judged : (found : Option Refused) → save_refusal label r.vault ≡ found → tells → IsOpenableWith old.disk.reads (IsJudged label (cause_if found))
+      judged found is = opened_so (IsJudged label (cause_if found)) old.disk r.vault parts (λ x read.
+          subst (λ (newest : Option (ℕ × ℤ)). save_cause label newest x.table ≡ cause_if found) read.last
+          (subst (λ (table : List (Option Incident)). save_cause label r.vault.last table ≡ cause_if found) read.table (ap (λ (o : Option Refused). cause_if o) is)))
 
       -- What a recorder leaves is not damaged.
       unsound : (m offset : ℕ) → saved ≡ Err (saves.Damaged m offset) → tells → (x : Contents) → HoldsContents old.disk.reads x → WasRecorded x → ⊥
@@ -175,9 +175,9 @@ module _ {tells tells_images : Type 0} (old mid new : MediaSeen tells tells_imag
             unformatted = λ e. let none : ⊥ = cc in absurd none;
             damaged = tt;
             fault = λ e. let none : ⊥ = cc in absurd none;
-            legible = λ done. absurd done;
+            openable = λ done. absurd done;
             others = others_too;
-            blank = λ t un. absurd (never_both old.disk.reads (contents t).0 un);
+            blank = λ t un. absurd (never_both old.disk.reads (parts t).0 un);
             kept = λ x t holds meet regular. inr (kept_refused refused (SaveRefused why) (λ worked. worked) is x t holds meet regular);
           }
 
@@ -192,9 +192,9 @@ module _ {tells tells_images : Type 0} (old mid new : MediaSeen tells tells_imag
                 unformatted = λ e. let none : ⊥ = cc in absurd none;
                 damaged = inr (λ t. (judged None none t, unsound m offset is t));
                 fault = λ e. let none : ⊥ = cc in absurd none;
-                legible = λ done. absurd done;
+                openable = λ done. absurd done;
                 others = others_too;
-                blank = λ t un. absurd (never_both old.disk.reads (contents t).0 un);
+                blank = λ t un. absurd (never_both old.disk.reads (parts t).0 un);
                 kept = λ x t holds meet regular.
                     let has = opened x t holds regular in
                     let done = met_damage (opening_of x) [] has.0 m offset t is has.3 in
@@ -207,13 +207,13 @@ module _ {tells tells_images : Type 0} (old mid new : MediaSeen tells tells_imag
                 unformatted = λ e. let none : ⊥ = cc in absurd none;
                 damaged = tt;
                 fault = λ e. rose (saved ≡ Err saves.Fault) cause is;
-                legible = λ done. absurd done;
+                openable = λ done. absurd done;
                 others = others_too;
-                blank = λ t un. absurd (never_both old.disk.reads (contents t).0 un);
+                blank = λ t un. absurd (never_both old.disk.reads (parts t).0 un);
                 kept = λ x t holds meet regular. inr (kept_with_save None (MayLeave (SavesAs label) new.disk.clock MediaFault) MediaFault (λ worked. absurd worked) none (λ m offset e. let clash : Err saves.Fault ≡ Err (saves.Damaged m offset) = sym is ∙ e in let no_one : ⊥ = cc in no_one) (ap (λ (b : Bool). moment_of b new.disk.clock) (fails is)) (λ events one. inr one) x t holds meet regular);
               }
 
-          pub unsaved_refused : (refused : Refused) → saved ≡ Err refused → IfSaveRefused (status_of_save refused) (λ why. tells → IsLegibleWith old.disk.reads (IsJudged label (Some why)))
+          pub unsaved_refused : (refused : Refused) → saved ≡ Err refused → IfSaveRefused (status_of_save refused) (λ why. tells → IsOpenableWith old.disk.reads (IsJudged label (Some why)))
           unsaved_refused saves.Label is = judged (Some saves.Label) (reason saves.Label is (inl refl)).1
           unsaved_refused saves.Nothing is = judged (Some saves.Nothing) (reason saves.Nothing is (inr (inl refl))).1
           unsaved_refused saves.TableFull is = judged (Some saves.TableFull) (reason saves.TableFull is (inr (inr refl))).1
@@ -235,11 +235,11 @@ module _ {tells tells_images : Type 0} (old mid new : MediaSeen tells tells_imag
     there None is not = absurd (not (refused_so works is))
     there (Some saved) is not = (saved, is)
 
-    missing : live r.vault.table id ≡ None → tells → IsLegibleWith old.disk.reads (λ x. live x.table id ≡ None)
-    missing none = legible_so (λ x. live x.table id ≡ None) old.disk r.vault contents (λ x t holds c k l. subst (λ (table : List (Option Incident)). live table id ≡ None) k none)
+    missing : live r.vault.table id ≡ None → tells → IsOpenableWith old.disk.reads (λ x. live x.table id ≡ None)
+    missing none = opened_so (λ x. live x.table id ≡ None) old.disk r.vault parts (λ x read. subst (λ (table : List (Option Incident)). live table id ≡ None) read.table none)
 
-    can : (saved : Incident) → live r.vault.table id ≡ Some saved → tells → IsLegibleWith old.disk.reads (λ x. CanRelease id x)
-    can saved is = legible_so (λ x. CanRelease id x) old.disk r.vault contents (λ x t holds c k l. (saved, subst (λ (table : List (Option Incident)). live table id ≡ Some saved) k is))
+    can : (saved : Incident) → live r.vault.table id ≡ Some saved → tells → IsOpenableWith old.disk.reads (λ x. CanRelease id x)
+    can saved is = opened_so (λ x. CanRelease id x) old.disk r.vault parts (λ x read. (saved, subst (λ (table : List (Option Incident)). live table id ≡ Some saved) read.table is))
 
     module _ {T : Type 0} (result : Result T OpenRefused)
         (moments : (x : Contents) → tells → HoldsContents old.disk.reads x → EndsMeet members (reading_of x) → WasRecorded x → OpensAtEachMoment old.disk mid.disk result (ShowsHistory (opening_of x) [])) where
@@ -264,9 +264,9 @@ module _ {tells tells_images : Type 0} (old mid new : MediaSeen tells tells_imag
         unformatted = λ e. let none : ⊥ = cc in absurd none;
         damaged = tt;
         fault = λ e. let none : ⊥ = cc in absurd none;
-        legible = λ done. absurd done;
+        openable = λ done. absurd done;
         others = others_too;
-        blank = λ t un. absurd (never_both old.disk.reads (contents t).0 un);
+        blank = λ t un. absurd (never_both old.disk.reads (parts t).0 un);
         kept = λ x t holds meet regular.
             let has = opened x t holds regular in
             let done = looked (opening_of x) [] has.0 (inr (reason is).1) has.3 in
@@ -279,13 +279,13 @@ module _ {tells tells_images : Type 0} (old mid new : MediaSeen tells tells_imag
             unformatted = λ e. let none : ⊥ = cc in absurd none;
             damaged = tt;
             fault = λ e. rose (released ≡ Err releases.Fault) cause is;
-            legible = λ done. absurd done;
+            openable = λ done. absurd done;
             others = others_too;
-            blank = λ t un. absurd (never_both old.disk.reads (contents t).0 un);
+            blank = λ t un. absurd (never_both old.disk.reads (parts t).0 un);
             kept = λ x t holds meet regular. inr (kept_with_release None (MayLeave (ReleasesId id) new.disk.clock MediaFault) MediaFault (λ worked. absurd worked) live_one.0 live_one.1 (ap (λ (b : Bool). moment_of b new.disk.clock) (fails is)) (λ events one. inr one) x t holds meet regular);
           }
 
-    pub released_missing : (p : Result ⊤ ReleaseRefused) → released ≡ p → IfNoIncident (status_of_release p id) (λ told. (told ≡ id) × (tells → IsLegibleWith old.disk.reads (λ x. live x.table id ≡ None)))
+    pub released_missing : (p : Result ⊤ ReleaseRefused) → released ≡ p → IfNoIncident (status_of_release p id) (λ told. (told ≡ id) × (tells → IsOpenableWith old.disk.reads (λ x. live x.table id ≡ None)))
     released_missing (Ok u) is = tt
     released_missing (Err releases.NoSuch) is = (refl, missing (reason is).1)
     released_missing (Err releases.Fault) is = tt

@@ -8,7 +8,7 @@ use Rattle.vdr_incident.specs.declared.refused.ReleaseRefused.{ReleaseRefused}
 use Rattle.vdr_incident.specs.declared.refused.ReleaseRefused.TheVariants as releases
 use Rattle.vdr_opening.specs.Media.{members, Contents, HoldsContents, reading_of}
 use Rattle.vdr_command.specs.Endings.{IsDone}
-use Rattle.vdr_command.specs.Opened.{AddsMissing, IfNoIncident, IsLegibleWith, IsUnbegun, MayLeave, MediaEnds, RefusesAll}
+use Rattle.vdr_command.specs.Opened.{AddsMissing, IfNoIncident, IsOpenableWith, IsUnbegun, MayLeave, MediaEnds, RefusesAll}
 use Rattle.vdr_command.specs.Outside.{NothingFailed, Outside}
 use Rattle.vdr_command.specs.Promises.{Promise}
 use Rattle.vdr_command.specs.declared.status.Status.{Status}
@@ -49,7 +49,7 @@ pub record ReleasesAll (id : ℕ) (image : Image) (status : Status) : Type 0 whe
 pub record Releases {tells tells_images : Type 0} (id : ℕ) (old new : Outside tells tells_images) (status : Status) : Type 0 where
   pub own : IsReleaseStatus status
   -- the refusal comes only with its cause
-  pub no_incident : IfNoIncident status (λ told. (told ≡ id) × (tells → IsLegibleWith old.media.disk.reads (λ x. live x.table id ≡ None)))
+  pub no_incident : IfNoIncident status (λ told. (told ≡ id) × (tells → IsOpenableWith old.media.disk.reads (λ x. live x.table id ≡ None)))
   pub silent : new.output ≡ old.output
   -- the media, and what is said of them
   pub media : MediaEnds (CanRelease id) ⊥ (MayLeave (ReleasesId id) new.media.disk.clock status) old.media new.media status

@@ -21,7 +21,7 @@ use Rattle.vdr_replay.specs.declared.ended.Replayed.{Replayed}
 use Rattle.vdr_replay.specs.declared.ended.ReplayRefused.{ReplayRefused}
 use Rattle.vdr_replay.specs.declared.ended.ReplayRefused.TheVariants as stops
 use Rattle.vdr_command.specs.Endings.{IsDone, IsRefusal}
-use Rattle.vdr_command.specs.Opened.{AddsMissing, IsLegibleWith, IsUntouched, WasRecorded}
+use Rattle.vdr_command.specs.Opened.{AddsMissing, IsOpenableWith, IsUntouched, WasRecorded}
 use Rattle.vdr_command.specs.Outside.{AreLeftAlone, InputFailed, MediaFailed, MediaSeen, NothingFailed, OutputFailed, OutputSeen, Outside, Prints, PrintsFront, Writes}
 use Rattle.vdr_command.specs.Promises.{Promise}
 use Rattle.vdr_recorder.specs.Refusals.{MayBegin}
@@ -59,7 +59,7 @@ pub record ReplayEnds {tells tells_images : Type 0} (input now : Option (List �
   pub missing : RefusesRun answer → AddsMissing old.disk new.disk
   -- each refusal comes only in its case
   pub header : TellsHeader input now answer
-  pub legible : tells → IfOpened answer (IsLegibleWith old.disk.reads (λ x. Decides x input now answer))
+  pub openable : tells → IfOpened answer (IsOpenableWith old.disk.reads (λ x. Decides x input now answer))
   pub unformatted : answer ≡ Err stops.NotFormatted → tells → IsUnformatted old.disk.reads
   pub damaged : (m offset : ℕ) → answer ≡ Err (stops.Damaged m offset) → tells → IsFormatted old.disk.reads × IsRefused old.disk.reads m offset
   pub others : tells → SameElsewhere old.disk.reads new.disk.reads

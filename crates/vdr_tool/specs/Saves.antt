@@ -11,7 +11,7 @@ use Rattle.vdr_vault.specs.Saves.{refusal_from}
 use Rattle.vdr_vault.specs.declared.refused.SaveRefused.{SaveRefused as Refused}
 use Rattle.vdr_vault.specs.declared.refused.SaveRefused.TheVariants as saves
 use Rattle.vdr_command.specs.Endings.{IsDone, IsWorkDone}
-use Rattle.vdr_command.specs.Opened.{AddsMissing, IsLegibleWith, IsUnbegun, MayLeave, MediaEnds, MetUnsound, PrintsText, RefusesAll, WasRecorded, newest_of}
+use Rattle.vdr_command.specs.Opened.{AddsMissing, IsOpenableWith, IsUnbegun, MayLeave, MediaEnds, MetUnsound, PrintsText, RefusesAll, WasRecorded, newest_of}
 use Rattle.vdr_command.specs.Outside.{NothingFailed, OutputFailed, Outside}
 use Rattle.vdr_command.specs.Promises.{Promise}
 use Rattle.vdr_command.specs.declared.status.SaveCause.{SaveCause}
@@ -85,7 +85,7 @@ pub record Saves {tells tells_images : Type 0} (label : List ℕ) (old new : Out
   -- the id is printed
   pub printed : (x : Contents) → tells → HoldsContents old.media.disk.reads x → PrintsText (save_text x.table) status old.output new.output
   -- each refusal and failure comes only with its cause
-  pub refused : IfSaveRefused status (λ cause. tells → IsLegibleWith old.media.disk.reads (IsJudged label (Some cause)))
+  pub refused : IfSaveRefused status (λ cause. tells → IsOpenableWith old.media.disk.reads (IsJudged label (Some cause)))
   pub output : status ≡ OutputFault → OutputFailed old.output new.output
   pub silent : IsWorkDone status ⊎ (new.output ≡ old.output)
   -- the media, and what is said of them

@@ -2,7 +2,7 @@
 ghost use Rattle.std.specs.Prelude.{◌≡◌, ◌≤◌, ◌⊎◌, length, None};
 ghost use Rattle.vdr_history.specs.Histories.{live};
 ghost use Rattle.vdr_command.specs.Endings.{ending};
-ghost use Rattle.vdr_command.specs.Opened.{AddsMissing, IfNoIncident, IsLegibleWith, IsUnbegun, MayLeave, MediaEnds};
+ghost use Rattle.vdr_command.specs.Opened.{AddsMissing, IfNoIncident, IsOpenableWith, IsUnbegun, MayLeave, MediaEnds};
 ghost use Rattle.vdr_tool.specs.Releases.{CanRelease, IsReleaseStatus, Releases, ReleasesId, status_of_release};
 ghost use Rattle.vdr_command.specs.declared.status.Status.TheVariants.{Words};
 
@@ -33,7 +33,7 @@ fn release<I: Source + Drop, O: Sink + Drop, M: Media + Drop>(
     ensures statuses { IsReleaseStatus (ending result) }
     ensures missing { IsUnbegun (ending result) → AddsMissing (M.disk world.old.media) (M.disk world.new.media) }
     ensures media { let at = ⟦<World<I, O, M> as Outer>⟧.outside in MediaEnds (CanRelease id) ⊥ (MayLeave (ReleasesId id) (M.disk world.new.media).clock (ending result)) (at world.old).media (at world.new).media (ending result) }
-    ensures no_incident { IfNoIncident (ending result) (λ told. (told ≡ id) × (M.tells → IsLegibleWith (M.disk world.old.media).reads (λ x. live x.table id ≡ None))) }
+    ensures no_incident { IfNoIncident (ending result) (λ told. (told ≡ id) × (M.tells → IsOpenableWith (M.disk world.old.media).reads (λ x. live x.table id ≡ None))) }
     ensures sizes { (M.disk world.new.media).sizes ≡ (M.disk world.old.media).sizes }
     ensures silent { world.new.output ≡ world.old.output }
     ensures unread { world.new.input ≡ world.old.input }

@@ -3,7 +3,7 @@ ghost use Rattle.std.specs.Prelude.{◌≡◌, ◌≤◌, ◌⊎◌, ◌++◌, c
 ghost use Rattle.vdr_outside.specs.Causes.{Rose};
 ghost use Rattle.vdr_opening.specs.Media.{Contents, HoldsContents};
 ghost use Rattle.vdr_command.specs.Endings.{IsWorkDone, ending};
-ghost use Rattle.vdr_command.specs.Opened.{AddsMissing, IsLegibleWith, IsUnbegun, MayLeave, MediaEnds, MetUnsound, PrintsText};
+ghost use Rattle.vdr_command.specs.Opened.{AddsMissing, IsOpenableWith, IsUnbegun, MayLeave, MediaEnds, MetUnsound, PrintsText};
 ghost use Rattle.vdr_tool.specs.Saves.{CanSave, IfSaveRefused, IsJudged, IsSaveStatus, Saves, SavesAs, id_line, save_text};
 ghost use Rattle.vdr_command.specs.declared.status.Status.TheVariants.{OutputFault, Words};
 
@@ -11,7 +11,6 @@ use arrayvec::ArrayVec;
 use itoa::Buffer;
 use std::alloc::Global;
 use vdr_command::{Outer, ROOM, Status, World, law_of_openings, push_text};
-use vdr_opening::law_of_contents;
 use vdr_outside::{Media, Sink, Source, write_all};
 use vdr_recorder::Recorder;
 
@@ -51,7 +50,7 @@ fn save<I: Source + Drop, O: Sink + Drop, M: Media + Drop>(
     ensures missing { IsUnbegun (ending result) → AddsMissing (M.disk world.old.media) (M.disk world.new.media) }
     ensures media { let at = ⟦<World<I, O, M> as Outer>⟧.outside in MediaEnds (CanSave label.now) (MetUnsound (M.disk world.old.media) (CanSave label.now))
         (MayLeave (SavesAs label.now) (M.disk world.new.media).clock (ending result)) (at world.old).media (at world.new).media (ending result) }
-    ensures refused { IfSaveRefused (ending result) (λ cause. M.tells → IsLegibleWith (M.disk world.old.media).reads (IsJudged label.now (Some cause))) }
+    ensures refused { IfSaveRefused (ending result) (λ cause. M.tells → IsOpenableWith (M.disk world.old.media).reads (IsJudged label.now (Some cause))) }
     ensures printed { let at = ⟦<World<I, O, M> as Outer>⟧.outside in (x : Contents) → M.tells → HoldsContents (M.disk world.old.media).reads x
         → PrintsText (save_text x.table) (ending result) (at world.old).output (at world.new).output }
     ensures silent { IsWorkDone (ending result) ⊎ (world.new.output ≡ world.old.output) }
@@ -60,7 +59,6 @@ fn save<I: Source + Drop, O: Sink + Drop, M: Media + Drop>(
     ensures sizes { (M.disk world.new.media).sizes ≡ (M.disk world.old.media).sizes }
     ensures unread { world.new.input ≡ world.old.input }
 {
-    law_of_contents();
     let mut recorder = Recorder::open(alloc, &mut world.media)?;
     let id = recorder.save(&mut world.media, label)?;
     print_id(id, &mut world.output)

@@ -1,6 +1,7 @@
 ghost use Rattle.std.specs.Prelude.{◌≡◌, ◌≤◌, length, IfOk};
 ghost use Rattle.vdr_outside.specs.Disk.{Disk};
 
+mod bytes;
 mod checks;
 mod cuts;
 mod exports;

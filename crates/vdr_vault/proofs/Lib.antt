@@ -5,6 +5,7 @@ pub mod ShownHistory
 pub mod ShownImages
 pub mod CommitReady
 pub mod OpenContents
+pub mod OpenCosts
 pub mod ReconcileBatch
 pub mod ReconcileDone
 pub mod OpenMoments

@@ -1,36 +1,39 @@
--- The contents that were opened, whoever names them, and what a durable image of them shows.
+-- What was opened, by its contents and by what opening reads of them, and what a durable image of them shows.
 use Rattle.std.proofs.Common.{◌≡◌, ◌≢◌, ◌<◌, inl, inr, ℕ, List, [], ◌∷◌, length, get_or, take, drop, true, All, Option, Some, None, option_map, refl, sym, ap, ◌∙◌, subst, arith}
 use Rattle.std.proofs.lemmas.Bool.{false≢true}
-use Rattle.std.proofs.lemmas.List.Elements.{All-drop, All-tail, All-take}
-use Rattle.vdr_terms.specs.Order.{AreInOrder as RecordsAreInOrder}
+use Rattle.std.proofs.lemmas.List.Elements.{All-append, All-cons, All-contains, All-head, All-nil, All-tail}
+use Rattle.vdr_terms.specs.Order.{AreInOrder as RecordsAreInOrder, NeverFalls, RunOn}
 use Rattle.vdr_terms.specs.Records.{Record, last}
 use Rattle.vdr_retention.specs.Layout.{Batches, segment_records}
-use Rattle.vdr_retention.proofs.Lists.{contains_here}
+use Rattle.vdr_retention.proofs.Lists.{last_contained}
+use Rattle.vdr_retention.proofs.Ordered.{parts_in_order, run_on_in_order}
 use Rattle.vdr_retention.specs.Retention.{Retains}
 use Rattle.vdr_history.specs.Histories.{stamp_of}
-use Rattle.vdr_durability.specs.Readings.{AreLevel, EndBy, EndsMeet, IsPassedOn, Reading, ends_before, next_after, records_on, restored}
+use Rattle.vdr_durability.specs.Readings.{AreLevel, EndBy, EndsMeet, IsPassedOn, Reading, ends_before, next_after, records_on, restored, with_next}
 use Rattle.vdr_durability.specs.Shown.{pins_on}
-use Rattle.vdr_durability.proofs.Restored.{ends_not_before, last_in_order, level_restored}
+use Rattle.vdr_durability.proofs.Restored.{ends_not_before, last_in_order, next_kept}
 use Rattle.vdr_durability.proofs.Shows.{opened_shows, retains_itself}
-use Rattle.vdr_outside.specs.Disk.{Disk, Durable, Image}
+use Rattle.vdr_outside.specs.Disk.{Disk, Durable, Image, content}
+use Rattle.vdr_config.specs.Configuration.{Configuration}
 use Rattle.vdr_config.specs.Sizes.{window_of}
-use Rattle.vdr_media.proofs.Two.{all_two, all_one}
-use Rattle.vdr_directory.specs.Sequence.{Placed, all_records, batches_in}
+use Rattle.vdr_entry.specs.declared.summary.Summary.{Summary}
+use Rattle.vdr_media.proofs.Two.{all_two}
+use Rattle.vdr_directory.specs.Sequence.{Placed, all_records, batches_in, batches_of, first_of}
 use Rattle.vdr_directory.specs.Order.{AreInOrder}
+use Rattle.vdr_directory.specs.Knowns.{AreInPlaceBy, batches_read}
+use Rattle.vdr_directory.specs.Opening.{AreBatchesRead, slot_bytes}
 use Rattle.vdr_ring.proofs.Medium.{in_order_records}
-use Rattle.vdr_ring.specs.Rings as rings
 use Rattle.vdr_incident.specs.Tables.{HoldsTable}
-use Rattle.vdr_opening.specs.Media.{members, Contents, HoldsContents, IsMedium, opening_of, reading_of}
+use Rattle.vdr_opening.specs.Media.{members, Contents, HasKnowns, HoldsContents, HoldsParts, IsMedium, opening_of, reading_of}
 use Rattle.vdr_opening.specs.Settings.{settings_of}
-use Rattle.vdr_opening.specs.Answers.{IsMissing, IsOpened, OpenedState, ring_at}
-use Rattle.vdr_opening.proofs.ContentsHeld.{are_legal, one_capsule, one_config, one_incidents, one_long_term}
+use Rattle.vdr_opening.specs.Answers.{IsMissing, IsOpened, OpenedState}
 use Rattle.vdr_vault.specs.Regularity.{AreSound}
 use Rattle.vdr_vault.specs.Vaults.{ShowsHistory, of_stamp, tick_utc}
 use Rattle.vdr_ring.proofs.Records.{records_are}
 use Rattle.vdr_vault.proofs.ShownImages.{are_members, has_long_term}
 use Rattle.vdr_vault.proofs.ShownPlaces.{stamp_told}
 
--- Readings with the same batches: where their ends meet, and what one lacks.
+-- The ends of readings with the same batches meet alike.
 module _ (r s : Reading) (first : r.batches 0 ≡ s.batches 0) (second : r.batches 1 ≡ s.batches 1) where
   agree : All (λ m. r.batches m ≡ s.batches m) members
   agree = all_two (λ m. r.batches m ≡ s.batches m) first second
@@ -43,31 +46,7 @@ module _ (r s : Reading) (first : r.batches 0 ≡ s.batches 0) (second : r.batch
   pub same_meet : EndsMeet members r → EndsMeet members s
   same_meet h = subst (λ (batch : Option (List Record)). EndBy s batch members) (ap last first) (same_end_by (last (r.batches 0)) members agree h)
 
-  same_missing : (missing : List Record) (lacking : ℕ) → IsMissing missing lacking r → IsMissing missing lacking s
-  same_missing missing lacking (inl (none, level)) = inl (none, λ k d lt. sym (ap last (agree k d lt)) ∙ level k d lt ∙ ap last first)
-  same_missing missing lacking (inr passed) = inr (record {
-    split = passed.split;
-    some = passed.some;
-    given_end = λ k d lt. sym (ap last (All-take (λ m. r.batches m ≡ s.batches m) lacking members agree k d lt)) ∙ passed.given_end k d lt;
-    waiting_end = λ k d lt. subst (λ (b : Batches). ends_before (Some missing) b ≡ true) (All-drop (λ m. r.batches m ≡ s.batches m) lacking members agree k d lt) (passed.waiting_end k d lt);
-  })
-
 module _ {tells tells_images : Type 0} where
-  -- Media that hold contents were opened on these.
-  pub opened_on : (o : OpenedState) (x y : Contents) (disk : Disk tells tells_images) → HoldsContents disk.reads x → IsOpened o y disk → IsOpened o x disk
-  opened_on o x y disk h was =
-      let capsule : y.placed 0 ≡ x.placed 0 = one_capsule (are_legal was.holds) (are_legal h) in
-      let long_term : y.placed 1 ≡ x.placed 1 = one_long_term (are_legal was.holds) (are_legal h) in
-      record {
-        holds = h;
-        meet = same_meet (reading_of y) (reading_of x) (ap batches_in capsule) (ap batches_in long_term) was.meet;
-        config = was.config ∙ one_config (are_legal was.holds) (are_legal h);
-        rings = all_two (λ m. rings.Reads (ring_at o.rings m) (x.placed m) disk) (subst (λ (ps : List Placed). rings.Reads (ring_at o.rings 0) ps disk) capsule (was.rings 0 0 (omega arith)))
-            (subst (λ (ps : List Placed). rings.Reads (ring_at o.rings 1) ps disk) long_term (was.rings 1 1 (omega arith)));
-        table = was.table ∙ one_incidents (are_legal was.holds) (are_legal h) was.holds.table h.table;
-        missing = same_missing (reading_of y) (reading_of x) (ap batches_in capsule) (ap batches_in long_term) o.missing o.lacking was.missing;
-      }
-
   -- What a stop may leave of durable media holds what they read as.
   pub held_durable : (x : Contents) (disk : Disk tells tells_images) → All (λ m. Durable m disk) members → HoldsContents disk.reads x → (i : Image) → disk.now i → HoldsContents i x
   held_durable x disk durable h i now = record {
@@ -88,21 +67,68 @@ restored_shown x image holds meet sound = (
       (retains_itself (window_of x.config 1) (pins_on 1 x.table) (records_on (restored members (reading_of x)) 1))),
 )
 
+-- The leading medium stays as it is, where its batches are in order.
+lead_restored : (batches : Batches) → All RecordsAreInOrder batches → segment_records (with_next (last batches) batches) ≡ segment_records batches
+lead_restored batches order = go (last batches) refl
+  where
+    go : (o : Option (List Record)) → last batches ≡ o → segment_records (with_next o batches) ≡ segment_records batches
+    go None e = refl
+    go (Some batch) e = ap segment_records (next_kept batches batch (ends_not_before batches batch
+        (All-contains RecordsAreInOrder batches batch order (last_contained batches batch e)) e))
+
 -- What they begin with is what the capsule has.
-capsule_opened : (x : Contents) → AreInOrder (x.placed 0) → records_on (restored members (reading_of x)) 0 ≡ all_records (x.placed 0)
-capsule_opened x order =
-    let in_order : RecordsAreInOrder (segment_records (batches_in (x.placed 0))) = subst RecordsAreInOrder (sym (records_are (x.placed 0))) (in_order_records (x.placed 0) order) in
-    level_restored (0 ∷ []) (reading_of x) (all_one (λ m. last (batches_in (x.placed m)) ≡ last (batches_in (x.placed 0))) 0 refl)
-    (all_one (λ m. RecordsAreInOrder (segment_records (batches_in (x.placed m)))) 0 in_order) 0 (contains_here 0 [])
-    ∙ records_are (x.placed 0)
+capsule_opened : (x : Contents) → All RecordsAreInOrder (batches_in (x.placed 0)) → records_on (restored members (reading_of x)) 0 ≡ all_records (x.placed 0)
+capsule_opened x order = lead_restored (batches_in (x.placed 0)) order ∙ records_are (x.placed 0)
+
+newest_of_capsule : (x : Contents) → All RecordsAreInOrder (batches_in (x.placed 0)) → option_map tick_utc (last (all_records (x.placed 0))) ≡ option_map of_stamp (opening_of x).last
+newest_of_capsule x order =
+    stamp_told (last (all_records (x.placed 0))) ∙ ap (λ (rs : List Record). option_map of_stamp (stamp_of (last rs) None)) (sym (capsule_opened x order))
+
+place_of_capsule : (x : Contents) → All RecordsAreInOrder (batches_in (x.placed 0)) → next_after (last (all_records (x.placed 0))) ≡ (opening_of x).next_place
+place_of_capsule x order = ap (λ (rs : List Record). next_after (last rs)) (sym (capsule_opened x order))
+
+-- Batches of records in order are in order.
+each_in_order : (batches : Batches) → RecordsAreInOrder (segment_records batches) → All RecordsAreInOrder batches
+each_in_order [] order = All-nil RecordsAreInOrder
+each_in_order (b ∷ batches) order = let parts = parts_in_order b (segment_records batches) order in All-cons RecordsAreInOrder b batches parts.0 (each_in_order batches parts.1)
+
+batches_in_order : (placed : List Placed) → AreInOrder placed → All RecordsAreInOrder (batches_in placed)
+batches_in_order placed order = each_in_order (batches_in placed) (subst RecordsAreInOrder (sym (records_are placed)) (in_order_records placed order))
 
 -- The last record that they begin with is the capsule's, and the place behind it the next one.
 pub newest_opened : (x : Contents) → AreInOrder (x.placed 0) → option_map tick_utc (last (all_records (x.placed 0))) ≡ option_map of_stamp (opening_of x).last
-newest_opened x order =
-    stamp_told (last (all_records (x.placed 0))) ∙ ap (λ (rs : List Record). option_map of_stamp (stamp_of (last rs) None)) (sym (capsule_opened x order))
+newest_opened x order = newest_of_capsule x (batches_in_order (x.placed 0) order)
 
 pub place_opened : (x : Contents) → AreInOrder (x.placed 0) → next_after (last (all_records (x.placed 0))) ≡ (opening_of x).next_place
-place_opened x order = ap (λ (rs : List Record). next_after (last rs)) (sym (capsule_opened x order))
+place_opened x order = place_of_capsule x (batches_in_order (x.placed 0) order)
+
+-- The batches that opening reads of a segment are in order, and so are those of a medium.
+batches_read_in_order : (s : Option Summary) (first : ℕ) (bytes : List ℕ) (batches : Batches) → AreBatchesRead s bytes batches → RunOn first (segment_records (batches_read s batches))
+    → NeverFalls 0 (segment_records (batches_read s batches)) → All RecordsAreInOrder batches
+batches_read_in_order None first bytes batches are places ticks = each_in_order batches (run_on_in_order first 0 (segment_records batches) places ticks)
+batches_read_in_order (Some s) first bytes batches are places ticks = subst (All RecordsAreInOrder) (sym are) (All-nil RecordsAreInOrder)
+
+known_batches : (c : Configuration) (known : List Placed) (bytes : List ℕ) → HasKnowns c known bytes → All RecordsAreInOrder (batches_in known)
+known_batches c known bytes h = go None known h.order h.are.batches
+  where
+    Reads : Placed → Type 0
+    Reads p = AreBatchesRead p.segment.header.summary (drop 64 (slot_bytes c.segment p.slot bytes)) p.segment.batches
+
+    go : (o : Option Placed) (ps : List Placed) → AreInPlaceBy o ps → All Reads ps → All RecordsAreInOrder (batches_in ps)
+    go o [] order are = All-nil RecordsAreInOrder
+    go o (p ∷ ps) order are = All-append RecordsAreInOrder (batches_of p) (batches_in ps)
+        (batches_read_in_order p.segment.header.summary (first_of p) (drop 64 (slot_bytes c.segment p.slot bytes)) (batches_of p) (All-head Reads p ps are) order.0.runs_on.whole.places order.0.runs_on.whole.ticks)
+        (go (Some p) ps order.1 (All-tail Reads p ps are))
+
+-- The last record of what opening reads of the capsule is the one that they begin with.
+capsule_read : (x : Contents) (image : Image) → HoldsParts image x → All RecordsAreInOrder (batches_in (x.placed 0))
+capsule_read x image h = known_batches x.config (x.placed 0) (content image 0) (h.media 0 0 (omega arith)).segments
+
+pub newest_read : (x : Contents) (image : Image) → HoldsParts image x → option_map tick_utc (last (all_records (x.placed 0))) ≡ option_map of_stamp (opening_of x).last
+newest_read x image h = newest_of_capsule x (capsule_read x image h)
+
+pub place_read : (x : Contents) (image : Image) → HoldsParts image x → next_after (last (all_records (x.placed 0))) ≡ (opening_of x).next_place
+place_read x image h = place_of_capsule x (capsule_read x image h)
 
 -- Media whose ends are level lack no batch.
 pub level_lacks_none : {tells tells_images : Type 0} (o : OpenedState) (x : Contents) (disk : Disk tells tells_images) → IsOpened o x disk → (o.missing ≢ [] → (0 < o.lacking) × (o.lacking < length members))

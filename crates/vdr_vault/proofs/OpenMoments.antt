@@ -33,7 +33,7 @@ use Rattle.vdr_vault.specs.Vaults.{IsReadable, IsReadableAt, VaultState, ShowsHi
 use Rattle.vdr_ring.proofs.Records.{records_are}
 use Rattle.vdr_vault.proofs.ShownImages.{has_capsule, has_long_term}
 use Rattle.vdr_vault.proofs.ReconcileBatch.{held_within}
-use Rattle.vdr_vault.proofs.OpenContents.{held_durable, opened_on, restored_shown}
+use Rattle.vdr_vault.proofs.OpenContents.{held_durable, restored_shown}
 
 -- A call on one of the media, after calls that did not lower a count.
 pub cause_of_call : {T E : Type 0} (m : ℕ) (a b c : List ℕ) (r : Result T E) → ((P : ℕ → Type 0) → P m → Any P members) → NoneFalls a b → HasCauseOn m b c r → HasCauseOnBoth a c r
@@ -98,11 +98,9 @@ pub same_beside : (a b c : Image) → b ≡ a → SameBut 1 b c → SameBut 1 a 
 same_beside a b c same h = subst (λ (i : Image). SameBut 1 i c) same h
 
 module _ {tells tells_images : Type 0} where
-  -- What was read of durable media, on the contents that they hold.
-  pub read_on : (o : OpenedState) (missing : List Record) (x y : Contents) (old new : Disk tells tells_images) → tells → Unchanged old new → missing ≡ o.missing → HoldsContents old.reads x → IsOpened o y new
-      → IsOpened (opened_with (vault_of o) missing o.lacking) x new
-  read_on o missing x y old new told same is h was =
-      subst (λ (rs : List Record). IsOpened (opened_with (vault_of o) rs o.lacking) x new) (sym is) (opened_on o x y new (subst (λ (i : Image). HoldsContents i x) (sym (same.reads told)) h) was)
+  -- What was read of media, with the batch that is missing.
+  pub read_on : (o : OpenedState) (missing : List Record) (x : Contents) (disk : Disk tells tells_images) → missing ≡ o.missing → IsOpened o x disk → IsOpened (opened_with (vault_of o) missing o.lacking) x disk
+  read_on o missing x disk is was = subst (λ (rs : List Record). IsOpened (opened_with (vault_of o) rs o.lacking) x disk) (sym is) was
 
   -- Calls that only read durable media.
   pub reading_meanwhile : (x : Contents) (old new : Disk tells tells_images) → Unchanged old new → All (λ m. Durable m old) members → HoldsContents old.reads x → OpensMeanwhile x old new

@@ -13,7 +13,7 @@ use Rattle.vdr_ring.specs.Keeping.{AreWhole}
 use Rattle.vdr_incident.specs.Tables.{HoldsTable}
 use Rattle.vdr_opening.specs.declared.refused.OpenRefused.{OpenRefused}
 use Rattle.vdr_opening.specs.declared.refused.OpenRefused.TheVariants.{Damaged, Fault as a_fault, NotFormatted}
-use Rattle.vdr_opening.specs.Media.{members, Contents, HoldsContents, IsMedium, opening_of, reading_of}
+use Rattle.vdr_opening.specs.Media.{members, Contents, HoldsContents, HoldsParts, IsMedium, opening_of, reading_of}
 use Rattle.vdr_opening.specs.Refusals.{IsRefused}
 use Rattle.vdr_opening.specs.Answers.{HasOpenCause, IsMissing, OpenedState}
 use Rattle.vdr_vault.specs.Vaults.{AreRings, IsReadable, VaultState, ShowsHistory, Stands, of_stamp, tick_utc}
@@ -28,6 +28,13 @@ pub record HasCauseOnBoth {T E : Type 0} (before now : List ℕ) (result : Resul
   pub later : NoneFalls before now
   pub by_medium : OnErr result (Any (λ m. Rose (get_or before m 0) (get_or now m 0)) members)
   pub in_all : OnErr result (Rose (sum before) (sum now))
+
+-- What the vault tells is this: the configuration, the incidents, the next place, and tick and utc of the last record.
+pub record IsToldBy (x : Contents) (vault : VaultState) : Type 0 where
+  pub config : vault.config ≡ x.config
+  pub table : vault.table ≡ x.table
+  pub place : vault.next_place ≡ (opening_of x).next_place
+  pub last : vault.last ≡ option_map of_stamp (opening_of x).last
 
 -- The vault goes on behind the capsule's last record.
 pub record GoesOnBehind (x : Contents) (vault : VaultState) : Type 0 where
@@ -85,15 +92,15 @@ module _ {tells tells_images : Type 0} where
     pub moments : AtEachMoment old new (ShowsHistory (opening_of x) [])
     pub done : OnOk result ((placed : ℕ → List Placed) × Stands (opening_of x) [] vault placed new)
 
-  -- The vault that was opened, and what the media hold of it. They were formatted and legible, and where they are sound it stands.
+  -- The vault that was opened, and what the media hold of it. They were formatted, what opening reads of them was legal, and where they
+  -- are sound the vault stands.
   pub record OpensVault (result : Result VaultState OpenRefused) (old new : Disk tells tells_images) : Type 0 where
     -- where the media are sound the vault stands on them
     pub opened : IfOk result (λ vault. (x : Contents) → tells → HoldsContents old.reads x → AreSound x → (placed : ℕ → List Placed) × Stands (opening_of x) [] vault placed new)
-    -- the media were formatted, and what the vault tells is what they hold
-    pub contents : IfOk result (λ vault. tells → IsFormatted old.reads × (x : Contents) × HoldsContents old.reads x
-        × EndsMeet members (reading_of x) × (vault.config ≡ x.config) × (vault.table ≡ x.table) × (vault.last ≡ option_map of_stamp (opening_of x).last))
-    -- the next place is that of what they hold
-    pub place : IfOk result (λ vault. (x : Contents) → tells → HoldsContents old.reads x → vault.next_place ≡ (opening_of x).next_place)
+    -- the media were formatted, and what the vault tells is what was read of them
+    pub parts : IfOk result (λ vault. tells → IsFormatted old.reads × (x : Contents) × HoldsParts old.reads x × EndsMeet members (reading_of x) × IsToldBy x vault)
+    -- where they are legible it is what they hold
+    pub contents : IfOk result (λ vault. (x : Contents) → tells → HoldsContents old.reads x → EndsMeet members (reading_of x) × IsToldBy x vault)
     -- where both end with the last batch the vault can be read
     pub readable : IfOk result (λ vault. (x : Contents) → tells → HoldsContents old.reads x → AreLevel members (reading_of x) → IsReadable (opening_of x) [] vault x.placed new)
     -- no write has failed

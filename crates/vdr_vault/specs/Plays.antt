@@ -5,9 +5,11 @@ use Rattle.vdr_terms.specs.Queries.{Medium, Query, Span}
 use Rattle.vdr_terms.specs.Queries.Medium.{WindowOf, Incident}
 use Rattle.vdr_terms.specs.Queries.Span.{Window, Places}
 use Rattle.vdr_history.specs.Histories.{live}
+use Rattle.vdr_history.specs.Histories as histories
 use Rattle.vdr_playback.specs.Playback.{medium_of}
 use Rattle.vdr_outside.specs.Causes.{NoneFalls, Rose}
 use Rattle.vdr_outside.specs.Disk.{Disk}
+use Rattle.vdr_config.specs.Configuration.{Configuration}
 use Rattle.vdr_config.specs.Sizes.{window_of}
 use Rattle.vdr_directory.specs.Sequence.{Placed, all_records}
 use Rattle.vdr_ring.specs.Rings.{RingState}
@@ -18,10 +20,15 @@ use Rattle.vdr_cursor.specs.declared.cursor.Standing.{Standing}
 use Rattle.vdr_cursor.specs.Budgets.{IsOfSegments, budget}
 use Rattle.vdr_cursor.specs.Walks.{CursorState, AreLeft, slots_read}
 
--- What a query's medium comes to, by the segments of the media: the seconds up to the last record's, or an incident's places.
+-- What a query's medium comes to, by the configuration, the incidents and the segments of the media: the seconds up to the last
+-- record's, or an incident's places.
+abbrev pub span_among : Configuration → List (Option histories.Incident) → (placed : ℕ → List Placed) → Medium → Option Span
+span_among config table placed (WindowOf m) = option_map (λ r. Window (second r.tick) (window_of config m)) (last (all_records (placed m)))
+span_among config table placed (Incident id) = option_map (λ incident. Places incident.a incident.b) (live table id)
+
+-- The same, of what a vault has.
 abbrev pub span_in : VaultState → (placed : ℕ → List Placed) → Medium → Option Span
-span_in vault placed (WindowOf m) = option_map (λ r. Window (second r.tick) (window_of vault.config m)) (last (all_records (placed m)))
-span_in vault placed (Incident id) = option_map (λ incident. Places incident.a incident.b) (live vault.table id)
+span_in vault = span_among vault.config vault.table
 
 -- The same, by what the vault keeps of its media.
 abbrev pub span_by : VaultState → Medium → Option Span

@@ -37,6 +37,7 @@ pub(crate) fn append_from<M: Media>(
         → ((k : ℕ) → from ≤ k → k < 2 → Waits ordered sizes (ring_at rings.old k) (pins_at k pins.now) (placed k) first (all k) records.now (M.disk media.old))
         → Passed ordered from rings.old rings.new pins.now placed first records.now (M.disk media.old) (M.disk media.new) result }
     ensures keeps { KeepsBeside M.Media from rings.old rings.new media.old media.new }
+    ensures counts { M.bytes_read media.new ≡ M.bytes_read media.old }
     ensures cause { HasCauseFrom from 2 (M.faults media.old) (M.faults media.new) result }
 {
     let none = Pins::new();

@@ -1,4 +1,4 @@
-ghost use Rattle.std.specs.Prelude.{◌≡◌, ◌≢◌, ◌⊎◌, ◌+◌, ◌<◌, ◌≤◌, ℕ, List, [], length, All, IfOk, OnOk, Err, false, option_map};
+ghost use Rattle.std.specs.Prelude.{◌≡◌, ◌≢◌, ◌⊎◌, ◌+◌, ◌<◌, ◌≤◌, ℕ, List, [], length, All, IfOk, OnOk, Err, false};
 ghost use Rattle.vdr_terms.specs.Sizes.{batch_size};
 ghost use Rattle.vdr_durability.specs.Readings.{AreLevel, EndsMeet};
 ghost use Rattle.vdr_outside.specs.Causes.{HasCauseOn};
@@ -6,20 +6,21 @@ ghost use Rattle.vdr_outside.specs.Disk.{Durable, SameBut, Unchanged};
 ghost use Rattle.vdr_outside.specs.Moments.{AtEachMoment};
 ghost use Rattle.vdr_media.specs.Formatted.{IsFormatted, IsUnformatted};
 ghost use Rattle.vdr_directory.specs.Sequence.{Placed};
-ghost use Rattle.vdr_opening.specs.Media.{Contents, HoldsContents, members, opening_of, reading_of};
+ghost use Rattle.vdr_opening.specs.Media.{Contents, HoldsContents, HoldsParts, members, opening_of, reading_of};
+ghost use Rattle.vdr_opening.specs.Costs.{ReadsToOpen};
 ghost use Rattle.vdr_opening.specs.Refusals.{IsRefused};
 ghost use Rattle.vdr_opening.specs.Answers.{HasOpenCause, IsOpened};
 ghost use Rattle.vdr_opening.specs.declared.refused.OpenRefused.TheVariants.{Damaged, NotFormatted};
-ghost use Rattle.vdr_vault.specs.Vaults.{AreRings, IsReadable, ShowsHistory, Stands, of_stamp};
+ghost use Rattle.vdr_vault.specs.Vaults.{AreRings, IsReadable, ShowsHistory, Stands};
 ghost use Rattle.vdr_vault.specs.Regularity.{AreSound};
-ghost use Rattle.vdr_vault.specs.Openings.{EndsWithin, GoesOnBehind, HasCauseOnBoth, LeavesAll, OpensAtEachMoment, OpensMeanwhile, OpensVault, ReachesLongTerm, Reconciles, RefusesMedia, WritesMissing, opened_with};
+ghost use Rattle.vdr_vault.specs.Openings.{EndsWithin, GoesOnBehind, HasCauseOnBoth, IsToldBy, LeavesAll, OpensAtEachMoment, OpensMeanwhile, OpensVault, ReachesLongTerm, Reconciles, RefusesMedia, WritesMissing, opened_with};
 
 use crate::Vault;
 use crate::appending::append_from;
 use crate::vault::ending;
 use std::alloc::Global;
 use vdr_entry::Record;
-use vdr_opening::{MEMBERS, OpenRefused, Opened, read_media};
+use vdr_opening::{MEMBERS, OpenRefused, Opened, law_of_parts, read_media};
 use vdr_outside::{Failed, Fault, Media};
 use vdr_ring::law_of_stages;
 
@@ -30,6 +31,7 @@ fn sync_all<M: Media>(media: &mut M) -> Result<(), Failed>
     ensures reads { M.tells → (M.disk media.new).reads ≡ (M.disk media.old).reads }
     ensures moments { LeavesAll (M.disk media.old) (M.disk media.new) }
     ensures sizes { (M.disk media.new).sizes ≡ (M.disk media.old).sizes }
+    ensures counts { M.bytes_read media.new ≡ M.bytes_read media.old }
     ensures cause { HasCauseOnBoth (M.faults media.old) (M.faults media.new) result }
 {
     for m in 0..MEMBERS {
@@ -63,6 +65,7 @@ impl Vault {
         ensures rings { AreRings self.new (M.disk media.new).sizes }
         ensures others { M.tells → SameBut 1 (M.disk media.old).reads (M.disk media.new).reads }
         ensures sizes { (M.disk media.new).sizes ≡ (M.disk media.old).sizes }
+        ensures counts { M.bytes_read media.new ≡ M.bytes_read media.old }
         ensures cause { HasCauseOn 1 (M.faults media.old) (M.faults media.new) result }
     {
         if missing.is_empty() {
@@ -79,12 +82,10 @@ impl Vault {
         requires three { length (M.disk media.old).sizes ≤ 3 }
         ensures opened { IfOk result (λ vault. (x : Contents) → M.tells → All (λ m. Durable m (M.disk media.old)) members → HoldsContents (M.disk media.old).reads x → AreSound x
             → (placed : ℕ → List Placed) × Stands (opening_of x) [] vault placed (M.disk media.new)) }
-        ensures contents { IfOk result (λ vault. M.tells → All (λ m. Durable m (M.disk media.old)) members
-            → IsFormatted (M.disk media.old).reads × (x : Contents) × HoldsContents (M.disk media.old).reads x
-            × EndsMeet members (reading_of x) × (vault.config ≡ x.config) × (vault.table ≡ x.table)
-            × (vault.last ≡ option_map of_stamp (opening_of x).last)) }
-        ensures place { IfOk result (λ vault. (x : Contents) → M.tells → All (λ m. Durable m (M.disk media.old)) members → HoldsContents (M.disk media.old).reads x
-            → vault.next_place ≡ (opening_of x).next_place) }
+        ensures parts { IfOk result (λ vault. M.tells → IsFormatted (M.disk media.old).reads × (x : Contents) × HoldsParts (M.disk media.old).reads x
+            × EndsMeet members (reading_of x) × IsToldBy x vault) }
+        ensures contents { IfOk result (λ vault. (x : Contents) → M.tells → All (λ m. Durable m (M.disk media.old)) members → HoldsContents (M.disk media.old).reads x
+            → EndsMeet members (reading_of x) × IsToldBy x vault) }
         ensures readable { IfOk result (λ vault. (x : Contents) → M.tells → All (λ m. Durable m (M.disk media.old)) members → HoldsContents (M.disk media.old).reads x → AreLevel members (reading_of x)
             → IsReadable (opening_of x) [] vault x.placed (M.disk media.new)) }
         ensures meanwhile { (x : Contents) → M.tells → All (λ m. Durable m (M.disk media.old)) members → HoldsContents (M.disk media.old).reads x
@@ -98,9 +99,12 @@ impl Vault {
             → Unchanged (M.disk media.old) (M.disk media.new) }
         ensures blank { M.tells → IsUnformatted (M.disk media.old).reads → Unchanged (M.disk media.old) (M.disk media.new) }
         ensures others { M.tells → SameBut 1 (M.disk media.old).reads (M.disk media.new).reads }
+        ensures bytes { IfOk result (λ _. (x : Contents) → M.tells → HoldsParts (M.disk media.old).reads x
+            → ReadsToOpen x (M.disk media.old).sizes (M.bytes_read media.old) (M.bytes_read media.new)) }
         ensures sizes { (M.disk media.new).sizes ≡ (M.disk media.old).sizes }
         ensures cause { HasOpenCause (M.faults media.old) (M.faults media.new) result }
     {
+        law_of_parts();
         let Opened {
             config,
             rings,
@@ -135,6 +139,9 @@ impl Vault {
     /// each moment leaves what a stop before the call might have left, until the syncs have succeeded; from then on media that show what
     /// was opened, with the batch that the long-term medium lacks. Of media that are not formatted it leaves what a stop before the call
     /// might have left, whatever is answered.
+    ///
+    /// It reads of each medium at most what stands before its slots, 64 bytes of each slot, and whole the segments whose header has no
+    /// summary (`bytes`).
     pub fn open<M: Media>(alloc: Global, media: &mut M) -> Result<Vault, OpenRefused>
         requires two { 2 ≤ length (M.disk media.old).sizes }
         requires three { length (M.disk media.old).sizes ≤ 3 }
@@ -143,6 +150,8 @@ impl Vault {
         ensures moments { (x : Contents) → M.tells → HoldsContents (M.disk media.old).reads x → EndsMeet members (reading_of x) → AreSound x
             → OpensAtEachMoment (M.disk media.old) (M.disk media.new) result (ShowsHistory (opening_of x) []) }
         ensures refused { RefusesMedia result (M.disk media.old) (M.disk media.new) }
+        ensures bytes { IfOk result (λ _. (x : Contents) → M.tells → HoldsParts (M.disk media.old).reads x
+            → ReadsToOpen x (M.disk media.old).sizes (M.bytes_read media.old) (M.bytes_read media.new)) }
         ensures writes { ReachesLongTerm M.Media media.old media.new result }
     {
         let Ok(()) = sync_all(media) else {

@@ -3,6 +3,8 @@ ghost use Rattle.vdr_terms.specs.Records.{last};
 ghost use Rattle.vdr_durability.specs.Readings.{next_after};
 ghost use Rattle.vdr_directory.specs.Sequence.{Placed, all_records};
 ghost use Rattle.vdr_directory.specs.Holds.{HoldsPlaced, Tells};
+ghost use Rattle.vdr_directory.specs.Opening.{AreKnown};
+ghost use Rattle.vdr_directory.specs.Telling.{TellsBy};
 ghost use Rattle.vdr_vault.specs.Vaults.{ring_of, tick_utc};
 
 use std::marker::Model;
@@ -52,6 +54,9 @@ pub(crate) fn ending(ring: &Ring) -> (u64, Option<(u64, i64)>)
     ensures next_place { (placed : List Placed) (bytes : List ℕ) → Tells ring.now.slots placed ring.now.directory
         → HoldsPlaced ring.now.segment ring.now.slots placed bytes → result.0 ≡ next_after (last (all_records placed)) }
     ensures last { (placed : List Placed) → Tells ring.now.slots placed ring.now.directory → result.1 ≡ option_map tick_utc (last (all_records placed)) }
+    ensures next_known { (known : List Placed) (bytes : List ℕ) → TellsBy ring.now.slots known ring.now.directory
+        → AreKnown ring.now.segment ring.now.slots bytes known → result.0 ≡ next_after (last (all_records known)) }
+    ensures known { (known : List Placed) → TellsBy ring.now.slots known ring.now.directory → result.1 ≡ option_map tick_utc (last (all_records known)) }
 {
     match ring.last() {
         Some((place, tick, utc)) => (place.saturating_add(1), Some((tick, utc))),

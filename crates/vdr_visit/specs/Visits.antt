@@ -9,7 +9,7 @@ use Rattle.vdr_outside.specs.Disk.{Disk, Unchanged}
 use Rattle.vdr_outside.specs.Writes.{AppendsFront}
 use Rattle.vdr_directory.specs.Sequence.{Placed}
 use Rattle.vdr_vault.specs.Vaults.{AreRings, IsReadable, VaultState, Stands}
-use Rattle.vdr_cursor.specs.Budgets.{ReadsAtMost}
+use Rattle.vdr_directory.specs.Costs.{ReadsAtMost}
 use Rattle.vdr_vault.specs.Plays.{ReadsNoOther, ReadsOn, whole_budget}
 use Rattle.vdr_visit.specs.Prints.{text_of}
 use Rattle.vdr_visit.specs.declared.refused.VisitRefused.{VisitRefused}

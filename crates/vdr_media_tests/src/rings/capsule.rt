@@ -11,7 +11,7 @@ use std::test::Fail;
 use vdr_config::{fits, read_config};
 use vdr_entry::Record;
 use vdr_outside::Media;
-use vdr_ring::{Pins, Ring, Visit};
+use vdr_ring::{Pins, ReadRefused, Ring, Visit};
 use vdr_survey::Selection;
 use vdr_terms::{Verdict, recordable};
 
@@ -134,6 +134,23 @@ fn step<M: Media>(
     place
 }
 
+// How a step in a slot is refused. None where it is not.
+fn refusal<M: Media>(
+    media: &mut M,
+    ring: &mut Ring,
+    slot: u32,
+    visit: &mut Visit,
+    selection: &Selection,
+) -> Option<ReadRefused>
+    requires room { HasMedium ring.old (M.disk media.old).sizes }
+    requires within { slot < ring.old.slots }
+    requires stands { StandsIn ring.old visit.old }
+    ensures room { HasMedium ring.new (M.disk media.new).sizes }
+    ensures stands { StandsIn ring.new visit.new }
+{
+    ring.read_span(media, slot, visit, selection).err()
+}
+
 // A ring with its media, and a cursor over it.
 #[derive(Drop)]
 pub(super) struct Stepper<M: Media> {
@@ -167,6 +184,19 @@ impl<M: Media + Drop> Stepper<M> {
             panic!(rt; "no such segment");
         };
         step(rt, media, &mut self.ring, slot, visit, selection)
+    }
+
+    // How a step in the oldest segment is refused.
+    pub(super) fn refusal_of_oldest(
+        &mut self,
+        rt: &impl Abort,
+        selection: &Selection,
+    ) -> Option<ReadRefused> {
+        let (media, visit) = (&mut self.media, &mut self.visit);
+        let Some((slot, _)) = self.ring.next_slot(None) else {
+            panic!(rt; "no segment");
+        };
+        refusal(media, &mut self.ring, slot, visit, selection)
     }
 
     // Steps in the slot that is written over next.

@@ -5,7 +5,7 @@ use std::alloc::Global;
 use std::process::Abort;
 use std::test::Fail;
 use vdr_config::{Config, fits, read_config};
-use vdr_directory::law_of_opening;
+use vdr_directory::{law_of_knowns, law_of_opening};
 use vdr_entry::Record;
 use vdr_memory::{MemoryMedia, RamMedia};
 use vdr_outside::{Fault, Media, PartRefused};
@@ -203,6 +203,7 @@ fn a_medium_is_opened_or_damaged_where_it_is_first_not_legal(rt: HostRuntime) ->
         let opened = open_case(&rt, rt.alloc(), case)?;
         assert!(rt; opened == case.want, "case {index}");
     }
+    law_of_knowns();
     law_of_opening();
     Ok(())
 }

@@ -7,6 +7,7 @@ use Rattle.vdr_slots.specs.Slots.{IsFront}
 use Rattle.vdr_terms.proofs.Results.{same_err}
 use Rattle.vdr_directory.specs.Opening.{front_bytes}
 use Rattle.vdr_directory.specs.Fronts.{TellFronts}
+use Rattle.vdr_directory.proofs.CostLemmas.{reads_counted, reads_join}
 use Rattle.vdr_directory.proofs.FrontLemmas.{slots_added, ascends_added, fronts_added, refuses_header}
 use Rattle.vdr_directory.proofs.fronts.read_fronts.Goals as goal
 
@@ -24,6 +25,7 @@ pub loop-slot-preserved : goal.loop-slot-preserved
 loop-slot-preserved g c = record {
   unchanged = unchanged_join _ _ _ c.loop-slot.invariant.unchanged c.header_in.ensures.unchanged;
   later = none_falls_join _ _ _ c.loop-slot.invariant.later c.header_in.ensures.cause.later;
+  counts = reads_join _ _ _ _ _ _ _ (omega arith) c.loop-slot.invariant.counts (reads_counted _ _ _ _ c.header_in.ensures.counts);
   slots = slots_added _ _ _ _ c.in-Ok-add.ensures c.loop-slot.invariant.slots;
   ascends = ascends_added _ _ _ _ c.in-Ok-add.ensures c.loop-slot.invariant.slots c.loop-slot.invariant.ascends;
   told = λ told. fronts_added _ _ _ _ _ _ c.in-Ok-add.ensures (c.loop-slot.invariant.told told)
@@ -34,3 +36,6 @@ pub returns-clause-told : goal.returns-clause-told
 returns-clause-told g c told =
     subst (λ (n : ℕ). TellFronts c.args.area.segment n (content (g.M.Media.disk c.args.media.now).reads c.args.area.medium) c.loop-slot.opened.items)
     (omega arith) (c.loop-slot.invariant.told told)
+
+pub returns-in_err-header-clause-counts : goal.returns-in_err-header-clause-counts
+returns-in_err-header-clause-counts g c = reads_join _ _ _ _ _ _ _ (omega arith) c.loop-slot.invariant.counts (reads_counted _ _ _ _ c.header_in.ensures.counts)

@@ -1,12 +1,14 @@
-use Rattle.std.proofs.Common.{◌≡◌, List, [], length, All, inl, sym, ◌∙◌, ap, subst, arith, length-take}
+use Rattle.std.proofs.Common.{◌≡◌, ◌*◌, ℕ, List, [], length, All, inl, sym, ◌∙◌, ap, subst, arith, length-take}
 use Rattle.std.proofs.lemmas.Result.{err_from_is_err_and}
 use Rattle.vdr_outside.specs.Disk.{Image, content}
-use Rattle.vdr_outside.proofs.Moments.{size_read}
 use Rattle.vdr_terms.proofs.Results.{same_err}
 use Rattle.vdr_directory.specs.declared.entry.Entry.{Entry}
 use Rattle.vdr_directory.specs.Fronts.{AreSlots, IsSurveyed, BreaksAmong}
 use Rattle.vdr_directory.proofs.Reordering.{reordered, second_within, last_done}
 use Rattle.vdr_directory.proofs.Sequencing.{sequenced_slots}
+use Rattle.vdr_directory.specs.Costs.{unsummarized}
+use Rattle.vdr_directory.proofs.CostLemmas.{reads_join, unsummarized_by_heads}
+use Rattle.vdr_directory.proofs.OneAnswer.{found_legible}
 use Rattle.vdr_directory.proofs.Opened.{batch_refused, order_refused, found}
 use Rattle.vdr_directory.proofs.segments.read_segments.Goals as goal
 
@@ -42,7 +44,7 @@ returns-in-Some-clause-damaged g c k offset e =
     let l = last_done _ _ _ _ _ _ _ c.in_ok-opened.ensures.slots c.in_ok-opened.ensures.ascends (omega (arith, c.in_ok-opened.opened.ok.0)) c.deref_mut.ensures.value c.sort_by_seq.ensures.permutation c.sort_by_seq.ensures.sorted
     c.deref_mut-2.ensures.value c.survey_all.ensures.heads in (
       cc,
-      λ told. order_refused _ _ _ _ _ _ s (c.in_ok-opened.ensures.told told) (omega (arith, c.args.area.segment_low)) (omega (arith, c.requires.room.room, size_read (g.M.Media.disk c.args.media.now) c.args.area.medium told))
+      λ told. order_refused _ _ _ _ _ _ s (c.in_ok-opened.ensures.told told)
           (subst (λ (image : Image). All (IsSurveyed c.args.area.segment (content image c.args.area.medium)) c.survey_all.new.opened) (c.read_fronts.ensures.unchanged.reads told) (c.in_ok-held.ensures.surveyed told))
           _ _ c.in-Some.index _ offset l c.deref.ensures.value c.in-Some.ensures.some c.index.ensures (let at : offset ≡ c.place_of.result = cc in at ∙ c.place_of.ensures),
     )
@@ -55,12 +57,31 @@ returns-clause-slots g c =
     c.deref_mut-2.ensures.value c.survey_all.ensures.heads in
     subst (λ (es : List Entry). AreSlots c.args.area.slots es) (sym l) (sequenced_slots _ _ _ _ s)
 
-pub returns-clause-found : goal.returns-clause-found
-returns-clause-found g c told =
+pub returns-clause-parts : goal.returns-clause-parts
+returns-clause-parts g c told =
     let s = reordered _ _ _ _ _ _ _ c.in_ok-opened.ensures.slots c.in_ok-opened.ensures.ascends (omega (arith, c.in_ok-opened.opened.ok.0)) c.deref_mut.ensures.value c.sort_by_seq.ensures.permutation c.sort_by_seq.ensures.sorted
     c.deref_mut-2.ensures.value c.survey_all.ensures.heads in
     let l = last_done _ _ _ _ _ _ _ c.in_ok-opened.ensures.slots c.in_ok-opened.ensures.ascends (omega (arith, c.in_ok-opened.opened.ok.0)) c.deref_mut.ensures.value c.sort_by_seq.ensures.permutation c.sort_by_seq.ensures.sorted
     c.deref_mut-2.ensures.value c.survey_all.ensures.heads in
-    found _ _ _ _ _ _ s (c.in_ok-opened.ensures.told told) (omega (arith, c.args.area.segment_low)) (omega (arith, c.requires.room.room, size_read (g.M.Media.disk c.args.media.now) c.args.area.medium told))
+    found _ _ _ _ _ _ s (c.in_ok-opened.ensures.told told)
     (subst (λ (image : Image). All (IsSurveyed c.args.area.segment (content image c.args.area.medium)) c.survey_all.new.opened) (c.read_fronts.ensures.unchanged.reads told) (c.in_ok-held.ensures.surveyed told))
     _ _ l c.deref.ensures.value c.in_default.ensures.none
+
+pub returns-clause-found : goal.returns-clause-found
+returns-clause-found g c told placed holds order =
+    let s = reordered _ _ _ _ _ _ _ c.in_ok-opened.ensures.slots c.in_ok-opened.ensures.ascends (omega (arith, c.in_ok-opened.opened.ok.0)) c.deref_mut.ensures.value c.sort_by_seq.ensures.permutation c.sort_by_seq.ensures.sorted
+    c.deref_mut-2.ensures.value c.survey_all.ensures.heads in
+    let l = last_done _ _ _ _ _ _ _ c.in_ok-opened.ensures.slots c.in_ok-opened.ensures.ascends (omega (arith, c.in_ok-opened.opened.ok.0)) c.deref_mut.ensures.value c.sort_by_seq.ensures.permutation c.sort_by_seq.ensures.sorted
+    c.deref_mut-2.ensures.value c.survey_all.ensures.heads in
+    found_legible _ _ _ _ placed (omega (arith, c.args.area.segment_low)) holds
+    (found _ _ _ _ _ _ s (c.in_ok-opened.ensures.told told)
+    (subst (λ (image : Image). All (IsSurveyed c.args.area.segment (content image c.args.area.medium)) c.survey_all.new.opened) (c.read_fronts.ensures.unchanged.reads told) (c.in_ok-held.ensures.surveyed told))
+    _ _ l c.deref.ensures.value c.in_default.ensures.none)
+
+pub returns-clause-counts : goal.returns-clause-counts
+returns-clause-counts g c =
+    let l = last_done _ _ _ _ _ _ _ c.in_ok-opened.ensures.slots c.in_ok-opened.ensures.ascends (omega (arith, c.in_ok-opened.opened.ok.0)) c.deref_mut.ensures.value c.sort_by_seq.ensures.permutation c.sort_by_seq.ensures.sorted
+    c.deref_mut-2.ensures.value c.survey_all.ensures.heads in
+    let same = ap (λ (es : List Entry). c.args.area.segment * unsummarized es) l in
+    let heads = ap (λ (n : ℕ). c.args.area.segment * n) (unsummarized_by_heads _ _ c.survey_all.ensures.heads) in
+    reads_join _ _ _ _ _ _ _ (omega (arith, same, heads)) c.in_ok-opened.ensures.counts c.in_ok-held.ensures.counts

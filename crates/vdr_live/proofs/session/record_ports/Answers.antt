@@ -2,7 +2,6 @@ use Rattle.std.specs.Bool.{⊤}
 use Rattle.std.proofs.Common.{◌≡◌, ◌∙◌, List, [], refl}
 use Rattle.std.proofs.lemmas.Result.{err_from_is_err_and}
 use Rattle.vdr_history.specs.Histories.{Event}
-use Rattle.vdr_recorder.proofs.Opened.{meet_as}
 use Rattle.vdr_command.specs.Outside.{MediaSeen}
 use Rattle.vdr_command.proofs.OpenedLemmas.{refused_ends}
 use Rattle.vdr_live.proofs.Endings.{recorded_ends}
@@ -26,7 +25,5 @@ returns-clause-ends g c =
     let mid : MediaSeen g.M.Media.tells g.M.Media.tells_images = record { disk = g.M.Media.disk c.open.new.media; faults = g.M.Media.faults c.open.new.media; bytes_read = g.M.Media.bytes_read c.open.new.media } in
     let new : MediaSeen g.M.Media.tells g.M.Media.tells_images = record { disk = g.M.Media.disk c.record_at_desks.new.media; faults = g.M.Media.faults c.record_at_desks.new.media; bytes_read = g.M.Media.bytes_read c.record_at_desks.new.media } in
     recorded_ends g.P.Port g.L.Link c.args.turns c.args.lanes.now c.record_at_desks.new.lanes c.args.desks.now c.record_at_desks.new.desks old mid new c.in_ok-recorder.recorder c.record_at_desks.result c.requires.lanes.sixteen (c.record_at_desks.auto.lanes ∙ c.requires.lanes.sixteen)
-    (λ t. let w = begun.opened.contents t in (w.0, w.1, w.2, w.3, w.4))
-    (λ x y h k. ((c.law_of_contents.ensures.config _ x y h k).0, meet_as x y (c.law_of_contents.ensures.placed _ x y h k)))
-    begun.opened.opened begun.moments (λ t k first second. c.open.ensures.writes.others t k second) c.open.ensures.writes.cause.later
+    begun.opened.parts begun.opened.contents begun.opened.opened begun.moments (λ t k first second. c.open.ensures.writes.others t k second) c.open.ensures.writes.cause.later
     session.session session.desks session.failures session.ends.groups (λ is. (session.ends.memory is).1) session.ends.others session.ends.cause

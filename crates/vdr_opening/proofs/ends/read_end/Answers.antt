@@ -1,23 +1,28 @@
 use Rattle.std.proofs.Common.{◌≡◌, ap, ◌∙◌, subst, arith}
 use Rattle.std.proofs.lemmas.List.{get_or_default}
-use Rattle.vdr_ring.specs.Rings.{Reads, RingState}
+use Rattle.vdr_ring.specs.Rings.{HoldsNewest, Knows, RingState}
 use Rattle.vdr_opening.specs.Answers.{no_ring, ring_at}
 use Rattle.vdr_opening.proofs.Rings.{part_by, keeps_one}
 use Rattle.vdr_opening.proofs.ends.read_end.Goals as goal
 use Rattle.vdr_media.proofs.Two.{of_each}
 
 pub returns-clause-undamaged : goal.returns-clause-undamaged
-returns-clause-undamaged g c k offset e told placed reads =
+returns-clause-undamaged g c k offset e told known knows =
     let count = c.requires.rings.1.count in
-    c.read_last_batch.ensures.batch.undamaged told placed (subst (λ (r : RingState). Reads r placed (g.M.Media.disk c.args.media.now)) (get_or_default c.args.rings.now c.args.m no_ring _ (omega (arith, count))) reads) k offset e
+    c.read_last_batch.ensures.batch.undamaged told known (subst (λ (r : RingState). Knows r known (g.M.Media.disk c.args.media.now)) (get_or_default c.args.rings.now c.args.m no_ring _ (omega (arith, count))) knows) k offset e
 
 pub returns-clause-kept : goal.returns-clause-kept
 returns-clause-kept g c =
     let count = c.requires.rings.1.count in
-    keeps_one c.args.rings.now c.args.m _ c.read_last_batch.new.self _ _ (omega (arith, count)) (get_or_default c.args.rings.now c.args.m _ no_ring (omega (arith, count))) c.read_last_batch.ensures.keeps.ring c.read_last_batch.ensures.keeps.reads c.read_last_batch.ensures.keeps.unchanged
+    keeps_one c.args.rings.now c.args.m _ c.read_last_batch.new.self _ _ (omega (arith, count)) (get_or_default c.args.rings.now c.args.m _ no_ring (omega (arith, count))) c.read_last_batch.ensures.keeps.ring c.read_last_batch.ensures.keeps.reads c.read_last_batch.ensures.keeps.knows c.read_last_batch.ensures.keeps.unchanged
 
 pub returns-clause-cause : goal.returns-clause-cause
 returns-clause-cause g c =
     let count = c.requires.rings.1.count in
     let is = get_or_default c.args.rings.now c.args.m _ no_ring (omega (arith, count)) in
     part_by c.args.m _ _ _ _ (ap (λ (r : RingState). r.medium) is ∙ of_each (λ m. (ring_at c.args.rings.now m).medium ≡ m) (λ i d lt. (c.requires.rings.1.each i d lt).medium) c.args.m c.requires.few) c.requires.few c.read_last_batch.ensures.cause
+
+pub returns-clause-counts : goal.returns-clause-counts
+returns-clause-counts g c held =
+    let count = c.requires.rings.1.count in
+    c.read_last_batch.ensures.held (subst (λ (r : RingState). HoldsNewest r) (get_or_default c.args.rings.now c.args.m no_ring _ (omega (arith, count))) held)

@@ -1,12 +1,14 @@
-use Rattle.std.proofs.Common.{◌≡◌, ◌≤◌, ◌<◌, ℕ, List, length, All, IfNone, IfSome, Ok, drop, None}
+use Rattle.std.proofs.Common.{◌≡◌, ◌≤◌, ◌<◌, ℕ, List, length, get_or, All, IfNone, IfSome, Ok, drop, None}
 use Rattle.vdr_outside.specs.Causes.{NoneFalls}
 use Rattle.vdr_outside.specs.Disk.{Durable, Unchanged}
 use Rattle.vdr_config.specs.Grammar.{configuration}
 use Rattle.vdr_directory.specs.Sequence.{Placed}
+use Rattle.vdr_ring.specs.Rings.{HoldsNewest}
 use Rattle.vdr_opening.specs.Media.{members}
 use Rattle.vdr_opening.specs.Refusals.{RefusesFrom}
 use Rattle.vdr_opening.specs.Answers.{IsRingOf, ring_at}
-use Rattle.vdr_opening.specs.Parts.{ReadsMedium, text_of}
+use Rattle.vdr_opening.specs.Parts.{ReadsLegal, text_of}
+use Rattle.vdr_opening.proofs.Costs.{IsReadBy}
 use Rattle.vdr_opening.proofs.medium.open_media.Given as goal
 
 abbrev pub invariant-loop-m : goal.invariant-loop-m
@@ -17,9 +19,12 @@ invariant-loop-m g l = record {
   configured : IfSome l.before (λ c. configuration c.text.items ≡ Ok c.config);
   rings : IfSome l.before (λ c. (k : ℕ) → k < l.m → IsRingOf c.config (g.M.Media.disk l.fn.media).sizes k (ring_at l.rings.items k));
   reads : g.M.Media.tells → All (λ m. Durable m (g.M.Media.disk l.fn.media)) members
-      → IfSome l.before (λ c. (k : ℕ) → k < l.m → (placed : List Placed) × ReadsMedium k c.config c.text.items placed (ring_at l.rings.items k) (g.M.Media.disk l.media));
-  behind : g.M.Media.tells → All (λ m. Durable m (g.M.Media.disk l.fn.media)) members
-      → (m offset : ℕ) → RefusesFrom (text_of l.before) (drop l.m members) (g.M.Media.disk l.fn.media).reads m offset → RefusesFrom None members (g.M.Media.disk l.fn.media).reads m offset;
+      → IfSome l.before (λ c. (k : ℕ) → k < l.m → ReadsLegal k c.config c.text.items (ring_at l.rings.items k) (g.M.Media.disk l.media));
+  parts : g.M.Media.tells → IfSome l.before (λ c. (k : ℕ) → k < l.m → (known : List Placed)
+      × IsReadBy k c.config c.text.items known (ring_at l.rings.items k) (g.M.Media.disk l.media) (g.M.Media.disk l.fn.media).sizes (g.M.Media.bytes_read l.fn.media) (g.M.Media.bytes_read l.media));
+  unread : g.M.Media.tells → (k : ℕ) → l.m ≤ k → get_or (g.M.Media.bytes_read l.media) k 0 ≡ get_or (g.M.Media.bytes_read l.fn.media) k 0;
+  held : g.M.Media.tells → (k : ℕ) → k < l.m → HoldsNewest (ring_at l.rings.items k);
+  behind : g.M.Media.tells → (m offset : ℕ) → RefusesFrom (text_of l.before) (drop l.m members) (g.M.Media.disk l.fn.media).reads m offset → RefusesFrom None members (g.M.Media.disk l.fn.media).reads m offset;
   unchanged : Unchanged (g.M.Media.disk l.fn.media) (g.M.Media.disk l.media);
   later : NoneFalls (g.M.Media.faults l.fn.media) (g.M.Media.faults l.media);
 }

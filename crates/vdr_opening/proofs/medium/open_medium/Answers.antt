@@ -7,7 +7,8 @@ use Rattle.vdr_terms.proofs.Results.{same_err}
 use Rattle.vdr_opening.specs.Media.{HasFront}
 use Rattle.vdr_opening.specs.Parts.{text_of}
 use Rattle.vdr_opening.specs.Refusals.{RefusesConfiguration}
-use Rattle.vdr_opening.proofs.Rings.{same_content, refuses_segments, reads_medium, same_text}
+use Rattle.vdr_opening.proofs.Rings.{same_content, refuses_segments, knows_medium, reads_legal, same_text}
+use Rattle.vdr_opening.proofs.Costs.{medium_bytes}
 use Rattle.vdr_opening.proofs.medium.open_medium.Goals as goal
 use Rattle.vdr_outside.proofs.Moments.{unchanged_join}
 
@@ -42,10 +43,17 @@ returns-in_err-ring-clause-cause g c =
 pub returns-clause-reads : goal.returns-clause-reads
 returns-clause-reads g c told durable =
     let before = unchanged_join _ _ _ c.read_superblock.ensures.unchanged c.read_configuration.ensures.unchanged in
-    let opened = c.in_ok-ring.ensures.reads told (durable_still c.args.m _ _ before durable) in
+    reads_legal c.args.m _ _ _ _ _ c.open.ensures.unchanged told (λ placed holds order. (c.in_ok-ring.ensures.reads told (durable_still c.args.m _ _ before durable) placed holds order).0)
+
+pub returns-clause-parts : goal.returns-clause-parts
+returns-clause-parts g c told =
+    let opened = c.in_ok-ring.ensures.parts told in
     let shape = c.in_ok-ring.ensures.shape in
-    let front = subst (λ (l : List ℕ). HasFront c.args.m c.in_ok-configured.configured.config c.in_ok-configured.configured.text.items l) (sym (same_content c.args.m _ _ c.read_configuration.ensures.unchanged told)) (c.in_ok-configured.ensures.front told) in
-    (opened.0, reads_medium c.args.m _ _ _ _ c.open.ensures.unchanged told front _ opened.0 shape.0 shape.1 shape.2 opened.1)
+    let front = subst (λ (l : List ℕ). HasFront c.args.m c.in_ok-configured.configured.config c.in_ok-configured.configured.text.items l) (sym (same_content c.args.m _ _ c.read_configuration.ensures.unchanged told)) (c.in_ok-configured.ensures.front told) in (
+      opened.0,
+      knows_medium c.args.m _ _ _ _ c.open.ensures.unchanged told front _ opened.0 shape.0 shape.1 shape.2 opened.1,
+      medium_bytes c.args.m _ _ opened.0 _ _ _ _ c.read_superblock.ensures.counts c.read_configuration.ensures.counts opened.2,
+    )
 
 pub returns-clause-unchanged : goal.returns-clause-unchanged
 returns-clause-unchanged g c =

@@ -4,6 +4,7 @@ use Rattle.vdr_outside.specs.Disk.{content}
 use Rattle.vdr_config.specs.Configuration.{Configuration}
 use Rattle.vdr_incident.specs.Tables.{Refuses}
 use Rattle.vdr_terms.proofs.Results.{same_err}
+use Rattle.vdr_opening.proofs.Costs.{table_bytes}
 use Rattle.vdr_opening.proofs.places.read_incidents.Goals as goal
 
 pub returns-in_err-table-clause-damaged : goal.returns-in_err-table-clause-damaged
@@ -14,3 +15,12 @@ returns-in_err-table-clause-damaged g c =
       h.0,
       λ told. inl (subst (λ (n : ℕ). Refuses n (content (g.M.Media.disk c.args.media.now).reads 1) offset) slots (h.1 told)),
     ))
+
+pub returns-in_err-table-clause-counts : goal.returns-in_err-table-clause-counts
+returns-in_err-table-clause-counts g c = table_bytes _ _ _ c.config.invariant.slots_high c.read.ensures.reads.counts
+
+pub returns-in_default-clause-counts : goal.returns-in_default-clause-counts
+returns-in_default-clause-counts g c = table_bytes _ _ _ c.config.invariant.slots_high c.read.ensures.reads.counts
+
+pub returns-clause-counts : goal.returns-clause-counts
+returns-clause-counts g c = table_bytes _ _ _ c.config.invariant.slots_high c.read.ensures.reads.counts

@@ -3,11 +3,16 @@ use Rattle.std.proofs.lemmas.List.{get_or_default}
 use Rattle.std.proofs.lemmas.Result.{err_from_is_err_and}
 use Rattle.vdr_terms.specs.Sizes.{batch_size}
 use Rattle.vdr_terms.proofs.Results.{same_err}
-use Rattle.vdr_ring.specs.Rings.{RingState}
-use Rattle.vdr_opening.specs.Answers.{AreRingsOf, no_ring}
-use Rattle.vdr_opening.specs.Parts.{AreRead}
-use Rattle.vdr_opening.proofs.Meeting.{are_read, contents_of, ends_refused, incidents_refused, is_opened}
-use Rattle.vdr_opening.proofs.Rings.{part_by, part_passed, read_still, take_front}
+use Rattle.std.specs.Prelude.{All}
+use Rattle.vdr_ring.specs.Rings.{HoldsNewest, RingState}
+use Rattle.vdr_opening.specs.Costs.{ReadsParts}
+use Rattle.vdr_opening.specs.Media.{members}
+use Rattle.vdr_opening.specs.Answers.{AreRingsOf, no_ring, ring_at}
+use Rattle.vdr_opening.specs.Parts.{AreKnownTo}
+use Rattle.vdr_opening.proofs.Costs.{parts_more}
+use Rattle.vdr_opening.proofs.Meeting.{are_known, contents_of, ends_refused, holds_parts, incidents_refused, is_opened_by}
+use Rattle.vdr_opening.proofs.Legible.{AreRead, all_read, are_read, is_opened, lent_read}
+use Rattle.vdr_opening.proofs.Rings.{known_still, part_by, part_passed, take_front}
 use Rattle.vdr_opening.proofs.reading.read_formatted.Goals as goal
 use Rattle.vdr_outside.proofs.Moments.{unchanged_join}
 
@@ -21,7 +26,7 @@ returns-in_err-table-clause-damaged g c =
     let p = err_from_is_err_and c.from_residual-in_err-table.result c.from_residual-in_err-table.ensures.1 in
     rw (p.1, p.2) (λ m offset e told durable.
     let h = c.in_err-table.ensures.damaged m offset (same_err _ _ e) in
-    let media = c.in_ok-configured.ensures.reads told durable in
+    let media = c.in_ok-configured.ensures.parts told in
     let count = c.in_ok-configured.ensures.rings.count in
     let on = c.in_ok-configured.field-0.rings.items in
     incidents_refused _ _ c.open_media.ensures.unchanged told _ _ media.0 on media.1 _ (c.index.ensures ∙ get_or_default on 1 _ no_ring (omega (arith, count))) m offset h.0 (h.1 told))
@@ -35,28 +40,49 @@ pub returns-in_err-batch-clause-damaged : goal.returns-in_err-batch-clause-damag
 returns-in_err-batch-clause-damaged g c =
     let p = err_from_is_err_and c.from_residual-in_err-batch.result c.from_residual-in_err-batch.ensures.1 in
     rw (p.1, p.2) (λ m offset e told durable.
-    let media = c.in_ok-configured.ensures.reads told durable in
+    let media = c.in_ok-configured.ensures.parts told in
     let count = c.in_ok-configured.ensures.rings.count in
     let on = c.in_ok-configured.field-0.rings.items in
     let long_term_is = c.index.ensures ∙ get_or_default on 1 _ no_ring (omega (arith, count)) in
     let table = c.in_ok-table.ensures in
-    let x = contents_of c.in_ok-configured.field-0.configured.config c.in_ok-configured.field-0.configured.text.items media.0 c.in_ok-table.table in
-    let read = are_read _ _ c.open_media.ensures.unchanged told _ _ media.0 on media.1 _ long_term_is _ _ c.deref_mut.ensures.value c.read_incidents.ensures.unchanged in
-    ends_refused _ _ c.open_media.ensures.unchanged told _ _ media.0 on media.1 _ long_term_is c.in_ok-table.table (table.table told) table.there m offset (c.in_err-batch.ensures.damaged m offset (same_err _ _ e) told x read))
+    let found = contents_of c.in_ok-configured.field-0.configured.config c.in_ok-configured.field-0.configured.text.items media.0 c.in_ok-table.table in
+    let known = are_known _ _ c.open_media.ensures.unchanged told _ _ media.0 on media.1 _ long_term_is _ _ c.deref_mut.ensures.value c.read_incidents.ensures.unchanged in
+    ends_refused _ _ c.open_media.ensures.unchanged told _ _ media.0 on media.1 _ long_term_is c.in_ok-table.table (table.table told) table.there m offset (c.in_err-batch.ensures.damaged m offset (same_err _ _ e) told found known))
 
 pub returns-clause-opened : goal.returns-clause-opened
-returns-clause-opened g c told durable =
-    let media = c.in_ok-configured.ensures.reads told durable in
+returns-clause-opened g c told durable x h =
+    let media = c.in_ok-configured.ensures.parts told in
+    let legal = c.in_ok-configured.ensures.reads told durable in
     let count = c.in_ok-configured.ensures.rings.count in
     let on = c.in_ok-configured.field-0.rings.items in
     let long_term_is = c.index.ensures ∙ get_or_default on 1 _ no_ring (omega (arith, count)) in
     let table = c.in_ok-table.ensures in
-    let x = contents_of c.in_ok-configured.field-0.configured.config c.in_ok-configured.field-0.configured.text.items media.0 c.in_ok-table.table in
-    let read = are_read _ _ c.open_media.ensures.unchanged told _ _ media.0 on media.1 _ long_term_is _ _ c.deref_mut.ensures.value c.read_incidents.ensures.unchanged in
-    let back = take_front _ c.missing_batch.new.rings _ (c.missing_batch.auto.rings ∙ c.deref_mut.ensures.len) in (
-      x,
-      is_opened _ _ c.open_media.ensures.unchanged told _ _ media.0 on media.1 _ long_term_is c.in_ok-table.table (table.table told) table.there _ (unchanged_join _ _ _ c.read_incidents.ensures.unchanged c.missing_batch.ensures.kept.unchanged) _ refl refl
-          (subst (λ (l : List RingState). AreRead l media.0 (g.M.Media.disk c.missing_batch.new.media)) (sym back) (read_still _ _ media.0 _ _ c.missing_batch.ensures.kept read)) (c.in_ok-batch.ensures.missing told x read),
+    let found = contents_of c.in_ok-configured.field-0.configured.config c.in_ok-configured.field-0.configured.text.items media.0 c.in_ok-table.table in
+    let same = c.open_media.ensures.unchanged in
+    let known = are_known _ _ same told _ _ media.0 on media.1 _ long_term_is _ _ c.deref_mut.ensures.value c.read_incidents.ensures.unchanged in
+    let parts = holds_parts _ _ same told _ _ media.0 on media.1 _ long_term_is c.in_ok-table.table (table.table told) table.there in
+    let lent = lent_read x on _ _ _ c.deref_mut.ensures.value c.read_incidents.ensures.unchanged (all_read x _ told found parts h on _ same legal) in
+    let back = take_front _ c.missing_batch.new.rings _ (c.missing_batch.auto.rings ∙ c.deref_mut.ensures.len) in
+    is_opened x _ told found parts h _ _ same (unchanged_join _ _ _ c.read_incidents.ensures.unchanged c.missing_batch.ensures.kept.unchanged) _ refl refl
+    (subst (λ (l : List RingState). AreRead x l (g.M.Media.disk c.missing_batch.new.media)) (sym back) (are_read x _ _ _ _ c.missing_batch.ensures.kept lent)) (c.in_ok-batch.ensures.missing told found known)
+
+pub returns-clause-parts : goal.returns-clause-parts
+returns-clause-parts g c told =
+    let media = c.in_ok-configured.ensures.parts told in
+    let count = c.in_ok-configured.ensures.rings.count in
+    let on = c.in_ok-configured.field-0.rings.items in
+    let long_term_is = c.index.ensures ∙ get_or_default on 1 _ no_ring (omega (arith, count)) in
+    let table = c.in_ok-table.ensures in
+    let found = contents_of c.in_ok-configured.field-0.configured.config c.in_ok-configured.field-0.configured.text.items media.0 c.in_ok-table.table in
+    let known = are_known _ _ c.open_media.ensures.unchanged told _ _ media.0 on media.1 _ long_term_is _ _ c.deref_mut.ensures.value c.read_incidents.ensures.unchanged in
+    let back = take_front _ c.missing_batch.new.rings _ (c.missing_batch.auto.rings ∙ c.deref_mut.ensures.len) in
+    let held = subst (λ (l : List RingState). All (λ m. HoldsNewest (ring_at l m)) members) (sym c.deref_mut.ensures.value) (c.in_ok-configured.ensures.held told) in
+    let unread = c.missing_batch.ensures.counts held in (
+      found,
+      is_opened_by _ _ c.open_media.ensures.unchanged told _ _ media.0 on media.1 _ long_term_is c.in_ok-table.table (table.table told) table.there _ (unchanged_join _ _ _ c.read_incidents.ensures.unchanged c.missing_batch.ensures.kept.unchanged) _ refl refl
+          (subst (λ (l : List RingState). AreKnownTo l media.0 (g.M.Media.disk c.missing_batch.new.media)) (sym back) (known_still _ _ media.0 _ _ c.missing_batch.ensures.kept known)) (c.in_ok-batch.ensures.missing told found known),
+      subst (λ (n : List ℕ). ReadsParts 24600 found.config.segment media.0 (g.M.Media.disk c.args.media.now).sizes (g.M.Media.bytes_read c.args.media.now) n) (sym unread)
+          (parts_more 16408 _ media.0 _ _ _ _ 1 8192 24600 (omega arith) (omega arith) media.2 c.read_incidents.ensures.counts),
     )
 
 pub returns-clause-shape : goal.returns-clause-shape

@@ -1,10 +1,13 @@
-use Rattle.std.proofs.Common.{rules, get_or, subst}
+use Rattle.std.proofs.Common.{rules, ℕ, List, get_or, subst, sym, arith}
 use Rattle.std.proofs.lemmas.Result.{err_from_is_err_and}
 use Rattle.vdr_outside.proofs.Counts.{none_falls_join}
 use Rattle.vdr_outside.specs.Causes.{Rose}
 use Rattle.vdr_outside.specs.Disk.{Image}
 use Rattle.vdr_media.proofs.Two.{first_of}
 use Rattle.vdr_media.proofs.Unformatted.{durable_still}
+use Rattle.vdr_opening.specs.Costs.{ReadsParts}
+use Rattle.vdr_opening.specs.Media.{HoldsContents}
+use Rattle.vdr_opening.proofs.Costs.{gate_byte, more_parts}
 use Rattle.vdr_opening.specs.Refusals.{IsRefused}
 use Rattle.vdr_opening.proofs.Rings.{open_cause, open_failed, passed_damaged}
 use Rattle.vdr_opening.proofs.reading.read_media.Goals as goal
@@ -33,7 +36,15 @@ returns-in_err-opened-clause-cause g c =
     rw (p.1, p.2) (open_failed _ _ _ _ c.are_formatted.ensures.cause.later c.in_err-opened.ensures.cause)
 
 pub returns-clause-opened : goal.returns-clause-opened
-returns-clause-opened g c told durable = c.in_ok-opened.ensures.opened told (λ k d lt. durable_still _ _ _ c.are_formatted.ensures.unchanged (durable k d lt))
+returns-clause-opened g c told durable x h =
+    c.in_ok-opened.ensures.opened told (λ k d lt. durable_still _ _ _ c.are_formatted.ensures.unchanged (durable k d lt)) x
+    (subst (λ (i : Image). HoldsContents i x) (sym (c.are_formatted.ensures.unchanged.reads told)) h)
+
+pub returns-clause-parts : goal.returns-clause-parts
+returns-clause-parts g c told =
+    let found = c.in_ok-opened.ensures.parts told in
+    let sized = subst (λ (sizes : List ℕ). ReadsParts 24600 found.0.config.segment found.0.placed sizes (g.M.Media.bytes_read c.are_formatted.new.media) (g.M.Media.bytes_read c.read_formatted.new.media)) c.are_formatted.ensures.unchanged.sizes found.2 in
+    (found.0, found.1, more_parts 24600 _ found.0.placed _ _ _ _ 0 1 32768 (omega arith) (omega arith) (gate_byte _ _ c.are_formatted.ensures.counts) sized)
 
 pub returns-clause-unchanged : goal.returns-clause-unchanged
 returns-clause-unchanged g c = unchanged_join _ _ _ c.are_formatted.ensures.unchanged c.read_formatted.ensures.unchanged

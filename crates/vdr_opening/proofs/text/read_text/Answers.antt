@@ -1,6 +1,7 @@
 use Rattle.std.proofs.Common.{◌≡◌, length, arith, ◌∙◌, ap}
 use Rattle.vdr_outside.specs.Disk.{Image, content}
 use Rattle.vdr_opening.proofs.Fronts.{named, too_long, text_read, read_part}
+use Rattle.vdr_opening.proofs.Costs.{text_bytes}
 use Rattle.vdr_opening.proofs.text.read_text.Goals as goal
 
 pub returns-then-length-gt-LONGEST-clause-damaged :
@@ -15,3 +16,8 @@ returns-clause-text g c told =
     let lent : length c.deref_mut.result.now ≡ c.in_ok-length.length = c.deref_mut.ensures.len ∙ len_is in
     text_read _ _ _ _ c.in-Ok.text.items (c.in_ok-length.ensures.spelled told) len_is (c.read.auto.into ∙ lent)
     (read_part _ _ _ _ _ (ap (λ (l : Image). content l c.args.m) (c.read_length.ensures.unchanged.reads told)) lent (c.in_ok-read.ensures.bytes told))
+
+pub returns-clause-counts : goal.returns-clause-counts
+returns-clause-counts g c =
+    let lent : length c.deref_mut.result.now ≡ c.in_ok-length.length = c.deref_mut.ensures.len ∙ c.in-Ok.ensures.len in
+    text_bytes c.args.m (length c.deref_mut.result.now) _ _ _ (omega (arith, lent, c.if-length-gt-LONGEST.false)) c.read_length.ensures.counts c.read.ensures.counts

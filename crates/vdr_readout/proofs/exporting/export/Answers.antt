@@ -1,4 +1,4 @@
-use Rattle.std.proofs.Common.{◌≡◌, ◌∙◌, inr, Err, refl, ap}
+use Rattle.std.proofs.Common.{◌∙◌, inr, Err, refl, ap}
 use Rattle.std.proofs.lemmas.Result.{err_from_is_err_and}
 use Rattle.vdr_entry.specs.Queries.{asked}
 use Rattle.vdr_opening.specs.declared.refused.OpenRefused.{OpenRefused}
@@ -28,9 +28,8 @@ returns-in_err-recorder-clause-ends g c =
 pub returns-in_default-clause-ends : goal.returns-in_default-clause-ends
 returns-in_default-clause-ends g c =
     let told = c.open.ensures in
-    channel_exports _ _ _ _ c.open.result c.in_ok-recorder.recorder c.in_ok-recorder.was c.in_ok-recorder.recorder.vault c.in_default.ensures.none c.in_ok-recorder.ensures.opened.contents
-    told.writes.others told.moments (λ a b h k. (c.law_of_contents.ensures.config (g.M.Media.disk c.args.world.now.media).reads a b h k).0)
-    c.report_channel.ensures told.missing
+    channel_exports _ _ _ _ c.open.result c.in_ok-recorder.recorder c.in_ok-recorder.was c.in_ok-recorder.recorder.vault c.in_default.ensures.none c.in_ok-recorder.ensures.opened.parts c.in_ok-recorder.ensures.opened.contents
+    told.writes.others told.moments c.report_channel.ensures told.missing
 
 pub returns-in_default-accept-clause-ends : goal.returns-in_default-accept-clause-ends
 returns-in_default-accept-clause-ends g c =
@@ -47,7 +46,7 @@ returns-in_default-accept-clause-ends g c =
     } in
     let wants = wanted_so _ _ _ _ _ (asked c.in-Some.query) c.in-Some.ensures.found.0 c.in-Some.ensures.found.1 in
     rw (c.id_of.ensures)
-    (incident_exports c.args.wish (plain_play c.args.wanted) old mid mid.media c.in_ok-recorder.recorder c.in_ok-recorder.recorder (asked c.in-Some.query) wants told.opened.works told.opened.contents told.opened.opened told.opened.readable
+    (incident_exports c.args.wish (plain_play c.args.wanted) old mid mid.media c.in_ok-recorder.recorder c.in_ok-recorder.recorder (asked c.in-Some.query) wants told.opened.works told.opened.parts told.opened.contents told.opened.opened told.opened.readable
     c.open.ensures.writes.cause.later c.open.ensures.writes.others c.open.ensures.missing c.open.result c.open.ensures.moments
     c.accept.result _ c.accept.ensures c.in_default-accept.is
     (looked_nothing (asked c.in-Some.query) c.in_ok-recorder.recorder (g.M.Media.disk c.open.new.media) (g.M.Media.bytes_read c.open.new.media) (g.M.Media.faults c.open.new.media) ⊥ (λ never. never) told.opened.rings) refl)
@@ -67,10 +66,9 @@ returns-in_default-file_of-clause-ends g c =
     } in
     let wants = wanted_so _ _ _ _ _ (asked c.in-Some.query) c.in-Some.ensures.found.0 c.in-Some.ensures.found.1 in
     let there = both_there _ _ c.accept.result c.accept.ensures c.in-Ok.is in
-    kind_exports c.args.wish (plain_play c.args.wanted) old mid mid.media c.in_ok-recorder.recorder c.in_ok-recorder.recorder (asked c.in-Some.query) wants told.opened.works told.opened.contents told.opened.opened told.opened.readable
+    kind_exports c.args.wish (plain_play c.args.wanted) old mid mid.media c.in_ok-recorder.recorder c.in_ok-recorder.recorder (asked c.in-Some.query) wants told.opened.works told.opened.parts told.opened.contents told.opened.opened told.opened.readable
     c.open.ensures.writes.cause.later c.open.ensures.writes.others c.open.ensures.missing c.open.result c.open.ensures.moments
     there.0 there.1 c.file_of.result (c.file_of.ensures ∙ ap (λ (d : Configuration). wished c.args.wish (kind_at d.channels c.in-Some.query.channel)) c.config.ensures) c.in_default-file_of.is
-    (λ a b h k. (c.law_of_contents.ensures.config (g.M.Media.disk c.args.world.now.media).reads a b h k).0)
     (looked_nothing (asked c.in-Some.query) c.in_ok-recorder.recorder (g.M.Media.disk c.open.new.media) (g.M.Media.bytes_read c.open.new.media) (g.M.Media.faults c.open.new.media) ⊥ (λ never. never) told.opened.rings) refl
 
 pub export_file-written-requires : goal.export_file-written-requires
@@ -100,9 +98,9 @@ returns-clause-ends g c =
     } in
     let there = both_there _ _ c.accept.result c.accept.ensures c.in-Ok.is in
     rw c.exported.ensures
-    (made_exports c.args.wish (plain_play c.args.wanted) old new mid.media c.in_ok-recorder.recorder c.export_file-written.new.recorder (asked c.in-Some.query) wants told.opened.works told.opened.contents told.opened.opened told.opened.readable
+    (made_exports c.args.wish (plain_play c.args.wanted) old new mid.media c.in_ok-recorder.recorder c.export_file-written.new.recorder (asked c.in-Some.query) wants told.opened.works told.opened.parts told.opened.contents told.opened.opened told.opened.readable
     c.open.ensures.writes.cause.later c.open.ensures.writes.others
     (missing_looked (g.M.Media.disk c.args.world.now.media) (g.M.Media.disk c.open.new.media) (g.M.Media.disk c.export_file-written.new.media) c.open.ensures.missing made.looked.read.unchanged) c.open.result c.open.ensures.moments
     there.0 there.1 c.file_of.result (c.file_of.ensures ∙ ap (λ (d : Configuration). wished c.args.wish (kind_at d.channels c.in-Some.query.channel)) c.config.ensures) c.in-Some-file_of.file c.in-Some-file_of.is
-    (λ a b h k. (c.law_of_contents.ensures.config (g.M.Media.disk c.args.world.now.media).reads a b h k).0) c.export_file-written.result made.file made.looked made.own
+    c.export_file-written.result made.file made.looked made.own
     (still_output c.args.world.now.output c.export_file-written.new.out c.export_file-written.result _ (λ (o : g.row.O.Denot). record { taken = g.O.Sink.taken o; faults = g.O.Sink.faults o }) made.silent) made.output)

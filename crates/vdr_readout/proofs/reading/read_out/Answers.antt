@@ -1,11 +1,13 @@
-use Rattle.std.proofs.Common.{◌≡◌, inr, refl}
+use Rattle.std.proofs.Common.{[], inr, refl}
 use Rattle.std.proofs.lemmas.Result.{err_from_is_err_and}
 use Rattle.vdr_entry.specs.Queries.{asked}
 use Rattle.vdr_command.specs.Opened.{AreLooks}
 use Rattle.vdr_command.specs.Outside.{Outside}
 use Rattle.vdr_command.proofs.OpenedLemmas.{missing_looked, no_looks, refused_ends}
 use Rattle.vdr_readout.specs.Reads.{AskedPlay, plain_play}
-use Rattle.vdr_readout.proofs.ReadLemmas.{channel_reads, never_damaged, opening_reads, read_ends, read_shows, wanted_so}
+use Rattle.vdr_readout.proofs.CostLemmas.{reads_few}
+use Rattle.vdr_readout.proofs.ReadLemmas.{channel_reads, never_damaged, opening_reads, read_ends, read_shows, to_read, wanted_so}
+use Rattle.vdr_opening.specs.Media.{opening_of, parts_of}
 use Rattle.vdr_readout.proofs.reading.read_out.Goals as goal
 
 pub returns-in_err-recorder-clause-reads : goal.returns-in_err-recorder-clause-reads
@@ -21,7 +23,7 @@ returns-in_err-recorder-clause-reads g c first had =
 pub returns-in_default-clause-reads : goal.returns-in_default-clause-reads
 returns-in_default-clause-reads g c first had =
     let told = c.open.ensures in
-    channel_reads _ _ _ _ _ _ _ _ c.open.result c.in_ok-recorder.recorder c.in_ok-recorder.was c.in_ok-recorder.recorder.vault c.in_default.ensures.none c.in_ok-recorder.ensures.opened.contents
+    channel_reads _ _ _ _ _ _ _ _ c.open.result c.in_ok-recorder.recorder c.in_ok-recorder.was c.in_ok-recorder.recorder.vault c.in_default.ensures.none c.in_ok-recorder.ensures.opened.parts
     told.writes.others told.moments c.report_channel.ensures told.missing
 
 pub returns-clause-reads : goal.returns-clause-reads
@@ -50,13 +52,20 @@ returns-clause-reads g c first had =
     rw c.ended_by.ensures.is
     (record {
       shown =
-          read_shows wanted old.media mid.media new.media c.in_ok-recorder.recorder c.visit-ended.new.self (asked c.in-Some.query) c.visit-ended.result wants told.opened.works told.opened.contents told.opened.opened told.opened.readable
+          read_shows wanted old.media mid.media new.media c.in_ok-recorder.recorder c.visit-ended.new.self (asked c.in-Some.query) c.visit-ended.result wants told.opened.works told.opened.parts told.opened.opened told.opened.readable
           visit.accepted undamaged visit.looked c.open.ensures.writes.cause.later c.open.ensures.writes.others _ c.ended_by.ensures.own c.open.result c.open.ensures.moments
-          (λ a b h k. (c.law_of_contents.ensures.config (g.M.Media.disk c.args.world.now.media).reads a b h k).0) _ _ _ _ old.output new.output visited
+          told.opened.contents _ _ _ _ old.output new.output visited
           (λ refused. let same = (visit.unread (inr refused)).3 in λ i. record { taken = g.O.Sink.taken (same i); faults = g.O.Sink.faults (same i) })
           visit.output.rose;
       media =
-          read_ends wanted old.media mid.media new.media c.in_ok-recorder.recorder c.visit-ended.new.self (asked c.in-Some.query) c.visit-ended.result wants told.opened.works told.opened.contents told.opened.opened told.opened.readable
+          read_ends wanted old.media mid.media new.media c.in_ok-recorder.recorder c.visit-ended.new.self (asked c.in-Some.query) c.visit-ended.result wants told.opened.works told.opened.parts told.opened.opened told.opened.readable
           visit.accepted undamaged visit.looked c.open.ensures.writes.cause.later c.open.ensures.writes.others _ c.ended_by.ensures.own c.open.result c.open.ensures.moments;
       missing = missing_looked (g.M.Media.disk c.args.world.now.media) (g.M.Media.disk c.open.new.media) (g.M.Media.disk c.visit-ended.new.media) c.open.ensures.missing visit.looked.read.unchanged;
+      bytes = λ worked x t holds can.
+          let readable = to_read wanted old.media mid.media new.media c.in_ok-recorder.recorder c.visit-ended.new.self (asked c.in-Some.query) c.visit-ended.result wants told.opened.works told.opened.parts told.opened.opened
+          told.opened.readable x t holds can in
+          let is = (told.opened.contents x t holds).1 in
+          reads_few wanted old.media mid.media new.media (asked c.in-Some.query) c.in_ok-recorder.recorder.vault x readable.0 wants.is told.opened.rings visit.looked.read.unchanged readable.1 t
+          (c.law_of_budgets.ensures c.in-Some.query (opening_of x) [] c.in_ok-recorder.recorder.vault readable.0 readable.1) visit.bound is.config is.table
+          (told.bytes (parts_of x) t (c.law_of_parts.ensures.legible (g.M.Media.disk c.args.world.now.media).reads x holds));
     })

@@ -10,10 +10,9 @@ use Rattle.vdr_opening.specs.Media.{opening_of}
 use Rattle.vdr_opening.specs.declared.refused.OpenRefused.{OpenRefused}
 use Rattle.vdr_vault.proofs.OpenMoments.{never_both}
 use Rattle.vdr_recorder.proofs.Admitting.{admits_all}
-use Rattle.vdr_recorder.proofs.Opened.{meet_as}
 use Rattle.vdr_headline.proofs.Passing.{passes_first, passes_opened}
 use Rattle.vdr_headline.proofs.Playing.{config_read}
-use Rattle.vdr_replay.specs.Answers.{Answers, Decides, EndsAtHeader, IfOpened, IsLegible, RefusesMedia, RefusesRun}
+use Rattle.vdr_replay.specs.Answers.{Answers, Decides, EndsAtHeader, IfOpened, IsOpenable, RefusesMedia, RefusesRun}
 use Rattle.vdr_replay.specs.Ran.{Runs}
 use Rattle.vdr_feed.specs.Progress.{HasRead}
 use Rattle.vdr_replay.specs.declared.ended.Replayed.{Replayed}
@@ -63,9 +62,9 @@ returns-clause-replayed g c = λ x bytes told holds sound known.
     let rose = Rose (sum (g.M.Media.faults c.args.media.now)) (sum (g.M.Media.faults c.record_run.new.media)) in
     let reads = config_read (g.M.Media.disk c.args.media.now).reads x holds in
     let opened = c.in_ok-recorder.ensures.opened.opened x told holds sound in
-    let was = c.in_ok-recorder.ensures.opened.contents told in
-    let meet = meet_as was.1 x (c.law_of_contents.ensures.placed (g.M.Media.disk c.args.media.now).reads was.1 x was.2 holds) was.3 in
-    let same = was.4 ∙ (c.law_of_contents.ensures.config (g.M.Media.disk c.args.media.now).reads was.1 x was.2 holds).0 in
+    let was = c.in_ok-recorder.ensures.opened.contents x told holds in
+    let meet = was.0 in
+    let same = was.1.config in
     let begins = subst (λ (first : Option (List ℕ)). HasRead first (g.I.Source.left c.header.new.input) c.header.new.self []) known
     (read_first _ _ _ c.in_ok-header.ensures.bytes (c.in_ok-header.ensures.ready ∙ ap (λ (r : Reading). begun_reading r.limit) c.new-reader.ensures)) in
     answers x bytes (g.I.Source.left c.record_run.new.input) rose reads sound opened.0 c.in_ok-recorder.recorder c.record_run.new.recorder
@@ -102,8 +101,7 @@ returns-clause-left g c = λ x told holds meet sound.
     let rose = Rose (sum (g.M.Media.faults c.args.media.now)) (sum (g.M.Media.faults c.record_run.new.media)) in
     let reads = config_read (g.M.Media.disk c.args.media.now).reads x holds in
     let opened = c.in_ok-recorder.ensures.opened.opened x told holds sound in
-    let was = c.in_ok-recorder.ensures.opened.contents told in
-    let same = was.4 ∙ (c.law_of_contents.ensures.config (g.M.Media.disk c.args.media.now).reads was.1 x was.2 holds).0 in
+    let same = (c.in_ok-recorder.ensures.opened.contents x told holds).1.config in
     leaves x [] (g.I.Source.left c.record_run.new.input) rose reads sound opened.0 c.in_ok-recorder.recorder c.record_run.new.recorder
     (g.M.Media.disk c.args.media.now) (g.M.Media.disk c.open.new.media) (g.M.Media.disk c.record_run.new.media) opened.3
     (passes_opened (opening_of x) (g.M.Media.disk c.args.media.now) (g.M.Media.disk c.open.new.media) (Ok c.in_ok-recorder.recorder)
@@ -121,35 +119,35 @@ pub returns-in_err-header-clause-blank : goal.returns-in_err-header-clause-blank
 returns-in_err-header-clause-blank g c told un = moments_none (g.M.Media.disk c.args.media.now) (λ i. (g.M.Media.disk c.args.media.now).now i) (λ i now. now)
 
 pub returns-clause-blank : goal.returns-clause-blank
-returns-clause-blank g c told un = absurd (never_both (g.M.Media.disk c.args.media.now).reads (c.in_ok-recorder.ensures.opened.contents told).0 un)
+returns-clause-blank g c told un = absurd (never_both (g.M.Media.disk c.args.media.now).reads (c.in_ok-recorder.ensures.opened.parts told).0 un)
 
 pub returns-clause-cause : goal.returns-clause-cause
 returns-clause-cause g c = replay_after _ _ _ c.record_run.result c.open.ensures.writes.cause.later c.record_run.ensures.cause
 
-pub returns-in_err-header-clause-legible : goal.returns-in_err-header-clause-legible
-returns-in_err-header-clause-legible g c = λ told.
+pub returns-in_err-header-clause-openable : goal.returns-in_err-header-clause-openable
+returns-in_err-header-clause-openable g c = λ told.
     let p = err_from_is_err_and c.from_residual.result c.from_residual.ensures.1 in
-    subst (λ (result : Result Replayed ReplayRefused). IfOpened result (IsLegible (g.M.Media.disk c.args.media.now).reads
+    subst (λ (result : Result Replayed ReplayRefused). IfOpened result (IsOpenable (g.M.Media.disk c.args.media.now).reads
     (λ x. Decides x (g.I.Source.left c.args.input.now) (g.I.Source.left c.header.new.input) result)))
     (sym (p.1 ∙ ap (λ (stop : ReplayRefused). Err stop) p.2)) (header_says c.in_err-header.field-0.0 _)
 
-pub returns-in_err-recorder-clause-legible : goal.returns-in_err-recorder-clause-legible
-returns-in_err-recorder-clause-legible g c = λ told.
+pub returns-in_err-recorder-clause-openable : goal.returns-in_err-recorder-clause-openable
+returns-in_err-recorder-clause-openable g c = λ told.
     let p = err_from_is_err_and c.from_residual-in_err-recorder.result c.from_residual-in_err-recorder.ensures.1 in
-    subst (λ (result : Result Replayed ReplayRefused). IfOpened result (IsLegible (g.M.Media.disk c.args.media.now).reads
+    subst (λ (result : Result Replayed ReplayRefused). IfOpened result (IsOpenable (g.M.Media.disk c.args.media.now).reads
     (λ x. Decides x (g.I.Source.left c.args.input.now) (g.I.Source.left c.header.new.input) result)))
     (sym (p.1 ∙ ap (λ (stop : ReplayRefused). Err stop) p.2)) (opening_says c.in_err-recorder.field-0.0 _)
 
-pub returns-in_err-lanes-clause-legible : goal.returns-in_err-lanes-clause-legible
-returns-in_err-lanes-clause-legible g c = λ told.
+pub returns-in_err-lanes-clause-openable : goal.returns-in_err-lanes-clause-openable
+returns-in_err-lanes-clause-openable g c = λ told.
     let p = err_from_is_err_and c.from_residual-in_err-lanes.result c.from_residual-in_err-lanes.ensures.1 in
-    subst (λ (result : Result Replayed ReplayRefused). IfOpened result (IsLegible (g.M.Media.disk c.args.media.now).reads
+    subst (λ (result : Result Replayed ReplayRefused). IfOpened result (IsOpenable (g.M.Media.disk c.args.media.now).reads
     (λ x. Decides x (g.I.Source.left c.args.input.now) (g.I.Source.left c.header.new.input) result)))
     (sym (p.1 ∙ ap (λ (stop : ReplayRefused). Err stop) p.2)) tt
 
-pub returns-clause-legible : goal.returns-clause-legible
-returns-clause-legible g c = λ told.
-    let was = c.in_ok-recorder.ensures.opened.contents told in
+pub returns-clause-openable : goal.returns-clause-openable
+returns-clause-openable g c = λ told.
+    let was = c.in_ok-recorder.ensures.opened.parts told in
     let read = read_first _ _ _ c.in_ok-header.ensures.bytes (c.in_ok-header.ensures.ready ∙ ap (λ (r : Reading). begun_reading r.limit) c.new-reader.ensures)
     in
     opened_says c.record_run.result _ (
@@ -158,7 +156,7 @@ returns-clause-legible g c = λ told.
       was.2,
       was.3,
       decides_as was.1 _ _ _ (g.I.Source.left c.args.input.now) (g.I.Source.left c.header.new.input) (g.I.Source.left c.record_run.new.input) c.header.new.self
-          (c.in_ok-recorder.ensures.opened.place was.1 told was.2) was.6 was.4 read
+          was.4.place was.4.last was.4.config read
           c.record_run.result c.record_run.ensures.decided,
     )
 

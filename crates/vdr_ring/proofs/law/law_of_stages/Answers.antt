@@ -1,5 +1,6 @@
 use Rattle.vdr_ring.proofs.law.law_of_stages.Goals as goal
-use Rattle.vdr_ring.proofs.Retaining.{victim_is_oldest, oldest_candidate, closed_retains, begun_retains, done_retains, left_retains, stages_regular}
+use Rattle.vdr_ring.proofs.Oldest.{oldest_candidate, victim_is_oldest}
+use Rattle.vdr_ring.proofs.Retaining.{closed_retains, begun_retains, done_retains, left_retains, stages_regular}
 
 pub returns-clause-victim : goal.returns-clause-victim
 returns-clause-victim c = victim_is_oldest

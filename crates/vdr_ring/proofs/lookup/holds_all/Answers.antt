@@ -22,10 +22,10 @@ loop-slot-preserved-then-not-has_place c =
     )
 
 pub returns-then-has_place : goal.returns-then-has_place
-returns-then-has_place c count placed x order =
+returns-then-has_place c count known x apart =
     let i = c.loop-slot.invariant in (
       λ e. left_found c.args.index.now c.in_order-order.result.now c.in_order-order.ensures c.args.a c.loop-slot.place c.args.b c.loop-slot.slot-index c.loop-slot-test.true i.2 c.in-Some.known (sym c.known.ensures ∙ c.in-Some.is)
-          (c.has_place.ensures.0 c.if-not-has_place.false) i.1 (c.has_place-in-loop-slot.ensures.0 c.if-has_place.true) count placed x order,
+          (c.has_place.ensures.0 c.if-not-has_place.false) i.1 (c.has_place-in-loop-slot.ensures.0 c.if-has_place.true) count known x apart,
       λ all. search rules,
     )
 
@@ -36,8 +36,8 @@ loop-slot-preserved c =
     (omega (arith, i.0, has.1), search rules, left_next c.args.index.now c.in_order-order.result.now c.in_order-order.ensures c.args.a c.loop-slot.place c.args.b c.loop-slot.slot-index c.loop-slot-test.true i.2 c.in-Some.known (sym c.known.ensures ∙ c.in-Some.is) has)
 
 pub returns : goal.returns
-returns c count placed x order =
+returns c count known x apart =
     let i = c.loop-slot.invariant in (
       λ e. absurd (false≢true e),
-      λ all. absurd (left_done c.args.index.now c.in_order-order.result.now c.in_order-order.ensures c.args.a c.loop-slot.place c.args.b c.loop-slot.slot-index i.0 i.1 (omega (arith, c.loop-slot-test.false)) i.2 count placed x order all),
+      λ all. absurd (left_done c.args.index.now c.in_order-order.result.now c.in_order-order.ensures c.args.a c.loop-slot.place c.args.b c.loop-slot.slot-index i.0 i.1 (omega (arith, c.loop-slot-test.false)) i.2 count known x apart all),
     )

@@ -24,7 +24,7 @@ returns-clause-media g c =
     let new : MediaSeen g.M.Media.tells g.M.Media.tells_images = record { disk = g.M.Media.disk c.release-released.new.media; faults = g.M.Media.faults c.release-released.new.media; bytes_read = g.M.Media.bytes_read c.release-released.new.media } in
     rw c.ended_by.ensures
     (released_ends old mid new c.in_ok-recorder.recorder c.release-released.new.self
-    told.opened.works told.opened.contents told.opened.opened c.open.ensures.writes.cause.later c.open.ensures.writes.others release.writes.others c.args.id c.release-released.result release.event.released release.event.looked (λ works none. (release.refuses.refused works none).0)
+    told.opened.works told.opened.parts told.opened.opened c.open.ensures.writes.cause.later c.open.ensures.writes.others release.writes.others c.args.id c.release-released.result release.event.released release.event.looked (λ works none. (release.refuses.refused works none).0)
     release.refuses.reason release.failing.fails release.failing.works release.writes.cause c.open.result c.open.ensures.moments c.release-released.result refl)
 
 pub returns-clause-no_incident : goal.returns-clause-no_incident
@@ -36,7 +36,7 @@ returns-clause-no_incident g c =
     let new : MediaSeen g.M.Media.tells g.M.Media.tells_images = record { disk = g.M.Media.disk c.release-released.new.media; faults = g.M.Media.faults c.release-released.new.media; bytes_read = g.M.Media.bytes_read c.release-released.new.media } in
     rw c.ended_by.ensures
     (released_missing old mid new c.in_ok-recorder.recorder c.release-released.new.self
-    told.opened.works told.opened.contents told.opened.opened c.open.ensures.writes.cause.later c.open.ensures.writes.others release.writes.others c.args.id c.release-released.result release.event.released release.event.looked (λ works none. (release.refuses.refused works none).0)
+    told.opened.works told.opened.parts told.opened.opened c.open.ensures.writes.cause.later c.open.ensures.writes.others release.writes.others c.args.id c.release-released.result release.event.released release.event.looked (λ works none. (release.refuses.refused works none).0)
     release.refuses.reason release.failing.fails release.failing.works release.writes.cause c.release-released.result refl)
 
 pub returns-in_err-recorder-clause-missing : goal.returns-in_err-recorder-clause-missing

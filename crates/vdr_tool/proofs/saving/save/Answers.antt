@@ -31,7 +31,7 @@ returns-in_err-id-clause-media g c =
     let p = err_from_is_err_and c.from_residual-in_err-id.result c.from_residual-in_err-id.ensures.1 in
     rw (p.1, p.2)
     (unsaved_ends old mid new c.in_ok-recorder.recorder c.save.new.self
-    told.opened.works told.opened.contents told.opened.opened c.open.ensures.writes.cause.later c.open.ensures.writes.others save.writes.others c.args.label.now c.save.result save.event.saved save.event.looked save.event.met_damage (λ refused works is. (save.refuses.refused refused works is).0) save.damage.undamaged
+    told.opened.works told.opened.parts told.opened.opened c.open.ensures.writes.cause.later c.open.ensures.writes.others save.writes.others c.args.label.now c.save.result save.event.saved save.event.looked save.event.met_damage (λ refused works is. (save.refuses.refused refused works is).0) save.damage.undamaged
     c.open.result c.open.ensures.moments save.refuses.reason save.failing.fails save.writes.cause c.in_err-id.field-0.0 c.in_err-id.was)
 
 pub returns-in_err-id-clause-refused : goal.returns-in_err-id-clause-refused
@@ -44,7 +44,7 @@ returns-in_err-id-clause-refused g c =
     let p = err_from_is_err_and c.from_residual-in_err-id.result c.from_residual-in_err-id.ensures.1 in
     rw (p.1, p.2)
     (unsaved_refused old mid new c.in_ok-recorder.recorder c.save.new.self
-    told.opened.works told.opened.contents told.opened.opened c.open.ensures.writes.cause.later c.open.ensures.writes.others save.writes.others c.args.label.now c.save.result save.event.saved save.event.looked save.event.met_damage (λ refused works is. (save.refuses.refused refused works is).0) save.damage.undamaged
+    told.opened.works told.opened.parts told.opened.opened c.open.ensures.writes.cause.later c.open.ensures.writes.others save.writes.others c.args.label.now c.save.result save.event.saved save.event.looked save.event.met_damage (λ refused works is. (save.refuses.refused refused works is).0) save.damage.undamaged
     c.open.result c.open.ensures.moments save.refuses.reason save.failing.fails save.writes.cause c.in_err-id.field-0.0 c.in_err-id.was)
 
 pub returns-clause-media : goal.returns-clause-media
@@ -55,13 +55,12 @@ returns-clause-media g c =
     let mid : MediaSeen g.M.Media.tells g.M.Media.tells_images = record { disk = g.M.Media.disk c.open.new.media; faults = g.M.Media.faults c.open.new.media; bytes_read = g.M.Media.bytes_read c.open.new.media } in
     let new : MediaSeen g.M.Media.tells g.M.Media.tells_images = record { disk = g.M.Media.disk c.save.new.media; faults = g.M.Media.faults c.save.new.media; bytes_read = g.M.Media.bytes_read c.save.new.media } in
     saved_ends old mid new c.in_ok-recorder.recorder c.save.new.self
-    told.opened.works told.opened.contents told.opened.opened c.open.ensures.writes.cause.later c.open.ensures.writes.others save.writes.others c.args.label.now c.save.result save.event.saved save.event.looked save.event.met_damage (λ refused works is. (save.refuses.refused refused works is).0) save.damage.undamaged
+    told.opened.works told.opened.parts told.opened.opened c.open.ensures.writes.cause.later c.open.ensures.writes.others save.writes.others c.args.label.now c.save.result save.event.saved save.event.looked save.event.met_damage (λ refused works is. (save.refuses.refused refused works is).0) save.damage.undamaged
     c.open.result c.open.ensures.moments _ c.in_ok-id.id c.print_id.ensures.done c.in_ok-id.was save.failing.works
 
 pub returns-clause-printed : goal.returns-clause-printed
 returns-clause-printed g c = λ x t holds.
-    let read = c.in_ok-recorder.ensures.opened.contents t in
-    let table = read.5 ∙ c.law_of_contents.ensures.table (g.M.Media.disk c.args.world.now.media).reads read.1 x read.2 holds in
+    let table = (c.in_ok-recorder.ensures.opened.contents x t holds).1.table in
     let was : OutputSeen = record { taken = g.O.Sink.taken c.args.world.now.output; faults = g.O.Sink.faults c.args.world.now.output } in
     let next : OutputSeen = record { taken = g.O.Sink.taken c.print_id.new.output; faults = g.O.Sink.faults c.print_id.new.output } in
     prints_as (ending c.print_id.result) (id_line (Some c.in_ok-id.id)) (save_text x.table) was next

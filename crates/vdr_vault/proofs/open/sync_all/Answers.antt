@@ -15,5 +15,6 @@ loop-m-preserved g c = record {
   reads = search rules;
   moments = search rules;
   sizes = search rules;
+  counts = search rules;
   later = search rules;
 }

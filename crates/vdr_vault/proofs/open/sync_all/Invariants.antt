@@ -10,5 +10,6 @@ invariant-loop-m g l = record {
   reads : g.M.Media.tells → (g.M.Media.disk l.media).reads ≡ (g.M.Media.disk l.fn.media).reads;
   moments : LeavesAll (g.M.Media.disk l.fn.media) (g.M.Media.disk l.media);
   sizes : (g.M.Media.disk l.media).sizes ≡ (g.M.Media.disk l.fn.media).sizes;
+  counts : g.M.Media.bytes_read l.media ≡ g.M.Media.bytes_read l.fn.media;
   later : NoneFalls (g.M.Media.faults l.fn.media) (g.M.Media.faults l.media);
 }

@@ -2,7 +2,7 @@ use Rattle.std.proofs.Common.{rules, inr, []}
 use Rattle.std.proofs.lemmas.Result.{err_from_is_err_and}
 use Rattle.vdr_opening.specs.Media.{opening_of}
 use Rattle.vdr_vault.specs.Vaults.{ShowsHistory}
-use Rattle.vdr_recorder.proofs.Opened.{has_opened, meet_as, opens_as, same_refused, synced_where}
+use Rattle.vdr_recorder.proofs.Opened.{has_opened, opens_as, same_refused, synced_where}
 use Rattle.vdr_recorder.proofs.recorder.Recorder.open.Goals as goal
 
 pub returns-in_err-vault-clause-moments : goal.returns-in_err-vault-clause-moments
@@ -35,8 +35,7 @@ pub returns-clause-opened : goal.returns-clause-opened
 returns-clause-opened g c = record {
   opened = λ x told holds regular.
       let opened = c.in_ok-vault.ensures.opened.opened x told holds regular in
-      let read = c.in_ok-vault.ensures.opened.contents told in
-      let meet = meet_as read.1 x (c.law_of_contents.ensures.placed (g.M.Media.disk c.args.media.now).reads read.1 x read.2 holds) read.3 in
+      let meet = (c.in_ok-vault.ensures.opened.contents x told holds).0 in
       let on = synced_where (g.M.Media.disk c.args.media.now) (g.M.Media.disk c.open.new.media) c.open.result c.in_ok-vault.vault (ShowsHistory (opening_of x) []) c.in_ok-vault.was
       (c.open.ensures.moments x told holds meet regular) in (
         on.synced,
@@ -44,8 +43,8 @@ returns-clause-opened g c = record {
         on.before_exit,
         has_opened (opening_of x) c.in_ok-vault.vault opened.0 (g.M.Media.disk c.open.new.media) opened.1 on.synced c.in-Ok.maker on.before_exit on.since,
       );
+  parts = search rules;
   contents = search rules;
-  place = search rules;
   readable = search rules;
   works = search rules;
   closed = search rules;

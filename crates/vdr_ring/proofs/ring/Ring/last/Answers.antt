@@ -10,3 +10,7 @@ returns-clause-kept c = rw (sym c.self.view_is)
 pub returns-clause-last : goal.returns-clause-last
 returns-clause-last c = rw (sym c.self.view_is) (λ placed tells.
     mapped _ c.ending.result c.map.result _ c.map.ensures.cases (λ x y q. search rules) ∙ last_told placed c.ending.result (c.ending.ensures ∙ tells.ending))
+
+pub returns-clause-known : goal.returns-clause-known
+returns-clause-known c = rw (sym c.self.view_is) (λ known tells.
+    mapped _ c.ending.result c.map.result _ c.map.ensures.cases (λ x y q. search rules) ∙ last_told known c.ending.result (c.ending.ensures ∙ tells.ending))

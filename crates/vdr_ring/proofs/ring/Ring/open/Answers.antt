@@ -8,10 +8,11 @@ use Rattle.vdr_outside.specs.Disk.{content}
 use Rattle.vdr_config.specs.Sizes.{sizes_of}
 use Rattle.vdr_directory.specs.declared.entry.Entry.{Entry}
 use Rattle.vdr_directory.specs.Entries.{Describe}
-use Rattle.vdr_directory.specs.Fronts.{Finds}
+use Rattle.vdr_directory.specs.Holds.{HoldsPlaced}
 use Rattle.vdr_directory.specs.Opening.{slot_bytes}
 use Rattle.vdr_directory.proofs.Reordering.{slots_below}
-use Rattle.vdr_ring.proofs.Shaping.{four_slots, refused_by, ring_reads}
+use Rattle.vdr_ring.proofs.Newest.{held_is}
+use Rattle.vdr_ring.proofs.Shaping.{counts_by, four_slots, holds_by, refused_by, ring_knows, ring_reads}
 use Rattle.vdr_ring.proofs.ring.Ring.open.Goals as goal
 
 pub returns-in_err-opened-clause-damaged : goal.returns-in_err-opened-clause-damaged
@@ -38,14 +39,37 @@ invariant_of-result g c = (
 )
 
 pub returns-clause-reads : goal.returns-clause-reads
-returns-clause-reads g c told durable =
+returns-clause-reads g c told durable placed holds order =
     let written = with_items_is c.in-Ok.buffer c.read_segments.new.buffer (c.read_segments.auto.buffer ∙ c.deref_mut.ensures.len) in
     let held = λ (j : ℕ) (at : c.in_ok-opened.loaded ≡ Some j).
     subst (λ (m : ℕ). (with_items c.in-Ok.buffer c.read_segments.new.buffer).items ≡ slot_bytes c.area_of-area.result.segment j (content (g.M.Media.disk c.args.media.now).reads m))
     c.area_of-area.ensures.medium (written ∙ c.in_ok-opened.ensures.held told j at) in
-    ring_reads (g.M.Media.disk c.args.media.now) (g.M.Media.disk c.read_segments.new.media) _ _ _ c.area_of-area.ensures.medium held c.read_segments.ensures.unchanged durable told
-    (subst (λ (m : ℕ). Finds c.area_of-area.result.segment c.area_of-area.result.slots (content (g.M.Media.disk c.args.media.now).reads m) c.in_ok-opened.opened.items) c.area_of-area.ensures.medium (c.in_ok-opened.ensures.found told))
-    (λ placed bytes holds describe.
-    c.in-Ok-of.ensures.told c.area_of-area.result.segment placed bytes (let high = c.area_of-area.result.segment_high in omega (arith, high)) holds
+    let a = c.area_of-area.ensures in
+    let slots = a.slots ∙ ap (λ (n : ℕ). slots_in (sizes_of c.args.config.now) n) c.size.ensures in
+    let there = holds_by _ _ _ _ _ _ (g.M.Media.disk c.args.media.now).reads placed a.segment slots a.medium holds in
+    let describe = c.in_ok-opened.ensures.found told placed there order in
+    ring_reads (g.M.Media.disk c.args.media.now) (g.M.Media.disk c.read_segments.new.media) _ _ a.medium held c.read_segments.ensures.unchanged durable told placed
+    (subst (λ (m : ℕ). HoldsPlaced c.area_of-area.result.segment c.area_of-area.result.slots placed (content (g.M.Media.disk c.args.media.now).reads m)) a.medium there) order
+    (c.in-Ok-of.ensures.told c.area_of-area.result.segment placed _ (let high = c.area_of-area.result.segment_high in omega (arith, high)) there order
     (subst (λ (es : List Entry). Describe placed es) (sym c.deref.ensures.value) describe))
-    (λ placed describe. c.in-Ok-bare_slots.ensures placed (subst (λ (es : List Entry). Describe placed es) (sym c.deref-2.ensures.value) describe))
+    (c.in-Ok-bare_slots.ensures placed order (subst (λ (es : List Entry). Describe placed es) (sym c.deref-2.ensures.value) describe))
+
+pub returns-clause-parts : goal.returns-clause-parts
+returns-clause-parts g c told =
+    let found = c.in_ok-opened.ensures.parts told in
+    let written = with_items_is c.in-Ok.buffer c.read_segments.new.buffer (c.read_segments.auto.buffer ∙ c.deref_mut.ensures.len) in
+    let high = c.area_of-area.result.segment_high in
+    let tells = c.in-Ok-of.ensures.known c.area_of-area.result.segment found.known _ (omega (arith, high)) found.are found.order
+    (subst (λ (es : List Entry). Describe found.known es) (sym c.deref.ensures.value) found.describe) in (
+      found.known,
+      ring_knows (g.M.Media.disk c.args.media.now) (g.M.Media.disk c.read_segments.new.media) _ (λ j at. written ∙ c.in_ok-opened.ensures.held told j at) c.read_segments.ensures.unchanged told found.known found.are found.order tells,
+      counts_by _ _ _ _ _ _ found.known c.in_ok-opened.opened.items c.area_of-area.ensures.medium found.describe c.in_ok-opened.ensures.counts,
+    )
+
+pub returns-clause-held : goal.returns-clause-held
+returns-clause-held g c told =
+    let found = c.in_ok-opened.ensures.parts told in
+    let high = c.area_of-area.result.segment_high in
+    let tells = c.in-Ok-of.ensures.known c.area_of-area.result.segment found.known _ (omega (arith, high)) found.are found.order
+    (subst (λ (es : List Entry). Describe found.known es) (sym c.deref.ensures.value) found.describe) in
+    held_is c.in_ok-opened.opened.items c.in_ok-opened.loaded (c.in_ok-opened.ensures.latest told) _ found.known _ tells.index found.order found.describe

@@ -1,22 +1,23 @@
-use Rattle.std.proofs.Common.{rules, ◌≡◌, ℕ, List, [], All, inl, inr, sym, subst, ◌∙◌}
+use Rattle.std.proofs.Common.{rules, ℕ, List, [], All, inl, inr, sym, subst, ◌∙◌}
 use Rattle.std.proofs.lemmas.Result.{IfOk-weaker}
-use Rattle.std.specs.Prelude.{option_map}
 use Rattle.vdr_durability.specs.Readings.{AreLevel, EndsMeet}
 use Rattle.vdr_outside.specs.Disk.{Durable, Image}
 use Rattle.vdr_outside.proofs.Moments.{moments_and_reads, moments_weaken}
 use Rattle.vdr_media.specs.Formatted.{IsFormatted, IsUnformatted}
 use Rattle.vdr_directory.specs.Sequence.{Placed}
-use Rattle.vdr_opening.specs.Media.{members, Contents, HoldsContents, opening_of, reading_of}
+use Rattle.vdr_opening.specs.Media.{members, Contents, HoldsContents, HoldsParts, opening_of, reading_of}
 use Rattle.vdr_opening.specs.Refusals.{IsRefused}
-use Rattle.vdr_vault.specs.Vaults.{IsReadable, VaultState, ShowsHistory, Stands, of_stamp}
+use Rattle.vdr_vault.specs.Vaults.{IsReadable, VaultState, ShowsHistory, Stands}
+use Rattle.vdr_vault.specs.Openings.{IsToldBy}
 use Rattle.vdr_vault.specs.Regularity.{AreSound}
+use Rattle.vdr_opening.specs.Costs.{ReadsToOpen}
+use Rattle.vdr_vault.proofs.OpenCosts.{reads_since}
 use Rattle.vdr_vault.proofs.OpenMoments.{cause_after, goes_on_synced, within_synced}
 use Rattle.vdr_vault.proofs.vault.Vault.open.Goals as goal
 
--- what the media with this image hold, and the vault tells of it
-abbrev HasContents : Image → VaultState → Type 0
-HasContents image vault = IsFormatted image × (x : Contents) × HoldsContents image x × EndsMeet members (reading_of x) × (vault.config ≡ x.config) × (vault.table ≡ x.table)
-    × (vault.last ≡ option_map of_stamp (opening_of x).last)
+-- what was read of the media with this image, and the vault tells of it
+abbrev HasParts : Image → VaultState → Type 0
+HasParts image vault = IsFormatted image × (x : Contents) × HoldsParts image x × EndsMeet members (reading_of x) × IsToldBy x vault
 
 pub returns-clause-moments : goal.returns-clause-moments
 returns-clause-moments g c x told holds meet regular = inr (goes_on_synced (ShowsHistory (opening_of x) []) (g.M.Media.disk c.args.media.now) (g.M.Media.disk c.sync_all.new.media) (g.M.Media.disk c.open_synced.new.media)
@@ -50,17 +51,17 @@ returns-clause-opened g c = record {
       → (placed : ℕ → List Placed) × Stands (opening_of x) [] vault placed (g.M.Media.disk c.open_synced.new.media))
       (λ vault h x told holds regular. h x told c.in-Ok.ensures.durable (subst (λ (i : Image). HoldsContents i x) (sym (c.sync_all.ensures.reads told)) holds) regular)
       c.open_synced.ensures.opened;
+  parts = IfOk-weaker c.open_synced.result
+      (λ vault. g.M.Media.tells → HasParts (g.M.Media.disk c.sync_all.new.media).reads vault)
+      (λ vault. g.M.Media.tells → HasParts (g.M.Media.disk c.args.media.now).reads vault)
+      (λ vault h told. subst (λ (i : Image). HasParts i vault) (c.sync_all.ensures.reads told) (h told))
+      c.open_synced.ensures.parts;
   contents = IfOk-weaker c.open_synced.result
-      (λ vault. g.M.Media.tells → All (λ m. Durable m (g.M.Media.disk c.sync_all.new.media)) members → HasContents (g.M.Media.disk c.sync_all.new.media).reads vault)
-      (λ vault. g.M.Media.tells → HasContents (g.M.Media.disk c.args.media.now).reads vault)
-      (λ vault h told. subst (λ (i : Image). HasContents i vault) (c.sync_all.ensures.reads told) (h told c.in-Ok.ensures.durable))
-      c.open_synced.ensures.contents;
-  place = IfOk-weaker c.open_synced.result
       (λ vault. (x : Contents) → g.M.Media.tells → All (λ m. Durable m (g.M.Media.disk c.sync_all.new.media)) members → HoldsContents (g.M.Media.disk c.sync_all.new.media).reads x
-      → vault.next_place ≡ (opening_of x).next_place)
-      (λ vault. (x : Contents) → g.M.Media.tells → HoldsContents (g.M.Media.disk c.args.media.now).reads x → vault.next_place ≡ (opening_of x).next_place)
+      → EndsMeet members (reading_of x) × IsToldBy x vault)
+      (λ vault. (x : Contents) → g.M.Media.tells → HoldsContents (g.M.Media.disk c.args.media.now).reads x → EndsMeet members (reading_of x) × IsToldBy x vault)
       (λ vault h x told holds. h x told c.in-Ok.ensures.durable (subst (λ (i : Image). HoldsContents i x) (sym (c.sync_all.ensures.reads told)) holds))
-      c.open_synced.ensures.place;
+      c.open_synced.ensures.contents;
   readable = IfOk-weaker c.open_synced.result
       (λ vault. (x : Contents) → g.M.Media.tells → All (λ m. Durable m (g.M.Media.disk c.sync_all.new.media)) members → HoldsContents (g.M.Media.disk c.sync_all.new.media).reads x
       → AreLevel members (reading_of x) → IsReadable (opening_of x) [] vault x.placed (g.M.Media.disk c.open_synced.new.media))
@@ -87,3 +88,12 @@ returns-clause-writes g c = record {
   sizes = search rules;
   cause = cause_after _ _ _ _ c.sync_all.ensures.cause.later c.open_synced.ensures.cause;
 }
+
+pub returns-clause-bytes : goal.returns-clause-bytes
+returns-clause-bytes g c = IfOk-weaker c.open_synced.result
+    (λ vault. (x : Contents) → g.M.Media.tells → HoldsParts (g.M.Media.disk c.sync_all.new.media).reads x
+    → ReadsToOpen x (g.M.Media.disk c.sync_all.new.media).sizes (g.M.Media.bytes_read c.sync_all.new.media) (g.M.Media.bytes_read c.open_synced.new.media))
+    (λ vault. (x : Contents) → g.M.Media.tells → HoldsParts (g.M.Media.disk c.args.media.now).reads x
+    → ReadsToOpen x (g.M.Media.disk c.args.media.now).sizes (g.M.Media.bytes_read c.args.media.now) (g.M.Media.bytes_read c.open_synced.new.media))
+    (λ vault h x told holds. reads_since x _ _ _ _ _ c.sync_all.ensures.sizes c.sync_all.ensures.counts (h x told (subst (λ (i : Image). HoldsParts i x) (sym (c.sync_all.ensures.reads told)) holds)))
+    c.open_synced.ensures.bytes

@@ -1,9 +1,11 @@
-use Rattle.std.proofs.Common.{refl, sym, ◌∙◌, arith}
+use Rattle.std.proofs.Common.{ℕ, List, refl, sym, subst, ◌∙◌, arith}
 use Rattle.std.proofs.lemmas.Result.{err_from_is_err_and}
 use Rattle.vdr_terms.proofs.Results.{same_err}
 use Rattle.vdr_vault.proofs.Members.{ring_there}
 use Rattle.vdr_vault.proofs.OpenMoments.{fault_unless_ok, no_fault, goes_on, never_both, opened_to_read, opening_meanwhile, read_on, readable_as, reading_meanwhile, same_beside}
-use Rattle.vdr_vault.proofs.OpenContents.{level_lacks_none, newest_opened, place_opened}
+use Rattle.vdr_vault.proofs.OpenCosts.{reads_as}
+use Rattle.vdr_opening.specs.Costs.{ReadsToOpen}
+use Rattle.vdr_vault.proofs.OpenContents.{level_lacks_none, newest_opened, newest_read, place_opened, place_read}
 use Rattle.vdr_media.proofs.Two.{second_of}
 use Rattle.vdr_outside.proofs.Counts.{none_falls_join}
 use Rattle.vdr_vault.proofs.vault.Vault.open_synced.Goals as goal
@@ -18,8 +20,8 @@ returns-in_err-config-clause-damaged g c =
 
 pub returns-in_default-clause-meanwhile : goal.returns-in_default-clause-meanwhile
 returns-in_default-clause-meanwhile g c x told durable holds =
-    let was = rw (sym c.config.view_is) at c.in_ok-config.ensures.opened told durable in
-    let o = read_on _ c.deref.result.now x was.0 (g.M.Media.disk c.args.media.now) (g.M.Media.disk c.read_media.new.media) told c.read_media.ensures.unchanged c.deref.ensures.value holds was.1 in
+    let was = rw (sym c.config.view_is) at c.in_ok-config.ensures.opened told durable x holds in
+    let o = read_on _ c.deref.result.now x (g.M.Media.disk c.read_media.new.media) c.deref.ensures.value was in
     let shape = rw (sym c.config.view_is) at c.in_ok-config.ensures.shape in
     let ends = rw (c.index.ensures ∙ ring_there shape.rings 0 (omega arith) _) at c.ending-next_place.ensures in
     let behind = rw (sym c.deref.ensures.value) at shape.behind in
@@ -44,8 +46,8 @@ returns-clause-cause g c = no_fault _ _ _ (none_falls_join _ _ _ c.read_media.en
 
 pub returns-clause-meanwhile : goal.returns-clause-meanwhile
 returns-clause-meanwhile g c x told durable holds =
-    let was = rw (sym c.config.view_is) at c.in_ok-config.ensures.opened told durable in
-    let o = read_on _ c.deref.result.now x was.0 (g.M.Media.disk c.args.media.now) (g.M.Media.disk c.read_media.new.media) told c.read_media.ensures.unchanged c.deref.ensures.value holds was.1 in
+    let was = rw (sym c.config.view_is) at c.in_ok-config.ensures.opened told durable x holds in
+    let o = read_on _ c.deref.result.now x (g.M.Media.disk c.read_media.new.media) c.deref.ensures.value was in
     let shape = rw (sym c.config.view_is) at c.in_ok-config.ensures.shape in
     let ends = rw (c.index.ensures ∙ ring_there shape.rings 0 (omega arith) _) at c.ending-next_place.ensures in
     let behind = rw (sym c.deref.ensures.value) at shape.behind in
@@ -55,43 +57,61 @@ returns-clause-meanwhile g c x told durable holds =
 
 pub returns-clause-opened : goal.returns-clause-opened
 returns-clause-opened g c x told durable holds sound =
-    let was = rw (sym c.config.view_is) at c.in_ok-config.ensures.opened told durable in
-    let o = read_on _ c.deref.result.now x was.0 (g.M.Media.disk c.args.media.now) (g.M.Media.disk c.read_media.new.media) told c.read_media.ensures.unchanged c.deref.ensures.value holds was.1 in
+    let was = rw (sym c.config.view_is) at c.in_ok-config.ensures.opened told durable x holds in
+    let o = read_on _ c.deref.result.now x (g.M.Media.disk c.read_media.new.media) c.deref.ensures.value was in
     let shape = rw (sym c.config.view_is) at c.in_ok-config.ensures.shape in
     let ends = rw (c.index.ensures ∙ ring_there shape.rings 0 (omega arith) _) at c.ending-next_place.ensures in
     (c.in-Ok.ensures.reconciled x told o sound (goes_on x _ _ _ (g.M.Media.disk c.read_media.new.media) told o ends.next_place ends.last)).done
 
-pub returns-clause-contents : goal.returns-clause-contents
-returns-clause-contents g c told durable =
-    let was = rw (sym c.config.view_is) at c.in_ok-config.ensures.opened told durable in
+pub returns-clause-parts : goal.returns-clause-parts
+returns-clause-parts g c told =
+    let was = rw (sym c.config.view_is) at c.in_ok-config.ensures.parts told in
     let shape = rw (sym c.config.view_is) at c.in_ok-config.ensures.shape in
     let ends = rw (c.index.ensures ∙ ring_there shape.rings 0 (omega arith) _) at c.ending-next_place.ensures in
-    let h = rw (c.read_media.ensures.unchanged.reads told) at was.1.holds in
-    let first = was.1.rings 0 0 (omega arith) in (
+    let first = was.1.rings 0 0 (omega arith) in
+    let h = rw (c.read_media.ensures.unchanged.reads told) at was.1.holds in (
       c.in_ok-config.ensures.formatted told,
       was.0,
       h,
       was.1.meet,
-      c.reconcile.ensures.config ∙ was.1.config,
-      c.reconcile.ensures.table ∙ was.1.table,
-      c.reconcile.ensures.last ∙ ends.last (was.0.placed 0) first.directory ∙ newest_opened was.0 first.order,
+      record {
+        config = c.reconcile.ensures.config ∙ was.1.config;
+        table = c.reconcile.ensures.table ∙ was.1.table;
+        place = c.reconcile.ensures.place ∙ ends.next_known (was.0.placed 0) _ first.directory (first.are told) ∙ place_read was.0 (g.M.Media.disk c.args.media.now).reads h;
+        last = c.reconcile.ensures.last ∙ ends.known (was.0.placed 0) first.directory ∙ newest_read was.0 (g.M.Media.disk c.args.media.now).reads h;
+      },
     )
 
-pub returns-clause-place : goal.returns-clause-place
-returns-clause-place g c = λ x told durable holds.
-    let was = rw (sym c.config.view_is) at c.in_ok-config.ensures.opened told durable in
-    let o = read_on _ c.deref.result.now x was.0 (g.M.Media.disk c.args.media.now) (g.M.Media.disk c.read_media.new.media) told c.read_media.ensures.unchanged c.deref.ensures.value holds was.1 in
+pub returns-clause-contents : goal.returns-clause-contents
+returns-clause-contents g c x told durable holds =
+    let was = rw (sym c.config.view_is) at c.in_ok-config.ensures.opened told durable x holds in
     let shape = rw (sym c.config.view_is) at c.in_ok-config.ensures.shape in
     let ends = rw (c.index.ensures ∙ ring_there shape.rings 0 (omega arith) _) at c.ending-next_place.ensures in
-    let first = o.rings 0 0 (omega arith) in
-    c.reconcile.ensures.place ∙ ends.next_place (x.placed 0) _ first.directory (first.settled.reads told) ∙ place_opened x first.order
+    let first = was.rings 0 0 (omega arith) in (
+      was.meet,
+      record {
+        config = c.reconcile.ensures.config ∙ was.config;
+        table = c.reconcile.ensures.table ∙ was.table;
+        place = c.reconcile.ensures.place ∙ ends.next_place (x.placed 0) _ first.directory (first.settled.reads told) ∙ place_opened x first.order;
+        last = c.reconcile.ensures.last ∙ ends.last (x.placed 0) first.directory ∙ newest_opened x first.order;
+      },
+    )
 
 pub returns-clause-readable : goal.returns-clause-readable
 returns-clause-readable g c = λ x told durable holds level.
-    let was = rw (sym c.config.view_is) at c.in_ok-config.ensures.opened told durable in
-    let o = read_on _ c.deref.result.now x was.0 (g.M.Media.disk c.args.media.now) (g.M.Media.disk c.read_media.new.media) told c.read_media.ensures.unchanged c.deref.ensures.value holds was.1 in
+    let was = rw (sym c.config.view_is) at c.in_ok-config.ensures.opened told durable x holds in
+    let o = read_on _ c.deref.result.now x (g.M.Media.disk c.read_media.new.media) c.deref.ensures.value was in
     let shape = rw (sym c.config.view_is) at c.in_ok-config.ensures.shape in
     let behind = rw (sym c.deref.ensures.value) at shape.behind in
     let still = c.reconcile.ensures.level (level_lacks_none _ x (g.M.Media.disk c.read_media.new.media) o behind level) in
     readable_as (λ m. g.M.Media.disk m) x _ c.reconcile.new.self c.read_media.new.media c.reconcile.new.media still.0 still.1
     (opened_to_read x _ _ _ (g.M.Media.disk c.read_media.new.media) o level refl)
+
+pub returns-clause-bytes : goal.returns-clause-bytes
+returns-clause-bytes g c x told holds =
+    let was = rw (sym c.config.view_is) at c.in_ok-config.ensures.parts told in
+    let h = rw (c.read_media.ensures.unchanged.reads told) at was.1.holds in
+    let one = c.law_of_parts.ensures in
+    let placed = one.known (g.M.Media.disk c.args.media.now).reads was.0 x h holds in
+    subst (λ (n : List ℕ). ReadsToOpen x (g.M.Media.disk c.args.media.now).sizes (g.M.Media.bytes_read c.args.media.now) n) (sym c.reconcile.ensures.counts)
+    (reads_as was.0 x _ _ _ (one.config (g.M.Media.disk c.args.media.now).reads was.0 x h holds).0 placed.0 placed.1 was.2)
