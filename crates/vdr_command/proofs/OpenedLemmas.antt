@@ -106,7 +106,7 @@ module _ {tells tells_images : Type 0} where
   missing_still disk old mid new h same = subst (λ a. AddsMissing old (disk a)) (sym same) h
 
   -- The media were not opened.
-  pub refused_ends : {T : Type 0} (Can : Contents → Type 0) (Met : Type 0) (MayBe : List Event → Type 0) (old new : MediaSeen tells tells_images)
+  pub refused_ends : {T : Type 0} (Can : Contents → Type 0) (Met : (m offset : ℕ) → Type 0) (MayBe : List Event → Type 0) (old new : MediaSeen tells tells_images)
       (result : Result T OpenRefused) (refused : OpenRefused) → MayBe [] → result ≡ Err refused
       → (result ≡ Err openings.NotFormatted → tells → IsUnformatted old.disk.reads)
       → ((m offset : ℕ) → result ≡ Err (openings.Damaged m offset) → tells → IsFormatted old.disk.reads × IsRefused old.disk.reads m offset)
@@ -160,7 +160,7 @@ module _ {tells tells_images : Type 0} where
   }
 
   -- The work was done.
-  pub worked_ends : (Can : Contents → Type 0) (Met : Type 0) (MayBe : List Event → Type 0) (old new : MediaSeen tells tells_images) (status : Status) → IsWorkDone status
+  pub worked_ends : (Can : Contents → Type 0) (Met : (m offset : ℕ) → Type 0) (MayBe : List Event → Type 0) (old new : MediaSeen tells tells_images) (status : Status) → IsWorkDone status
       → (tells → IsOpenableWith old.disk.reads Can) → (tells → SameBut 1 old.disk.reads new.disk.reads)
       → ((x : Contents) → tells → HoldsContents old.disk.reads x → EndsMeet members (reading_of x) → WasRecorded x → KeepsContents x MayBe status old.disk new.disk)
       → MediaEnds Can Met MayBe old new status

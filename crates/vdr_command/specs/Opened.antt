@@ -9,7 +9,7 @@ use Rattle.vdr_opening.specs.Media.{members, Contents, HoldsContents, HoldsParts
 use Rattle.vdr_opening.specs.Refusals.{IsRefused}
 use Rattle.vdr_vault.specs.Openings.{LeavesAll, WritesMissing}
 use Rattle.vdr_vault.specs.Regularity.{AreSound}
-use Rattle.vdr_vault.specs.Vaults.{of_stamp}
+use Rattle.vdr_vault.specs.Vaults.{IsDamagedOn, of_stamp}
 use Rattle.vdr_headline.specs.Headline.{PlaysBack, RecordingHeadline}
 use Rattle.vdr_command.specs.Endings.{IsWorkDone}
 use Rattle.vdr_command.specs.Outside.{MediaFailed, MediaSeen, OutputSeen, Prints, PrintsFront}
@@ -87,10 +87,12 @@ module _ {tells tells_images : Type 0} where
   abbrev pub IsRefusedAt : Disk tells tells_images → Disk tells tells_images → (m offset : ℕ) → Type 0
   IsRefusedAt old new m offset = IsUntouched old new × (tells → IsFormatted old.reads × IsRefused old.reads m offset)
 
-  -- Media that can be opened were answered as damaged nevertheless, where a part was read that opening leaves unread: they are not
-  -- legible, or what they hold is not sound.
-  abbrev pub MetUnsound : Disk tells tells_images → (Can : Contents → Type 0) → Type 0
-  MetUnsound old Can = tells → IsOpenableWith old.reads Can × ((x : Contents) → HoldsContents old.reads x → WasRecorded x → ⊥)
+  -- Media that can be opened were answered as damaged nevertheless, where a slot was read that opening leaves unread: that is not
+  -- intact there as the media read at the exit, or, at offset 0, not all that the command needs is on them. They are not legible, or
+  -- what they hold is not sound.
+  abbrev pub MetUnsound : (old new : Disk tells tells_images) → (Can : Contents → Type 0) → (m offset : ℕ) → Type 0
+  MetUnsound old new Can m offset =
+      tells → IsOpenableWith old.reads (λ x. Can x × ((offset ≡ 0) ⊎ IsDamagedOn x.config new m offset)) × ((x : Contents) → HoldsContents old.reads x → WasRecorded x → ⊥)
 
   -- At most the batch that the long-term medium lacks is written, and where both media end with the last one nothing is, whether
   -- they are sound or not.
@@ -111,10 +113,10 @@ module _ {tells tells_images : Type 0} where
 
   -- What is said where media are opened for work that can be done on contents of which Can holds, by what they read as at entry.
   -- Met is what else may be answered as damage.
-  pub record MediaEnds (Can : Contents → Type 0) (Met : Type 0) (MayBe : List Event → Type 0) (old new : MediaSeen tells tells_images) (status : Status) : Type 0 where
+  pub record MediaEnds (Can : Contents → Type 0) (Met : (m offset : ℕ) → Type 0) (MayBe : List Event → Type 0) (old new : MediaSeen tells tells_images) (status : Status) : Type 0 where
     -- each refusal comes only in its case
     pub unformatted : status ≡ Unformatted → IsUntouched old.disk new.disk × (tells → IsUnformatted old.disk.reads)
-    pub damaged : IfDamaged status (λ m offset. IsRefusedAt old.disk new.disk m offset ⊎ Met)
+    pub damaged : IfDamaged status (λ m offset. IsRefusedAt old.disk new.disk m offset ⊎ Met m offset)
     pub fault : status ≡ MediaFault → MediaFailed old new
     pub openable : IsWorkDone status → tells → IsOpenableWith old.disk.reads Can
     -- nothing but the long-term medium is written

@@ -4,6 +4,7 @@ use Rattle.vdr_outside.specs.Disk.{Disk, Image, Unchanged, content}
 use Rattle.vdr_outside.proofs.Counts.{none_fell, none_falls_join}
 use Rattle.vdr_outside.proofs.Moments.{unchanged_join}
 use Rattle.vdr_ring.specs.Rings.{RingState, HasMedium}
+use Rattle.vdr_ring.specs.Damage.{IsIntact}
 use Rattle.vdr_directory.specs.Opening.{slot_bytes}
 use Rattle.vdr_cursor.specs.Walks.{CountsOn, HasRead, slots_read}
 use Rattle.vdr_ring.proofs.Still.{reads_still}
@@ -26,13 +27,14 @@ module _ {tells tells_images : Type 0} where
   unchanged_first disk = record { sizes = refl; reads = λ told. refl; clock = refl; since = λ t i. (λ h. h, λ h. h) }
 
   pub read_first : (ring : RingState) (disk : Disk tells tells_images) → HasRead ring ring disk disk
-  read_first ring disk = record { ring = refl; unchanged = unchanged_first disk; bytes = λ h. h; reads = λ placed h. h }
+  read_first ring disk = record { ring = refl; unchanged = unchanged_first disk; bytes = λ h. h; judged = λ h. h; reads = λ placed h. h }
 
   pub read_join : (a b c : RingState) (d e f : Disk tells tells_images) → HasRead a b d e → HasRead b c e f → HasRead a c d f
   read_join a b c d e f first then = record {
     ring = same_but_buffer a b c first.ring then.ring;
     unchanged = unchanged_join d e f first.unchanged then.unchanged;
     bytes = λ h. then.bytes (first.bytes h);
+    judged = λ h. then.judged (first.judged h);
     reads = λ placed h. then.reads placed (first.reads placed h);
   }
 
@@ -54,5 +56,7 @@ module _ {tells tells_images : Type 0} where
     ring = refl;
     unchanged = same;
     bytes = λ held slot at told. subst (λ (i : Image). ring.buffer ≡ slot_bytes ring.segment slot (content i ring.medium)) (sym (same.reads told)) (held slot at told);
+    judged = λ held slot at told.
+        subst (λ (i : Image). (ring.buffer ≡ slot_bytes ring.segment slot (content i ring.medium)) × IsIntact (slot_bytes ring.segment slot (content i ring.medium))) (sym (same.reads told)) (held slot at told);
     reads = λ placed h. reads_still ring placed before now same h;
   }

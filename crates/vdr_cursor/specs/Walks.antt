@@ -1,13 +1,15 @@
 -- A cursor over the records of a medium, segment by segment, and what is ahead of it.
-use Rattle.std.specs.Prelude.{◌≡◌, ◌≢◌, ◌<◌, ◌-◌, ◌^◌, ℕ, suc, Bool, true, false, List, [], ◌∷◌, ◌++◌, get_or, option_map, Option, Some, None, IfSome, Result, Ok, Err}
+use Rattle.std.specs.Prelude.{◌≡◌, ◌≢◌, ◌<◌, ◌+◌, ◌-◌, ◌*◌, ◌^◌, ℕ, suc, Bool, true, false, List, [], ◌∷◌, ◌++◌, get_or, option_map, Option, Some, None, IfSome, Result, Ok, Err}
 use Rattle.vdr_terms.specs.Records.{Record}
 use Rattle.vdr_terms.specs.Queries.{Query, Span}
 use Rattle.vdr_playback.specs.Playback.{found}
 use Rattle.vdr_outside.specs.Causes.{NoneFalls}
-use Rattle.vdr_outside.specs.Disk.{Disk, Unchanged}
+use Rattle.vdr_outside.specs.Disk.{Disk, Unchanged, content}
 use Rattle.vdr_directory.specs.Sequence.{Placed, seq_of, all_records}
 use Rattle.vdr_ring.specs.Rings.{RingState, Reads}
-use Rattle.vdr_ring.specs.Visits.{StandsIn, IsLoaded, slot_read}
+use Rattle.vdr_survey.specs.Positions.{front}
+use Rattle.vdr_ring.specs.Damage.{HasDamage}
+use Rattle.vdr_ring.specs.Visits.{HasJudged, IsLoaded, StandsAmong, StandsIn, position_in, slot_read}
 use Rattle.vdr_ring.specs.Visits as visits
 use Rattle.vdr_ring.specs.declared.refused.ReadRefused.{ReadRefused}
 use Rattle.vdr_ring.specs.declared.refused.ReadRefused.TheVariants.{Fault, Damaged}
@@ -17,6 +19,10 @@ use Rattle.vdr_cursor.specs.declared.cursor.Standing.{Standing}
 pub record CursorState : Type 0 where
   pub standing : Option Standing
   pub visit : visits.VisitState
+
+-- A cursor before the first record.
+abbrev pub new_cursor : CursorState
+new_cursor = record { standing = None; visit = record { slot = None; position = front; item = None } }
 
 -- The cursor may step on this ring: its slot is one of the ring's, and it stands rightly in the slot that is loaded.
 pub record MayStep (ring : RingState) (c : CursorState) : Type 0 where
@@ -82,6 +88,15 @@ abbrev pub segments_left : Option Standing → ℕ
 segments_left None = 2 ^ 64
 segments_left (Some s) = 2 ^ 64 - suc s.seq
 
+-- How far a cursor has come in its segment, in bytes of the slot: below 2^24.
+abbrev pub reached_in : Option Standing → visits.VisitState → ℕ
+reached_in None visit = 0
+reached_in (Some s) visit = (position_in s.slot visit).at
+
+-- A bound of the steps to a record that a cursor has left. Each such step lowers it.
+abbrev pub steps_left : CursorState → ℕ
+steps_left c = segments_left c.standing * 2 ^ 24 + (2 ^ 24 - reached_in c.standing c.visit)
+
 -- These are left of what a query selects of its span.
 pub record AreLeft (slots : Slots) (placed : List Placed) (query : Query) (span : Option Span) (c : CursorState) (records : List Record) : Type 0 where
   pub ahead : List Record
@@ -109,4 +124,9 @@ module _ {tells tells_images : Type 0} where
     pub ring : new ≡ record old { buffer = new.buffer; loaded = new.loaded }
     pub unchanged : Unchanged before now
     pub bytes : IsLoaded old before → IsLoaded new now
+    pub judged : HasJudged old before → HasJudged new now
     pub reads : (placed : List Placed) → Reads old placed before → Reads new placed now
+
+  -- Damage that a step from there names is on the ring's medium, and one of its slots is not intact there.
+  abbrev pub NamesDamage : RingState → Disk tells tells_images → visits.VisitState → (m offset : ℕ) → Type 0
+  NamesDamage ring disk from m offset = (m ≡ ring.medium) × (tells → HasJudged ring disk → StandsAmong ring disk from → HasDamage ring.segment ring.slots (content disk.reads ring.medium) offset)

@@ -5,12 +5,12 @@ ghost use Rattle.vdr_directory.specs.Sequence.{Placed};
 ghost use Rattle.vdr_directory.specs.Order.{AreInOrder};
 ghost use Rattle.vdr_directory.specs.Holds.{Tells};
 ghost use Rattle.vdr_ring.specs.Rings.{HasMedium, Reads};
-ghost use Rattle.vdr_ring.specs.Visits.{IsLoaded};
+ghost use Rattle.vdr_ring.specs.Visits.{HasJudged, StandsAmong};
 ghost use Rattle.vdr_ring.specs.declared.refused.ReadRefused.TheVariants.{Fault as AFault, Damaged};
 ghost use Rattle.vdr_entry.specs.Queries.{asked};
 ghost use Rattle.vdr_index.specs.Indexes.{span_as};
 ghost use Rattle.vdr_cursor.specs.Budgets.{Spends, budget};
-ghost use Rattle.vdr_cursor.specs.Walks.{AreLeft, AreLeftBehind, CountsOn, GivesHere, GivesNext, HasRead, MayStep, Slots, segments_left, seq_in, slots_read};
+ghost use Rattle.vdr_cursor.specs.Walks.{AreLeft, AreLeftBehind, CountsOn, GivesHere, GivesNext, HasRead, MayStep, NamesDamage, Slots, segments_left, seq_in, slots_read, steps_left};
 
 use std::marker::Model;
 use vdr_entry::Record;
@@ -86,7 +86,9 @@ impl Cursor {
             → GivesHere records result self.new.visit.item
             (AreLeft (slots_read ring.old (M.disk media.old)) placed (asked selection.now.query) (Some (span_as selection.now.span)) self.new)
             (AreLeftBehind (slots_read ring.old (M.disk media.old)) placed (asked selection.now.query) (Some (span_as selection.now.span)) self.new) }
-        ensures damaged { (m offset : ℕ) → M.tells → IsLoaded ring.old (M.disk media.old) → result ≡ Err (Damaged m offset) → m ≡ ring.old.medium }
+        ensures among { M.tells → HasJudged ring.old (M.disk media.old) → StandsAmong ring.old (M.disk media.old) self.old.visit → StandsAmong ring.old (M.disk media.old) self.new.visit }
+        ensures damaged { (m offset : ℕ) → result ≡ Err (Damaged m offset) → NamesDamage ring.old (M.disk media.old) self.old.visit m offset }
+        ensures onward { result ≡ Ok true → steps_left self.new < steps_left self.old }
         ensures cause { result ≡ Err AFault → Rose (get_or (M.faults media.old) ring.old.medium 0) (get_or (M.faults media.new) ring.old.medium 0) }
     {
         match self.standing {
@@ -114,6 +116,8 @@ impl Cursor {
         ensures item { self.new.visit.item ≡ None }
         ensures spends { budget ring.now (asked selection.now.query) (span_as selection.now.span) self.new.standing ≤ budget ring.now (asked selection.now.query) (span_as selection.now.span) self.old.standing }
         ensures entered { result ≡ true → segments_left self.new.standing < segments_left self.old.standing }
+        ensures front { result ≡ true → self.new.visit.slot ≡ None }
+        ensures stays { result ≡ false → self.new ≡ self.old }
         ensures enters { (slots : Slots) (placed : List Placed) (records : List Entry) → Tells ring.now.slots placed ring.now.directory → AreInOrder placed
             → AreLeftBehind slots placed (asked selection.now.query) (Some (span_as selection.now.span)) self.old records
             → AreLeft slots placed (asked selection.now.query) (Some (span_as selection.now.span)) self.new records × (result ≡ false → records ≡ []) }
@@ -150,7 +154,9 @@ impl Cursor {
             → AreLeft (slots_read ring.old (M.disk media.old)) placed (asked selection.now.query) (Some (span_as selection.now.span)) self.old records
             → GivesNext records result self.new.visit.item
             (AreLeft (slots_read ring.old (M.disk media.old)) placed (asked selection.now.query) (Some (span_as selection.now.span)) self.new) }
-        ensures damaged { (m offset : ℕ) → M.tells → IsLoaded ring.old (M.disk media.old) → result ≡ Err (Damaged m offset) → m ≡ ring.old.medium }
+        ensures among { M.tells → HasJudged ring.old (M.disk media.old) → StandsAmong ring.old (M.disk media.old) self.old.visit → StandsAmong ring.old (M.disk media.old) self.new.visit }
+        ensures damaged { (m offset : ℕ) → result ≡ Err (Damaged m offset) → NamesDamage ring.old (M.disk media.old) self.old.visit m offset }
+        ensures onward { result ≡ Ok true → steps_left self.new < steps_left self.old }
         ensures cause { result ≡ Err AFault → Rose (get_or (M.faults media.old) ring.old.medium 0) (get_or (M.faults media.new) ring.old.medium 0) }
     {
         while !self.step_in(ring, media, selection)? {

@@ -1,10 +1,10 @@
 -- Which slot is held behind a survey: the newest segment is read only where its first gate is open.
 use Rattle.std.proofs.Common.{◌≡◌, ◌<◌, ◌+◌, ℕ, suc, Bool, true, false, not, cond, nat_eq, List, [], ◌∷◌, ◌++◌, length, drop, get_or, set, slice_get, IsTrue, All, Option, Some, None, refl, sym, ap, ◌∙◌, subst, arith, drop-cons, length-set, length-append, get_or-set_same, get_or-set_other}
-use Rattle.std.specs.Prelude.{◌↔◌, is_some}
+use Rattle.std.specs.Prelude.{◌↔◌, Any, is_some}
 use Rattle.std.proofs.lemmas.Bool.{eq-eqb, eqb-false, not-true, not_from_false, ne_eqb, cond-true, cond-false, false_from_ne_true}
 use Rattle.std.proofs.Math.Seq.{get_or-append_seam}
 use Rattle.std.proofs.lemmas.List.Elements.{All-nil, All-head}
-use Rattle.std.proofs.lemmas.Option.{slice_get_within, get_or_from_slice_get}
+use Rattle.std.proofs.lemmas.Option.{none-some, same_Some, slice_get_within, slice_get-get_or, get_or_from_slice_get}
 use Rattle.vdr_terms.specs.Records.{Record}
 use Rattle.vdr_entry.specs.declared.summary.Summary.{Summary}
 use Rattle.vdr_segment.specs.Gates.{open_gate}
@@ -69,6 +69,7 @@ extent_there segment slot first bytes s h some none =
 pub record IsHeld (es : List Entry) (i : ℕ) (held : Option ℕ) : Type 0 where
   pub midway : (j : ℕ) (d : Entry) → i ≡ suc j → i < length es → (get_or es j d).summary ≡ None → held ≡ Some (get_or es j d).slot
   pub newest : (j : ℕ) (d : Entry) → i ≡ length es → i ≡ suc j → (extent_by (get_or es j d).survey ≡ None → ⊥) → held ≡ Some (get_or es j d).slot
+  pub bare : (slot : ℕ) → held ≡ Some slot → (j : ℕ) × (j < i) × ((d : Entry) → ((get_or es j d).slot ≡ slot) × ((get_or es j d).summary ≡ None))
   pub before : (j : ℕ) (d : Entry) → i ≡ length es → i ≡ suc (suc j) → extent_by (get_or es (suc j) d).survey ≡ None → (get_or es j d).summary ≡ None → held ≡ Some (get_or es j d).slot
 
 pub held_none : (es : List Entry) → IsHeld es 0 None
@@ -76,12 +77,13 @@ held_none es = record {
   midway = λ j d is lt none. absurd (omega (arith, is));
   newest = λ j d all is some. absurd (omega (arith, is));
   before = λ j d all is none bare. absurd (omega (arith, is));
+  bare = λ slot at. absurd (none-some slot at);
 }
 
 -- One segment more, which is the newest where it is the last of all
 
 abbrev pub IsReadWell : (newest read : Bool) → Option Summary → Option Survey → Type 0
-IsReadWell newest read summary survey = (newest ≡ false → summary ≡ None → IsTrue read) × (newest ≡ true → IsTrue read ↔ (extent_by survey ≡ None → ⊥))
+IsReadWell newest read summary survey = (newest ≡ false → summary ≡ None → IsTrue read) × (newest ≡ true → IsTrue read ↔ (extent_by survey ≡ None → ⊥)) × (IsTrue read → summary ≡ None)
 
 module _ (es : List Entry) (i : ℕ) (x : Entry) (s : Option Survey) (lt : i < length es) (read : Bool) (held next : Option ℕ)
     (well : IsReadWell (nat_eq (i + 1) (length es)) read (get_or es i x).summary s) (is : next ≡ cond read (Some (get_or es i x).slot) held) (before : IsHeld es i held) where
@@ -130,8 +132,26 @@ module _ (es : List Entry) (i : ℕ) (x : Entry) (s : Option Survey) (lt : i < l
       ∙ before.midway j d at_j lt (sym (ap (λ (e : Entry). e.summary) (entry_before j d at_j)) ∙ bare)
       ∙ ap (λ (e : Entry). Some e.slot) (sym (entry_before j d at_j))
 
+  bare_next : (slot : ℕ) → next ≡ Some slot → (j : ℕ) × (j < i + 1) × ((d : Entry) → ((get_or more j d).slot ≡ slot) × ((get_or more j d).summary ≡ None))
+  bare_next slot at = go read refl
+    where
+      go : (b : Bool) → read ≡ b → (j : ℕ) × (j < i + 1) × ((d : Entry) → ((get_or more j d).slot ≡ slot) × ((get_or more j d).summary ≡ None))
+      go true done = (
+        i,
+        omega arith,
+        λ d. (
+          ap (λ (e : Entry). e.slot) (get_or-set_same es i here d lt) ∙ same_Some (get_or es i x).slot slot (sym (cond-true read (Some (get_or es i x).slot) held done) ∙ sym is ∙ at),
+          summary_here i d refl ∙ well.2 done,
+        ),
+      )
+      go false unread =
+          let k = before.bare slot (sym (cond-false read (Some (get_or es i x).slot) held unread) ∙ sym is ∙ at) in
+          let below = k.1 in
+          let same : (d : Entry) → get_or more k.0 d ≡ get_or es k.0 d = λ d. get_or-set_other es i k.0 here d (λ e. let bad : ⊥ = omega (arith, e, below) in bad) in
+          (k.0, omega (arith, below), λ d. (ap (λ (e : Entry). e.slot) (same d) ∙ (k.2 d).0, ap (λ (e : Entry). e.summary) (same d) ∙ (k.2 d).1))
+
   pub held_more : IsHeld (set es i (record (get_or es i x) { survey = s })) (i + 1) next
-  held_more = record { midway = midway_next; newest = newest_next; before = before_next }
+  held_more = record { midway = midway_next; newest = newest_next; before = before_next; bare = bare_next }
 
 -- it is not where one stands behind it
 pub not_last : (es : List Entry) (i : ℕ) (e : Entry) → i + 1 < length (set es i e) → nat_eq (i + 1) (length es) ≡ false
@@ -146,8 +166,17 @@ length_end : (older : List Entry) (e : Entry) → length (older ++ e ∷ []) ≡
 length_end older e = let n = length-append older (e ∷ []) in omega (arith, n)
 
 pub holds_latest : (es : List Entry) (i : ℕ) (held : Option ℕ) → i ≡ length es → IsHeld es i held → HoldsLatest es held
-holds_latest es i held all h = record { newest = newest_held; before = before_held }
+holds_latest es i held all h = record { newest = newest_held; before = before_held; bare = bare_held }
   where
+    bare_held : (slot : ℕ) → held ≡ Some slot → Any (λ e. (e.slot ≡ slot) × (e.summary ≡ None)) es
+    bare_held slot at =
+        let k = h.bare slot at in
+        let below = k.1 in
+        let none : Entry = record { slot = slot; seq = 0; first = 0; summary = None; survey = None } in
+        let e : Entry = get_or es k.0 none in
+        let lt : k.0 < length es = omega (arith, below, all) in
+        (k.0, e, lt, get_or_from_slice_get es k.0 e e (slice_get-get_or es k.0 none lt), k.2 none)
+
     newest_held : (older : List Entry) (e : Entry) → es ≡ older ++ e ∷ [] → (extent_by e.survey ≡ None → ⊥) → held ≡ Some e.slot
     newest_held older e are some =
         let there : get_or es (length older) e ≡ e = ap (λ (xs : List Entry). get_or xs (length older) e) are ∙ at_end older e e in

@@ -1,5 +1,6 @@
--- What reading a medium's slots tells, up to its directory. Of it public clauses cite `BreaksIn` alone.
-use Rattle.std.specs.Prelude.{◌≡◌, ◌⊎◌, ◌<◌, ◌≤◌, ◌+◌, ℕ, List, [], ◌∷◌, ◌++◌, map, drop, All, Contains, Option, Some, None, ⊤}
+-- What reading a medium's slots tells, up to its directory. Of it the public `read_segments` cites `AreSlots`, `Finds` and
+-- `HoldsLatest`. No clause of another crate cites it.
+use Rattle.std.specs.Prelude.{◌≡◌, ◌⊎◌, ◌<◌, ◌≤◌, ◌+◌, ℕ, List, [], ◌∷◌, ◌++◌, map, drop, All, Any, Contains, Option, Some, None, ⊤}
 use Rattle.vdr_terms.specs.Records.{Record}
 use Rattle.vdr_entry.specs.declared.summary.Summary.{Summary}
 use Rattle.vdr_segment.specs.declared.header.Header.{Header}
@@ -106,7 +107,9 @@ pub record Finds (segment count : ℕ) (bytes : List ℕ) (opened : List Entry) 
   pub describe : Describe known opened
 
 -- The slot that is held behind these segments, in order of sequence number, is that of the newest where that was read and
--- has batches. Where it has none it is that of the one before it, where that was read.
+-- has batches. Where it has none it is that of the one before it, where that was read. It is that of a segment whose header
+-- has no summary, if any.
 pub record HoldsLatest (opened : List Entry) (held : Option ℕ) : Type 0 where
   pub newest : (older : List Entry) (e : Entry) → opened ≡ older ++ e ∷ [] → (extent_by e.survey ≡ None → ⊥) → held ≡ Some e.slot
   pub before : (older : List Entry) (d e : Entry) → opened ≡ older ++ d ∷ e ∷ [] → extent_by e.survey ≡ None → d.summary ≡ None → held ≡ Some d.slot
+  pub bare : (slot : ℕ) → held ≡ Some slot → Any (λ e. (e.slot ≡ slot) × (e.summary ≡ None)) opened

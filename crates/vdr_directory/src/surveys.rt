@@ -107,7 +107,7 @@ fn survey_entry<M: Media>(
     ensures legal { IfOk result (λ found. M.tells → HasSurveyUnless area.segment entry.slot (content (M.disk media.old).reads area.medium) entry.first entry.summary found.survey) }
     ensures bytes { IfOk result (λ found. cond found.held (M.tells → buffer.new ≡ slot_bytes area.segment entry.slot (content (M.disk media.old).reads area.medium)) (buffer.new ≡ buffer.old)) }
     ensures held { IfOk result (λ found. M.tells → (newest ≡ false → entry.summary ≡ None → IsTrue found.held)
-        × (newest ≡ true → IsTrue found.held ↔ (extent_by found.survey ≡ None → ⊥))) }
+        × (newest ≡ true → IsTrue found.held ↔ (extent_by found.survey ≡ None → ⊥)) × (IsTrue found.held → entry.summary ≡ None)) }
     ensures damaged { (k offset : ℕ) → result ≡ Err (Damaged k offset) → (k ≡ area.medium) × (entry.summary ≡ None)
         × (M.tells → BreaksIn area.segment entry.slot (content (M.disk media.old).reads area.medium) offset) }
     ensures unchanged { Unchanged (M.disk media.old) (M.disk media.new) }

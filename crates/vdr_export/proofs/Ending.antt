@@ -113,6 +113,15 @@ module _ (block : Block) (records seen : List Record) (Has : Type 0) (line : Lis
 pub never_stops : (ps : List Shown) (e : ExportRefused) → ((place : ℕ) → e ≡ Mixed place → ⊥) → (e ≡ NoMemory → ⊥) → StopsAt ps e → ⊥
 never_stops ps e mixed memory stops = ⊎_elim (λ m. mixed m.0 m.1) (λ m. memory m) stops
 
+-- A part that is missing is no damage.
+pub missing_undamaged : (parts : List (Option (List ℕ))) (m offset : ℕ) → unless_missing parts ≡ Err (Damaged m offset) → ⊥
+missing_undamaged [] m offset e = cc
+missing_undamaged (x ∷ xs) m offset e = by (first_missing 1 (x ∷ xs)) e
+  where
+    by : (o : Option ℕ) → ◌≡◌ {A = Result ⊤ ExportRefused} (unless_part o (Ok tt)) (Err (Damaged m offset)) → ⊥
+    by None e = cc
+    by (Some number) e = cc
+
 -- All parts of these records were met.
 module _ (c : List (Option (List ℕ))) where
   parts_are : (parts : List (Option (List ℕ))) → parts ≢ [] → unless_missing parts ≡ unless_part (first_missing 1 parts) (Ok tt)

@@ -15,7 +15,7 @@ use Rattle.vdr_visit.specs.declared.refused.VisitRefused.{VisitRefused}
 use Rattle.vdr_visit.specs.declared.refused.VisitRefused.TheVariants as stops
 use Rattle.vdr_export.specs.Refusals.{refusal_by}
 use Rattle.vdr_export.specs.declared.refused.ExportRefused.{ExportRefused}
-use Rattle.vdr_export.specs.declared.refused.ExportRefused.TheVariants.{Fault, Output}
+use Rattle.vdr_export.specs.declared.refused.ExportRefused.TheVariants.{Damaged, Fault, Output}
 
 pub some_is : (a b : ExportRefused) → Some a ≡ Some b → a ≡ b
 some_is a b e = cc
@@ -46,6 +46,15 @@ module _ (refused : ExportRefused) (Has : Type 0) (Stops : ExportRefused → Typ
   output_of (stops.Damaged m offset) from made never is = let none : ⊥ = cc in absurd none
   output_of stops.Output from made never is = refl
   output_of (stops.Own e) from made never is = absurd (never (subst Stops (sym (some_is refused e from) ∙ is) made.0))
+
+  pub damage_of : (m offset : ℕ) (stop : VisitRefused ExportRefused) → Some refused ≡ refusal_by stop → HasMade Has Stops line whole seen was now (Err stop) → (Stops (Damaged m offset) → ⊥) → refused ≡ Damaged m offset
+      → stop ≡ stops.Damaged m offset
+  damage_of m offset stops.NoChannel from made never is = absurd (none_from refused from)
+  damage_of m offset stops.NoIncident from made never is = absurd (none_from refused from)
+  damage_of m offset stops.Fault from made never is = let none : ⊥ = cc in absurd none
+  damage_of m offset (stops.Damaged k at) from made never is = cc
+  damage_of m offset stops.Output from made never is = let none : ⊥ = cc in absurd none
+  damage_of m offset (stops.Own e) from made never is = absurd (never (subst Stops (sym (some_is refused e from) ∙ is) made.0))
 
 -- A look is one by any other answer that comes only with the first.
 pub looked_as : {tells tells_images : Type 0} (query : Query) (r t : RecorderState) (old new : Disk tells tells_images) (read_before read_now faults_before faults_now : List ℕ) (first second : Type 0) → (second → first)
@@ -83,6 +92,7 @@ looked_nothing query r disk read faults answered never rings = looked query r r.
       rings = rings;
       unchanged = record { sizes = refl; reads = λ told. refl; clock = refl; since = λ t i. (λ h. h, λ h. h) };
       counts = λ k other. refl;
+      judged = λ judged. judged;
       stands = λ opening events placed h. h;
       readable = λ opening events placed h. h;
     })

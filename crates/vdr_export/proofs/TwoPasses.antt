@@ -20,6 +20,7 @@ use Rattle.vdr_export.specs.declared.refused.ExportRefused.{ExportRefused}
 use Rattle.vdr_export.specs.declared.refused.ExportRefused.TheVariants.{Fault}
 use Rattle.vdr_export.specs.declared.wave.WaveSize.{WaveSize}
 use Rattle.vdr_export.proofs.Ending.{failed_ends, never_both, one_file, refused_ends}
+use Rattle.vdr_export.proofs.Refusing.{same_refusal}
 
 size_is : (hs : List Heard) (size : WaveSize) (result : Result WaveSize ExportRefused) → AnswersOrFails (size_of hs) result → result ≡ Ok size → size_of hs ≡ Ok size
 size_is hs size result answers is = ⊎_elim (λ (same : result ≡ size_of hs). sym same ∙ is) (λ (failed : result ≡ Err Fault). let no : ⊥ = cc in absurd no) answers
@@ -47,8 +48,8 @@ the_wave hs size result a b out answers is written front ends =
     }
 
 -- An error that was passed on.
-pub passed_on : (result : Result WaveSize ExportRefused) (why given : ExportRefused) (out : Result ⊤ ExportRefused) → result ≡ Err why → given ≡ why → out ≡ Err given → out ≡ Err Fault → result ≡ Err Fault
-passed_on result why given out was same is fault = let one : Err given ≡ Err Fault = sym is ∙ fault in cc
+pub passed_on : (result : Result WaveSize ExportRefused) (why given e : ExportRefused) (out : Result ⊤ ExportRefused) → result ≡ Err why → given ≡ why → out ≡ Err given → out ≡ Err e → result ≡ Err e
+passed_on result why given e out was same is ends = was ∙ ap (λ (x : ExportRefused). Err x) (sym same ∙ same_refusal out given e is ends)
 
 pub was_ok : (result : Result WaveSize ExportRefused) (size : WaveSize) (e : ExportRefused) → result ≡ Ok size → result ≡ Err e → ⊥
 was_ok result size e ok err = cc

@@ -4,13 +4,13 @@ ghost use Rattle.vdr_history.specs.Histories.{Event, Opening};
 ghost use Rattle.vdr_playback.specs.Playback.{selected};
 ghost use Rattle.vdr_entry.specs.Queries.{asked};
 ghost use Rattle.vdr_directory.specs.Sequence.{Placed};
-ghost use Rattle.vdr_vault.specs.Vaults.{IsReadable};
+ghost use Rattle.vdr_vault.specs.Vaults.{AreJudged, IsDamagedOn, IsReadable};
 ghost use Rattle.vdr_visit.specs.Refusals.{HasOutputCause};
 ghost use Rattle.vdr_recorder.specs.Looks.{HasLooked};
 ghost use Rattle.vdr_export.specs.Asked.{MayBeAsked};
 ghost use Rattle.vdr_export.specs.Answers.{FileEnds, IsPictureRefusal, picture_of};
 ghost use Rattle.vdr_export.specs.Pictures.{shown};
-ghost use Rattle.vdr_export.specs.declared.refused.ExportRefused.TheVariants.{Fault as AFault, Output};
+ghost use Rattle.vdr_export.specs.declared.refused.ExportRefused.TheVariants.{Damaged, Fault as AFault, Output};
 
 use crate::block::Block;
 use crate::collecting::Collecting;
@@ -40,6 +40,8 @@ pub fn write_picture<M: Media, O: Sink>(
         → FileEnds (picture_of (shown block.now (selected opening events (asked query.now)))) (O.taken out.old) (O.taken out.new) result }
     ensures silent { OnErr result ((result ≡ Err Output) ⊎ (out.new ≡ out.old)) }
     ensures own { IfErr result IsPictureRefusal }
+    ensures damaged { (m offset : ℕ) → result ≡ Err (Damaged m offset) → M.tells → AreJudged recorder.old.vault (M.disk media.old)
+        → IsDamagedOn recorder.old.vault.config (M.disk media.old) m offset }
     ensures failed { recorder.old.vault.failed ≡ true → (result ≡ Err AFault) × (recorder.new ≡ recorder.old) × (media.new ≡ media.old) × (out.new ≡ out.old) }
     ensures looked { HasLooked (asked query.now) recorder.old recorder.new (M.disk media.old) (M.disk media.new) (M.bytes_read media.old) (M.bytes_read media.new) (M.faults media.old) (M.faults media.new) (result ≡ Err AFault) }
     ensures output { HasOutputCause (O.faults out.old) (O.faults out.new) (result ≡ Err Output) }

@@ -17,7 +17,7 @@ pub enum ExportRefused {
     Part { number: u32 },
     /// A write had failed before, and nothing was called; or a read failed, and the count of faults of that medium rose.
     Fault,
-    /// A batch of this medium is not legal. It begins at this offset, in bytes.
+    /// A slot of this medium that was read is damaged. Where, in bytes, as `vdr_visit::VisitRefused` says.
     Damaged { medium: u8, offset: u64 },
     /// The output failed, and its count of faults rose. A front of the file is written.
     Output,

@@ -1,11 +1,11 @@
 // How large a sound is.
-ghost use Rattle.std.specs.Prelude.{◌≡◌, ◌∷◌, ◌++◌, List, [], Err, IfErr, IfOk, OnOk};
+ghost use Rattle.std.specs.Prelude.{◌≡◌, ◌∷◌, ◌++◌, ℕ, List, [], Err, IfErr, IfOk, OnOk};
 ghost use Rattle.vdr_export.specs.Answers.{IsSizeRefusal, size_of};
 ghost use Rattle.vdr_export.specs.Heard.{IsMixed, IsSized};
 ghost use Rattle.vdr_export.specs.Sounds.{Heard};
 ghost use Rattle.vdr_export.specs.Tails.{heard_as};
 ghost use Rattle.vdr_export.specs.Waves.{IsWaveSize};
-ghost use Rattle.vdr_export.specs.declared.refused.ExportRefused.TheVariants.{Fault as AFault};
+ghost use Rattle.vdr_export.specs.declared.refused.ExportRefused.TheVariants.{Damaged, Fault as AFault};
 
 use crate::frames::{Tail, heard_in, missing, tail_of};
 use crate::rate::SampleRate;
@@ -65,6 +65,7 @@ impl Sizing {
         ensures legal { IfOk result IsWaveSize }
         ensures own { IfErr result IsSizeRefusal }
         ensures fault { result ≡ Err AFault → ⊥ }
+        ensures undamaged { (m offset : ℕ) → result ≡ Err (Damaged m offset) → ⊥ }
     {
         let Some(rate) = self.rate else {
             return Err(ExportRefused::Nothing);

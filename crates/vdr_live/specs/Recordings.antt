@@ -89,7 +89,7 @@ module _ {tells tells_images : Type 0} (turns : ℕ) (ports_old ports_new : List
   pub record IsNotOpened (refused : OpenRefused) : Type 0 where
     pub unasked : ports_new ≡ ports_old
     pub unspoken : links_new ≡ links_old
-    pub media : MediaEnds (λ x. ⊤) ⊥ (λ events. events ≡ []) old new (status_of_opening refused)
+    pub media : MediaEnds (λ x. ⊤) (λ m offset. ⊥) (λ events. events ≡ []) old new (status_of_opening refused)
 
   abbrev pub RecordingEnds : Result SessionEnd OpenRefused → Type 0
   RecordingEnds (Ok end) = IsRecorded end

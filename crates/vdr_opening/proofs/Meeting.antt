@@ -178,4 +178,5 @@ module _ {tells tells_images : Type 0} (start one : Disk tells tells_images) (sa
       config = config_is;
       rings = knows;
       table = table_is;
+      missing = ends.1;
     }

@@ -5,12 +5,14 @@ use Rattle.vdr_directory.specs.Holds.{HoldsPlaced}
 use Rattle.vdr_directory.specs.Order.{AreInOrder}
 use Rattle.vdr_ring.specs.Rings.{RingState}
 use Rattle.vdr_ring.specs.Rings as rings
+use Rattle.vdr_ring.specs.Damage.{IsIntact}
+use Rattle.vdr_ring.specs.Visits.{HasJudged}
 use Rattle.vdr_directory.specs.Sequence.{Placed}
 use Rattle.vdr_terms.specs.Needs.{slots_in}
 use Rattle.vdr_outside.proofs.Moments.{size_read, unchanged_join}
 use Rattle.vdr_config.specs.Configuration.{Configuration}
 use Rattle.vdr_config.specs.Sizes.{sizes_of}
-use Rattle.vdr_directory.specs.Opening.{AreKnown, Refuses, HasFaultCause}
+use Rattle.vdr_directory.specs.Opening.{AreKnown, Refuses, HasFaultCause, slot_bytes}
 use Rattle.vdr_terms.specs.Slots.{slot_count}
 use Rattle.vdr_opening.specs.Media.{HasFront, members, IsMedium, IsMediumBy}
 use Rattle.vdr_opening.specs.Refusals.{IsSameText, RefusesSegments, IsLegalBehind, RefusesFrom, RefusesMedium}
@@ -20,7 +22,7 @@ use Rattle.std.specs.Prelude.{All, Any, IsErrOf}
 use Rattle.std.proofs.lemmas.Bool.{cases_eq}
 use Rattle.std.proofs.lemmas.List.{get_or_append_left, get_or_push, take-append-le, take_all}
 use Rattle.vdr_media.proofs.Two.{all_two, any_at}
-use Rattle.vdr_opening.specs.Answers.{IsRingOf, no_ring, ring_at, HasOpenCause}
+use Rattle.vdr_opening.specs.Answers.{AreJudgedOn, IsRingOf, no_ring, ring_at, HasOpenCause}
 use Rattle.vdr_outside.specs.Causes.{NoneFalls, Rose}
 use Rattle.vdr_outside.specs.declared.fault.PartRefused.{PartRefused}
 use Rattle.vdr_outside.specs.declared.fault.PartRefused.TheVariants.{Fault}
@@ -35,6 +37,14 @@ use Rattle.vdr_ring.proofs.Still.{knows_still, reads_still}
 module _ {tells tells_images : Type 0} where
   pub same_content : (m : ℕ) (old new : Disk tells tells_images) → Unchanged old new → tells → content new.reads m ≡ content old.reads m
   same_content m old new same told = ap (λ (i : Image). content i m) (same.reads told)
+
+  -- The slot that a ring has loaded was judged, and its medium reads as before.
+  pub judged_beside : (ring : RingState) (before now : Disk tells tells_images) → (tells → content now.reads ring.medium ≡ content before.reads ring.medium) → HasJudged ring before → HasJudged ring now
+  judged_beside ring before now same judged slot at told =
+      subst (λ (l : List ℕ). (ring.buffer ≡ slot_bytes ring.segment slot l) × IsIntact (slot_bytes ring.segment slot l)) (sym (same told)) (judged slot at told)
+
+  pub judged_still : (ring : RingState) (before now : Disk tells tells_images) → Unchanged before now → HasJudged ring before → HasJudged ring now
+  judged_still ring before now same = judged_beside ring before now (same_content ring.medium before now same)
 
 -- The segments of a medium, as its ring knows them or as it is refused.
 
@@ -112,8 +122,8 @@ ring_of c sizes m ring buffer loaded is = record { medium = is.medium; segment =
 module _ {tells tells_images : Type 0} where
   pub keeps_one : (on : List RingState) (m : ℕ) (ring new : RingState) (before after : Disk tells tells_images) → m < length on → ring ≡ ring_at on m → new ≡ record ring { buffer = new.buffer; loaded = new.loaded }
       → ((placed : List Placed) → rings.Reads ring placed before → rings.Reads new placed after) → ((known : List Placed) → rings.Knows ring known before → rings.Knows new known after)
-      → Unchanged before after → KeepsRings on (set on m new) before after
-  keeps_one on m ring new before after there is same reads knows unchanged = record {
+      → (HasJudged ring before → HasJudged new after) → Unchanged before after → KeepsRings on (set on m new) before after
+  keeps_one on m ring new before after there is same reads knows judged unchanged = record {
     of_media = λ c sizes are. record {
       count = length-set on m new ∙ are.count;
       each = λ i d lt. each_set (λ k r. IsRingOf c sizes k (ring_at on k) → IsRingOf c sizes k r) on m new there (λ k was. was)
@@ -123,6 +133,8 @@ module _ {tells tells_images : Type 0} where
         (λ placed r. reads placed (subst (λ (x : RingState). rings.Reads x placed before) (sym is) r));
     knows = each_set (λ k r. (known : List Placed) → rings.Knows (ring_at on k) known before → rings.Knows r known after) on m new there (λ k known. knows_still (ring_at on k) known before after unchanged)
         (λ known r. knows known (subst (λ (x : RingState). rings.Knows x known before) (sym is) r));
+    judged = each_set (λ k r. HasJudged (ring_at on k) before → HasJudged r after) on m new there (λ k. judged_still (ring_at on k) before after unchanged)
+        (λ j. judged (subst (λ (x : RingState). HasJudged x before) (sym is) j));
     unchanged = unchanged;
   }
 
@@ -131,11 +143,19 @@ module _ {tells tells_images : Type 0} where
     of_media = λ config sizes are. y.of_media config sizes (x.of_media config sizes are);
     reads = λ m placed r. y.reads m placed (x.reads m placed r);
     knows = λ m known r. y.knows m known (x.knows m known r);
+    judged = λ m j. y.judged m (x.judged m j);
     unchanged = unchanged_join a b c x.unchanged y.unchanged;
   }
 
   pub known_still : (on new : List RingState) (known : ℕ → List Placed) (before after : Disk tells tells_images) → KeepsRings on new before after → AreKnownTo on known before → AreKnownTo new known after
   known_still on new known before after kept knows i d lt = kept.knows (get_or members i d) (known (get_or members i d)) (knows i d lt)
+
+  pub judged_on : (on new : List RingState) (before after : Disk tells tells_images) → KeepsRings on new before after → AreJudgedOn on before → AreJudgedOn new after
+  judged_on on new before after kept judged i d lt = kept.judged (get_or members i d) (judged i d lt)
+
+  pub judged_lent : (on lent : List RingState) (before after : Disk tells tells_images) → lent ≡ on → Unchanged before after → AreJudgedOn on before → AreJudgedOn lent after
+  judged_lent on lent before after is still judged =
+      subst (λ (l : List RingState). AreJudgedOn l after) (sym is) (λ i d lt. judged_still (ring_at on (get_or members i d)) before after still (judged i d lt))
 
 -- One medium after another is read, and each is legal behind those before it or refused.
 

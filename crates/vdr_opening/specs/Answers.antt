@@ -12,6 +12,7 @@ use Rattle.vdr_config.specs.Sizes.{sizes_of, window_of}
 use Rattle.vdr_media.specs.Formatted.{IsFormatted, IsUnformatted}
 use Rattle.vdr_ring.specs.Rings.{RingState, HasMedium}
 use Rattle.vdr_ring.specs.Rings as rings
+use Rattle.vdr_ring.specs.Visits.{HasJudged}
 use Rattle.vdr_opening.specs.declared.refused.OpenRefused.{OpenRefused}
 use Rattle.vdr_opening.specs.declared.refused.OpenRefused.TheVariants.{Damaged, Fault, NotFormatted}
 use Rattle.vdr_opening.specs.Media.{members, Contents, HoldsContents, HoldsParts, reading_of}
@@ -80,6 +81,11 @@ module _ {tells tells_images : Type 0} where
     pub config : o.config ≡ x.config
     pub rings : All (λ m. rings.Knows (ring_at o.rings m) (x.placed m) disk) members
     pub table : o.table ≡ x.table
+    pub missing : IsMissing o.missing o.lacking (reading_of x)
+
+  -- The slot that each ring has loaded was judged.
+  abbrev pub AreJudgedOn : List RingState → Disk tells tells_images → Type 0
+  AreJudgedOn on disk = All (λ m. HasJudged (ring_at on m) disk) members
 
   -- The media that are read were not formatted, or this is the first part that is not legal.
   pub record RefusesAsRead {T : Type 0} (result : Result T OpenRefused) (disk : Disk tells tells_images) : Type 0 where

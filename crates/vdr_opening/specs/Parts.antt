@@ -10,6 +10,7 @@ use Rattle.vdr_segment.specs.Gates.{IsOpenAt}
 use Rattle.vdr_directory.specs.Telling.{HoldAllBy}
 use Rattle.vdr_ring.specs.Rings.{RingState}
 use Rattle.vdr_ring.specs.Rings as rings
+use Rattle.vdr_ring.specs.Visits.{HasJudged}
 use Rattle.vdr_directory.specs.Sequence.{Placed}
 use Rattle.vdr_incident.specs.Tables.{HoldsTable, place_of}
 use Rattle.vdr_terms.specs.Slots.{slot_count}
@@ -61,6 +62,7 @@ module _ {tells tells_images : Type 0} where
     pub of_media : (c : Configuration) (sizes : List ℕ) → AreRingsOf c sizes old → AreRingsOf c sizes new
     pub reads : (m : ℕ) (placed : List Placed) → rings.Reads (ring_at old m) placed before → rings.Reads (ring_at new m) placed after
     pub knows : (m : ℕ) (known : List Placed) → rings.Knows (ring_at old m) known before → rings.Knows (ring_at new m) known after
+    pub judged : (m : ℕ) → HasJudged (ring_at old m) before → HasJudged (ring_at new m) after
     pub unchanged : Unchanged before after
 
 -- An incident slot is free, or all places of its incident stand in these segments, by what is known of them.

@@ -7,10 +7,11 @@ ghost use Rattle.vdr_directory.specs.Costs.{ReadsAtMost};
 ghost use Rattle.vdr_directory.specs.Opening.{HasFaultCause};
 ghost use Rattle.vdr_directory.specs.Sequence.{Placed};
 ghost use Rattle.vdr_ring.specs.Rings.{HoldsNewest};
+ghost use Rattle.vdr_ring.specs.Visits.{HasJudged};
 ghost use Rattle.vdr_opening.specs.Media.{members};
 ghost use Rattle.vdr_opening.specs.Costs.{ReadsParts, opening_bytes};
 ghost use Rattle.vdr_opening.specs.Refusals.{RefusesFrom, RefusesMedium};
-ghost use Rattle.vdr_opening.specs.Answers.{AreRingsOf, IsRingOf, ring_at};
+ghost use Rattle.vdr_opening.specs.Answers.{AreJudgedOn, AreRingsOf, IsRingOf, ring_at};
 ghost use Rattle.vdr_opening.specs.Parts.{HasPartCause, KnowsMedium, ReadsLegal, text_of};
 
 use crate::superblock::read_superblock;
@@ -54,6 +55,7 @@ fn open_medium<M: Media>(
         → (known : List Placed) × KnowsMedium m medium.configured.config medium.configured.text.items known medium.ring (M.disk media.new)
         × ReadsAtMost m (opening_bytes 16408 medium.ring.segment medium.ring.slots known) (M.bytes_read media.old) (M.bytes_read media.new)) }
     ensures held { IfOk result (λ medium. M.tells → HoldsNewest medium.ring) }
+    ensures judged { IfOk result (λ medium. HasJudged medium.ring (M.disk media.new)) }
     ensures configured { IfOk result (λ medium. configuration medium.configured.text.items ≡ Ok medium.configured.config) }
     ensures same { IfOk result (λ medium. IfSome before (λ first. medium.configured ≡ first)) }
     ensures ring { IfOk result (λ medium. IsRingOf medium.configured.config (M.disk media.old).sizes m medium.ring) }
@@ -78,6 +80,7 @@ pub(crate) fn open_media<M: Media>(alloc: Global, media: &mut M) -> Result<AllMe
         × All (λ m. KnowsMedium m all.configured.config all.configured.text.items (known m) (ring_at all.rings.items m) (M.disk media.new)) members
         × ReadsParts 16408 all.configured.config.segment known (M.disk media.old).sizes (M.bytes_read media.old) (M.bytes_read media.new)) }
     ensures held { IfOk result (λ all. M.tells → All (λ m. HoldsNewest (ring_at all.rings.items m)) members) }
+    ensures judged { IfOk result (λ all. AreJudgedOn all.rings.items (M.disk media.new)) }
     ensures rings { IfOk result (λ all. AreRingsOf all.configured.config (M.disk media.old).sizes all.rings.items) }
     ensures damaged { (m offset : ℕ) → result ≡ Err (Damaged m offset) → M.tells → All (λ k. Durable k (M.disk media.old)) members
         → RefusesFrom None members (M.disk media.old).reads m offset }

@@ -5,7 +5,7 @@ ghost use Rattle.vdr_media.specs.Formatted.{IsFormatted};
 ghost use Rattle.vdr_opening.specs.Media.{Contents, HoldsContents, members};
 ghost use Rattle.vdr_opening.specs.Costs.{ReadsParts, ReadsToOpen};
 ghost use Rattle.vdr_opening.specs.Refusals.{IsRefused};
-ghost use Rattle.vdr_opening.specs.Answers.{FitsMedia, HasOpenCause, IsOpened, IsOpenedBy, RefusesAsRead};
+ghost use Rattle.vdr_opening.specs.Answers.{AreJudgedOn, FitsMedia, HasOpenCause, IsOpened, IsOpenedBy, RefusesAsRead};
 ghost use Rattle.vdr_opening.specs.Parts.{HasPartCause};
 
 use crate::ends::{Missing, missing_batch};
@@ -24,6 +24,7 @@ fn read_formatted<M: Media>(alloc: Global, media: &mut M) -> Result<Opened, Part
         → IsOpened o x (M.disk media.new)) }
     ensures parts { IfOk result (λ o. M.tells → (x : Contents) × IsOpenedBy o x (M.disk media.new)
         × ReadsParts 24600 x.config.segment x.placed (M.disk media.old).sizes (M.bytes_read media.old) (M.bytes_read media.new)) }
+    ensures judged { IfOk result (λ o. AreJudgedOn o.rings (M.disk media.new)) }
     ensures shape { IfOk result (λ o. FitsMedia o (M.disk media.old).sizes) }
     ensures damaged { (m offset : ℕ) → result ≡ Err (PartDamaged m offset) → M.tells → All (λ k. Durable k (M.disk media.old)) members → IsRefused (M.disk media.old).reads m offset }
     ensures unchanged { Unchanged (M.disk media.old) (M.disk media.new) }
@@ -64,6 +65,7 @@ pub fn read_media<M: Media>(alloc: Global, media: &mut M) -> Result<Opened, Open
     ensures parts { IfOk result (λ o. M.tells → (x : Contents) × IsOpenedBy o x (M.disk media.new)
         × ReadsToOpen x (M.disk media.old).sizes (M.bytes_read media.old) (M.bytes_read media.new)) }
     ensures formatted { IfOk result (λ o. M.tells → IsFormatted (M.disk media.old).reads) }
+    ensures judged { IfOk result (λ o. AreJudgedOn o.rings (M.disk media.new)) }
     ensures shape { IfOk result (λ o. FitsMedia o (M.disk media.old).sizes) }
     ensures refused { RefusesAsRead result (M.disk media.old) }
     ensures unchanged { Unchanged (M.disk media.old) (M.disk media.new) }

@@ -83,9 +83,9 @@ module _ {tells tells_images : Type 0} (wish : Wish) (asked : AskedPlay) (old ne
       let p = h.0 in
       record {
         refused = opened_refused old.media.disk.reads law (Damaged k at) p.0 p.1 p.2 p.3;
-        channel = λ x holds meet lacks. absurd (p.4.0.channel (lacks_too (parts_of x) p.1 (law.parts x holds) p.2 lacks));
-        incident = λ x id holds meet there is none. absurd (p.4.0.incident (misses_too (parts_of x) p.1 (law.parts x holds) p.2 (not_live x.table asked.medium id is none)));
-        kind = λ x holds meet can none. absurd (some_none (file_in wish x.config asked.channel) p.4.1.0 (file_too (parts_of x) p.1 (law.parts x holds) p.2 ∙ p.4.1.1) none);
+        channel = λ x holds meet lacks. absurd (p.4.0.0.channel (lacks_too (parts_of x) p.1 (law.parts x holds) p.2 lacks));
+        incident = λ x id holds meet there is none. absurd (p.4.0.0.incident (misses_too (parts_of x) p.1 (law.parts x holds) p.2 (not_live x.table asked.medium id is none)));
+        kind = λ x holds meet can none. absurd (some_none (file_in wish x.config asked.channel) p.4.0.1.0 (file_too (parts_of x) p.1 (law.parts x holds) p.2 ∙ p.4.0.1.1) none);
         none = λ x file why holds meet fit can of_file made. absurd (h.1 x holds fit);
         done = λ x file bytes holds meet fit can of_file made. absurd (h.1 x holds fit);
       })

@@ -17,9 +17,10 @@ use Rattle.vdr_opening.specs.declared.refused.OpenRefused.{OpenRefused}
 use Rattle.vdr_opening.specs.declared.refused.OpenRefused.TheVariants as openings
 use Rattle.vdr_recorder.specs.Looks.{HasLooked}
 use Rattle.vdr_recorder.specs.Recordings.{HasRecorded, RecorderState}
+use Rattle.vdr_vault.proofs.Stepping.{damaged_still}
 use Rattle.vdr_vault.proofs.Playing.{stands_to_read}
 use Rattle.vdr_vault.specs.Openings.{IsToldBy, OpensAtEachMoment}
-use Rattle.vdr_vault.specs.Vaults.{IsReadable, VaultState, ShowsHistory}
+use Rattle.vdr_vault.specs.Vaults.{IsDamagedOn, IsReadable, VaultState, ShowsHistory}
 use Rattle.vdr_visit.specs.Refusals.{HasOutputCause, IsAccepted, lacks_channel, lacks_incident, unanswered}
 use Rattle.vdr_visit.specs.declared.refused.VisitRefused.{VisitRefused}
 use Rattle.vdr_visit.specs.declared.refused.VisitRefused.TheVariants as stops
@@ -82,7 +83,7 @@ module _ {tells tells_images : Type 0} (wish : Wish) (asked : AskedPlay) (old ne
   -- Nothing was written, and no file was refused.
   still_ends : (status : Status) → IsExportStatus wish status → new.output ≡ old.output → PlayEnds asked.medium asked.channel old.media new.media status → AddsMissing old.media.disk new.media.disk
       → (status ≡ ends.ExportKind → ⊥) → (status ≡ ends.OutputFault → ⊥) → (status ≡ ends.NoChannel → ⊥) → (status ≡ ends.Done → ⊥) → ((P : ExportRefused → Type 0) → IfRefusal status P)
-      → (IsJudged status → ⊥) → IfDamaged status (λ m offset. IsRefusedAt old.media.disk new.media.disk m offset ⊎ MetUnreadable old.media.disk (CanExport wish asked))
+      → (IsJudged status → ⊥) → IfDamaged status (λ m offset. IsRefusedAt old.media.disk new.media.disk m offset ⊎ MetUnreadable old.media.disk new.media.disk (CanExport wish asked) m offset)
       → ((bytes : List ℕ) → PrintsText bytes status old.output new.output) → ExportEnds wish asked old new status
   still_ends status own same media adds kind output channel done refusals unjudged damage prints = record {
     own = own;
@@ -103,7 +104,7 @@ module _ {tells tells_images : Type 0} (wish : Wish) (asked : AskedPlay) (old ne
   }
 
   pub opening_exports : (refused : OpenRefused) → ((m offset : ℕ) → refused ≡ openings.Damaged m offset → IsRefusedAt old.media.disk new.media.disk m offset) → new.output ≡ old.output
-      → MediaEnds (λ x. CanPlay x asked.medium asked.channel) (MetUnreadable old.media.disk (λ x. CanPlay x asked.medium asked.channel)) AreLooks old.media new.media (status_of_opening refused)
+      → MediaEnds (λ x. CanPlay x asked.medium asked.channel) (MetUnreadable old.media.disk new.media.disk (λ x. CanPlay x asked.medium asked.channel)) AreLooks old.media new.media (status_of_opening refused)
       → AddsMissing old.media.disk new.media.disk → ExportEnds wish asked old new (status_of_opening refused)
   opening_exports openings.NoMemory at same media adds =
       still_ends ends.NoMemory tt same (with_media asked.medium asked.channel old.media new.media openings.NoMemory media) adds (λ e. let none : ⊥ = cc in none) (λ e. let none : ⊥ = cc in none)
@@ -160,10 +161,11 @@ module _ {tells tells_images : Type 0} (wish : Wish) (asked : AskedPlay) (old ne
       -- How the media ended, by the end of a visit that stands for it.
       media_so : (ended : Result ⊤ (VisitRefused Status)) → IsAccepted (lacks_channel (length r.vault.config.channels) query.channel) (lacks_incident r.vault.table query.medium) ended
           → ((opening : Opening) (events : List Event) (placed : ℕ → List Placed) (m offset : ℕ) → tells → IsReadable opening events r.vault placed mid.disk → ended ≡ Err (stops.Damaged m offset) → ⊥)
+          → ((m offset : ℕ) → ended ≡ Err (stops.Damaged m offset) → tells → IsDamagedOn r.vault.config mid.disk m offset)
           → HasLooked query r after mid.disk new.media.disk mid.bytes_read new.media.bytes_read mid.faults new.media.faults (ended ≡ Err stops.Fault)
           → IfItself ended IsOwnStatus → PlayEnds asked.medium asked.channel old.media new.media (status_by (λ (s : Status). s) ended asked.medium)
-      media_so ended accepted never looked own =
-          read_ends asked old.media mid new.media r after query ended wants works parts opened readable accepted never looked later others (λ (s : Status). s) own result moments
+      media_so ended accepted never damaged looked own =
+          read_ends asked old.media mid new.media r after query ended wants works parts opened readable accepted never damaged looked later others (λ (s : Status). s) own result moments
 
       channel_there : lacks_channel (length r.vault.config.channels) query.channel ≡ false
       channel_there = ap (λ (q : Query). lacks_channel (length r.vault.config.channels) q.channel) wants.is ∙ asked_within r.vault.config asked.channel
@@ -180,7 +182,8 @@ module _ {tells tells_images : Type 0} (wish : Wish) (asked : AskedPlay) (old ne
             channel = ((λ e. let no : ⊥ = cc in absurd no), (λ lacks. absurd (true_false _ lacks channel_there)));
             incident = ((λ e. (channel_there, misses)), (λ lacks. refl));
           })
-          (λ opening events placed m offset t h e. let no : ⊥ = cc in no) (looked_as _ _ _ _ _ _ _ _ _ _ _ (λ e. let no : ⊥ = cc in no) looked) tt)
+          (λ opening events placed m offset t h e. let no : ⊥ = cc in no) (λ m offset e. let no : ⊥ = cc in absurd no)
+          (looked_as _ _ _ _ _ _ _ _ _ _ _ (λ e. let no : ⊥ = cc in no) looked) tt)
           adds (λ e. let no : ⊥ = cc in no) (λ e. let no : ⊥ = cc in no) (λ e. let no : ⊥ = cc in no) (λ e. let no : ⊥ = cc in no) (λ P. tt) (λ judged. judged) tt (λ bytes. tt)
 
       -- Channel and incident are there.
@@ -219,7 +222,8 @@ module _ {tells tells_images : Type 0} (wish : Wish) (asked : AskedPlay) (old ne
           line = λ e. let no : ⊥ = cc in absurd no;
           silent = inr (inr still);
           media = media_so (Err (stops.Own ends.ExportKind)) (is_accepted _ (λ e. let no : ⊥ = cc in no) (λ e. let no : ⊥ = cc in no))
-              (λ opening events placed m offset t h e. let no : ⊥ = cc in no) (looked_as _ _ _ _ _ _ _ _ _ _ _ (λ e. let no : ⊥ = cc in no) looked) tt;
+              (λ opening events placed m offset t h e. let no : ⊥ = cc in no) (λ m offset e. let no : ⊥ = cc in absurd no)
+              (looked_as _ _ _ _ _ _ _ _ _ _ _ (λ e. let no : ⊥ = cc in no) looked) tt;
           missing = adds;
         }
 
@@ -228,6 +232,7 @@ module _ {tells tells_images : Type 0} (wish : Wish) (asked : AskedPlay) (old ne
             (out : Result ⊤ ExportRefused)
             (made : (opening : Opening) (events : List Event) (placed : ℕ → List Placed) → tells → IsReadable opening events r.vault placed mid.disk
             → FileEnds (file_of file (selected opening events query)) old.output.taken new.output.taken out)
+            (damaged : (m offset : ℕ) → out ≡ Err (exports.Damaged m offset) → tells → IsDamagedOn r.vault.config mid.disk m offset)
             (looked : HasLooked query r after mid.disk new.media.disk mid.bytes_read new.media.bytes_read mid.faults new.media.faults (out ≡ Err exports.Fault)) where
           made_is : (x : Contents) → tells → HoldsContents old.media.disk.reads x → file_of file (selected (opening_of x) [] query) ≡ made_of x asked file
           unfolding made_of records_asked
@@ -240,9 +245,24 @@ module _ {tells tells_images : Type 0} (wish : Wish) (asked : AskedPlay) (old ne
               let config : r.vault.config ≡ x.config = (contents x t holds).1.config in
               let both_are : Some other ≡ Some file = sym of ∙ ap (λ (d : Configuration). file_in wish d asked.channel) (sym config) ∙ file_is found is ∙ some in cc
 
+          can_export : (x : Contents) → IsToldBy x r.vault → CanExport wish asked x
+          can_export x read = (can_play x read, (file, ap (λ (d : Configuration). file_in wish d asked.channel) (sym read.config) ∙ file_is found is ∙ some))
+
           exportable : tells → IsOpenableWith old.media.disk.reads (CanExport wish asked)
-          exportable = opened_so (CanExport wish asked) old.media.disk r.vault parts
-              (λ x read. (can_play x read, (file, ap (λ (d : Configuration). file_in wish d asked.channel) (sym read.config) ∙ file_is found is ∙ some)))
+          exportable = opened_so (CanExport wish asked) old.media.disk r.vault parts can_export
+
+          -- Where it met damage one of the slots is not intact, and the media can't be read.
+          met : (m offset : ℕ) → out ≡ Err (exports.Damaged m offset) → MetUnreadable old.media.disk new.media.disk (CanExport wish asked) m offset
+          met m offset told t = (
+            opened_so (λ x. CanExport wish asked x × IsDamagedOn x.config new.media.disk m offset) old.media.disk r.vault parts
+                (λ x read. (
+                  can_export x read,
+                  subst (λ (d : Configuration). IsDamagedOn d new.media.disk m offset) read.config (damaged_still r.vault.config mid.disk new.media.disk looked.read.unchanged.sizes (looked.read.unchanged.reads t) m offset (damaged m offset told t)),
+                )) t,
+            λ x holds can.
+                let read = to_read x t holds can in
+                undamaged old.output.taken new.output.taken out file (selected (opening_of x) [] query) m offset (made (opening_of x) [] read.0 t read.1) told,
+          )
 
           pub made_exports : IfErr out (IsFileRefusal file) → IfErr out (λ why. MayBeBegun file why ⊎ (new.output ≡ old.output)) → HasOutputCause old.output.faults new.output.faults (out ≡ Err exports.Output)
               → ExportEnds wish asked old new (status_of_export out)
@@ -255,18 +275,14 @@ module _ {tells tells_images : Type 0} (wish : Wish) (asked : AskedPlay) (old ne
                 (writes_so old.output new.output _ out (made (opening_of x) [] read.0 t read.1)));
             kind = λ e. absurd ((not_asked out).2 e);
             openable = λ judged. exportable;
-            damaged = of_damage out _ (λ m offset told. inr (λ t. (
-              exportable t,
-              λ x holds can.
-                  let read = to_read x t holds can in
-                  undamaged old.output.taken new.output.taken out file (selected (opening_of x) [] query) m offset (made (opening_of x) [] read.0 t read.1) told,
-            )));
+            damaged = of_damage out _ (λ m offset told. inr (met m offset told));
             output = λ e. blamed.rose (output_as out e);
             line = λ e. absurd ((not_asked out).3 e);
             silent = ⊎_elim (λ begun. inl begun) (λ still. inr (inr still)) (may_write wish _ file (sym is ∙ some) out silent);
             media = subst (λ (s : Status). PlayEnds asked.medium asked.channel old.media new.media s) (same_status out)
                 (media_so (as_visit out) (is_accepted (as_visit out) (not_asked out).0 (not_asked out).1)
                 (λ opening events placed m offset t h e. undamaged old.output.taken new.output.taken out file (selected opening events query) m offset (made opening events placed t h) (damage_as out m offset e))
+                (λ m offset e. damaged m offset (damage_as out m offset e))
                 (looked_as _ _ _ _ _ _ _ _ _ _ _ (fault_as out) looked) (own_visit out));
             missing = adds;
           }

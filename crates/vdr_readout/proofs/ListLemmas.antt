@@ -26,14 +26,14 @@ module _ {tells tells_images : Type 0} where
       → ((x : Contents) → tells → HoldsContents old.disk.reads x → WasRecorded x → (placed : ℕ → List Placed) × Stands (opening_of x) [] vault placed new.disk)
       → (tells → SameBut 1 old.disk.reads new.disk.reads)
       → ((x : Contents) → tells → HoldsContents old.disk.reads x → EndsMeet members (reading_of x) → WasRecorded x → OpensAtEachMoment old.disk new.disk result (ShowsHistory (opening_of x) []))
-      → (status : Status) → IsWorkDone status → MediaEnds CanList ⊥ AreLooks old new status
+      → (status : Status) → IsWorkDone status → MediaEnds CanList (λ m offset. ⊥) AreLooks old new status
   listed_ends old new result r is vault parts stands others moments status done =
-      worked_ends CanList ⊥ AreLooks old new status done (opened_so CanList old.disk vault parts (λ x read. tt)) others
+      worked_ends CanList (λ m offset. ⊥) AreLooks old new status done (opened_so CanList old.disk vault parts (λ x read. tt)) others
       (λ x t holds meet regular. kept_opened x (config_read old.disk.reads x holds) regular AreLooks status old.disk new.disk result r is no_looks
       (λ worked told. let s = stands x t holds regular in stand_reads (opening_of x) [] vault s.0 new.disk s.1 told) (moments x t holds meet regular))
 
 module _ {tells tells_images : Type 0} (old new : MediaSeen tells tells_images) (told : tells) (law : OneAnswer old.disk.reads) (MayBe : List Event → Type 0) where
-  pub lists_all : (status : Status) → (status ≡ OutputFault → ⊥) → (status ≡ MediaFault → ⊥) → IsListStatus status → MediaEnds CanList ⊥ MayBe old new status → ListsAll old.disk.reads status
+  pub lists_all : (status : Status) → (status ≡ OutputFault → ⊥) → (status ≡ MediaFault → ⊥) → IsListStatus status → MediaEnds CanList (λ m offset. ⊥) MayBe old new status → ListsAll old.disk.reads status
   lists_all Done output media own ends = let p = ends.openable tt told in record { refused = opened_refused old.disk.reads law Done p.0 p.1 p.2 p.3; done = λ x holds meet. tt }
   lists_all Unformatted output media own ends =
       let un = (ends.unformatted refl).1 told in record { refused = unformatted_refused old.disk.reads un; done = λ x holds meet. absurd (law.formatted x holds un) }

@@ -57,8 +57,8 @@ module _ {tells tells_images : Type 0} (medium : Medium) (name : List ℕ) (old 
       let p = h.0 in
       record {
         refused = opened_refused old.disk.reads law (Damaged k at) p.0 p.1 p.2 p.3;
-        channel = λ x holds meet lacks. absurd (p.4.channel (lacks_too (parts_of x) p.1 (law.parts x holds) p.2 lacks));
-        incident = λ x id holds meet there is none. absurd (p.4.incident (misses_too (parts_of x) p.1 (law.parts x holds) p.2 (not_live x.table medium id is none)));
+        channel = λ x holds meet lacks. absurd (p.4.0.channel (lacks_too (parts_of x) p.1 (law.parts x holds) p.2 lacks));
+        incident = λ x id holds meet there is none. absurd (p.4.0.incident (misses_too (parts_of x) p.1 (law.parts x holds) p.2 (not_live x.table medium id is none)));
         done = λ x holds meet regular can. absurd (h.1 x holds regular);
       })
       ends.media.damaged

@@ -24,11 +24,12 @@ use Rattle.vdr_opening.specs.declared.refused.OpenRefused.{OpenRefused}
 use Rattle.vdr_opening.specs.declared.refused.OpenRefused.TheVariants as openings
 use Rattle.vdr_recorder.specs.Recordings.{HasRecorded, RecorderState}
 use Rattle.vdr_recorder.specs.Looks.{HasLooked}
-use Rattle.vdr_vault.specs.Openings.{OpensAtEachMoment}
+use Rattle.vdr_vault.specs.Openings.{IsToldBy, OpensAtEachMoment}
+use Rattle.vdr_vault.proofs.Stepping.{damaged_still}
 use Rattle.vdr_vault.proofs.OpenMoments.{never_both}
 use Rattle.vdr_vault.proofs.Playing.{stands_to_read}
 use Rattle.vdr_vault.proofs.ShownHistory.{stands_silent, stands_still}
-use Rattle.vdr_vault.specs.Vaults.{IsReadable, VaultState, ShowsHistory, Stands}
+use Rattle.vdr_vault.specs.Vaults.{IsDamagedOn, IsReadable, VaultState, ShowsHistory, Stands}
 use Rattle.vdr_command.specs.Opened.{AddsMissing, AreLooks, IsOpenableWith, KeepsContents, MediaEnds, WasRecorded}
 use Rattle.vdr_command.specs.Endings.{IsWorkDone}
 use Rattle.vdr_command.specs.Statuses.{status_of_opening}
@@ -83,7 +84,7 @@ not_done openings.Fault done = done
 module _ {tells tells_images : Type 0} where
   -- A play ends so where it is not of its own refusals.
   pub with_media : (medium : Played) (name : List ℕ) (old new : MediaSeen tells tells_images) (refused : OpenRefused)
-      → MediaEnds (λ x. CanPlay x medium name) (MetUnreadable old.disk (λ x. CanPlay x medium name)) AreLooks old new (status_of_opening refused)
+      → MediaEnds (λ x. CanPlay x medium name) (MetUnreadable old.disk new.disk (λ x. CanPlay x medium name)) AreLooks old new (status_of_opening refused)
       → PlayEnds medium name old new (status_of_opening refused)
   with_media medium name old new openings.NoMemory media = record { media = media; no_channel = λ e. let none : ⊥ = cc in absurd none; no_incident = tt }
   with_media medium name old new openings.NotFormatted media = record { media = media; no_channel = λ e. let none : ⊥ = cc in absurd none; no_incident = tt }
@@ -149,7 +150,7 @@ module _ {tells tells_images : Type 0} where
 
   pub opening_reads : {R : Type 0} (asked : AskedPlay) (Has : List Record → Type 0) (Stops : List Record → R → Type 0) (status_of : R → Status) (line : List Record → Record → List ℕ) (last : List Record → List ℕ)
       (old new : Outside tells tells_images) (refused : OpenRefused) → new.output ≡ old.output
-      → MediaEnds (λ x. CanPlay x asked.medium asked.channel) (MetUnreadable old.media.disk (λ x. CanPlay x asked.medium asked.channel)) AreLooks old.media new.media (status_of_opening refused)
+      → MediaEnds (λ x. CanPlay x asked.medium asked.channel) (MetUnreadable old.media.disk new.media.disk (λ x. CanPlay x asked.medium asked.channel)) AreLooks old.media new.media (status_of_opening refused)
       → AddsMissing old.media.disk new.media.disk → ReadsOut asked Has Stops status_of line last old new (status_of_opening refused)
   opening_reads asked Has Stops status_of line last old new refused same media missing = record {
     shown = subst (λ (o : OutputSeen). ShowsReading asked old.media.disk Has Stops status_of line last old.output o (status_of_opening refused)) (sym same)
@@ -223,6 +224,7 @@ module _ {tells tells_images R : Type 0} (asked : AskedPlay) (old mid new : Medi
 
   module _ (accepted : IsAccepted (lacks_channel (length r.vault.config.channels) query.channel) (lacks_incident r.vault.table query.medium) ended)
       (undamaged : (opening : Opening) (events : List Event) (placed : ℕ → List Placed) (m offset : ℕ) → tells → IsReadable opening events r.vault placed mid.disk → ended ≡ Err (stops.Damaged m offset) → ⊥)
+      (damaged : (m offset : ℕ) → ended ≡ Err (stops.Damaged m offset) → tells → IsDamagedOn r.vault.config mid.disk m offset)
       (looked : HasLooked query r after mid.disk new.disk mid.bytes_read new.bytes_read mid.faults new.faults (ended ≡ Err stops.Fault)) (later : NoneFalls old.faults mid.faults)
       (others : tells → SameBut 1 old.disk.reads mid.disk.reads) (status_of : R → Status) (own : IfItself ended (λ reason. IsOwnStatus (status_of reason))) where
     module _ {T : Type 0} (result : Result T OpenRefused)
@@ -245,14 +247,25 @@ module _ {tells tells_images R : Type 0} (asked : AskedPlay) (old mid new : Medi
       others_too : tells → SameBut 1 old.disk.reads new.disk.reads
       others_too t = subst (λ (image : Image). SameBut 1 old.disk.reads image) (sym (looked.read.unchanged.reads t)) (others t)
 
-      playable : (ended ≡ Err stops.NoIncident → ⊥) → tells → IsOpenableWith old.disk.reads (λ x. CanPlay x asked.medium asked.channel)
-      playable found = opened_so (λ x. CanPlay x asked.medium asked.channel) old.disk r.vault parts (λ x read. record {
+      can_play : (ended ≡ Err stops.NoIncident → ⊥) → (x : Contents) → IsToldBy x r.vault → CanPlay x asked.medium asked.channel
+      can_play found x read = record {
         channel = λ lacks. wants.there (subst (λ (d : Configuration). LacksChannel d asked.channel) (sym read.config) lacks);
         incident = λ lacks. found (accepted.incident.1 (channel_is_there, misses_from (lacks_from r.vault.table asked.medium (subst (λ (table : List (Option histories.Incident)). LacksIncident table asked.medium) (sym read.table) lacks))));
-      })
+      }
 
-      irregular : (k offset : ℕ) → ended ≡ Err (stops.Damaged k offset) → tells → (x : Contents) → HoldsContents old.disk.reads x → CanBeRead x → ⊥
-      irregular k offset is t x holds fit = let read = to_read x t holds fit in undamaged (opening_of x) [] read.0 k offset t read.1 is
+      playable : (ended ≡ Err stops.NoIncident → ⊥) → tells → IsOpenableWith old.disk.reads (λ x. CanPlay x asked.medium asked.channel)
+      playable found = opened_so (λ x. CanPlay x asked.medium asked.channel) old.disk r.vault parts (can_play found)
+
+      -- Where it met damage one of the slots is not intact, and the media can't be read.
+      met : (k offset : ℕ) → ended ≡ Err (stops.Damaged k offset) → MetUnreadable old.disk new.disk (λ x. CanPlay x asked.medium asked.channel) k offset
+      met k offset is t = (
+        opened_so (λ x. CanPlay x asked.medium asked.channel × IsDamagedOn x.config new.disk k offset) old.disk r.vault parts
+            (λ x read. (
+              can_play (λ e. let clash : Err (stops.Damaged k offset) ≡ Err stops.NoIncident = sym is ∙ e in let none : ⊥ = cc in absurd none) x read,
+              subst (λ (d : Configuration). IsDamagedOn d new.disk k offset) read.config (damaged_still r.vault.config mid.disk new.disk looked.read.unchanged.sizes (looked.read.unchanged.reads t) k offset (damaged k offset is t)),
+            )) t,
+        λ x holds fit. let read = to_read x t holds fit in undamaged (opening_of x) [] read.0 k offset t read.1 is,
+      )
 
       rose : ended ≡ Err stops.Fault → Rose (sum old.faults) (sum new.faults)
       rose is = ⊎_elim (λ (failed : r.vault.failed ≡ true). let clash : true ≡ false = sym failed ∙ works in let none : ⊥ = cc in absurd none)
@@ -301,7 +314,7 @@ module _ {tells tells_images R : Type 0} (asked : AskedPlay) (old mid new : Medi
       ends_so (Err (stops.Damaged k offset)) is = record {
         media = record {
           unformatted = λ e. let none : ⊥ = cc in absurd none;
-          damaged = inr (λ t. (playable (λ e. let clash : Err (stops.Damaged k offset) ≡ Err stops.NoIncident = sym is ∙ e in let none : ⊥ = cc in absurd none) t, irregular k offset is t));
+          damaged = inr (met k offset is);
           fault = λ e. let none : ⊥ = cc in absurd none;
           openable = λ done. absurd done;
           others = others_too;

@@ -76,7 +76,7 @@ pub record Lists {tells tells_images : Type 0} (old new : Outside tells tells_im
   pub output : status ≡ OutputFault → OutputFailed old.output new.output
   pub silent : IsWorkDone status ⊎ (new.output ≡ old.output)
   -- the media, and what is said of them
-  pub media : MediaEnds CanList ⊥ AreLooks old.media new.media status
+  pub media : MediaEnds CanList (λ m offset. ⊥) AreLooks old.media new.media status
   pub missing : AddsMissing old.media.disk new.media.disk
   -- no more is read than opening reads
   pub bytes : HasOnlyOpened old.media new.media status

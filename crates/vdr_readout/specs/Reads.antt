@@ -20,6 +20,7 @@ use Rattle.vdr_entry.specs.declared.query.Medium.TheVariants.{Capsule, LongTerm,
 use Rattle.vdr_opening.specs.Costs.{ReadsToOpen}
 use Rattle.vdr_opening.specs.Media.{members, Contents, HoldsContents, opening_of, parts_of, reading_of}
 use Rattle.vdr_vault.specs.Plays.{span_among}
+use Rattle.vdr_vault.specs.Vaults.{IsDamagedOn}
 use Rattle.vdr_visit.specs.Prints.{text_of, whole_text}
 use Rattle.vdr_visit.specs.declared.refused.VisitRefused.{VisitRefused}
 use Rattle.vdr_visit.specs.declared.refused.VisitRefused.TheVariants as stops
@@ -123,13 +124,14 @@ IfItself (Err stops.Output) P = ⊤
 IfItself (Err (stops.Own reason)) P = P reason
 
 module _ {tells tells_images : Type 0} where
-  -- The media can be opened, but hold no contents that can be read.
-  abbrev pub MetUnreadable : Disk tells tells_images → (Can : Contents → Type 0) → Type 0
-  MetUnreadable old Can = tells → IsOpenableWith old.reads Can × ((x : Contents) → HoldsContents old.reads x → CanBeRead x → ⊥)
+  -- The media were opened, and one of the slots that was read is not intact there, as they read at the exit: they hold no contents that
+  -- can be read.
+  abbrev pub MetUnreadable : (old new : Disk tells tells_images) → (Can : Contents → Type 0) → (m offset : ℕ) → Type 0
+  MetUnreadable old new Can m offset = tells → IsOpenableWith old.reads (λ x. Can x × IsDamagedOn x.config new m offset) × ((x : Contents) → HoldsContents old.reads x → CanBeRead x → ⊥)
 
   -- What is said where the media were opened, by what they read as at entry.
   pub record PlayEnds (medium : Medium) (name : List ℕ) (old new : MediaSeen tells tells_images) (status : Status) : Type 0 where
-    pub media : MediaEnds (λ x. CanPlay x medium name) (MetUnreadable old.disk (λ x. CanPlay x medium name)) AreLooks old new status
+    pub media : MediaEnds (λ x. CanPlay x medium name) (MetUnreadable old.disk new.disk (λ x. CanPlay x medium name)) AreLooks old new status
     -- each refusal of the words comes only in its case
     pub no_channel : status ≡ NoChannel → tells → IsOpenableWith old.disk.reads (λ x. LacksChannel x.config name)
     pub no_incident : IfNoIncident status (λ id. (medium ≡ Incident id) × (tells → IsOpenableWith old.disk.reads (λ x. (LacksChannel x.config name → ⊥) × LacksIncident x.table medium)))

@@ -93,7 +93,7 @@ fn list<I: Source + Drop, O: Sink + Drop, M: Media + Drop>(
     ensures statuses { IsListStatus (ending result) }
     ensures missing { AddsMissing (M.disk world.old.media) (M.disk world.new.media) }
     ensures bytes { let at = ⟦<World<I, O, M> as Outer>⟧.outside in HasOnlyOpened (at world.old).media (at world.new).media (ending result) }
-    ensures media { let at = ⟦<World<I, O, M> as Outer>⟧.outside in MediaEnds CanList ⊥ AreLooks (at world.old).media (at world.new).media (ending result) }
+    ensures media { let at = ⟦<World<I, O, M> as Outer>⟧.outside in MediaEnds CanList (λ m offset. ⊥) AreLooks (at world.old).media (at world.new).media (ending result) }
     ensures printed { let at = ⟦<World<I, O, M> as Outer>⟧.outside in (x : Contents) → M.tells → HoldsContents (M.disk world.old.media).reads x
         → PrintsText (incidents_text x.table) (ending result) (at world.old).output (at world.new).output }
     ensures silent { IsWorkDone (ending result) ⊎ (world.new.output ≡ world.old.output) }

@@ -53,6 +53,7 @@ module _ {tells tells_images : Type 0} {R : Type 0} (query : Query) (vault : Vau
   played first Has new v = record {
     printed = v.seen;
     lines = lines result v.made;
+    damaged = v.damaged;
     are = v.are;
     front = λ opening events placed told readable.
         subst (λ (l : List ℕ). AppendsFront was now l) (whole_is first (selected opening events query) new) (v.front opening events placed told readable);
@@ -99,6 +100,7 @@ module _ {tells tells_images : Type 0} {R : Type 0} (query : Query) (vault : Vau
   told first Has Stops new v = record {
     counted = v.seen;
     table = table result v.made;
+    damaged = v.damaged;
     are = v.are;
     front = λ opening events placed known readable.
         subst (λ (l : List ℕ). AppendsFront was now l) (table_is first (selected opening events query) new) (v.front opening events placed known readable);

@@ -23,7 +23,7 @@ use Rattle.vdr_vault.specs.Calls.{SameElsewhere}
 use Rattle.vdr_vault.specs.Keeps.{KeepsHistory}
 use Rattle.vdr_vault.specs.Regularity.{AreSound}
 use Rattle.vdr_vault.specs.Saves.{save_refusal}
-use Rattle.vdr_vault.specs.Vaults.{AreRings, IsReadable, VaultState}
+use Rattle.vdr_vault.specs.Vaults.{AreJudged, AreRings, IsReadable, VaultState}
 use Rattle.vdr_recorder.specs.declared.run.StartRefused.{StartRefused}
 use Rattle.vdr_recorder.specs.declared.run.StartRefused.TheVariants.{Place, Tick, Fault}
 use Rattle.vdr_run.specs.Making.{counted_of}
@@ -161,6 +161,8 @@ module _ {tells tells_images : Type 0} where
     pub readable : IfOk result (λ r. (x : Contents) → tells → HoldsContents old.reads x → AreLevel members (reading_of x) → IsReadable (opening_of x) [] r.vault x.placed new)
     -- no write has failed
     pub works : IfOk result (λ r. r.vault.failed ≡ false)
+    -- the slot that each ring has loaded was judged
+    pub judged : IfOk result (λ r. tells → AreJudged r.vault new)
     -- no run is open
     pub closed : IfOk result (λ r. r.is_open ≡ false)
     -- each ring is its medium's

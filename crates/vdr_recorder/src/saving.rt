@@ -19,8 +19,8 @@ impl Recorder {
     /// media that show it. A save that is refused is no event but a look.
     ///
     /// The refusals stand in their order in `SaveRefused`. Of the first three no byte was read or written, of `Damaged` none was written:
-    /// a batch that was read is not legal, or a place of the incident is not on the medium. After `Fault` each call answers `Fault`,
-    /// until the media are opened again.
+    /// a slot that was read is damaged, or, at offset 0, not all records of the incident are on the medium. After `Fault` each call
+    /// answers `Fault`, until the media are opened again.
     pub fn save<M: Media>(&mut self, media: &mut M, label: &[u8]) -> Result<u32, SaveRefused>
         requires rings { AreRings self.old.vault (M.disk media.old).sizes }
         ensures event { SavesAsEvent M.Media label.now self.old self.new media.old media.new result }

@@ -1,7 +1,6 @@
 -- The last batch of a segment as it is walked over and read, and of a medium.
 use Rattle.std.proofs.Common.{◌≡◌, ◌≢◌, ◌<◌, ◌≤◌, ◌+◌, ◌-◌, ℕ, List, [], ◌∷◌, ◌++◌, length, take, drop, map, All, Contains, Option, Some, None, ⊎_elim, refl, sym, ap, ◌∙◌, subst, arith, append-nil}
 use Rattle.std.proofs.lemmas.List.{append_assoc, length-drop, length-take, take-take}
-use Rattle.std.proofs.lemmas.Option.{none-some}
 use Rattle.std.proofs.lemmas.List.Elements.{All-nil, All-contains, All-head, All-tail, All-weaker}
 use Rattle.std.proofs.lemmas.List.Sums.{sum_by-cons, sum_by_push}
 use Rattle.vdr_terms.specs.Records.{Record, last, last_after}
@@ -13,27 +12,30 @@ use Rattle.vdr_entry.specs.declared.summary.Summary.{Summary}
 use Rattle.vdr_entry.specs.Reading.{Begins}
 use Rattle.vdr_entry.specs.Spelling.{records_bytes}
 use Rattle.vdr_entry.proofs.ReadingLemmas.{one_record}
-use Rattle.vdr_segment.specs.declared.header.Header.{Header}
 use Rattle.vdr_segment.specs.Headers.{IsHeader}
+use Rattle.vdr_segment.specs.Gates.{IsOpenAt}
 use Rattle.vdr_segment.specs.Batches.{AreRecords, IsBatch}
 use Rattle.vdr_segment.specs.Segments.{AreBatches}
 use Rattle.vdr_segment.specs.Walks.{Walks}
 use Rattle.vdr_segment.specs.declared.step.Walk.TheVariants.{Batch}
 use Rattle.vdr_segment.proofs.WalkLemmas.{first_begins, records_behind, begun_size}
 use Rattle.vdr_segment.proofs.BatchListLemmas.{one_batches}
-use Rattle.vdr_segment.proofs.SegmentLemmas.{one_header}
 use Rattle.vdr_slots.specs.Slots.{IsFront, place_of}
 use Rattle.vdr_survey.specs.Surveys.{BreaksAt}
 use Rattle.vdr_survey.proofs.SpanLemmas.{Front, front_none, front_more, span_records, never_both}
 use Rattle.vdr_retention.proofs.Lists.{contains_cases, last_behind, none_contained}
 use Rattle.vdr_directory.specs.Sequence.{Placed, batches_of, batches_in}
 use Rattle.vdr_directory.specs.Holds.{HoldsPlaced}
-use Rattle.vdr_directory.specs.Knowns.{summary_of}
+use Rattle.vdr_directory.specs.Knowns.{known_of, summary_of}
 use Rattle.vdr_directory.specs.Opening.{AreBatchesRead, AreKnown, Headed, front_bytes, headed_of, slot_bytes}
+use Rattle.vdr_directory.proofs.ByKnowns.{in_order_known}
+use Rattle.vdr_directory.proofs.Knowing.{known_held}
+use Rattle.vdr_directory.proofs.TellingBy.{tells_by}
 use Rattle.vdr_ring.specs.Rings.{Knows, RingState, Reads}
-use Rattle.vdr_ring.specs.Belied.{IsBelied}
+use Rattle.vdr_ring.specs.Damage.{AgreeBy, IsDamagedAt, IsIntact}
 use Rattle.vdr_ring.specs.Visits.{IsLoaded, slot_read}
 use Rattle.vdr_ring.specs.Lasts.{batch_or_none, AreOfBatch, IsLastSlot}
+use Rattle.vdr_ring.proofs.Legible.{never_damages}
 
 -- The batches that were walked over, the last of which has these bytes of records.
 pub record Walked (segment : List ℕ) (end : ℕ) (bytes : List ℕ) : Type 0 where
@@ -131,23 +133,6 @@ module _ {tells tells_images : Type 0} (ring now : RingState) (disk read : Disk 
     loaded = subst (λ (r : RingState). IsLoaded r read) same (loaded knows.loaded);
   })
 
-  module _ (known : List Placed) (knows : Knows ring known disk) (slot : ℕ) (told : tells) (at : now.loaded ≡ Some slot) (found : IsLastSlot known (Some slot)) where
-    stands : AreBatches (drop 64 now.buffer) (batches_of found.0)
-    stands =
-        let k = knows_on known knows in
-        let there : AreBatchesRead (summary_of found.0) (drop 64 (slot_bytes now.segment found.0.slot (content read.reads now.medium))) (batches_of found.0) =
-        All-contains (λ p. AreBatchesRead p.segment.header.summary (drop 64 (slot_bytes now.segment p.slot (content read.reads now.medium))) p.segment.batches) known found.0 (k.are told).batches found.1 in
-        let bare : AreBatches (drop 64 (slot_bytes now.segment found.0.slot (content read.reads now.medium))) (batches_of found.0) =
-        subst (λ (o : Option Summary). AreBatchesRead o (drop 64 (slot_bytes now.segment found.0.slot (content read.reads now.medium))) (batches_of found.0)) found.3 there in
-        subst (λ (xs : List ℕ). AreBatches (drop 64 xs) (batches_of found.0)) (sym (k.loaded slot at told))
-        (subst (λ (j : ℕ). AreBatches (drop 64 (slot_bytes now.segment j (content read.reads now.medium))) (batches_of found.0)) found.2 bare)
-
-    pub last_is : (records : List Record) → ((batches : List (List Record)) → AreBatches (drop 64 now.buffer) batches → batch_or_none records ≡ last batches) → batch_or_none records ≡ last (batches_in known)
-    last_is records h = h (batches_of found.0) stands ∙ sym found.4
-
-    pub none_breaks : (offset : ℕ) → BreaksAt now.buffer offset → ⊥
-    none_breaks offset broken = never_both now.buffer (batches_of found.0) offset stands broken
-
 -- What is known of a medium's segments
 
 -- their batches are legal
@@ -167,17 +152,79 @@ headed_there P (x ∷ xs) p h m = ⊎_elim
     (λ (k : Contains xs p). headed_there P xs p (All-tail P (headed_of x) (map headed_of xs) h) k)
     (contains_cases x xs p m)
 
--- and the slot with the last one has no summary with which it could disagree
-pub last_unbelied : {tells tells_images : Type 0} (ring : RingState) (known : List Placed) (disk : Disk tells tells_images) (slot at : ℕ) → tells → Knows ring known disk → IsLastSlot known (Some slot)
-    → IsBelied (slot_read ring slot disk) at → ⊥
-last_unbelied ring known disk slot at told knows found belied =
-    let bytes = content disk.reads ring.medium in
-    let inside = belied.differs.inside in
-    let behind = belied.differs.behind in
-    let long : 64 ≤ ring.segment = omega (arith, inside, behind, length-take ring.segment (drop (place_of ring.segment slot) bytes)) in
-    let front = headed_there (λ x. (x.slot < ring.slots) × IsFront (front_bytes ring.segment x.slot bytes) (Some x.header)) known found.0 (knows.are told).headers.there found.1 in
-    let mine : IsHeader (front_bytes ring.segment slot bytes) found.0.segment.header = subst (λ (j : ℕ). IsHeader (front_bytes ring.segment j bytes) found.0.segment.header) found.2 front.1.1 in
-    let cut : take 64 (slot_bytes ring.segment slot bytes) ≡ front_bytes ring.segment slot bytes = take-take 64 ring.segment (drop (place_of ring.segment slot) bytes) long in
-    let theirs : IsHeader (front_bytes ring.segment slot bytes) belied.header = subst (λ (xs : List ℕ). IsHeader xs belied.header) cut belied.is in
-    let same : belied.header ≡ found.0.segment.header = one_header _ belied.header found.0.segment.header theirs mine in
-    none-some belied.summary (sym found.3 ∙ ap (λ (h : Header). h.summary) (sym same) ∙ belied.has)
+-- the first gate of a slot is that of its front
+open_front : (bytes : List ℕ) → IsOpenAt (take 64 bytes) 0 → IsOpenAt bytes 0
+open_front [] gate = gate
+open_front (x ∷ xs) gate = gate
+
+-- A slot with a segment without a summary has a legal header and legal batches, so it is intact.
+module _ {tells tells_images : Type 0} (ring : RingState) (known : List Placed) (disk : Disk tells tells_images) (slot : ℕ) (told : tells) (long : 64 ≤ ring.segment) (knows : Knows ring known disk)
+    (p : Placed) (there : Contains known p) (is : p.slot ≡ slot) (bare : summary_of p ≡ None) where
+  abbrev bytes : List ℕ
+  bytes = slot_read ring slot disk
+
+  front_there : IsFront (front_bytes ring.segment slot (content disk.reads ring.medium)) (Some p.segment.header)
+  front_there =
+      let h = headed_there (λ x. (x.slot < ring.slots) × IsFront (front_bytes ring.segment x.slot (content disk.reads ring.medium)) (Some x.header)) known p (knows.are told).headers.there there in
+      subst (λ (j : ℕ). IsFront (front_bytes ring.segment j (content disk.reads ring.medium)) (Some p.segment.header)) is h.1
+
+  front_of_slot : take 64 bytes ≡ front_bytes ring.segment slot (content disk.reads ring.medium)
+  front_of_slot = take-take 64 ring.segment (drop (place_of ring.segment slot) (content disk.reads ring.medium)) long
+
+  header_there : IsHeader (take 64 bytes) p.segment.header
+  header_there = subst (λ (xs : List ℕ). IsHeader xs p.segment.header) (sym front_of_slot) front_there.1
+
+  pub batches_there : AreBatches (drop 64 bytes) (batches_of p)
+  batches_there =
+      let h : AreBatchesRead (summary_of p) (drop 64 (slot_bytes ring.segment p.slot (content disk.reads ring.medium))) (batches_of p) =
+      All-contains (λ p. AreBatchesRead p.segment.header.summary (drop 64 (slot_bytes ring.segment p.slot (content disk.reads ring.medium))) p.segment.batches) known p (knows.are told).batches there in
+      let read : AreBatches (drop 64 (slot_bytes ring.segment p.slot (content disk.reads ring.medium))) (batches_of p) =
+      subst (λ (o : Option Summary). AreBatchesRead o (drop 64 (slot_bytes ring.segment p.slot (content disk.reads ring.medium))) (batches_of p)) bare h in
+      subst (λ (j : ℕ). AreBatches (drop 64 (slot_bytes ring.segment j (content disk.reads ring.medium))) (batches_of p)) is read
+
+  agree_there : AgreeBy p.segment.header.summary p.segment.header.first (batches_of p)
+  agree_there = subst (λ (o : Option Summary). AgreeBy o p.segment.header.first (batches_of p)) (sym bare) tt
+
+  pub bare_open : IsOpenAt bytes 0
+  bare_open = open_front bytes (subst (λ (xs : List ℕ). IsOpenAt xs 0) (sym front_of_slot) front_there.0)
+
+  pub bare_intact : IsIntact bytes
+  bare_intact gate = (p.segment.header, header_there, batches_of p, batches_there, agree_there)
+
+  pub bare_undamaged : (at : ℕ) → IsDamagedAt bytes at → ⊥
+  bare_undamaged at damaged = never_damages bytes p.segment.header (batches_of p) at header_there batches_there agree_there damaged
+
+-- So is the slot with the last batch.
+module _ {tells tells_images : Type 0} (ring : RingState) (known : List Placed) (disk : Disk tells tells_images) (slot : ℕ) (told : tells) (long : 64 ≤ ring.segment) (knows : Knows ring known disk)
+    (found : IsLastSlot known (Some slot)) where
+  pub last_undamaged : (at : ℕ) → IsDamagedAt (slot_read ring slot disk) at → ⊥
+  last_undamaged = bare_undamaged ring known disk slot told long knows found.0 found.1 found.2 found.3
+
+  -- what was read into the buffer is that slot's
+  module _ (buffer : List ℕ) (held : buffer ≡ slot_read ring slot disk) where
+    pub last_is : (records : List Record) → (IsOpenAt buffer 0 → (batches : List (List Record)) → AreBatches (drop 64 buffer) batches → batch_or_none records ≡ last batches)
+        → batch_or_none records ≡ last (batches_in known)
+    last_is records h =
+        let gate : IsOpenAt buffer 0 = subst (λ (xs : List ℕ). IsOpenAt xs 0) (sym held) (bare_open ring known disk slot told long knows found.0 found.1 found.2 found.3) in
+        h gate (batches_of found.0) (subst (λ (xs : List ℕ). AreBatches (drop 64 xs) (batches_of found.0)) (sym held) (batches_there ring known disk slot told long knows found.0 found.1 found.2 found.3)) ∙ sym found.4
+
+    pub none_breaks : (at : ℕ) → BreaksAt buffer at → ⊥
+    none_breaks at broken =
+        never_both (slot_read ring slot disk) (batches_of found.0) at (batches_there ring known disk slot told long knows found.0 found.1 found.2 found.3) (subst (λ (xs : List ℕ). BreaksAt xs at) held broken)
+
+-- In an open slot that is intact no batch breaks.
+pub intact_unbroken : (buffer read : List ℕ) (at : ℕ) → buffer ≡ read → IsIntact read → IsOpenAt buffer 0 → BreaksAt buffer at → ⊥
+intact_unbroken buffer read at same intact gate broken =
+    let h = subst IsIntact (sym same) intact gate in
+    never_both buffer h.2 at h.3 broken
+
+-- What is known of a medium that reads as segments.
+pub known_read : {tells tells_images : Type 0} (ring : RingState) (placed : List Placed) (disk : Disk tells tells_images) → tells → 64 ≤ ring.segment → Reads ring placed disk → Knows ring (map known_of placed) disk
+known_read ring placed disk told long reads =
+    let holds = reads.settled.reads told in
+    record {
+      are = λ _. known_held ring.segment ring.slots (content disk.reads ring.medium) placed long holds;
+      order = in_order_known ring.segment ring.slots (content disk.reads ring.medium) placed long holds reads.order;
+      directory = tells_by ring.slots placed ring.directory reads.order reads.directory;
+      loaded = reads.loaded;
+    }

@@ -18,6 +18,7 @@ pub mod ByKnowns
 pub mod Holding
 pub mod Legible
 pub mod Visiting
+pub mod Judging
 pub mod Faults
 pub mod LastBatch
 pub mod Asking

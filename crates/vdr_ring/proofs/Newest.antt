@@ -1,5 +1,5 @@
 -- The slot that is held as a ring is opened is that of the newest segment with records.
-use Rattle.std.proofs.Common.{◌≡◌, ◌<◌, ℕ, List, [], ◌∷◌, ◌++◌, Contains, Option, Some, None, ⊎_elim, refl, sym, ap, ◌∙◌, subst, append_assoc}
+use Rattle.std.proofs.Common.{◌≡◌, ◌<◌, ℕ, zero, suc, List, length, get_or, [], ◌∷◌, ◌++◌, Contains, Option, Some, None, ⊎_elim, refl, sym, ap, ◌∙◌, subst, arith, append_assoc}
 use Rattle.std.specs.Prelude.{is_some}
 use Rattle.std.proofs.lemmas.List.Elements.{All-contains}
 use Rattle.vdr_retention.proofs.Lists.{contains_cases, contains_here, contains_there, none_contained}
@@ -64,3 +64,17 @@ module _ (opened : List Entry) (held : Option ℕ) (latest : HoldsLatest opened 
   held_is count known index x order describe slot f =
       let p = newest_by count known index x slot f in
       held_of None [] known opened order describe refl p.0 p.1 p.3 ∙ ap (λ (j : ℕ). Some j) p.2
+
+-- And it is that of a segment without a summary.
+pub bare_placed : (known : List Placed) (opened : List Entry) (slot k : ℕ) (e : Entry) → Describe known opened → k < length opened → get_or opened k e ≡ e → e.slot ≡ slot → e.summary ≡ None
+    → (p : Placed) × Contains known p × (p.slot ≡ slot) × (summary_of p ≡ None)
+bare_placed known [] slot k e describe lt at is bare = let none : ⊥ = omega (arith, lt) in absurd none
+bare_placed [] (x ∷ xs) slot k e describe lt at is bare = absurd describe
+bare_placed (p ∷ ps) (x ∷ xs) slot zero e describe lt at is bare = (
+  p,
+  contains_here p ps,
+  sym describe.0.slot ∙ ap (λ (y : Entry). y.slot) at ∙ is,
+  sym describe.0.summary ∙ ap (λ (y : Entry). y.summary) at ∙ bare,
+)
+bare_placed (p ∷ ps) (x ∷ xs) slot (suc k) e describe lt at is bare =
+    let h = bare_placed ps xs slot k e describe.1 (omega (arith, lt)) at is bare in (h.0, contains_there p ps h.0 h.1, h.2, h.3)

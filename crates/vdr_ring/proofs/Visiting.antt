@@ -17,14 +17,14 @@ use Rattle.vdr_survey.proofs.StepLemmas.{left_none, front_ahead, none_ahead}
 use Rattle.vdr_slots.specs.Slots.{place_of}
 use Rattle.vdr_slots.proofs.Holding.{slot_of}
 use Rattle.vdr_directory.specs.Sequence.{Placed, records_of}
-use Rattle.vdr_ring.specs.Belied.{IsBelied}
+use Rattle.vdr_ring.specs.Damage.{IsDamagedAt}
 use Rattle.vdr_ring.specs.Rings.{RingState, Reads}
 use Rattle.vdr_directory.specs.Opening.{slot_bytes}
 use Rattle.vdr_ring.specs.Visits.{slot_read, VisitState, without_item, position_within, position_in, Steps, StepsFrom, IsAhead, AreAhead, Visits, IsLoaded}
 use Rattle.vdr_ring.specs.declared.refused.ReadRefused.{ReadRefused}
 use Rattle.vdr_ring.specs.declared.refused.ReadRefused.TheVariants.{Fault, Damaged}
 use Rattle.vdr_directory.proofs.Placing.{slot_closed}
-use Rattle.vdr_ring.proofs.Legible.{never_belied}
+use Rattle.vdr_ring.proofs.Legible.{never_damaged}
 
 -- Where a step begins
 
@@ -44,7 +44,7 @@ position_else slot c not = go c.slot not
 
 -- What is ahead there
 
-front_stands : (bytes : List ℕ) (s : Segment) → IsSegment bytes s → IsAt bytes front
+pub front_stands : (bytes : List ℕ) (s : Segment) → IsSegment bytes s → IsAt bytes front
 front_stands bytes s h =
     let b = h.batches in
     let long : length (drop 64 bytes) ≡ length (flat_map batch_bytes s.batches) + length (b.gate ∷ b.rest) = ap length b.spelled ∙ length-append (flat_map batch_bytes s.batches) (b.gate ∷ b.rest) in
@@ -52,7 +52,7 @@ front_stands bytes s h =
 
 module _ (selection : Selection) (bytes : List ℕ) (placed : List Placed) (slot : ℕ) (old : VisitState) (records : List Record) where
   -- in a slot with a segment
-  module _ (p : Placed) (there : Contains placed p) (is : p.slot ≡ slot) (held : IsSlot bytes (Some p.segment)) (ahead : IsAhead bytes p old records) (legible : (at : ℕ) → IsBelied bytes at → ⊥) where
+  module _ (p : Placed) (there : Contains placed p) (is : p.slot ≡ slot) (held : IsSlot bytes (Some p.segment)) (ahead : IsAhead bytes p old records) (legible : (at : ℕ) → IsDamagedAt bytes at → ⊥) where
     begins : IsAt bytes (position_in slot old) × HasAhead bytes (position_in slot old) records
     begins =
         ⊎_elim
@@ -93,7 +93,7 @@ module _ (selection : Selection) (bytes : List ℕ) (placed : List Placed) (slot
         )
     open_visits medium place (Err Fault) new same =
         (ap (λ (c : VisitState). c.item) same, subst (λ (c : VisitState). AreAhead bytes placed slot c records) (sym same) (same_ahead records refl))
-    open_visits medium place (Err (Damaged m offset)) new (gate, on, same, inl belied) = legible belied.0 belied.1
+    open_visits medium place (Err (Damaged m offset)) new (gate, on, same, inl damaged) = legible damaged.0 damaged.1
     open_visits medium place (Err (Damaged m offset)) new (gate, on, same, inr (inl (at, q, passes, broken, is))) =
         let x = (passes.ahead records).0 begins.1 in none_ahead bytes q broken.broken x.0 x.2
     open_visits medium place (Err (Damaged m offset)) new (gate, on, same, inr (inr h)) = h.0 begins.0
@@ -119,7 +119,7 @@ step_visits selection ring placed disk slot place old new records result told wi
     let at : slice_get h.slots slot ≡ Some (Some k.0.segment) =
     subst (λ (j : ℕ). slice_get h.slots j ≡ Some (Some k.0.segment)) k.2 (All-contains (λ p. slice_get h.slots p.slot ≡ Some (Some p.segment)) placed k.0 h.sequence.there k.1) in
     open_visits selection bytes placed slot old records k.0 k.1 k.2 (slot_of ring.segment slot h.slots (Some k.0.segment) (content disk.reads ring.medium) h.holds at) k.3
-    (λ at belied. never_belied ring placed disk slot at told within reads belied) ring.medium place result new steps)
+    (λ at damaged. never_damaged ring placed disk slot at told within reads damaged) ring.medium place result new steps)
     (λ (k : All (λ p. p.slot ≢ slot) placed × (records ≡ [])).
     let at : slice_get h.slots slot ≡ Some None = slot_closed h.slots placed slot h.sequence (let n = h.all_slots in omega (arith, n, within)) k.0 in
     closed_visits selection bytes placed slot old records k.0 (slot_of ring.segment slot h.slots None (content disk.reads ring.medium) h.holds at) k.1 ring.medium place result new steps)
@@ -135,12 +135,6 @@ steps_on selection medium slot place buffer bytes old new position found same ga
     go : (found : Bool) → IsAt buffer (position_in slot old) × StepsFrom selection slot buffer (position_in slot old) old (Ok found) new → Steps selection medium slot place buffer old (Ok found) new
     go true (at, steps) = (gate, steps)
     go false (at, steps) = inr (gate, at, steps)
-
--- A step where the slot was not loaded.
-pub refused_steps : (selection : Selection) (medium slot place : ℕ) (bytes : List ℕ) (old new : VisitState) (r : ReadRefused) → new ≡ without_item old
-    → ((m offset : ℕ) → r ≡ Damaged m offset → (m ≡ medium) × (at : ℕ) × IsBelied bytes at × (offset ≡ place + at)) → Steps selection medium slot place bytes old (Err r) new
-refused_steps selection medium slot place bytes old new Fault same h = same
-refused_steps selection medium slot place bytes old new (Damaged m offset) same h = let d = h m offset refl in (d.2.opened, d.0, same, inl (d.1, d.2, d.3))
 
 -- A step in the buffer is one in the slot, once the slot is loaded.
 module _ {tells tells_images : Type 0} where

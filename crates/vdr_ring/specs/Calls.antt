@@ -1,5 +1,5 @@
 -- What the calls that read a ring's slots keep, and what they answer.
-use Rattle.std.specs.Prelude.{◌≡◌, ◌≢◌, ◌⊎◌, ◌↔◌, ◌<◌, ◌≤◌, ◌+◌, ℕ, Bool, true, List, [], get_or, IfOk, OnOk, Some, None, Result, Ok, Err}
+use Rattle.std.specs.Prelude.{◌≡◌, ◌≢◌, ◌↔◌, ◌<◌, ◌≤◌, ◌+◌, ◌^◌, ℕ, Bool, true, List, [], get_or, IfOk, OnOk, Some, None, Result, Ok, Err}
 use Rattle.std.specs.declared.alloc.Global.{Global}
 use Rattle.std.specs.declared.vec.Vec.{Vec}
 use Rattle.vdr_terms.specs.Records.{Record, last}
@@ -13,9 +13,8 @@ use Rattle.vdr_slots.specs.Slots.{place_of}
 use Rattle.vdr_survey.specs.declared.selection.Selection.{Selection}
 use Rattle.vdr_directory.specs.Sequence.{Placed, batches_in}
 use Rattle.vdr_ring.specs.Rings.{HasMedium, Knows, Reads, RingState}
-use Rattle.vdr_ring.specs.Visits.{AreAhead, VisitState, IsLoaded, StandsIn, Steps, Visits, slot_read}
-use Rattle.vdr_directory.specs.Fronts.{BreaksIn}
-use Rattle.vdr_ring.specs.Belied.{IsBelied}
+use Rattle.vdr_ring.specs.Visits.{AreAhead, VisitState, HasJudged, IsLoaded, StandsAmong, StandsIn, Steps, Visits, position_in, slot_read}
+use Rattle.vdr_ring.specs.Damage.{HasDamage, IsIntact}
 use Rattle.vdr_ring.specs.Lasts.{batch_or_none}
 use Rattle.vdr_ring.specs.declared.refused.ReadRefused.{ReadRefused}
 use Rattle.vdr_ring.specs.declared.refused.ReadRefused.TheVariants.{Damaged}
@@ -28,6 +27,8 @@ pub record OnlyReads {M : Type 0} (media : MediaTells M) (old new : RingState) (
   pub room : HasMedium new (media.disk after).sizes
   -- a buffer that held what its slot reads as still does
   pub bytes : IsLoaded old (media.disk before) → IsLoaded new (media.disk after)
+  -- a slot that was loaded and judged still is
+  pub judged : HasJudged old (media.disk before) → HasJudged new (media.disk after)
   -- what the medium read as it still does
   pub reads : (placed : List Placed) → Reads old placed (media.disk before) → Reads new placed (media.disk after)
   -- what was known of its parts still is
@@ -43,14 +44,23 @@ pub record StepsInSlot {M : Type 0} (media : MediaTells M) (selection : Selectio
   pub item : to.item ≢ None ↔ (result ≡ Ok true)
   -- after Ok the slot is the one that is loaded
   pub loaded : OnOk result (new.loaded ≡ Some slot)
+  -- and it is intact: its batches are legal, and agree with the summary in its header
+  pub intact : OnOk result (media.tells → HasJudged old (media.disk before) → IsIntact (slot_read old slot (media.disk before)))
+  -- a step to a record goes on in the slot
+  pub onward : result ≡ Ok true → (to.slot ≡ Some slot) × ((position_in slot from).at < to.position.at) × (to.position.at < 2 ^ 24)
   -- what was found, by the bytes of the slot
   pub steps : media.tells → IsLoaded old (media.disk before) → Steps selection old.medium slot (place_of old.segment slot) (slot_read old slot (media.disk before)) from result to
   -- what was found, by the records that were ahead
   pub visits : media.tells → (placed : List Placed) (records : List Record) → Reads old placed (media.disk before)
       → AreAhead (slot_read old slot (media.disk before)) placed slot from records
       → Visits selection (slot_read old slot (media.disk before)) placed slot records result to
+  -- the visit stands between the records of its slot, as it did
+  pub among : media.tells → HasJudged old (media.disk before) → StandsAmong old (media.disk before) from → StandsAmong old (media.disk before) to
   -- damage is on the ring's medium
   pub medium : (m offset : ℕ) → result ≡ Err (Damaged m offset) → m ≡ old.medium
+  -- and where its slot is not intact
+  pub damaged : media.tells → HasJudged old (media.disk before) → StandsAmong old (media.disk before) from → (m offset : ℕ) → result ≡ Err (Damaged m offset)
+      → HasDamage old.segment old.slots (content (media.disk before).reads old.medium) offset
 
 -- The slot was read whole where it was not loaded, and else nothing. A fault has its cause.
 pub record ReadsUnlessLoaded {M : Type 0} (media : MediaTells M) (slot : ℕ) (ring : RingState) (before after : M) (faulted : Type 0) : Type 0 where
@@ -63,17 +73,20 @@ pub record ReadsUnlessLoaded {M : Type 0} (media : MediaTells M) (slot : ℕ) (r
   -- a fault comes only where that of the ring's medium rose
   pub rose : faulted → Rose (get_or (media.faults before) ring.medium 0) (get_or (media.faults after) ring.medium 0)
 
--- The records of the medium's last batch, or the first batch of its slot that is not legal.
+-- The records of the medium's last batch, or where its slot is damaged.
 pub record GivesLastBatch {M : Type 0} (media : MediaTells M) (ring : RingState) (before : M) (result : Result (Vec Record Global) PartRefused) : Type 0 where
   -- they are those of the last batch, none where there is none
-  pub batch : IfOk result (λ records. media.tells → (known : List Placed) → Knows ring known (media.disk before) → batch_or_none records.items ≡ last (batches_in known))
+  pub batch : IfOk result (λ records. media.tells → (placed : List Placed) → Reads ring placed (media.disk before) → batch_or_none records.items ≡ last (batches_in placed))
+  -- and so it is by what is known of the segments
+  pub known : IfOk result (λ records. media.tells → (known : List Placed) → Knows ring known (media.disk before) → batch_or_none records.items ≡ last (batches_in known))
   -- a segment that has no other batch has room for them
   pub fits : IfOk result (λ records. records.items ≢ [] → 64 + batch_size records.items + 1 ≤ ring.segment)
-  -- a medium whose parts are known has no damage there
-  pub undamaged : media.tells → (known : List Placed) → Knows ring known (media.disk before) → (m offset : ℕ) → result ≡ Err (APartDamaged m offset) → ⊥
+  -- a medium that reads as segments has no damage there
+  pub undamaged : media.tells → (placed : List Placed) → Reads ring placed (media.disk before) → (m offset : ℕ) → result ≡ Err (APartDamaged m offset) → ⊥
+  -- nor has one whose segments are known
+  pub undamaged_known : media.tells → (known : List Placed) → Knows ring known (media.disk before) → (m offset : ℕ) → result ≡ Err (APartDamaged m offset) → ⊥
   -- damage is on the ring's medium
   pub medium : (m offset : ℕ) → result ≡ Err (APartDamaged m offset) → m ≡ ring.medium
-  -- and where a batch of one of its slots is not legal, or does not agree with the summary of its segment
-  pub offset : media.tells → IsLoaded ring (media.disk before) → (m offset : ℕ) → result ≡ Err (APartDamaged m offset)
-      → (slot : ℕ) × (slot < ring.slots) × (BreaksIn ring.segment slot (content (media.disk before).reads ring.medium) offset
-      ⊎ ((at : ℕ) × IsBelied (slot_read ring slot (media.disk before)) at × (offset ≡ place_of ring.segment slot + at)))
+  -- and where one of its slots is not intact
+  pub damaged : media.tells → HasJudged ring (media.disk before) → (m offset : ℕ) → result ≡ Err (APartDamaged m offset)
+      → HasDamage ring.segment ring.slots (content (media.disk before).reads ring.medium) offset

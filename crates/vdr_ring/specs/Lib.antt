@@ -6,7 +6,7 @@ pub mod Bringing
 pub mod Appends
 pub mod Regularity
 pub mod Keeping
-pub mod Belied
+pub mod Damage
 pub mod Visits
 pub mod Lasts
 pub mod Meets

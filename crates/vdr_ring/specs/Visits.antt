@@ -8,7 +8,7 @@ use Rattle.vdr_survey.specs.declared.selection.Selection.{Selection}
 use Rattle.vdr_survey.specs.Selections.{Passes, StartsSelected, is_selected}
 use Rattle.vdr_survey.specs.Positions.{front, IsAt, HasAhead, IsBrokenAt, StepsOver}
 use Rattle.vdr_directory.specs.Sequence.{Placed, records_of}
-use Rattle.vdr_ring.specs.Belied.{IsBelied}
+use Rattle.vdr_ring.specs.Damage.{IsDamagedAt, IsIntact}
 use Rattle.vdr_ring.specs.Rings.{RingState}
 use Rattle.vdr_directory.specs.Opening.{slot_bytes}
 use Rattle.vdr_ring.specs.declared.refused.ReadRefused.{ReadRefused}
@@ -53,7 +53,7 @@ Steps selection medium slot place bytes old (Ok false) new =
 Steps selection medium slot place bytes old (Err Fault) new = new ≡ without_item old
 Steps selection medium slot place bytes old (Err (Damaged m offset)) new =
     IsOpenAt bytes 0 × (m ≡ medium) × (new ≡ without_item old)
-    × (((at : ℕ) × IsBelied bytes at × (offset ≡ place + at))
+    × (((at : ℕ) × IsDamagedAt bytes at × (offset ≡ place + at))
     ⊎ ((IsAt bytes (position_in slot old) × (q : Position) × Passes bytes selection (position_in slot old) q × IsBrokenAt bytes q × (offset ≡ place + q.to))
     ⊎ ((IsAt bytes (position_in slot old) → ⊥) × (offset ≡ place))))
 
@@ -82,3 +82,11 @@ module _ {tells tells_images : Type 0} where
   -- The buffer holds what the slot that is loaded reads as.
   abbrev pub IsLoaded : RingState → Disk tells tells_images → Type 0
   IsLoaded ring disk = (slot : ℕ) → ring.loaded ≡ Some slot → tells → ring.buffer ≡ slot_read ring slot disk
+
+  -- The slot that is loaded was judged: the buffer holds what it reads as, and that is intact.
+  abbrev pub HasJudged : RingState → Disk tells tells_images → Type 0
+  HasJudged ring disk = (slot : ℕ) → ring.loaded ≡ Some slot → tells → (ring.buffer ≡ slot_read ring slot disk) × IsIntact (slot_read ring slot disk)
+
+  -- A visit that stands in a slot stands between its records: some are ahead of it, or none.
+  abbrev pub StandsAmong : RingState → Disk tells tells_images → VisitState → Type 0
+  StandsAmong ring disk c = (slot : ℕ) → c.slot ≡ Some slot → IsAt (slot_read ring slot disk) c.position × (records : List Record) × HasAhead (slot_read ring slot disk) c.position records

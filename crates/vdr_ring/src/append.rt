@@ -1,4 +1,4 @@
-ghost use Rattle.std.specs.Prelude.{◌≡◌, ◌+◌, ◌<◌, ◌≤◌, ℕ, [], ◌∷◌, ◌++◌, List, length, OnOk};
+ghost use Rattle.std.specs.Prelude.{◌≡◌, ◌+◌, ◌<◌, ◌≤◌, ℕ, [], ◌∷◌, ◌++◌, List, length, None, OnOk};
 ghost use Rattle.vdr_terms.specs.Records.{Record as ARecord};
 ghost use Rattle.vdr_terms.specs.Needs.{Sizes};
 ghost use Rattle.vdr_terms.specs.Sizes.{batch_size};
@@ -53,6 +53,7 @@ impl Ring {
             → Retains self.old.seconds pins.now all (all_records placed)
             → ChangesOnly self.old.medium (IsKept self.old.segment self.old.slots self.old.seconds pins.now placed all records.now) (M.disk media.old) (M.disk media.new)
             × OnOk result (HasKept sizes pins.now (all ++ records.now) self.new (M.disk media.new)) }
+        ensures loaded { self.new.loaded ≡ None }
         ensures ring { StaysOnMedium self.old self.new (M.disk media.new).sizes }
         ensures front { KeepsFront self.old.medium (M.disk media.old) (M.disk media.new) }
         ensures writes { WritesTo M.Media self.old.medium media.old media.new result }

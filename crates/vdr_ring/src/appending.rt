@@ -226,6 +226,7 @@ impl Ring {
             × ChangesOnly self.old.medium (HoldsAny self.old.segment self.old.slots (placed ∷ stages.closed ∷ stages.begun ∷ stages.done ∷ stages.left ∷ [])) (M.disk media.old) (M.disk media.new)
             × OnOk result (Reads self.new stages.left (M.disk media.new)) }
         ensures legal { IsBatch records.now }
+        ensures loaded { self.new.loaded ≡ None }
         ensures ring { StaysOnMedium self.old self.new (M.disk media.new).sizes }
         ensures front { KeepsFront self.old.medium (M.disk media.old) (M.disk media.new) }
         ensures writes { WritesTo M.Media self.old.medium media.old media.new result }

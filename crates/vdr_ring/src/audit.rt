@@ -1,17 +1,17 @@
-// A slot that was read against the summary in its header.
+// A slot that was read whole, judged.
 ghost use Rattle.std.specs.Prelude.{◌≤◌, ◌<◌, ℕ, length, IfSome, IfNone};
-ghost use Rattle.vdr_ring.specs.Belied.{IsBelied};
+ghost use Rattle.vdr_ring.specs.Damage.{IsDamagedAt, IsIntact};
 
 use vdr_segment::{HEADER_SIZE, OPEN_GATE, read_header};
-use vdr_survey::audit;
+use vdr_survey::{audit, survey};
 
-// Where the segment of a slot with these bytes does not agree with the summary in its header. None where it does,
-// where the header has no summary, and where there is none.
-pub(crate) fn belied(bytes: &[u8]) -> Option<usize>
+// Where a slot with these bytes is damaged: its header, or the first batch that is not legal or does not agree with the
+// summary in the header. None where the slot is closed or intact.
+pub(crate) fn first_damage(bytes: &[u8]) -> Option<usize>
     requires { 65 ≤ length bytes.now }
-    ensures some { IfSome result (λ at. IsBelied bytes.now at) }
+    ensures some { IfSome result (λ at. IsDamagedAt bytes.now at) }
     ensures inside { IfSome result (λ at. at < length bytes.now) }
-    ensures none { IfNone result ((at : ℕ) → IsBelied bytes.now at → ⊥) }
+    ensures none { IfNone result (IsIntact bytes.now) }
 {
     if bytes[0] != OPEN_GATE {
         return None;
@@ -19,7 +19,11 @@ pub(crate) fn belied(bytes: &[u8]) -> Option<usize>
     let Some(front) = bytes.first_chunk::<HEADER_SIZE>() else {
         unreachable!()
     };
-    let header = read_header(front)?;
-    let summary = header.summary?;
-    audit(bytes, header.first, &summary).err()
+    let Some(header) = read_header(front) else {
+        return Some(0);
+    };
+    match header.summary {
+        Some(summary) => audit(bytes, header.first, &summary).err(),
+        None => survey(bytes, header.first).err(),
+    }
 }

@@ -4,6 +4,7 @@ ghost use Rattle.vdr_terms.specs.Records.{Record as Entry, last};
 ghost use Rattle.vdr_terms.specs.Sizes.{batch_size, records_size};
 ghost use Rattle.vdr_outside.specs.Causes.{counted};
 ghost use Rattle.vdr_outside.specs.declared.fault.PartRefused.TheVariants.{Damaged, Fault};
+ghost use Rattle.vdr_segment.specs.Gates.{IsOpenAt};
 ghost use Rattle.vdr_segment.specs.Batches.{AreRecords, IsBatch};
 ghost use Rattle.vdr_segment.specs.Segments.{AreBatches};
 ghost use Rattle.vdr_survey.specs.Surveys.{BreaksAt};
@@ -66,20 +67,25 @@ impl Ring {
         ensures found { (known : List Placed) → TellsBy self.now.slots known self.now.directory → AreInOrderBy known → All (λ p. All IsBatch p.segment.batches) known
             → IsLastSlot known result }
         ensures newest { IfSome result (IsNewest self.now.directory.index) }
+        ensures long { 64 ≤ self.now.segment }
     {
         self.directory.index().newest()
     }
 
-    // The records of the last batch of the segment that is loaded, which stands in this slot.
+    // The records of the last batch of the segment that is loaded, which stands in this slot. None where the slot is
+    // closed.
     fn last_loaded(&self, alloc: Global, slot: u32) -> Result<Vec<Record>, PartRefused>
         requires { slot < self.now.slots }
-        ensures batch { IfOk result (λ records. (batches : List (List Entry)) → AreBatches (drop 64 self.now.buffer) batches
+        ensures batch { IfOk result (λ records. IsOpenAt self.now.buffer 0 → (batches : List (List Entry)) → AreBatches (drop 64 self.now.buffer) batches
             → batch_or_none records.items ≡ last batches) }
         ensures fits { IfOk result (λ records. records.items ≢ [] → 64 + batch_size records.items + 1 ≤ self.now.segment) }
         ensures damaged { (m offset : ℕ) → result ≡ Err (Damaged m offset) → (m ≡ self.now.medium)
-            × (at : ℕ) × BreaksAt self.now.buffer at × (offset ≡ place_of self.now.segment slot + at) }
+            × IsOpenAt self.now.buffer 0 × (at : ℕ) × BreaksAt self.now.buffer at × (offset ≡ place_of self.now.segment slot + at) }
         ensures no_fault { IsErrOf result Fault → ⊥ }
     {
+        if !self.is_open() {
+            return Ok(Vec::new(alloc));
+        }
         let bytes = match last_records(&self.buffer) {
             Ok(bytes) => bytes,
             Err(at) => {
@@ -95,13 +101,13 @@ impl Ring {
         }
     }
 
-    /// The records of the medium's last batch, in order; none where the medium has no record. A segment that has no
-    /// other batch has room for them. Reads one slot whole where it is not the one read last, else nothing. So nothing
-    /// is read of a ring that was just opened.
+    /// The records of the medium's last batch, in order; none where the medium has no record, or its slot has been closed
+    /// since the ring was opened. A segment that has no other batch has room for them. Reads one slot whole where it is
+    /// not the one read last, else nothing. So nothing is read of a ring that was just opened.
     ///
-    /// `Damaged` names the medium and where a batch of that slot begins, in bytes. It is the first that is not legal, or
-    /// does not agree with the summary of its segment: since the ring was opened the bytes have changed. `NoMemory`:
-    /// there was no room for the records. `Fault`: the read failed, and the count of faults of this medium rose.
+    /// `Damaged` names the medium and where that slot is damaged, in bytes, as a step does (`read_span`): since the ring was
+    /// opened the bytes have changed. `NoMemory`: there was no room for the records. `Fault`: the read failed, and the
+    /// count of faults of this medium rose.
     pub fn read_last_batch<M: Media>(
         &mut self,
         alloc: Global,

@@ -6,6 +6,7 @@ ghost use Rattle.vdr_config.specs.Sizes.{sizes_of, window_of};
 ghost use Rattle.vdr_directory.specs.Sequence.{Placed};
 ghost use Rattle.vdr_directory.specs.Bringing.{bare_of};
 ghost use Rattle.vdr_ring.specs.Rings.{HasMedium, HoldsNewest, Knows, Reads};
+ghost use Rattle.vdr_ring.specs.Visits.{HasJudged};
 ghost use Rattle.vdr_directory.specs.Order.{AreInOrder};
 ghost use Rattle.vdr_directory.specs.Holds.{HoldsPlaced};
 ghost use Rattle.vdr_directory.specs.Costs.{ReadsAtMost, lacking};
@@ -72,6 +73,7 @@ impl Ring {
         ensures parts { IfOk result (λ ring. M.tells → (known : List Placed) × Knows ring known (M.disk media.new)
             × ReadsAtMost m (1 + 64 * ring.slots + ring.segment * lacking known) (M.bytes_read media.old) (M.bytes_read media.new)) }
         ensures held { IfOk result (λ ring. M.tells → HoldsNewest ring) }
+        ensures judged { IfOk result (λ ring. HasJudged ring (M.disk media.new)) }
         ensures shape { IfOk result (λ ring. (ring.medium ≡ m) × (ring.segment ≡ config.now.segment)
             × (ring.slots ≡ slots_in (sizes_of config.now) (get_or (M.disk media.old).sizes m 0)) × (ring.seconds ≡ window_of config.now m)) }
         ensures room { IfOk result (λ ring. HasMedium ring (M.disk media.old).sizes) }

@@ -1,16 +1,16 @@
-ghost use Rattle.std.specs.Prelude.{◌≡◌, ◌≢◌, ◌⊎◌, ◌↔◌, ◌<◌, ◌≤◌, ◌+◌, ℕ, get_or, true, false, IsTrue, IfOk, IfSome, IfNone, OnOk, OnErr, Option, Some, None, Ok, Err};
+ghost use Rattle.std.specs.Prelude.{◌≡◌, ◌≢◌, ◌⊎◌, ◌↔◌, ◌<◌, ◌≤◌, ◌+◌, ◌^◌, ℕ, get_or, true, false, IsTrue, IfOk, IfSome, IfNone, OnOk, OnErr, Option, Some, None, Ok, Err};
 ghost use Rattle.vdr_outside.specs.Causes.{NoneFalls, Rose, counted};
 ghost use Rattle.vdr_outside.specs.Disk.{Unchanged};
 ghost use Rattle.vdr_segment.specs.Gates.{IsOpenAt};
 ghost use Rattle.vdr_slots.specs.Slots.{place_of};
 ghost use Rattle.vdr_survey.specs.Positions.{IsAt};
 ghost use Rattle.vdr_ring.specs.Rings.{HasMedium};
-ghost use Rattle.vdr_ring.specs.Belied.{IsBelied};
+ghost use Rattle.vdr_ring.specs.Damage.{IsDamagedAt, IsIntact};
 ghost use Rattle.vdr_ring.specs.Visits.{StandsIn, IsLoaded, position_in, slot_read, Steps};
 ghost use Rattle.vdr_ring.specs.Calls.{OnlyReads, ReadsUnlessLoaded, StepsInSlot};
 ghost use Rattle.vdr_ring.specs.declared.refused.ReadRefused.TheVariants.{Fault as AFault, Damaged};
 
-use crate::audit::belied;
+use crate::audit::first_damage;
 use crate::visit::stands_in;
 use crate::{ReadRefused, Ring, Visit};
 use vdr_outside::Media;
@@ -19,9 +19,9 @@ use vdr_slots::read_slot;
 use vdr_survey::{Position, Selection};
 
 impl Ring {
-    // Reads a slot into the buffer, where the buffer does not hold it already, and audits its segment where the header
-    // has a summary. Says whether the buffer held it. `Damaged` names the first batch that is not legal or does not
-    // agree with the summary, or where the batches end with too few records. Then no slot is loaded.
+    // Reads a slot into the buffer, where the buffer does not hold it already, and judges it. Says whether the buffer held
+    // it. `Damaged` names the header that is not legal, or the first batch that is not or does not agree with the summary
+    // in the header, or where the batches end with too few records. Then no slot is loaded.
     pub(crate) fn load<M: Media>(&mut self, media: &mut M, slot: u32) -> Result<bool, ReadRefused>
         requires room { HasMedium self.old (M.disk media.old).sizes }
         requires within { slot < self.old.slots }
@@ -30,9 +30,9 @@ impl Ring {
         ensures held { IfOk result (λ held. IsTrue held → (self.old.loaded ≡ Some slot) × (self.new.buffer ≡ self.old.buffer)) }
         ensures failed { OnErr result (self.new.loaded ≡ None) }
         ensures bytes { IsLoaded self.old (M.disk media.old) → IsLoaded self.new (M.disk media.new) }
-        ensures audited { IfOk result (λ held. (held ≡ false) → (at : ℕ) → IsBelied self.new.buffer at → ⊥) }
+        ensures judged { IfOk result (λ held. (held ≡ false) → IsIntact self.new.buffer) }
         ensures damaged { (m offset : ℕ) → result ≡ Err (Damaged m offset) → (m ≡ self.old.medium)
-            × (M.tells → (at : ℕ) × IsBelied (slot_read self.old slot (M.disk media.old)) at × (offset ≡ place_of self.old.segment slot + at)) }
+            × (M.tells → (at : ℕ) × IsDamagedAt (slot_read self.old slot (M.disk media.old)) at × (offset ≡ place_of self.old.segment slot + at)) }
         ensures unchanged { Unchanged (M.disk media.old) (M.disk media.new) }
         ensures again { self.old.loaded ≡ Some slot → M.bytes_read media.new ≡ M.bytes_read media.old }
         ensures once { self.old.loaded ≢ Some slot → M.bytes_read media.new ≡ counted (M.bytes_read media.old) self.old.medium self.old.segment }
@@ -44,7 +44,7 @@ impl Ring {
         }
         self.loaded = None;
         read_slot(media, self.area, slot, &mut self.buffer)?;
-        if let Some(at) = belied(&self.buffer) {
+        if let Some(at) = first_damage(&self.buffer) {
             return Err(self.damaged(slot, at));
         }
         self.loaded = Some(slot);
@@ -52,7 +52,7 @@ impl Ring {
     }
 
     // Whether the slot that is loaded has a segment.
-    fn is_open(&self) -> bool
+    pub(crate) fn is_open(&self) -> bool
         ensures { IsTrue result ↔ IsOpenAt self.now.buffer 0 }
     {
         self.buffer[0] == OPEN_GATE
@@ -99,6 +99,8 @@ impl Ring {
         ensures left { (self.new.loaded ≡ self.old.loaded) ⊎ (self.new.loaded ≡ None) }
         ensures stands { StandsIn self.new visit.new }
         ensures no_fault { result ≢ Err AFault }
+        ensures onward { result ≡ Ok true → (visit.new.slot ≡ Some slot) × ((position_in slot visit.old).at < visit.new.position.at)
+            × (visit.new.position.at < 2 ^ 24) }
         ensures steps { Steps selection.now self.old.medium slot (place_of self.old.segment slot) self.old.buffer visit.old result visit.new }
     {
         if !self.is_open() {
@@ -124,12 +126,11 @@ impl Ring {
     /// The visit is new, or its last step was by this ring and no other visit's came since (`stands`): then it may go on
     /// in the buffer without a look at what is behind it.
     ///
-    /// `Damaged` names the medium and an offset, in bytes. A segment whose header has a summary is judged by that as it
-    /// is read. The offset is where the first batch begins that is not legal or does not agree with it, or where the
-    /// batches end with fewer records than it counts. Of another segment it is where a batch begins, exactly where that
-    /// is not legal and no record before it is selected. Where the bytes have changed so that no record begins where the
-    /// visit stands, it is that of the slot. `Fault`: the read failed. Where a step is refused, the visit stays where it
-    /// is, without a record.
+    /// A slot is judged as it is read. `Damaged` names the medium and an offset, in bytes: that of the slot where its header
+    /// is not legal, else where the first batch begins that is not legal or does not agree with the summary in the header,
+    /// or where the batches end with fewer records than that counts. After Ok the segment is legal and agrees (`intact`).
+    /// Where the bytes have changed since the visit's last step, so that no record begins where it stands, the offset is
+    /// that of the slot. `Fault`: the read failed. Where a step is refused, the visit stays where it is, without a record.
     pub fn read_span<M: Media>(
         &mut self,
         media: &mut M,

@@ -5,8 +5,9 @@ use vdr_outside::Fault;
 pub enum ReadRefused {
     /// A call on the media failed, and the count of faults of that medium rose.
     Fault,
-    /// A batch of this medium is not legal, or does not agree with the summary of its segment. It begins at this offset,
-    /// in bytes. Where a segment has fewer records than its summary counts, this is where its batches end.
+    /// The header of a segment of this medium is not legal, or one of its batches is not or does not agree with the
+    /// summary in the header. It begins at this offset, in bytes. Where a segment has fewer records than its summary
+    /// counts, this is where its batches end.
     Damaged { medium: u8, offset: u64 },
 }
 

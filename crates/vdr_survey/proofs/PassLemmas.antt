@@ -34,6 +34,7 @@ module _ (segment : List ℕ) (s : Selection) where
   pub pass_none : (p : Position) → IsAt segment p → Passes segment s p p
   pass_none p at = record {
     stands = at;
+    onward = omega arith;
     passed = [];
     none = All-nil (λ (r : Record). is_selected s r ≡ false);
     ahead = λ records. (λ h. (records, refl, h), λ x. subst (λ (rs : List Record). HasAhead segment p rs) (sym x.1) x.2);
@@ -43,15 +44,17 @@ module _ (segment : List ℕ) (s : Selection) where
   pass_one : (p next : Position) (r : Record) → p.at < p.to → StepsOver segment p r next → is_selected s r ≡ false → Passes segment s p next
   pass_one p next r more over fails = record {
     stands = over.stands;
+    onward = let on = over.onward in omega (arith, on);
     passed = r ∷ [];
     none = All-cons (λ (x : Record). is_selected s x ≡ false) r [] fails (All-nil (λ (x : Record). is_selected s x ≡ false));
     ahead = over.ahead;
     whole = λ broken. absurd (omega (arith, more, broken.ended));
   }
 
-  pass_gate : (p : Position) (from to : ℕ) → p.to ≤ p.at → Walks segment p.to (Batch from to) → Passes segment s p (record { at = from; to = to })
-  pass_gate p from to past w = record {
+  pass_gate : (p : Position) (from to : ℕ) → p.at ≤ p.to → p.to ≤ p.at → Walks segment p.to (Batch from to) → Passes segment s p (record { at = from; to = to })
+  pass_gate p from to order past w = record {
     stands = batch_stands segment p.to from to w;
+    onward = let gate = w.2 in omega (arith, gate, order);
     passed = [];
     none = All-nil (λ (r : Record). is_selected s r ≡ false);
     ahead = λ records.
@@ -63,6 +66,7 @@ module _ (segment : List ℕ) (s : Selection) where
   pass_join : (p q next : Position) → Passes segment s p q → Passes segment s q next → Passes segment s p next
   pass_join p q next a b = record {
     stands = b.stands;
+    onward = let first = a.onward in let then = b.onward in omega (arith, first, then);
     passed = a.passed ++ b.passed;
     none = All-append (λ (r : Record). is_selected s r ≡ false) a.passed b.passed a.none b.none;
     ahead = λ records. (
@@ -76,7 +80,7 @@ module _ (segment : List ℕ) (s : Selection) where
 
   pub pass_into : (p q next : Position) (from to : ℕ) → Passes segment s p q → q.to ≤ q.at → Walks segment q.to (Batch from to) → Passes segment s (record { at = from; to = to }) next
       → Passes segment s p next
-  pass_into p q next from to a past w b = pass_join p q next a (pass_join q (record { at = from; to = to }) next (pass_gate q from to past w) b)
+  pass_into p q next from to a past w b = pass_join p q next a (pass_join q (record { at = from; to = to }) next (pass_gate q from to a.stands.order past w) b)
 
   -- The record at a position
 

@@ -1,5 +1,5 @@
 -- Which records are selected, and how others are passed by.
-use Rattle.std.specs.Prelude.{◌≡◌, ◌↔◌, ℕ, Bool, true, false, List, ◌∷◌, ◌++◌, All, ◌&&◌}
+use Rattle.std.specs.Prelude.{◌≡◌, ◌≤◌, ◌↔◌, ℕ, Bool, true, false, List, ◌∷◌, ◌++◌, All, ◌&&◌}
 use Rattle.vdr_terms.specs.Records.{Record}
 use Rattle.vdr_terms.specs.Records.Content.{Start}
 use Rattle.vdr_terms.specs.Sizes.{record_size}
@@ -26,6 +26,7 @@ shown h = record { content = Start; group = 255; bits = h.bits; place = h.place;
 -- ahead of the next position. No batch is passed by that is not legal.
 pub record Passes (segment : List ℕ) (selection : Selection) (p next : Position) : Type 0 where
   pub stands : IsAt segment next
+  pub onward : p.at ≤ next.at
   pub passed : List Record
   pub none : All (λ r. is_selected selection r ≡ false) passed
   pub ahead : (records : List Record) → HasAhead segment p records ↔ ((more : List Record) × (records ≡ passed ++ more) × HasAhead segment next more)

@@ -42,7 +42,7 @@ module _ {tells tells_images : Type 0} (c : Configuration) (text : List ℕ) (al
       (h.moments.each i since))
 
   -- Of media that were opened.
-  pub media_life : {Can : Contents → Type 0} {Met : Type 0} {MayBe : List Event → Type 0} (old new : MediaSeen tells tells_images) (status : Status) → MediaEnds Can Met MayBe old new status
+  pub media_life : {Can : Contents → Type 0} {Met : (m offset : ℕ) → Type 0} {MayBe : List Event → Type 0} (old new : MediaSeen tells tells_images) (status : Status) → MediaEnds Can Met MayBe old new status
       → tells → RestAs image old.disk → Life c text all image → LivesOn c text all old.disk new.disk
   media_life {MayBe = MayBe} old new status h told rest life = by (h.kept l.contents told (subst (λ (i : Image). HoldsContents i l.contents) (sym rest.reads) l.holds) l.meet l.sound)
     where

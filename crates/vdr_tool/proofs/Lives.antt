@@ -50,7 +50,7 @@ module _ {tells tells_images : Type 0} where
   left_ours x rose old new (inl leaves) = inl leaves
   left_ours x rose old new (inr (feed, end, h)) = headline_ours x (AccountsForFeed x new feed end) ((end ≡ Broken) × rose) old new h
 
-  pub media_lives : {Can : Contents → Type 0} {Met : Type 0} {MayBe : List Event → Type 0} (old new : MediaSeen tells tells_images) (status : Status) → MediaEnds Can Met MayBe old new status
+  pub media_lives : {Can : Contents → Type 0} {Met : (m offset : ℕ) → Type 0} {MayBe : List Event → Type 0} (old new : MediaSeen tells tells_images) (status : Status) → MediaEnds Can Met MayBe old new status
       → tells_images → AreOurs old.disk → StayOurs old.disk new.disk
   media_lives {MayBe = MayBe} old new status h told ours = ours_opened old.disk new.disk told ours h.blank
       (λ x t holds meet sound. kept_ours x MayBe status old.disk new.disk (h.kept x t holds meet sound))

@@ -32,7 +32,7 @@ module _ {tells tells_images : Type 0} (old new : MediaSeen tells tells_images) 
       (subst (λ (table : List (Option Incident)). save_cause label (newest_of x) table ≡ cause) (law.table x (parts_of y) holds (law.parts y also)) judged)
 
   pub saves_all : (label : List ℕ) (status : Status) → (status ≡ OutputFault → ⊥) → (status ≡ MediaFault → ⊥) → IsSaveStatus status
-      → MediaEnds (CanSave label) (MetUnsound old.disk (CanSave label)) MayBe old new status
+      → MediaEnds (CanSave label) (MetUnsound old.disk new.disk (CanSave label)) MayBe old new status
       → IfSaveRefused status (λ cause. tells → IsOpenableWith old.disk.reads (IsJudged label (Some cause)))
       → SavesAll label old.disk.reads status
   saves_all label Done output media own ends refused =
@@ -60,7 +60,7 @@ module _ {tells tells_images : Type 0} (old new : MediaSeen tells tells_images) 
       let p = h.0 in
       record {
         refused = opened_refused old.disk.reads law (Damaged k at) p.0 p.1 p.2 p.3;
-        cause = λ x cause holds meet is. no_cause cause (save_cause label (newest_of x) x.table) (judged_too label None p.1 x p.2 holds p.4) is;
+        cause = λ x cause holds meet is. no_cause cause (save_cause label (newest_of x) x.table) (judged_too label None p.1 x p.2 holds p.4.0) is;
         done = λ x holds meet recorded can. absurd (h.1 x holds recorded);
       })
       ends.damaged
@@ -97,7 +97,7 @@ module _ {tells tells_images : Type 0} (old new : MediaSeen tells tells_images) 
   saves_all label (NoIncident id) output media own ends refused = absurd own
 
   pub releases_all : (id : ℕ) (status : Status) → (status ≡ MediaFault → ⊥) → IsReleaseStatus status
-      → MediaEnds (CanRelease id) ⊥ MayBe old new status
+      → MediaEnds (CanRelease id) (λ m offset. ⊥) MayBe old new status
       → IfNoIncident status (λ asked. (asked ≡ id) × (tells → IsOpenableWith old.disk.reads (λ x. live x.table id ≡ None)))
       → ReleasesAll id old.disk.reads status
   releases_all id Done media own ends missing =

@@ -9,6 +9,7 @@ use Rattle.vdr_outside.specs.Causes.{NoneFalls, Rose}
 use Rattle.vdr_outside.specs.Disk.{Disk, SameBut, Unchanged}
 use Rattle.vdr_outside.proofs.Counts.{rose_after, sum_not_less}
 use Rattle.vdr_terms.specs.Texts.{is_label}
+use Rattle.vdr_config.specs.Configuration.{Configuration}
 use Rattle.vdr_incident.specs.declared.refused.ReleaseRefused.{ReleaseRefused}
 use Rattle.vdr_incident.specs.declared.refused.ReleaseRefused.TheVariants as releases
 use Rattle.vdr_directory.specs.Sequence.{Placed}
@@ -16,10 +17,11 @@ use Rattle.vdr_opening.specs.Media.{members, Contents, HoldsContents, opening_of
 use Rattle.vdr_opening.specs.declared.refused.OpenRefused.{OpenRefused}
 use Rattle.vdr_opening.specs.declared.refused.OpenRefused.TheVariants as openings
 use Rattle.vdr_recorder.specs.Recordings.{HasDone, HasRecorded, RecorderState}
-use Rattle.vdr_vault.specs.Openings.{OpensAtEachMoment}
+use Rattle.vdr_vault.specs.Openings.{IsToldBy, OpensAtEachMoment}
 use Rattle.vdr_vault.specs.Saves.{HasFaultOn, refusal_from, save_refusal}
+use Rattle.vdr_vault.proofs.Stepping.{damaged_still}
 use Rattle.vdr_vault.proofs.OpenMoments.{never_both}
-use Rattle.vdr_vault.specs.Vaults.{VaultState, ShowsHistory, Stands}
+use Rattle.vdr_vault.specs.Vaults.{IsDamagedOn, VaultState, ShowsHistory, Stands}
 use Rattle.vdr_vault.specs.declared.refused.SaveRefused.{SaveRefused as Refused}
 use Rattle.vdr_vault.specs.declared.refused.SaveRefused.TheVariants as saves
 use Rattle.vdr_command.specs.Endings.{IsWorkDone}
@@ -112,16 +114,33 @@ module _ {tells tells_images : Type 0} (old mid new : MediaSeen tells tells_imag
       (refused_so : (refused : Refused) → r.vault.failed ≡ false → save_refusal label r.vault ≡ Some refused → saved ≡ Err refused)
       (undamaged : (opening : Opening) (events : List Event) (placed : ℕ → List Placed) (m offset : ℕ) → tells → Stands opening events r.vault placed mid.disk
       → saved ≡ Err (saves.Damaged m offset) → ⊥)
+      (damaged : (m offset : ℕ) → saved ≡ Err (saves.Damaged m offset) → Unchanged mid.disk new.disk × (tells → (offset ≡ 0) ⊎ IsDamagedOn r.vault.config mid.disk m offset))
     where
       -- How the label is judged on these media.
-      judged : (found : Option Refused) → save_refusal label r.vault ≡ found → tells → IsOpenableWith old.disk.reads (IsJudged label (cause_if found))
-      judged found is = opened_so (IsJudged label (cause_if found)) old.disk r.vault parts (λ x read.
+      judged_as : (found : Option Refused) → save_refusal label r.vault ≡ found → (x : Contents) → IsToldBy x r.vault → IsJudged label (cause_if found) x
+      judged_as found is x read =
           subst (λ (newest : Option (ℕ × ℤ)). save_cause label newest x.table ≡ cause_if found) read.last
-          (subst (λ (table : List (Option Incident)). save_cause label r.vault.last table ≡ cause_if found) read.table (ap (λ (o : Option Refused). cause_if o) is)))
+          (subst (λ (table : List (Option Incident)). save_cause label r.vault.last table ≡ cause_if found) read.table (ap (λ (o : Option Refused). cause_if o) is))
+
+      judged : (found : Option Refused) → save_refusal label r.vault ≡ found → tells → IsOpenableWith old.disk.reads (IsJudged label (cause_if found))
+      judged found is = opened_so (IsJudged label (cause_if found)) old.disk r.vault parts (judged_as found is)
 
       -- What a recorder leaves is not damaged.
       unsound : (m offset : ℕ) → saved ≡ Err (saves.Damaged m offset) → tells → (x : Contents) → HoldsContents old.disk.reads x → WasRecorded x → ⊥
       unsound m offset is t x holds sound = let stands = standing x t holds sound in undamaged (opening_of x) [] stands.0 m offset t stands.1 is
+
+      -- Where it met damage one of the slots is not intact, or not all records of the incident are there, and what the media hold is not
+      -- sound.
+      met : (m offset : ℕ) → saved ≡ Err (saves.Damaged m offset) → save_refusal label r.vault ≡ None → MetUnsound old.disk new.disk (CanSave label) m offset
+      met m offset is none t =
+          let named = damaged m offset is in (
+            opened_so (λ x. CanSave label x × ((offset ≡ 0) ⊎ IsDamagedOn x.config new.disk m offset)) old.disk r.vault parts (λ x read. (
+              judged_as None none x read,
+              subst (λ (d : Configuration). (offset ≡ 0) ⊎ IsDamagedOn d new.disk m offset) read.config
+                  (⊎_elim (λ (zero : offset ≡ 0). inl zero) (λ (damage : IsDamagedOn r.vault.config mid.disk m offset). inr (damaged_still r.vault.config mid.disk new.disk named.0.sizes (named.0.reads t) m offset damage)) (named.1 t)),
+            )) t,
+            unsound m offset is t,
+          )
 
       -- Where the save is not refused by the judgement, nothing stands in its way.
       unrefused : (found : Option Refused) → save_refusal label r.vault ≡ found → ((refused : Refused) → save_refusal label r.vault ≡ Some refused → ⊥) → save_refusal label r.vault ≡ None
@@ -150,11 +169,11 @@ module _ {tells tells_images : Type 0} (old mid new : MediaSeen tells tells_imag
             (λ worked. absurd (undone worked)) (one_look done.event done.act_is)
 
         pub saved_ends : (status : Status) (id : ℕ) → IsWorkDone status → saved ≡ Ok id → ((saved ≡ Err saves.Fault → ⊥) → after.vault.failed ≡ false)
-            → MediaEnds (CanSave label) (MetUnsound old.disk (CanSave label)) (MayLeave (SavesAs label) new.disk.clock status) old new status
+            → MediaEnds (CanSave label) (MetUnsound old.disk new.disk (CanSave label)) (MayLeave (SavesAs label) new.disk.clock status) old new status
         saved_ends status id done is works_on =
             let works_still = works_on (λ e. let clash : Ok id ≡ Err saves.Fault = sym is ∙ e in let no_one : ⊥ = cc in no_one) in
             let none = unrefused (save_refusal label r.vault) refl (λ refused e. let clash : Ok id ≡ Err refused = sym is ∙ refused_so refused works e in let no_one : ⊥ = cc in no_one) in
-            worked_ends (CanSave label) (MetUnsound old.disk (CanSave label)) (MayLeave (SavesAs label) new.disk.clock status) old new status done
+            worked_ends (CanSave label) (MetUnsound old.disk new.disk (CanSave label)) (MayLeave (SavesAs label) new.disk.clock status) old new status done
             (judged None none) others_too
             (kept_with_save (Some new.disk.clock) (MayLeave (SavesAs label) new.disk.clock status) status (λ worked. works_still) none (λ m offset e. let clash : Ok id ≡ Err (saves.Damaged m offset) = sym is ∙ e in let no_one : ⊥ = cc in no_one) (ap (λ (b : Bool). moment_of b new.disk.clock) works_still) (λ events one. may_leave (SavesAs label) new.disk.clock status events done one))
 
@@ -170,7 +189,7 @@ module _ {tells tells_images : Type 0} (old mid new : MediaSeen tells tells_imag
               never (e ∙ ap (λ (x : Refused). Some x) same))
 
           by_judgement : (refused : Refused) (why : SaveCause) → save_refusal label r.vault ≡ Some refused
-              → MediaEnds (CanSave label) (MetUnsound old.disk (CanSave label)) AreLooks old new (SaveRefused why)
+              → MediaEnds (CanSave label) (MetUnsound old.disk new.disk (CanSave label)) AreLooks old new (SaveRefused why)
           by_judgement refused why is = record {
             unformatted = λ e. let none : ⊥ = cc in absurd none;
             damaged = tt;
@@ -182,7 +201,7 @@ module _ {tells tells_images : Type 0} (old mid new : MediaSeen tells tells_imag
           }
 
           pub unsaved_ends : (refused : Refused) → saved ≡ Err refused
-              → MediaEnds (CanSave label) (MetUnsound old.disk (CanSave label)) (MayLeave (SavesAs label) new.disk.clock (status_of_save refused)) old new (status_of_save refused)
+              → MediaEnds (CanSave label) (MetUnsound old.disk new.disk (CanSave label)) (MayLeave (SavesAs label) new.disk.clock (status_of_save refused)) old new (status_of_save refused)
           unsaved_ends saves.Label is = by_judgement saves.Label Label (reason saves.Label is (inl refl)).1
           unsaved_ends saves.Nothing is = by_judgement saves.Nothing Nothing (reason saves.Nothing is (inr (inl refl))).1
           unsaved_ends saves.TableFull is = by_judgement saves.TableFull TableFull (reason saves.TableFull is (inr (inr refl))).1
@@ -190,7 +209,7 @@ module _ {tells tells_images : Type 0} (old mid new : MediaSeen tells tells_imag
               let none = unjudged (saves.Damaged m offset) is (never_damaged (is_label label) r.vault.last (position is_none r.vault.table) m offset) in
               record {
                 unformatted = λ e. let none : ⊥ = cc in absurd none;
-                damaged = inr (λ t. (judged None none t, unsound m offset is t));
+                damaged = inr (met m offset is none);
                 fault = λ e. let none : ⊥ = cc in absurd none;
                 openable = λ done. absurd done;
                 others = others_too;
@@ -254,11 +273,11 @@ module _ {tells tells_images : Type 0} (old mid new : MediaSeen tells tells_imag
           (may (done.event ∷ []) (record { event = done.event; is = refl; does = done.act_is; moment_is = done.moment_is ∙ is }))
 
       pub released_ends : (p : Result ⊤ ReleaseRefused) → released ≡ p
-          → MediaEnds (λ x. CanRelease id x) ⊥ (MayLeave (ReleasesId id) new.disk.clock (status_of_release p id)) old new (status_of_release p id)
+          → MediaEnds (λ x. CanRelease id x) (λ m offset. ⊥) (MayLeave (ReleasesId id) new.disk.clock (status_of_release p id)) old new (status_of_release p id)
       released_ends (Ok u) is =
           let live_one = there (live r.vault.table id) refl (λ e. let clash : Ok u ≡ Err releases.NoSuch = sym is ∙ e in let none : ⊥ = cc in none) in
           let works_still = works_on (λ e. let clash : Ok u ≡ Err releases.Fault = sym is ∙ e in let none : ⊥ = cc in none) in
-          worked_ends (λ x. CanRelease id x) ⊥ (MayLeave (ReleasesId id) new.disk.clock Done) old new Done tt (can live_one.0 live_one.1) others_too
+          worked_ends (λ x. CanRelease id x) (λ m offset. ⊥) (MayLeave (ReleasesId id) new.disk.clock Done) old new Done tt (can live_one.0 live_one.1) others_too
           (kept_with_release (Some new.disk.clock) (MayLeave (ReleasesId id) new.disk.clock Done) Done (λ worked. works_still) live_one.0 live_one.1 (ap (λ (b : Bool). moment_of b new.disk.clock) works_still) (λ events one. one))
       released_ends (Err releases.NoSuch) is = record {
         unformatted = λ e. let none : ⊥ = cc in absurd none;

@@ -52,7 +52,7 @@ pub record Releases {tells tells_images : Type 0} (id : ℕ) (old new : Outside 
   pub no_incident : IfNoIncident status (λ told. (told ≡ id) × (tells → IsOpenableWith old.media.disk.reads (λ x. live x.table id ≡ None)))
   pub silent : new.output ≡ old.output
   -- the media, and what is said of them
-  pub media : MediaEnds (CanRelease id) ⊥ (MayLeave (ReleasesId id) new.media.disk.clock status) old.media new.media status
+  pub media : MediaEnds (CanRelease id) (λ m offset. ⊥) (MayLeave (ReleasesId id) new.media.disk.clock status) old.media new.media status
   pub missing : IsUnbegun status → AddsMissing old.media.disk new.media.disk
   -- nothing else comes in the place of the release, or of a refusal, but want of memory
   pub complete : NothingFailed old new → tells → ReleasesAll id old.media.disk.reads status

@@ -89,7 +89,7 @@ pub record Saves {tells tells_images : Type 0} (label : List ℕ) (old new : Out
   pub output : status ≡ OutputFault → OutputFailed old.output new.output
   pub silent : IsWorkDone status ⊎ (new.output ≡ old.output)
   -- the media, and what is said of them
-  pub media : MediaEnds (CanSave label) (MetUnsound old.media.disk (CanSave label)) (MayLeave (SavesAs label) new.media.disk.clock status) old.media new.media status
+  pub media : MediaEnds (CanSave label) (MetUnsound old.media.disk new.media.disk (CanSave label)) (MayLeave (SavesAs label) new.media.disk.clock status) old.media new.media status
   pub missing : IsUnbegun status → AddsMissing old.media.disk new.media.disk
   -- nothing else comes in the place of the save, or of a refusal, but want of memory
   pub complete : NothingFailed old new → tells → SavesAll label old.media.disk.reads status

@@ -32,7 +32,7 @@ fn release<I: Source + Drop, O: Sink + Drop, M: Media + Drop>(
     requires three { length (M.disk world.old.media).sizes ≤ 3 }
     ensures statuses { IsReleaseStatus (ending result) }
     ensures missing { IsUnbegun (ending result) → AddsMissing (M.disk world.old.media) (M.disk world.new.media) }
-    ensures media { let at = ⟦<World<I, O, M> as Outer>⟧.outside in MediaEnds (CanRelease id) ⊥ (MayLeave (ReleasesId id) (M.disk world.new.media).clock (ending result)) (at world.old).media (at world.new).media (ending result) }
+    ensures media { let at = ⟦<World<I, O, M> as Outer>⟧.outside in MediaEnds (CanRelease id) (λ m offset. ⊥) (MayLeave (ReleasesId id) (M.disk world.new.media).clock (ending result)) (at world.old).media (at world.new).media (ending result) }
     ensures no_incident { IfNoIncident (ending result) (λ told. (told ≡ id) × (M.tells → IsOpenableWith (M.disk world.old.media).reads (λ x. live x.table id ≡ None))) }
     ensures sizes { (M.disk world.new.media).sizes ≡ (M.disk world.old.media).sizes }
     ensures silent { world.new.output ≡ world.old.output }

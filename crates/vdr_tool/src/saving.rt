@@ -48,7 +48,7 @@ fn save<I: Source + Drop, O: Sink + Drop, M: Media + Drop>(
     requires three { length (M.disk world.old.media).sizes ≤ 3 }
     ensures statuses { IsSaveStatus (ending result) }
     ensures missing { IsUnbegun (ending result) → AddsMissing (M.disk world.old.media) (M.disk world.new.media) }
-    ensures media { let at = ⟦<World<I, O, M> as Outer>⟧.outside in MediaEnds (CanSave label.now) (MetUnsound (M.disk world.old.media) (CanSave label.now))
+    ensures media { let at = ⟦<World<I, O, M> as Outer>⟧.outside in MediaEnds (CanSave label.now) (MetUnsound (M.disk world.old.media) (M.disk world.new.media) (CanSave label.now))
         (MayLeave (SavesAs label.now) (M.disk world.new.media).clock (ending result)) (at world.old).media (at world.new).media (ending result) }
     ensures refused { IfSaveRefused (ending result) (λ cause. M.tells → IsOpenableWith (M.disk world.old.media).reads (IsJudged label.now (Some cause))) }
     ensures printed { let at = ⟦<World<I, O, M> as Outer>⟧.outside in (x : Contents) → M.tells → HoldsContents (M.disk world.old.media).reads x

@@ -15,6 +15,7 @@ pub mod Passed
 pub mod Brought
 pub mod Alike
 pub mod Playing
+pub mod Stepping
 pub mod Coming
 pub mod Budgeting
 pub mod OfWindow

@@ -2,6 +2,7 @@
 use Rattle.std.proofs.Common.{◌≡◌, ℕ, List, sym, ap, ◌∙◌, subst, get_or}
 use Rattle.vdr_outside.specs.Disk.{Disk, Image, content}
 use Rattle.vdr_ring.specs.Rings.{RingState}
+use Rattle.vdr_ring.specs.Visits.{HasJudged}
 use Rattle.vdr_cursor.specs.Walks.{HasRead}
 use Rattle.vdr_history.specs.Histories.{Event, Opening}
 use Rattle.vdr_config.specs.Configuration.{Configuration}
@@ -12,7 +13,7 @@ use Rattle.vdr_incident.specs.Tables.{HoldsTable}
 use Rattle.std.proofs.lemmas.List.Elements.{All-weaker}
 use Rattle.vdr_opening.specs.Media.{HasFront, members}
 use Rattle.vdr_opening.specs.Answers.{IsRingOf}
-use Rattle.vdr_vault.specs.Vaults.{VaultState, AreRings, HoldsHistory, IsReadable, IsReadableAt, Stands, ring_of}
+use Rattle.vdr_vault.specs.Vaults.{VaultState, AreJudged, AreRings, HoldsHistory, IsReadable, IsReadableAt, Stands, ring_of}
 use Rattle.vdr_vault.specs.Plays.{ReadsOn}
 use Rattle.vdr_vault.proofs.Members.{at_one}
 use Rattle.vdr_cursor.proofs.Reading.{other_read, room_kept}
@@ -82,6 +83,10 @@ module _ {tells tells_images : Type 0} where
 
     pub stands_still : (opening : Opening) (events : List Event) (placed : ℕ → List Placed) → Stands opening events old placed before → Stands opening events new placed now
     stands_still opening events placed stands = stands_over opening events placed old new before now vault.vault each_read stands
+
+    -- The slots that were loaded and judged still are.
+    pub judged_over : AreJudged old before → AreJudged new now
+    judged_over judged = All-weaker (λ k. HasJudged (ring_of old k) before) (λ k. HasJudged (ring_of new k) now) (λ k h. (each_read k).judged h) members judged
 
     -- The same of what can be read.
     pub readable_still : (opening : Opening) (events : List Event) (placed : ℕ → List Placed) → IsReadable opening events old placed before → IsReadable opening events new placed now

@@ -93,6 +93,10 @@ pub damage_handed_on : {T : Type 0} (m offset : ℕ) (read : ReadRefused) (resul
     → read ≡ reads.Damaged m offset
 damage_handed_on m offset read result passed is = by_damage m offset read (handed_on refusal_by read result (Damaged m offset) passed is)
 
+-- Where the vault itself answers damage.
+pub damage_is : {T : Type 0} (k at m offset : ℕ) → ◌≡◌ {A = Result T SaveRefused} (Err (Damaged k at)) (Err (Damaged m offset)) → (m ≡ k) × (offset ≡ at)
+damage_is k at m offset e = ((cc), (cc))
+
 pub cause_of_read : {S T : Type 0} (before now : List ℕ) (read : ReadRefused) (below : Result S ReadRefused) (result : Result T SaveRefused) → NoneFalls before now
     → (below ≡ Err reads.Fault → Rose (get_or before 1 0) (get_or now 1 0)) → below ≡ Err read → IsErrAnd result (λ refused. refused ≡ refusal_by read)
     → HasFaultOn 1 false before now (result ≡ Err Fault)

@@ -1,11 +1,11 @@
 -- What each call of a vault keeps, and what it answers, whatever becomes of it.
-use Rattle.std.specs.Prelude.{◌≡◌, ◌≢◌, ◌⊎◌, ◌↔◌, ◌-◌, ℕ, suc, Bool, true, false, List, is_none, position, Option, Some, None, option_map, Result, Ok, Err, IfOk, IsErr, OnErr, OnOk}
+use Rattle.std.specs.Prelude.{◌≡◌, ◌≢◌, ◌⊎◌, ◌↔◌, ◌<◌, ◌-◌, ℕ, suc, Bool, true, false, List, is_none, position, Option, Some, None, option_map, Result, Ok, Err, IfOk, IsErr, OnErr, OnOk}
 use Rattle.vdr_terms.specs.Records.{Record, last}
 use Rattle.vdr_history.specs.Histories.{Event, Incident, Opening, live, with_slot}
 use Rattle.vdr_durability.specs.Readings.{next_after}
 use Rattle.vdr_outside.specs.declared.media.Media.{Ghosts as MediaTells}
 use Rattle.vdr_outside.specs.Disk.{Disk, SameBut, Unchanged}
-use Rattle.vdr_ring.specs.Visits.{IsLoaded}
+use Rattle.vdr_ring.specs.Visits.{StandsAmong}
 use Rattle.vdr_ring.specs.Rings.{RingState}
 use Rattle.vdr_directory.specs.Sequence.{Placed}
 use Rattle.vdr_ring.specs.declared.refused.ReadRefused.{ReadRefused}
@@ -14,10 +14,10 @@ use Rattle.vdr_incident.specs.declared.refused.ReleaseRefused.{ReleaseRefused}
 use Rattle.vdr_incident.specs.declared.refused.ReleaseRefused.TheVariants.{Fault as a_release_fault, NoSuch}
 use Rattle.vdr_vault.specs.declared.refused.SaveRefused.{SaveRefused}
 use Rattle.vdr_vault.specs.declared.refused.SaveRefused.TheVariants.{Damaged, Fault, Label, Nothing, TableFull}
-use Rattle.vdr_vault.specs.Vaults.{AreRings, IsReadable, VaultState, Stands, of_stamp, ring_of, tick_utc}
+use Rattle.vdr_vault.specs.Vaults.{AreJudged, AreRings, IsDamagedOn, IsReadable, VaultState, Stands, of_stamp, ring_of, tick_utc}
 use Rattle.vdr_vault.specs.Calls.{HasVaultCause, SameElsewhere}
 use Rattle.vdr_vault.specs.Saves.{HasFaultOn, save_refusal}
-use Rattle.vdr_cursor.specs.Walks.{CursorState, MayStep}
+use Rattle.vdr_cursor.specs.Walks.{CursorState, MayStep, steps_left}
 use Rattle.vdr_vault.specs.Plays.{HasReadCause, ReadsNoOther, ReadsOn}
 
 -- Where a write had failed before, the call does nothing; and where it fails, the next one does nothing.
@@ -139,6 +139,8 @@ pub record KeepsPlayed {M : Type 0} (media : MediaTells M) (m : ℕ) (old new : 
   pub rings : AreRings new (media.disk after).sizes
   -- a vault that stood over its media still does
   pub stands : (opening : Opening) (events : List Event) (placed : ℕ → List Placed) → Stands opening events old placed (media.disk before) → Stands opening events new placed (media.disk after)
+  -- the slots that were loaded and judged still are
+  pub judged : AreJudged old (media.disk before) → AreJudged new (media.disk after)
   -- and media that were readable still are
   pub readable : (opening : Opening) (events : List Event) (placed : ℕ → List Placed) → IsReadable opening events old placed (media.disk before) → IsReadable opening events new placed (media.disk after)
   -- nothing was written
@@ -150,10 +152,20 @@ pub record ReadsForPlay {M : Type 0} (media : MediaTells M) (m : ℕ) (old new :
   pub failed : old.failed ≡ true → (result ≡ Err a_read_fault) × (new ≡ old) × (after ≡ before)
   -- no byte of another medium was read
   pub counts : ReadsNoOther m (media.bytes_read before) (media.bytes_read after)
-  -- damage is on medium m
-  pub damaged : (k offset : ℕ) → media.tells → IsLoaded (ring_of old m) (media.disk before) → result ≡ Err (damage_read k offset) → k ≡ m
   -- no count of faults falls, and a fault has its cause
   pub cause : HasReadCause m old.failed (media.faults before) (media.faults after) result
+
+-- How a cursor stands after a step on medium m, and what damage it names.
+pub record StepsAmong {M : Type 0} (media : MediaTells M) (m : ℕ) (old new : VaultState) (from to : CursorState) (before after : M) (result : Result Bool ReadRefused) : Type 0 where
+  -- it stands between the records of its slot, as it did
+  pub among : media.tells → AreJudged old (media.disk before) → StandsAmong (ring_of old m) (media.disk before) from.visit → StandsAmong (ring_of new m) (media.disk after) to.visit
+  -- damage is on medium m
+  pub medium : (k offset : ℕ) → result ≡ Err (damage_read k offset) → k ≡ m
+  -- and where one of its slots is not intact
+  pub damaged : media.tells → AreJudged old (media.disk before) → StandsAmong (ring_of old m) (media.disk before) from.visit → (k offset : ℕ) → result ≡ Err (damage_read k offset)
+      → IsDamagedOn old.config (media.disk before) k offset
+  -- a step to a record leaves fewer of them
+  pub onward : result ≡ Ok true → steps_left to < steps_left from
 
 module _ {tells tells_images : Type 0} where
   -- Damage that a save meets: media that hold what was recorded have none, and of others nothing was written.
@@ -164,4 +176,6 @@ module _ {tells tells_images : Type 0} where
     pub stands : (opening : Opening) (events : List Event) (placed : ℕ → List Placed) (m offset : ℕ) → tells → result ≡ Err (Damaged m offset)
         → Stands opening events old placed before → Stands opening events new placed after
     -- nothing was written, no write has failed, and the damage is on the long-term medium
-    pub damaged : (m offset : ℕ) → result ≡ Err (Damaged m offset) → Unchanged before after × (new.failed ≡ false) × (tells → IsLoaded (ring_of old 1) before → m ≡ 1)
+    pub damaged : (m offset : ℕ) → result ≡ Err (Damaged m offset) → Unchanged before after × (new.failed ≡ false) × (m ≡ 1)
+    -- where one of its slots is not intact, or at offset 0, where it has not all records of the incident
+    pub named : (m offset : ℕ) → result ≡ Err (Damaged m offset) → tells → AreJudged old before → (offset ≡ 0) ⊎ IsDamagedOn old.config before m offset

@@ -16,7 +16,7 @@ use Rattle.vdr_opening.specs.declared.refused.OpenRefused.TheVariants.{Damaged, 
 use Rattle.vdr_opening.specs.Media.{members, Contents, HoldsContents, HoldsParts, IsMedium, opening_of, reading_of}
 use Rattle.vdr_opening.specs.Refusals.{IsRefused}
 use Rattle.vdr_opening.specs.Answers.{HasOpenCause, IsMissing, OpenedState}
-use Rattle.vdr_vault.specs.Vaults.{AreRings, IsReadable, VaultState, ShowsHistory, Stands, of_stamp, tick_utc}
+use Rattle.vdr_vault.specs.Vaults.{AreJudged, AreRings, IsReadable, VaultState, ShowsHistory, Stands, of_stamp, tick_utc}
 use Rattle.vdr_vault.specs.Regularity.{AreSound}
 
 -- What was read, as the vault that is made of it and the batch that the media from a number on lack.
@@ -105,6 +105,8 @@ module _ {tells tells_images : Type 0} where
     pub readable : IfOk result (λ vault. (x : Contents) → tells → HoldsContents old.reads x → AreLevel members (reading_of x) → IsReadable (opening_of x) [] vault x.placed new)
     -- no write has failed
     pub works : IfOk result (λ vault. vault.failed ≡ false)
+    -- the slot that each ring has loaded was judged
+    pub judged : IfOk result (λ vault. tells → AreJudged vault new)
     -- each ring is its medium's
     pub rings : IfOk result (λ vault. AreRings vault new.sizes)
 

@@ -1,7 +1,7 @@
 -- What a vault's media hold of a history (this project's profile).
-use Rattle.std.specs.Prelude.{◌≡◌, ℕ, ℤ, Bool, false, List, length, All, Option, None, option_map}
+use Rattle.std.specs.Prelude.{◌≡◌, ◌<◌, ℕ, ℤ, Bool, false, List, length, get_or, All, Option, None, option_map}
 use Rattle.vdr_terms.specs.Records.{Record, last}
-use Rattle.vdr_terms.specs.Needs.{cost, usable}
+use Rattle.vdr_terms.specs.Needs.{cost, slots_in, usable}
 use Rattle.vdr_terms.specs.Order.{AreInOrder}
 use Rattle.vdr_history.specs.Histories.{Event, Incident, Opening, incidents, last_stamp, next_place, stamp_of}
 use Rattle.vdr_history.specs.Runs.{Stamp}
@@ -14,6 +14,7 @@ use Rattle.vdr_config.specs.Configuration.{Configuration}
 use Rattle.vdr_config.specs.Sizes.{sizes_of}
 use Rattle.vdr_directory.specs.Sequence.{Placed, all_records, batches_in}
 use Rattle.vdr_ring.specs.Regularity.{AreRegular}
+use Rattle.vdr_ring.specs.Damage.{HasDamage}
 use Rattle.vdr_ring.specs.Rings.{RingState}
 use Rattle.vdr_ring.specs.Rings as rings
 use Rattle.vdr_incident.specs.Tables.{HoldsTable}
@@ -21,7 +22,7 @@ use Rattle.vdr_opening.specs.Settings.{settings_of}
 use Rattle.vdr_opening.specs.Media.{members, HasFront, AreThere, Reads}
 use Rattle.vdr_durability.specs.Soundness.{IsUnbroken}
 use Rattle.vdr_vault.specs.Regularity.{AreSound}
-use Rattle.vdr_opening.specs.Answers.{AreRingsOf, IsRingOf, ring_at}
+use Rattle.vdr_opening.specs.Answers.{AreJudgedOn, AreRingsOf, IsRingOf, ring_at}
 
 -- A vault without its media: the configuration, a ring on each medium in order of number, the incidents, the next place with tick and
 -- utc of the last record, and whether a write has failed. After a fault place and record are those before the batch that met it.
@@ -87,6 +88,14 @@ module _ {tells tells_images : Type 0} where
     pub reads : rings.Reads ring placed disk
     pub order : AreInOrder (given_with opening events m)
     pub retains : Retains (opening.settings.seconds m) (pins_on m (incidents opening events)) (given_with opening events m) (all_records placed)
+
+  -- The slot that the ring on each medium has loaded was judged.
+  abbrev pub AreJudged : VaultState → Disk tells tells_images → Type 0
+  AreJudged vault disk = AreJudgedOn vault.rings disk
+
+  -- Medium m of a recording is damaged at this offset: one of its slots is not intact there.
+  abbrev pub IsDamagedOn : Configuration → Disk tells tells_images → (m offset : ℕ) → Type 0
+  IsDamagedOn c disk m offset = (m < length members) × HasDamage c.segment (slots_in (sizes_of c) (get_or disk.sizes m 0)) (content disk.reads m) offset
 
   -- A vault whose media can be read as what these events left, regular or not.
   pub record IsReadable (opening : Opening) (events : List Event) (vault : VaultState) (placed : ℕ → List Placed) (disk : Disk tells tells_images) : Type 0 where

@@ -5,7 +5,7 @@ ghost use Rattle.vdr_terms.specs.Records.{Record as ARecord};
 ghost use Rattle.vdr_terms.specs.Sizes.{batch_size};
 ghost use Rattle.vdr_config.specs.Configuration.{Configuration};
 ghost use Rattle.vdr_directory.specs.Sequence.{Placed};
-ghost use Rattle.vdr_opening.specs.Answers.{AreRingsOf, ring_at};
+ghost use Rattle.vdr_opening.specs.Answers.{AreJudgedOn, AreRingsOf, ring_at};
 ghost use Rattle.vdr_ring.specs.Taking.{Waits};
 ghost use Rattle.vdr_vault.specs.Passes.{HasCauseFrom, KeepsBeside, Passed, pins_at};
 
@@ -37,6 +37,7 @@ pub(crate) fn append_from<M: Media>(
         → ((k : ℕ) → from ≤ k → k < 2 → Waits ordered sizes (ring_at rings.old k) (pins_at k pins.now) (placed k) first (all k) records.now (M.disk media.old))
         → Passed ordered from rings.old rings.new pins.now placed first records.now (M.disk media.old) (M.disk media.new) result }
     ensures keeps { KeepsBeside M.Media from rings.old rings.new media.old media.new }
+    ensures judged { AreJudgedOn rings.old (M.disk media.old) → AreJudgedOn rings.new (M.disk media.new) }
     ensures counts { M.bytes_read media.new ≡ M.bytes_read media.old }
     ensures cause { HasCauseFrom from 2 (M.faults media.old) (M.faults media.new) result }
 {

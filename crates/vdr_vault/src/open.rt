@@ -11,7 +11,7 @@ ghost use Rattle.vdr_opening.specs.Costs.{ReadsToOpen};
 ghost use Rattle.vdr_opening.specs.Refusals.{IsRefused};
 ghost use Rattle.vdr_opening.specs.Answers.{HasOpenCause, IsOpened};
 ghost use Rattle.vdr_opening.specs.declared.refused.OpenRefused.TheVariants.{Damaged, NotFormatted};
-ghost use Rattle.vdr_vault.specs.Vaults.{AreRings, IsReadable, ShowsHistory, Stands};
+ghost use Rattle.vdr_vault.specs.Vaults.{AreJudged, AreRings, IsReadable, ShowsHistory, Stands};
 ghost use Rattle.vdr_vault.specs.Regularity.{AreSound};
 ghost use Rattle.vdr_vault.specs.Openings.{EndsWithin, GoesOnBehind, HasCauseOnBoth, IsToldBy, LeavesAll, OpensAtEachMoment, OpensMeanwhile, OpensVault, ReachesLongTerm, Reconciles, RefusesMedia, WritesMissing, opened_with};
 
@@ -62,6 +62,7 @@ impl Vault {
         ensures place { self.new.next_place ≡ self.old.next_place }
         ensures level { missing.now ≡ [] → (self.new ≡ self.old) × (media.new ≡ media.old) }
         ensures works { self.new.failed ≡ false }
+        ensures judged { M.tells → AreJudged self.old (M.disk media.old) → AreJudged self.new (M.disk media.new) }
         ensures rings { AreRings self.new (M.disk media.new).sizes }
         ensures others { M.tells → SameBut 1 (M.disk media.old).reads (M.disk media.new).reads }
         ensures sizes { (M.disk media.new).sizes ≡ (M.disk media.old).sizes }
@@ -91,6 +92,7 @@ impl Vault {
         ensures meanwhile { (x : Contents) → M.tells → All (λ m. Durable m (M.disk media.old)) members → HoldsContents (M.disk media.old).reads x
             → OpensMeanwhile x (M.disk media.old) (M.disk media.new) }
         ensures works { IfOk result (λ vault. vault.failed ≡ false) }
+        ensures judged { IfOk result (λ vault. M.tells → AreJudged vault (M.disk media.new)) }
         ensures rings { IfOk result (λ vault. AreRings vault (M.disk media.new).sizes) }
         ensures unformatted { result ≡ Err NotFormatted → M.tells → IsUnformatted (M.disk media.old).reads }
         ensures damaged { (m offset : ℕ) → result ≡ Err (Damaged m offset) → M.tells → All (λ k. Durable k (M.disk media.old)) members

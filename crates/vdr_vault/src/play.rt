@@ -9,14 +9,13 @@ ghost use Rattle.vdr_entry.specs.Queries.{asked, asked_medium};
 ghost use Rattle.vdr_directory.specs.Sequence.{Placed, all_records};
 ghost use Rattle.vdr_directory.specs.Holds.{Tells};
 ghost use Rattle.vdr_ring.specs.Rings.{Reads};
-ghost use Rattle.vdr_ring.specs.Visits.{IsLoaded};
-ghost use Rattle.vdr_ring.specs.declared.refused.ReadRefused.TheVariants.{Fault as AFault, Damaged};
+ghost use Rattle.vdr_ring.specs.declared.refused.ReadRefused.TheVariants.{Fault as AFault};
 ghost use Rattle.vdr_opening.specs.Media.{members};
 ghost use Rattle.vdr_vault.specs.Vaults.{AreRings, IsReadable, VaultState, ring_of};
 ghost use Rattle.vdr_index.specs.Indexes.{span_as};
 ghost use Rattle.vdr_cursor.specs.Budgets.{Spends, budget};
-ghost use Rattle.vdr_cursor.specs.Walks.{AreLeft, CountsOn, GivesNext, HasRead, MayStep, slots_read};
-ghost use Rattle.vdr_vault.specs.Keeps.{KeepsPlayed, ReadsForPlay, StandsAfter};
+ghost use Rattle.vdr_cursor.specs.Walks.{AreLeft, CountsOn, GivesNext, HasRead, MayStep, new_cursor, slots_read};
+ghost use Rattle.vdr_vault.specs.Keeps.{KeepsPlayed, ReadsForPlay, StandsAfter, StepsAmong};
 ghost use Rattle.vdr_vault.specs.Plays.{AreOfSegments, AreToCome, ReadsOn, budget_for, ring_for, span_by, span_in, whole_budget};
 
 use crate::Vault;
@@ -101,7 +100,7 @@ impl Vault {
             → AreLeft (slots_read (ring_of self.old m) (M.disk media.old)) placed (asked selection.now.query) (Some (span_as selection.now.span)) cursor.old records
             → GivesNext records result cursor.new.visit.item
             (AreLeft (slots_read (ring_of self.old m) (M.disk media.old)) placed (asked selection.now.query) (Some (span_as selection.now.span)) cursor.new) }
-        ensures damaged { (k offset : ℕ) → M.tells → IsLoaded (ring_of self.old m) (M.disk media.old) → result ≡ Err (Damaged k offset) → k ≡ m }
+        ensures steps { StepsAmong M.Media m self.old self.new cursor.old cursor.new media.old media.new result }
         ensures cause { result ≡ Err AFault → Rose (get_or (M.faults media.old) m 0) (get_or (M.faults media.new) m 0) }
     {
         cursor.step(&mut self.rings[m as usize], media, selection)
@@ -113,7 +112,8 @@ impl Vault {
     /// (`spends`). Takes no memory.
     ///
     /// `Fault`: a write had failed before, and nothing was called; or a read failed, and the count of faults of that medium rose.
-    /// `Damaged` names that medium. It never comes of media that hold what was recorded, regular or not.
+    /// `Damaged` names that medium, and where a slot that was read is damaged, as `vdr_ring::Ring::read_span` does. It never comes of
+    /// media that hold what was recorded, regular or not.
     pub fn first<M: Media>(
         &mut self,
         media: &mut M,
@@ -124,6 +124,7 @@ impl Vault {
         ensures plays { (opening : Opening) (events : List Event) (placed : ℕ → List Placed) → M.tells → IsReadable opening events self.old placed (M.disk media.old)
             → GivesNext (selected opening events (asked query.now)) result cursor.new.visit.item (AreToCome (asked query.now) self.new placed (M.disk media.new) cursor.new) }
         ensures cursor { StandsAfter (ring_for self.new (asked query.now)) cursor.new result }
+        ensures steps { StepsAmong M.Media (medium_of (asked query.now).medium) self.old self.new new_cursor cursor.new media.old media.new result }
         ensures keeps { KeepsPlayed M.Media (medium_of (asked query.now).medium) self.old self.new media.old media.new }
         ensures reads { ReadsForPlay M.Media (medium_of (asked query.now).medium) self.old self.new media.old media.new result }
         ensures spends { Spends (medium_of (asked query.now).medium) (whole_budget self.old (asked query.now)) (budget_for self.new (asked query.now) cursor.new.standing)
@@ -141,7 +142,8 @@ impl Vault {
     /// The cursor is new, or its last step was for this query, and no other cursor's came since (`may`).
     ///
     /// `Fault`: a write had failed before, and nothing was called; or a read failed, and the count of faults of that medium rose.
-    /// `Damaged` names that medium. It never comes of media that hold what was recorded, regular or not.
+    /// `Damaged` names that medium, and where a slot that was read is damaged, as `vdr_ring::Ring::read_span` does. It never comes of
+    /// media that hold what was recorded, regular or not.
     pub fn next<M: Media>(
         &mut self,
         media: &mut M,
@@ -154,6 +156,7 @@ impl Vault {
             → AreToCome (asked query.now) self.old placed (M.disk media.old) cursor.old records
             → GivesNext records result cursor.new.visit.item (AreToCome (asked query.now) self.new placed (M.disk media.new) cursor.new) }
         ensures cursor { StandsAfter (ring_for self.new (asked query.now)) cursor.new result }
+        ensures steps { StepsAmong M.Media (medium_of (asked query.now).medium) self.old self.new cursor.old cursor.new media.old media.new result }
         ensures keeps { KeepsPlayed M.Media (medium_of (asked query.now).medium) self.old self.new media.old media.new }
         ensures reads { ReadsForPlay M.Media (medium_of (asked query.now).medium) self.old self.new media.old media.new result }
         ensures spends { Spends (medium_of (asked query.now).medium) (budget_for self.old (asked query.now) cursor.old.standing) (budget_for self.new (asked query.now) cursor.new.standing)

@@ -10,8 +10,8 @@ pub enum SaveRefused {
     Nothing,
     /// No slot is free. Nothing is called.
     TableFull,
-    /// A batch of the long-term medium that was read to find where the incident begins is not legal. The medium, and an offset in
-    /// bytes. Nothing is written.
+    /// A slot of the long-term medium that was read to find where the incident begins is damaged. The medium, and where, as
+    /// `vdr_ring::ReadRefused` says. Or, at offset 0, not all records of the incident are there. Nothing is written.
     Damaged { medium: u8, offset: u64 },
     /// A write had failed before, and nothing was called; or a call on the long-term medium failed, and its count of faults rose.
     Fault,

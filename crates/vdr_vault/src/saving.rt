@@ -1,5 +1,5 @@
 // What is kept of an incident, and until when.
-ghost use Rattle.std.specs.Prelude.{◌≡◌, ◌-◌, ◌≤◌, ℕ, ℤ, suc, List, is_none, position, option_map, IfOk, IfNone, IfSome, OnErr, None, Some, Err, Ok, false};
+ghost use Rattle.std.specs.Prelude.{◌≡◌, ◌⊎◌, ◌-◌, ◌≤◌, ℕ, ℤ, suc, List, is_none, position, option_map, IfOk, IfNone, IfSome, OnErr, None, Some, Err, Ok, false};
 ghost use Rattle.vdr_terms.specs.Records.{Record, last, second};
 ghost use Rattle.vdr_history.specs.Histories.{Event, Incident, Opening, live, with_slot};
 ghost use Rattle.vdr_history.specs.Histories.Act.{Release};
@@ -10,10 +10,9 @@ ghost use Rattle.vdr_directory.specs.Order.{AreInOrder};
 ghost use Rattle.vdr_directory.specs.Lookup.{HoldAll};
 ghost use Rattle.vdr_directory.specs.Holds.{Tells};
 ghost use Rattle.vdr_ring.specs.Rings.{Reads};
-ghost use Rattle.vdr_ring.specs.Visits.{IsLoaded};
 ghost use Rattle.vdr_incident.specs.Saves.{IsSave};
 ghost use Rattle.vdr_incident.specs.declared.refused.ReleaseRefused.TheVariants.{Fault as AReleaseFault, NoSuch};
-ghost use Rattle.vdr_vault.specs.Vaults.{AreRings, Stands, of_stamp, ring_of};
+ghost use Rattle.vdr_vault.specs.Vaults.{AreJudged, AreRings, IsDamagedOn, Stands, of_stamp, ring_of};
 ghost use Rattle.vdr_cursor.specs.Walks.{HasRead};
 ghost use Rattle.vdr_vault.specs.Plays.{ReadsNoOther, ReadsOn};
 ghost use Rattle.vdr_vault.specs.Saves.{Does, HasFaultOn, Saves, first_in_window, save_refusal};
@@ -86,7 +85,8 @@ impl Vault {
             → IfOk result (λ a. first_in_window self.old.config.incident_seconds (all_records placed) ≡ Some a) }
         ensures undamaged { (placed : List Placed) (newest : Record) (m offset : ℕ) → M.tells → Reads (ring_of self.old 1) placed (M.disk media.old)
             → last (all_records placed) ≡ Some newest → second newest.tick ≡ last_second → result ≡ Err (Damaged m offset) → ⊥ }
-        ensures damaged { (m offset : ℕ) → M.tells → IsLoaded (ring_of self.old 1) (M.disk media.old) → result ≡ Err (Damaged m offset) → m ≡ 1 }
+        ensures damaged { (m offset : ℕ) → result ≡ Err (Damaged m offset) → (m ≡ 1)
+            × (M.tells → AreJudged self.old (M.disk media.old) → (offset ≡ 0) ⊎ IsDamagedOn self.old.config (M.disk media.old) m offset) }
         ensures own { (result ≡ Err Label → ⊥) × (result ≡ Err Nothing → ⊥) × (result ≡ Err TableFull → ⊥) }
         ensures counts { ReadsNoOther 1 (M.bytes_read media.old) (M.bytes_read media.new) }
         ensures cause { HasFaultOn 1 false (M.faults media.old) (M.faults media.new) (result ≡ Err AFault) }
@@ -145,8 +145,9 @@ impl Vault {
             → result ≡ Err (Damaged m offset) → ⊥ }
         ensures stands { (opening : Opening) (events : List Event) (placed : ℕ → List Placed) (m offset : ℕ) → M.tells → result ≡ Err (Damaged m offset)
             → Stands opening events self.old placed (M.disk media.old) → Stands opening events self.new placed (M.disk media.new) }
-        ensures damaged { (m offset : ℕ) → result ≡ Err (Damaged m offset) → Unchanged (M.disk media.old) (M.disk media.new)
-            × (M.tells → IsLoaded (ring_of self.old 1) (M.disk media.old) → m ≡ 1) }
+        ensures damaged { (m offset : ℕ) → result ≡ Err (Damaged m offset) → Unchanged (M.disk media.old) (M.disk media.new) × (m ≡ 1) }
+        ensures named { (m offset : ℕ) → result ≡ Err (Damaged m offset) → M.tells → AreJudged self.old (M.disk media.old)
+            → (offset ≡ 0) ⊎ IsDamagedOn self.old.config (M.disk media.old) m offset }
         ensures own { (result ≡ Err Label → ⊥) × (result ≡ Err Nothing → ⊥) × (result ≡ Err TableFull → ⊥) }
         ensures id { IfOk result (λ id. option_map suc (position is_none self.old.table) ≡ Some id) }
         ensures table { IfOk result (λ id. (saved : Incident) × (self.new.table ≡ with_slot self.old.table id (Some saved)) × (saved.label ≡ label.now)
@@ -180,7 +181,7 @@ impl Vault {
     /// of the capsule is touched. Takes no memory.
     ///
     /// The refusals stand in their order in `SaveRefused`. Of the first three no byte was read or written, of `Damaged` none was written:
-    /// a batch that was read is not legal, or a place of the incident is not on the medium. After `Fault` each call answers `Fault`,
+    /// a slot that was read is damaged, or a place of the incident is not on the medium. After `Fault` each call answers `Fault`,
     /// until the media are opened again.
     pub fn save<M: Media>(&mut self, media: &mut M, label: &[u8]) -> Result<u32, SaveRefused>
         requires rings { AreRings self.old (M.disk media.old).sizes }

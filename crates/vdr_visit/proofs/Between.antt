@@ -1,10 +1,8 @@
 -- Between two of the records that are visited.
-use Rattle.std.proofs.Common.{◌≡◌, ◌<◌, ◌≤◌, ◌+◌, ℕ, List, [], ◌∷◌, ◌++◌, All, Bool, true, false, Option, Some, Result, Ok, Err, refl, sym, ap, ◌∙◌, subst, arith, append_assoc, append-nil}
+use Rattle.std.proofs.Common.{◌≡◌, ℕ, List, [], ◌∷◌, ◌++◌, Bool, true, false, Option, Some, Result, Ok, Err, refl, sym, ap, ◌∙◌, subst, append_assoc, append-nil}
 use Rattle.std.specs.Bool.{⊤}
 use Rattle.std.specs.Io.KnownBytes.{Appends}
 use Rattle.std.proofs.lemmas.Option.{same_Some}
-use Rattle.std.proofs.lemmas.List.Elements.{All-nil, All-cons, All-head, All-weaker}
-use Rattle.vdr_terms.specs.Order.{AreInOrder}
 use Rattle.vdr_terms.specs.Records.{Record}
 use Rattle.vdr_ring.specs.declared.refused.ReadRefused.{ReadRefused}
 use Rattle.vdr_ring.specs.declared.refused.ReadRefused.TheVariants as reads
@@ -14,31 +12,16 @@ use Rattle.vdr_visit.specs.Refusals.{stop_by}
 use Rattle.vdr_visit.specs.Visits.{AreVisited, HasMade}
 use Rattle.vdr_visit.specs.declared.refused.VisitRefused.{VisitRefused}
 
--- What follows a record in order has greater places.
-behind_in_order : (before : List Record) (r : Record) (behind : List Record) → AreInOrder (before ++ r ∷ behind) → All (λ later. r.place + 1 ≤ later.place) behind
-behind_in_order [] r behind h = All-weaker (λ later. (r.place < later.place) × (r.tick ≤ later.tick)) (λ later. r.place + 1 ≤ later.place) (λ later k. let a = k.0 in omega (arith, a)) behind h.0
-behind_in_order (x ∷ xs) r behind h = behind_in_order xs r behind h.1
-
 -- The first of the records are visited, and the cursor stands at the next one, if there is one.
-pub record IsBetween (records seen : List Record) (least : ℕ) (found : Bool) (item : Option Record) (ToCome : List Record → Type 0) : Type 0 where
+pub record IsBetween (records seen : List Record) (found : Bool) (item : Option Record) (ToCome : List Record → Type 0) : Type 0 where
   pub rest : List Record
   pub split : records ≡ seen ++ rest
-  pub low : All (λ r. least ≤ r.place) rest
   pub next : GivesNext rest (Ok found) item ToCome
 
 -- None is visited yet.
 pub at_first : (records : List Record) (found : Bool) (item : Option Record) (ToCome : List Record → Type 0) → GivesNext records (Ok found) item ToCome
-    → IsBetween records [] 0 found item ToCome
-at_first records found item ToCome next = record {
-  rest = records;
-  split = refl;
-  low = from_zero records;
-  next = next;
-}
-  where
-    from_zero : (rs : List Record) → All (λ r. 0 ≤ r.place) rs
-    from_zero [] = All-nil (λ r. 0 ≤ r.place)
-    from_zero (r ∷ rs) = All-cons (λ r. 0 ≤ r.place) r rs (omega arith) (from_zero rs)
+    → IsBetween records [] found item ToCome
+at_first records found item ToCome next = record { rest = records; split = refl; next = next }
 
 -- The first list of a pair of equal ones, taken apart.
 cons_is : (r x : Record) (more rest : List Record) → Some x ≡ Some r → rest ≡ x ∷ more → rest ≡ r ∷ more
@@ -63,7 +46,7 @@ still_has {R} Has Stops line whole seen was now read out has printed is = subst 
     by reads.Fault = (has, printed)
     by (reads.Damaged m offset) = (has, printed)
 
-module _ {records seen : List Record} {least : ℕ} {found : Bool} {item : Option Record} {ToCome : List Record → Type 0} (b : IsBetween records seen least found item ToCome) where
+module _ {records seen : List Record} {found : Bool} {item : Option Record} {ToCome : List Record → Type 0} (b : IsBetween records seen found item ToCome) where
   -- All of them are visited.
   pub all_visited : found ≡ false → seen ≡ records
   all_visited none =
@@ -81,23 +64,15 @@ module _ {records seen : List Record} {least : ℕ} {found : Bool} {item : Optio
     pub with_next : (rest : List Record) × (records ≡ (seen ++ r ∷ []) ++ rest)
     with_next = (here.1, whole ∙ sym (append_assoc seen (r ∷ []) here.1))
 
-    -- The next one has no place that is too low.
-    pub never_low : r.place < least → ⊥
-    never_low low =
-        let enough : least ≤ r.place = All-head (λ (r : Record). least ≤ r.place) r here.1
-        (subst (All (λ r. least ≤ r.place)) (cons_is r here.0 here.1 b.rest (sym here.3 ∙ is) here.2) b.low) in
-        omega (arith, low, enough)
-
     module _ (result : Result Bool ReadRefused) (later : Option Record) (LaterToCome : List Record → Type 0) (steps : (rs : List Record) → ToCome rs → GivesNext rs result later LaterToCome) where
       -- It is visited, and the step behind it fails.
       pub failed_behind : {R : Type 0} (read : ReadRefused) (out : Result ⊤ (VisitRefused R)) → result ≡ Err read → out ≡ Err (stop_by read) → AreVisited (seen ++ r ∷ []) records out
       failed_behind read out was is = read_failed records (seen ++ r ∷ []) here.1 read result later LaterToCome out (whole ∙ sym (append_assoc seen (r ∷ []) here.1)) (steps here.1 here.4) was is
 
       -- It is visited, and the cursor steps on.
-      pub visited_next : AreInOrder records → (next : ℕ) → next ≡ r.place + 1 → (again : Bool) → result ≡ Ok again → IsBetween records (seen ++ r ∷ []) next again later LaterToCome
-      visited_next order next next_is again so = record {
+      pub visited_next : (again : Bool) → result ≡ Ok again → IsBetween records (seen ++ r ∷ []) again later LaterToCome
+      visited_next again so = record {
         rest = here.1;
         split = whole ∙ sym (append_assoc seen (r ∷ []) here.1);
-        low = subst (λ (n : ℕ). All (λ q. n ≤ q.place) here.1) (sym next_is) (behind_in_order seen r here.1 (subst AreInOrder whole order));
         next = subst (λ (o : Result Bool ReadRefused). GivesNext here.1 o later LaterToCome) so (steps here.1 here.4);
       }

@@ -99,6 +99,17 @@ at_least_front {R} seen records ended out are is = subst (λ (o : Result ⊤ (Vi
     by (Err visits.Output) a = a
     by (Err (visits.Own reason)) a = a
 
+-- What is no damage.
+module _ {R : Type 0} (m offset : ℕ) (out : Result ⊤ (VisitRefused R)) where
+  not_output : out ≡ Err visits.Output → out ≡ Err (visits.Damaged m offset) → ⊥
+  not_output is damage = cc
+
+  not_channel : out ≡ Err visits.NoChannel → out ≡ Err (visits.Damaged m offset) → ⊥
+  not_channel is damage = cc
+
+  not_incident : out ≡ Err visits.NoIncident → out ≡ Err (visits.Damaged m offset) → ⊥
+  not_incident is damage = cc
+
 appends_behind : (a b c : Option (List ℕ)) (bytes : List ℕ) → Keeps a b → Appends b c bytes → Appends a c bytes
 appends_behind None b c bytes k p = tt
 appends_behind (Some x) None c bytes k p = absurd k
@@ -130,6 +141,8 @@ module _ {tells tells_images : Type 0} {R : Type 0} {query : Query} {vault : Vau
   blamed out is = record {
     seen = v.seen;
     made = subst (λ (o : Result ⊤ (VisitRefused R)). HasMade (Has v.seen) (Stops v.seen) line (whole v.seen) v.seen start took o) (sym is) tt;
+    medium = λ m offset damage. absurd (not_output m offset out is damage);
+    damaged = λ m offset damage. absurd (not_output m offset out is damage);
     are = λ opening events placed told readable. at_least_front v.seen (selected opening events query) ended out (v.are opening events placed told readable) is;
     front = λ opening events placed told readable. front-printed start first last took (whole (selected opening events query)) kept (v.front opening events placed told readable) front begins;
   }
@@ -141,6 +154,8 @@ module _ {tells tells_images : Type 0} {R : Type 0} {query : Query} {vault : Vau
     seen = v.seen;
     made = subst (λ (o : Result ⊤ (VisitRefused R)). HasMade (Has v.seen) (Stops v.seen) line (whole v.seen) v.seen start took o) (sym same)
         (made_kept (Has v.seen) (Stops v.seen) line (whole v.seen) v.seen start first last took ended kept all v.made);
+    medium = λ m offset damage. v.medium m offset (sym same ∙ damage);
+    damaged = λ m offset damage. v.damaged m offset (sym same ∙ damage);
     are = λ opening events placed told readable. subst (λ (o : Result ⊤ (VisitRefused R)). AreVisited v.seen (selected opening events query) o) (sym same) (v.are opening events placed told readable);
     front = λ opening events placed told readable. front-printed start first last took (whole (selected opening events query)) kept (v.front opening events placed told readable) front begins;
   }
@@ -161,6 +176,8 @@ module _ {tells tells_images : Type 0} {R : Type 0} {query : Query} {vault : Vau
     seen = v.seen;
     made = subst (λ (o : Result ⊤ (VisitRefused R)). HasMade (Has v.seen) (Stops v.seen) line (whole_text line last v.seen) v.seen was now o) (sym is)
         (by stop (subst (λ (o : Result ⊤ (VisitRefused R)). HasMade (Has v.seen) (Stops v.seen) line (text_of line v.seen) v.seen was now o) was_is v.made));
+    medium = λ m offset damage. v.medium m offset (was_is ∙ sym is ∙ damage);
+    damaged = λ m offset damage. v.damaged m offset (was_is ∙ sym is ∙ damage);
     are = λ opening events placed told readable. subst (λ (o : Result ⊤ (VisitRefused R)). AreVisited v.seen (selected opening events query) o) (was_is ∙ sym is) (v.are opening events placed told readable);
     front = λ opening events placed told readable. front_of_whole was now (text_of line (selected opening events query)) (last (selected opening events query)) (v.front opening events placed told readable);
   }
@@ -177,10 +194,12 @@ module _ {tells tells_images : Type 0} {R : Type 0} {query : Query} {vault : Vau
 module _ {tells tells_images : Type 0} {R : Type 0} (query : Query) (vault : VaultState) (disk : Disk tells tells_images) (Has : List Record → Type 0) (Stops : List Record → R → Type 0)
     (line : List Record → Record → List ℕ) (whole : List Record → List ℕ) (was : Option (List ℕ)) (has : Has []) where
   none_visited : (stop : VisitRefused R) → HasMade (Has []) (Stops []) line (whole []) [] was was (Err stop) → ((records : List Record) → AreVisited [] records (Err stop)) → (out : Result ⊤ (VisitRefused R)) → out ≡ Err stop
-      → HasVisited query vault disk Has Stops line whole was was out
-  none_visited stop made are out is = record {
+      → ((m offset : ℕ) → out ≡ Err (visits.Damaged m offset) → ⊥) → HasVisited query vault disk Has Stops line whole was was out
+  none_visited stop made are out is no_damage = record {
     seen = [];
     made = subst (λ (o : Result ⊤ (VisitRefused R)). HasMade (Has []) (Stops []) line (whole []) [] was was o) (sym is) made;
+    medium = λ m offset damage. absurd (no_damage m offset damage);
+    damaged = λ m offset damage. absurd (no_damage m offset damage);
     are = λ opening events placed told readable. subst (λ (o : Result ⊤ (VisitRefused R)). AreVisited [] (selected opening events query) o) (sym is) (are (selected opening events query));
     front = λ opening events placed told readable. front_of_none was (whole (selected opening events query));
   }
@@ -188,8 +207,8 @@ module _ {tells tells_images : Type 0} {R : Type 0} (query : Query) (vault : Vau
   -- What is asked for is not there.
   pub not_asked : (no_channel no_incident : Bool) (stop : VisitRefused R) (asked out : Result ⊤ (VisitRefused R)) → asked ≡ unanswered no_channel no_incident → asked ≡ Err stop → out ≡ Err stop
       → HasVisited query vault disk Has Stops line whole was was out
-  not_asked true no_incident stop asked out answered is so = none_visited visits.NoChannel (has, Appends-nil was) (λ records. (records, refl)) out (so ∙ sym is ∙ answered)
-  not_asked false true stop asked out answered is so = none_visited visits.NoIncident (has, Appends-nil was) (λ records. (records, refl)) out (so ∙ sym is ∙ answered)
+  not_asked true no_incident stop asked out answered is so = let channel = so ∙ sym is ∙ answered in none_visited visits.NoChannel (has, Appends-nil was) (λ records. (records, refl)) out channel (λ m offset damage. not_channel m offset out channel damage)
+  not_asked false true stop asked out answered is so = let incident = so ∙ sym is ∙ answered in none_visited visits.NoIncident (has, Appends-nil was) (λ records. (records, refl)) out incident (λ m offset damage. not_incident m offset out incident damage)
   not_asked false false stop asked out answered is so = absurd (clash stop asked answered is)
     where
       clash : (stop : VisitRefused R) (asked : Result ⊤ (VisitRefused R)) → asked ≡ Ok tt → asked ≡ Err stop → ⊥

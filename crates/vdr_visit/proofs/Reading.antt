@@ -1,14 +1,16 @@
 -- What reads change of a vault: the buffer of one ring.
-use Rattle.std.proofs.Common.{◌≡◌, ◌≤◌, ◌⊎◌, inl, inr, ⊎_elim, ℕ, Bool, true, List, get_or, sum, ap, ◌∙◌, subst, arith, Result, Ok, OnOk}
+use Rattle.std.proofs.Common.{◌≡◌, ◌≤◌, ◌⊎◌, inl, inr, ⊎_elim, ℕ, Bool, true, List, get_or, sum, sym, ap, ◌∙◌, subst, arith, Result, Ok, OnOk}
 use Rattle.vdr_terms.specs.Queries.{Query}
 use Rattle.vdr_playback.specs.Playback.{medium_of}
 use Rattle.vdr_outside.specs.Causes.{Rose}
-use Rattle.vdr_outside.specs.Disk.{Disk}
+use Rattle.vdr_outside.specs.Disk.{Disk, Unchanged}
 use Rattle.vdr_outside.proofs.Counts.{none_falls_join, rose_after, sum_not_less}
 use Rattle.vdr_outside.proofs.Moments.{unchanged_join}
+use Rattle.vdr_config.specs.Configuration.{Configuration}
 use Rattle.vdr_ring.specs.Rings.{RingState}
-use Rattle.vdr_vault.specs.Vaults.{VaultState, ring_of}
+use Rattle.vdr_vault.specs.Vaults.{IsDamagedOn, VaultState, ring_of}
 use Rattle.vdr_vault.specs.Plays.{ReadsOn}
+use Rattle.vdr_vault.proofs.Stepping.{damaged_still}
 use Rattle.vdr_visit.specs.Refusals.{HasVisitCause}
 use Rattle.vdr_visit.specs.Visits.{HasOnlyRead}
 
@@ -33,6 +35,13 @@ reads_join m x y z h k = record {
   others = λ n other. k.others n other ∙ h.others n other;
 }
 
+-- Damage of what was read is damage as it was before.
+pub damaged_before : {tells tells_images : Type 0} (m : ℕ) (x y : VaultState) (before after : Disk tells tells_images) → ReadsOn m x y → Unchanged before after → tells
+    → (k offset : ℕ) → IsDamagedOn y.config after k offset → IsDamagedOn x.config before k offset
+damaged_before m x y before after reads same told k offset damaged =
+    damaged_still x.config after before (sym same.sizes) (sym (same.reads told)) k offset
+    (subst (λ (c : Configuration). IsDamagedOn c after k offset) (reads_keep m x y reads).0 damaged)
+
 -- What holds after Ok, of a call that answered it.
 pub left_of : {T E P : Type 0} {result : Result T E} {x : T} → result ≡ Ok x → OnOk result P → P
 left_of {P = P} is h = subst (λ (r : Result _ _). OnOk r P) is h
@@ -45,6 +54,7 @@ only_read_join query x y z before mid after read_before read_mid read_after h k 
   rings = k.rings;
   unchanged = unchanged_join before mid after h.unchanged k.unchanged;
   counts = λ m other. k.counts m other ∙ h.counts m other;
+  judged = λ judged. k.judged (h.judged judged);
   stands = λ opening events placed stands. k.stands opening events placed (h.stands opening events placed stands);
   readable = λ opening events placed readable. k.readable opening events placed (h.readable opening events placed readable);
 }

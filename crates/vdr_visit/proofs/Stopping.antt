@@ -1,5 +1,5 @@
 -- Which fault ends a visit, and its cause.
-use Rattle.std.proofs.Common.{◌≡◌, ◌≤◌, ℕ, Bool, true, get_or, sum, List, Result, Err, inl, inr, ⊎_elim, refl, ap, ◌∙◌, arith}
+use Rattle.std.proofs.Common.{◌≡◌, ◌≤◌, ℕ, Bool, true, get_or, sum, List, Result, Ok, Err, inl, inr, ⊎_elim, refl, sym, ap, ◌∙◌, arith}
 use Rattle.std.specs.Bool.{⊤}
 use Rattle.vdr_outside.specs.Causes.{NoneFalls, Rose}
 use Rattle.vdr_outside.proofs.Counts.{none_falls_join, rose_after, sum_not_less}
@@ -45,11 +45,26 @@ visit_cause read result out was is m failed start before now later cause = recor
     faulted : out ≡ Err Fault → result ≡ Err reads.Fault
     faulted fault = was ∙ ap (λ (r : ReadRefused). Err r) (fault_of_read read out is fault)
 
--- A place is refused only where it is too low.
-pub not_low : {Low : Type 0} {m : ℕ} (read : ReadRefused) (result : Result ℕ ReadRefused) → result ≡ Err read → (result ≡ Err reads.Fault → ⊥)
-    → ((k offset : ℕ) → result ≡ Err (reads.Damaged k offset) → (k ≡ m) × Low) → (Low → ⊥) → ⊥
-not_low reads.Fault result is fault damaged low = fault is
-not_low (reads.Damaged k offset) result is fault damaged low = low (damaged k offset is).1
+-- A visit that ends with damage of a read met that.
+pub damage_of_read : {R : Type 0} (read : ReadRefused) (result : Result Bool ReadRefused) (out : Result ⊤ (VisitRefused R)) → result ≡ Err read → out ≡ Err (stop_by read)
+    → (m offset : ℕ) → out ≡ Err (Damaged m offset) → result ≡ Err (reads.Damaged m offset)
+damage_of_read {R} read result out was is m offset damage = was ∙ by read (sym is ∙ damage)
+  where
+    by : (e : ReadRefused) → ◌≡◌ {A = Result ⊤ (VisitRefused R)} (Err (stop_by e)) (Err (Damaged m offset)) → ◌≡◌ {A = Result Bool ReadRefused} (Err e) (Err (reads.Damaged m offset))
+    by reads.Fault same = absurd (clash same)
+      where
+        clash : ◌≡◌ {A = Result ⊤ (VisitRefused R)} (Err Fault) (Err (Damaged m offset)) → ⊥
+        clash same = cc
+    by (reads.Damaged k at) same = cc
+
+-- The end of a visit is no damage.
+pub not_at_end : {R : Type 0} (m offset : ℕ) → ◌≡◌ {A = Result ⊤ (VisitRefused R)} (Ok tt) (Err (Damaged m offset)) → ⊥
+not_at_end m offset damage = cc
+
+-- Nor is a visitor that stops.
+pub not_by_visitor : {R : Type 0} (own : VisitorRefused R) (out : Result ⊤ (VisitRefused R)) → out ≡ Err (stop_of own) → (m offset : ℕ) → out ≡ Err (Damaged m offset) → ⊥
+not_by_visitor visitors.Output out is m offset damage = cc
+not_by_visitor (visitors.Own reason) out is m offset damage = cc
 
 -- A visit that blames the output had it from the visitor, over a count that did not fall before it.
 pub output_cause : {R : Type 0} (own : VisitorRefused R) (result : Result ⊤ (VisitorRefused R)) (out : Result ⊤ (VisitRefused R)) → result ≡ Err own → out ≡ Err (stop_of own)

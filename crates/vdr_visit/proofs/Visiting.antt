@@ -1,21 +1,17 @@
 -- The records that a query selects are visited one by one.
-use Rattle.std.proofs.Common.{◌≡◌, ◌≢◌, ◌≤◌, ◌+◌, ◌^◌, get_or, ℕ, List, Bool, true, Option, None}
+use Rattle.std.proofs.Common.{◌≡◌, ◌≢◌, ◌≤◌, ◌+◌, get_or, ℕ, List, Bool, true, Option, None}
 use Rattle.std.specs.Io.KnownBytes.{Appends}
-use Rattle.vdr_terms.specs.Order.{AreInOrder}
 use Rattle.vdr_terms.specs.Queries.{Query}
 use Rattle.vdr_terms.specs.Records.{Record}
 use Rattle.vdr_history.specs.Histories.{Event, Opening}
 use Rattle.vdr_playback.specs.Playback.{medium_of, selected}
-use Rattle.vdr_playback.proofs.Found.{is_in_order}
 use Rattle.vdr_outside.specs.Causes.{NoneFalls}
 use Rattle.vdr_outside.specs.Disk.{Disk, Unchanged}
-use Rattle.vdr_entry.specs.Queries.{asked}
-use Rattle.vdr_entry.specs.declared.query.Query.{Query as Asked}
 use Rattle.vdr_directory.specs.Sequence.{Placed}
-use Rattle.vdr_vault.specs.Vaults.{AreRings, IsReadable, VaultState, Stands}
+use Rattle.vdr_ring.specs.Visits.{StandsAmong}
+use Rattle.vdr_vault.specs.Vaults.{AreJudged, AreRings, IsReadable, VaultState, Stands}
 use Rattle.vdr_cursor.specs.Walks.{CursorState, MayStep}
 use Rattle.vdr_vault.specs.Plays.{AreToCome, ReadsNoOther, ReadsOn, budget_for, ring_for, whole_budget}
-use Rattle.vdr_vault.proofs.Coming.{holds_on}
 use Rattle.vdr_visit.specs.Prints.{text_of}
 use Rattle.vdr_visit.proofs.Between.{IsBetween}
 
@@ -23,7 +19,7 @@ module _ {tells tells_images S : Type 0} where
   -- Between two records of a visit. What the visitor had of none of them, and has of the first of them, is told by the visitor from which it
   -- began.
   pub record IsVisiting (query : Query) (first now : VaultState) (before after : Disk tells tells_images) (read_before read_now faults_before faults_now : List ℕ) (output_before output_now : ℕ)
-      (was printed : Option (List ℕ)) (Had : S → Type 0) (Has : S → List Record → Type 0) (line : S → List Record → Record → List ℕ) (cursor : CursorState) (found : Bool) (least : ℕ) : Type 0 where
+      (was printed : Option (List ℕ)) (Had : S → Type 0) (Has : S → List Record → Type 0) (line : S → List Record → Record → List ℕ) (cursor : CursorState) (found : Bool) : Type 0 where
     pub rings : AreRings now after.sizes
     pub reads : ReadsOn (medium_of query.medium) first now
     pub unchanged : Unchanged before after
@@ -33,15 +29,10 @@ module _ {tells tells_images S : Type 0} where
     pub output : output_before ≤ output_now
     pub may : MayStep (ring_for now query) cursor
     pub item : found ≡ true → cursor.visit.item ≢ None
-    pub low : least ≤ 2 ^ 63
+    pub judged : AreJudged first before → AreJudged now after
+    pub among : tells → AreJudged first before → StandsAmong (ring_for now query) after cursor.visit
     pub stands : (opening : Opening) (events : List Event) (placed : ℕ → List Placed) → Stands opening events first placed before → Stands opening events now placed after
     pub readable : (opening : Opening) (events : List Event) (placed : ℕ → List Placed) → IsReadable opening events first placed before → IsReadable opening events now placed after
     pub visits : (start : S) → Had start → (seen : List Record) × Has start seen × Appends was printed (text_of (line start) seen)
         × ((opening : Opening) (events : List Event) (placed : ℕ → List Placed) → tells → IsReadable opening events first placed before
-        → IsBetween (selected opening events query) seen least found cursor.visit.item (AreToCome query now placed after cursor))
-
-module _ {tells tells_images : Type 0} where
-  -- What is selected of what a vault holds is in order.
-  pub selected_in_order : (opening : Opening) (events : List Event) (vault : VaultState) (placed : ℕ → List Placed) (disk : Disk tells tells_images) → IsReadable opening events vault placed disk
-      → (query : Asked) → AreInOrder (selected opening events (asked query))
-  selected_in_order opening events vault placed disk stands query = is_in_order opening events (asked query) (holds_on opening events vault placed disk stands query.medium).order
+        → IsBetween (selected opening events query) seen found cursor.visit.item (AreToCome query now placed after cursor))

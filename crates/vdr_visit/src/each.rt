@@ -1,8 +1,7 @@
 // One record after another.
-ghost use Rattle.std.specs.Prelude.{◌≡◌, ◌⊎◌, ◌<◌, ◌≤◌, ◌+◌, ◌^◌, ℕ, [], Err, IfOk};
+ghost use Rattle.std.specs.Prelude.{◌≡◌, ◌⊎◌, [], Err};
 ghost use Rattle.vdr_playback.specs.Playback.{medium_of};
-ghost use Rattle.vdr_entry.specs.Queries.{asked, asked_medium};
-ghost use Rattle.vdr_ring.specs.declared.refused.ReadRefused.TheVariants as reads;
+ghost use Rattle.vdr_entry.specs.Queries.{asked};
 ghost use Rattle.vdr_vault.specs.Vaults.{AreRings};
 ghost use Rattle.vdr_visit.specs.Prints.{text_of, whole_text};
 ghost use Rattle.vdr_visit.specs.Refusals.{HasOutputCause, HasVisitCause};
@@ -11,29 +10,12 @@ ghost use Rattle.vdr_visit.specs.declared.refused.VisitRefused.TheVariants.{Faul
 
 use crate::{VisitRefused, Visitor};
 use vdr_cursor::Cursor;
-use vdr_entry::{Medium, Query, Record};
+use vdr_entry::Query;
 use vdr_outside::{Media, Sink};
-use vdr_ring::ReadRefused;
-use vdr_vault::{Vault, number_of};
+use vdr_vault::Vault;
 
-// The least place that is expected behind this record, whose own is not below the least that was expected.
-fn place_behind(item: &Record, medium: Medium, least: u64) -> Result<u64, ReadRefused>
-    ensures next { IfOk result (λ next. next ≡ item.now.place + 1) }
-    ensures rises { IfOk result (λ next. (least < next) × (next ≤ 2 ^ 63)) }
-    ensures fault { result ≡ Err reads.Fault → ⊥ }
-    ensures damaged { (m offset : ℕ) → result ≡ Err (reads.Damaged m offset) → (m ≡ medium_of (asked_medium medium)) × (item.now.place < least) }
-{
-    if item.place < least {
-        return Err(ReadRefused::Damaged {
-            medium: number_of(medium),
-            offset: 0,
-        });
-    }
-    Ok(item.place + 1)
-}
-
-// Hands the records of an accepted query to the visitor, until it stops. Places rise in what is selected, so that it ends on media that
-// were changed from outside too.
+// Hands the records of an accepted query to the visitor, until it stops. Each step leaves fewer, so that it ends on
+// media that were changed from outside too.
 fn visit_each<M: Media, V: Visitor, O: Sink>(
     vault: &mut Vault,
     media: &mut M,
@@ -52,13 +34,11 @@ fn visit_each<M: Media, V: Visitor, O: Sink>(
     ensures output { HasOutputCause (O.faults out.old) (O.faults out.new) (result ≡ Err Output) }
 {
     let mut cursor = Cursor::new();
-    let mut least = 0;
     let mut found = vault.first(media, query, &mut cursor)?;
     while found {
         let Some(item) = cursor.item() else {
             unreachable!()
         };
-        least = place_behind(item, query.medium, least)?;
         visitor.visit(item, out)?;
         found = vault.next(media, query, &mut cursor)?;
     }

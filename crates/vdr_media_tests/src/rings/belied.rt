@@ -1,4 +1,4 @@
-// A ring of which a segment does not agree with the summary in its header: it is opened, and refused as it is read.
+// A ring of which a segment is not legal, or does not agree with the summary in its header, as it is read.
 use super::capsule::{Capsule, contents};
 use super::wrapping::{append_all, places};
 use std::alloc::Global;
@@ -87,9 +87,9 @@ fn try_row(rt: &impl Abort, alloc: Global, row: &Row) -> Result<Option<ReadRefus
         put_byte(rt, &mut media, *at, *byte);
     }
     let mut stepper = Capsule::open(rt, alloc, media)?.stepper();
-    let first = stepper.refusal_of_oldest(rt, &places(0, u64::MAX));
+    let first = stepper.refusal_after(rt, None, &places(0, u64::MAX));
     // it is judged again at the next step, and the newest segment is read
-    assert!(rt; stepper.refusal_of_oldest(rt, &places(0, u64::MAX)) == first);
+    assert!(rt; stepper.refusal_after(rt, None, &places(0, u64::MAX)) == first);
     assert!(rt; stepper.step_after(rt, Some(0), &places(0, u64::MAX)) == Some(54));
     Ok(first)
 }
@@ -103,6 +103,35 @@ fn a_segment_that_does_not_agree_with_its_summary_is_refused_as_it_is_read(
             .2
             .map(|offset| ReadRefused::Damaged { medium: 0, offset });
         assert!(rt; try_row(&rt, rt.alloc(), row)? == expected);
+    }
+    Ok(())
+}
+
+// A byte of the newest segment that is written over once the ring was opened, if any, and where the segment is refused, if it is. It
+// begins at 40,960 and has no summary; its two batches begin at 41,024 and 41,173.
+const CHANGES: [(Option<(u64, u8)>, Option<u64>); 4] = [
+    (None, None),
+    // the length of the second batch
+    (Some((41_174, 0xff)), Some(41_173)),
+    // the gate of a summary, which counts no record
+    (Some((40_977, 0xa5)), Some(41_024)),
+    // the end of the header, which is zero
+    (Some((41_022, 1)), Some(40_960)),
+];
+
+#[test]
+fn a_segment_without_a_summary_is_judged_as_it_is_read_again(rt: HostRuntime) -> Result<(), Fail> {
+    for (byte, offset) in &CHANGES {
+        let mut capsule = Capsule::open(&rt, rt.alloc(), RamMedia::new(contents(rt.alloc())?))?;
+        append_all(&rt, &mut capsule, 0, BATCHES);
+        let mut stepper = capsule.stepper();
+        // another slot is read first
+        assert!(rt; stepper.step_after(&rt, None, &places(0, u64::MAX)) == Some(0));
+        if let Some((at, byte)) = byte {
+            stepper.put_byte(&rt, *at, *byte);
+        }
+        let expected = offset.map(|offset| ReadRefused::Damaged { medium: 0, offset });
+        assert!(rt; stepper.refusal_after(&rt, Some(0), &places(0, u64::MAX)) == expected);
     }
     Ok(())
 }

@@ -172,6 +172,12 @@ impl<M: Media> Model for Stepper<M> {
 }
 
 impl<M: Media + Drop> Stepper<M> {
+    // Writes a byte of the medium over, behind the ring's back.
+    pub(super) fn put_byte(&mut self, rt: &impl Abort, at: u64, byte: u8) {
+        assert!(rt; self.media.count() == 1 && self.media.size(0) == 122_880 && at < 122_880);
+        assert!(rt; self.media.write(0, at, &[byte]).is_ok());
+    }
+
     // Steps in the segment that follows this number.
     pub(super) fn step_after(
         &mut self,
@@ -186,15 +192,16 @@ impl<M: Media + Drop> Stepper<M> {
         step(rt, media, &mut self.ring, slot, visit, selection)
     }
 
-    // How a step in the oldest segment is refused.
-    pub(super) fn refusal_of_oldest(
+    // How a step in the segment that follows this number is refused. None where it is not.
+    pub(super) fn refusal_after(
         &mut self,
         rt: &impl Abort,
+        seq: Option<u64>,
         selection: &Selection,
     ) -> Option<ReadRefused> {
         let (media, visit) = (&mut self.media, &mut self.visit);
-        let Some((slot, _)) = self.ring.next_slot(None) else {
-            panic!(rt; "no segment");
+        let Some((slot, _)) = self.ring.next_slot(seq) else {
+            panic!(rt; "no such segment");
         };
         refusal(media, &mut self.ring, slot, visit, selection)
     }

@@ -16,6 +16,7 @@ pub returns-then-branch-clause-held : goal.returns-then-branch-clause-held
 returns-then-branch-clause-held g c told = (
   λ older none. absurd (both_ways c.args.newest older (c.in_ok-is_newest_empty.ensures.newest c.if-branch.true)),
   λ newest. (λ read. let bad : ⊥ = cc in absurd bad, λ some. absurd (some (c.empty.ensures.survey 0).extent)),
+  λ read. let bad : ⊥ = cc in absurd bad,
 )
 
 pub returns-in_err-survey-clause-damaged : goal.returns-in_err-survey-clause-damaged
@@ -41,6 +42,7 @@ returns-clause-held g c told =
             (λ batches are none. both_ways _ c.if-branch.false ((c.in_ok-is_newest_empty.ensures.empty told).1 newest batches are none)),
         λ some. refl,
       ),
+      λ read. without _ (sym c.is_some.ensures ∙ c.if-is_some.false),
     )
 
 pub returns-clause-counts : goal.returns-clause-counts

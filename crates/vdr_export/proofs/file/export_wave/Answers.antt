@@ -2,9 +2,11 @@ use Rattle.std.proofs.Common.{◌∙◌, Err, inr, ap}
 use Rattle.std.proofs.lemmas.Result.{err_from_is_err_and}
 use Rattle.vdr_playback.specs.Playback.{medium_of, selected}
 use Rattle.vdr_entry.specs.Queries.{asked}
+use Rattle.vdr_visit.proofs.Reading.{damaged_before}
 use Rattle.vdr_recorder.proofs.Looking.{looks_join}
 use Rattle.vdr_export.specs.Sounds.{heard}
 use Rattle.vdr_export.specs.declared.refused.ExportRefused.{ExportRefused}
+use Rattle.vdr_export.specs.declared.refused.ExportRefused.TheVariants.{Damaged, Fault}
 use Rattle.vdr_export.proofs.Refusing.{looked_as}
 use Rattle.vdr_export.proofs.TwoPasses.{asked_again, no_wave, passed_on, the_wave}
 use Rattle.vdr_export.proofs.file.export_wave.Goals as goal
@@ -18,7 +20,12 @@ returns-in_err-size-clause-wave g c opening events placed told readable =
 pub returns-in_err-size-clause-looked : goal.returns-in_err-size-clause-looked
 returns-in_err-size-clause-looked g c =
     let p = err_from_is_err_and c.from_residual.result c.from_residual.ensures.1 in
-    looked_as _ _ _ _ _ _ _ _ _ _ _ (passed_on c.wave_size.result c.in_err-size.field-0.0 p.0 c.from_residual.result c.in_err-size.was p.2 p.1) c.wave_size.ensures.looked
+    looked_as _ _ _ _ _ _ _ _ _ _ _ (passed_on c.wave_size.result c.in_err-size.field-0.0 p.0 Fault c.from_residual.result c.in_err-size.was p.2 p.1) c.wave_size.ensures.looked
+
+pub returns-in_err-size-clause-damaged : goal.returns-in_err-size-clause-damaged
+returns-in_err-size-clause-damaged g c m offset is =
+    let p = err_from_is_err_and c.from_residual.result c.from_residual.ensures.1 in
+    c.wave_size.ensures.damaged m offset (passed_on c.wave_size.result c.in_err-size.field-0.0 p.0 (Damaged m offset) c.from_residual.result c.in_err-size.was p.2 p.1 is)
 
 pub write_wave-requires-clause-asked : goal.write_wave-requires-clause-asked
 write_wave-requires-clause-asked g c =
@@ -35,3 +42,9 @@ returns-clause-wave g c opening events placed told readable =
 pub returns-clause-looked : goal.returns-clause-looked
 returns-clause-looked g c =
     looked_as _ _ _ _ _ _ _ _ _ _ _ (λ is. inr is) (looks_join (asked c.args.query.now) _ _ _ _ _ _ _ _ _ _ _ _ _ _ c.wave_size.ensures.looked c.write_wave.ensures.looked)
+
+pub returns-clause-damaged : goal.returns-clause-damaged
+returns-clause-damaged g c m offset is told judged =
+    let read = c.wave_size.ensures.looked.read in
+    damaged_before (medium_of (asked c.args.query.now).medium) c.args.recorder.now.vault c.wave_size.new.recorder.vault (g.M.Media.disk c.args.media.now) (g.M.Media.disk c.wave_size.new.media) read.vault read.unchanged
+    told m offset (c.write_wave.ensures.damaged m offset is told (read.judged judged))

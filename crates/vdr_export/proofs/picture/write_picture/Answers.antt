@@ -6,10 +6,10 @@ use Rattle.vdr_entry.specs.Queries.{asked}
 use Rattle.vdr_export.specs.Collected.{IsCollected}
 use Rattle.vdr_export.specs.Pictures.{shown}
 use Rattle.vdr_export.specs.declared.refused.ExportRefused.{ExportRefused}
-use Rattle.vdr_export.specs.declared.refused.ExportRefused.TheVariants.{Fault, Output}
-use Rattle.vdr_export.proofs.Ending.{completed, front_ends, incomplete, never_stops, refused_ends, written_ends}
+use Rattle.vdr_export.specs.declared.refused.ExportRefused.TheVariants.{Damaged, Fault, Output}
+use Rattle.vdr_export.proofs.Ending.{completed, front_ends, incomplete, missing_undamaged, never_stops, refused_ends, written_ends}
 use Rattle.vdr_export.proofs.Refusing.{looked_as, never_blamed, output_still}
-use Rattle.vdr_export.proofs.Visited.{blames_media, blames_output, no_picture, no_picture_own}
+use Rattle.vdr_export.proofs.Visited.{blames_media, blames_output, names_slot, no_picture, no_picture_own}
 use Rattle.vdr_export.proofs.picture.write_picture.Goals as goal
 
 pub returns-in-Err-clause-picture : goal.returns-in-Err-clause-picture
@@ -29,12 +29,23 @@ returns-in-Err-clause-looked g c =
     (blames_media c.refusal_of.result c.in-Err.stop c.refusal_of.ensures v _ refl (never_stops (shown c.args.block.now v.seen) Fault (λ place is. let none : ⊥ = cc in none) (λ is. let none : ⊥ = cc in none)))
     c.in-Err.ensures.looked
 
+pub returns-in-Err-clause-damaged : goal.returns-in-Err-clause-damaged
+returns-in-Err-clause-damaged g c m offset damage =
+    let v = c.in-Err.ensures.visited (record c.new-collecting.result { block = c.args.block.now }) (c.new-collecting.ensures.block, c.new-collecting.ensures.nothing) in
+    names_slot c.refusal_of.result c.in-Err.stop c.refusal_of.ensures v _ refl m offset
+    (never_stops (shown c.args.block.now v.seen) (Damaged m offset) (λ place is. let none : ⊥ = cc in none) (λ is. let none : ⊥ = cc in none)) damage
+
 pub returns-in-Err-clause-output : goal.returns-in-Err-clause-output
 returns-in-Err-clause-output g c =
     let v = c.in-Err.ensures.visited (record c.new-collecting.result { block = c.args.block.now }) (c.new-collecting.ensures.block, c.new-collecting.ensures.nothing) in
     output_still _ _
     (λ is. never_blamed c.in-Err.ensures.output (blames_output c.refusal_of.result c.in-Err.stop c.refusal_of.ensures v _ refl
     (never_stops (shown c.args.block.now v.seen) Output (λ place is. let none : ⊥ = cc in none) (λ is. let none : ⊥ = cc in none)) is))
+
+pub returns-in_err-complete-clause-damaged : goal.returns-in_err-complete-clause-damaged
+returns-in_err-complete-clause-damaged g c m offset damage =
+    let p = err_from_is_err_and c.from_residual.result c.from_residual.ensures.1 in
+    absurd (missing_undamaged c.visit.new.visitor.parts m offset (sym c.complete.ensures ∙ c.in_err-complete.was ∙ sym (p.1 ∙ ap (λ (e : ExportRefused). Err e) p.2) ∙ damage))
 
 pub returns-in_err-complete-clause-picture : goal.returns-in_err-complete-clause-picture
 returns-in_err-complete-clause-picture g c opening events placed told readable =

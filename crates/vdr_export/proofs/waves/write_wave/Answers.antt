@@ -9,7 +9,7 @@ use Rattle.vdr_export.specs.Waves.{wave_header}
 use Rattle.vdr_visit.proofs.Printing.{front_of_whole}
 use Rattle.vdr_export.proofs.Passes.{wave_front, wave_written, whole_sound}
 use Rattle.vdr_export.proofs.Refusing.{looked_as, looked_nothing, output_after, output_as}
-use Rattle.vdr_export.proofs.Visited.{blames_media, blames_output, not_written_own, undamaged}
+use Rattle.vdr_export.proofs.Visited.{blames_media, blames_output, names_slot, not_written_own, undamaged}
 use Rattle.vdr_export.proofs.waves.write_wave.Goals as goal
 
 pub returns-in_default-clause-front : goal.returns-in_default-clause-front
@@ -42,6 +42,11 @@ pub returns-in-Err-clause-looked : goal.returns-in-Err-clause-looked
 returns-in-Err-clause-looked g c =
     let v = c.in-Err.ensures.visited (record c.new-writing.result { microphone = c.args.microphone }) c.new-writing.ensures in
     looked_as _ _ _ _ _ _ _ _ _ _ _ (blames_media c.refusal_of.result c.in-Err.stop c.refusal_of.ensures v _ refl (λ never. never)) c.in-Err.ensures.looked
+
+pub returns-in-Err-clause-damaged : goal.returns-in-Err-clause-damaged
+returns-in-Err-clause-damaged g c m offset damage =
+    let v = c.in-Err.ensures.visited (record c.new-writing.result { microphone = c.args.microphone }) c.new-writing.ensures in
+    names_slot c.refusal_of.result c.in-Err.stop c.refusal_of.ensures v _ refl m offset (λ never. never) damage
 
 pub returns-in-Err-clause-output : goal.returns-in-Err-clause-output
 returns-in-Err-clause-output g c =

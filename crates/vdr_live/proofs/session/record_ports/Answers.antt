@@ -14,7 +14,7 @@ returns-in_err-recorder-clause-ends g c =
     rw (p.1, p.2) (record {
       unasked = refl;
       unspoken = refl;
-      media = refused_ends (λ x. ⊤) ⊥ (λ (events : List Event). events ≡ []) _ _ c.open.result c.in_err-recorder.field-0.0 refl c.in_err-recorder.was told.refused.unformatted told.refused.damaged told.refused.untouched told.refused.blank told.writes.others told.writes.cause told.moments;
+      media = refused_ends (λ x. ⊤) (λ m offset. ⊥) (λ (events : List Event). events ≡ []) _ _ c.open.result c.in_err-recorder.field-0.0 refl c.in_err-recorder.was told.refused.unformatted told.refused.damaged told.refused.untouched told.refused.blank told.writes.others told.writes.cause told.moments;
     })
 
 pub returns-clause-ends : goal.returns-clause-ends

@@ -9,12 +9,12 @@ use Rattle.vdr_media.proofs.Two.{of_each}
 pub returns-clause-undamaged : goal.returns-clause-undamaged
 returns-clause-undamaged g c k offset e told known knows =
     let count = c.requires.rings.1.count in
-    c.read_last_batch.ensures.batch.undamaged told known (subst (λ (r : RingState). Knows r known (g.M.Media.disk c.args.media.now)) (get_or_default c.args.rings.now c.args.m no_ring _ (omega (arith, count))) knows) k offset e
+    c.read_last_batch.ensures.batch.undamaged_known told known (subst (λ (r : RingState). Knows r known (g.M.Media.disk c.args.media.now)) (get_or_default c.args.rings.now c.args.m no_ring _ (omega (arith, count))) knows) k offset e
 
 pub returns-clause-kept : goal.returns-clause-kept
 returns-clause-kept g c =
     let count = c.requires.rings.1.count in
-    keeps_one c.args.rings.now c.args.m _ c.read_last_batch.new.self _ _ (omega (arith, count)) (get_or_default c.args.rings.now c.args.m _ no_ring (omega (arith, count))) c.read_last_batch.ensures.keeps.ring c.read_last_batch.ensures.keeps.reads c.read_last_batch.ensures.keeps.knows c.read_last_batch.ensures.keeps.unchanged
+    keeps_one c.args.rings.now c.args.m _ c.read_last_batch.new.self _ _ (omega (arith, count)) (get_or_default c.args.rings.now c.args.m _ no_ring (omega (arith, count))) c.read_last_batch.ensures.keeps.ring c.read_last_batch.ensures.keeps.reads c.read_last_batch.ensures.keeps.knows c.read_last_batch.ensures.keeps.judged c.read_last_batch.ensures.keeps.unchanged
 
 pub returns-clause-cause : goal.returns-clause-cause
 returns-clause-cause g c =

@@ -10,9 +10,10 @@ use Rattle.vdr_opening.specs.Answers.{IsRingOf, ring_at}
 use Rattle.vdr_opening.specs.Media.{IsMediumBy}
 use Rattle.vdr_opening.specs.Parts.{ReadsLegal, text_of}
 use Rattle.vdr_ring.specs.Rings.{HoldsNewest}
+use Rattle.vdr_ring.specs.Visits.{HasJudged}
 use Rattle.vdr_opening.proofs.Costs.{IsReadBy, own_bytes, own_still, unread_still}
 use Rattle.vdr_opening.specs.Refusals.{RefusesMedium}
-use Rattle.vdr_opening.proofs.Rings.{all_known, each_read, legal_at, legal_still, medium_still, refused_at, carry, each_more, same_content, same_text}
+use Rattle.vdr_opening.proofs.Rings.{all_known, each_read, judged_still, legal_at, legal_still, medium_still, refused_at, carry, each_more, same_content, same_text}
 use Rattle.vdr_opening.proofs.medium.open_media.Goals as goal
 use Rattle.vdr_outside.proofs.Moments.{unchanged_join}
 use Rattle.vdr_media.proofs.Two.{all_two, of_each}
@@ -59,6 +60,7 @@ loop-m-preserved g c =
           (new.0, record { knows = new.1; own = own_bytes c.loop-m.m found.config start.sizes c.in_ok-configured.field-0.ring new.0 read0 read1 read2 ring_is (inv.unread told c.loop-m.m (omega arith)) new.2 });
       unread = λ told k above. unread_still c.loop-m.m _ k read0 read1 read2 above (call.parts told).2 (inv.unread told k (omega (arith, above)));
       held = λ told. each_more (λ k ring. HoldsNewest ring) c.loop-m.rings.items _ c.loop-m.m inv.count (inv.held told) (call.held told);
+      judged = each_more (λ k ring. HasJudged ring one) c.loop-m.rings.items _ c.loop-m.m inv.count (λ k lt. judged_still (ring_at c.loop-m.rings.items k) _ _ c.open_medium.ensures.unchanged (inv.judged k lt)) call.judged;
       behind = λ told m offset refuses.
           let read = call.parts told in
           inv.behind told m offset (legal_at (text_of c.loop-m.before) start.reads m offset c.loop-m.m found.text.items high
@@ -84,3 +86,8 @@ pub returns-clause-held : goal.returns-clause-held
 returns-clause-held g c told =
     let all = c.loop-m-test.false in
     all_two (λ m. HoldsNewest (ring_at c.loop-m.rings.items m)) (c.loop-m.invariant.held told 0 (omega (arith, all))) (c.loop-m.invariant.held told 1 (omega (arith, all)))
+
+pub returns-clause-judged : goal.returns-clause-judged
+returns-clause-judged g c =
+    let all = c.loop-m-test.false in
+    all_two (λ m. HasJudged (ring_at c.loop-m.rings.items m) (g.M.Media.disk c.loop-m.media)) (c.loop-m.invariant.judged 0 (omega (arith, all))) (c.loop-m.invariant.judged 1 (omega (arith, all)))

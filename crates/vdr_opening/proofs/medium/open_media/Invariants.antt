@@ -4,6 +4,7 @@ use Rattle.vdr_outside.specs.Disk.{Durable, Unchanged}
 use Rattle.vdr_config.specs.Grammar.{configuration}
 use Rattle.vdr_directory.specs.Sequence.{Placed}
 use Rattle.vdr_ring.specs.Rings.{HoldsNewest}
+use Rattle.vdr_ring.specs.Visits.{HasJudged}
 use Rattle.vdr_opening.specs.Media.{members}
 use Rattle.vdr_opening.specs.Refusals.{RefusesFrom}
 use Rattle.vdr_opening.specs.Answers.{IsRingOf, ring_at}
@@ -24,6 +25,7 @@ invariant-loop-m g l = record {
       × IsReadBy k c.config c.text.items known (ring_at l.rings.items k) (g.M.Media.disk l.media) (g.M.Media.disk l.fn.media).sizes (g.M.Media.bytes_read l.fn.media) (g.M.Media.bytes_read l.media));
   unread : g.M.Media.tells → (k : ℕ) → l.m ≤ k → get_or (g.M.Media.bytes_read l.media) k 0 ≡ get_or (g.M.Media.bytes_read l.fn.media) k 0;
   held : g.M.Media.tells → (k : ℕ) → k < l.m → HoldsNewest (ring_at l.rings.items k);
+  judged : (k : ℕ) → k < l.m → HasJudged (ring_at l.rings.items k) (g.M.Media.disk l.media);
   behind : g.M.Media.tells → (m offset : ℕ) → RefusesFrom (text_of l.before) (drop l.m members) (g.M.Media.disk l.fn.media).reads m offset → RefusesFrom None members (g.M.Media.disk l.fn.media).reads m offset;
   unchanged : Unchanged (g.M.Media.disk l.fn.media) (g.M.Media.disk l.media);
   later : NoneFalls (g.M.Media.faults l.fn.media) (g.M.Media.faults l.media);

@@ -7,12 +7,12 @@ use Rattle.std.specs.Prelude.{All}
 use Rattle.vdr_ring.specs.Rings.{HoldsNewest, RingState}
 use Rattle.vdr_opening.specs.Costs.{ReadsParts}
 use Rattle.vdr_opening.specs.Media.{members}
-use Rattle.vdr_opening.specs.Answers.{AreRingsOf, no_ring, ring_at}
+use Rattle.vdr_opening.specs.Answers.{AreJudgedOn, AreRingsOf, no_ring, ring_at}
 use Rattle.vdr_opening.specs.Parts.{AreKnownTo}
 use Rattle.vdr_opening.proofs.Costs.{parts_more}
 use Rattle.vdr_opening.proofs.Meeting.{are_known, contents_of, ends_refused, holds_parts, incidents_refused, is_opened_by}
 use Rattle.vdr_opening.proofs.Legible.{AreRead, all_read, are_read, is_opened, lent_read}
-use Rattle.vdr_opening.proofs.Rings.{known_still, part_by, part_passed, take_front}
+use Rattle.vdr_opening.proofs.Rings.{judged_lent, judged_on, known_still, part_by, part_passed, take_front}
 use Rattle.vdr_opening.proofs.reading.read_formatted.Goals as goal
 use Rattle.vdr_outside.proofs.Moments.{unchanged_join}
 
@@ -84,6 +84,13 @@ returns-clause-parts g c told =
       subst (λ (n : List ℕ). ReadsParts 24600 found.config.segment media.0 (g.M.Media.disk c.args.media.now).sizes (g.M.Media.bytes_read c.args.media.now) n) (sym unread)
           (parts_more 16408 _ media.0 _ _ _ _ 1 8192 24600 (omega arith) (omega arith) media.2 c.read_incidents.ensures.counts),
     )
+
+pub returns-clause-judged : goal.returns-clause-judged
+returns-clause-judged g c =
+    let on = c.in_ok-configured.field-0.rings.items in
+    let back = take_front _ c.missing_batch.new.rings _ (c.missing_batch.auto.rings ∙ c.deref_mut.ensures.len) in
+    subst (λ (l : List RingState). AreJudgedOn l (g.M.Media.disk c.missing_batch.new.media)) (sym back)
+    (judged_on _ _ _ _ c.missing_batch.ensures.kept (judged_lent on _ _ _ c.deref_mut.ensures.value c.read_incidents.ensures.unchanged c.in_ok-configured.ensures.judged))
 
 pub returns-clause-shape : goal.returns-clause-shape
 returns-clause-shape g c =

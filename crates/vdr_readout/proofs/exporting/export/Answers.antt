@@ -102,5 +102,5 @@ returns-clause-ends g c =
     c.open.ensures.writes.cause.later c.open.ensures.writes.others
     (missing_looked (g.M.Media.disk c.args.world.now.media) (g.M.Media.disk c.open.new.media) (g.M.Media.disk c.export_file-written.new.media) c.open.ensures.missing made.looked.read.unchanged) c.open.result c.open.ensures.moments
     there.0 there.1 c.file_of.result (c.file_of.ensures ∙ ap (λ (d : Configuration). wished c.args.wish (kind_at d.channels c.in-Some.query.channel)) c.config.ensures) c.in-Some-file_of.file c.in-Some-file_of.is
-    c.export_file-written.result made.file made.looked made.own
+    c.export_file-written.result made.file (λ m offset is t. made.damaged m offset is t (told.opened.judged t)) made.looked made.own
     (still_output c.args.world.now.output c.export_file-written.new.out c.export_file-written.result _ (λ (o : g.row.O.Denot). record { taken = g.O.Sink.taken o; faults = g.O.Sink.faults o }) made.silent) made.output)

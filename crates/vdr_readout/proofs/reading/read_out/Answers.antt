@@ -53,13 +53,13 @@ returns-clause-reads g c first had =
     (record {
       shown =
           read_shows wanted old.media mid.media new.media c.in_ok-recorder.recorder c.visit-ended.new.self (asked c.in-Some.query) c.visit-ended.result wants told.opened.works told.opened.parts told.opened.opened told.opened.readable
-          visit.accepted undamaged visit.looked c.open.ensures.writes.cause.later c.open.ensures.writes.others _ c.ended_by.ensures.own c.open.result c.open.ensures.moments
+          visit.accepted undamaged (λ m offset is t. visited.damaged m offset is t (told.opened.judged t)) visit.looked c.open.ensures.writes.cause.later c.open.ensures.writes.others _ c.ended_by.ensures.own c.open.result c.open.ensures.moments
           told.opened.contents _ _ _ _ old.output new.output visited
           (λ refused. let same = (visit.unread (inr refused)).3 in λ i. record { taken = g.O.Sink.taken (same i); faults = g.O.Sink.faults (same i) })
           visit.output.rose;
       media =
           read_ends wanted old.media mid.media new.media c.in_ok-recorder.recorder c.visit-ended.new.self (asked c.in-Some.query) c.visit-ended.result wants told.opened.works told.opened.parts told.opened.opened told.opened.readable
-          visit.accepted undamaged visit.looked c.open.ensures.writes.cause.later c.open.ensures.writes.others _ c.ended_by.ensures.own c.open.result c.open.ensures.moments;
+          visit.accepted undamaged (λ m offset is t. visited.damaged m offset is t (told.opened.judged t)) visit.looked c.open.ensures.writes.cause.later c.open.ensures.writes.others _ c.ended_by.ensures.own c.open.result c.open.ensures.moments;
       missing = missing_looked (g.M.Media.disk c.args.world.now.media) (g.M.Media.disk c.open.new.media) (g.M.Media.disk c.visit-ended.new.media) c.open.ensures.missing visit.looked.read.unchanged;
       bytes = λ worked x t holds can.
           let readable = to_read wanted old.media mid.media new.media c.in_ok-recorder.recorder c.visit-ended.new.self (asked c.in-Some.query) c.visit-ended.result wants told.opened.works told.opened.parts told.opened.opened

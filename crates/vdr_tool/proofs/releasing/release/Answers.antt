@@ -12,7 +12,7 @@ returns-in_err-recorder-clause-media g c =
     let refused = c.in_err-recorder.field-0.0 in
     let p = err_from_is_err_and c.from_residual.result c.from_residual.ensures.1 in
     rw (p.1, p.2)
-    (refused_ends (CanRelease c.args.id) ⊥ _ _ _ c.open.result refused (no_act (ReleasesId c.args.id) (g.M.Media.disk c.open.new.media).clock refused) c.in_err-recorder.was
+    (refused_ends (CanRelease c.args.id) (λ m offset. ⊥) _ _ _ c.open.result refused (no_act (ReleasesId c.args.id) (g.M.Media.disk c.open.new.media).clock refused) c.in_err-recorder.was
     told.refused.unformatted told.refused.damaged told.refused.untouched told.refused.blank told.writes.others told.writes.cause told.moments)
 
 pub returns-clause-media : goal.returns-clause-media

@@ -1,6 +1,7 @@
 use Rattle.std.proofs.Common.{Option, Some, sym, subst}
 use Rattle.vdr_entry.specs.Queries.{asked}
 use Rattle.vdr_index.specs.Indexes.{span_as}
+use Rattle.vdr_ring.specs.Visits.{StandsAmong}
 use Rattle.vdr_cursor.specs.declared.cursor.Standing.{Standing}
 use Rattle.vdr_cursor.specs.contracts.cursor.Cursor.{the_view}
 use Rattle.vdr_cursor.specs.Walks.{CursorState, IsBefore, AreLeft, slots_read}
@@ -24,3 +25,14 @@ returns-in-Some-clause-spends g c =
     let selection = c.args.selection.now in
     rw (sym c.self.view_is) (step_spends (asked selection.query) (span_as selection.span) c.args.ring.now c.read_span.new.self c.self.inside.standing c.in-Some.standing (g.M.Media.bytes_read c.args.media.now) (g.M.Media.bytes_read c.read_span.new.media)
     c.read_span.result c.in-Some.is c.read_span.ensures.keeps.ring c.read_span.ensures.steps.loaded c.read_span.ensures.counts.again c.read_span.ensures.counts.once)
+
+pub returns-in-Some-clause-among : goal.returns-in-Some-clause-among
+returns-in-Some-clause-among g c told judged stands =
+    c.read_span.ensures.steps.among told judged (subst (λ (s : CursorState). StandsAmong c.args.ring.now (g.M.Media.disk c.args.media.now) s.visit) (sym c.self.view_is) stands)
+
+pub returns-in-Some-clause-damaged : goal.returns-in-Some-clause-damaged
+returns-in-Some-clause-damaged g c m offset is = (
+  c.read_span.ensures.steps.medium m offset is,
+  λ told judged stands.
+      c.read_span.ensures.steps.damaged told judged (subst (λ (s : CursorState). StandsAmong c.args.ring.now (g.M.Media.disk c.args.media.now) s.visit) (sym c.self.view_is) stands) m offset is,
+)

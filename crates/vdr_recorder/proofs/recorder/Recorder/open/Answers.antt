@@ -47,6 +47,7 @@ returns-clause-opened g c = record {
   contents = search rules;
   readable = search rules;
   works = search rules;
+  judged = search rules;
   closed = search rules;
   rings = search rules;
 }

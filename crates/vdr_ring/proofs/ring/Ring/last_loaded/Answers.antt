@@ -11,7 +11,7 @@ overflow_add-result c =
     omega arith
 
 pub returns-in-Ok-read_all-clause-batch : goal.returns-in-Ok-read_all-clause-batch
-returns-in-Ok-read_all-clause-batch c batches stand =
+returns-in-Ok-read_all-clause-batch c gate batches stand =
     let k = c.in-Ok.ensures.legal in
     batches_read c.deref.result.now c.in-Ok.bytes.now c.in-Ok-read_all.records.items k.0 batches k.1 k.2 c.in-Ok-read_all.ensures.all (search rules)
 

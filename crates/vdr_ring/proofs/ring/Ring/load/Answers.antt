@@ -1,6 +1,6 @@
-use Rattle.std.proofs.Common.{List, ℕ, sym, subst}
-use Rattle.vdr_ring.specs.Belied.{IsBelied}
+use Rattle.std.proofs.Common.{subst}
+use Rattle.vdr_ring.specs.Damage.{IsIntact}
 use Rattle.vdr_ring.proofs.ring.Ring.load.Goals as goal
 
-pub returns-clause-audited : goal.returns-clause-audited
-returns-clause-audited g c _ at b = c.in_default.ensures.none at (subst (λ (xs : List ℕ). IsBelied xs at) (sym c.deref.ensures.value) b)
+pub returns-clause-judged : goal.returns-clause-judged
+returns-clause-judged g c _ = subst IsIntact c.deref.ensures.value c.in_default.ensures.none

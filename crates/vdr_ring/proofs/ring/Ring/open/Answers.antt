@@ -11,7 +11,9 @@ use Rattle.vdr_directory.specs.Entries.{Describe}
 use Rattle.vdr_directory.specs.Holds.{HoldsPlaced}
 use Rattle.vdr_directory.specs.Opening.{slot_bytes}
 use Rattle.vdr_directory.proofs.Reordering.{slots_below}
-use Rattle.vdr_ring.proofs.Newest.{held_is}
+use Rattle.vdr_ring.specs.Rings.{Knows, RingState}
+use Rattle.vdr_ring.proofs.LastBatch.{bare_intact}
+use Rattle.vdr_ring.proofs.Newest.{bare_placed, held_is}
 use Rattle.vdr_ring.proofs.Shaping.{counts_by, four_slots, holds_by, refused_by, ring_knows, ring_reads}
 use Rattle.vdr_ring.proofs.ring.Ring.open.Goals as goal
 
@@ -73,3 +75,28 @@ returns-clause-held g c told =
     let tells = c.in-Ok-of.ensures.known c.area_of-area.result.segment found.known _ (omega (arith, high)) found.are found.order
     (subst (λ (es : List Entry). Describe found.known es) (sym c.deref.ensures.value) found.describe) in
     held_is c.in_ok-opened.opened.items c.in_ok-opened.loaded (c.in_ok-opened.ensures.latest told) _ found.known _ tells.index found.order found.describe
+
+pub returns-clause-judged : goal.returns-clause-judged
+returns-clause-judged g c slot at told =
+    let found = c.in_ok-opened.ensures.parts told in
+    let written = with_items_is c.in-Ok.buffer c.read_segments.new.buffer (c.read_segments.auto.buffer ∙ c.deref_mut.ensures.len) in
+    let high = c.area_of-area.result.segment_high in
+    let low = c.area_of-area.result.segment_low in
+    let tells = c.in-Ok-of.ensures.known c.area_of-area.result.segment found.known _ (omega (arith, high)) found.are found.order
+    (subst (λ (es : List Entry). Describe found.known es) (sym c.deref.ensures.value) found.describe) in
+    let ring : RingState = record {
+      medium = c.area_of-area.result.medium;
+      segment = c.area_of-area.result.segment;
+      slots = c.area_of-area.result.slots;
+      seconds = c.seconds_of.result;
+      directory = c.in-Ok-of.directory;
+      buffer = (with_items c.in-Ok.buffer c.read_segments.new.buffer).items;
+      loaded = c.in_ok-opened.loaded;
+      bare = c.in-Ok-bare_slots.bare.items;
+    } in
+    let now = g.M.Media.disk c.read_segments.new.media in
+    let knows : Knows ring found.known now =
+    ring_knows (g.M.Media.disk c.args.media.now) now ring (λ j loaded. written ∙ c.in_ok-opened.ensures.held told j loaded) c.read_segments.ensures.unchanged told found.known found.are found.order tells in
+    let b = (c.in_ok-opened.ensures.latest told).bare slot at in
+    let p = bare_placed found.known c.in_ok-opened.opened.items slot b.0 b.1 found.describe b.2 b.3 b.4.0 b.4.1 in
+    (knows.loaded slot at told, bare_intact ring found.known now slot told (omega (arith, low)) knows p.0 p.1 p.2 p.3)

@@ -1,11 +1,12 @@
-use Rattle.std.proofs.Common.{◌<◌, ℕ, Some, Err, sym, ap, ◌∙◌}
+use Rattle.std.proofs.Common.{◌<◌, inl, inr, ℕ, Some, Err, sym, ap, ◌∙◌}
 use Rattle.vdr_terms.specs.Records.{Record}
 use Rattle.vdr_terms.specs.Windows.{window}
 use Rattle.vdr_directory.specs.Sequence.{all_records}
 use Rattle.vdr_ring.specs.declared.refused.ReadRefused.{ReadRefused}
 use Rattle.vdr_vault.specs.Vaults.{ring_of}
 use Rattle.vdr_vault.specs.Saves.{first_in_window}
-use Rattle.vdr_vault.proofs.Refusals.{cause_of_read, damage_handed_on}
+use Rattle.vdr_vault.proofs.Refusals.{cause_of_read, damage_handed_on, damage_is}
+use Rattle.vdr_vault.proofs.Stepping.{in_no_slot}
 use Rattle.vdr_vault.proofs.OfWindow.{first_is, never_damaged, never_none}
 use Rattle.vdr_vault.proofs.vault.Vault.first_of_incident.Goals as goal
 
@@ -31,8 +32,15 @@ returns-clause-found g c placed newest told reads ends at =
     ∙ ap (λ (r : Record). Some r.place) (sym c.item-2.view_is)
 
 pub returns-in_err-step_on-clause-damaged : goal.returns-in_err-step_on-clause-damaged
-returns-in_err-step_on-clause-damaged g c m offset told loaded is =
-    c.step_on.ensures.damaged m offset told loaded (c.in_err-step_on.was ∙ ap (λ (e : ReadRefused). Err e) (damage_handed_on m offset c.in_err-step_on.field-0.0 c.from_residual.result c.from_residual.ensures.1 is))
+returns-in_err-step_on-clause-damaged g c m offset is =
+    let damage = c.in_err-step_on.was ∙ ap (λ (e : ReadRefused). Err e) (damage_handed_on m offset c.in_err-step_on.field-0.0 c.from_residual.result c.from_residual.ensures.1 is) in
+    let steps = c.step_on.ensures.steps in (
+      steps.medium m offset damage,
+      λ told judged. inr (steps.damaged told judged (in_no_slot (ring_of c.args.self.now 1) (g.M.Media.disk c.args.media.now) c.new-cursor.result.visit c.new-cursor.ensures.slot) m offset damage),
+    )
+
+pub returns-then-not-branch-clause-damaged : goal.returns-then-not-branch-clause-damaged
+returns-then-not-branch-clause-damaged g c m offset is = let at = damage_is 1 0 m offset is in (at.0, λ told judged. inl at.1)
 
 pub returns-in_err-step_on-clause-cause : goal.returns-in_err-step_on-clause-cause
 returns-in_err-step_on-clause-cause g c =

@@ -1,4 +1,4 @@
-use Rattle.std.proofs.Common.{rules, arith, inr, Option, Some, sym, ap, ◌∙◌, subst}
+use Rattle.std.proofs.Common.{rules, arith, inr, false, Option, Some, Ok, Err, sym, ap, ◌∙◌, subst}
 use Rattle.std.proofs.lemmas.Bool.{false≢true}
 use Rattle.vdr_terms.specs.Queries.{Span}
 use Rattle.vdr_playback.specs.Playback.{medium_of}
@@ -6,11 +6,13 @@ use Rattle.vdr_outside.proofs.Counts.{sum_rose}
 use Rattle.vdr_entry.specs.Queries.{asked, asked_medium}
 use Rattle.vdr_vault.specs.Vaults.{VaultState}
 use Rattle.vdr_index.specs.Indexes.{span_as}
+use Rattle.vdr_ring.specs.declared.refused.ReadRefused.TheVariants.{Fault}
 use Rattle.vdr_cursor.specs.Walks.{AreLeft, slots_read}
 use Rattle.vdr_vault.specs.Plays.{budget_for, ring_for}
 use Rattle.vdr_vault.proofs.Budgeting.{spends_for, spends_nothing}
 use Rattle.vdr_vault.proofs.Coming.{gives_to_come, holds_on, none_to_come}
-use Rattle.vdr_vault.proofs.Playing.{readable_still, rings_still, stands_still}
+use Rattle.vdr_vault.proofs.Playing.{judged_over, readable_still, rings_still, stands_still}
+use Rattle.vdr_vault.proofs.Stepping.{steps_nowhere}
 use Rattle.vdr_vault.proofs.vault.Vault.next.Goals as goal
 
 pub returns-clause-plays : goal.returns-clause-plays
@@ -45,6 +47,7 @@ returns-clause-keeps g c =
       vault = vault;
       rings = rings_still _ c.args.self.now c.step_on.new.self before now vault read c.requires.rings;
       stands = stands_still _ c.args.self.now c.step_on.new.self before now vault read;
+      judged = judged_over _ c.args.self.now c.step_on.new.self before now vault read;
       readable = readable_still _ c.args.self.now c.step_on.new.self before now vault read;
       unchanged = search rules;
     }
@@ -56,13 +59,25 @@ returns-clause-reads g c =
     record {
       failed = search rules;
       counts = counts.others;
-      damaged = rw c.number_of.ensures.number at c.step_on.ensures.damaged;
       cause = record {
         later = counts.later;
         on_medium = λ e. inr (rose e);
         in_all = λ e. inr (sum_rose _ _ _ counts.later.same_media counts.later.none_falls (rose e));
       };
     }
+
+pub returns-clause-steps : goal.returns-clause-steps
+returns-clause-steps g c = rw c.number_of.ensures.number at c.step_on.ensures.steps
+
+pub returns-then-self-clause-steps : goal.returns-then-self-clause-steps
+returns-then-self-clause-steps g c =
+    steps_nowhere g.M.Media (medium_of (asked c.args.query.now).medium) _ _ c.args.cursor.now c.new.result c.args.media.now c.args.media.now (Err Fault) c.new.ensures.slot (λ k offset e. let no : ⊥ = cc in no)
+    (λ e. let no : ⊥ = cc in no)
+
+pub returns-in_default-clause-steps : goal.returns-in_default-clause-steps
+returns-in_default-clause-steps g c =
+    steps_nowhere g.M.Media (medium_of (asked c.args.query.now).medium) _ _ c.args.cursor.now c.new-in_default.result c.args.media.now c.args.media.now (Ok false) c.new-in_default.ensures.slot (λ k offset e. let no : ⊥ = cc in no)
+    (λ e. let no : ⊥ = cc in no)
 
 pub returns-then-self-clause-spends : goal.returns-then-self-clause-spends
 returns-then-self-clause-spends g c = record { within = omega arith; left = tt }

@@ -70,6 +70,7 @@ returns-clause-opened g c = record {
       (λ vault h x told holds level. h x told c.in-Ok.ensures.durable (subst (λ (i : Image). HoldsContents i x) (sym (c.sync_all.ensures.reads told)) holds) level)
       c.open_synced.ensures.readable;
   works = search rules;
+  judged = search rules;
   rings = search rules;
 }
 

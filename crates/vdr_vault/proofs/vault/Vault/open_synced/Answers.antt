@@ -107,6 +107,11 @@ returns-clause-readable g c = λ x told durable holds level.
     readable_as (λ m. g.M.Media.disk m) x _ c.reconcile.new.self c.read_media.new.media c.reconcile.new.media still.0 still.1
     (opened_to_read x _ _ _ (g.M.Media.disk c.read_media.new.media) o level refl)
 
+pub returns-clause-judged : goal.returns-clause-judged
+returns-clause-judged g c told =
+    let judged = rw (sym c.config.view_is) at c.in_ok-config.ensures.judged in
+    c.reconcile.ensures.judged told judged
+
 pub returns-clause-bytes : goal.returns-clause-bytes
 returns-clause-bytes g c x told holds =
     let was = rw (sym c.config.view_is) at c.in_ok-config.ensures.parts told in

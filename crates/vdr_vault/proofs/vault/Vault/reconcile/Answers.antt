@@ -1,6 +1,6 @@
 use Rattle.std.proofs.Common.{◌≡◌, ◌<◌, ℕ, List, length, sym, ◌∙◌, subst, arith}
 use Rattle.vdr_ring.specs.Rings.{RingState}
-use Rattle.vdr_opening.specs.Answers.{AreRingsOf}
+use Rattle.vdr_opening.specs.Answers.{AreJudgedOn, AreRingsOf}
 use Rattle.vdr_opening.specs.Media.{members}
 use Rattle.vdr_vault.specs.Openings.{Reconciles}
 use Rattle.vdr_vault.specs.contracts.vault.Vault.{the_view}
@@ -54,6 +54,13 @@ returns-clause-rings g c =
     let call = rw (c.deref_mut.ensures.value, one) at c.append_from.ensures in
     let after = call.keeps.rings _ are in
     subst (AreRingsOf c.self.inside.config (g.M.Media.disk c.append_from.new.media).sizes) (sym (same_rings c.self.inside.rings c.append_from.new.rings are after)) after
+
+pub returns-clause-judged : goal.returns-clause-judged
+returns-clause-judged g c = rw (sym c.self.view_is) (λ told judged.
+    let are = rw (sym c.self.view_is) at c.requires.rings in
+    let call = rw c.deref_mut.ensures.value at c.append_from.ensures in
+    let after = call.keeps.rings _ are in
+    subst (λ (rs : List RingState). AreJudgedOn rs (g.M.Media.disk c.append_from.new.media)) (sym (same_rings c.self.inside.rings c.append_from.new.rings are after)) (call.judged judged))
 
 pub returns-clause-others : goal.returns-clause-others
 returns-clause-others g c told k other =

@@ -22,4 +22,5 @@ returns-clause-damage g c = record {
       (subst (λ (s : VaultState). Stands opening events s placed (g.M.Media.disk c.save_accepted-saved.new.media)) (sym c.self-2.view_is)
       (c.save_accepted-saved.ensures.stands opening events placed m offset told is stands));
   damaged = search rules;
+  named = search rules;
 }

@@ -1,4 +1,4 @@
-use Rattle.std.proofs.Common.{◌≡◌, ℤ, w64, Ok, Err, refl, sym, ap, ◌∙◌, subst, arith}
+use Rattle.std.proofs.Common.{◌≡◌, inl, ℤ, w64, Ok, Err, refl, sym, ap, ◌∙◌, subst, arith}
 use Rattle.std.proofs.lemmas.Result.{IfOk-from_err}
 use Rattle.std.proofs.lemmas.Int.{ints, to_z-of_z}
 use mir.Val.{SFits}
@@ -8,7 +8,7 @@ use Rattle.vdr_vault.specs.declared.refused.SaveRefused.{SaveRefused}
 use Rattle.vdr_vault.specs.declared.refused.SaveRefused.TheVariants.{Damaged}
 use Rattle.vdr_vault.proofs.Playing.{stands_still}
 use Rattle.vdr_vault.proofs.Saved.{HasPlaces, IsNone, after_reading, by_newest, first_read, incident_at, never_refused, saves, saves_nothing}
-use Rattle.vdr_vault.proofs.Refusals.{cause_of_table, handed_on, of_no_damage}
+use Rattle.vdr_vault.proofs.Refusals.{cause_of_table, damage_is, handed_on, of_no_damage}
 use Rattle.vdr_vault.proofs.vault.Vault.save_accepted.Goals as goal
 
 pub returns-in_err-a-clause-saves : goal.returns-in_err-a-clause-saves
@@ -79,4 +79,21 @@ returns-in_default-clause-stands g c opening events placed m offset told is stan
 
 pub returns-in_err-save-clause-stands : goal.returns-in_err-save-clause-stands
 returns-in_err-save-clause-stands g c opening events placed m offset told is stands =
+    absurd (of_no_damage m offset c.in_err-save.field-0.0 (handed_on refusal_of _ c.from_residual-in_err-save.result (Damaged m offset) c.from_residual-in_err-save.ensures.1 is))
+
+pub returns-in_err-a-clause-damaged : goal.returns-in_err-a-clause-damaged
+returns-in_err-a-clause-damaged g c m offset is =
+    let damage = c.in_err-a.was ∙ ap (λ (e : SaveRefused). Err e) (handed_on (λ e. e) _ c.from_residual.result (Damaged m offset) c.from_residual.ensures.1 is) in
+    (c.first_of_incident.ensures.read.unchanged, (c.first_of_incident.ensures.damaged m offset damage).0)
+
+pub returns-in_err-a-clause-named : goal.returns-in_err-a-clause-named
+returns-in_err-a-clause-named g c m offset is =
+    let damage = c.in_err-a.was ∙ ap (λ (e : SaveRefused). Err e) (handed_on (λ e. e) _ c.from_residual.result (Damaged m offset) c.from_residual.ensures.1 is) in
+    (c.first_of_incident.ensures.damaged m offset damage).1
+
+pub returns-in_default-clause-named : goal.returns-in_default-clause-named
+returns-in_default-clause-named g c m offset is told judged = inl (damage_is 1 0 m offset is).1
+
+pub returns-in_err-save-clause-named : goal.returns-in_err-save-clause-named
+returns-in_err-save-clause-named g c m offset is =
     absurd (of_no_damage m offset c.in_err-save.field-0.0 (handed_on refusal_of _ c.from_residual-in_err-save.result (Damaged m offset) c.from_residual-in_err-save.ensures.1 is))
