@@ -198,6 +198,11 @@ module _ {tells tells_images : Type 0} where
       → ((x : Contents) → IsToldBy x vault → Can x) → tells → IsOpenableWith old.reads Can
   opened_so Can old vault parts can t = let p = parts t in (p.0, p.1, p.2, p.3, can p.1 p.4)
 
+  -- The same of what was read itself.
+  pub opened_by : (Can : Contents → Type 0) (old : Disk tells tells_images) (vault : VaultState) → OpenedOn old vault
+      → ((x : Contents) → HoldsParts old.reads x → IsToldBy x vault → Can x) → tells → IsOpenableWith old.reads Can
+  opened_by Can old vault parts can t = let p = parts t in (p.0, p.1, p.2, p.3, can p.1 p.2 p.4)
+
   -- What the media read as after a call that was one event, where the vault goes on.
   pub reads_done : (x : Contents) (act : Act) (after : RecorderState) (t0 : ℕ) (mid new : Disk tells tells_images) (done : HasDone (opening_of x) [] t0 act after mid new) → after.vault.failed ≡ false → tells
       → ShowsHistory (opening_of x) (done.event ∷ []) new.reads

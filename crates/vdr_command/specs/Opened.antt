@@ -87,12 +87,11 @@ module _ {tells tells_images : Type 0} where
   abbrev pub IsRefusedAt : Disk tells tells_images → Disk tells tells_images → (m offset : ℕ) → Type 0
   IsRefusedAt old new m offset = IsUntouched old new × (tells → IsFormatted old.reads × IsRefused old.reads m offset)
 
-  -- Media that can be opened were answered as damaged nevertheless, where a slot was read that opening leaves unread: that is not
-  -- intact there as the media read at the exit, or, at offset 0, not all that the command needs is on them. They are not legible, or
-  -- what they hold is not sound.
+  -- Media that can be opened were answered as damaged nevertheless: a slot of the long-term medium is not intact there, as it reads at the
+  -- exit, or, at offset 0, not all that the command needs is on it. The media are not legible, or what they hold is not sound.
   abbrev pub MetUnsound : (old new : Disk tells tells_images) → (Can : Contents → Type 0) → (m offset : ℕ) → Type 0
   MetUnsound old new Can m offset =
-      tells → IsOpenableWith old.reads (λ x. Can x × ((offset ≡ 0) ⊎ IsDamagedOn x.config new m offset)) × ((x : Contents) → HoldsContents old.reads x → WasRecorded x → ⊥)
+      tells → IsOpenableWith old.reads (λ x. Can x × (m ≡ 1) × ((offset ≡ 0) ⊎ IsDamagedOn x.config new m offset)) × ((x : Contents) → HoldsContents old.reads x → WasRecorded x → ⊥)
 
   -- At most the batch that the long-term medium lacks is written, and where both media end with the last one nothing is, whether
   -- they are sound or not.

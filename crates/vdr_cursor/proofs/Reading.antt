@@ -1,16 +1,13 @@
 -- Reads of a ring, one after another.
 use Rattle.std.proofs.Common.{◌≡◌, ℕ, List, refl, sym, ap, ◌∙◌, subst}
 use Rattle.vdr_outside.specs.Disk.{Disk, Image, Unchanged, content}
-use Rattle.vdr_outside.proofs.Counts.{none_fell, none_falls_join}
+use Rattle.vdr_outside.proofs.Counts.{none_falls_join}
 use Rattle.vdr_outside.proofs.Moments.{unchanged_join}
 use Rattle.vdr_ring.specs.Rings.{RingState, HasMedium}
 use Rattle.vdr_ring.specs.Damage.{IsIntact}
 use Rattle.vdr_directory.specs.Opening.{slot_bytes}
 use Rattle.vdr_cursor.specs.Walks.{CountsOn, HasRead, slots_read}
 use Rattle.vdr_ring.proofs.Still.{reads_still}
-
-pub counts_first : (m : ℕ) (read faults : List ℕ) → CountsOn m read read faults faults
-counts_first m read faults = record { others = λ k other. refl; later = none_fell faults }
 
 pub counts_join : (m : ℕ) (r s t f g h : List ℕ) → CountsOn m r s f g → CountsOn m s t g h → CountsOn m r t f h
 counts_join m r s t f g h first then = record {
@@ -23,12 +20,6 @@ same_but_buffer : (a b c : RingState) → b ≡ record a { buffer = b.buffer; lo
 same_but_buffer a b c e f = f ∙ ap (λ (r : RingState). record r { buffer = c.buffer; loaded = c.loaded }) e
 
 module _ {tells tells_images : Type 0} where
-  pub unchanged_first : (disk : Disk tells tells_images) → Unchanged disk disk
-  unchanged_first disk = record { sizes = refl; reads = λ told. refl; clock = refl; since = λ t i. (λ h. h, λ h. h) }
-
-  pub read_first : (ring : RingState) (disk : Disk tells tells_images) → HasRead ring ring disk disk
-  read_first ring disk = record { ring = refl; unchanged = unchanged_first disk; bytes = λ h. h; judged = λ h. h; reads = λ placed h. h }
-
   pub read_join : (a b c : RingState) (d e f : Disk tells tells_images) → HasRead a b d e → HasRead b c e f → HasRead a c d f
   read_join a b c d e f first then = record {
     ring = same_but_buffer a b c first.ring then.ring;

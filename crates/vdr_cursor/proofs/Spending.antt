@@ -1,10 +1,11 @@
 -- What a step spends of its budget, and what goes from it as a segment is entered.
-use Rattle.std.proofs.Common.{◌≡◌, ◌≢◌, ◌≤◌, ◌+◌, ◌-◌, ◌*◌, ◌^◌, ◌&&◌, if◌then◌else◌, cond, ℕ, zero, suc, Bool, true, false, List, [], ◌∷◌, length, get_or, min, Option, Some, None, refl, sym, ap, ◌∙◌, subst, arith, count_by, Result, Ok, Err, OnOk, get_or-set_same, length-set, zero-add, nat_lt}
+use Rattle.std.proofs.Common.{◌≡◌, ◌≢◌, ◌≤◌, ◌+◌, ◌-◌, ◌*◌, ◌^◌, ◌&&◌, if◌then◌else◌, cond, ℕ, zero, suc, Bool, true, false, List, [], ◌∷◌, length, get_or, min, Option, Some, None, refl, sym, ap, ◌∙◌, subst, arith, count_by, Result, OnOk, get_or-set_same, length-set, zero-add, nat_lt}
 use Rattle.std.proofs.Math.ListN.{get_or-eq_default}
 use Rattle.std.proofs.Math.Nat.{mul-le-mul_left, mul-add}
 use Rattle.std.proofs.lemmas.Bool.{and_from, and_parts, eqb-true, eq-eqb, lt-ltb, le-ltb, ltb-true, ltb-false, false≢true, true≢false}
 use Rattle.std.proofs.lemmas.List.Sums.{sum_by-cons}
 use Rattle.std.proofs.lemmas.Option.{get_or_from_slice_get}
+use Rattle.std.proofs.lemmas.Result.{on_ok_weaker}
 use Rattle.vdr_terms.specs.Queries.{Query, Span, meets}
 use Rattle.vdr_outside.specs.Causes.{counted}
 use Rattle.vdr_index.specs.declared.known.Known.{Known}
@@ -122,11 +123,6 @@ not_in_loaded loaded slot h is = true≢false (sym (eq-eqb slot slot refl) ∙ s
 owed_none : (loaded : Option ℕ) (s : Standing) → loaded ≡ Some s.slot → owed loaded (Some s) ≡ 0
 owed_none loaded s is = ap (λ (o : Option ℕ). owed o (Some s)) is ∙ ap (λ (b : Bool). if b then 0 else 1) (eq-eqb s.slot s.slot refl)
 
--- where an answer is Ok
-on_ok : {T E : Type 0} {P Q : Type 0} (result : Result T E) → (P → Q) → OnOk result P → OnOk result Q
-on_ok (Ok x) f h = f h
-on_ok (Err e) f h = h
-
 module _ {T E : Type 0} (segment n m : ℕ) (before now : List ℕ) (was loaded : Option ℕ) (s : Standing) (result : Result T E) (is_loaded : OnOk result (loaded ≡ Some s.slot))
     (again : was ≡ Some s.slot → now ≡ before) (once : was ≢ Some s.slot → now ≡ counted before m segment) where
   spends_by : (b : Bool) → is_in was s.slot ≡ b → Spends m (segment * ((if b then 0 else 1) + n)) (segment * (owed loaded (Some s) + n)) before now result
@@ -134,7 +130,7 @@ module _ {T E : Type 0} (segment n m : ℕ) (before now : List ℕ) (was loaded 
       let same : get_or now m 0 ≡ get_or before m 0 = ap (λ (xs : List ℕ). get_or xs m 0) (again (in_loaded was s.slot is)) in
       record {
         within = omega (arith, same);
-        left = on_ok result (λ held. let a : segment * (owed loaded (Some s) + n) ≡ segment * (0 + n) = ap (λ (k : ℕ). segment * (k + n)) (owed_none loaded s held) in omega (arith, same, a)) is_loaded;
+        left = on_ok_weaker result (λ held. let a : segment * (owed loaded (Some s) + n) ≡ segment * (0 + n) = ap (λ (k : ℕ). segment * (k + n)) (owed_none loaded s held) in omega (arith, same, a)) is_loaded;
       }
   spends_by false is =
       let read : get_or now m 0 ≤ get_or before m 0 + segment =
@@ -142,7 +138,7 @@ module _ {T E : Type 0} (segment n m : ℕ) (before now : List ℕ) (was loaded 
       let parts : segment * (1 + n) ≡ segment * 1 + segment * n = mul-add segment 1 n in
       record {
         within = omega (arith, read, parts);
-        left = on_ok result
+        left = on_ok_weaker result
             (λ held. let a : segment * (owed loaded (Some s) + n) ≡ segment * n = ap (λ (k : ℕ). segment * (k + n)) (owed_none loaded s held) ∙ ap (λ (k : ℕ). segment * k) (zero-add n) in omega (arith, read, parts, a)) is_loaded;
       }
 

@@ -4,12 +4,11 @@ use Rattle.vdr_terms.specs.Records.{Record}
 use Rattle.vdr_terms.specs.Queries.{Query, Span}
 use Rattle.vdr_playback.specs.Playback.{found}
 use Rattle.vdr_outside.specs.Causes.{NoneFalls}
-use Rattle.vdr_outside.specs.Disk.{Disk, Unchanged, content}
+use Rattle.vdr_outside.specs.Disk.{Disk, Unchanged}
 use Rattle.vdr_directory.specs.Sequence.{Placed, seq_of, all_records}
 use Rattle.vdr_ring.specs.Rings.{RingState, Reads}
 use Rattle.vdr_survey.specs.Positions.{front}
-use Rattle.vdr_ring.specs.Damage.{HasDamage}
-use Rattle.vdr_ring.specs.Visits.{HasJudged, IsLoaded, StandsAmong, StandsIn, position_in, slot_read}
+use Rattle.vdr_ring.specs.Visits.{HasJudged, IsLoaded, StandsIn, position_in, slot_read}
 use Rattle.vdr_ring.specs.Visits as visits
 use Rattle.vdr_ring.specs.declared.refused.ReadRefused.{ReadRefused}
 use Rattle.vdr_ring.specs.declared.refused.ReadRefused.TheVariants.{Fault, Damaged}
@@ -126,7 +125,3 @@ module _ {tells tells_images : Type 0} where
     pub bytes : IsLoaded old before → IsLoaded new now
     pub judged : HasJudged old before → HasJudged new now
     pub reads : (placed : List Placed) → Reads old placed before → Reads new placed now
-
-  -- Damage that a step from there names is on the ring's medium, and one of its slots is not intact there.
-  abbrev pub NamesDamage : RingState → Disk tells tells_images → visits.VisitState → (m offset : ℕ) → Type 0
-  NamesDamage ring disk from m offset = (m ≡ ring.medium) × (tells → HasJudged ring disk → StandsAmong ring disk from → HasDamage ring.segment ring.slots (content disk.reads ring.medium) offset)

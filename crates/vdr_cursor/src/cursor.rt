@@ -1,16 +1,16 @@
-ghost use Rattle.std.specs.Prelude.{◌≡◌, ◌≢◌, ◌↔◌, ◌<◌, ◌≤◌, ℕ, List, [], true, false, Some, None, Ok, Err, get_or, option_map};
+ghost use Rattle.std.specs.Prelude.{◌≡◌, ◌<◌, ◌≤◌, List, [], true, false, Some, None, option_map};
 ghost use Rattle.vdr_terms.specs.Records.{Record as Entry};
-ghost use Rattle.vdr_outside.specs.Causes.{Rose};
 ghost use Rattle.vdr_directory.specs.Sequence.{Placed};
 ghost use Rattle.vdr_directory.specs.Order.{AreInOrder};
 ghost use Rattle.vdr_directory.specs.Holds.{Tells};
+ghost use Rattle.vdr_ring.specs.Meets.{AreApart};
 ghost use Rattle.vdr_ring.specs.Rings.{HasMedium, Reads};
-ghost use Rattle.vdr_ring.specs.Visits.{HasJudged, StandsAmong};
-ghost use Rattle.vdr_ring.specs.declared.refused.ReadRefused.TheVariants.{Fault as AFault, Damaged};
 ghost use Rattle.vdr_entry.specs.Queries.{asked};
 ghost use Rattle.vdr_index.specs.Indexes.{span_as};
-ghost use Rattle.vdr_cursor.specs.Budgets.{Spends, budget};
-ghost use Rattle.vdr_cursor.specs.Walks.{AreLeft, AreLeftBehind, CountsOn, GivesHere, GivesNext, HasRead, MayStep, NamesDamage, Slots, segments_left, seq_in, slots_read, steps_left};
+ghost use Rattle.vdr_cursor.specs.Budgets.{budget};
+ghost use Rattle.vdr_cursor.specs.Passing.{PassesOver, StandsToMeet};
+ghost use Rattle.vdr_cursor.specs.Steps.{JudgesHere, KeepsStep, TellsDamage};
+ghost use Rattle.vdr_cursor.specs.Walks.{AreLeft, AreLeftBehind, GivesHere, GivesNext, MayStep, Slots, segments_left, seq_in, slots_read};
 
 use std::marker::Model;
 use vdr_entry::Record;
@@ -74,22 +74,13 @@ impl Cursor {
     ) -> Result<bool, ReadRefused>
         requires room { HasMedium ring.old (M.disk media.old).sizes }
         requires may { MayStep ring.old self.old }
-        ensures read { HasRead ring.old ring.new (M.disk media.old) (M.disk media.new) }
-        ensures counts { CountsOn ring.old.medium (M.bytes_read media.old) (M.bytes_read media.new) (M.faults media.old) (M.faults media.new) }
-        ensures spends { Spends ring.old.medium (budget ring.old (asked selection.now.query) (span_as selection.now.span) self.old.standing)
-            (budget ring.new (asked selection.now.query) (span_as selection.now.span) self.new.standing) (M.bytes_read media.old) (M.bytes_read media.new) result }
-        ensures may { MayStep ring.new self.new }
-        ensures standing { self.new.standing ≡ self.old.standing }
-        ensures item { self.new.visit.item ≢ None ↔ (result ≡ Ok true) }
+        ensures keeps { KeepsStep M.Media (asked selection.now.query) (span_as selection.now.span) ring.old ring.new self.old self.new media.old media.new result }
+        ensures judges { JudgesHere ring.old (M.disk media.old) self.old self.new result }
         ensures steps { M.tells → (placed : List Placed) (records : List Entry) → Reads ring.old placed (M.disk media.old)
             → AreLeft (slots_read ring.old (M.disk media.old)) placed (asked selection.now.query) (Some (span_as selection.now.span)) self.old records
             → GivesHere records result self.new.visit.item
             (AreLeft (slots_read ring.old (M.disk media.old)) placed (asked selection.now.query) (Some (span_as selection.now.span)) self.new)
             (AreLeftBehind (slots_read ring.old (M.disk media.old)) placed (asked selection.now.query) (Some (span_as selection.now.span)) self.new) }
-        ensures among { M.tells → HasJudged ring.old (M.disk media.old) → StandsAmong ring.old (M.disk media.old) self.old.visit → StandsAmong ring.old (M.disk media.old) self.new.visit }
-        ensures damaged { (m offset : ℕ) → result ≡ Err (Damaged m offset) → NamesDamage ring.old (M.disk media.old) self.old.visit m offset }
-        ensures onward { result ≡ Ok true → steps_left self.new < steps_left self.old }
-        ensures cause { result ≡ Err AFault → Rose (get_or (M.faults media.old) ring.old.medium 0) (get_or (M.faults media.new) ring.old.medium 0) }
     {
         match self.standing {
             Some(standing) => ring.read_span(media, standing.slot, &mut self.visit, selection),
@@ -115,6 +106,9 @@ impl Cursor {
         ensures may { MayStep ring.now self.new }
         ensures item { self.new.visit.item ≡ None }
         ensures spends { budget ring.now (asked selection.now.query) (span_as selection.now.span) self.new.standing ≤ budget ring.now (asked selection.now.query) (span_as selection.now.span) self.old.standing }
+        ensures meets { StandsToMeet (asked selection.now.query) (span_as selection.now.span) ring.now self.old.standing → StandsToMeet (asked selection.now.query) (span_as selection.now.span) ring.now self.new.standing }
+        ensures passes { AreApart ring.now.directory.index → StandsToMeet (asked selection.now.query) (span_as selection.now.span) ring.now self.old.standing
+            → PassesOver (asked selection.now.query) (span_as selection.now.span) ring.now self.old.standing self.new.standing result }
         ensures entered { result ≡ true → segments_left self.new.standing < segments_left self.old.standing }
         ensures front { result ≡ true → self.new.visit.slot ≡ None }
         ensures stays { result ≡ false → self.new ≡ self.old }
@@ -136,6 +130,9 @@ impl Cursor {
     /// A segment is entered only where it may have a record that is selected, by what the ring knows of it. It is read whole as it is
     /// entered, and stays loaded. So all steps of a new cursor, however many, read at most a segment for each that meets the query within
     /// the span, each once (`spends`). A step behind one that was refused, or behind a read of another slot, may read its segment once more.
+    ///
+    /// `Damaged` is where the slot of the segment in which the cursor then stands is damaged. None is passed over: after Ok all segments that
+    /// meet the query and that it passed are intact, and after false all that meet it (`tells`).
     pub fn step<M: Media>(
         &mut self,
         ring: &mut Ring,
@@ -144,20 +141,12 @@ impl Cursor {
     ) -> Result<bool, ReadRefused>
         requires room { HasMedium ring.old (M.disk media.old).sizes }
         requires may { MayStep ring.old self.old }
-        ensures read { HasRead ring.old ring.new (M.disk media.old) (M.disk media.new) }
-        ensures counts { CountsOn ring.old.medium (M.bytes_read media.old) (M.bytes_read media.new) (M.faults media.old) (M.faults media.new) }
-        ensures spends { Spends ring.old.medium (budget ring.old (asked selection.now.query) (span_as selection.now.span) self.old.standing)
-            (budget ring.new (asked selection.now.query) (span_as selection.now.span) self.new.standing) (M.bytes_read media.old) (M.bytes_read media.new) result }
-        ensures may { MayStep ring.new self.new }
-        ensures item { self.new.visit.item ≢ None ↔ (result ≡ Ok true) }
+        ensures keeps { KeepsStep M.Media (asked selection.now.query) (span_as selection.now.span) ring.old ring.new self.old self.new media.old media.new result }
         ensures plays { M.tells → (placed : List Placed) (records : List Entry) → Reads ring.old placed (M.disk media.old)
             → AreLeft (slots_read ring.old (M.disk media.old)) placed (asked selection.now.query) (Some (span_as selection.now.span)) self.old records
             → GivesNext records result self.new.visit.item
             (AreLeft (slots_read ring.old (M.disk media.old)) placed (asked selection.now.query) (Some (span_as selection.now.span)) self.new) }
-        ensures among { M.tells → HasJudged ring.old (M.disk media.old) → StandsAmong ring.old (M.disk media.old) self.old.visit → StandsAmong ring.old (M.disk media.old) self.new.visit }
-        ensures damaged { (m offset : ℕ) → result ≡ Err (Damaged m offset) → NamesDamage ring.old (M.disk media.old) self.old.visit m offset }
-        ensures onward { result ≡ Ok true → steps_left self.new < steps_left self.old }
-        ensures cause { result ≡ Err AFault → Rose (get_or (M.faults media.old) ring.old.medium 0) (get_or (M.faults media.new) ring.old.medium 0) }
+        ensures tells { TellsDamage (asked selection.now.query) (span_as selection.now.span) ring.old (M.disk media.old) self.old self.new result }
     {
         while !self.step_in(ring, media, selection)? {
             if !self.enter_next(ring, selection) {

@@ -51,9 +51,6 @@ the_wave hs size result a b out answers is written front ends =
 pub passed_on : (result : Result WaveSize ExportRefused) (why given e : ExportRefused) (out : Result ⊤ ExportRefused) → result ≡ Err why → given ≡ why → out ≡ Err given → out ≡ Err e → result ≡ Err e
 passed_on result why given e out was same is ends = was ∙ ap (λ (x : ExportRefused). Err x) (sym same ∙ same_refusal out given e is ends)
 
-pub was_ok : (result : Result WaveSize ExportRefused) (size : WaveSize) (e : ExportRefused) → result ≡ Ok size → result ≡ Err e → ⊥
-was_ok result size e ok err = cc
-
 -- What was read changes neither configuration nor incidents, so the same may be asked after a look.
 pub asked_again : (query : Query) (m : ℕ) (old new : RecorderState) (before after : List ℕ) → ReadsOn m old.vault new.vault → AreRings new.vault after
     → MayBeAsked query old before → MayBeAsked query new after

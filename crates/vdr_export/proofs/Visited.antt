@@ -7,7 +7,7 @@ use Rattle.vdr_history.specs.Histories.{Event, Opening}
 use Rattle.vdr_playback.specs.Playback.{selected}
 use Rattle.vdr_outside.specs.Disk.{Disk}
 use Rattle.vdr_directory.specs.Sequence.{Placed}
-use Rattle.vdr_vault.specs.Vaults.{AreJudged, IsDamagedOn, IsReadable, VaultState}
+use Rattle.vdr_vault.specs.Vaults.{IsReadable, VaultState}
 use Rattle.vdr_visit.specs.Visits.{HasVisited}
 use Rattle.vdr_visit.specs.declared.refused.VisitRefused.{VisitRefused}
 use Rattle.vdr_visit.specs.declared.refused.VisitRefused.TheVariants as stops
@@ -19,11 +19,11 @@ use Rattle.vdr_export.specs.Sounds.{heard}
 use Rattle.vdr_export.specs.Refusals.{refusal_by}
 use Rattle.vdr_export.specs.declared.block.Block.{Block}
 use Rattle.vdr_export.specs.declared.refused.ExportRefused.{ExportRefused}
-use Rattle.vdr_export.specs.declared.refused.ExportRefused.TheVariants.{Damaged, Fault, Output}
+use Rattle.vdr_export.specs.declared.refused.ExportRefused.TheVariants.{Fault, Output}
 use Rattle.vdr_export.specs.declared.wave.WaveSize.{WaveSize}
 use Rattle.vdr_export.proofs.Ending.{picture_own, picture_stopped}
 use Rattle.vdr_export.proofs.Passes.{size_own, size_stopped, wave_undamaged, write_own}
-use Rattle.vdr_export.proofs.Refusing.{damage_of, fault_of, output_of, same_refusal}
+use Rattle.vdr_export.proofs.Refusing.{fault_of, output_of, same_refusal}
 
 module _ {tells tells_images : Type 0} {query : Query} {vault : VaultState} {disk : Disk tells tells_images} {Has : List Record → Type 0} {line : List Record → Record → List ℕ} {whole : List Record → List ℕ}
     {was now : Option (List ℕ)} (refused : ExportRefused) (stop : VisitRefused ExportRefused) (from : Some refused ≡ refusal_by stop) where
@@ -33,13 +33,6 @@ module _ {tells tells_images : Type 0} {query : Query} {vault : VaultState} {dis
 
     pub blames_output : {T : Type 0} (out : Result T ExportRefused) → out ≡ Err refused → (Stops v.seen Output → ⊥) → out ≡ Err Output → ◌≡◌ {A = Result ⊤ (VisitRefused ExportRefused)} (Err stop) (Err stops.Output)
     blames_output out is never fault = ap (λ (s : VisitRefused ExportRefused). Err s) (output_of refused (Has v.seen) (Stops v.seen) line (whole v.seen) v.seen was now stop from v.made never (same_refusal out refused Output is fault))
-
-    -- where a slot is damaged
-    pub names_slot : {T : Type 0} (out : Result T ExportRefused) → out ≡ Err refused → (m offset : ℕ) → (Stops v.seen (Damaged m offset) → ⊥) → out ≡ Err (Damaged m offset) → tells → AreJudged vault disk
-        → IsDamagedOn vault.config disk m offset
-    names_slot out is m offset never damage = v.damaged m offset
-        (ap (λ (s : VisitRefused ExportRefused). Err s)
-        (damage_of refused (Has v.seen) (Stops v.seen) line (whole v.seen) v.seen was now m offset stop from v.made never (same_refusal out refused (Damaged m offset) is damage)))
 
   module _ (microphone : ℕ) (silent : stop ≡ stops.Output → ⊥) (v : HasVisited query vault disk Has (λ seen e. IsMixed (heard microphone seen) e) line whole was now (Err stop)) where
     pub no_size : (out : Result WaveSize ExportRefused) → out ≡ Err refused → (opening : Opening) (events : List Event) (placed : ℕ → List Placed) → tells → IsReadable opening events vault placed disk

@@ -1,10 +1,11 @@
 // A file out of what a query selects.
-ghost use Rattle.std.specs.Prelude.{◌≡◌, ◌⊎◌, ℕ, List, true, Err, IfErr};
+ghost use Rattle.std.specs.Prelude.{◌≡◌, ◌⊎◌, ℕ, List, true, Ok, Err, IfErr};
 ghost use Rattle.vdr_history.specs.Histories.{Event, Opening};
 ghost use Rattle.vdr_playback.specs.Playback.{selected};
 ghost use Rattle.vdr_entry.specs.Queries.{asked};
 ghost use Rattle.vdr_directory.specs.Sequence.{Placed};
-ghost use Rattle.vdr_vault.specs.Vaults.{AreJudged, IsDamagedOn, IsReadable};
+ghost use Rattle.vdr_vault.specs.Plays.{TellsDamageOf};
+ghost use Rattle.vdr_vault.specs.Vaults.{IsReadable};
 ghost use Rattle.vdr_visit.specs.Refusals.{HasOutputCause};
 ghost use Rattle.vdr_recorder.specs.Looks.{HasLooked};
 ghost use Rattle.vdr_export.specs.Asked.{MayBeAsked};
@@ -43,8 +44,7 @@ fn export_wave<M: Media, O: Sink>(
         → FileEnds (wave_of (heard microphone (selected opening events (asked query.now)))) (O.taken out.old) (O.taken out.new) result }
     ensures silent { IfErr result (λ why. IsWriteRefusal why ⊎ (out.new ≡ out.old)) }
     ensures own { IfErr result IsWaveRefusal }
-    ensures damaged { (m offset : ℕ) → result ≡ Err (Damaged m offset) → M.tells → AreJudged recorder.old.vault (M.disk media.old)
-        → IsDamagedOn recorder.old.vault.config (M.disk media.old) m offset }
+    ensures damage { TellsDamageOf (asked query.now) recorder.old.vault (M.disk media.old) (λ m offset. result ≡ Err (Damaged m offset)) (result ≡ Ok tt) }
     ensures failed { recorder.old.vault.failed ≡ true → (result ≡ Err AFault) × (recorder.new ≡ recorder.old) × (media.new ≡ media.old) × (out.new ≡ out.old) }
     ensures looked { HasLooked (asked query.now) recorder.old recorder.new (M.disk media.old) (M.disk media.new) (M.bytes_read media.old) (M.bytes_read media.new) (M.faults media.old) (M.faults media.new) (result ≡ Err AFault) }
     ensures output { HasOutputCause (O.faults out.old) (O.faults out.new) (result ≡ Err Output) }
@@ -70,8 +70,7 @@ pub fn export_file<M: Media, O: Sink>(
         → FileEnds (file_of file.now (selected opening events (asked query.now))) (O.taken out.old) (O.taken out.new) result }
     ensures silent { IfErr result (λ why. MayBeBegun file.now why ⊎ (out.new ≡ out.old)) }
     ensures own { IfErr result (IsFileRefusal file.now) }
-    ensures damaged { (m offset : ℕ) → result ≡ Err (Damaged m offset) → M.tells → AreJudged recorder.old.vault (M.disk media.old)
-        → IsDamagedOn recorder.old.vault.config (M.disk media.old) m offset }
+    ensures damage { TellsDamageOf (asked query.now) recorder.old.vault (M.disk media.old) (λ m offset. result ≡ Err (Damaged m offset)) (result ≡ Ok tt) }
     ensures failed { recorder.old.vault.failed ≡ true → (result ≡ Err AFault) × (recorder.new ≡ recorder.old) × (media.new ≡ media.old) × (out.new ≡ out.old) }
     ensures looked { HasLooked (asked query.now) recorder.old recorder.new (M.disk media.old) (M.disk media.new) (M.bytes_read media.old) (M.bytes_read media.new) (M.faults media.old) (M.faults media.new) (result ≡ Err AFault) }
     ensures output { HasOutputCause (O.faults out.old) (O.faults out.new) (result ≡ Err Output) }

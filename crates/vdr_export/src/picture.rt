@@ -1,10 +1,11 @@
 // The image of a block out of what a query selects.
-ghost use Rattle.std.specs.Prelude.{◌≡◌, ◌⊎◌, ℕ, List, true, Err, IfErr, OnErr};
+ghost use Rattle.std.specs.Prelude.{◌≡◌, ◌⊎◌, ℕ, List, true, Ok, Err, IfErr, OnErr};
 ghost use Rattle.vdr_history.specs.Histories.{Event, Opening};
 ghost use Rattle.vdr_playback.specs.Playback.{selected};
 ghost use Rattle.vdr_entry.specs.Queries.{asked};
 ghost use Rattle.vdr_directory.specs.Sequence.{Placed};
-ghost use Rattle.vdr_vault.specs.Vaults.{AreJudged, IsDamagedOn, IsReadable};
+ghost use Rattle.vdr_vault.specs.Plays.{TellsDamageOf};
+ghost use Rattle.vdr_vault.specs.Vaults.{IsReadable};
 ghost use Rattle.vdr_visit.specs.Refusals.{HasOutputCause};
 ghost use Rattle.vdr_recorder.specs.Looks.{HasLooked};
 ghost use Rattle.vdr_export.specs.Asked.{MayBeAsked};
@@ -40,8 +41,7 @@ pub fn write_picture<M: Media, O: Sink>(
         → FileEnds (picture_of (shown block.now (selected opening events (asked query.now)))) (O.taken out.old) (O.taken out.new) result }
     ensures silent { OnErr result ((result ≡ Err Output) ⊎ (out.new ≡ out.old)) }
     ensures own { IfErr result IsPictureRefusal }
-    ensures damaged { (m offset : ℕ) → result ≡ Err (Damaged m offset) → M.tells → AreJudged recorder.old.vault (M.disk media.old)
-        → IsDamagedOn recorder.old.vault.config (M.disk media.old) m offset }
+    ensures damage { TellsDamageOf (asked query.now) recorder.old.vault (M.disk media.old) (λ m offset. result ≡ Err (Damaged m offset)) (result ≡ Ok tt) }
     ensures failed { recorder.old.vault.failed ≡ true → (result ≡ Err AFault) × (recorder.new ≡ recorder.old) × (media.new ≡ media.old) × (out.new ≡ out.old) }
     ensures looked { HasLooked (asked query.now) recorder.old recorder.new (M.disk media.old) (M.disk media.new) (M.bytes_read media.old) (M.bytes_read media.new) (M.faults media.old) (M.faults media.new) (result ≡ Err AFault) }
     ensures output { HasOutputCause (O.faults out.old) (O.faults out.new) (result ≡ Err Output) }

@@ -1,12 +1,13 @@
 // A sound out of what a query selects, in two passes: its size, and then its samples.
-ghost use Rattle.std.specs.Prelude.{◌≡◌, ℕ, List, true, Err, IfErr, IfOk, OnOk};
+ghost use Rattle.std.specs.Prelude.{◌≡◌, ℕ, List, true, Ok, Err, IsErr, IfErr, IfOk, OnOk};
 ghost use Rattle.std.specs.Io.KnownBytes.{Appends};
 ghost use Rattle.vdr_history.specs.Histories.{Event, Opening};
 ghost use Rattle.vdr_playback.specs.Playback.{selected};
 ghost use Rattle.vdr_outside.specs.Writes.{AppendsFront};
 ghost use Rattle.vdr_entry.specs.Queries.{asked};
 ghost use Rattle.vdr_directory.specs.Sequence.{Placed};
-ghost use Rattle.vdr_vault.specs.Vaults.{AreJudged, IsDamagedOn, IsReadable};
+ghost use Rattle.vdr_vault.specs.Plays.{TellsDamageOf};
+ghost use Rattle.vdr_vault.specs.Vaults.{IsReadable};
 ghost use Rattle.vdr_visit.specs.Refusals.{HasOutputCause};
 ghost use Rattle.vdr_recorder.specs.Looks.{HasLooked};
 ghost use Rattle.vdr_export.specs.Asked.{MayBeAsked};
@@ -42,8 +43,7 @@ pub fn wave_size<M: Media>(
         → AnswersOrFails (size_of (heard microphone (selected opening events (asked query.now)))) result }
     ensures legal { IfOk result IsWaveSize }
     ensures own { IfErr result IsSizeRefusal }
-    ensures damaged { (m offset : ℕ) → result ≡ Err (Damaged m offset) → M.tells → AreJudged recorder.old.vault (M.disk media.old)
-        → IsDamagedOn recorder.old.vault.config (M.disk media.old) m offset }
+    ensures damage { TellsDamageOf (asked query.now) recorder.old.vault (M.disk media.old) (λ m offset. result ≡ Err (Damaged m offset)) (IsErr result → ⊥) }
     ensures failed { recorder.old.vault.failed ≡ true → (result ≡ Err AFault) × (recorder.new ≡ recorder.old) × (media.new ≡ media.old) }
     ensures looked { HasLooked (asked query.now) recorder.old recorder.new (M.disk media.old) (M.disk media.new) (M.bytes_read media.old) (M.bytes_read media.new) (M.faults media.old) (M.faults media.new) (result ≡ Err AFault) }
 {
@@ -75,8 +75,7 @@ pub fn write_wave<M: Media, O: Sink>(
         → AppendsFront (O.taken out.old) (O.taken out.new) (wave_file size.now (frames_of (heard microphone (selected opening events (asked query.now))))) }
     ensures undamaged { (opening : Opening) (events : List Event) (placed : ℕ → List Placed) → M.tells → IsReadable opening events recorder.old.vault placed (M.disk media.old) → OkOrFails result }
     ensures own { IfErr result IsWriteRefusal }
-    ensures damaged { (m offset : ℕ) → result ≡ Err (Damaged m offset) → M.tells → AreJudged recorder.old.vault (M.disk media.old)
-        → IsDamagedOn recorder.old.vault.config (M.disk media.old) m offset }
+    ensures damage { TellsDamageOf (asked query.now) recorder.old.vault (M.disk media.old) (λ m offset. result ≡ Err (Damaged m offset)) (result ≡ Ok tt) }
     ensures looked { HasLooked (asked query.now) recorder.old recorder.new (M.disk media.old) (M.disk media.new) (M.bytes_read media.old) (M.bytes_read media.new) (M.faults media.old) (M.faults media.new) (result ≡ Err AFault) }
     ensures output { HasOutputCause (O.faults out.old) (O.faults out.new) (result ≡ Err Output) }
 {

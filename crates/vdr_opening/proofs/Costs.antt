@@ -15,7 +15,8 @@ use Rattle.vdr_ring.specs.Rings.{HoldsNewest, RingState}
 use Rattle.vdr_media.proofs.Two.{of_each}
 use Rattle.vdr_opening.specs.Media.{members}
 use Rattle.vdr_opening.specs.Costs.{ReadsParts, opening_bytes}
-use Rattle.vdr_opening.specs.Answers.{IsRingOf, ring_at}
+use Rattle.vdr_opening.specs.Answers.{ring_at}
+use Rattle.vdr_ring.specs.Openings.{IsRingOf}
 use Rattle.vdr_opening.specs.Parts.{KnowsMedium}
 
 -- What stands before the slots of a medium

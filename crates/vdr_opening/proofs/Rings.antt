@@ -22,7 +22,8 @@ use Rattle.std.specs.Prelude.{All, Any, IsErrOf}
 use Rattle.std.proofs.lemmas.Bool.{cases_eq}
 use Rattle.std.proofs.lemmas.List.{get_or_append_left, get_or_push, take-append-le, take_all}
 use Rattle.vdr_media.proofs.Two.{all_two, any_at}
-use Rattle.vdr_opening.specs.Answers.{AreJudgedOn, IsRingOf, no_ring, ring_at, HasOpenCause}
+use Rattle.vdr_opening.specs.Answers.{AreJudgedOn, no_ring, ring_at, HasOpenCause}
+use Rattle.vdr_ring.specs.Openings.{IsRingOf}
 use Rattle.vdr_outside.specs.Causes.{NoneFalls, Rose}
 use Rattle.vdr_outside.specs.declared.fault.PartRefused.{PartRefused}
 use Rattle.vdr_outside.specs.declared.fault.PartRefused.TheVariants.{Fault}

@@ -1,16 +1,15 @@
 -- What opening answers.
 use Rattle.std.specs.Prelude.{◌≡◌, ◌≢◌, ◌⊎◌, ◌<◌, ◌≤◌, ◌+◌, ℕ, List, [], length, get_or, take, drop, sum, All, Any, Option, None, Result, Err, IsErrOf}
 use Rattle.vdr_terms.specs.Records.{Record}
-use Rattle.vdr_terms.specs.Needs.{slots_in}
 use Rattle.vdr_terms.specs.Sizes.{batch_size}
 use Rattle.vdr_history.specs.Histories.{Incident}
 use Rattle.vdr_durability.specs.Readings.{Reading, AreLevel, EndsMeet, IsPassedOn}
 use Rattle.vdr_outside.specs.Causes.{NoneFalls, Rose}
 use Rattle.vdr_outside.specs.Disk.{Disk, Durable}
 use Rattle.vdr_config.specs.Configuration.{Configuration}
-use Rattle.vdr_config.specs.Sizes.{sizes_of, window_of}
 use Rattle.vdr_media.specs.Formatted.{IsFormatted, IsUnformatted}
-use Rattle.vdr_ring.specs.Rings.{RingState, HasMedium}
+use Rattle.vdr_ring.specs.Rings.{RingState}
+use Rattle.vdr_ring.specs.Openings.{IsRingOf}
 use Rattle.vdr_ring.specs.Rings as rings
 use Rattle.vdr_ring.specs.Visits.{HasJudged}
 use Rattle.vdr_opening.specs.declared.refused.OpenRefused.{OpenRefused}
@@ -34,14 +33,6 @@ no_ring = record { medium = 0; segment = 0; slots = 0; seconds = 0; directory = 
 -- The ring on medium m: that of the index m.
 abbrev pub ring_at : List RingState → ℕ → RingState
 ring_at rings m = get_or rings m no_ring
-
--- The ring is that of medium m, as the configuration has it.
-pub record IsRingOf (c : Configuration) (sizes : List ℕ) (m : ℕ) (ring : RingState) : Type 0 where
-  pub medium : ring.medium ≡ m
-  pub segment : ring.segment ≡ c.segment
-  pub slots : ring.slots ≡ slots_in (sizes_of c) (get_or sizes m 0)
-  pub seconds : ring.seconds ≡ window_of c m
-  pub room : HasMedium ring sizes
 
 -- There is a ring on each of the media, and no other, and each is that of its medium.
 pub record AreRingsOf (c : Configuration) (sizes : List ℕ) (rings : List RingState) : Type 0 where

@@ -11,7 +11,8 @@ ghost use Rattle.vdr_ring.specs.Visits.{HasJudged};
 ghost use Rattle.vdr_opening.specs.Media.{members};
 ghost use Rattle.vdr_opening.specs.Costs.{ReadsParts, opening_bytes};
 ghost use Rattle.vdr_opening.specs.Refusals.{RefusesFrom, RefusesMedium};
-ghost use Rattle.vdr_opening.specs.Answers.{AreJudgedOn, AreRingsOf, IsRingOf, ring_at};
+ghost use Rattle.vdr_opening.specs.Answers.{AreJudgedOn, AreRingsOf, ring_at};
+ghost use Rattle.vdr_ring.specs.Openings.{IsRingOf};
 ghost use Rattle.vdr_opening.specs.Parts.{HasPartCause, KnowsMedium, ReadsLegal, text_of};
 
 use crate::superblock::read_superblock;

@@ -14,7 +14,7 @@ use Rattle.vdr_directory.specs.Holds.{HoldsPlaced}
 use Rattle.vdr_directory.specs.Sequence.{Placed}
 use Rattle.vdr_directory.proofs.CostLemmas.{reads_more}
 use Rattle.vdr_media.proofs.Two.{of_all, of_each}
-use Rattle.vdr_opening.specs.Answers.{IsRingOf}
+use Rattle.vdr_ring.specs.Openings.{IsRingOf}
 use Rattle.vdr_opening.specs.Costs.{ReadsToOpen}
 use Rattle.vdr_opening.specs.Media.{Contents, opening_of, parts_of}
 use Rattle.vdr_cursor.specs.Budgets.{budget}

@@ -17,10 +17,9 @@ use Rattle.vdr_opening.specs.declared.refused.OpenRefused.{OpenRefused}
 use Rattle.vdr_opening.specs.declared.refused.OpenRefused.TheVariants as openings
 use Rattle.vdr_recorder.specs.Looks.{HasLooked}
 use Rattle.vdr_recorder.specs.Recordings.{HasRecorded, RecorderState}
-use Rattle.vdr_vault.proofs.Stepping.{damaged_still}
 use Rattle.vdr_vault.proofs.Playing.{stands_to_read}
 use Rattle.vdr_vault.specs.Openings.{IsToldBy, OpensAtEachMoment}
-use Rattle.vdr_vault.specs.Vaults.{IsDamagedOn, IsReadable, VaultState, ShowsHistory}
+use Rattle.vdr_vault.specs.Vaults.{IsReadable, VaultState, ShowsHistory}
 use Rattle.vdr_visit.specs.Refusals.{HasOutputCause, IsAccepted, lacks_channel, lacks_incident, unanswered}
 use Rattle.vdr_visit.specs.declared.refused.VisitRefused.{VisitRefused}
 use Rattle.vdr_visit.specs.declared.refused.VisitRefused.TheVariants as stops
@@ -35,13 +34,15 @@ use Rattle.vdr_command.specs.StatusLine.{channel_line}
 use Rattle.vdr_command.specs.Statuses.{status_of_opening}
 use Rattle.vdr_command.specs.declared.status.Status.{Status}
 use Rattle.vdr_command.specs.declared.status.Status.TheVariants as ends
-use Rattle.vdr_command.proofs.OpenedLemmas.{OpenedOn, TellsOn, opened_so}
+use Rattle.vdr_command.proofs.OpenedLemmas.{OpenedOn, TellsOn, opened_by, opened_so}
 use Rattle.vdr_readout.specs.Exports.{CanExport, ExportEnds, IfRefusal, IsJudged, IsExportStatus, WritesFile, file_in, kind_at, made_of, status_of_export, wished}
-use Rattle.vdr_readout.specs.Reads.{AskedPlay, CanBeRead, CanPlay, IfItself, IsOwnStatus, LacksChannel, LacksIncident, MetUnreadable, PlayEnds, all_records, channel_in, id_of, query_of, records_asked, status_by}
+use Rattle.vdr_readout.specs.Reads.{AskedPlay, CanBeRead, CanPlay, IfItself, IsMetDamage, IsOwnStatus, LacksChannel, LacksIncident, MetUnreadable, PlayEnds, all_records, channel_in, id_of, query_of, records_asked, status_by}
 use Rattle.vdr_readout.specs.declared.exporting.Wish.{Wish}
 use Rattle.vdr_readout.specs.declared.exporting.Wish.TheVariants.{Sound, Picture}
-use Rattle.vdr_readout.proofs.FileLemmas.{as_visit, damage_as, fault_as, may_write, not_asked, of_damage, output_as, own_status, undamaged, writes_so}
-use Rattle.vdr_readout.proofs.ReadLemmas.{Wants, asked_within, channel_ends, lacks_from, read_ends, with_media}
+use Rattle.vdr_readout.proofs.DamageLemmas.{IsTold}
+use Rattle.vdr_readout.proofs.FileLemmas.{as_visit, damage_as, done_as, fault_as, may_write, not_asked, of_damage, output_as, own_status, undamaged, writes_so}
+use Rattle.vdr_readout.proofs.ReadLemmas.{Wants, read_ends}
+use Rattle.vdr_readout.proofs.RefusedLemmas.{asked_within, channel_ends, lacks_from, with_media}
 
 -- A channel that is not there has no file.
 no_file : (wish : Wish) → wished wish None ≡ None
@@ -81,9 +82,9 @@ both_there no_channel no_incident result is ok = answered no_channel no_incident
 
 module _ {tells tells_images : Type 0} (wish : Wish) (asked : AskedPlay) (old new : Outside tells tells_images) where
   -- Nothing was written, and no file was refused.
-  still_ends : (status : Status) → IsExportStatus wish status → new.output ≡ old.output → PlayEnds asked.medium asked.channel old.media new.media status → AddsMissing old.media.disk new.media.disk
+  still_ends : (status : Status) → IsExportStatus wish status → new.output ≡ old.output → PlayEnds asked old.media new.media status → AddsMissing old.media.disk new.media.disk
       → (status ≡ ends.ExportKind → ⊥) → (status ≡ ends.OutputFault → ⊥) → (status ≡ ends.NoChannel → ⊥) → (status ≡ ends.Done → ⊥) → ((P : ExportRefused → Type 0) → IfRefusal status P)
-      → (IsJudged status → ⊥) → IfDamaged status (λ m offset. IsRefusedAt old.media.disk new.media.disk m offset ⊎ MetUnreadable old.media.disk new.media.disk (CanExport wish asked) m offset)
+      → (IsJudged status → ⊥) → IfDamaged status (λ m offset. IsRefusedAt old.media.disk new.media.disk m offset ⊎ MetUnreadable asked old.media.disk new.media.disk (CanExport wish asked) m offset)
       → ((bytes : List ℕ) → PrintsText bytes status old.output new.output) → ExportEnds wish asked old new status
   still_ends status own same media adds kind output channel done refusals unjudged damage prints = record {
     own = own;
@@ -104,19 +105,19 @@ module _ {tells tells_images : Type 0} (wish : Wish) (asked : AskedPlay) (old ne
   }
 
   pub opening_exports : (refused : OpenRefused) → ((m offset : ℕ) → refused ≡ openings.Damaged m offset → IsRefusedAt old.media.disk new.media.disk m offset) → new.output ≡ old.output
-      → MediaEnds (λ x. CanPlay x asked.medium asked.channel) (MetUnreadable old.media.disk new.media.disk (λ x. CanPlay x asked.medium asked.channel)) AreLooks old.media new.media (status_of_opening refused)
+      → MediaEnds (λ x. CanPlay x asked.medium asked.channel) (MetUnreadable asked old.media.disk new.media.disk (λ x. CanPlay x asked.medium asked.channel)) AreLooks old.media new.media (status_of_opening refused)
       → AddsMissing old.media.disk new.media.disk → ExportEnds wish asked old new (status_of_opening refused)
   opening_exports openings.NoMemory at same media adds =
-      still_ends ends.NoMemory tt same (with_media asked.medium asked.channel old.media new.media openings.NoMemory media) adds (λ e. let none : ⊥ = cc in none) (λ e. let none : ⊥ = cc in none)
+      still_ends ends.NoMemory tt same (with_media asked old.media new.media openings.NoMemory media) adds (λ e. let none : ⊥ = cc in none) (λ e. let none : ⊥ = cc in none)
       (λ e. let none : ⊥ = cc in none) (λ e. let none : ⊥ = cc in none) (λ P. tt) (λ judged. judged) tt (λ bytes. tt)
   opening_exports openings.NotFormatted at same media adds =
-      still_ends ends.Unformatted tt same (with_media asked.medium asked.channel old.media new.media openings.NotFormatted media) adds (λ e. let none : ⊥ = cc in none) (λ e. let none : ⊥ = cc in none)
+      still_ends ends.Unformatted tt same (with_media asked old.media new.media openings.NotFormatted media) adds (λ e. let none : ⊥ = cc in none) (λ e. let none : ⊥ = cc in none)
       (λ e. let none : ⊥ = cc in none) (λ e. let none : ⊥ = cc in none) (λ P. tt) (λ judged. judged) tt (λ bytes. tt)
   opening_exports (openings.Damaged m offset) at same media adds =
-      still_ends (ends.Damaged m offset) tt same (with_media asked.medium asked.channel old.media new.media (openings.Damaged m offset) media) adds (λ e. let none : ⊥ = cc in none) (λ e. let none : ⊥ = cc in none)
+      still_ends (ends.Damaged m offset) tt same (with_media asked old.media new.media (openings.Damaged m offset) media) adds (λ e. let none : ⊥ = cc in none) (λ e. let none : ⊥ = cc in none)
       (λ e. let none : ⊥ = cc in none) (λ e. let none : ⊥ = cc in none) (λ P. tt) (λ judged. judged) (inl (at m offset refl)) (λ bytes. tt)
   opening_exports openings.Fault at same media adds =
-      still_ends ends.MediaFault tt same (with_media asked.medium asked.channel old.media new.media openings.Fault media) adds (λ e. let none : ⊥ = cc in none) (λ e. let none : ⊥ = cc in none)
+      still_ends ends.MediaFault tt same (with_media asked old.media new.media openings.Fault media) adds (λ e. let none : ⊥ = cc in none) (λ e. let none : ⊥ = cc in none)
       (λ e. let none : ⊥ = cc in none) (λ e. let none : ⊥ = cc in none) (λ P. tt) (λ judged. judged) tt (λ bytes. tt)
 
   -- No such channel is configured.
@@ -137,7 +138,7 @@ module _ {tells tells_images : Type 0} (wish : Wish) (asked : AskedPlay) (old ne
     output = λ e. let none : ⊥ = cc in absurd none;
     line = λ e. wrote;
     silent = inr (inl tt);
-    media = channel_ends asked.medium asked.channel old.media new.media result r is vault lacks parts others moments;
+    media = channel_ends asked old.media new.media result r is vault lacks parts others moments;
     missing = adds;
   }
 
@@ -161,11 +162,11 @@ module _ {tells tells_images : Type 0} (wish : Wish) (asked : AskedPlay) (old ne
       -- How the media ended, by the end of a visit that stands for it.
       media_so : (ended : Result ⊤ (VisitRefused Status)) → IsAccepted (lacks_channel (length r.vault.config.channels) query.channel) (lacks_incident r.vault.table query.medium) ended
           → ((opening : Opening) (events : List Event) (placed : ℕ → List Placed) (m offset : ℕ) → tells → IsReadable opening events r.vault placed mid.disk → ended ≡ Err (stops.Damaged m offset) → ⊥)
-          → ((m offset : ℕ) → ended ≡ Err (stops.Damaged m offset) → tells → IsDamagedOn r.vault.config mid.disk m offset)
+          → IsTold asked old.media.disk new.media.disk r.vault (λ m offset. ended ≡ Err (stops.Damaged m offset)) (ended ≡ Ok tt)
           → HasLooked query r after mid.disk new.media.disk mid.bytes_read new.media.bytes_read mid.faults new.media.faults (ended ≡ Err stops.Fault)
-          → IfItself ended IsOwnStatus → PlayEnds asked.medium asked.channel old.media new.media (status_by (λ (s : Status). s) ended asked.medium)
-      media_so ended accepted never damaged looked own =
-          read_ends asked old.media mid new.media r after query ended wants works parts opened readable accepted never damaged looked later others (λ (s : Status). s) own result moments
+          → IfItself ended IsOwnStatus → PlayEnds asked old.media new.media (status_by (λ (s : Status). s) ended asked.medium)
+      media_so ended accepted never damage looked own =
+          read_ends asked old.media mid new.media r after query ended wants works parts opened readable accepted never damage looked later others (λ (s : Status). s) own result moments
 
       channel_there : lacks_channel (length r.vault.config.channels) query.channel ≡ false
       channel_there = ap (λ (q : Query). lacks_channel (length r.vault.config.channels) q.channel) wants.is ∙ asked_within r.vault.config asked.channel
@@ -182,7 +183,7 @@ module _ {tells tells_images : Type 0} (wish : Wish) (asked : AskedPlay) (old ne
             channel = ((λ e. let no : ⊥ = cc in absurd no), (λ lacks. absurd (true_false _ lacks channel_there)));
             incident = ((λ e. (channel_there, misses)), (λ lacks. refl));
           })
-          (λ opening events placed m offset t h e. let no : ⊥ = cc in no) (λ m offset e. let no : ⊥ = cc in absurd no)
+          (λ opening events placed m offset t h e. let no : ⊥ = cc in no) (record { met = λ m offset e. let no : ⊥ = cc in absurd no; whole = λ e. let no : ⊥ = cc in absurd no })
           (looked_as _ _ _ _ _ _ _ _ _ _ _ (λ e. let no : ⊥ = cc in no) looked) tt)
           adds (λ e. let no : ⊥ = cc in no) (λ e. let no : ⊥ = cc in no) (λ e. let no : ⊥ = cc in no) (λ e. let no : ⊥ = cc in no) (λ P. tt) (λ judged. judged) tt (λ bytes. tt)
 
@@ -222,7 +223,7 @@ module _ {tells tells_images : Type 0} (wish : Wish) (asked : AskedPlay) (old ne
           line = λ e. let no : ⊥ = cc in absurd no;
           silent = inr (inr still);
           media = media_so (Err (stops.Own ends.ExportKind)) (is_accepted _ (λ e. let no : ⊥ = cc in no) (λ e. let no : ⊥ = cc in no))
-              (λ opening events placed m offset t h e. let no : ⊥ = cc in no) (λ m offset e. let no : ⊥ = cc in absurd no)
+              (λ opening events placed m offset t h e. let no : ⊥ = cc in no) (record { met = λ m offset e. let no : ⊥ = cc in absurd no; whole = λ e. let no : ⊥ = cc in absurd no })
               (looked_as _ _ _ _ _ _ _ _ _ _ _ (λ e. let no : ⊥ = cc in no) looked) tt;
           missing = adds;
         }
@@ -232,7 +233,7 @@ module _ {tells tells_images : Type 0} (wish : Wish) (asked : AskedPlay) (old ne
             (out : Result ⊤ ExportRefused)
             (made : (opening : Opening) (events : List Event) (placed : ℕ → List Placed) → tells → IsReadable opening events r.vault placed mid.disk
             → FileEnds (file_of file (selected opening events query)) old.output.taken new.output.taken out)
-            (damaged : (m offset : ℕ) → out ≡ Err (exports.Damaged m offset) → tells → IsDamagedOn r.vault.config mid.disk m offset)
+            (damage : IsTold asked old.media.disk new.media.disk r.vault (λ m offset. out ≡ Err (exports.Damaged m offset)) (out ≡ Ok tt))
             (looked : HasLooked query r after mid.disk new.media.disk mid.bytes_read new.media.bytes_read mid.faults new.media.faults (out ≡ Err exports.Fault)) where
           made_is : (x : Contents) → tells → HoldsContents old.media.disk.reads x → file_of file (selected (opening_of x) [] query) ≡ made_of x asked file
           unfolding made_of records_asked
@@ -251,14 +252,11 @@ module _ {tells tells_images : Type 0} (wish : Wish) (asked : AskedPlay) (old ne
           exportable : tells → IsOpenableWith old.media.disk.reads (CanExport wish asked)
           exportable = opened_so (CanExport wish asked) old.media.disk r.vault parts can_export
 
-          -- Where it met damage one of the slots is not intact, and the media can't be read.
-          met : (m offset : ℕ) → out ≡ Err (exports.Damaged m offset) → MetUnreadable old.media.disk new.media.disk (CanExport wish asked) m offset
+          -- Where it met damage the media can't be read.
+          met : (m offset : ℕ) → out ≡ Err (exports.Damaged m offset) → MetUnreadable asked old.media.disk new.media.disk (CanExport wish asked) m offset
           met m offset told t = (
-            opened_so (λ x. CanExport wish asked x × IsDamagedOn x.config new.media.disk m offset) old.media.disk r.vault parts
-                (λ x read. (
-                  can_export x read,
-                  subst (λ (d : Configuration). IsDamagedOn d new.media.disk m offset) read.config (damaged_still r.vault.config mid.disk new.media.disk looked.read.unchanged.sizes (looked.read.unchanged.reads t) m offset (damaged m offset told t)),
-                )) t,
+            opened_by (λ x. CanExport wish asked x × IsMetDamage asked x new.media.disk m offset) old.media.disk r.vault parts
+                (λ x holds read. (can_export x read, damage.met m offset told t x holds read)) t,
             λ x holds can.
                 let read = to_read x t holds can in
                 undamaged old.output.taken new.output.taken out file (selected (opening_of x) [] query) m offset (made (opening_of x) [] read.0 t read.1) told,
@@ -279,10 +277,10 @@ module _ {tells tells_images : Type 0} (wish : Wish) (asked : AskedPlay) (old ne
             output = λ e. blamed.rose (output_as out e);
             line = λ e. absurd ((not_asked out).3 e);
             silent = ⊎_elim (λ begun. inl begun) (λ still. inr (inr still)) (may_write wish _ file (sym is ∙ some) out silent);
-            media = subst (λ (s : Status). PlayEnds asked.medium asked.channel old.media new.media s) (same_status out)
+            media = subst (λ (s : Status). PlayEnds asked old.media new.media s) (same_status out)
                 (media_so (as_visit out) (is_accepted (as_visit out) (not_asked out).0 (not_asked out).1)
                 (λ opening events placed m offset t h e. undamaged old.output.taken new.output.taken out file (selected opening events query) m offset (made opening events placed t h) (damage_as out m offset e))
-                (λ m offset e. damaged m offset (damage_as out m offset e))
+                (record { met = λ m offset e. damage.met m offset (damage_as out m offset e); whole = λ e. damage.whole (done_as out e) })
                 (looked_as _ _ _ _ _ _ _ _ _ _ _ (fault_as out) looked) (own_visit out));
             missing = adds;
           }

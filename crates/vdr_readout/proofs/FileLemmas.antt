@@ -60,6 +60,17 @@ damage_as (Err (Damaged k at)) m offset is = cc
 damage_as (Err Output) m offset is = let none : ⊥ = cc in absurd none
 damage_as (Err NoMemory) m offset is = let none : ⊥ = cc in absurd none
 
+pub done_as : (out : Result ⊤ ExportRefused) → as_visit out ≡ Ok tt → out ≡ Ok tt
+done_as (Ok u) is = refl
+done_as (Err Nothing) is = let none : ⊥ = cc in absurd none
+done_as (Err (Mixed place)) is = let none : ⊥ = cc in absurd none
+done_as (Err Long) is = let none : ⊥ = cc in absurd none
+done_as (Err (Part number)) is = let none : ⊥ = cc in absurd none
+done_as (Err Fault) is = let none : ⊥ = cc in absurd none
+done_as (Err (Damaged m offset)) is = let none : ⊥ = cc in absurd none
+done_as (Err Output) is = let none : ⊥ = cc in absurd none
+done_as (Err NoMemory) is = let none : ⊥ = cc in absurd none
+
 pub output_as : (out : Result ⊤ ExportRefused) → status_of_export out ≡ ends.OutputFault → out ≡ Err Output
 output_as (Ok u) is = let none : ⊥ = cc in absurd none
 output_as (Err Nothing) is = let none : ⊥ = cc in absurd none

@@ -1,6 +1,8 @@
 pub mod ListLemmas
 pub mod PlayCompleteness
 pub mod OwnStatuses
+pub mod DamageLemmas
+pub mod RefusedLemmas
 pub mod ReadLemmas
 pub mod CostLemmas
 pub mod Rows

@@ -9,7 +9,7 @@ use Rattle.vdr_opening.specs.Media.{Contents, HoldsParts, parts_of}
 use Rattle.vdr_command.specs.Outside.{MediaSeen}
 use Rattle.vdr_command.specs.Opened.{OneAnswer}
 use Rattle.vdr_readout.specs.Plays.{IsPlayStatus}
-use Rattle.vdr_readout.specs.Reads.{LacksChannel, LacksIncident, PlayEnds, PlaysAll}
+use Rattle.vdr_readout.specs.Reads.{AskedPlay, LacksChannel, LacksIncident, PlayEnds, PlaysAll}
 use Rattle.vdr_command.specs.declared.status.Status.{Status}
 use Rattle.vdr_command.specs.declared.status.Status.TheVariants.{Done, Words, Config, Small, Unformatted, Formatted, Damaged, MediaFault, PortFault, LinkFault, InputFault, OutputFault, NoMemory, Feed, NoChannel, NoIncident, SaveRefused, Place, Tick, ExportKind, ExportNothing, ExportMixed, ExportLong, ExportPart}
 use Rattle.vdr_command.proofs.OpenedCompleteness.{damaged_refused, memory_refused, opened_refused, unformatted_refused}
@@ -20,21 +20,21 @@ not_live table medium id is none = subst (LacksIncident table) (sym is) none
 pub one_id : (medium : Medium) (a b : ℕ) → medium ≡ Incident a → medium ≡ Incident b → NoIncident a ≡ NoIncident b
 one_id medium a b first second = let same : Incident a ≡ Incident b = sym first ∙ second in cc
 
-module _ {tells tells_images : Type 0} (medium : Medium) (name : List ℕ) (old new : MediaSeen tells tells_images) (told : tells) (law : OneAnswer old.disk.reads) where
-  lacks_too : (x y : Contents) → HoldsParts old.disk.reads x → HoldsParts old.disk.reads y → LacksChannel x.config name → LacksChannel y.config name
-  lacks_too x y hx hy lacks = subst (λ (c : Configuration). LacksChannel c name) (law.config x y hx hy) lacks
+module _ {tells tells_images : Type 0} (asked : AskedPlay) (old new : MediaSeen tells tells_images) (told : tells) (law : OneAnswer old.disk.reads) where
+  lacks_too : (x y : Contents) → HoldsParts old.disk.reads x → HoldsParts old.disk.reads y → LacksChannel x.config asked.channel → LacksChannel y.config asked.channel
+  lacks_too x y hx hy lacks = subst (λ (c : Configuration). LacksChannel c asked.channel) (law.config x y hx hy) lacks
 
-  misses_too : (x y : Contents) → HoldsParts old.disk.reads x → HoldsParts old.disk.reads y → LacksIncident x.table medium → LacksIncident y.table medium
-  misses_too x y hx hy lacks = subst (λ (table : List (Option histories.Incident)). LacksIncident table medium) (law.table x y hx hy) lacks
+  misses_too : (x y : Contents) → HoldsParts old.disk.reads x → HoldsParts old.disk.reads y → LacksIncident x.table asked.medium → LacksIncident y.table asked.medium
+  misses_too x y hx hy lacks = subst (λ (table : List (Option histories.Incident)). LacksIncident table asked.medium) (law.table x y hx hy) lacks
 
-  pub plays_all : (status : Status) → (status ≡ OutputFault → ⊥) → (status ≡ MediaFault → ⊥) → IsPlayStatus status → PlayEnds medium name old new status
-      → PlaysAll medium name old.disk.reads status
+  pub plays_all : (status : Status) → (status ≡ OutputFault → ⊥) → (status ≡ MediaFault → ⊥) → IsPlayStatus status → PlayEnds asked old new status
+      → PlaysAll asked.medium asked.channel old.disk.reads status
   plays_all Done output media own ends =
       let p = ends.media.openable tt told in
       record {
         refused = opened_refused old.disk.reads law Done p.0 p.1 p.2 p.3;
         channel = λ x holds meet lacks. absurd (p.4.channel (lacks_too (parts_of x) p.1 (law.parts x holds) p.2 lacks));
-        incident = λ x id holds meet there is none. absurd (p.4.incident (misses_too (parts_of x) p.1 (law.parts x holds) p.2 (not_live x.table medium id is none)));
+        incident = λ x id holds meet there is none. absurd (p.4.incident (misses_too (parts_of x) p.1 (law.parts x holds) p.2 (not_live x.table asked.medium id is none)));
         done = λ x holds meet regular can. tt;
       }
   plays_all Unformatted output media own ends =
@@ -58,7 +58,7 @@ module _ {tells tells_images : Type 0} (medium : Medium) (name : List ℕ) (old 
       record {
         refused = opened_refused old.disk.reads law (Damaged k at) p.0 p.1 p.2 p.3;
         channel = λ x holds meet lacks. absurd (p.4.0.channel (lacks_too (parts_of x) p.1 (law.parts x holds) p.2 lacks));
-        incident = λ x id holds meet there is none. absurd (p.4.0.incident (misses_too (parts_of x) p.1 (law.parts x holds) p.2 (not_live x.table medium id is none)));
+        incident = λ x id holds meet there is none. absurd (p.4.0.incident (misses_too (parts_of x) p.1 (law.parts x holds) p.2 (not_live x.table asked.medium id is none)));
         done = λ x holds meet regular can. absurd (h.1 x holds regular);
       })
       ends.media.damaged
@@ -75,7 +75,7 @@ module _ {tells tells_images : Type 0} (medium : Medium) (name : List ℕ) (old 
       record {
         refused = opened_refused old.disk.reads law (NoIncident id) h.0 h.1 h.2 h.3;
         channel = λ x holds meet lacks. absurd (h.4.0 (lacks_too (parts_of x) h.1 (law.parts x holds) h.2 lacks));
-        incident = λ x other holds meet there is none. inl (one_id medium id other ends.no_incident.0 is);
+        incident = λ x other holds meet there is none. inl (one_id asked.medium id other ends.no_incident.0 is);
         done = λ x holds meet regular can. absurd (can.incident (misses_too h.1 (parts_of x) h.2 (law.parts x holds) h.4.1));
       }
   plays_all NoMemory output media own ends = record {

@@ -1,9 +1,8 @@
 -- What a command that reads records out answers, from what the calls on the media ensure.
-use Rattle.std.specs.Prelude.{sum, true, false, ⊤, bytes_eq, length, is_none}
-use Rattle.std.proofs.Common.{◌≡◌, ◌≤◌, ◌∷◌, inl, inr, ⊎_elim, ℕ, ℤ, List, [], Option, Some, None, Result, Ok, Err, refl, sym, ap, subst, ◌∙◌}
-use Rattle.std.proofs.KnownBytes.{Appends-nil}
+use Rattle.std.specs.Prelude.{sum, true, false, ⊤, length}
+use Rattle.std.proofs.Common.{◌≡◌, ◌≤◌, ◌∷◌, inl, inr, ⊎_elim, ℕ, ℤ, List, [], Option, Result, Ok, Err, refl, sym, ap, subst, ◌∙◌}
 use Rattle.vdr_terms.specs.Queries.{Query}
-use Rattle.vdr_history.specs.Histories.{Act, Event, Opening, incidents, live, records_of_act, table_after}
+use Rattle.vdr_history.specs.Histories.{Act, Event, Opening, incidents, records_of_act, table_after}
 use Rattle.vdr_history.specs.Histories.{all_records as given}
 use Rattle.vdr_history.specs.Histories as histories
 use Rattle.vdr_history.specs.Histories.Act.{Look}
@@ -17,161 +16,33 @@ use Rattle.vdr_outside.proofs.Counts.{rose_after, sum_not_less}
 use Rattle.vdr_config.specs.Configuration.{Configuration}
 use Rattle.vdr_entry.specs.Queries.{asked_medium}
 use Rattle.vdr_entry.specs.declared.query.Medium.{Medium as Played}
-use Rattle.vdr_entry.specs.declared.query.Medium.TheVariants.{Capsule, LongTerm, Incident}
+use Rattle.vdr_entry.specs.declared.query.Medium.TheVariants.{Incident}
 use Rattle.vdr_directory.specs.Sequence.{Placed}
 use Rattle.vdr_opening.specs.Media.{members, Contents, HoldsContents, opening_of, reading_of}
 use Rattle.vdr_opening.specs.declared.refused.OpenRefused.{OpenRefused}
-use Rattle.vdr_opening.specs.declared.refused.OpenRefused.TheVariants as openings
 use Rattle.vdr_recorder.specs.Recordings.{HasRecorded, RecorderState}
 use Rattle.vdr_recorder.specs.Looks.{HasLooked}
 use Rattle.vdr_vault.specs.Openings.{IsToldBy, OpensAtEachMoment}
-use Rattle.vdr_vault.proofs.Stepping.{damaged_still}
 use Rattle.vdr_vault.proofs.OpenMoments.{never_both}
 use Rattle.vdr_vault.proofs.Playing.{stands_to_read}
 use Rattle.vdr_vault.proofs.ShownHistory.{stands_silent, stands_still}
-use Rattle.vdr_vault.specs.Vaults.{IsDamagedOn, IsReadable, VaultState, ShowsHistory, Stands}
-use Rattle.vdr_command.specs.Opened.{AddsMissing, AreLooks, IsOpenableWith, KeepsContents, MediaEnds, WasRecorded}
-use Rattle.vdr_command.specs.Endings.{IsWorkDone}
-use Rattle.vdr_command.specs.Statuses.{status_of_opening}
-use Rattle.vdr_command.specs.Outside.{MediaSeen, Outside, OutputFailed, OutputSeen, PrintsFront, Writes}
-use Rattle.vdr_command.specs.StatusLine.{channel_line}
-use Rattle.vdr_visit.proofs.Channels.{has_number, number_if, position_within}
+use Rattle.vdr_vault.specs.Vaults.{IsReadable, VaultState, ShowsHistory, Stands}
+use Rattle.vdr_command.specs.Opened.{AreLooks, IsOpenableWith, KeepsContents, WasRecorded}
+use Rattle.vdr_command.specs.Outside.{MediaSeen, OutputFailed, OutputSeen, PrintsFront}
 use Rattle.vdr_visit.specs.Prints.{whole_text}
 use Rattle.vdr_visit.specs.Refusals.{IsAccepted, lacks_channel, lacks_incident}
 use Rattle.vdr_visit.specs.Visits.{AreVisited, HasMade, HasVisited}
 use Rattle.vdr_visit.specs.declared.refused.VisitRefused.{VisitRefused}
 use Rattle.vdr_visit.specs.declared.refused.VisitRefused.TheVariants as stops
-use Rattle.vdr_readout.specs.Reads.{AskedPlay, CanBeRead, CanPlay, IfItself, IsOwnStatus, LacksChannel, LacksIncident, MetUnreadable, PlayEnds, ReadsOut, ShowsReading, StoppedItself, channel_asked, channel_in, all_records, id_of, query_of, records_asked, status_by}
+use Rattle.vdr_readout.specs.Reads.{AreIntactAsked, AskedPlay, CanBeRead, CanPlay, IfItself, IsMetDamage, IsOwnStatus, LacksChannel, LacksIncident, MetUnreadable, PlayEnds, ShowsReading, query_of, records_asked, status_by}
 use Rattle.vdr_command.specs.declared.status.Status.{Status}
-use Rattle.vdr_command.specs.declared.status.Status.TheVariants.{Done, Words, Config, Small, Unformatted, Formatted, Damaged, MediaFault, PortFault, LinkFault, InputFault, OutputFault, NoMemory, Feed, NoChannel, NoIncident, SaveRefused, Place, Tick, ExportKind, ExportNothing, ExportMixed, ExportLong, ExportPart}
+use Rattle.vdr_command.specs.declared.status.Status.TheVariants.{Done, Damaged, OutputFault, NoChannel, NoIncident}
 use Rattle.vdr_headline.proofs.Playing.{config_read}
 use Rattle.vdr_headline.proofs.Resting.{stand_reads}
-use Rattle.vdr_command.proofs.OpenedLemmas.{OpenedOn, TellsOn, kept_by_call, kept_opened, no_looks, one_look, opened_so, worked_ends}
+use Rattle.vdr_command.proofs.OpenedLemmas.{OpenedOn, TellsOn, kept_by_call, one_look, opened_by, opened_so, worked_ends}
+use Rattle.vdr_readout.proofs.DamageLemmas.{IsTold}
 use Rattle.vdr_readout.proofs.OwnStatuses.{own_status}
-
-none_of : {A : Type 0} (o : Option A) → is_none o ≡ true → o ≡ None
-none_of None e = refl
-none_of (Some x) e = let none : ⊥ = cc in absurd none
-
--- An incident that is not live is asked for, in both words.
-pub lacks_is : (table : List (Option histories.Incident)) (medium : Played) → lacks_incident table (asked_medium medium) ≡ true → LacksIncident table medium
-lacks_is table Capsule e = let none : ⊥ = cc in absurd none
-lacks_is table LongTerm e = let none : ⊥ = cc in absurd none
-lacks_is table (Incident id) e = none_of (live table id) e
-
-pub lacks_from : (table : List (Option histories.Incident)) (medium : Played) → LacksIncident table medium → lacks_incident table (asked_medium medium) ≡ true
-lacks_from table Capsule lacks = absurd lacks
-lacks_from table LongTerm lacks = absurd lacks
-lacks_from table (Incident id) lacks = ap (λ (o : Option histories.Incident). is_none o) lacks
-
-medium_is : (table : List (Option histories.Incident)) (medium : Played) → lacks_incident table (asked_medium medium) ≡ true → medium ≡ Incident (id_of medium)
-medium_is table Capsule e = let none : ⊥ = cc in absurd none
-medium_is table LongTerm e = let none : ⊥ = cc in absurd none
-medium_is table (Incident id) e = refl
-
--- A channel that is asked for by its name is configured.
-pub asked_within : (c : Configuration) (name : List ℕ) → lacks_channel (length c.channels) (channel_asked c name) ≡ false
-asked_within c name = has_number (length c.channels) (channel_asked c name)
-    (λ k is. position_within (λ channel. bytes_eq channel.name name) c.channels k (number_if (bytes_eq name all_records) (channel_in c name) k is))
-
--- Where opening is refused the work is not done.
-pub not_done : (refused : OpenRefused) → IsWorkDone (status_of_opening refused) → ⊥
-not_done openings.NoMemory done = done
-not_done openings.NotFormatted done = done
-not_done (openings.Damaged m offset) done = done
-not_done openings.Fault done = done
-
-module _ {tells tells_images : Type 0} where
-  -- A play ends so where it is not of its own refusals.
-  pub with_media : (medium : Played) (name : List ℕ) (old new : MediaSeen tells tells_images) (refused : OpenRefused)
-      → MediaEnds (λ x. CanPlay x medium name) (MetUnreadable old.disk new.disk (λ x. CanPlay x medium name)) AreLooks old new (status_of_opening refused)
-      → PlayEnds medium name old new (status_of_opening refused)
-  with_media medium name old new openings.NoMemory media = record { media = media; no_channel = λ e. let none : ⊥ = cc in absurd none; no_incident = tt }
-  with_media medium name old new openings.NotFormatted media = record { media = media; no_channel = λ e. let none : ⊥ = cc in absurd none; no_incident = tt }
-  with_media medium name old new (openings.Damaged m offset) media = record { media = media; no_channel = λ e. let none : ⊥ = cc in absurd none; no_incident = tt }
-  with_media medium name old new openings.Fault media = record { media = media; no_channel = λ e. let none : ⊥ = cc in absurd none; no_incident = tt }
-
-  -- No such channel is configured.
-  pub channel_ends : {T : Type 0} (medium : Played) (name : List ℕ) (old new : MediaSeen tells tells_images) (result : Result T OpenRefused) (r : T) → result ≡ Ok r
-      → (vault : VaultState) → LacksChannel vault.config name → OpenedOn old.disk vault
-      → (tells → SameBut 1 old.disk.reads new.disk.reads)
-      → ((x : Contents) → tells → HoldsContents old.disk.reads x → EndsMeet members (reading_of x) → WasRecorded x → OpensAtEachMoment old.disk new.disk result (ShowsHistory (opening_of x) []))
-      → PlayEnds medium name old new NoChannel
-  channel_ends medium name old new result r is vault lacks parts others moments = record {
-    media = record {
-      unformatted = λ e. let none : ⊥ = cc in absurd none;
-      damaged = tt;
-      fault = λ e. let none : ⊥ = cc in absurd none;
-      openable = λ played. absurd played;
-      others = others;
-      blank = λ t un. absurd (never_both old.disk.reads (parts t).0 un);
-      kept = λ x t holds meet regular. inr (kept_opened x (config_read old.disk.reads x holds) regular AreLooks NoChannel old.disk new.disk result r is no_looks (λ worked. absurd worked) (moments x t holds meet regular));
-    };
-    no_channel = λ e. opened_so (λ x. LacksChannel x.config name) old.disk vault parts (λ x read. subst (λ (d : Configuration). LacksChannel d name) read.config lacks);
-    no_incident = tt;
-  }
-
-  -- A visitor that ended it by itself shows so.
-  own_shown : {R : Type 0} (asked : AskedPlay) (disk : Disk tells tells_images) (Has : List Record → Type 0) (Stops : List Record → R → Type 0) (status_of : R → Status) (line : List Record → Record → List ℕ)
-      (last : List Record → List ℕ) (was next : OutputSeen) (status : Status) → IsOwnStatus status → StoppedItself asked disk Stops status_of line was next status
-      → ShowsReading asked disk Has Stops status_of line last was next status
-  own_shown asked disk Has Stops status_of line last was next Done own stopped = absurd own
-  own_shown asked disk Has Stops status_of line last was next Words own stopped = absurd own
-  own_shown asked disk Has Stops status_of line last was next (Config n) own stopped = inr stopped
-  own_shown asked disk Has Stops status_of line last was next (Small small) own stopped = inr stopped
-  own_shown asked disk Has Stops status_of line last was next Unformatted own stopped = absurd own
-  own_shown asked disk Has Stops status_of line last was next Formatted own stopped = inr stopped
-  own_shown asked disk Has Stops status_of line last was next (Damaged k at) own stopped = absurd own
-  own_shown asked disk Has Stops status_of line last was next MediaFault own stopped = absurd own
-  own_shown asked disk Has Stops status_of line last was next (PortFault group) own stopped = inr stopped
-  own_shown asked disk Has Stops status_of line last was next (LinkFault link) own stopped = inr stopped
-  own_shown asked disk Has Stops status_of line last was next InputFault own stopped = inr stopped
-  own_shown asked disk Has Stops status_of line last was next OutputFault own stopped = absurd own
-  own_shown asked disk Has Stops status_of line last was next NoMemory own stopped = inr stopped
-  own_shown asked disk Has Stops status_of line last was next (Feed n at) own stopped = inr stopped
-  own_shown asked disk Has Stops status_of line last was next NoChannel own stopped = absurd own
-  own_shown asked disk Has Stops status_of line last was next (NoIncident id) own stopped = absurd own
-  own_shown asked disk Has Stops status_of line last was next (SaveRefused cause) own stopped = inr stopped
-  own_shown asked disk Has Stops status_of line last was next Place own stopped = inr stopped
-  own_shown asked disk Has Stops status_of line last was next Tick own stopped = inr stopped
-  own_shown asked disk Has Stops status_of line last was next ExportKind own stopped = inr stopped
-  own_shown asked disk Has Stops status_of line last was next ExportNothing own stopped = inr stopped
-  own_shown asked disk Has Stops status_of line last was next (ExportMixed place) own stopped = inr stopped
-  own_shown asked disk Has Stops status_of line last was next ExportLong own stopped = inr stopped
-  own_shown asked disk Has Stops status_of line last was next (ExportPart number) own stopped = inr stopped
-
-  -- Where opening is refused nothing is printed.
-  opening_shown : {R : Type 0} (asked : AskedPlay) (disk : Disk tells tells_images) (Has : List Record → Type 0) (Stops : List Record → R → Type 0) (status_of : R → Status) (line : List Record → Record → List ℕ)
-      (last : List Record → List ℕ) (was : OutputSeen) (refused : OpenRefused) → ShowsReading asked disk Has Stops status_of line last was was (status_of_opening refused)
-  opening_shown asked disk Has Stops status_of line last was openings.NoMemory = inl (refl, refl)
-  opening_shown asked disk Has Stops status_of line last was openings.NotFormatted = refl
-  opening_shown asked disk Has Stops status_of line last was (openings.Damaged m offset) = ([], Appends-nil was.taken, λ x t holds can. (records_asked x asked, refl))
-  opening_shown asked disk Has Stops status_of line last was openings.Fault = ([], Appends-nil was.taken, λ x t holds can. (records_asked x asked, refl))
-
-  pub opening_reads : {R : Type 0} (asked : AskedPlay) (Has : List Record → Type 0) (Stops : List Record → R → Type 0) (status_of : R → Status) (line : List Record → Record → List ℕ) (last : List Record → List ℕ)
-      (old new : Outside tells tells_images) (refused : OpenRefused) → new.output ≡ old.output
-      → MediaEnds (λ x. CanPlay x asked.medium asked.channel) (MetUnreadable old.media.disk new.media.disk (λ x. CanPlay x asked.medium asked.channel)) AreLooks old.media new.media (status_of_opening refused)
-      → AddsMissing old.media.disk new.media.disk → ReadsOut asked Has Stops status_of line last old new (status_of_opening refused)
-  opening_reads asked Has Stops status_of line last old new refused same media missing = record {
-    shown = subst (λ (o : OutputSeen). ShowsReading asked old.media.disk Has Stops status_of line last old.output o (status_of_opening refused)) (sym same)
-        (opening_shown asked old.media.disk Has Stops status_of line last old.output refused);
-    media = with_media asked.medium asked.channel old.media new.media refused media;
-    missing = missing;
-    bytes = λ worked. absurd (not_done refused worked);
-  }
-
-  pub channel_reads : {T R : Type 0} (asked : AskedPlay) (Has : List Record → Type 0) (Stops : List Record → R → Type 0) (status_of : R → Status) (line : List Record → Record → List ℕ) (last : List Record → List ℕ)
-      (old new : Outside tells tells_images) (result : Result T OpenRefused) (r : T) → result ≡ Ok r
-      → (vault : VaultState) → LacksChannel vault.config asked.channel → OpenedOn old.media.disk vault
-      → (tells → SameBut 1 old.media.disk.reads new.media.disk.reads)
-      → ((x : Contents) → tells → HoldsContents old.media.disk.reads x → EndsMeet members (reading_of x) → WasRecorded x → OpensAtEachMoment old.media.disk new.media.disk result (ShowsHistory (opening_of x) []))
-      → Writes (channel_line asked.channel) old.output new.output → AddsMissing old.media.disk new.media.disk → ReadsOut asked Has Stops status_of line last old new NoChannel
-  channel_reads asked Has Stops status_of line last old new result r is vault lacks parts others moments wrote missing = record {
-    shown = (wrote, lacks.0);
-    media = channel_ends asked.medium asked.channel old.media new.media result r is vault lacks parts others moments;
-    missing = missing;
-    bytes = λ worked. absurd worked;
-  }
+use Rattle.vdr_readout.proofs.RefusedLemmas.{asked_within, lacks_from, lacks_is, medium_is, own_shown}
 
 -- A visit of media that can be read never meets damage.
 pub never_damaged : {tells tells_images R : Type 0} {query : Query} {vault : VaultState} {disk : Disk tells tells_images} {Has : List Record → Type 0} {Stops : List Record → R → Type 0}
@@ -224,7 +95,7 @@ module _ {tells tells_images R : Type 0} (asked : AskedPlay) (old mid new : Medi
 
   module _ (accepted : IsAccepted (lacks_channel (length r.vault.config.channels) query.channel) (lacks_incident r.vault.table query.medium) ended)
       (undamaged : (opening : Opening) (events : List Event) (placed : ℕ → List Placed) (m offset : ℕ) → tells → IsReadable opening events r.vault placed mid.disk → ended ≡ Err (stops.Damaged m offset) → ⊥)
-      (damaged : (m offset : ℕ) → ended ≡ Err (stops.Damaged m offset) → tells → IsDamagedOn r.vault.config mid.disk m offset)
+      (damage : IsTold asked old.disk new.disk r.vault (λ m offset. ended ≡ Err (stops.Damaged m offset)) (ended ≡ Ok tt))
       (looked : HasLooked query r after mid.disk new.disk mid.bytes_read new.bytes_read mid.faults new.faults (ended ≡ Err stops.Fault)) (later : NoneFalls old.faults mid.faults)
       (others : tells → SameBut 1 old.disk.reads mid.disk.reads) (status_of : R → Status) (own : IfItself ended (λ reason. IsOwnStatus (status_of reason))) where
     module _ {T : Type 0} (result : Result T OpenRefused)
@@ -256,13 +127,13 @@ module _ {tells tells_images R : Type 0} (asked : AskedPlay) (old mid new : Medi
       playable : (ended ≡ Err stops.NoIncident → ⊥) → tells → IsOpenableWith old.disk.reads (λ x. CanPlay x asked.medium asked.channel)
       playable found = opened_so (λ x. CanPlay x asked.medium asked.channel) old.disk r.vault parts (can_play found)
 
-      -- Where it met damage one of the slots is not intact, and the media can't be read.
-      met : (k offset : ℕ) → ended ≡ Err (stops.Damaged k offset) → MetUnreadable old.disk new.disk (λ x. CanPlay x asked.medium asked.channel) k offset
+      -- Where it met damage the media can't be read.
+      met : (k offset : ℕ) → ended ≡ Err (stops.Damaged k offset) → MetUnreadable asked old.disk new.disk (λ x. CanPlay x asked.medium asked.channel) k offset
       met k offset is t = (
-        opened_so (λ x. CanPlay x asked.medium asked.channel × IsDamagedOn x.config new.disk k offset) old.disk r.vault parts
-            (λ x read. (
+        opened_by (λ x. CanPlay x asked.medium asked.channel × IsMetDamage asked x new.disk k offset) old.disk r.vault parts
+            (λ x holds read. (
               can_play (λ e. let clash : Err (stops.Damaged k offset) ≡ Err stops.NoIncident = sym is ∙ e in let none : ⊥ = cc in absurd none) x read,
-              subst (λ (d : Configuration). IsDamagedOn d new.disk k offset) read.config (damaged_still r.vault.config mid.disk new.disk looked.read.unchanged.sizes (looked.read.unchanged.reads t) k offset (damaged k offset is t)),
+              damage.met k offset is t x holds read,
             )) t,
         λ x holds fit. let read = to_read x t holds fit in undamaged (opening_of x) [] read.0 k offset t read.1 is,
       )
@@ -272,11 +143,12 @@ module _ {tells tells_images R : Type 0} (asked : AskedPlay) (old mid new : Medi
           (λ (more : Rose (sum mid.faults) (sum new.faults)). rose_after (sum old.faults) (sum mid.faults) (sum new.faults) (sum_not_less old.faults mid.faults later.same_media later.none_falls) more)
           (looked.cause.in_all is)
 
-      ends_so : (p : Result ⊤ (VisitRefused R)) → ended ≡ p → PlayEnds asked.medium asked.channel old new (status_by status_of p asked.medium)
+      ends_so : (p : Result ⊤ (VisitRefused R)) → ended ≡ p → PlayEnds asked old new (status_by status_of p asked.medium)
       ends_so (Ok x) is = record {
         media = worked_ends _ _ AreLooks old new Done tt (playable (λ e. let clash : Ok x ≡ Err stops.NoIncident = sym is ∙ e in let none : ⊥ = cc in absurd none)) others_too (kept_with_look Done);
         no_channel = λ e. let none : ⊥ = cc in absurd none;
         no_incident = tt;
+        whole = λ e t. opened_by (λ x. AreIntactAsked asked x new.disk) old.disk r.vault parts (λ x holds read. damage.whole is t x holds read) t;
       }
       ends_so (Err stops.NoChannel) is = let clash : false ≡ true = sym channel_is_there ∙ accepted.channel.0 is in let none : ⊥ = cc in absurd none
       ends_so (Err stops.NoIncident) is = let misses = misses_is (accepted.incident.0 is).1 in record {
@@ -297,6 +169,7 @@ module _ {tells tells_images R : Type 0} (asked : AskedPlay) (old mid new : Medi
             subst (λ (table : List (Option histories.Incident)). LacksIncident table asked.medium) read.table (lacks_is r.vault.table asked.medium misses),
           )),
         );
+        whole = λ e. let none : ⊥ = cc in absurd none;
       }
       ends_so (Err stops.Fault) is = record {
         media = record {
@@ -310,6 +183,7 @@ module _ {tells tells_images R : Type 0} (asked : AskedPlay) (old mid new : Medi
         };
         no_channel = λ e. let none : ⊥ = cc in absurd none;
         no_incident = tt;
+        whole = λ e. let none : ⊥ = cc in absurd none;
       }
       ends_so (Err (stops.Damaged k offset)) is = record {
         media = record {
@@ -323,11 +197,13 @@ module _ {tells tells_images R : Type 0} (asked : AskedPlay) (old mid new : Medi
         };
         no_channel = λ e. let none : ⊥ = cc in absurd none;
         no_incident = tt;
+        whole = λ e. let none : ⊥ = cc in absurd none;
       }
       ends_so (Err stops.Output) is = record {
         media = worked_ends _ _ AreLooks old new OutputFault tt (playable (λ e. let clash : Err stops.Output ≡ Err stops.NoIncident = sym is ∙ e in let none : ⊥ = cc in absurd none)) others_too (kept_with_look OutputFault);
         no_channel = λ e. let none : ⊥ = cc in absurd none;
         no_incident = tt;
+        whole = λ e. let none : ⊥ = cc in absurd none;
       }
       ends_so (Err (stops.Own reason)) is =
           let s = status_of reason in
@@ -345,9 +221,10 @@ module _ {tells tells_images R : Type 0} (asked : AskedPlay) (old mid new : Medi
             };
             no_channel = λ e. absurd (subst IsOwnStatus e mine);
             no_incident = owned.1;
+            whole = λ e. absurd (subst IsOwnStatus e mine);
           }
 
-      pub read_ends : PlayEnds asked.medium asked.channel old new (status_by status_of ended asked.medium)
+      pub read_ends : PlayEnds asked old new (status_by status_of ended asked.medium)
       read_ends = ends_so ended refl
 
       -- What stands in the output.

@@ -148,7 +148,7 @@ module _ {tells tells_images R : Type 0} {asked : AskedPlay} {Has : List Record 
         media = told.media;
         missing = told.missing;
         bytes = told.bytes;
-        complete = λ none t. plays_all asked.medium asked.channel old.media new.media t law status (λ is. none.output (output is)) (λ is. none.media (told.media.media.fault is)) own told.media;
+        complete = λ none t. plays_all asked old.media new.media t law status (λ is. none.output (output is)) (λ is. none.media (told.media.media.fault is)) own told.media;
       }
 
   pub table_known : status ≡ Words → ⊥

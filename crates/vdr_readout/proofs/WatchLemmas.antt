@@ -16,7 +16,7 @@ use Rattle.vdr_command.specs.Outside.{Outside, OutputFailed, OutputSeen, Prints,
 use Rattle.vdr_command.specs.declared.status.Status.{Status}
 use Rattle.vdr_command.specs.declared.status.Status.TheVariants.{Done, Words, Config, Small, Unformatted, Formatted, Damaged, MediaFault, PortFault, LinkFault, InputFault, OutputFault, NoMemory, Feed, NoChannel, NoIncident, SaveRefused, Place, Tick, ExportKind, ExportNothing, ExportMixed, ExportLong, ExportPart}
 use Rattle.vdr_readout.specs.Plays.{IsPlayStatus}
-use Rattle.vdr_readout.specs.Reads.{AreFirst, CanBeRead, ReadsOut, ShowsReading, StoppedItself, all_records, records_asked}
+use Rattle.vdr_readout.specs.Reads.{AreFirst, CanBeRead, ReadsOut, ShowsReading, StoppedItself, records_asked}
 use Rattle.vdr_readout.specs.Sources.{whole_of}
 use Rattle.vdr_readout.specs.Watches.{IsCutShort, TellsWatch, shown_text}
 use Rattle.vdr_readout.proofs.PlayCompleteness.{plays_all}
@@ -150,7 +150,7 @@ module _ {tells tells_images R : Type 0} {medium : Medium} {Has : List Record �
     media = told.media;
     missing = told.missing;
     bytes = told.bytes;
-    complete = λ none t. plays_all medium all_records old.media new.media t law status (λ is. none.output (owed.output is)) (λ is. none.media (told.media.media.fault is)) owed.own told.media;
+    complete = λ none t. plays_all (whole_of medium) old.media new.media t law status (λ is. none.output (owed.output is)) (λ is. none.media (told.media.media.fault is)) owed.own told.media;
   }
 
   pub watch_known : status ≡ Words → ⊥

@@ -144,12 +144,12 @@ module _ {tells tells_images : Type 0} where
     -- each refusal and failure comes only with its cause
     pub kind : status ≡ ExportKind → tells → IsOpenableWith old.media.disk.reads (λ x. CanPlay x asked.medium asked.channel × (file_in wish x.config asked.channel ≡ None))
     pub openable : IsJudged status → tells → IsOpenableWith old.media.disk.reads (CanExport wish asked)
-    pub damaged : IfDamaged status (λ m offset. IsRefusedAt old.media.disk new.media.disk m offset ⊎ MetUnreadable old.media.disk new.media.disk (CanExport wish asked) m offset)
+    pub damaged : IfDamaged status (λ m offset. IsRefusedAt old.media.disk new.media.disk m offset ⊎ MetUnreadable asked old.media.disk new.media.disk (CanExport wish asked) m offset)
     pub output : status ≡ OutputFault → OutputFailed old.output new.output
     pub line : status ≡ NoChannel → Writes (channel_line asked.channel) old.output new.output
     pub silent : MayWrite wish status ⊎ (IsNoChannel status ⊎ (new.output ≡ old.output))
     -- the media, and what is said of them, are as for a play
-    pub media : PlayEnds asked.medium asked.channel old.media new.media status
+    pub media : PlayEnds asked old.media new.media status
     pub missing : AddsMissing old.media.disk new.media.disk
 
 -- What can be made is made, and what can't is refused by its own refusal, or there was no memory.

@@ -59,7 +59,7 @@ pub record Plays {tells tells_images : Type 0} (asked : AskedPlay) (old new : Ou
   pub line : status ≡ NoChannel → Writes (channel_line asked.channel) old.output new.output
   pub silent : IsWorkDone status ⊎ (IsNoChannel status ⊎ (IsCut status ⊎ (new.output ≡ old.output)))
   -- the media, and what is said of them
-  pub media : PlayEnds asked.medium asked.channel old.media new.media status
+  pub media : PlayEnds asked old.media new.media status
   pub missing : AddsMissing old.media.disk new.media.disk
   -- of media that can be read no more is read than what opening reads and the segments that meet the query
   pub bytes : HasReadFew asked old.media new.media status

@@ -1,5 +1,5 @@
 -- What is said of every command that opens recorded media, finds a channel and an incident there, and reads records out.
-use Rattle.std.specs.Prelude.{◌≡◌, ◌≢◌, ◌⊎◌, ◌++◌, ◌*◌, if◌then◌else◌, ℕ, ℤ, List, [], length, get_or, position, bytes_eq, codes, All, Option, Some, None, Result, Ok, Err, ⊤}
+use Rattle.std.specs.Prelude.{◌≡◌, ◌≢◌, ◌⊎◌, ◌<◌, ◌++◌, ◌*◌, if◌then◌else◌, ℕ, ℤ, List, [], length, get_or, position, bytes_eq, codes, All, Contains, Option, Some, None, Result, Ok, Err, ⊤}
 use mathlib.Core.List.{Sublist}
 use Rattle.vdr_terms.specs.Records.{Record}
 use Rattle.vdr_terms.specs.Queries.{Query, Span}
@@ -13,13 +13,16 @@ use Rattle.vdr_config.specs.Configuration.{Configuration}
 use Rattle.vdr_directory.specs.Costs.{ReadsAtMost}
 use Rattle.vdr_directory.specs.Holds.{HoldsPlaced}
 use Rattle.vdr_directory.specs.Indexed.{Meets}
-use Rattle.vdr_directory.specs.Sequence.{Placed}
+use Rattle.vdr_directory.specs.Sequence.{Placed, seq_of}
 use Rattle.vdr_entry.specs.Queries.{asked_medium}
 use Rattle.vdr_entry.specs.declared.query.Medium.{Medium}
 use Rattle.vdr_entry.specs.declared.query.Medium.TheVariants.{Capsule, LongTerm, Incident}
 use Rattle.vdr_opening.specs.Costs.{ReadsToOpen}
 use Rattle.vdr_opening.specs.Media.{members, Contents, HoldsContents, opening_of, parts_of, reading_of}
-use Rattle.vdr_vault.specs.Plays.{span_among}
+use Rattle.vdr_directory.specs.Opening.{slot_bytes}
+use Rattle.vdr_ring.specs.Damage.{IsDamagedIn, IsIntact}
+use Rattle.vdr_vault.specs.Openings.{IsLeftAsRead}
+use Rattle.vdr_vault.specs.Plays.{MeetsWithin, span_among}
 use Rattle.vdr_vault.specs.Vaults.{IsDamagedOn}
 use Rattle.vdr_visit.specs.Prints.{text_of, whole_text}
 use Rattle.vdr_visit.specs.declared.refused.VisitRefused.{VisitRefused}
@@ -80,6 +83,15 @@ query_of c medium name from to = record { medium = asked_medium medium; channel 
 unfoldable pub records_asked : Contents → AskedPlay → List Record
 records_asked x asked = selected (opening_of x) [] (query_of x.config asked.medium asked.channel asked.from asked.to)
 
+-- The number of the medium that is asked for.
+abbrev pub number_asked : AskedPlay → ℕ
+number_asked asked = medium_of (asked_medium asked.medium)
+
+-- This is one of the segments of that medium, and by what opening knows of it, it may have a record that is asked for.
+pub record MeetsAsked (asked : AskedPlay) (x : Contents) (p : Placed) : Type 0 where
+  pub there : Contains (x.placed (number_asked asked)) p
+  pub meets : MeetsWithin (query_of x.config asked.medium asked.channel asked.from asked.to) (span_among x.config x.table x.placed (asked_medium asked.medium)) p
+
 -- The id of an incident, 0 where none is asked for.
 abbrev pub id_of : Medium → ℕ
 id_of Capsule = 0
@@ -124,17 +136,36 @@ IfItself (Err stops.Output) P = ⊤
 IfItself (Err (stops.Own reason)) P = P reason
 
 module _ {tells tells_images : Type 0} where
-  -- The media were opened, and one of the slots that was read is not intact there, as they read at the exit: they hold no contents that
-  -- can be read.
-  abbrev pub MetUnreadable : (old new : Disk tells tells_images) → (Can : Contents → Type 0) → (m offset : ℕ) → Type 0
-  MetUnreadable old new Can m offset = tells → IsOpenableWith old.reads (λ x. Can x × IsDamagedOn x.config new m offset) × ((x : Contents) → HoldsContents old.reads x → CanBeRead x → ⊥)
+  -- The slot of this segment of medium m is damaged at this offset, and those of lower numbers that meet what is asked for are intact.
+  pub record IsFirstDamaged (asked : AskedPlay) (x : Contents) (disk : Disk tells tells_images) (m offset : ℕ) (p : Placed) : Type 0 where
+    pub meets : MeetsAsked asked x p
+    pub damaged : IsDamagedIn x.config.segment p.slot (content disk.reads m) offset
+    pub first : (q : Placed) → MeetsAsked asked x q → seq_of q < seq_of p → IsIntact (slot_bytes x.config.segment q.slot (content disk.reads m))
+
+  -- A slot of the medium that is asked for is not intact there, as the media read at the exit. Where opening appended nothing to that medium,
+  -- it is the slot of the first segment that meets what is asked for and is damaged.
+  pub record IsMetDamage (asked : AskedPlay) (x : Contents) (disk : Disk tells tells_images) (m offset : ℕ) : Type 0 where
+    pub medium : m ≡ number_asked asked
+    pub damaged : IsDamagedOn x.config disk m offset
+    pub met : IsLeftAsRead x m → (p : Placed) × IsFirstDamaged asked x disk m offset p
+
+  -- The media were opened, and such damage was met: they hold no contents that can be read.
+  abbrev pub MetUnreadable : AskedPlay → (old new : Disk tells tells_images) → (Can : Contents → Type 0) → (m offset : ℕ) → Type 0
+  MetUnreadable asked old new Can m offset = tells → IsOpenableWith old.reads (λ x. Can x × IsMetDamage asked x new m offset) × ((x : Contents) → HoldsContents old.reads x → CanBeRead x → ⊥)
+
+  -- None was passed over: where opening appended nothing to the medium that is asked for, each segment that meets what is asked for is
+  -- intact, as its slot reads at the exit.
+  abbrev pub AreIntactAsked : AskedPlay → Contents → Disk tells tells_images → Type 0
+  AreIntactAsked asked x disk = IsLeftAsRead x (number_asked asked) → (p : Placed) → MeetsAsked asked x p → IsIntact (slot_bytes x.config.segment p.slot (content disk.reads (number_asked asked)))
 
   -- What is said where the media were opened, by what they read as at entry.
-  pub record PlayEnds (medium : Medium) (name : List ℕ) (old new : MediaSeen tells tells_images) (status : Status) : Type 0 where
-    pub media : MediaEnds (λ x. CanPlay x medium name) (MetUnreadable old.disk new.disk (λ x. CanPlay x medium name)) AreLooks old new status
+  pub record PlayEnds (asked : AskedPlay) (old new : MediaSeen tells tells_images) (status : Status) : Type 0 where
+    pub media : MediaEnds (λ x. CanPlay x asked.medium asked.channel) (MetUnreadable asked old.disk new.disk (λ x. CanPlay x asked.medium asked.channel)) AreLooks old new status
     -- each refusal of the words comes only in its case
-    pub no_channel : status ≡ NoChannel → tells → IsOpenableWith old.disk.reads (λ x. LacksChannel x.config name)
-    pub no_incident : IfNoIncident status (λ id. (medium ≡ Incident id) × (tells → IsOpenableWith old.disk.reads (λ x. (LacksChannel x.config name → ⊥) × LacksIncident x.table medium)))
+    pub no_channel : status ≡ NoChannel → tells → IsOpenableWith old.disk.reads (λ x. LacksChannel x.config asked.channel)
+    pub no_incident : IfNoIncident status (λ id. (asked.medium ≡ Incident id) × (tells → IsOpenableWith old.disk.reads (λ x. (LacksChannel x.config asked.channel → ⊥) × LacksIncident x.table asked.medium)))
+    -- where the work is done no damage was passed over
+    pub whole : status ≡ Done → tells → IsOpenableWith old.disk.reads (λ x. AreIntactAsked asked x new.disk)
 
   -- These are the records that are asked for, where the media can be read.
   abbrev pub AreAsked : AskedPlay → Disk tells tells_images → List Record → Type 0
@@ -196,7 +227,7 @@ module _ {tells tells_images : Type 0} where
   pub record ReadsOut {R : Type 0} (asked : AskedPlay) (Has : List Record → Type 0) (Stops : List Record → R → Type 0) (status_of : R → Status) (line : List Record → Record → List ℕ) (last : List Record → List ℕ)
       (old new : Outside tells tells_images) (status : Status) : Type 0 where
     pub shown : ShowsReading asked old.media.disk Has Stops status_of line last old.output new.output status
-    pub media : PlayEnds asked.medium asked.channel old.media new.media status
+    pub media : PlayEnds asked old.media new.media status
     pub missing : AddsMissing old.media.disk new.media.disk
     pub bytes : HasReadFew asked old.media new.media status
 

@@ -21,7 +21,7 @@ pub record TellsTable {tells tells_images : Type 0} (asked : AskedPlay) (text : 
   -- unless the work is done nothing is printed
   pub silent : IsWorkDone status ⊎ Prints [] old.output new.output
   -- the media, and what is said of them, are as for a play of these records
-  pub media : PlayEnds asked.medium asked.channel old.media new.media status
+  pub media : PlayEnds asked old.media new.media status
   pub missing : AddsMissing old.media.disk new.media.disk
   -- of media that can be read no more is read than what opening reads and the segments that meet the query
   pub bytes : HasReadFew asked old.media new.media status

@@ -39,7 +39,7 @@ pub record TellsWatch {tells tells_images : Type 0} (medium : Medium) (old new :
   -- unless records were read nothing is printed
   pub silent : IsWorkDone status ⊎ (IsCutShort status ⊎ Prints [] old.output new.output)
   -- the media, and what is said of them, are as for a play of all records
-  pub media : PlayEnds medium all_records old.media new.media status
+  pub media : PlayEnds (whole_of medium) old.media new.media status
   pub missing : AddsMissing old.media.disk new.media.disk
   -- of media that can be read no more is read than what opening reads and the segments that meet the query
   pub bytes : HasReadFew (whole_of medium) old.media new.media status

@@ -13,6 +13,7 @@ use vdr_config::{ChannelKind, Config};
 use vdr_export::{Block, ExportRefused, File, export_file};
 use vdr_outside::{Media, Sink, Source};
 use vdr_recorder::Recorder;
+use vdr_vault::law_of_meeting;
 
 /// What file is asked for.
 #[derive(Clone, Copy, Debug, PartialEq, Eq, Drop)]
@@ -74,6 +75,7 @@ fn export<I: Source + Drop, O: Sink + Drop, M: Media + Drop>(
     ensures unread { world.new.input ≡ world.old.input }
 {
     let mut recorder = Recorder::open(alloc, &mut world.media)?;
+    law_of_meeting();
     let Some(query) = query_of(&recorder, wanted) else {
         report_channel(wanted.channel, &mut world.output);
         return Err(Status::NoChannel);

@@ -11,7 +11,7 @@ use vdr_entry::{Medium, Query};
 use vdr_opening::law_of_parts;
 use vdr_outside::{Media, Sink, Source};
 use vdr_recorder::Recorder;
-use vdr_vault::law_of_budgets;
+use vdr_vault::{law_of_budgets, law_of_meeting};
 use vdr_visit::{VisitRefused, Visitor};
 
 /// The channel's name that stands for all records.
@@ -131,6 +131,7 @@ where
     let mut recorder = Recorder::open(alloc, &mut world.media)?;
     law_of_parts();
     law_of_budgets(&world.media);
+    law_of_meeting();
     let Some(query) = query_of(&recorder, wanted) else {
         report_channel(wanted.channel, &mut world.output);
         return Err(Status::NoChannel);

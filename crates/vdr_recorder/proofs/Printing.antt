@@ -53,7 +53,7 @@ module _ {tells tells_images : Type 0} {R : Type 0} (query : Query) (vault : Vau
   played first Has new v = record {
     printed = v.seen;
     lines = lines result v.made;
-    damaged = v.damaged;
+    damage = v.damage;
     are = v.are;
     front = λ opening events placed told readable.
         subst (λ (l : List ℕ). AppendsFront was now l) (whole_is first (selected opening events query) new) (v.front opening events placed told readable);
@@ -100,7 +100,7 @@ module _ {tells tells_images : Type 0} {R : Type 0} (query : Query) (vault : Vau
   told first Has Stops new v = record {
     counted = v.seen;
     table = table result v.made;
-    damaged = v.damaged;
+    damage = v.damage;
     are = v.are;
     front = λ opening events placed known readable.
         subst (λ (l : List ℕ). AppendsFront was now l) (table_is first (selected opening events query) new) (v.front opening events placed known readable);
@@ -132,22 +132,3 @@ module _ {tells tells_images : Type 0} {R : Type 0} {query : Query} {vault : Vau
 
   pub played_undamaged : HasPlayed query vault disk was now result → (m offset : ℕ) → result ≡ Err (Damaged m offset) → ⊥
   played_undamaged p = never_damaged p.printed (selected opening events query) result (p.are opening events placed known readable)
-
-  -- After a fault the lines of the first of the records stand there.
-  pub played_front : HasPlayed query vault disk was now result → result ≡ Err Fault
-      → (front : List Record) × (rest : List Record) × (selected opening events query ≡ front ++ rest) × Appends was now (records_text nothing_seen front)
-  played_front p fault =
-      let first : (rest : List Record) × (selected opening events query ≡ p.printed ++ rest) =
-      subst (λ (o : Result ⊤ (VisitRefused R)). AreVisited p.printed (selected opening events query) o) fault (p.are opening events placed known readable) in
-      (p.printed, first.0, first.1, subst (λ (o : Result ⊤ (VisitRefused R)). HasLines p.printed was now o) fault p.lines)
-
-  -- A table that was printed is that of all.
-  pub told_all : HasTold query vault disk was now result → OnOk result (Appends was now (sources_text (sources_of (selected opening events query))))
-  told_all p = by result p.table (p.are opening events placed known readable)
-    where
-      by : (r : Result ⊤ (VisitRefused R)) → HasTable p.counted was now r → AreVisited p.counted (selected opening events query) r → OnOk r (Appends was now (sources_text (sources_of (selected opening events query))))
-      by (Ok all) table are = subst (λ (rs : List Record). Appends was now (sources_text (sources_of rs))) are table
-      by (Err stop) table are = tt
-
-  pub told_undamaged : HasTold query vault disk was now result → (m offset : ℕ) → result ≡ Err (Damaged m offset) → ⊥
-  told_undamaged p = never_damaged p.counted (selected opening events query) result (p.are opening events placed known readable)

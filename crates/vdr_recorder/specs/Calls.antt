@@ -16,7 +16,7 @@ use Rattle.vdr_outside.specs.Disk.{Disk}
 use Rattle.vdr_media.specs.Formatted.{IsFormatted}
 use Rattle.vdr_opening.specs.Media.{members, Contents, HoldsContents, HoldsParts, opening_of, reading_of}
 use Rattle.vdr_opening.specs.declared.refused.OpenRefused.{OpenRefused}
-use Rattle.vdr_vault.specs.Openings.{IsToldBy}
+use Rattle.vdr_vault.specs.Openings.{IsToldBy, TellsOfParts}
 use Rattle.vdr_vault.specs.declared.refused.SaveRefused.{SaveRefused}
 use Rattle.vdr_vault.specs.declared.refused.SaveRefused.TheVariants.{Damaged}
 use Rattle.vdr_vault.specs.Calls.{SameElsewhere}
@@ -155,6 +155,8 @@ module _ {tells tells_images : Type 0} where
     pub opened : IfOk result (λ r. (x : Contents) → tells → HoldsContents old.reads x → AreSound x → (t0 : ℕ) × (old.clock ≤ t0) × (t0 ≤ new.clock) × HasRecorded (opening_of x) [] t0 r new)
     -- the media were formatted, and what the recorder tells is what was read of them
     pub parts : IfOk result (λ r. tells → IsFormatted old.reads × (x : Contents) × HoldsParts old.reads x × EndsMeet members (reading_of x) × IsToldBy x r.vault)
+    -- of a medium to which opening appended nothing, the ring tells of what was read
+    pub known : IfOk result (λ r. (x : Contents) → tells → HoldsParts old.reads x → TellsOfParts x r.vault)
     -- where they are legible it is what they hold
     pub contents : IfOk result (λ r. (x : Contents) → tells → HoldsContents old.reads x → EndsMeet members (reading_of x) × IsToldBy x r.vault)
     -- where both end with the last batch it can be read

@@ -11,7 +11,8 @@ use Rattle.vdr_directory.specs.Sequence.{Placed}
 use Rattle.vdr_play.specs.Streams.{nothing_seen}
 use Rattle.vdr_play.specs.Texts.{records_text}
 use Rattle.vdr_sources.specs.Tables.{sources_of, sources_text}
-use Rattle.vdr_vault.specs.Vaults.{AreJudged, IsDamagedOn, IsReadable, VaultState}
+use Rattle.vdr_vault.specs.Plays.{TellsDamageOf}
+use Rattle.vdr_vault.specs.Vaults.{IsReadable, VaultState}
 use Rattle.vdr_visit.specs.Visits.{AreVisited}
 use Rattle.vdr_visit.specs.declared.refused.VisitRefused.{VisitRefused}
 use Rattle.vdr_visit.specs.declared.refused.VisitRefused.TheVariants.{NoChannel, NoIncident, Fault, Damaged, Output, Own}
@@ -38,11 +39,11 @@ HasTable records was now (Err (Own reason)) = Keeps was now
 
 module _ {tells tells_images : Type 0} where
   -- Where the media can be read, what is printed is the text of all that the query selects, or of the first of these records; and where the
-  -- output fails, a front of the text of all. Damage is where a slot of a medium is not intact.
+  -- output fails, a front of the text of all. Damage that is met is told.
   pub record HasPlayed {R : Type 0} (query : Query) (vault : VaultState) (disk : Disk tells tells_images) (was now : Option (List ℕ)) (result : Result ⊤ (VisitRefused R)) : Type 0 where
     pub printed : List Record
     pub lines : HasLines printed was now result
-    pub damaged : (m offset : ℕ) → result ≡ Err (Damaged m offset) → tells → AreJudged vault disk → IsDamagedOn vault.config disk m offset
+    pub damage : TellsDamageOf query vault disk (λ m offset. result ≡ Err (Damaged m offset)) (result ≡ Ok tt)
     pub are : (opening : Opening) (events : List Event) (placed : ℕ → List Placed) → tells → IsReadable opening events vault placed disk
         → AreVisited printed (selected opening events query) result
     pub front : (opening : Opening) (events : List Event) (placed : ℕ → List Placed) → tells → IsReadable opening events vault placed disk
@@ -52,7 +53,7 @@ module _ {tells tells_images : Type 0} where
   pub record HasTold {R : Type 0} (query : Query) (vault : VaultState) (disk : Disk tells tells_images) (was now : Option (List ℕ)) (result : Result ⊤ (VisitRefused R)) : Type 0 where
     pub counted : List Record
     pub table : HasTable counted was now result
-    pub damaged : (m offset : ℕ) → result ≡ Err (Damaged m offset) → tells → AreJudged vault disk → IsDamagedOn vault.config disk m offset
+    pub damage : TellsDamageOf query vault disk (λ m offset. result ≡ Err (Damaged m offset)) (result ≡ Ok tt)
     pub are : (opening : Opening) (events : List Event) (placed : ℕ → List Placed) → tells → IsReadable opening events vault placed disk
         → AreVisited counted (selected opening events query) result
     pub front : (opening : Opening) (events : List Event) (placed : ℕ → List Placed) → tells → IsReadable opening events vault placed disk

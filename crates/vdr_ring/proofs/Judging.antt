@@ -1,5 +1,5 @@
 -- A step of a visit in a slot that was judged: where it begins, what it leaves, and what it can be refused for.
-use Rattle.std.proofs.Common.{◌≡◌, ◌⊎◌, ◌<◌, ◌+◌, ℕ, Bool, true, false, IsTrue, List, Option, Some, None, Result, Ok, Err, inl, inr, ⊎_elim, refl, sym, ap, ◌∙◌, subst, cond}
+use Rattle.std.proofs.Common.{◌≡◌, ◌⊎◌, ◌+◌, ℕ, Bool, true, false, IsTrue, List, Option, Some, None, Result, Ok, Err, inl, inr, ⊎_elim, refl, sym, ap, ◌∙◌, subst, cond}
 use Rattle.std.specs.Prelude.{◌==◌}
 use Rattle.std.proofs.lemmas.Bool.{eqb-true}
 use Rattle.std.proofs.lemmas.Option.{none-some, same_Some}
@@ -13,7 +13,7 @@ use Rattle.vdr_survey.specs.Extents.{records_in}
 use Rattle.vdr_survey.proofs.StepLemmas.{front_ahead, none_ahead}
 use Rattle.vdr_slots.specs.Slots.{place_of}
 use Rattle.vdr_directory.specs.Opening.{slot_bytes}
-use Rattle.vdr_ring.specs.Damage.{HasDamage, IsDamagedAt, IsIntact}
+use Rattle.vdr_ring.specs.Damage.{IsDamagedAt, IsDamagedIn, IsIntact}
 use Rattle.vdr_ring.specs.Rings.{RingState}
 use Rattle.vdr_ring.specs.Visits.{slot_read, HasJudged, IsLoaded, StandsAmong, Steps, VisitState, position_in, position_within, without_item}
 use Rattle.vdr_ring.specs.declared.refused.ReadRefused.{ReadRefused}
@@ -119,8 +119,8 @@ module _ {tells tells_images : Type 0} where
         go (Err Fault) same s is = not_moved ring disk from to same stands s is
         go (Err (Damaged m offset)) h s is = not_moved ring disk from to h.2 stands s is
 
-    pub step_damage : slot < ring.slots → (m offset : ℕ) → result ≡ Err (Damaged m offset) → HasDamage ring.segment ring.slots (content disk.reads ring.medium) offset
-    step_damage within m offset is =
+    pub step_damage : (m offset : ℕ) → result ≡ Err (Damaged m offset) → IsDamagedIn ring.segment slot (content disk.reads ring.medium) offset
+    step_damage m offset is =
         let steps_here = subst (λ (r : Result Bool ReadRefused). Steps selection ring.medium slot (place_of ring.segment slot) (slot_read ring slot disk) from r to) is steps in
         let k = never_refused (slot_read ring slot disk) slot from intact (stands slot) selection ring.medium (place_of ring.segment slot) m offset to steps_here in
-        record { slot = slot; within = within; at = k.0; damaged = k.1; is = k.2 }
+        record { at = k.0; damaged = k.1; is = k.2 }

@@ -1,5 +1,5 @@
 -- A slot that is judged, and that on a medium that reads as segments in a legal order no slot is damaged.
-use Rattle.std.proofs.Common.{◌≡◌, ◌<◌, ◌≤◌, ℕ, List, length, Contains, Option, Some, None, Result, Ok, Err, get_or, slice_get, take, drop, inr, ⊎_elim, sym, subst, arith}
+use Rattle.std.proofs.Common.{◌≡◌, ◌<◌, ℕ, List, length, Contains, Option, Some, None, Result, Ok, Err, get_or, slice_get, take, drop, inr, ⊎_elim, sym, subst, arith}
 use Rattle.std.specs.Prelude.{IfErr, IfNone, IfOk, IfSome, ⊤}
 use Rattle.std.specs.Result.{result_err}
 use Rattle.std.proofs.lemmas.Option.{slice_get-get_or}

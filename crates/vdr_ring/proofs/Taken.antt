@@ -1,5 +1,5 @@
 -- What an append says, of one medium.
-use Rattle.std.proofs.Common.{◌≡◌, ◌≢◌, ◌⊎◌, inl, inr, ⊎_elim, ◌+◌, ℕ, zero, suc, List, refl, sym, ◌∙◌, subst, arith, Bool, true, false, [], ◌∷◌, ◌++◌, Result, OnOk, ap}
+use Rattle.std.proofs.Common.{◌≡◌, ◌≢◌, ◌⊎◌, inl, inr, ⊎_elim, ℕ, zero, suc, List, refl, sym, ◌∙◌, subst, arith, Bool, true, false, [], ◌∷◌, ◌++◌, Result, OnOk, ap}
 use Rattle.vdr_outside.specs.Disk.{Disk, Image, SameBut, content, Durable}
 use Rattle.vdr_outside.specs.Moments.{Changed, ChangesOnly, Settled}
 use Rattle.vdr_outside.proofs.Moments.{settled_other, changes_weaken}

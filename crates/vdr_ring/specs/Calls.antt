@@ -14,7 +14,7 @@ use Rattle.vdr_survey.specs.declared.selection.Selection.{Selection}
 use Rattle.vdr_directory.specs.Sequence.{Placed, batches_in}
 use Rattle.vdr_ring.specs.Rings.{HasMedium, Knows, Reads, RingState}
 use Rattle.vdr_ring.specs.Visits.{AreAhead, VisitState, HasJudged, IsLoaded, StandsAmong, StandsIn, Steps, Visits, position_in, slot_read}
-use Rattle.vdr_ring.specs.Damage.{HasDamage, IsIntact}
+use Rattle.vdr_ring.specs.Damage.{HasDamage, IsDamagedIn, IsIntact}
 use Rattle.vdr_ring.specs.Lasts.{batch_or_none}
 use Rattle.vdr_ring.specs.declared.refused.ReadRefused.{ReadRefused}
 use Rattle.vdr_ring.specs.declared.refused.ReadRefused.TheVariants.{Damaged}
@@ -58,9 +58,9 @@ pub record StepsInSlot {M : Type 0} (media : MediaTells M) (selection : Selectio
   pub among : media.tells → HasJudged old (media.disk before) → StandsAmong old (media.disk before) from → StandsAmong old (media.disk before) to
   -- damage is on the ring's medium
   pub medium : (m offset : ℕ) → result ≡ Err (Damaged m offset) → m ≡ old.medium
-  -- and where its slot is not intact
+  -- and where the slot is not intact
   pub damaged : media.tells → HasJudged old (media.disk before) → StandsAmong old (media.disk before) from → (m offset : ℕ) → result ≡ Err (Damaged m offset)
-      → HasDamage old.segment old.slots (content (media.disk before).reads old.medium) offset
+      → IsDamagedIn old.segment slot (content (media.disk before).reads old.medium) offset
 
 -- The slot was read whole where it was not loaded, and else nothing. A fault has its cause.
 pub record ReadsUnlessLoaded {M : Type 0} (media : MediaTells M) (slot : ℕ) (ring : RingState) (before after : M) (faulted : Type 0) : Type 0 where

@@ -33,10 +33,14 @@ AgreeBy (Some s) first batches = Agree first s batches
 abbrev pub IsIntact : List ℕ → Type 0
 IsIntact bytes = IsOpenAt bytes 0 → (h : Header) × IsHeader (take 64 bytes) h × (batches : List (List Record)) × AreBatches (drop 64 bytes) batches × AgreeBy h.summary h.first batches
 
--- One of so many slots of a medium with these bytes is damaged at this offset of the medium.
-pub record HasDamage (segment slots : ℕ) (bytes : List ℕ) (offset : ℕ) : Type 0 where
-  pub slot : ℕ
-  pub within : slot < slots
+-- The slot of a medium with these bytes is damaged at this offset of the medium.
+pub record IsDamagedIn (segment slot : ℕ) (bytes : List ℕ) (offset : ℕ) : Type 0 where
   pub at : ℕ
   pub damaged : IsDamagedAt (slot_bytes segment slot bytes) at
   pub is : offset ≡ place_of segment slot + at
+
+-- One of so many slots is.
+pub record HasDamage (segment slots : ℕ) (bytes : List ℕ) (offset : ℕ) : Type 0 where
+  pub slot : ℕ
+  pub within : slot < slots
+  pub damaged : IsDamagedIn segment slot bytes offset

@@ -1,4 +1,4 @@
--- What a ring knows of a segment that may have a record that a query selects.
+-- What a ring knows of the segments that may have a record that a query selects.
 use Rattle.std.specs.Prelude.{◌≡◌, ℕ, true, List, Option}
 use Rattle.vdr_terms.specs.Queries.{Query, Span, meets}
 use Rattle.vdr_index.specs.declared.known.Known.{Known}
@@ -10,3 +10,7 @@ pub record IsKnownToMeet (query : Query) (span : Span) (index : List (Option Kno
   pub there : Keeps index slot known
   pub number : known.seq ≡ seq
   pub meets_it : meets query span (summary_of known) ≡ true
+
+-- No two segments that an index keeps have one sequence number.
+abbrev pub AreApart : List (Option Known) → Type 0
+AreApart index = (i j : ℕ) (a b : Known) → Keeps index i a → Keeps index j b → a.seq ≡ b.seq → i ≡ j

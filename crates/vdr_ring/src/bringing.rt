@@ -7,8 +7,8 @@ ghost use Rattle.vdr_slots.specs.Areas.{HasRoom};
 ghost use Rattle.vdr_slots.specs.Writes.{KeepsFront};
 ghost use Rattle.vdr_directory.specs.Sequence.{Placed};
 ghost use Rattle.vdr_directory.specs.Directories.{count_of};
-ghost use Rattle.vdr_ring.specs.Rings.{HasMedium, Reads, StaysOnMedium};
-ghost use Rattle.vdr_ring.specs.Bringing.{HasBroughtUp, HoldsAlike, StandsAlike};
+ghost use Rattle.vdr_ring.specs.Rings.{HasMedium, Reads};
+ghost use Rattle.vdr_ring.specs.Bringing.{HasBroughtUp, HoldsAlike, KeepsBroughtUp, StandsAlike};
 
 use crate::Ring;
 use vdr_directory::Directory;
@@ -56,11 +56,7 @@ impl Ring {
         ensures brought { (placed : List Placed) → M.tells → Reads self.old placed (M.disk media.old)
             → ChangesOnly self.old.medium (HoldsAlike self.old.segment self.old.slots placed) (M.disk media.old) (M.disk media.new)
             × OnOk result (HasBroughtUp placed self.old self.new (M.disk media.new)) }
-        ensures level { self.old.bare ≡ [] → (self.new ≡ self.old) × (media.new ≡ media.old) }
-        ensures directory { self.new.directory ≡ self.old.directory }
-        ensures bare { OnOk result (self.new.bare ≡ []) }
-        ensures ring { StaysOnMedium self.old self.new (M.disk media.new).sizes }
-        ensures front { KeepsFront self.old.medium (M.disk media.old) (M.disk media.new) }
+        ensures keeps { KeepsBroughtUp M.Media self.old self.new media.old media.new result }
         ensures others { M.tells → SameBut self.old.medium (M.disk media.old).reads (M.disk media.new).reads }
         ensures sizes { (M.disk media.new).sizes ≡ (M.disk media.old).sizes }
         ensures counts { M.bytes_read media.new ≡ M.bytes_read media.old }

@@ -1,7 +1,8 @@
 // Which segment a query is to be asked of next.
-ghost use Rattle.std.specs.Prelude.{◌≡◌, ◌<◌, List, Contains, IfSome, IfNone};
+ghost use Rattle.std.specs.Prelude.{◌≡◌, ◌<◌, ◌≤◌, ℕ, List, Contains, IfSome, IfNone};
 ghost use Rattle.vdr_entry.specs.Queries.{asked};
-ghost use Rattle.vdr_index.specs.Indexes.{span_as};
+ghost use Rattle.vdr_index.specs.declared.known.Known.{Known};
+ghost use Rattle.vdr_index.specs.Indexes.{Keeps, MayAnswer, span_as};
 ghost use Rattle.vdr_directory.specs.Sequence.{Placed, seq_of};
 ghost use Rattle.vdr_directory.specs.Order.{AreInOrder};
 ghost use Rattle.vdr_directory.specs.Holds.{Tells};
@@ -27,6 +28,10 @@ impl Ring {
         ensures within { IfSome result (λ found. found.0 < self.now.slots) }
         ensures above { IfSome result (λ found. IsAbove after found.1) }
         ensures known { IfSome result (λ found. IsKnownToMeet (asked query.now) (span_as span.now) self.now.directory.index found.0 found.1) }
+        ensures least { IfSome result (λ found. (slot : ℕ) (k : Known) → Keeps self.now.directory.index slot k
+            → MayAnswer (asked query.now) (span_as span.now) after k → found.1 ≤ k.seq) }
+        ensures none_known { IfNone result ((slot : ℕ) (k : Known) → Keeps self.now.directory.index slot k
+            → MayAnswer (asked query.now) (span_as span.now) after k → ⊥) }
         ensures some { IfSome result (λ found. (placed : List Placed) → Tells self.now.slots placed self.now.directory
             → (p : Placed) × IsNextToMeet (asked query.now) (span_as span.now) after placed p × (found.0 ≡ p.slot) × (found.1 ≡ seq_of p)) }
         ensures none { IfNone result ((placed : List Placed) → Tells self.now.slots placed self.now.directory

@@ -1,16 +1,10 @@
-ghost use Rattle.std.specs.Prelude.{◌≡◌, ◌+◌, ◌*◌, ◌<◌, ◌≤◌, ℕ, List, length, get_or, IfOk};
+ghost use Rattle.std.specs.Prelude.{◌≡◌, ◌+◌, ◌*◌, ◌<◌, ◌≤◌, ℕ, length, get_or, IfOk};
 ghost use Rattle.vdr_terms.specs.Needs.{Fits, slots_in};
-ghost use Rattle.vdr_outside.specs.Disk.{Durable, Unchanged, content};
+ghost use Rattle.vdr_outside.specs.Disk.{Unchanged, content};
 ghost use Rattle.vdr_outside.specs.declared.fault.PartRefused.TheVariants.{Damaged};
 ghost use Rattle.vdr_config.specs.Sizes.{sizes_of, window_of};
-ghost use Rattle.vdr_directory.specs.Sequence.{Placed};
-ghost use Rattle.vdr_directory.specs.Bringing.{bare_of};
-ghost use Rattle.vdr_ring.specs.Rings.{HasMedium, HoldsNewest, Knows, Reads};
-ghost use Rattle.vdr_ring.specs.Visits.{HasJudged};
-ghost use Rattle.vdr_directory.specs.Order.{AreInOrder};
-ghost use Rattle.vdr_directory.specs.Holds.{HoldsPlaced};
-ghost use Rattle.vdr_directory.specs.Costs.{ReadsAtMost, lacking};
 ghost use Rattle.vdr_directory.specs.Opening.{HasFaultCause, Refuses};
+ghost use Rattle.vdr_ring.specs.Openings.{OpensRing};
 
 use crate::Ring;
 use std::alloc::Global;
@@ -67,16 +61,7 @@ impl Ring {
     ) -> Result<Ring, PartRefused>
         requires medium { m < length (M.disk media.old).sizes }
         requires fits { Fits (sizes_of config.now) m (get_or (M.disk media.old).sizes m 0) }
-        ensures reads { IfOk result (λ ring. M.tells → Durable m (M.disk media.old) → (placed : List Placed)
-            → HoldsPlaced config.now.segment (slots_in (sizes_of config.now) (get_or (M.disk media.old).sizes m 0)) placed (content (M.disk media.old).reads m) → AreInOrder placed
-            → Reads ring placed (M.disk media.new) × (ring.bare ≡ bare_of placed)) }
-        ensures parts { IfOk result (λ ring. M.tells → (known : List Placed) × Knows ring known (M.disk media.new)
-            × ReadsAtMost m (1 + 64 * ring.slots + ring.segment * lacking known) (M.bytes_read media.old) (M.bytes_read media.new)) }
-        ensures held { IfOk result (λ ring. M.tells → HoldsNewest ring) }
-        ensures judged { IfOk result (λ ring. HasJudged ring (M.disk media.new)) }
-        ensures shape { IfOk result (λ ring. (ring.medium ≡ m) × (ring.segment ≡ config.now.segment)
-            × (ring.slots ≡ slots_in (sizes_of config.now) (get_or (M.disk media.old).sizes m 0)) × (ring.seconds ≡ window_of config.now m)) }
-        ensures room { IfOk result (λ ring. HasMedium ring (M.disk media.old).sizes) }
+        ensures opened { IfOk result (OpensRing M.Media config.now m media.old media.new) }
         ensures damaged { (k offset : ℕ) → result ≡ Err (Damaged k offset) → (k ≡ m)
             × (M.tells → Refuses config.now.segment (slots_in (sizes_of config.now) (get_or (M.disk media.old).sizes m 0)) (content (M.disk media.old).reads m) offset) }
         ensures unchanged { Unchanged (M.disk media.old) (M.disk media.new) }

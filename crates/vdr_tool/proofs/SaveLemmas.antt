@@ -114,7 +114,7 @@ module _ {tells tells_images : Type 0} (old mid new : MediaSeen tells tells_imag
       (refused_so : (refused : Refused) → r.vault.failed ≡ false → save_refusal label r.vault ≡ Some refused → saved ≡ Err refused)
       (undamaged : (opening : Opening) (events : List Event) (placed : ℕ → List Placed) (m offset : ℕ) → tells → Stands opening events r.vault placed mid.disk
       → saved ≡ Err (saves.Damaged m offset) → ⊥)
-      (damaged : (m offset : ℕ) → saved ≡ Err (saves.Damaged m offset) → Unchanged mid.disk new.disk × (tells → (offset ≡ 0) ⊎ IsDamagedOn r.vault.config mid.disk m offset))
+      (damaged : (m offset : ℕ) → saved ≡ Err (saves.Damaged m offset) → Unchanged mid.disk new.disk × (m ≡ 1) × (tells → (offset ≡ 0) ⊎ IsDamagedOn r.vault.config mid.disk m offset))
     where
       -- How the label is judged on these media.
       judged_as : (found : Option Refused) → save_refusal label r.vault ≡ found → (x : Contents) → IsToldBy x r.vault → IsJudged label (cause_if found) x
@@ -134,10 +134,11 @@ module _ {tells tells_images : Type 0} (old mid new : MediaSeen tells tells_imag
       met : (m offset : ℕ) → saved ≡ Err (saves.Damaged m offset) → save_refusal label r.vault ≡ None → MetUnsound old.disk new.disk (CanSave label) m offset
       met m offset is none t =
           let named = damaged m offset is in (
-            opened_so (λ x. CanSave label x × ((offset ≡ 0) ⊎ IsDamagedOn x.config new.disk m offset)) old.disk r.vault parts (λ x read. (
+            opened_so (λ x. CanSave label x × (m ≡ 1) × ((offset ≡ 0) ⊎ IsDamagedOn x.config new.disk m offset)) old.disk r.vault parts (λ x read. (
               judged_as None none x read,
+              named.1,
               subst (λ (d : Configuration). (offset ≡ 0) ⊎ IsDamagedOn d new.disk m offset) read.config
-                  (⊎_elim (λ (zero : offset ≡ 0). inl zero) (λ (damage : IsDamagedOn r.vault.config mid.disk m offset). inr (damaged_still r.vault.config mid.disk new.disk named.0.sizes (named.0.reads t) m offset damage)) (named.1 t)),
+                  (⊎_elim (λ (zero : offset ≡ 0). inl zero) (λ (damage : IsDamagedOn r.vault.config mid.disk m offset). inr (damaged_still r.vault.config mid.disk new.disk named.0.sizes (named.0.reads t) m offset damage)) (named.2 t)),
             )) t,
             unsound m offset is t,
           )

@@ -21,13 +21,16 @@ use Rattle.vdr_ring.specs.Rings.{RingState, StaysOnMedium}
 use Rattle.vdr_ring.specs.Rings as rings
 use Rattle.vdr_ring.specs.Bringing.{HasBroughtUp, HoldsAlike}
 use Rattle.vdr_ring.proofs.AlikeMedia.{alike_image}
-use Rattle.vdr_opening.specs.Answers.{AreRingsOf, IsRingOf, no_ring, ring_at}
+use Rattle.vdr_opening.specs.Answers.{AreJudgedOn, AreRingsOf, no_ring, ring_at}
+use Rattle.vdr_ring.specs.Openings.{IsRingOf}
+use Rattle.vdr_ring.specs.Visits.{HasJudged}
 use Rattle.vdr_vault.specs.Passes.{HasCauseFrom, KeepsBeside}
 use Rattle.vdr_vault.specs.Bringing.{AllStayAlike, StaysAlike}
 use Rattle.vdr_ring.proofs.Taken.{changes_both, reads_beside}
 use Rattle.vdr_vault.proofs.Members.{at_one, in_range, ring_is, ring_there, same_rings}
-use Rattle.vdr_media.proofs.Two.{of_all}
+use Rattle.vdr_media.proofs.Two.{of_all, of_each}
 use Rattle.vdr_vault.proofs.Passed.{higher, its_ring, outside}
+use Rattle.vdr_vault.proofs.Stepping.{judged_after}
 
 -- What calls on all media keep, one after the other.
 pub keeps_join : {M : Type 0} (media : MediaTells M) (a b d : List RingState) (x y z : M) → KeepsBeside media 0 a b x y → KeepsBeside media 0 b d y z → KeepsBeside media 0 a d x z
@@ -120,6 +123,13 @@ module _ {M : Type 0} (media : MediaTells M) (m : ℕ) (a b : List RingState) (i
     counts = counts;
     later = later;
   })
+
+  -- The slots that are loaded were judged, where that of this ring is.
+  pub judged_on : (HasJudged ring (media.disk y) → HasJudged now (media.disk z)) → AreJudgedOn b (media.disk y) → AreJudgedOn (set b m now) (media.disk z)
+  judged_on here judged = judged_after b m now (media.disk y) (media.disk z) (keeps.rings c are) high
+      (here (subst (λ (r : RingState). HasJudged r (media.disk y)) (sym (ring_there (keeps.rings c are) m high d))
+      (of_each (λ k. HasJudged (ring_at b k) (media.disk y)) judged m high)))
+      beside judged
 
   pub cause_here : {T E : Type 0} (r : Result T E) → Rose (get_or (media.faults y) ring.medium 0) (get_or (media.faults z) ring.medium 0) → HasCauseFrom 0 2 (media.faults x) (media.faults z) r
   cause_here r rose = on_err r (m, omega arith, high, rose_after _ _ _ (keeps.later.none_falls m) (subst (λ (k : ℕ). Rose (get_or (media.faults y) k 0) (get_or (media.faults z) k 0)) its_medium rose))

@@ -24,10 +24,11 @@ use Rattle.vdr_ring.specs.Rings.{RingState}
 use Rattle.vdr_ring.specs.Rings as rings
 use Rattle.vdr_directory.proofs.Runs.{last_index, after_last}
 use Rattle.vdr_opening.specs.Media.{HasFront, AreThere}
-use Rattle.vdr_opening.specs.Answers.{IsRingOf, AreRingsOf, ring_at}
+use Rattle.vdr_opening.specs.Answers.{AreRingsOf, ring_at}
+use Rattle.vdr_ring.specs.Openings.{IsRingOf}
 use Rattle.vdr_durability.specs.Soundness.{IsUnbroken}
 use Rattle.vdr_durability.proofs.Unbroken.{unbroken_follows}
-use Rattle.vdr_vault.specs.Vaults.{HoldsHistory, of_stamp, tick_utc, VaultState, ShowsHistory, Stands, ring_of, working, working_from}
+use Rattle.vdr_vault.specs.Vaults.{HoldsHistory, of_stamp, tick_utc, VaultState, ShowsHistory, Stands, ring_of, working_from}
 use Rattle.vdr_ring.proofs.Allowed.{IsAfter, last_of_both, IsReady, done_after}
 use Rattle.vdr_vault.proofs.ShownImages.{front_stays, table_stays}
 use Rattle.vdr_vault.proofs.ShownPlaces.{stamp_told}

@@ -1,5 +1,5 @@
 -- What each image shows while a batch goes to one medium after the other.
-use Rattle.std.proofs.Common.{◌≡◌, ◌⊎◌, inl, inr, ⊎_elim, ◌<◌, ℕ, List, [], ◌∷◌, length, if◌then◌else◌, ◌==◌, All, Option, sym, ◌∙◌, subst, true, refl, ◌≤◌, zero, suc, Contains, ◌++◌, Some, ap, arith}
+use Rattle.std.proofs.Common.{◌≡◌, ◌⊎◌, inl, inr, ◌<◌, ℕ, List, [], ◌∷◌, length, if◌then◌else◌, ◌==◌, All, Option, sym, ◌∙◌, subst, true, refl, ◌≤◌, zero, suc, Contains, ◌++◌, Some, ap, arith}
 use Rattle.vdr_terms.specs.Needs.{Sizes}
 use Rattle.vdr_terms.specs.Order.{RunOn}
 use Rattle.vdr_terms.specs.Records.{Record, last}

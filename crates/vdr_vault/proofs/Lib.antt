@@ -18,6 +18,7 @@ pub mod Playing
 pub mod Stepping
 pub mod Coming
 pub mod Budgeting
+pub mod Meeting
 pub mod OfWindow
 pub mod Refusals
 pub mod SlotWritten

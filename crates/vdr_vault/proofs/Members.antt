@@ -8,7 +8,8 @@ use Rattle.vdr_durability.specs.Readings.{IsPassedOn, Reading, ends_before}
 use Rattle.vdr_config.specs.Configuration.{Configuration}
 use Rattle.vdr_media.proofs.Two.{of_each, all_one}
 use Rattle.vdr_ring.specs.Rings.{RingState}
-use Rattle.vdr_opening.specs.Answers.{AreRingsOf, IsRingOf, ring_at}
+use Rattle.vdr_opening.specs.Answers.{AreRingsOf, ring_at}
+use Rattle.vdr_ring.specs.Openings.{IsRingOf}
 use Rattle.vdr_opening.specs.Media.{members}
 
 -- The first medium ends with a batch, and the other one before it.

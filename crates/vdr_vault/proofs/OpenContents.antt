@@ -1,5 +1,6 @@
 -- What was opened, by its contents and by what opening reads of them, and what a durable image of them shows.
-use Rattle.std.proofs.Common.{◌≡◌, ◌≢◌, ◌<◌, inl, inr, ℕ, List, [], ◌∷◌, length, get_or, take, drop, true, All, Option, Some, None, option_map, refl, sym, ap, ◌∙◌, subst, arith}
+use Rattle.std.proofs.Common.{◌≡◌, ◌≢◌, ◌<◌, inl, inr, ⊎_elim, ℕ, List, [], ◌∷◌, Option, Some, None, option_map, refl, sym, ap, ◌∙◌, subst, arith}
+use Rattle.std.specs.Prelude.{length, get_or, take, drop, true, All}
 use Rattle.std.proofs.lemmas.Bool.{false≢true}
 use Rattle.std.proofs.lemmas.List.Elements.{All-append, All-cons, All-contains, All-head, All-nil, All-tail}
 use Rattle.vdr_terms.specs.Order.{AreInOrder as RecordsAreInOrder, NeverFalls, RunOn}
@@ -11,7 +12,7 @@ use Rattle.vdr_retention.specs.Retention.{Retains}
 use Rattle.vdr_history.specs.Histories.{stamp_of}
 use Rattle.vdr_durability.specs.Readings.{AreLevel, EndBy, EndsMeet, IsPassedOn, Reading, ends_before, next_after, records_on, restored, with_next}
 use Rattle.vdr_durability.specs.Shown.{pins_on}
-use Rattle.vdr_durability.proofs.Restored.{ends_not_before, last_in_order, next_kept}
+use Rattle.vdr_durability.proofs.Restored.{ends_not_before, next_kept}
 use Rattle.vdr_durability.proofs.Shows.{opened_shows, retains_itself}
 use Rattle.vdr_outside.specs.Disk.{Disk, Durable, Image, content}
 use Rattle.vdr_config.specs.Configuration.{Configuration}
@@ -22,13 +23,16 @@ use Rattle.vdr_directory.specs.Sequence.{Placed, all_records, batches_in, batche
 use Rattle.vdr_directory.specs.Order.{AreInOrder}
 use Rattle.vdr_directory.specs.Knowns.{AreInPlaceBy, batches_read}
 use Rattle.vdr_directory.specs.Opening.{AreBatchesRead, slot_bytes}
+use Rattle.vdr_directory.specs.Telling.{TellsBy}
+use Rattle.vdr_ring.specs.Rings.{RingState}
 use Rattle.vdr_ring.proofs.Medium.{in_order_records}
 use Rattle.vdr_incident.specs.Tables.{HoldsTable}
 use Rattle.vdr_opening.specs.Media.{members, Contents, HasKnowns, HoldsContents, HoldsParts, IsMedium, opening_of, reading_of}
 use Rattle.vdr_opening.specs.Settings.{settings_of}
-use Rattle.vdr_opening.specs.Answers.{IsMissing, IsOpened, OpenedState}
+use Rattle.vdr_opening.specs.Answers.{IsMissing, IsOpened, IsOpenedBy, OpenedState, ring_at}
+use Rattle.vdr_vault.specs.Openings.{IsLeftAsRead, TellsOfParts}
 use Rattle.vdr_vault.specs.Regularity.{AreSound}
-use Rattle.vdr_vault.specs.Vaults.{ShowsHistory, of_stamp, tick_utc}
+use Rattle.vdr_vault.specs.Vaults.{ShowsHistory, VaultState, of_stamp, ring_of, tick_utc}
 use Rattle.vdr_ring.proofs.Records.{records_are}
 use Rattle.vdr_vault.proofs.ShownImages.{are_members, has_long_term}
 use Rattle.vdr_vault.proofs.ShownPlaces.{stamp_told}
@@ -130,22 +134,47 @@ newest_read x image h = newest_of_capsule x (capsule_read x image h)
 pub place_read : (x : Contents) (image : Image) → HoldsParts image x → next_after (last (all_records (x.placed 0))) ≡ (opening_of x).next_place
 place_read x image h = place_of_capsule x (capsule_read x image h)
 
--- Media whose ends are level lack no batch.
-pub level_lacks_none : {tells tells_images : Type 0} (o : OpenedState) (x : Contents) (disk : Disk tells tells_images) → IsOpened o x disk → (o.missing ≢ [] → (0 < o.lacking) × (o.lacking < length members))
-    → AreLevel members (reading_of x) → o.missing ≡ []
-level_lacks_none o x disk is behind level = go o.missing behind is.missing
-  where
-    order : RecordsAreInOrder (records_on (reading_of x) 1)
-    order = subst RecordsAreInOrder (sym (records_are (x.placed 1))) (in_order_records (x.placed 1) (is.rings 1 1 (omega arith)).order)
+-- Media whose ends are level lack no batch, where those of the long-term medium are in order.
+level_lacks : (missing : List Record) (lacking : ℕ) (x : Contents) → All RecordsAreInOrder (batches_in (x.placed 1))
+    → (missing ≢ [] → (0 < lacking) × (lacking < length members))
+    → IsMissing missing lacking (reading_of x) → AreLevel members (reading_of x) → missing ≡ []
+level_lacks [] lacking x order behind is_missing level = refl
+level_lacks (r ∷ rs) lacking x order behind (inl none) level = none.0
+level_lacks (r ∷ rs) lacking x order behind (inr passed) level =
+    let within = behind (λ e. let none : ⊥ = cc in none) in
+    let low = within.0 in
+    let high = within.1 in
+    let one : lacking ≡ 1 = omega (arith, low, high) in
+    let on_its_way = subst (λ (n : ℕ). IsPassedOn members (take n members) (drop n members) (r ∷ rs) (reading_of x)) one passed in
+    let ends : last (batches_in (x.placed 1)) ≡ Some (r ∷ rs) = level 1 1 (omega arith) ∙ on_its_way.given_end 0 0 (omega arith) in
+    let here = All-contains RecordsAreInOrder (batches_in (x.placed 1)) (r ∷ rs) order (last_contained (batches_in (x.placed 1)) (r ∷ rs) ends) in
+    absurd (false≢true (sym (ends_not_before (batches_in (x.placed 1)) (r ∷ rs) here ends) ∙ on_its_way.waiting_end 0 1 (omega arith)))
 
-    go : (missing : List Record) → (missing ≢ [] → (0 < o.lacking) × (o.lacking < length members)) → IsMissing missing o.lacking (reading_of x) → missing ≡ []
-    go [] behind is_missing = refl
-    go (r ∷ rs) behind (inl none) = none.0
-    go (r ∷ rs) behind (inr passed) =
-        let within = behind (λ e. let none : ⊥ = cc in none) in
-        let low = within.0 in
-        let high = within.1 in
-        let one : o.lacking ≡ 1 = omega (arith, low, high) in
-        let on_its_way = subst (λ (n : ℕ). IsPassedOn members (take n members) (drop n members) (r ∷ rs) (reading_of x)) one passed in
-        let ends : last (batches_in (x.placed 1)) ≡ Some (r ∷ rs) = level 1 1 (omega arith) ∙ on_its_way.given_end 0 0 (omega arith) in
-        absurd (false≢true (sym (ends_not_before (batches_in (x.placed 1)) (r ∷ rs) (last_in_order (batches_in (x.placed 1)) (r ∷ rs) order ends) ends) ∙ on_its_way.waiting_end 0 1 (omega arith)))
+module _ {tells tells_images : Type 0} (o : OpenedState) (disk : Disk tells tells_images)
+    (behind : o.missing ≢ [] → (0 < o.lacking) × (o.lacking < length members)) where
+  pub level_lacks_none : (x : Contents) → IsOpened o x disk → AreLevel members (reading_of x) → o.missing ≡ []
+  level_lacks_none x is level = level_lacks o.missing o.lacking x (batches_in_order (x.placed 1) (is.rings 1 1 (omega arith)).order) behind is.missing level
+
+  -- The same of parts that were read.
+  level_lacks_part : (x : Contents) → IsOpenedBy o x disk → AreLevel members (reading_of x) → o.missing ≡ []
+  level_lacks_part x is level =
+      level_lacks o.missing o.lacking x (known_batches x.config (x.placed 1) (content disk.reads 1) (is.holds.media 1 1 (omega arith)).segments) behind
+      is.missing level
+
+  -- The rings tell of the parts that were read, on each medium to which nothing is appended.
+  pub tells_of_parts : (x y : Contents) (vault : VaultState) → IsOpenedBy o y disk → y.placed 0 ≡ x.placed 0 → y.placed 1 ≡ x.placed 1
+      → ring_of vault 0 ≡ ring_at o.rings 0 → (o.missing ≡ [] → ring_of vault 1 ≡ ring_at o.rings 1) → TellsOfParts x vault
+  tells_of_parts x y vault is first second capsule long_term = all_two
+      (λ m. IsLeftAsRead x m → TellsBy (ring_of vault m).slots (x.placed m) (ring_of vault m).directory)
+      (λ left. told (ring_of vault 0) (ring_at o.rings 0) (y.placed 0) (x.placed 0) capsule first (is.rings 0 0 (omega arith)).directory)
+      (λ left. ⊎_elim (λ (e : 1 ≡ 0). absurd (omega (arith, e)))
+      (λ (level : AreLevel members (reading_of x)). told (ring_of vault 1) (ring_at o.rings 1) (y.placed 1) (x.placed 1)
+      (long_term (level_lacks_part y is (level_as level))) second
+      (is.rings 1 1 (omega arith)).directory) left)
+    where
+      told : (r s : RingState) (ps qs : List Placed) → r ≡ s → ps ≡ qs → TellsBy s.slots ps s.directory → TellsBy r.slots qs r.directory
+      told r s ps qs ring same = subst (λ (p : RingState × List Placed). TellsBy p.0.slots p.1 p.0.directory) (λ i. (sym ring i, same i))
+
+      level_as : AreLevel members (reading_of x) → AreLevel members (reading_of y)
+      level_as level = all_two (λ m. last (batches_in (y.placed m)) ≡ last (batches_in (y.placed 0))) refl
+          (ap (λ (ps : List Placed). last (batches_in ps)) second ∙ level 1 1 (omega arith) ∙ sym (ap (λ (ps : List Placed). last (batches_in ps)) first))

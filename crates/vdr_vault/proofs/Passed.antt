@@ -22,7 +22,8 @@ use Rattle.vdr_outside.proofs.Counts.{none_falls_join}
 use Rattle.vdr_slots.specs.Writes.{KeepsFront}
 use Rattle.vdr_config.specs.Configuration.{Configuration}
 use Rattle.vdr_config.specs.Sizes.{sizes_of}
-use Rattle.vdr_opening.specs.Answers.{AreRingsOf, IsRingOf, no_ring, ring_at}
+use Rattle.vdr_opening.specs.Answers.{AreRingsOf, no_ring, ring_at}
+use Rattle.vdr_ring.specs.Openings.{IsRingOf}
 use Rattle.vdr_vault.proofs.Members.{at_one, in_range, ring_is, ring_there}
 use Rattle.vdr_media.proofs.Two.{of_all}
 use Rattle.vdr_ring.proofs.Taken.{GoesByStages, Keeps, appended_to, given_settled, reads_beside, waits_settled}

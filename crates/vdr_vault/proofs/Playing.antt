@@ -12,7 +12,7 @@ use Rattle.vdr_directory.specs.Sequence.{Placed}
 use Rattle.vdr_incident.specs.Tables.{HoldsTable}
 use Rattle.std.proofs.lemmas.List.Elements.{All-weaker}
 use Rattle.vdr_opening.specs.Media.{HasFront, members}
-use Rattle.vdr_opening.specs.Answers.{IsRingOf}
+use Rattle.vdr_ring.specs.Openings.{IsRingOf}
 use Rattle.vdr_vault.specs.Vaults.{VaultState, AreJudged, AreRings, HoldsHistory, IsReadable, IsReadableAt, Stands, ring_of}
 use Rattle.vdr_vault.specs.Plays.{ReadsOn}
 use Rattle.vdr_vault.proofs.Members.{at_one}

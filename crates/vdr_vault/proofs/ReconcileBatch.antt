@@ -27,7 +27,8 @@ use Rattle.vdr_ring.specs.Regularity.{MissOneAtMost}
 use Rattle.vdr_ring.specs.Keeping.{AreWhole}
 use Rattle.vdr_ring.proofs.Staging.{stages_in_order}
 use Rattle.vdr_opening.specs.Media.{members, Contents, HoldsContents, IsMedium, reading_of}
-use Rattle.vdr_opening.specs.Answers.{IsMissing, IsRingOf}
+use Rattle.vdr_opening.specs.Answers.{IsMissing}
+use Rattle.vdr_ring.specs.Openings.{IsRingOf}
 use Rattle.vdr_vault.proofs.Members.{passed_on}
 use Rattle.vdr_vault.specs.Openings.{EndsWithin}
 use Rattle.vdr_ring.proofs.Records.{records_are}

@@ -44,7 +44,8 @@ use Rattle.vdr_config.specs.Configuration.{Configuration, IsConfiguration}
 use Rattle.vdr_ring.specs.Rings as rings
 use Rattle.vdr_incident.specs.Tables.{HoldsTable}
 use Rattle.vdr_opening.specs.Settings.{settings_of}
-use Rattle.vdr_opening.specs.Answers.{IsRingOf, AreRingsOf, IsMissing, IsOpened, ring_at}
+use Rattle.vdr_opening.specs.Answers.{AreRingsOf, IsMissing, IsOpened, ring_at}
+use Rattle.vdr_ring.specs.Openings.{IsRingOf}
 use Rattle.vdr_vault.proofs.ShownPlaces.{stamp_told}
 use Rattle.std.specs.Prelude.{⊤}
 use Rattle.std.proofs.lemmas.Bool.{eqb-true, true≢false}

@@ -9,7 +9,7 @@ use Rattle.vdr_directory.specs.Sequence.{Placed}
 use Rattle.vdr_terms.proofs.Results.{on_ok_both}
 use Rattle.vdr_vault.specs.Saves.{Does, HasFaultOn, Saves, refusal_by, refusal_of}
 use Rattle.vdr_vault.specs.declared.refused.SaveRefused.{SaveRefused}
-use Rattle.vdr_vault.specs.declared.refused.SaveRefused.TheVariants.{Damaged, Fault, TableFull}
+use Rattle.vdr_vault.specs.declared.refused.SaveRefused.TheVariants.{Damaged, Fault}
 use Rattle.vdr_vault.specs.Vaults.{VaultState, Stands}
 use Rattle.std.specs.Prelude.{IsErrAnd}
 use Rattle.std.proofs.lemmas.Result.{err_from_is_err_and}

@@ -33,7 +33,7 @@ use Rattle.vdr_directory.specs.Sequence.{Placed, all_records, batches_in}
 use Rattle.vdr_directory.specs.Holds.{HoldsPlaced}
 use Rattle.vdr_ring.specs.Rings.{RingState}
 use Rattle.vdr_ring.proofs.Medium.{in_order_records}
-use Rattle.vdr_opening.specs.Answers.{IsRingOf}
+use Rattle.vdr_ring.specs.Openings.{IsRingOf}
 use Rattle.vdr_vault.specs.Regularity.{AreSound}
 use Rattle.vdr_vault.specs.Vaults.{ShowsHistory}
 use Rattle.vdr_ring.proofs.Records.{records_are}

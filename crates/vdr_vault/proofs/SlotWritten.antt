@@ -1,5 +1,5 @@
 -- What stays on the long-term medium while one incident slot is written.
-use Rattle.std.proofs.Common.{◌≡◌, inl, inr, ◌<◌, ◌≤◌, ◌+◌, ℕ, List, length, [], ◌∷◌, sym, ap, ◌∙◌, subst, arith, zero, suc, ◌++◌, Option, Some, None, refl, ◌⊎◌, ⊎_elim, Result, OnOk, All, option_map, ◌-◌}
+use Rattle.std.proofs.Common.{◌≡◌, inl, inr, ◌<◌, ◌≤◌, ℕ, List, length, [], ◌∷◌, sym, ap, ◌∙◌, subst, arith, zero, suc, ◌++◌, Option, Some, None, refl, ⊎_elim, Result, OnOk, All, option_map}
 use Rattle.vdr_outside.specs.Parts.{part}
 use Rattle.vdr_config.specs.Configuration.{Configuration, IsConfiguration}
 use Rattle.vdr_config.specs.Sizes.{sizes_of}
@@ -33,7 +33,7 @@ use Rattle.vdr_outside.proofs.Moments.{moments_weaken}
 use Rattle.vdr_media.proofs.Two.{all_two}
 use Rattle.vdr_slots.specs.Slots.{place_of}
 use Rattle.vdr_ring.specs.Rings.{RingState}
-use Rattle.vdr_opening.specs.Answers.{IsRingOf}
+use Rattle.vdr_ring.specs.Openings.{IsRingOf}
 use Rattle.vdr_media.proofs.Formats.{zero_one}
 use Rattle.vdr_vault.proofs.CommitAll.{history_meanwhile}
 use Rattle.vdr_vault.proofs.ShownHistory.{durable_at, held_at, legible_at, same_given, same_next, same_stamp, sound_alone, stands_sound}

@@ -1,10 +1,13 @@
 -- What each call of a vault keeps, and what it answers, whatever becomes of it.
 use Rattle.std.specs.Prelude.{◌≡◌, ◌≢◌, ◌⊎◌, ◌↔◌, ◌<◌, ◌-◌, ℕ, suc, Bool, true, false, List, is_none, position, Option, Some, None, option_map, Result, Ok, Err, IfOk, IsErr, OnErr, OnOk}
 use Rattle.vdr_terms.specs.Records.{Record, last}
+use Rattle.vdr_terms.specs.Queries.{Query}
 use Rattle.vdr_history.specs.Histories.{Event, Incident, Opening, live, with_slot}
 use Rattle.vdr_durability.specs.Readings.{next_after}
+use Rattle.vdr_playback.specs.Playback.{medium_of}
 use Rattle.vdr_outside.specs.declared.media.Media.{Ghosts as MediaTells}
 use Rattle.vdr_outside.specs.Disk.{Disk, SameBut, Unchanged}
+use Rattle.vdr_ring.specs.Meets.{AreApart}
 use Rattle.vdr_ring.specs.Visits.{StandsAmong}
 use Rattle.vdr_ring.specs.Rings.{RingState}
 use Rattle.vdr_directory.specs.Sequence.{Placed}
@@ -18,7 +21,7 @@ use Rattle.vdr_vault.specs.Vaults.{AreJudged, AreRings, IsDamagedOn, IsReadable,
 use Rattle.vdr_vault.specs.Calls.{HasVaultCause, SameElsewhere}
 use Rattle.vdr_vault.specs.Saves.{HasFaultOn, save_refusal}
 use Rattle.vdr_cursor.specs.Walks.{CursorState, MayStep, steps_left}
-use Rattle.vdr_vault.specs.Plays.{HasReadCause, ReadsNoOther, ReadsOn}
+use Rattle.vdr_vault.specs.Plays.{AreIntactFor, ArePassedFor, HasReadCause, IsMetAt, ReadsNoOther, ReadsOn, StandsFor, ring_for}
 
 -- Where a write had failed before, the call does nothing; and where it fails, the next one does nothing.
 pub record StopsAtFault {S M T E : Type 0} (had_failed has_failed : Bool) (old new : S) (before after : M) (result : Result T E) : Type 0 where
@@ -45,14 +48,16 @@ pub record GoesOn {T E : Type 0} (old new : VaultState) (records : List Record) 
   -- after an error both are as before
   pub kept : OnErr result ((new.next_place ≡ old.next_place) × (new.last ≡ old.last))
 
--- Configuration and incidents stay, and the rings are those of media of these sizes.
-pub record KeepsVault (old new : VaultState) (sizes : List ℕ) : Type 0 where
+-- Configuration and incidents stay, and the rings are those of their media.
+pub record KeepsVault {tells tells_images : Type 0} (old new : VaultState) (before after : Disk tells tells_images) : Type 0 where
   -- the configuration is as before
   pub config : new.config ≡ old.config
   -- the incidents are as before
   pub table : new.table ≡ old.table
   -- each ring is its medium's
-  pub rings : AreRings new sizes
+  pub rings : AreRings new after.sizes
+  -- the slots that were loaded and judged still are
+  pub judged : AreJudged old before → AreJudged new after
 
 -- All that tells what was recorded stays, and the rings are those of media of these sizes.
 pub record KeepsHistory (old new : VaultState) (sizes : List ℕ) : Type 0 where
@@ -155,15 +160,27 @@ pub record ReadsForPlay {M : Type 0} (media : MediaTells M) (m : ℕ) (old new :
   -- no count of faults falls, and a fault has its cause
   pub cause : HasReadCause m old.failed (media.faults before) (media.faults after) result
 
--- How a cursor stands after a step on medium m, and what damage it names.
-pub record StepsAmong {M : Type 0} (media : MediaTells M) (m : ℕ) (old new : VaultState) (from to : CursorState) (before after : M) (result : Result Bool ReadRefused) : Type 0 where
+-- How the cursor of a play stands after a step, what damage it names, and that it passes over none.
+pub record StepsAmong {M : Type 0} (media : MediaTells M) (query : Query) (old new : VaultState) (from to : CursorState) (before after : M) (result : Result Bool ReadRefused) : Type 0 where
   -- it stands between the records of its slot, as it did
-  pub among : media.tells → AreJudged old (media.disk before) → StandsAmong (ring_of old m) (media.disk before) from.visit → StandsAmong (ring_of new m) (media.disk after) to.visit
-  -- damage is on medium m
-  pub medium : (k offset : ℕ) → result ≡ Err (damage_read k offset) → k ≡ m
-  -- and where one of its slots is not intact
-  pub damaged : media.tells → AreJudged old (media.disk before) → StandsAmong (ring_of old m) (media.disk before) from.visit → (k offset : ℕ) → result ≡ Err (damage_read k offset)
-      → IsDamagedOn old.config (media.disk before) k offset
+  pub among : media.tells → AreJudged old (media.disk before) → StandsAmong (ring_for old query) (media.disk before) from.visit → StandsAmong (ring_for new query) (media.disk after) to.visit
+  -- it stands in a segment that meets the query, as it did
+  pub meets : StandsFor query old from.standing → StandsFor query new to.standing
+  -- all segments that meet the query and that it passes are intact
+  pub passed : media.tells → AreJudged old (media.disk before) → AreApart (ring_for old query).directory.index → StandsFor query old from.standing
+      → ArePassedFor query old (media.disk before) from.standing → ArePassedFor query new (media.disk after) to.standing
+  -- and where no further record is there, all that meet it are
+  pub whole : result ≡ Ok false → media.tells → AreJudged old (media.disk before) → AreApart (ring_for old query).directory.index → StandsFor query old from.standing
+      → ArePassedFor query old (media.disk before) from.standing → AreIntactFor query old (media.disk before)
+  -- damage is on the query's medium
+  pub medium : (m offset : ℕ) → result ≡ Err (damage_read m offset) → m ≡ medium_of query.medium
+  -- where one of its slots is not intact
+  pub damaged : (m offset : ℕ) → result ≡ Err (damage_read m offset) → media.tells → AreJudged old (media.disk before) → StandsAmong (ring_for old query) (media.disk before) from.visit
+      → IsDamagedOn old.config (media.disk before) m offset
+  -- that of the first segment that meets the query and is damaged
+  pub met : (m offset : ℕ) → result ≡ Err (damage_read m offset) → media.tells → AreJudged old (media.disk before) → StandsAmong (ring_for old query) (media.disk before) from.visit
+      → StandsFor query old from.standing → (AreApart (ring_for old query).directory.index → ArePassedFor query old (media.disk before) from.standing)
+      → IsMetAt query old (media.disk before) offset
   -- a step to a record leaves fewer of them
   pub onward : result ≡ Ok true → steps_left to < steps_left from
 

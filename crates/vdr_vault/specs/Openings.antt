@@ -1,5 +1,5 @@
 -- What a stop leaves while media are opened.
-use Rattle.std.specs.Prelude.{◌≡◌, ◌⊎◌, ◌≤◌, ℕ, List, [], get_or, sum, Any, option_map, Result, Err, IfOk, OnOk, OnErr, IsErrOf, false, ⊤}
+use Rattle.std.specs.Prelude.{◌≡◌, ◌⊎◌, ◌≤◌, ℕ, List, [], get_or, sum, All, Any, option_map, Result, Err, IfOk, OnOk, OnErr, IsErrOf, false, ⊤}
 use Rattle.vdr_terms.specs.Records.{Record, last}
 use Rattle.vdr_durability.specs.Readings.{AreLevel, EndsMeet, next_after}
 use Rattle.vdr_outside.specs.Causes.{NoneFalls, Rose}
@@ -9,6 +9,7 @@ use Rattle.vdr_outside.specs.declared.fault.Fault.{Fault}
 use Rattle.vdr_outside.specs.declared.media.Media.{Ghosts as MediaTells}
 use Rattle.vdr_media.specs.Formatted.{IsFormatted, IsUnformatted}
 use Rattle.vdr_directory.specs.Sequence.{Placed, all_records}
+use Rattle.vdr_directory.specs.Telling.{TellsBy}
 use Rattle.vdr_ring.specs.Keeping.{AreWhole}
 use Rattle.vdr_incident.specs.Tables.{HoldsTable}
 use Rattle.vdr_opening.specs.declared.refused.OpenRefused.{OpenRefused}
@@ -16,7 +17,7 @@ use Rattle.vdr_opening.specs.declared.refused.OpenRefused.TheVariants.{Damaged, 
 use Rattle.vdr_opening.specs.Media.{members, Contents, HoldsContents, HoldsParts, IsMedium, opening_of, reading_of}
 use Rattle.vdr_opening.specs.Refusals.{IsRefused}
 use Rattle.vdr_opening.specs.Answers.{HasOpenCause, IsMissing, OpenedState}
-use Rattle.vdr_vault.specs.Vaults.{AreJudged, AreRings, IsReadable, VaultState, ShowsHistory, Stands, of_stamp, tick_utc}
+use Rattle.vdr_vault.specs.Vaults.{AreJudged, AreRings, IsReadable, VaultState, ShowsHistory, Stands, of_stamp, ring_of, tick_utc}
 use Rattle.vdr_vault.specs.Regularity.{AreSound}
 
 -- What was read, as the vault that is made of it and the batch that the media from a number on lack.
@@ -40,6 +41,14 @@ pub record IsToldBy (x : Contents) (vault : VaultState) : Type 0 where
 pub record GoesOnBehind (x : Contents) (vault : VaultState) : Type 0 where
   pub place : vault.next_place ≡ next_after (last (all_records (x.placed 0)))
   pub newest : vault.last ≡ option_map tick_utc (last (all_records (x.placed 0)))
+
+-- Opening appends nothing to medium m: it is the capsule, or both media end with the last batch.
+abbrev pub IsLeftAsRead : Contents → ℕ → Type 0
+IsLeftAsRead x m = (m ≡ 0) ⊎ AreLevel members (reading_of x)
+
+-- The ring on such a medium tells of these segments, as opening knows them.
+abbrev pub TellsOfParts : Contents → VaultState → Type 0
+TellsOfParts x vault = All (λ m. IsLeftAsRead x m → TellsBy (ring_of vault m).slots (x.placed m) (ring_of vault m).directory) members
 
 -- Of media with these contents, sound or not, nothing else was written than the batch that the long-term medium lacks: that has whole
 -- batches of before, all but those of one segment at the most, with the missing one behind them or without.
@@ -99,6 +108,8 @@ module _ {tells tells_images : Type 0} where
     pub opened : IfOk result (λ vault. (x : Contents) → tells → HoldsContents old.reads x → AreSound x → (placed : ℕ → List Placed) × Stands (opening_of x) [] vault placed new)
     -- the media were formatted, and what the vault tells is what was read of them
     pub parts : IfOk result (λ vault. tells → IsFormatted old.reads × (x : Contents) × HoldsParts old.reads x × EndsMeet members (reading_of x) × IsToldBy x vault)
+    -- of a medium to which opening appended nothing, the ring tells of what was read
+    pub known : IfOk result (λ vault. (x : Contents) → tells → HoldsParts old.reads x → TellsOfParts x vault)
     -- where they are legible it is what they hold
     pub contents : IfOk result (λ vault. (x : Contents) → tells → HoldsContents old.reads x → EndsMeet members (reading_of x) × IsToldBy x vault)
     -- where both end with the last batch the vault can be read

@@ -1,7 +1,7 @@
 -- What a vault answers to a save and to a release (this project's profile; IMO MSC.333(90) asks that the record of an incident be
 -- kept).
 use Rattle.std.specs.Prelude.{◌≡◌, ◌⊎◌, ◌∷◌, ◌++◌, ℕ, ℤ, Bool, true, false, List, [], get_or, sum, is_none, position, Option, Some, None, option_map, slice_get, Result, OnOk, IfOk}
-use Rattle.vdr_terms.specs.Records.{Record, last}
+use Rattle.vdr_terms.specs.Records.{Record}
 use Rattle.vdr_terms.specs.Windows.{window}
 use Rattle.vdr_history.specs.Histories.{Event, Opening, MayCome}
 use Rattle.vdr_history.specs.Histories.Act.{Save}

@@ -22,7 +22,8 @@ use Rattle.vdr_opening.specs.Settings.{settings_of}
 use Rattle.vdr_opening.specs.Media.{members, HasFront, AreThere, Reads}
 use Rattle.vdr_durability.specs.Soundness.{IsUnbroken}
 use Rattle.vdr_vault.specs.Regularity.{AreSound}
-use Rattle.vdr_opening.specs.Answers.{AreJudgedOn, AreRingsOf, IsRingOf, ring_at}
+use Rattle.vdr_opening.specs.Answers.{AreJudgedOn, AreRingsOf, ring_at}
+use Rattle.vdr_ring.specs.Openings.{IsRingOf}
 
 -- A vault without its media: the configuration, a ring on each medium in order of number, the incidents, the next place with tick and
 -- utc of the last record, and whether a write has failed. After a fault place and record are those before the batch that met it.

@@ -3,7 +3,7 @@ ghost use Rattle.std.specs.Prelude.{◌<◌, ℕ, List};
 ghost use Rattle.vdr_config.specs.Configuration.{Configuration};
 ghost use Rattle.vdr_directory.specs.Sequence.{Placed};
 ghost use Rattle.vdr_ring.specs.Rings.{Reads};
-ghost use Rattle.vdr_opening.specs.Answers.{AreRingsOf, ring_at};
+ghost use Rattle.vdr_opening.specs.Answers.{AreJudgedOn, AreRingsOf, ring_at};
 ghost use Rattle.vdr_vault.specs.Passes.{HasCauseFrom, KeepsBeside};
 ghost use Rattle.vdr_vault.specs.Bringing.{BringsAllUp};
 
@@ -17,6 +17,7 @@ pub(crate) fn bring_up_all<M: Media>(rings: &mut [Ring], media: &mut M) -> Resul
     ensures brought { (placed : ℕ → List Placed) → M.tells → ((k : ℕ) → k < 2 → Reads (ring_at rings.old k) (placed k) (M.disk media.old))
         → BringsAllUp rings.old rings.new placed (M.disk media.old) (M.disk media.new) result }
     ensures keeps { KeepsBeside M.Media 0 rings.old rings.new media.old media.new }
+    ensures judged { AreJudgedOn rings.old (M.disk media.old) → AreJudgedOn rings.new (M.disk media.new) }
     ensures cause { HasCauseFrom 0 2 (M.faults media.old) (M.faults media.new) result }
 {
     for m in 0..rings.len() {

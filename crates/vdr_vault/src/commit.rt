@@ -27,7 +27,7 @@ impl Vault {
         ensures failed { self.new.failed ≡ self.old.failed }
         ensures next_place { self.new.next_place ≡ self.old.next_place }
         ensures last { self.new.last ≡ self.old.last }
-        ensures keeps { KeepsVault self.old self.new (M.disk media.new).sizes }
+        ensures keeps { KeepsVault self.old self.new (M.disk media.old) (M.disk media.new) }
         ensures others { M.tells → SameElsewhere (M.disk media.old).reads (M.disk media.new).reads }
         ensures sizes { (M.disk media.new).sizes ≡ (M.disk media.old).sizes }
         ensures counts { M.bytes_read media.new ≡ M.bytes_read media.old }
@@ -56,7 +56,7 @@ impl Vault {
             → Commits opening events e records.now placed self.new (M.disk media.old) (M.disk media.new) result }
         ensures failing { StopsAtFault self.old.failed self.new.failed self.old self.new media.old media.new result }
         ensures goes_on { GoesOn self.old self.new records.now result }
-        ensures keeps { KeepsVault self.old self.new (M.disk media.new).sizes }
+        ensures keeps { KeepsVault self.old self.new (M.disk media.old) (M.disk media.new) }
         ensures writes { WritesToBoth M.Media self.old.failed media.old media.new result }
     {
         if self.failed {

@@ -3,8 +3,13 @@ ghost use Rattle.vdr_history.specs.Histories.{Event, Opening, all_records, incid
 ghost use Rattle.vdr_durability.specs.Readings.{EndsMeet};
 ghost use Rattle.vdr_outside.specs.Disk.{Image, Unchanged};
 ghost use Rattle.vdr_config.specs.Configuration.{Configuration};
+ghost use Rattle.vdr_playback.specs.Playback.{medium_of};
+ghost use Rattle.vdr_terms.specs.Queries.{Query};
+ghost use Rattle.vdr_directory.specs.Knowns.{AreInOrderBy};
 ghost use Rattle.vdr_directory.specs.Sequence.{Placed};
+ghost use Rattle.vdr_directory.specs.Telling.{TellsBy};
 ghost use Rattle.vdr_opening.specs.Media.{Contents, HoldsContents, members, nothing_on, reading_of};
+ghost use Rattle.vdr_vault.specs.Plays.{KnowsToMeet, ring_for};
 ghost use Rattle.vdr_vault.specs.Regularity.{AreSound};
 ghost use Rattle.vdr_vault.specs.Vaults.{VaultState, ShowsHistory, Stands};
 
@@ -26,4 +31,10 @@ pub fn law_of_vaults<M: Media>(old: &M, new: &M)
 pub fn law_of_sound_media()
     ensures empty { (c : Configuration) (text : List ℕ) → AreSound (nothing_on c text) }
     ensures same { (image : Image) (x y : Contents) → HoldsContents image x → HoldsContents image y → EndsMeet members (reading_of x) × AreSound x → EndsMeet members (reading_of y) × AreSound y }
+{}
+
+/// A ring that tells of the segments of a query's medium, as opening knows them, knows just those of them to meet the query that do.
+pub fn law_of_meeting()
+    ensures { (query : Query) (vault : VaultState) (known : ℕ → List Placed) → TellsBy (ring_for vault query).slots (known (medium_of query.medium)) (ring_for vault query).directory
+        → AreInOrderBy (known (medium_of query.medium)) → KnowsToMeet query vault known }
 {}

@@ -13,7 +13,7 @@ mod refused;
 mod saving;
 mod vault;
 
-pub use law::{law_of_sound_media, law_of_vaults};
-pub use play::{law_of_budgets, number_of};
+pub use law::{law_of_meeting, law_of_sound_media, law_of_vaults};
+pub use play::law_of_budgets;
 pub use refused::SaveRefused;
 pub use vault::Vault;

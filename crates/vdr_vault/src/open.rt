@@ -11,9 +11,9 @@ ghost use Rattle.vdr_opening.specs.Costs.{ReadsToOpen};
 ghost use Rattle.vdr_opening.specs.Refusals.{IsRefused};
 ghost use Rattle.vdr_opening.specs.Answers.{HasOpenCause, IsOpened};
 ghost use Rattle.vdr_opening.specs.declared.refused.OpenRefused.TheVariants.{Damaged, NotFormatted};
-ghost use Rattle.vdr_vault.specs.Vaults.{AreJudged, AreRings, IsReadable, ShowsHistory, Stands};
+ghost use Rattle.vdr_vault.specs.Vaults.{AreJudged, AreRings, IsReadable, ShowsHistory, Stands, ring_of};
 ghost use Rattle.vdr_vault.specs.Regularity.{AreSound};
-ghost use Rattle.vdr_vault.specs.Openings.{EndsWithin, GoesOnBehind, HasCauseOnBoth, IsToldBy, LeavesAll, OpensAtEachMoment, OpensMeanwhile, OpensVault, ReachesLongTerm, Reconciles, RefusesMedia, WritesMissing, opened_with};
+ghost use Rattle.vdr_vault.specs.Openings.{EndsWithin, GoesOnBehind, HasCauseOnBoth, IsToldBy, LeavesAll, OpensAtEachMoment, OpensMeanwhile, OpensVault, ReachesLongTerm, Reconciles, RefusesMedia, TellsOfParts, WritesMissing, opened_with};
 
 use crate::Vault;
 use crate::appending::append_from;
@@ -61,6 +61,7 @@ impl Vault {
         ensures last { self.new.last ≡ self.old.last }
         ensures place { self.new.next_place ≡ self.old.next_place }
         ensures level { missing.now ≡ [] → (self.new ≡ self.old) × (media.new ≡ media.old) }
+        ensures capsule { ring_of self.new 0 ≡ ring_of self.old 0 }
         ensures works { self.new.failed ≡ false }
         ensures judged { M.tells → AreJudged self.old (M.disk media.old) → AreJudged self.new (M.disk media.new) }
         ensures rings { AreRings self.new (M.disk media.new).sizes }
@@ -85,6 +86,7 @@ impl Vault {
             → (placed : ℕ → List Placed) × Stands (opening_of x) [] vault placed (M.disk media.new)) }
         ensures parts { IfOk result (λ vault. M.tells → IsFormatted (M.disk media.old).reads × (x : Contents) × HoldsParts (M.disk media.old).reads x
             × EndsMeet members (reading_of x) × IsToldBy x vault) }
+        ensures known { IfOk result (λ vault. (x : Contents) → M.tells → HoldsParts (M.disk media.old).reads x → TellsOfParts x vault) }
         ensures contents { IfOk result (λ vault. (x : Contents) → M.tells → All (λ m. Durable m (M.disk media.old)) members → HoldsContents (M.disk media.old).reads x
             → EndsMeet members (reading_of x) × IsToldBy x vault) }
         ensures readable { IfOk result (λ vault. (x : Contents) → M.tells → All (λ m. Durable m (M.disk media.old)) members → HoldsContents (M.disk media.old).reads x → AreLevel members (reading_of x)

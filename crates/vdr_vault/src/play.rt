@@ -3,18 +3,17 @@ ghost use Rattle.vdr_terms.specs.Records.{Record as Entry, last, second};
 ghost use Rattle.vdr_terms.specs.Queries.Span.{Window};
 ghost use Rattle.vdr_history.specs.Histories.{Event, Opening};
 ghost use Rattle.vdr_playback.specs.Playback.{medium_of, selected};
-ghost use Rattle.vdr_outside.specs.Causes.{Rose};
 ghost use Rattle.vdr_entry.specs.declared.query.Query.{Query as Asked};
 ghost use Rattle.vdr_entry.specs.Queries.{asked, asked_medium};
 ghost use Rattle.vdr_directory.specs.Sequence.{Placed, all_records};
 ghost use Rattle.vdr_directory.specs.Holds.{Tells};
 ghost use Rattle.vdr_ring.specs.Rings.{Reads};
-ghost use Rattle.vdr_ring.specs.declared.refused.ReadRefused.TheVariants.{Fault as AFault};
 ghost use Rattle.vdr_opening.specs.Media.{members};
 ghost use Rattle.vdr_vault.specs.Vaults.{AreRings, IsReadable, VaultState, ring_of};
 ghost use Rattle.vdr_index.specs.Indexes.{span_as};
-ghost use Rattle.vdr_cursor.specs.Budgets.{Spends, budget};
-ghost use Rattle.vdr_cursor.specs.Walks.{AreLeft, CountsOn, GivesNext, HasRead, MayStep, new_cursor, slots_read};
+ghost use Rattle.vdr_cursor.specs.Budgets.{Spends};
+ghost use Rattle.vdr_cursor.specs.Steps.{KeepsStep, TellsDamage};
+ghost use Rattle.vdr_cursor.specs.Walks.{AreLeft, GivesNext, MayStep, new_cursor, slots_read};
 ghost use Rattle.vdr_vault.specs.Keeps.{KeepsPlayed, ReadsForPlay, StandsAfter, StepsAmong};
 ghost use Rattle.vdr_vault.specs.Plays.{AreOfSegments, AreToCome, ReadsOn, budget_for, ring_for, span_by, span_in, whole_budget};
 
@@ -41,8 +40,8 @@ fn window_of(ring: &Ring, seconds: u64) -> Option<Span>
     })
 }
 
-/// The number of the medium that a query of this one reads.
-pub fn number_of(medium: Medium) -> u8
+// The number of the medium that a query of this one reads.
+fn number_of(medium: Medium) -> u8
     ensures number { result ≡ medium_of (asked_medium medium) }
     ensures member { result < 2 }
 {
@@ -90,18 +89,12 @@ impl Vault {
         requires rings { AreRings self.old (M.disk media.old).sizes }
         requires may { MayStep (ring_of self.old m) cursor.old }
         ensures vault { ReadsOn m self.old self.new }
-        ensures read { HasRead (ring_of self.old m) (ring_of self.new m) (M.disk media.old) (M.disk media.new) }
-        ensures counts { CountsOn m (M.bytes_read media.old) (M.bytes_read media.new) (M.faults media.old) (M.faults media.new) }
-        ensures spends { Spends m (budget (ring_of self.old m) (asked selection.now.query) (span_as selection.now.span) cursor.old.standing)
-            (budget (ring_of self.new m) (asked selection.now.query) (span_as selection.now.span) cursor.new.standing) (M.bytes_read media.old) (M.bytes_read media.new) result }
-        ensures may { MayStep (ring_of self.new m) cursor.new }
-        ensures item { cursor.new.visit.item ≢ None ↔ (result ≡ Ok true) }
+        ensures keeps { KeepsStep M.Media (asked selection.now.query) (span_as selection.now.span) (ring_of self.old m) (ring_of self.new m) cursor.old cursor.new media.old media.new result }
         ensures plays { M.tells → (placed : List Placed) (records : List Entry) → Reads (ring_of self.old m) placed (M.disk media.old)
             → AreLeft (slots_read (ring_of self.old m) (M.disk media.old)) placed (asked selection.now.query) (Some (span_as selection.now.span)) cursor.old records
             → GivesNext records result cursor.new.visit.item
             (AreLeft (slots_read (ring_of self.old m) (M.disk media.old)) placed (asked selection.now.query) (Some (span_as selection.now.span)) cursor.new) }
-        ensures steps { StepsAmong M.Media m self.old self.new cursor.old cursor.new media.old media.new result }
-        ensures cause { result ≡ Err AFault → Rose (get_or (M.faults media.old) m 0) (get_or (M.faults media.new) m 0) }
+        ensures tells { TellsDamage (asked selection.now.query) (span_as selection.now.span) (ring_of self.old m) (M.disk media.old) cursor.old cursor.new result }
     {
         cursor.step(&mut self.rings[m as usize], media, selection)
     }
@@ -112,8 +105,9 @@ impl Vault {
     /// (`spends`). Takes no memory.
     ///
     /// `Fault`: a write had failed before, and nothing was called; or a read failed, and the count of faults of that medium rose.
-    /// `Damaged` names that medium, and where a slot that was read is damaged, as `vdr_ring::Ring::read_span` does. It never comes of
-    /// media that hold what was recorded, regular or not.
+    /// `Damaged` names that medium, and where the slot of a segment that meets the query is damaged, as `vdr_ring::Ring::read_span` does.
+    /// None is passed over: where false is answered, all segments that meet the query are intact (`steps`). It never comes of media that
+    /// hold what was recorded, regular or not.
     pub fn first<M: Media>(
         &mut self,
         media: &mut M,
@@ -124,7 +118,7 @@ impl Vault {
         ensures plays { (opening : Opening) (events : List Event) (placed : ℕ → List Placed) → M.tells → IsReadable opening events self.old placed (M.disk media.old)
             → GivesNext (selected opening events (asked query.now)) result cursor.new.visit.item (AreToCome (asked query.now) self.new placed (M.disk media.new) cursor.new) }
         ensures cursor { StandsAfter (ring_for self.new (asked query.now)) cursor.new result }
-        ensures steps { StepsAmong M.Media (medium_of (asked query.now).medium) self.old self.new new_cursor cursor.new media.old media.new result }
+        ensures steps { StepsAmong M.Media (asked query.now) self.old self.new new_cursor cursor.new media.old media.new result }
         ensures keeps { KeepsPlayed M.Media (medium_of (asked query.now).medium) self.old self.new media.old media.new }
         ensures reads { ReadsForPlay M.Media (medium_of (asked query.now).medium) self.old self.new media.old media.new result }
         ensures spends { Spends (medium_of (asked query.now).medium) (whole_budget self.old (asked query.now)) (budget_for self.new (asked query.now) cursor.new.standing)
@@ -142,8 +136,9 @@ impl Vault {
     /// The cursor is new, or its last step was for this query, and no other cursor's came since (`may`).
     ///
     /// `Fault`: a write had failed before, and nothing was called; or a read failed, and the count of faults of that medium rose.
-    /// `Damaged` names that medium, and where a slot that was read is damaged, as `vdr_ring::Ring::read_span` does. It never comes of
-    /// media that hold what was recorded, regular or not.
+    /// `Damaged` names that medium, and where the slot of a segment that meets the query is damaged, as `vdr_ring::Ring::read_span` does.
+    /// None is passed over: where false is answered, all segments that meet the query are intact (`steps`). It never comes of media that
+    /// hold what was recorded, regular or not.
     pub fn next<M: Media>(
         &mut self,
         media: &mut M,
@@ -156,7 +151,7 @@ impl Vault {
             → AreToCome (asked query.now) self.old placed (M.disk media.old) cursor.old records
             → GivesNext records result cursor.new.visit.item (AreToCome (asked query.now) self.new placed (M.disk media.new) cursor.new) }
         ensures cursor { StandsAfter (ring_for self.new (asked query.now)) cursor.new result }
-        ensures steps { StepsAmong M.Media (medium_of (asked query.now).medium) self.old self.new cursor.old cursor.new media.old media.new result }
+        ensures steps { StepsAmong M.Media (asked query.now) self.old self.new cursor.old cursor.new media.old media.new result }
         ensures keeps { KeepsPlayed M.Media (medium_of (asked query.now).medium) self.old self.new media.old media.new }
         ensures reads { ReadsForPlay M.Media (medium_of (asked query.now).medium) self.old self.new media.old media.new result }
         ensures spends { Spends (medium_of (asked query.now).medium) (budget_for self.old (asked query.now) cursor.old.standing) (budget_for self.new (asked query.now) cursor.new.standing)

@@ -1,6 +1,7 @@
 pub mod Reading
 pub mod Between
-pub mod Visiting
 pub mod Stopping
+pub mod Damages
+pub mod Visiting
 pub mod Printing
 pub mod Channels

@@ -1,5 +1,5 @@
 -- The records that a query selects are visited one by one.
-use Rattle.std.proofs.Common.{◌≡◌, ◌≢◌, ◌≤◌, ◌+◌, get_or, ℕ, List, Bool, true, Option, None}
+use Rattle.std.proofs.Common.{◌≡◌, ◌≢◌, ◌≤◌, ◌+◌, get_or, ℕ, List, Bool, true, false, Option, None}
 use Rattle.std.specs.Io.KnownBytes.{Appends}
 use Rattle.vdr_terms.specs.Queries.{Query}
 use Rattle.vdr_terms.specs.Records.{Record}
@@ -8,12 +8,12 @@ use Rattle.vdr_playback.specs.Playback.{medium_of, selected}
 use Rattle.vdr_outside.specs.Causes.{NoneFalls}
 use Rattle.vdr_outside.specs.Disk.{Disk, Unchanged}
 use Rattle.vdr_directory.specs.Sequence.{Placed}
-use Rattle.vdr_ring.specs.Visits.{StandsAmong}
 use Rattle.vdr_vault.specs.Vaults.{AreJudged, AreRings, IsReadable, VaultState, Stands}
 use Rattle.vdr_cursor.specs.Walks.{CursorState, MayStep}
 use Rattle.vdr_vault.specs.Plays.{AreToCome, ReadsNoOther, ReadsOn, budget_for, ring_for, whole_budget}
 use Rattle.vdr_visit.specs.Prints.{text_of}
 use Rattle.vdr_visit.proofs.Between.{IsBetween}
+use Rattle.vdr_visit.proofs.Damages.{AreWhole, IsPassing}
 
 module _ {tells tells_images S : Type 0} where
   -- Between two records of a visit. What the visitor had of none of them, and has of the first of them, is told by the visitor from which it
@@ -30,7 +30,8 @@ module _ {tells tells_images S : Type 0} where
     pub may : MayStep (ring_for now query) cursor
     pub item : found ≡ true → cursor.visit.item ≢ None
     pub judged : AreJudged first before → AreJudged now after
-    pub among : tells → AreJudged first before → StandsAmong (ring_for now query) after cursor.visit
+    pub passing : IsPassing query first now before after cursor
+    pub whole : found ≡ false → AreWhole query first before
     pub stands : (opening : Opening) (events : List Event) (placed : ℕ → List Placed) → Stands opening events first placed before → Stands opening events now placed after
     pub readable : (opening : Opening) (events : List Event) (placed : ℕ → List Placed) → IsReadable opening events first placed before → IsReadable opening events now placed after
     pub visits : (start : S) → Had start → (seen : List Record) × Has start seen × Appends was printed (text_of (line start) seen)

@@ -8,9 +8,9 @@ use Rattle.vdr_playback.specs.Playback.{medium_of, selected}
 use Rattle.vdr_outside.specs.Disk.{Disk, Unchanged}
 use Rattle.vdr_outside.specs.Writes.{AppendsFront}
 use Rattle.vdr_directory.specs.Sequence.{Placed}
-use Rattle.vdr_vault.specs.Vaults.{AreJudged, AreRings, IsDamagedOn, IsReadable, VaultState, Stands}
+use Rattle.vdr_vault.specs.Vaults.{AreJudged, AreRings, IsReadable, VaultState, Stands}
 use Rattle.vdr_directory.specs.Costs.{ReadsAtMost}
-use Rattle.vdr_vault.specs.Plays.{ReadsNoOther, ReadsOn, whole_budget}
+use Rattle.vdr_vault.specs.Plays.{ReadsNoOther, ReadsOn, TellsDamageOf, whole_budget}
 use Rattle.vdr_visit.specs.Prints.{text_of}
 use Rattle.vdr_visit.specs.declared.refused.VisitRefused.{VisitRefused}
 use Rattle.vdr_visit.specs.declared.refused.VisitRefused.TheVariants.{NoChannel, NoIncident, Fault, Damaged, Output, Own}
@@ -42,15 +42,14 @@ abbrev pub ReadsEachOnce : Query → VaultState → (read_before read_now : List
 ReadsEachOnce query vault read_before read_now = ReadsAtMost (medium_of query.medium) (whole_budget vault query) read_before read_now
 
 module _ {tells tells_images : Type 0} where
-  -- Some records were handed to a visitor, who made this of them. Damage is on the query's medium, where one of its slots is not intact.
-  -- Where the vault's media can be read the records are those that the query selects, or the first of them, and a front of the whole text
-  -- of all stands in the output however the visit ended.
+  -- Some records were handed to a visitor, who made this of them. Damage that is met is told. Where the vault's media can be read the
+  -- records are those that the query selects, or the first of them, and a front of the whole text of all stands in the output however the
+  -- visit ended.
   pub record HasVisited {R : Type 0} (query : Query) (vault : VaultState) (disk : Disk tells tells_images) (Has : List Record → Type 0) (Stops : List Record → R → Type 0)
       (line : List Record → Record → List ℕ) (whole : List Record → List ℕ) (was now : Option (List ℕ)) (result : Result ⊤ (VisitRefused R)) : Type 0 where
     pub seen : List Record
     pub made : HasMade (Has seen) (Stops seen) line (whole seen) seen was now result
-    pub medium : (m offset : ℕ) → result ≡ Err (Damaged m offset) → m ≡ medium_of query.medium
-    pub damaged : (m offset : ℕ) → result ≡ Err (Damaged m offset) → tells → AreJudged vault disk → IsDamagedOn vault.config disk m offset
+    pub damage : TellsDamageOf query vault disk (λ m offset. result ≡ Err (Damaged m offset)) (result ≡ Ok tt)
     pub are : (opening : Opening) (events : List Event) (placed : ℕ → List Placed) → tells → IsReadable opening events vault placed disk
         → AreVisited seen (selected opening events query) result
     pub front : (opening : Opening) (events : List Event) (placed : ℕ → List Placed) → tells → IsReadable opening events vault placed disk

@@ -1,12 +1,12 @@
-use Rattle.std.proofs.Common.{◌∙◌, Err, inr, ap}
+use Rattle.std.proofs.Common.{◌≡◌, ◌∙◌, Ok, Err, inr, sym, ap}
 use Rattle.std.proofs.lemmas.Result.{err_from_is_err_and}
 use Rattle.vdr_playback.specs.Playback.{medium_of, selected}
 use Rattle.vdr_entry.specs.Queries.{asked}
-use Rattle.vdr_visit.proofs.Reading.{damaged_before}
 use Rattle.vdr_recorder.proofs.Looking.{looks_join}
 use Rattle.vdr_export.specs.Sounds.{heard}
 use Rattle.vdr_export.specs.declared.refused.ExportRefused.{ExportRefused}
 use Rattle.vdr_export.specs.declared.refused.ExportRefused.TheVariants.{Damaged, Fault}
+use Rattle.vdr_export.proofs.Damages.{told_as, told_before}
 use Rattle.vdr_export.proofs.Refusing.{looked_as}
 use Rattle.vdr_export.proofs.TwoPasses.{asked_again, no_wave, passed_on, the_wave}
 use Rattle.vdr_export.proofs.file.export_wave.Goals as goal
@@ -22,10 +22,12 @@ returns-in_err-size-clause-looked g c =
     let p = err_from_is_err_and c.from_residual.result c.from_residual.ensures.1 in
     looked_as _ _ _ _ _ _ _ _ _ _ _ (passed_on c.wave_size.result c.in_err-size.field-0.0 p.0 Fault c.from_residual.result c.in_err-size.was p.2 p.1) c.wave_size.ensures.looked
 
-pub returns-in_err-size-clause-damaged : goal.returns-in_err-size-clause-damaged
-returns-in_err-size-clause-damaged g c m offset is =
+pub returns-in_err-size-clause-damage : goal.returns-in_err-size-clause-damage
+returns-in_err-size-clause-damage g c =
     let p = err_from_is_err_and c.from_residual.result c.from_residual.ensures.1 in
-    c.wave_size.ensures.damaged m offset (passed_on c.wave_size.result c.in_err-size.field-0.0 p.0 (Damaged m offset) c.from_residual.result c.in_err-size.was p.2 p.1 is)
+    told_as _ _ _ (λ m offset. c.wave_size.result ≡ Err (Damaged m offset)) (λ m offset. c.from_residual.result ≡ Err (Damaged m offset)) _ (c.from_residual.result ≡ Ok tt)
+    (λ m offset is. passed_on c.wave_size.result c.in_err-size.field-0.0 p.0 (Damaged m offset) c.from_residual.result c.in_err-size.was p.2 p.1 is)
+    (λ done. let clash = sym p.1 ∙ done in let none : ⊥ = cc in none) c.wave_size.ensures.damage
 
 pub write_wave-requires-clause-asked : goal.write_wave-requires-clause-asked
 write_wave-requires-clause-asked g c =
@@ -43,8 +45,8 @@ pub returns-clause-looked : goal.returns-clause-looked
 returns-clause-looked g c =
     looked_as _ _ _ _ _ _ _ _ _ _ _ (λ is. inr is) (looks_join (asked c.args.query.now) _ _ _ _ _ _ _ _ _ _ _ _ _ _ c.wave_size.ensures.looked c.write_wave.ensures.looked)
 
-pub returns-clause-damaged : goal.returns-clause-damaged
-returns-clause-damaged g c m offset is told judged =
+pub returns-clause-damage : goal.returns-clause-damage
+returns-clause-damage g c =
     let read = c.wave_size.ensures.looked.read in
-    damaged_before (medium_of (asked c.args.query.now).medium) c.args.recorder.now.vault c.wave_size.new.recorder.vault (g.M.Media.disk c.args.media.now) (g.M.Media.disk c.wave_size.new.media) read.vault read.unchanged
-    told m offset (c.write_wave.ensures.damaged m offset is told (read.judged judged))
+    told_before (asked c.args.query.now) c.args.recorder.now.vault c.wave_size.new.recorder.vault (g.M.Media.disk c.args.media.now) (g.M.Media.disk c.wave_size.new.media) _ _
+    read.vault read.unchanged read.judged c.write_wave.ensures.damage

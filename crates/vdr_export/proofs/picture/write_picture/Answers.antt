@@ -9,7 +9,8 @@ use Rattle.vdr_export.specs.declared.refused.ExportRefused.{ExportRefused}
 use Rattle.vdr_export.specs.declared.refused.ExportRefused.TheVariants.{Damaged, Fault, Output}
 use Rattle.vdr_export.proofs.Ending.{completed, front_ends, incomplete, missing_undamaged, never_stops, refused_ends, written_ends}
 use Rattle.vdr_export.proofs.Refusing.{looked_as, never_blamed, output_still}
-use Rattle.vdr_export.proofs.Visited.{blames_media, blames_output, names_slot, no_picture, no_picture_own}
+use Rattle.vdr_export.proofs.Damages.{ended_told, stopped_told}
+use Rattle.vdr_export.proofs.Visited.{blames_media, blames_output, no_picture, no_picture_own}
 use Rattle.vdr_export.proofs.picture.write_picture.Goals as goal
 
 pub returns-in-Err-clause-picture : goal.returns-in-Err-clause-picture
@@ -29,11 +30,22 @@ returns-in-Err-clause-looked g c =
     (blames_media c.refusal_of.result c.in-Err.stop c.refusal_of.ensures v _ refl (never_stops (shown c.args.block.now v.seen) Fault (λ place is. let none : ⊥ = cc in none) (λ is. let none : ⊥ = cc in none)))
     c.in-Err.ensures.looked
 
-pub returns-in-Err-clause-damaged : goal.returns-in-Err-clause-damaged
-returns-in-Err-clause-damaged g c m offset damage =
+pub returns-in-Err-clause-damage : goal.returns-in-Err-clause-damage
+returns-in-Err-clause-damage g c =
     let v = c.in-Err.ensures.visited (record c.new-collecting.result { block = c.args.block.now }) (c.new-collecting.ensures.block, c.new-collecting.ensures.nothing) in
-    names_slot c.refusal_of.result c.in-Err.stop c.refusal_of.ensures v _ refl m offset
-    (never_stops (shown c.args.block.now v.seen) (Damaged m offset) (λ place is. let none : ⊥ = cc in none) (λ is. let none : ⊥ = cc in none)) damage
+    stopped_told c.refusal_of.result c.in-Err.stop c.refusal_of.ensures v _ refl
+    (λ m offset. never_stops (shown c.args.block.now v.seen) (Damaged m offset) (λ place is. let none : ⊥ = cc in none) (λ is. let none : ⊥ = cc in none)) _
+    (λ is. let none : ⊥ = cc in none)
+
+pub returns-in-Ok-clause-damage : goal.returns-in-Ok-clause-damage
+returns-in-Ok-clause-damage g c =
+    let v = c.in_default.ensures.visited (record c.new-collecting.result { block = c.args.block.now }) (c.new-collecting.ensures.block, c.new-collecting.ensures.nothing) in
+    ended_told v _ (λ m offset is. let none : ⊥ = cc in none) _
+
+pub returns-clause-damage : goal.returns-clause-damage
+returns-clause-damage g c =
+    let v = c.in_default.ensures.visited (record c.new-collecting.result { block = c.args.block.now }) (c.new-collecting.ensures.block, c.new-collecting.ensures.nothing) in
+    ended_told v _ (λ m offset is. let none : ⊥ = cc in none) _
 
 pub returns-in-Err-clause-output : goal.returns-in-Err-clause-output
 returns-in-Err-clause-output g c =
@@ -42,10 +54,12 @@ returns-in-Err-clause-output g c =
     (λ is. never_blamed c.in-Err.ensures.output (blames_output c.refusal_of.result c.in-Err.stop c.refusal_of.ensures v _ refl
     (never_stops (shown c.args.block.now v.seen) Output (λ place is. let none : ⊥ = cc in none) (λ is. let none : ⊥ = cc in none)) is))
 
-pub returns-in_err-complete-clause-damaged : goal.returns-in_err-complete-clause-damaged
-returns-in_err-complete-clause-damaged g c m offset damage =
+pub returns-in_err-complete-clause-damage : goal.returns-in_err-complete-clause-damage
+returns-in_err-complete-clause-damage g c =
+    let v = c.in_default.ensures.visited (record c.new-collecting.result { block = c.args.block.now }) (c.new-collecting.ensures.block, c.new-collecting.ensures.nothing) in
     let p = err_from_is_err_and c.from_residual.result c.from_residual.ensures.1 in
-    absurd (missing_undamaged c.visit.new.visitor.parts m offset (sym c.complete.ensures ∙ c.in_err-complete.was ∙ sym (p.1 ∙ ap (λ (e : ExportRefused). Err e) p.2) ∙ damage))
+    ended_told v _
+    (λ m offset damage. missing_undamaged c.visit.new.visitor.parts m offset (sym c.complete.ensures ∙ c.in_err-complete.was ∙ sym (p.1 ∙ ap (λ (e : ExportRefused). Err e) p.2) ∙ damage)) _
 
 pub returns-in_err-complete-clause-picture : goal.returns-in_err-complete-clause-picture
 returns-in_err-complete-clause-picture g c opening events placed told readable =

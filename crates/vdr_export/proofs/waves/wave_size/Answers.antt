@@ -7,7 +7,8 @@ use Rattle.vdr_export.specs.Sounds.{heard}
 use Rattle.vdr_export.specs.declared.refused.ExportRefused.TheVariants.{Damaged, Fault}
 use Rattle.vdr_export.proofs.Passes.{never_mixed}
 use Rattle.vdr_export.proofs.Refusing.{looked_as, never_blamed}
-use Rattle.vdr_export.proofs.Visited.{blames_media, names_slot, no_size, no_size_own}
+use Rattle.vdr_export.proofs.Damages.{ended_told, stopped_told}
+use Rattle.vdr_export.proofs.Visited.{blames_media, no_size, no_size_own}
 use Rattle.vdr_export.proofs.waves.wave_size.Goals as goal
 
 pub returns-in-Err-clause-size : goal.returns-in-Err-clause-size
@@ -27,11 +28,16 @@ returns-in-Err-clause-looked g c =
     (blames_media c.refusal_of.result c.in-Err.stop c.refusal_of.ensures v _ refl (never_mixed (heard c.args.microphone v.seen) Fault (λ place is. let none : ⊥ = cc in none)))
     c.in-Err.ensures.looked
 
-pub returns-in-Err-clause-damaged : goal.returns-in-Err-clause-damaged
-returns-in-Err-clause-damaged g c m offset damage =
+pub returns-in-Err-clause-damage : goal.returns-in-Err-clause-damage
+returns-in-Err-clause-damage g c =
     let v = c.in-Err.ensures.visited (record c.new-hearing.result { microphone = c.args.microphone }) (c.new-hearing.ensures.microphone, c.new-hearing.ensures.nothing) in
-    names_slot c.refusal_of.result c.in-Err.stop c.refusal_of.ensures v _ refl m offset
-    (never_mixed (heard c.args.microphone v.seen) (Damaged m offset) (λ place is. let none : ⊥ = cc in none)) damage
+    stopped_told c.refusal_of.result c.in-Err.stop c.refusal_of.ensures v _ refl
+    (λ m offset. never_mixed (heard c.args.microphone v.seen) (Damaged m offset) (λ place is. let none : ⊥ = cc in none)) _ (λ done. done refl)
+
+pub returns-clause-damage : goal.returns-clause-damage
+returns-clause-damage g c =
+    let v = c.in_default.ensures.visited (record c.new-hearing.result { microphone = c.args.microphone }) (c.new-hearing.ensures.microphone, c.new-hearing.ensures.nothing) in
+    ended_told v _ (λ m offset named. c.size.ensures.undamaged m offset named) _
 
 pub returns-clause-size : goal.returns-clause-size
 returns-clause-size g c opening events placed told readable =

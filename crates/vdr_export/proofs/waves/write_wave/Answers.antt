@@ -9,7 +9,8 @@ use Rattle.vdr_export.specs.Waves.{wave_header}
 use Rattle.vdr_visit.proofs.Printing.{front_of_whole}
 use Rattle.vdr_export.proofs.Passes.{wave_front, wave_written, whole_sound}
 use Rattle.vdr_export.proofs.Refusing.{looked_as, looked_nothing, output_after, output_as}
-use Rattle.vdr_export.proofs.Visited.{blames_media, blames_output, names_slot, not_written_own, undamaged}
+use Rattle.vdr_export.proofs.Damages.{ended_told, none_told, stopped_told}
+use Rattle.vdr_export.proofs.Visited.{blames_media, blames_output, not_written_own, undamaged}
 use Rattle.vdr_export.proofs.waves.write_wave.Goals as goal
 
 pub returns-in_default-clause-front : goal.returns-in_default-clause-front
@@ -43,10 +44,18 @@ returns-in-Err-clause-looked g c =
     let v = c.in-Err.ensures.visited (record c.new-writing.result { microphone = c.args.microphone }) c.new-writing.ensures in
     looked_as _ _ _ _ _ _ _ _ _ _ _ (blames_media c.refusal_of.result c.in-Err.stop c.refusal_of.ensures v _ refl (λ never. never)) c.in-Err.ensures.looked
 
-pub returns-in-Err-clause-damaged : goal.returns-in-Err-clause-damaged
-returns-in-Err-clause-damaged g c m offset damage =
+pub returns-in_default-clause-damage : goal.returns-in_default-clause-damage
+returns-in_default-clause-damage g c = none_told _ _ _ _ (λ m offset is. let none : ⊥ = cc in none) _ (λ is. let none : ⊥ = cc in none)
+
+pub returns-in-Err-clause-damage : goal.returns-in-Err-clause-damage
+returns-in-Err-clause-damage g c =
     let v = c.in-Err.ensures.visited (record c.new-writing.result { microphone = c.args.microphone }) c.new-writing.ensures in
-    names_slot c.refusal_of.result c.in-Err.stop c.refusal_of.ensures v _ refl m offset (λ never. never) damage
+    stopped_told c.refusal_of.result c.in-Err.stop c.refusal_of.ensures v _ refl (λ m offset never. never) _ (λ is. let none : ⊥ = cc in none)
+
+pub returns-clause-damage : goal.returns-clause-damage
+returns-clause-damage g c =
+    let v = c.in_default-visit.ensures.visited (record c.new-writing.result { microphone = c.args.microphone }) c.new-writing.ensures in
+    ended_told v _ (λ m offset is. let none : ⊥ = cc in none) _
 
 pub returns-in-Err-clause-output : goal.returns-in-Err-clause-output
 returns-in-Err-clause-output g c =

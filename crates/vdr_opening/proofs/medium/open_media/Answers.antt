@@ -6,7 +6,8 @@ use Rattle.vdr_outside.specs.Disk.{Durable}
 use Rattle.vdr_media.proofs.Unformatted.{durable_still}
 use Rattle.vdr_terms.proofs.Results.{same_err}
 use Rattle.vdr_directory.specs.Sequence.{Placed}
-use Rattle.vdr_opening.specs.Answers.{IsRingOf, ring_at}
+use Rattle.vdr_opening.specs.Answers.{ring_at}
+use Rattle.vdr_ring.specs.Openings.{IsRingOf}
 use Rattle.vdr_opening.specs.Media.{IsMediumBy}
 use Rattle.vdr_opening.specs.Parts.{ReadsLegal, text_of}
 use Rattle.vdr_ring.specs.Rings.{HoldsNewest}

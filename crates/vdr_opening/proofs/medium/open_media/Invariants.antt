@@ -7,7 +7,8 @@ use Rattle.vdr_ring.specs.Rings.{HoldsNewest}
 use Rattle.vdr_ring.specs.Visits.{HasJudged}
 use Rattle.vdr_opening.specs.Media.{members}
 use Rattle.vdr_opening.specs.Refusals.{RefusesFrom}
-use Rattle.vdr_opening.specs.Answers.{IsRingOf, ring_at}
+use Rattle.vdr_opening.specs.Answers.{ring_at}
+use Rattle.vdr_ring.specs.Openings.{IsRingOf}
 use Rattle.vdr_opening.specs.Parts.{ReadsLegal, text_of}
 use Rattle.vdr_opening.proofs.Costs.{IsReadBy}
 use Rattle.vdr_opening.proofs.medium.open_media.Given as goal

@@ -43,15 +43,16 @@ returns-in_err-ring-clause-cause g c =
 pub returns-clause-reads : goal.returns-clause-reads
 returns-clause-reads g c told durable =
     let before = unchanged_join _ _ _ c.read_superblock.ensures.unchanged c.read_configuration.ensures.unchanged in
-    reads_legal c.args.m _ _ _ _ _ c.open.ensures.unchanged told (λ placed holds order. (c.in_ok-ring.ensures.reads told (durable_still c.args.m _ _ before durable) placed holds order).0)
+    reads_legal c.args.m _ _ _ _ _ c.open.ensures.unchanged told
+    (λ placed holds order. (c.in_ok-ring.ensures.opened.reads told (durable_still c.args.m _ _ before durable) placed holds order).0)
 
 pub returns-clause-parts : goal.returns-clause-parts
 returns-clause-parts g c told =
-    let opened = c.in_ok-ring.ensures.parts told in
-    let shape = c.in_ok-ring.ensures.shape in
+    let opened = c.in_ok-ring.ensures.opened.parts told in
+    let its = c.in_ok-ring.ensures.opened.its in
     let front = subst (λ (l : List ℕ). HasFront c.args.m c.in_ok-configured.configured.config c.in_ok-configured.configured.text.items l) (sym (same_content c.args.m _ _ c.read_configuration.ensures.unchanged told)) (c.in_ok-configured.ensures.front told) in (
       opened.0,
-      knows_medium c.args.m _ _ _ _ c.open.ensures.unchanged told front _ opened.0 shape.0 shape.1 shape.2 opened.1,
+      knows_medium c.args.m _ _ _ _ c.open.ensures.unchanged told front _ opened.0 its.medium its.segment its.slots opened.1,
       medium_bytes c.args.m _ _ opened.0 _ _ _ _ c.read_superblock.ensures.counts c.read_configuration.ensures.counts opened.2,
     )
 

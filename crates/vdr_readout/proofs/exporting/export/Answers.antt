@@ -1,4 +1,4 @@
-use Rattle.std.proofs.Common.{◌∙◌, inr, Err, refl, ap}
+use Rattle.std.proofs.Common.{◌≡◌, ◌∙◌, inr, Ok, Err, refl, ap}
 use Rattle.std.proofs.lemmas.Result.{err_from_is_err_and}
 use Rattle.vdr_entry.specs.Queries.{asked}
 use Rattle.vdr_opening.specs.declared.refused.OpenRefused.{OpenRefused}
@@ -9,6 +9,8 @@ use Rattle.vdr_command.proofs.OpenedLemmas.{missing_looked, no_looks, refused_en
 use Rattle.vdr_config.specs.Configuration.{Configuration}
 use Rattle.vdr_readout.specs.Exports.{kind_at, wished}
 use Rattle.vdr_readout.specs.Reads.{plain_play}
+use Rattle.vdr_export.specs.declared.refused.ExportRefused.TheVariants.{Damaged}
+use Rattle.vdr_readout.proofs.DamageLemmas.{told_so}
 use Rattle.vdr_readout.proofs.ExportLemmas.{both_there, channel_exports, incident_exports, kind_exports, made_exports, opening_exports, still_output}
 use Rattle.vdr_readout.proofs.ReadLemmas.{wanted_so}
 use Rattle.vdr_readout.proofs.exporting.export.Goals as goal
@@ -97,10 +99,14 @@ returns-clause-ends g c =
       media = record { disk = g.M.Media.disk c.export_file-written.new.media; faults = g.M.Media.faults c.export_file-written.new.media; bytes_read = g.M.Media.bytes_read c.export_file-written.new.media };
     } in
     let there = both_there _ _ c.accept.result c.accept.ensures c.in-Ok.is in
+    let damage =
+    told_so (plain_play c.args.wanted) old.media.disk mid.media.disk new.media.disk c.in_ok-recorder.recorder.vault (asked c.in-Some.query)
+    (λ m offset. c.export_file-written.result ≡ Err (Damaged m offset)) (c.export_file-written.result ≡ Ok tt)
+    wants.is told.opened.known told.opened.judged told.opened.rings c.law_of_meeting.ensures made.looked.read.unchanged made.damage in
     rw c.exported.ensures
     (made_exports c.args.wish (plain_play c.args.wanted) old new mid.media c.in_ok-recorder.recorder c.export_file-written.new.recorder (asked c.in-Some.query) wants told.opened.works told.opened.parts told.opened.contents told.opened.opened told.opened.readable
     c.open.ensures.writes.cause.later c.open.ensures.writes.others
     (missing_looked (g.M.Media.disk c.args.world.now.media) (g.M.Media.disk c.open.new.media) (g.M.Media.disk c.export_file-written.new.media) c.open.ensures.missing made.looked.read.unchanged) c.open.result c.open.ensures.moments
     there.0 there.1 c.file_of.result (c.file_of.ensures ∙ ap (λ (d : Configuration). wished c.args.wish (kind_at d.channels c.in-Some.query.channel)) c.config.ensures) c.in-Some-file_of.file c.in-Some-file_of.is
-    c.export_file-written.result made.file (λ m offset is t. made.damaged m offset is t (told.opened.judged t)) made.looked made.own
+    c.export_file-written.result made.file damage made.looked made.own
     (still_output c.args.world.now.output c.export_file-written.new.out c.export_file-written.result _ (λ (o : g.row.O.Denot). record { taken = g.O.Sink.taken o; faults = g.O.Sink.faults o }) made.silent) made.output)

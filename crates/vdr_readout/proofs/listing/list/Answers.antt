@@ -4,7 +4,7 @@ use Rattle.vdr_command.specs.Opened.{AreLooks}
 use Rattle.vdr_command.specs.declared.status.Status.TheVariants.{Done, OutputFault}
 use Rattle.vdr_command.proofs.OpenedLemmas.{no_looks, refused_ends}
 use Rattle.vdr_readout.proofs.ListLemmas.{listed_ends}
-use Rattle.vdr_readout.proofs.ReadLemmas.{not_done}
+use Rattle.vdr_readout.proofs.RefusedLemmas.{not_done}
 use Rattle.vdr_readout.proofs.listing.list.Goals as goal
 
 pub returns-in_err-recorder-clause-media : goal.returns-in_err-recorder-clause-media

@@ -1,12 +1,15 @@
-use Rattle.std.proofs.Common.{[], inr, refl}
+use Rattle.std.proofs.Common.{◌≡◌, [], Ok, Err, inr, refl}
 use Rattle.std.proofs.lemmas.Result.{err_from_is_err_and}
 use Rattle.vdr_entry.specs.Queries.{asked}
 use Rattle.vdr_command.specs.Opened.{AreLooks}
 use Rattle.vdr_command.specs.Outside.{Outside}
 use Rattle.vdr_command.proofs.OpenedLemmas.{missing_looked, no_looks, refused_ends}
 use Rattle.vdr_readout.specs.Reads.{AskedPlay, plain_play}
+use Rattle.vdr_visit.specs.declared.refused.VisitRefused.TheVariants.{Damaged}
 use Rattle.vdr_readout.proofs.CostLemmas.{reads_few}
-use Rattle.vdr_readout.proofs.ReadLemmas.{channel_reads, never_damaged, opening_reads, read_ends, read_shows, to_read, wanted_so}
+use Rattle.vdr_readout.proofs.DamageLemmas.{told_so}
+use Rattle.vdr_readout.proofs.ReadLemmas.{never_damaged, read_ends, read_shows, to_read, wanted_so}
+use Rattle.vdr_readout.proofs.RefusedLemmas.{channel_reads, opening_reads}
 use Rattle.vdr_opening.specs.Media.{opening_of, parts_of}
 use Rattle.vdr_readout.proofs.reading.read_out.Goals as goal
 
@@ -49,17 +52,20 @@ returns-clause-reads g c first had =
     let wants = wanted_so _ _ _ _ _ (asked c.in-Some.query) c.in-Some.ensures.found.0 c.in-Some.ensures.found.1 in
     let visited = visit.visited first had in
     let undamaged = never_damaged visited in
+    let damage =
+    told_so wanted old.media.disk mid.media.disk new.media.disk c.in_ok-recorder.recorder.vault (asked c.in-Some.query) (λ m offset. c.visit-ended.result ≡ Err (Damaged m offset)) (c.visit-ended.result ≡ Ok tt)
+    wants.is told.opened.known told.opened.judged told.opened.rings c.law_of_meeting.ensures visit.looked.read.unchanged visited.damage in
     rw c.ended_by.ensures.is
     (record {
       shown =
           read_shows wanted old.media mid.media new.media c.in_ok-recorder.recorder c.visit-ended.new.self (asked c.in-Some.query) c.visit-ended.result wants told.opened.works told.opened.parts told.opened.opened told.opened.readable
-          visit.accepted undamaged (λ m offset is t. visited.damaged m offset is t (told.opened.judged t)) visit.looked c.open.ensures.writes.cause.later c.open.ensures.writes.others _ c.ended_by.ensures.own c.open.result c.open.ensures.moments
+          visit.accepted undamaged damage visit.looked c.open.ensures.writes.cause.later c.open.ensures.writes.others _ c.ended_by.ensures.own c.open.result c.open.ensures.moments
           told.opened.contents _ _ _ _ old.output new.output visited
           (λ refused. let same = (visit.unread (inr refused)).3 in λ i. record { taken = g.O.Sink.taken (same i); faults = g.O.Sink.faults (same i) })
           visit.output.rose;
       media =
           read_ends wanted old.media mid.media new.media c.in_ok-recorder.recorder c.visit-ended.new.self (asked c.in-Some.query) c.visit-ended.result wants told.opened.works told.opened.parts told.opened.opened told.opened.readable
-          visit.accepted undamaged (λ m offset is t. visited.damaged m offset is t (told.opened.judged t)) visit.looked c.open.ensures.writes.cause.later c.open.ensures.writes.others _ c.ended_by.ensures.own c.open.result c.open.ensures.moments;
+          visit.accepted undamaged damage visit.looked c.open.ensures.writes.cause.later c.open.ensures.writes.others _ c.ended_by.ensures.own c.open.result c.open.ensures.moments;
       missing = missing_looked (g.M.Media.disk c.args.world.now.media) (g.M.Media.disk c.open.new.media) (g.M.Media.disk c.visit-ended.new.media) c.open.ensures.missing visit.looked.read.unchanged;
       bytes = λ worked x t holds can.
           let readable = to_read wanted old.media mid.media new.media c.in_ok-recorder.recorder c.visit-ended.new.self (asked c.in-Some.query) c.visit-ended.result wants told.opened.works told.opened.parts told.opened.opened

@@ -32,7 +32,7 @@ returns-in_err-id-clause-media g c =
     rw (p.1, p.2)
     (unsaved_ends old mid new c.in_ok-recorder.recorder c.save.new.self
     told.opened.works told.opened.parts told.opened.opened c.open.ensures.writes.cause.later c.open.ensures.writes.others save.writes.others c.args.label.now c.save.result save.event.saved save.event.looked save.event.met_damage (λ refused works is. (save.refuses.refused refused works is).0) save.damage.undamaged
-    (λ m offset is. ((save.damage.damaged m offset is).0, λ t. save.damage.named m offset is t (told.opened.judged t)))
+    (λ m offset is. ((save.damage.damaged m offset is).0, (save.damage.damaged m offset is).2, λ t. save.damage.named m offset is t (told.opened.judged t)))
     c.open.result c.open.ensures.moments save.refuses.reason save.failing.fails save.writes.cause c.in_err-id.field-0.0 c.in_err-id.was)
 
 pub returns-in_err-id-clause-refused : goal.returns-in_err-id-clause-refused
@@ -46,7 +46,7 @@ returns-in_err-id-clause-refused g c =
     rw (p.1, p.2)
     (unsaved_refused old mid new c.in_ok-recorder.recorder c.save.new.self
     told.opened.works told.opened.parts told.opened.opened c.open.ensures.writes.cause.later c.open.ensures.writes.others save.writes.others c.args.label.now c.save.result save.event.saved save.event.looked save.event.met_damage (λ refused works is. (save.refuses.refused refused works is).0) save.damage.undamaged
-    (λ m offset is. ((save.damage.damaged m offset is).0, λ t. save.damage.named m offset is t (told.opened.judged t)))
+    (λ m offset is. ((save.damage.damaged m offset is).0, (save.damage.damaged m offset is).2, λ t. save.damage.named m offset is t (told.opened.judged t)))
     c.open.result c.open.ensures.moments save.refuses.reason save.failing.fails save.writes.cause c.in_err-id.field-0.0 c.in_err-id.was)
 
 pub returns-clause-media : goal.returns-clause-media
@@ -58,7 +58,7 @@ returns-clause-media g c =
     let new : MediaSeen g.M.Media.tells g.M.Media.tells_images = record { disk = g.M.Media.disk c.save.new.media; faults = g.M.Media.faults c.save.new.media; bytes_read = g.M.Media.bytes_read c.save.new.media } in
     saved_ends old mid new c.in_ok-recorder.recorder c.save.new.self
     told.opened.works told.opened.parts told.opened.opened c.open.ensures.writes.cause.later c.open.ensures.writes.others save.writes.others c.args.label.now c.save.result save.event.saved save.event.looked save.event.met_damage (λ refused works is. (save.refuses.refused refused works is).0) save.damage.undamaged
-    (λ m offset is. ((save.damage.damaged m offset is).0, λ t. save.damage.named m offset is t (told.opened.judged t)))
+    (λ m offset is. ((save.damage.damaged m offset is).0, (save.damage.damaged m offset is).2, λ t. save.damage.named m offset is t (told.opened.judged t)))
     c.open.result c.open.ensures.moments _ c.in_ok-id.id c.print_id.ensures.done c.in_ok-id.was save.failing.works
 
 pub returns-clause-printed : goal.returns-clause-printed

@@ -6,7 +6,7 @@ use Rattle.vdr_outside.proofs.Counts.{none_fell, on_err, rose_after}
 use Rattle.vdr_slots.proofs.Fronts.{front_same}
 use Rattle.vdr_vault.proofs.Members.{in_range}
 use Rattle.vdr_vault.proofs.Passed.{its_ring, keeps_on, starts, walks_on, walks_step}
-use Rattle.vdr_vault.proofs.Stepping.{judged_after}
+use Rattle.vdr_vault.proofs.Stepping.{judged_after, unloaded}
 use Rattle.vdr_vault.proofs.appending.append_from.Goals as goal
 
 pub loop-m-init : goal.loop-m-init
@@ -44,7 +44,8 @@ pub returns-in_err-append-clause-judged : goal.returns-in_err-append-clause-judg
 returns-in_err-append-clause-judged g c judged =
     let inv = c.loop-m.invariant in
     let its = (its_ring g.M.Media c.args.from c.loop-m.m c.args.rings.now c.loop-m.rings c.loop-m-test.true c.index-rings-m.result c.args.media.now c.loop-m.media c.requires.rings.1 inv.keeps).medium in
-    judged_after _ c.loop-m.m c.append.new.self (g.M.Media.disk c.loop-m.media) (g.M.Media.disk c.append.new.media) (inv.keeps.rings _ c.requires.rings.1) (in_range c.requires.rings.1 c.loop-m-test.true) c.append.ensures.loaded
+    judged_after _ c.loop-m.m c.append.new.self (g.M.Media.disk c.loop-m.media) (g.M.Media.disk c.append.new.media) (inv.keeps.rings _ c.requires.rings.1)
+    (in_range c.requires.rings.1 c.loop-m-test.true) (unloaded c.append.new.self (g.M.Media.disk c.append.new.media) c.append.ensures.loaded)
     (subst (λ (k : ℕ). g.M.Media.tells → SameBut k (g.M.Media.disk c.loop-m.media).reads (g.M.Media.disk c.append.new.media).reads) its c.append.ensures.writes.others) (inv.judged judged)
 
 pub returns-in_err-append-clause-cause : goal.returns-in_err-append-clause-cause
@@ -77,7 +78,8 @@ loop-m-preserved g c =
       high = omega (arith, high);
       keeps = keeps_on g.M.Media c.args.from c.loop-m.m c.args.rings.now c.loop-m.rings c.loop-m-test.true c.index-rings-m.result c.args.media.now c.loop-m.media c.requires.rings.1 inv.keeps
           inv.low c.append.new.self c.append.new.media c.append.result c.append.ensures.ring c.append.ensures.front c.append.ensures.writes;
-      judged = λ judged. judged_after _ c.loop-m.m c.append.new.self (g.M.Media.disk c.loop-m.media) (g.M.Media.disk c.append.new.media) (inv.keeps.rings _ c.requires.rings.1) high c.append.ensures.loaded
+      judged = λ judged. judged_after _ c.loop-m.m c.append.new.self (g.M.Media.disk c.loop-m.media) (g.M.Media.disk c.append.new.media)
+          (inv.keeps.rings _ c.requires.rings.1) high (unloaded c.append.new.self (g.M.Media.disk c.append.new.media) c.append.ensures.loaded)
           (subst (λ (k : ℕ). g.M.Media.tells → SameBut k (g.M.Media.disk c.loop-m.media).reads (g.M.Media.disk c.append.new.media).reads) its c.append.ensures.writes.others) (inv.judged judged);
       walks = λ ordered sizes placed first all told waits. walks_step g.M.Media c.args.from c.loop-m.m c.args.rings.now c.loop-m.rings c.loop-m-test.true c.index-rings-m.result c.args.media.now c.loop-m.media c.requires.rings.1 inv.keeps
           inv.low c.append.new.self c.append.new.media c.append.result c.append.ensures.ring c.append.ensures.front c.append.ensures.writes ordered sizes c.args.pins.now c.pins_at.result.now placed first all c.args.records.now c.pins_at.ensures told (inv.walks ordered sizes placed first all told waits) c.append.ensures.appended c.append.ensures.kept _ c.in_ok-append.was;

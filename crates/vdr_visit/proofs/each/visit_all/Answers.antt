@@ -4,8 +4,10 @@ use Rattle.std.proofs.lemmas.Result.{err_from_is_err_and}
 use Rattle.vdr_playback.specs.Playback.{selected}
 use Rattle.vdr_entry.specs.Queries.{asked}
 use Rattle.vdr_visit.specs.Prints.{text_of, whole_text}
+use Rattle.vdr_visit.specs.Refusals.{stop_of}
+use Rattle.vdr_visit.proofs.Damages.{none_told}
 use Rattle.vdr_visit.proofs.Printing.{ended_early, stopped_front, stopped_made, stopped_text, whole_at}
-use Rattle.vdr_visit.proofs.Stopping.{not_at_end, not_by_visitor, output_cause, stopped}
+use Rattle.vdr_visit.proofs.Stopping.{not_by_visitor, output_cause, stopped}
 use Rattle.vdr_visit.proofs.each.visit_all.Goals as goal
 
 pub returns-in_err-visit_each-clause-visited : goal.returns-in_err-visit_each-clause-visited
@@ -24,8 +26,9 @@ returns-in_err-finish-clause-visited g c first had =
       made =
           stopped_made _ _ line _ v.seen _ _ _ c.in_err-finish.field-0.0 c.finish.result c.from_residual-in_err-finish.result c.in_err-finish.was is v.made.1
           v.seen [] (sym (append-nil v.seen)) (g.V.Visitor.last first v.seen) (c.finish.ensures.printed first v.seen v.made.0) (c.finish.ensures.stops first v.seen v.made.0);
-      medium = λ k offset damage. absurd (not_by_visitor c.in_err-finish.field-0.0 c.from_residual-in_err-finish.result is k offset damage);
-      damaged = λ k offset damage. absurd (not_by_visitor c.in_err-finish.field-0.0 c.from_residual-in_err-finish.result is k offset damage);
+      damage =
+          none_told (asked c.args.query.now) c.args.vault.now (g.M.Media.disk c.args.media.now) (stop_of c.in_err-finish.field-0.0)
+          c.from_residual-in_err-finish.result is (not_by_visitor c.in_err-finish.field-0.0 c.from_residual-in_err-finish.result is);
       are = λ opening events placed told readable.
           stopped_front c.in_err-finish.field-0.0 c.from_residual-in_err-finish.result is v.seen (selected opening events (asked c.args.query.now))
           ([], sym (v.are opening events placed told readable) ∙ sym (append-nil v.seen));
@@ -48,8 +51,7 @@ returns-clause-visited g c first had =
     record {
       seen = v.seen;
       made = (c.in_ok-finish.ensures.has first v.seen v.made.0, printed);
-      medium = λ k offset damage. absurd (not_at_end k offset damage);
-      damaged = λ k offset damage. absurd (not_at_end k offset damage);
+      damage = v.damage;
       are = λ opening events placed told readable. v.are opening events placed told readable;
       front = λ opening events placed told readable. (
         whole_text line (g.V.Visitor.last first) v.seen,

@@ -1,6 +1,5 @@
 use Rattle.std.proofs.Common.{◌∙◌, Bool, Result, Ok, refl, sym, ap, subst, arith, [], ◌∷◌, ◌++◌}
 use Rattle.std.proofs.KnownBytes.{Appends-nil}
-use Rattle.std.proofs.lemmas.Option.{none-some}
 use Rattle.std.proofs.lemmas.Result.{err_from_is_err_and}
 use Rattle.vdr_playback.specs.Playback.{medium_of, selected}
 use Rattle.vdr_outside.proofs.Counts.{none_falls_join}
@@ -9,10 +8,12 @@ use Rattle.vdr_entry.specs.Queries.{asked, asked_medium}
 use Rattle.vdr_ring.specs.declared.refused.ReadRefused.{ReadRefused}
 use Rattle.vdr_vault.specs.Plays.{AreToCome, HasReadCause}
 use Rattle.vdr_cursor.specs.Walks.{GivesNext}
+use Rattle.vdr_visit.specs.Refusals.{stop_of}
 use Rattle.vdr_visit.proofs.Between.{all_visited, at_first, failed_behind, read_failed, still_has, visited_next, with_next}
+use Rattle.vdr_visit.proofs.Damages.{none_told, passed_first, passed_next, refused_first, refused_told, whole_first, whole_next, whole_told}
 use Rattle.vdr_visit.proofs.Printing.{front_of, front_of_none, printed_next, stopped_front, stopped_made, stopped_text, text_at}
-use Rattle.vdr_visit.proofs.Reading.{damaged_before, left_of, reads_join, reads_keep_failed}
-use Rattle.vdr_visit.proofs.Stopping.{answered, damage_of_read, not_at_end, not_by_visitor, output_cause, stopped, visit_cause}
+use Rattle.vdr_visit.proofs.Reading.{left_of, reads_join, reads_keep_failed}
+use Rattle.vdr_visit.proofs.Stopping.{answered, not_by_visitor, output_cause, stopped, visit_cause}
 use Rattle.vdr_visit.proofs.each.visit_each.Goals as goal
 
 pub returns-in_err-found-clause-visited : goal.returns-in_err-found-clause-visited
@@ -22,10 +23,7 @@ returns-in_err-found-clause-visited g c first had =
     record {
       seen = [];
       made = still_has _ _ _ _ [] _ _ c.in_err-found.field-0.0 c.from_residual.result had (Appends-nil _) is;
-      medium = λ k offset damage. c.first.ensures.steps.medium k offset (damage_of_read c.in_err-found.field-0.0 c.first.result c.from_residual.result c.in_err-found.was is k offset damage);
-      damaged = λ k offset damage told judged.
-          c.first.ensures.steps.damaged told judged (λ slot at. absurd (none-some slot at)) k offset
-          (damage_of_read c.in_err-found.field-0.0 c.first.result c.from_residual.result c.in_err-found.was is k offset damage);
+      damage = refused_first c.args.media.now c.first.new.media c.first.ensures.steps c.in_err-found.field-0.0 c.from_residual.result c.in_err-found.was is;
       are = λ opening events placed told readable.
           read_failed (selected opening events (asked c.args.query.now)) [] (selected opening events (asked c.args.query.now)) c.in_err-found.field-0.0 c.first.result c.first.new.cursor.visit.item
           (AreToCome (asked c.args.query.now) c.first.new.self placed (g.M.Media.disk c.first.new.media) c.first.new.cursor) c.from_residual.result refl
@@ -62,7 +60,8 @@ loop-found-init g c = record {
   may = c.first.ensures.cursor.may;
   item = λ some. c.first.ensures.cursor.item.1 (c.in_ok-found.was ∙ ap (λ (b : Bool). Ok b) some);
   judged = c.first.ensures.keeps.judged;
-  among = λ told judged. c.first.ensures.steps.among told judged (λ slot at. absurd (none-some slot at));
+  passing = passed_first c.args.media.now c.first.new.media c.first.ensures.steps;
+  whole = whole_first c.args.media.now c.first.new.media c.first.ensures.steps c.in_ok-found.found c.in_ok-found.was;
   stands = c.first.ensures.keeps.stands;
   readable = c.first.ensures.keeps.readable;
   visits = λ first had. (
@@ -89,8 +88,9 @@ returns-in_err-visit-clause-visited g c first had =
       made =
           stopped_made _ _ (g.V.Visitor.line first) _ v.0 _ _ _ c.in_err-visit.field-0.0 c.visit.result c.from_residual-in_err-visit.result c.in_err-visit.was is v.2
           (v.0 ++ r ∷ []) (r ∷ []) refl (g.V.Visitor.line first v.0 r) (c.visit.ensures.printed first v.0 v.1) (c.visit.ensures.stops first v.0 v.1);
-      medium = λ k offset damage. absurd (not_by_visitor c.in_err-visit.field-0.0 c.from_residual-in_err-visit.result is k offset damage);
-      damaged = λ k offset damage. absurd (not_by_visitor c.in_err-visit.field-0.0 c.from_residual-in_err-visit.result is k offset damage);
+      damage =
+          none_told (asked c.args.query.now) c.args.vault.now (g.M.Media.disk c.args.media.now) (stop_of c.in_err-visit.field-0.0)
+          c.from_residual-in_err-visit.result is (not_by_visitor c.in_err-visit.field-0.0 c.from_residual-in_err-visit.result is);
       are = λ opening events placed told readable.
           stopped_front c.in_err-visit.field-0.0 c.from_residual-in_err-visit.result is (v.0 ++ r ∷ []) (selected opening events (asked c.args.query.now))
           (with_next (v.3 opening events placed told readable) c.loop-found-test.true r (sym c.in-Some.ensures));
@@ -130,12 +130,9 @@ returns-in_err-found-2-clause-visited g c first had =
     record {
       seen = v.0 ++ r ∷ [];
       made = still_has _ _ _ _ (v.0 ++ r ∷ []) _ _ c.in_err-found-2.field-0.0 c.from_residual-in_err-found-2.result (c.in_ok-visit.ensures.has first v.0 v.1) printed is;
-      medium = λ k offset damage.
-          c.next.ensures.steps.medium k offset (damage_of_read c.in_err-found-2.field-0.0 c.next.result c.from_residual-in_err-found-2.result c.in_err-found-2.was is k offset damage);
-      damaged = λ k offset damage told judged.
-          damaged_before (medium_of (asked_medium c.args.query.now.medium)) c.args.vault.now c.loop-found.vault (g.M.Media.disk c.args.media.now) (g.M.Media.disk c.loop-found.media) i.reads i.unchanged told k offset
-          (c.next.ensures.steps.damaged told (i.judged judged) (i.among told judged) k offset
-          (damage_of_read c.in_err-found-2.field-0.0 c.next.result c.from_residual-in_err-found-2.result c.in_err-found-2.was is k offset damage));
+      damage =
+          refused_told c.args.media.now c.loop-found.media c.next.new.media i.passing i.reads i.unchanged i.judged c.next.ensures.steps
+          c.in_err-found-2.field-0.0 c.from_residual-in_err-found-2.result c.in_err-found-2.was is;
       are = λ opening events placed told readable.
           failed_behind (v.3 opening events placed told readable) c.loop-found-test.true r (sym c.in-Some.ensures) c.next.result c.next.new.cursor.visit.item
           (AreToCome (asked c.args.query.now) c.next.new.self placed (g.M.Media.disk c.next.new.media) c.next.new.cursor)
@@ -171,7 +168,10 @@ loop-found-preserved g c =
       may = c.next.ensures.cursor.may;
       item = λ some. c.next.ensures.cursor.item.1 (c.in_ok-found-2.was ∙ ap (λ (b : Bool). Ok b) some);
       judged = λ judged. c.next.ensures.keeps.judged (i.judged judged);
-      among = λ told judged. c.next.ensures.steps.among told (i.judged judged) (i.among told judged);
+      passing = passed_next c.args.media.now c.loop-found.media c.next.new.media i.passing i.reads i.unchanged i.judged c.next.ensures.steps;
+      whole =
+          whole_next c.args.media.now c.loop-found.media c.next.new.media i.passing i.reads i.unchanged i.judged c.next.ensures.steps
+          c.in_ok-found-2.found c.in_ok-found-2.was;
       stands = λ opening events placed stands. c.next.ensures.keeps.stands opening events placed (i.stands opening events placed stands);
       readable = λ opening events placed h. c.next.ensures.keeps.readable opening events placed (i.readable opening events placed h);
       visits = λ first had.
@@ -193,8 +193,7 @@ returns-clause-visited g c first had =
     record {
       seen = v.0;
       made = (v.1, v.2);
-      medium = λ k offset damage. absurd (not_at_end k offset damage);
-      damaged = λ k offset damage. absurd (not_at_end k offset damage);
+      damage = whole_told (asked c.args.query.now) c.args.vault.now (g.M.Media.disk c.args.media.now) (c.loop-found.invariant.whole c.loop-found-test.false);
       are = λ opening events placed told readable. all_visited (v.3 opening events placed told readable) c.loop-found-test.false;
       front = λ opening events placed told readable.
           front_of (g.V.Visitor.line first) v.0 (v.3 opening events placed told readable).rest (selected opening events (asked c.args.query.now)) _ _ (v.3 opening events placed told readable).split v.2;

@@ -1,115 +1,106 @@
-use Rattle.std.proofs.Common.{◌≡◌, Bool, List, [], Some, Ok, Err, ◌∙◌, ap, sym, subst, arith}
-use Rattle.vdr_entry.specs.Queries.{asked}
-use Rattle.vdr_index.specs.Indexes.{span_as}
+use Rattle.std.proofs.Common.{◌≡◌, Bool, false, [], Some, refl, Ok, Err, ◌∙◌, ap, sym, subst, arith, rules}
 use Rattle.std.proofs.lemmas.Option.{none-some}
 use Rattle.std.proofs.lemmas.Result.{err_from_is_err_and}
-use Rattle.vdr_terms.specs.Records.{Record}
 use Rattle.vdr_ring.specs.declared.refused.ReadRefused.{ReadRefused}
-use Rattle.vdr_ring.specs.Visits.{HasJudged, StandsAmong}
+use Rattle.vdr_entry.specs.Queries.{asked}
+use Rattle.vdr_index.specs.Indexes.{span_as}
+use Rattle.vdr_cursor.specs.Steps.{TellsDamage}
 use Rattle.vdr_cursor.specs.Walks.{AreLeft, CursorState, slots_read}
-use Rattle.vdr_cursor.proofs.Reading.{read_join}
-use Rattle.vdr_cursor.proofs.Midway.{among_since, counts_since, damage_since, entered_onward, found_next, is_behind, left_since, refused_next, refused_spends, within_since}
+use Rattle.vdr_cursor.proofs.Midway.{entered_onward, found_next, found_or_none, is_behind, keeps_since, left_since, meets_at_end, meets_at_start, meets_since}
+use Rattle.vdr_cursor.proofs.Midway.{not_refused, passed_then, refused_next, tells_done, tells_since}
 use Rattle.vdr_cursor.proofs.cursor.Cursor.step.Goals as goal
+
+pub returns-in_err-step_in-clause-keeps : goal.returns-in_err-step_in-clause-keeps
+returns-in_err-step_in-clause-keeps g c =
+    let p = err_from_is_err_and c.from_residual.result c.from_residual.ensures.1 in
+    keeps_since c.loop-self.invariant c.step_in.ensures.keeps c.from_residual.result (c.in_err-step_in.was ∙ sym (p.1 ∙ ap (λ (x : ReadRefused). Err x) p.2))
 
 pub returns-in_err-step_in-clause-plays : goal.returns-in_err-step_in-clause-plays
 returns-in_err-step_in-clause-plays g c told placed records reads left =
     let p = err_from_is_err_and c.from_residual.result c.from_residual.ensures.1 in
-    refused_next c.loop-self.invariant c.step_in.new.self told placed records reads left c.in_err-step_in.field-0.0 c.step_in.result c.from_residual.result c.in_err-step_in.was
-    (p.1 ∙ ap (λ (x : ReadRefused). Err x) p.2) c.step_in.ensures.steps
+    refused_next c.loop-self.invariant c.step_in.new.self c.step_in.result c.step_in.ensures.steps told placed records reads left
+    c.in_err-step_in.field-0.0 c.from_residual.result c.in_err-step_in.was (p.1 ∙ ap (λ (x : ReadRefused). Err x) p.2)
 
-pub returns-in_err-step_in-clause-spends : goal.returns-in_err-step_in-clause-spends
-returns-in_err-step_in-clause-spends g c =
+pub returns-in_err-step_in-clause-tells : goal.returns-in_err-step_in-clause-tells
+returns-in_err-step_in-clause-tells g c =
     let p = err_from_is_err_and c.from_residual.result c.from_residual.ensures.1 in
-    refused_spends c.loop-self.invariant c.step_in.new.ring c.step_in.new.self (g.M.Media.bytes_read c.step_in.new.media) c.step_in.result c.step_in.ensures.spends
-    p.0 c.from_residual.result p.1
+    tells_since c.loop-self.invariant c.step_in.ensures.judges c.from_residual.result (c.in_err-step_in.was ∙ sym (p.1 ∙ ap (λ (x : ReadRefused). Err x) p.2))
+    (λ none. not_refused p.0 (sym none ∙ p.1))
 
-pub returns-then-not-enter_next-clause-spends : goal.returns-then-not-enter_next-clause-spends
-returns-then-not-enter_next-clause-spends g c =
-    let read = g.M.Media.bytes_read c.step_in.new.media in
-    let left = left_since c.loop-self.invariant c.step_in.new.ring c.step_in.new.self read c.step_in.result c.step_in.ensures.spends c.in_ok-step_in.field-0 c.in_ok-step_in.was in
+pub returns-then-not-enter_next-clause-keeps : goal.returns-then-not-enter_next-clause-keeps
+returns-then-not-enter_next-clause-keeps g c =
+    let keeps = keeps_since c.loop-self.invariant c.step_in.ensures.keeps c.step_in.result refl in
+    let left = left_since c.loop-self.invariant c.step_in.ensures.keeps c.in_ok-step_in.field-0 c.in_ok-step_in.was in
     let entered = c.enter_next.ensures.spends in
-    record { within = within_since c.loop-self.invariant c.step_in.new.ring c.step_in.new.self read c.step_in.result c.step_in.ensures.spends; left = omega (arith, left, entered) }
-
-pub returns-clause-spends : goal.returns-clause-spends
-returns-clause-spends g c =
-    let read = g.M.Media.bytes_read c.step_in.new.media in
     record {
-      within = within_since c.loop-self.invariant c.step_in.new.ring c.step_in.new.self read c.step_in.result c.step_in.ensures.spends;
-      left = left_since c.loop-self.invariant c.step_in.new.ring c.step_in.new.self read c.step_in.result c.step_in.ensures.spends c.in_ok-step_in.field-0 c.in_ok-step_in.was;
+      read = keeps.read;
+      counts = keeps.counts;
+      spends = record { within = keeps.spends.within; left = omega (arith, left, entered) };
+      may = search rules;
+      item = search rules;
+      onward = search rules;
+      cause = search rules;
     }
-
-pub returns-then-not-enter_next-clause-read : goal.returns-then-not-enter_next-clause-read
-returns-then-not-enter_next-clause-read g c =
-    read_join c.args.ring.now c.loop-self.ring c.step_in.new.ring (g.M.Media.disk c.args.media.now) (g.M.Media.disk c.loop-self.media) (g.M.Media.disk c.step_in.new.media) c.loop-self.invariant.read
-    c.step_in.ensures.read
 
 pub returns-then-not-enter_next-clause-plays : goal.returns-then-not-enter_next-clause-plays
 returns-then-not-enter_next-clause-plays g c told placed records reads left =
+    let query = asked c.args.selection.now.query in
+    let span = span_as c.args.selection.now.span in
     let slots = slots_read c.args.ring.now (g.M.Media.disk c.args.media.now) in
-    let later = c.step_in.ensures.read.reads placed (c.loop-self.invariant.read.reads placed reads) in
-    let behind = is_behind c.loop-self.invariant c.step_in.new.self told placed records reads left c.in_ok-step_in.field-0 c.step_in.result c.in_ok-step_in.was c.if-not-branch.true
-    c.step_in.ensures.steps in
+    let later = c.step_in.ensures.keeps.read.reads placed (c.loop-self.invariant.read.reads placed reads) in
+    let behind =
+    is_behind c.loop-self.invariant c.step_in.new.self c.step_in.result c.step_in.ensures.steps told placed records reads left
+    (c.in_ok-step_in.was ∙ ap (λ (b : Bool). Ok b) c.if-not-branch.true) in
     let entered = c.enter_next.ensures.enters slots placed records later.directory later.order behind in
-    let none : records ≡ [] = entered.1 c.if-not-enter_next.true in (
-      none,
-      c.enter_next.ensures.item,
-      subst (λ (rs : List Record). AreLeft slots placed (asked c.args.selection.now.query) (Some (span_as c.args.selection.now.span)) c.enter_next.new.self rs) none entered.0,
-    )
+    let none : records ≡ [] = entered.1 c.if-not-enter_next.true in
+    (none, c.enter_next.ensures.item, subst (AreLeft slots placed query (Some span) c.enter_next.new.self) none entered.0)
+
+pub returns-then-not-enter_next-clause-tells : goal.returns-then-not-enter_next-clause-tells
+returns-then-not-enter_next-clause-tells g c =
+    let query = asked c.args.selection.now.query in
+    let span = span_as c.args.selection.now.span in
+    let keeps = keeps_since c.loop-self.invariant c.step_in.ensures.keeps c.step_in.result refl in
+    subst (λ (s : CursorState). TellsDamage query span c.args.ring.now (g.M.Media.disk c.args.media.now) c.args.self.now s (Ok false))
+    (sym (c.enter_next.ensures.stays c.if-not-enter_next.true))
+    (tells_done c.loop-self.invariant c.step_in.ensures.judges keeps.read (c.in_ok-step_in.was ∙ ap (λ (b : Bool). Ok b) c.if-not-branch.true)
+    c.enter_next.ensures.passes c.if-not-enter_next.true)
 
 pub loop-self-preserved : goal.loop-self-preserved
-loop-self-preserved g c = record {
-  read = read_join c.args.ring.now c.loop-self.ring c.step_in.new.ring (g.M.Media.disk c.args.media.now) (g.M.Media.disk c.loop-self.media) (g.M.Media.disk c.step_in.new.media)
-      c.loop-self.invariant.read c.step_in.ensures.read;
-  counts = counts_since c.loop-self.invariant (g.M.Media.bytes_read c.step_in.new.media) (g.M.Media.faults c.step_in.new.media) c.step_in.ensures.counts;
-  spent =
-      let left = left_since c.loop-self.invariant c.step_in.new.ring c.step_in.new.self (g.M.Media.bytes_read c.step_in.new.media) c.step_in.result c.step_in.ensures.spends c.in_ok-step_in.field-0 c.in_ok-step_in.was in
-      let entered = c.enter_next.ensures.spends in omega (arith, left, entered);
-  may = c.enter_next.ensures.may;
-  among = λ told judged stands slot at. absurd (none-some slot (sym (c.enter_next.ensures.front c.if-not-enter_next.false) ∙ at));
-  onward = entered_onward c.loop-self.invariant c.step_in.new.self c.enter_next.new.self c.step_in.ensures.standing (c.enter_next.ensures.entered c.if-not-enter_next.false);
-  left = λ told placed records reads left.
-      let later = c.step_in.ensures.read.reads placed (c.loop-self.invariant.read.reads placed reads) in
-      let behind = is_behind c.loop-self.invariant c.step_in.new.self told placed records reads left c.in_ok-step_in.field-0 c.step_in.result c.in_ok-step_in.was c.if-not-branch.true
-      c.step_in.ensures.steps in
-      (c.enter_next.ensures.enters (slots_read c.args.ring.now (g.M.Media.disk c.args.media.now)) placed records later.directory later.order behind).0;
-}
+loop-self-preserved g c =
+    let query = asked c.args.selection.now.query in
+    let span = span_as c.args.selection.now.span in
+    let start = slots_read c.args.ring.now (g.M.Media.disk c.args.media.now) in
+    let judges = c.step_in.ensures.judges in
+    let entered = c.if-not-enter_next.false in
+    let keeps = keeps_since c.loop-self.invariant c.step_in.ensures.keeps c.step_in.result refl in
+    let left = left_since c.loop-self.invariant c.step_in.ensures.keeps c.in_ok-step_in.field-0 c.in_ok-step_in.was in
+    let spends = c.enter_next.ensures.spends in
+    let none = c.in_ok-step_in.was ∙ ap (λ (b : Bool). Ok b) c.if-not-branch.true in
+    record {
+      read = keeps.read;
+      counts = keeps.counts;
+      spent = omega (arith, left, spends);
+      may = c.enter_next.ensures.may;
+      among = λ told judged stands slot at. absurd (none-some slot (sym (c.enter_next.ensures.front entered) ∙ at));
+      meets = λ meets.
+          let there = meets_at_end query span c.step_in.new.self.standing keeps.read (meets_since c.loop-self.invariant judges meets) in
+          meets_at_start query span c.enter_next.new.self.standing keeps.read (c.enter_next.ensures.meets there);
+      passed = passed_then c.loop-self.invariant judges keeps.read none c.enter_next.ensures.passes;
+      onward = entered_onward c.loop-self.invariant c.step_in.new.self c.enter_next.new.self judges.standing (c.enter_next.ensures.entered entered);
+      left = λ told placed records reads left.
+          let later = c.step_in.ensures.keeps.read.reads placed (c.loop-self.invariant.read.reads placed reads) in
+          let behind = is_behind c.loop-self.invariant c.step_in.new.self c.step_in.result c.step_in.ensures.steps told placed records reads left none in
+          (c.enter_next.ensures.enters start placed records later.directory later.order behind).0;
+    }
 
-pub returns-in_err-step_in-clause-read : goal.returns-in_err-step_in-clause-read
-returns-in_err-step_in-clause-read g c =
-    read_join c.args.ring.now c.loop-self.ring c.step_in.new.ring (g.M.Media.disk c.args.media.now) (g.M.Media.disk c.loop-self.media) (g.M.Media.disk c.step_in.new.media) c.loop-self.invariant.read
-    c.step_in.ensures.read
-
-pub returns-in_err-step_in-clause-among : goal.returns-in_err-step_in-clause-among
-returns-in_err-step_in-clause-among g c = among_since c.loop-self.invariant c.step_in.new.self.visit c.step_in.ensures.among
-
-pub returns-in_err-step_in-clause-damaged : goal.returns-in_err-step_in-clause-damaged
-returns-in_err-step_in-clause-damaged g c m offset is =
-    let p = err_from_is_err_and c.from_residual.result c.from_residual.ensures.1 in
-    damage_since c.loop-self.invariant m offset (c.step_in.ensures.damaged m offset (c.in_err-step_in.was ∙ sym (p.1 ∙ ap (λ (x : ReadRefused). Err x) p.2) ∙ is))
-
-pub returns-then-not-enter_next-clause-among : goal.returns-then-not-enter_next-clause-among
-returns-then-not-enter_next-clause-among g c =
-    let same = c.enter_next.ensures.stays c.if-not-enter_next.true in
-    subst
-    (λ (s : CursorState). g.M.Media.tells → HasJudged c.args.ring.now (g.M.Media.disk c.args.media.now) → StandsAmong c.args.ring.now (g.M.Media.disk c.args.media.now) c.args.self.now.visit → StandsAmong c.args.ring.now (g.M.Media.disk c.args.media.now) s.visit)
-    (sym same) (among_since c.loop-self.invariant c.step_in.new.self.visit c.step_in.ensures.among)
-
-pub returns-clause-read : goal.returns-clause-read
-returns-clause-read g c =
-    read_join c.args.ring.now c.loop-self.ring c.step_in.new.ring (g.M.Media.disk c.args.media.now) (g.M.Media.disk c.loop-self.media) (g.M.Media.disk c.step_in.new.media) c.loop-self.invariant.read
-    c.step_in.ensures.read
-
-pub returns-clause-counts : goal.returns-clause-counts
-returns-clause-counts g c = counts_since c.loop-self.invariant (g.M.Media.bytes_read c.step_in.new.media) (g.M.Media.faults c.step_in.new.media) c.step_in.ensures.counts
-
-pub returns-clause-among : goal.returns-clause-among
-returns-clause-among g c = among_since c.loop-self.invariant c.step_in.new.self.visit c.step_in.ensures.among
-
-pub returns-clause-onward : goal.returns-clause-onward
-returns-clause-onward g c is =
-    let here = c.step_in.ensures.onward (c.in_ok-step_in.was ∙ ap (λ (b : Bool). Ok b) c.if-not-branch.false) in
-    let before = c.loop-self.invariant.onward in omega (arith, here, before)
+pub returns-clause-keeps : goal.returns-clause-keeps
+returns-clause-keeps g c = keeps_since c.loop-self.invariant c.step_in.ensures.keeps _ (c.in_ok-step_in.was ∙ ap (λ (b : Bool). Ok b) c.if-not-branch.false)
 
 pub returns-clause-plays : goal.returns-clause-plays
 returns-clause-plays g c told placed records reads left =
-    found_next c.loop-self.invariant c.step_in.new.self told placed records reads left c.in_ok-step_in.field-0 c.step_in.result c.in_ok-step_in.was c.if-not-branch.false c.step_in.ensures.steps
+    found_next c.loop-self.invariant c.step_in.new.self c.step_in.result c.step_in.ensures.steps told placed records reads left
+    (c.in_ok-step_in.was ∙ ap (λ (b : Bool). Ok b) c.if-not-branch.false)
+
+pub returns-clause-tells : goal.returns-clause-tells
+returns-clause-tells g c =
+    tells_since c.loop-self.invariant c.step_in.ensures.judges _ (c.in_ok-step_in.was ∙ ap (λ (b : Bool). Ok b) c.if-not-branch.false) found_or_none

@@ -6,8 +6,7 @@ use Rattle.vdr_cursor.proofs.cursor.Cursor.step.Given as goal
 
 abbrev pub invariant-loop-self : goal.invariant-loop-self
 invariant-loop-self g l =
-    IsMidway l.initial.ring l.ring l.initial.self l.self (g.M.Media.disk l.initial.media) (g.M.Media.disk l.media) (g.M.Media.bytes_read l.initial.media) (g.M.Media.bytes_read l.media)
-    (g.M.Media.faults l.initial.media) (g.M.Media.faults l.media) (asked l.selection.query) (span_as l.selection.span)
+    IsMidway g.M.Media (asked l.selection.query) (span_as l.selection.span) l.initial.ring l.ring l.initial.self l.self l.initial.media l.media
 
 abbrev pub decreases-loop-self : goal.decreases-loop-self
 decreases-loop-self g l = segments_left l.self.standing

@@ -44,6 +44,7 @@ returns-clause-opened g c = record {
         has_opened (opening_of x) c.in_ok-vault.vault opened.0 (g.M.Media.disk c.open.new.media) opened.1 on.synced c.in-Ok.maker on.before_exit on.since,
       );
   parts = search rules;
+  known = search rules;
   contents = search rules;
   readable = search rules;
   works = search rules;

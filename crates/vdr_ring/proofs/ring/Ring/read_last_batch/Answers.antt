@@ -96,7 +96,7 @@ returns-in-Err-Damaged-clause-batch g c =
       damaged = λ told judged m offset is.
           let same : ◌≡◌ {A = Result Bool ReadRefused} (Err c.in-Err-Damaged.field-0) (Err (Damaged m offset)) = search rules in
           let h = (c.in-Err-Damaged.ensures.damaged m offset same).1 told in
-          record { slot = c.in-Some.slot; within = c.in-Some.ensures.within; at = h.0; damaged = h.1; is = h.2 };
+          record { slot = c.in-Some.slot; within = c.in-Some.ensures.within; damaged = record { at = h.0; damaged = h.1; is = h.2 } };
     }
 
 pub returns-in_default-clause-batch : goal.returns-in_default-clause-batch

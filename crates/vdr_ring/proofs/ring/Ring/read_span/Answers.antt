@@ -44,7 +44,7 @@ returns-clause-steps g c =
       among = λ told judged stands. stands_among ring before slot c.args.visit.now c.step_in.new.visit c.args.selection.now c.step_in.result (intact told judged) stands (stepped told judged);
       medium = search rules;
       damaged = λ told judged stands.
-          step_damage ring before slot c.args.visit.now c.step_in.new.visit c.args.selection.now c.step_in.result (intact told judged) stands (stepped told judged) c.requires.within;
+          step_damage ring before slot c.args.visit.now c.step_in.new.visit c.args.selection.now c.step_in.result (intact told judged) stands (stepped told judged);
     }
 
 pub returns-in_err-held-clause-steps : goal.returns-in_err-held-clause-steps

@@ -4,7 +4,7 @@ use Rattle.vdr_terms.specs.Records.{last}
 use Rattle.vdr_terms.specs.Sizes.{batch_size}
 use Rattle.vdr_outside.proofs.Counts.{none_falls_join, on_err}
 use Rattle.vdr_ring.specs.Rings.{RingState}
-use Rattle.vdr_opening.specs.Answers.{AreRingsOf}
+use Rattle.vdr_opening.specs.Answers.{AreJudgedOn, AreRingsOf}
 use Rattle.vdr_vault.specs.Calls.{Commits}
 use Rattle.vdr_vault.specs.Vaults.{working_from}
 use Rattle.vdr_vault.specs.contracts.vault.Vault.{the_view}
@@ -28,7 +28,13 @@ returns-in_err-bring_up_all-clause-keeps g c =
     let are = rw (sym c.self.view_is) at c.requires.rings in
     let after = (rw c.deref_mut.ensures.value at c.bring_up_all.ensures.keeps).rings _ are in
     let same = same_rings c.self.inside.rings c.bring_up_all.new.rings are after in
-    rw (sym c.self.view_is) (record { config = refl; table = refl; rings = subst (AreRingsOf c.self.inside.config (g.M.Media.disk c.bring_up_all.new.media).sizes) (sym same) after })
+    let call = rw c.deref_mut.ensures.value at c.bring_up_all.ensures in
+    rw (sym c.self.view_is) (record {
+      config = refl;
+      table = refl;
+      rings = subst (AreRingsOf c.self.inside.config (g.M.Media.disk c.bring_up_all.new.media).sizes) (sym same) after;
+      judged = λ judged. subst (λ (rs : List RingState). AreJudgedOn rs (g.M.Media.disk c.bring_up_all.new.media)) (sym same) (call.judged judged);
+    })
 
 pub returns-in_err-bring_up_all-clause-cause : goal.returns-in_err-bring_up_all-clause-cause
 returns-in_err-bring_up_all-clause-cause g c = vault_cause _ _ _ c.bring_up_all.ensures.keeps.later (on_err _ c.in_err-bring_up_all.ensures.cause)
@@ -56,10 +62,16 @@ returns-clause-commits g c = rw (sym c.self.view_is) (λ opening events e taken 
 pub returns-clause-keeps : goal.returns-clause-keeps
 returns-clause-keeps g c =
     let are = rw (sym c.self.view_is) at c.requires.rings in
-    let up = rw c.deref_mut.ensures.value at c.bring_up_all.ensures.keeps in
-    let mid = up.rings _ are in
-    let call = rw (c.deref_mut-2.ensures.value ∙ same_rings c.self.inside.rings c.bring_up_all.new.rings are mid) at c.append_from.ensures.keeps in
-    rw (sym c.self.view_is) (record { config = refl; table = refl; rings = subst (AreRingsOf c.self.inside.config (g.M.Media.disk c.append_from.new.media).sizes) (sym (lent_twice g.M.Media c.self.inside.rings are up call)) (call.rings _ mid) })
+    let up = rw c.deref_mut.ensures.value at c.bring_up_all.ensures in
+    let mid = up.keeps.rings _ are in
+    let call = rw (c.deref_mut-2.ensures.value ∙ same_rings c.self.inside.rings c.bring_up_all.new.rings are mid) at c.append_from.ensures in
+    let lent = sym (lent_twice g.M.Media c.self.inside.rings are up.keeps call.keeps) in
+    rw (sym c.self.view_is) (record {
+      config = refl;
+      table = refl;
+      rings = subst (AreRingsOf c.self.inside.config (g.M.Media.disk c.append_from.new.media).sizes) lent (call.keeps.rings _ mid);
+      judged = λ judged. subst (λ (rs : List RingState). AreJudgedOn rs (g.M.Media.disk c.append_from.new.media)) lent (call.judged (up.judged judged));
+    })
 
 pub returns-clause-cause : goal.returns-clause-cause
 returns-clause-cause g c =

@@ -42,3 +42,18 @@ returns-clause-goes_on g c =
           (ap (λ (r : Record). r.tick) c.newest.view_is) (to_z-of_z w64 c.newest.inside.utc fits ∙ ap (λ (r : Record). r.utc) c.newest.view_is);
       kept = tt;
     }
+
+pub returns-in_err-append_to_all-clause-keeps : goal.returns-in_err-append_to_all-clause-keeps
+returns-in_err-append_to_all-clause-keeps g c =
+    let kept = c.append_to_all.ensures.keeps in
+    rw (sym c.self.view_is) (record { config = kept.config; table = kept.table; rings = kept.rings; judged = kept.judged })
+
+pub returns-clause-keeps : goal.returns-clause-keeps
+returns-clause-keeps g c =
+    let kept = c.append_to_all.ensures.keeps in
+    rw (sym c.self.view_is) (record {
+      config = ap (λ (s : VaultState). s.config) c.self-2.view_is ∙ kept.config;
+      table = ap (λ (s : VaultState). s.table) c.self-2.view_is ∙ kept.table;
+      rings = rw (sym c.self-2.view_is) at kept.rings;
+      judged = rw (sym c.self-2.view_is) at kept.judged;
+    })

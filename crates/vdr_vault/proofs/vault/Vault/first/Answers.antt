@@ -21,5 +21,6 @@ returns-clause-spends g c =
 
 pub returns-clause-steps : goal.returns-clause-steps
 returns-clause-steps g c =
-    steps_first g.M.Media (medium_of (asked c.args.query.now).medium) c.args.self.now c.next.new.self c.new.result c.next.new.cursor c.args.media.now c.next.new.media c.next.result c.new.ensures.standing c.new.ensures.slot
+    steps_first g.M.Media (asked c.args.query.now) c.args.self.now c.next.new.self c.new.result c.next.new.cursor c.args.media.now c.next.new.media
+    c.next.result c.new.ensures.standing c.new.ensures.slot
     c.next.ensures.steps

@@ -8,7 +8,7 @@ use Rattle.vdr_directory.specs.Sequence.{Placed}
 use Rattle.vdr_opening.specs.Media.{members, Contents, HoldsContents, HoldsParts, opening_of, reading_of}
 use Rattle.vdr_opening.specs.Refusals.{IsRefused}
 use Rattle.vdr_vault.specs.Vaults.{IsReadable, VaultState, ShowsHistory, Stands}
-use Rattle.vdr_vault.specs.Openings.{IsToldBy}
+use Rattle.vdr_vault.specs.Openings.{IsToldBy, TellsOfParts}
 use Rattle.vdr_vault.specs.Regularity.{AreSound}
 use Rattle.vdr_opening.specs.Costs.{ReadsToOpen}
 use Rattle.vdr_vault.proofs.OpenCosts.{reads_since}
@@ -56,6 +56,11 @@ returns-clause-opened g c = record {
       (λ vault. g.M.Media.tells → HasParts (g.M.Media.disk c.args.media.now).reads vault)
       (λ vault h told. subst (λ (i : Image). HasParts i vault) (c.sync_all.ensures.reads told) (h told))
       c.open_synced.ensures.parts;
+  known = IfOk-weaker c.open_synced.result
+      (λ vault. (x : Contents) → g.M.Media.tells → HoldsParts (g.M.Media.disk c.sync_all.new.media).reads x → TellsOfParts x vault)
+      (λ vault. (x : Contents) → g.M.Media.tells → HoldsParts (g.M.Media.disk c.args.media.now).reads x → TellsOfParts x vault)
+      (λ vault h x told holds. h x told (subst (λ (i : Image). HoldsParts i x) (sym (c.sync_all.ensures.reads told)) holds))
+      c.open_synced.ensures.known;
   contents = IfOk-weaker c.open_synced.result
       (λ vault. (x : Contents) → g.M.Media.tells → All (λ m. Durable m (g.M.Media.disk c.sync_all.new.media)) members → HoldsContents (g.M.Media.disk c.sync_all.new.media).reads x
       → EndsMeet members (reading_of x) × IsToldBy x vault)

@@ -1,11 +1,12 @@
-use Rattle.std.proofs.Common.{ℕ, List, refl, sym, subst, ◌∙◌, arith}
+use Rattle.std.proofs.Common.{ℕ, List, refl, sym, ap, subst, ◌∙◌, arith}
 use Rattle.std.proofs.lemmas.Result.{err_from_is_err_and}
 use Rattle.vdr_terms.proofs.Results.{same_err}
+use Rattle.vdr_vault.specs.Vaults.{VaultState, ring_of}
 use Rattle.vdr_vault.proofs.Members.{ring_there}
 use Rattle.vdr_vault.proofs.OpenMoments.{fault_unless_ok, no_fault, goes_on, never_both, opened_to_read, opening_meanwhile, read_on, readable_as, reading_meanwhile, same_beside}
 use Rattle.vdr_vault.proofs.OpenCosts.{reads_as}
 use Rattle.vdr_opening.specs.Costs.{ReadsToOpen}
-use Rattle.vdr_vault.proofs.OpenContents.{level_lacks_none, newest_opened, newest_read, place_opened, place_read}
+use Rattle.vdr_vault.proofs.OpenContents.{level_lacks_none, newest_opened, newest_read, place_opened, place_read, tells_of_parts}
 use Rattle.vdr_media.proofs.Two.{second_of}
 use Rattle.vdr_outside.proofs.Counts.{none_falls_join}
 use Rattle.vdr_vault.proofs.vault.Vault.open_synced.Goals as goal
@@ -26,7 +27,7 @@ returns-in_default-clause-meanwhile g c x told durable holds =
     let ends = rw (c.index.ensures ∙ ring_there shape.rings 0 (omega arith) _) at c.ending-next_place.ensures in
     let behind = rw (sym c.deref.ensures.value) at shape.behind in
     opening_meanwhile (λ m. g.M.Media.disk m) x (g.M.Media.disk c.args.media.now) c.read_media.new.media c.reconcile.new.media c.read_media.ensures.unchanged
-    (λ level. (c.reconcile.ensures.level (level_lacks_none _ x (g.M.Media.disk c.read_media.new.media) o behind level)).1) (c.reconcile.ensures.within x told o)
+    (λ level. (c.reconcile.ensures.level (level_lacks_none _ (g.M.Media.disk c.read_media.new.media) behind x o level)).1) (c.reconcile.ensures.within x told o)
     (λ sound. (c.reconcile.ensures.reconciled x told o sound (goes_on x _ _ _ (g.M.Media.disk c.read_media.new.media) told o ends.next_place ends.last)).moments)
 
 pub returns-in_default-clause-blank : goal.returns-in_default-clause-blank
@@ -52,7 +53,7 @@ returns-clause-meanwhile g c x told durable holds =
     let ends = rw (c.index.ensures ∙ ring_there shape.rings 0 (omega arith) _) at c.ending-next_place.ensures in
     let behind = rw (sym c.deref.ensures.value) at shape.behind in
     opening_meanwhile (λ m. g.M.Media.disk m) x (g.M.Media.disk c.args.media.now) c.read_media.new.media c.reconcile.new.media c.read_media.ensures.unchanged
-    (λ level. (c.reconcile.ensures.level (level_lacks_none _ x (g.M.Media.disk c.read_media.new.media) o behind level)).1) (c.reconcile.ensures.within x told o)
+    (λ level. (c.reconcile.ensures.level (level_lacks_none _ (g.M.Media.disk c.read_media.new.media) behind x o level)).1) (c.reconcile.ensures.within x told o)
     (λ sound. (c.reconcile.ensures.reconciled x told o sound (goes_on x _ _ _ (g.M.Media.disk c.read_media.new.media) told o ends.next_place ends.last)).moments)
 
 pub returns-clause-opened : goal.returns-clause-opened
@@ -82,6 +83,15 @@ returns-clause-parts g c told =
       },
     )
 
+pub returns-clause-known : goal.returns-clause-known
+returns-clause-known g c x told holds =
+    let was = rw (sym c.config.view_is) at c.in_ok-config.ensures.parts told in
+    let shape = rw (sym c.config.view_is) at c.in_ok-config.ensures.shape in
+    let h = rw (c.read_media.ensures.unchanged.reads told) at was.1.holds in
+    let same = c.law_of_parts.ensures.known (g.M.Media.disk c.args.media.now).reads was.0 x h holds in
+    tells_of_parts _ (g.M.Media.disk c.read_media.new.media) shape.behind x was.0 c.reconcile.new.self was.1 same.0 same.1 c.reconcile.ensures.capsule
+    (λ none. ap (λ (s : VaultState). ring_of s 1) (c.reconcile.ensures.level (c.deref.ensures.value ∙ none)).0)
+
 pub returns-clause-contents : goal.returns-clause-contents
 returns-clause-contents g c x told durable holds =
     let was = rw (sym c.config.view_is) at c.in_ok-config.ensures.opened told durable x holds in
@@ -103,7 +113,7 @@ returns-clause-readable g c = λ x told durable holds level.
     let o = read_on _ c.deref.result.now x (g.M.Media.disk c.read_media.new.media) c.deref.ensures.value was in
     let shape = rw (sym c.config.view_is) at c.in_ok-config.ensures.shape in
     let behind = rw (sym c.deref.ensures.value) at shape.behind in
-    let still = c.reconcile.ensures.level (level_lacks_none _ x (g.M.Media.disk c.read_media.new.media) o behind level) in
+    let still = c.reconcile.ensures.level (level_lacks_none _ (g.M.Media.disk c.read_media.new.media) behind x o level) in
     readable_as (λ m. g.M.Media.disk m) x _ c.reconcile.new.self c.read_media.new.media c.reconcile.new.media still.0 still.1
     (opened_to_read x _ _ _ (g.M.Media.disk c.read_media.new.media) o level refl)
 

@@ -1,6 +1,6 @@
-use Rattle.std.proofs.Common.{◌≡◌, ◌<◌, ℕ, List, length, sym, ◌∙◌, subst, arith}
+use Rattle.std.proofs.Common.{◌≡◌, ◌<◌, ℕ, List, length, sym, ap, ◌∙◌, subst, arith}
 use Rattle.vdr_ring.specs.Rings.{RingState}
-use Rattle.vdr_opening.specs.Answers.{AreJudgedOn, AreRingsOf}
+use Rattle.vdr_opening.specs.Answers.{AreJudgedOn, AreRingsOf, ring_at}
 use Rattle.vdr_opening.specs.Media.{members}
 use Rattle.vdr_vault.specs.Openings.{Reconciles}
 use Rattle.vdr_vault.specs.contracts.vault.Vault.{the_view}
@@ -12,6 +12,10 @@ use Rattle.vdr_vault.proofs.vault.Vault.reconcile.Goals as goal
 
 is_one : {lacking : ℕ} → (0 < lacking) × (lacking < length members) → lacking ≡ 1
 is_one behind = let low = behind.0 in let high = behind.1 in omega (arith, low, high)
+
+-- the capsule is not appended to
+before_one : 0 < 1
+before_one = omega arith
 
 pub returns-then-is_empty-clause-reconciled : goal.returns-then-is_empty-clause-reconciled
 returns-then-is_empty-clause-reconciled g c x told opened regular behind =
@@ -54,6 +58,15 @@ returns-clause-rings g c =
     let call = rw (c.deref_mut.ensures.value, one) at c.append_from.ensures in
     let after = call.keeps.rings _ are in
     subst (AreRingsOf c.self.inside.config (g.M.Media.disk c.append_from.new.media).sizes) (sym (same_rings c.self.inside.rings c.append_from.new.rings are after)) after
+
+pub returns-clause-capsule : goal.returns-clause-capsule
+returns-clause-capsule g c = rw (sym c.self.view_is) (
+    let some = some_of_length c.args.missing.now (sym c.is_empty.ensures ∙ c.if-is_empty.false) in
+    let one = is_one (c.requires.behind some) in
+    let are = rw (sym c.self.view_is) at c.requires.rings in
+    let call = rw (c.deref_mut.ensures.value, one) at c.append_from.ensures in
+    let same = same_rings c.self.inside.rings c.append_from.new.rings are (call.keeps.rings _ are) in
+    ap (λ (rs : List RingState). ring_at rs 0) same ∙ call.keeps.untouched 0 before_one)
 
 pub returns-clause-judged : goal.returns-clause-judged
 returns-clause-judged g c = rw (sym c.self.view_is) (λ told judged.
