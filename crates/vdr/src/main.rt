@@ -3,7 +3,7 @@
 
 use std::env;
 use std::process::ExitCode;
-use vdr_program::{Alarm, command_line, tcp_desk, udp_lanes};
+use vdr_live::{Alarm, command_line, tcp_desk, udp_lanes};
 use vdr_tool::Status;
 
 fn main(rt: HostRuntime) -> ExitCode {

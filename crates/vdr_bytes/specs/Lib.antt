@@ -1,2 +1,4 @@
 -- Numbers as bytes.
 pub mod Numbers
+pub mod Digits
+pub mod Checksum

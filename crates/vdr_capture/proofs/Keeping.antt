@@ -5,7 +5,7 @@ use Rattle.vdr_terms.specs.declared.datagram.Verdict.TheVariants.{Yes, Bad, Larg
 use Rattle.vdr_terms.specs.Records.{Item, last}
 use Rattle.vdr_terms.specs.Datagrams.{verdict, is_bad, is_large}
 use Rattle.vdr_terms.specs.Counting.{Tally, pushed, tallied, no_tally, one_full, one_bad, one_large}
-use Rattle.vdr_history.specs.Taken.{Captured, AreQueued}
+use Rattle.vdr_core.specs.Taken.{Captured, AreQueued}
 use Rattle.vdr_core.specs.Machine.{captured}
 use Rattle.vdr_core.proofs.Counted.{count_yes, count_no, length_snoc, none_counted, counts_bad, counts_large, counts_full}
 use Rattle.vdr_core.proofs.Lanes.{queue_more}

@@ -3,7 +3,7 @@ use Rattle.std.specs.Prelude.{◌≡◌, ℕ, ◌+◌, ◌⊎◌, List, [], ◌�
 use Rattle.vdr_terms.specs.Records.{Item, total}
 use Rattle.vdr_terms.specs.Datagrams.{verdict, is_bad, is_large}
 use Rattle.vdr_terms.specs.Counting.{Tally, pushed, tallied, one_full}
-use Rattle.vdr_history.specs.Taken.{Captured, Feeds}
+use Rattle.vdr_core.specs.Taken.{Captured, Feeds}
 use Rattle.vdr_intake.specs.Ends.{Feeding}
 
 -- What the worker counted as full: with each item pushed what was missed before it, and what was missed since the last.

@@ -1,7 +1,7 @@
 -- By exclusion: media that can't be opened are refused by their own refusal. A run begins on what was read as on what is held.
 use Rattle.std.proofs.Common.{◌≡◌, ◌∙◌, ap, inl, inr, ℕ, List, [], None, refl}
 use Rattle.vdr_terms.specs.Records.{last}
-use Rattle.vdr_history.specs.Histories.{stamp_of}
+use Rattle.vdr_core.specs.Histories.{stamp_of}
 use Rattle.vdr_durability.specs.Readings.{EndsMeet, Reading, next_after, records_on, restored}
 use Rattle.vdr_outside.specs.Disk.{Image}
 use Rattle.vdr_media.specs.Formatted.{IsFormatted, IsUnformatted}

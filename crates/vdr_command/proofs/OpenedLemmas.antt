@@ -3,8 +3,8 @@ use Rattle.std.specs.Prelude.{IsErrOf, ⊤}
 use Rattle.std.proofs.Common.{◌≡◌, ◌≤◌, ◌⊎◌, ◌∷◌, ◌++◌, ap, inl, inr, ⊎_elim, ℕ, false, List, [], Result, Ok, Err, refl, sym, subst, arith, ◌∙◌}
 use Rattle.std.proofs.lemmas.List.Elements.{All-cons, All-nil}
 use Rattle.vdr_terms.specs.Records.{Record}
-use Rattle.vdr_history.specs.Histories.{Act, Event, recorded, records_of_act}
-use Rattle.vdr_history.specs.Histories.Act.{Look}
+use Rattle.vdr_core.specs.Histories.{Act, Event, recorded, records_of_act}
+use Rattle.vdr_core.specs.Histories.Act.{Look}
 use Rattle.vdr_durability.specs.Readings.{EndsMeet}
 use Rattle.vdr_outside.specs.Disk.{Disk, SameBut, Unchanged}
 use Rattle.vdr_outside.proofs.Moments.{moments_and_reads}
@@ -25,10 +25,10 @@ use Rattle.vdr_command.specs.Statuses.{status_of_opening}
 use Rattle.vdr_command.specs.Outside.{MediaSeen}
 use Rattle.vdr_command.specs.declared.status.Status.{Status}
 use Rattle.vdr_command.specs.declared.status.Status.TheVariants.{Done, Words, Config, Small, Unformatted, Formatted, Damaged, MediaFault, PortFault, LinkFault, InputFault, OutputFault, NoMemory, Feed, NoChannel, NoIncident, SaveRefused, Place, Tick, ExportKind, ExportNothing, ExportMixed, ExportLong, ExportPart}
-use Rattle.vdr_headline.proofs.Headlines.{after_opening, only_opened, order_quiet}
-use Rattle.vdr_headline.proofs.Passing.{passes_opened}
-use Rattle.vdr_headline.proofs.Playing.{config_read, plays}
-use Rattle.vdr_headline.proofs.Resting.{stand_reads}
+use Rattle.vdr_recorder.proofs.Headlines.{after_opening, only_opened, order_quiet}
+use Rattle.vdr_recorder.proofs.Passing.{passes_opened}
+use Rattle.vdr_recorder.proofs.Playing.{config_read, plays}
+use Rattle.vdr_recorder.proofs.Resting.{stand_reads}
 
 pub no_looks : AreLooks []
 no_looks = record { few = omega arith; looks = All-nil (λ (e : Event). e.act ≡ Look) }

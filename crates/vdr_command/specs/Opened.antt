@@ -1,7 +1,7 @@
 -- What is said of every command that opens recorded media: how opening is refused, and what the media keep (this project's profile).
 use Rattle.std.specs.Prelude.{◌≡◌, ◌≤◌, ◌⊎◌, ◌∷◌, ℕ, ℤ, List, [], length, All, option_map, Option, Some, None, ⊤}
-use Rattle.vdr_history.specs.Histories.{Act, Event}
-use Rattle.vdr_history.specs.Histories.Act.{Look}
+use Rattle.vdr_core.specs.Histories.{Act, Event}
+use Rattle.vdr_core.specs.Histories.Act.{Look}
 use Rattle.vdr_durability.specs.Readings.{EndsMeet}
 use Rattle.vdr_outside.specs.Disk.{Disk, Image, SameBut}
 use Rattle.vdr_media.specs.Formatted.{IsFormatted, IsUnformatted}
@@ -10,7 +10,7 @@ use Rattle.vdr_opening.specs.Refusals.{IsRefused}
 use Rattle.vdr_vault.specs.Openings.{LeavesAll, WritesMissing}
 use Rattle.vdr_vault.specs.Regularity.{AreSound}
 use Rattle.vdr_vault.specs.Vaults.{IsDamagedOn, of_stamp}
-use Rattle.vdr_headline.specs.Headline.{PlaysBack, RecordingHeadline}
+use Rattle.vdr_recorder.specs.Headline.{PlaysBack, RecordingHeadline}
 use Rattle.vdr_command.specs.Endings.{IsWorkDone}
 use Rattle.vdr_command.specs.Outside.{MediaFailed, MediaSeen, OutputSeen, Prints, PrintsFront}
 use Rattle.vdr_command.specs.declared.status.Status.{Status}

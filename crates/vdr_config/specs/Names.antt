@@ -1,7 +1,7 @@
 -- The texts of a channel (this project's profile; a formatter as IEC 61162-1 has it, a source as IEC 61162-450 does).
 use Rattle.std.specs.Prelude.{ℕ, ◌==◌, ◌&&◌, ◌||◌, Bool, not, List, length, nat_le, bytes_eq, codes}
 use Rattle.std.specs.List.{list_all}
-use Rattle.vdr_digits.specs.Digits.{is_digit}
+use Rattle.vdr_bytes.specs.Digits.{is_digit}
 
 abbrev pub is_capital : ℕ → Bool
 is_capital b = nat_le 65 b && nat_le b 90

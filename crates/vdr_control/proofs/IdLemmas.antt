@@ -6,7 +6,7 @@ use Rattle.std.proofs.lemmas.Bool.Decides.{leb_tells}
 use Rattle.std.proofs.lemmas.Fmt.{decimal-digits_value, decimal_digit, decimal_nonempty, digits_decimal, digits_value-decimal, first_decimal, length-decimal-le}
 use Rattle.std.proofs.lemmas.Option.{cond_some}
 use Rattle.std.proofs.lemmas.Str.Parse.{IsNumeralModel, numerals_by_fold}
-use Rattle.vdr_digits.specs.Digits.{are_digits, decimal_value, is_digit, number}
+use Rattle.vdr_bytes.specs.Digits.{are_digits, decimal_value, is_digit, number}
 
 own : IsNumeralModel (λ ds. list_all is_digit ds ≡ true) decimal_value
 own = numerals_by_fold _ (search rules) (λ n ds. fold (λ k b. 10 * k + (b - 48)) n ds) (search rules)

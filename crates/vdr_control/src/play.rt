@@ -5,7 +5,7 @@ ghost use Rattle.vdr_control.specs.Orders.{PlainOrder, plain};
 ghost use Rattle.vdr_control.specs.Plays.{IsMedium, SpellsBound, SpellsPlay, medium_word};
 
 use crate::Order;
-use vdr_digits::number;
+use vdr_bytes::number;
 use vdr_entry::{Medium, read_utc};
 use vdr_terms::{LAST_STAMP, MOST_INCIDENTS};
 

@@ -7,11 +7,11 @@ use Rattle.vdr_terms.specs.Records.Content.{Stop}
 use Rattle.vdr_terms.specs.Channels.{Channels}
 use Rattle.vdr_terms.specs.Order.{NeverFalls}
 use Rattle.vdr_terms.specs.Counting.{Pending, with_missed}
-use Rattle.vdr_history.specs.Runs.{RunStart, Stamp, last_tick}
-use Rattle.vdr_history.specs.Taken.{Captured}
-use Rattle.vdr_history.specs.Histories.{Continues, stamp_of}
-use Rattle.vdr_history.specs.Shapes.{AreInside}
-use Rattle.vdr_history.specs.Recorder.{Recorder, begun, next_in, tick_of, tick_with, gap_of, datagram_of, passed, admits, took, taken_all, recorder_after, gaps_below, stop_of, closing}
+use Rattle.vdr_core.specs.Runs.{RunStart, Stamp, last_tick}
+use Rattle.vdr_core.specs.Taken.{Captured}
+use Rattle.vdr_core.specs.Histories.{Continues, stamp_of}
+use Rattle.vdr_core.specs.Shapes.{AreInside}
+use Rattle.vdr_core.specs.Recorder.{Recorder, begun, next_in, tick_of, tick_with, gap_of, datagram_of, passed, admits, took, taken_all, recorder_after, gaps_below, stop_of, closing}
 use Rattle.vdr_core.specs.Commits.{FurtherItemsComeNext, ClosesComeNext}
 use Rattle.vdr_core.proofs.Places.{all_continue, closed_continues}
 use Rattle.vdr_core.proofs.Taking.{more_taken}

@@ -7,9 +7,9 @@ use Rattle.vdr_terms.specs.Records.{Record, Item, none_missed}
 use Rattle.vdr_terms.specs.Datagrams.{verdict, is_yes, is_bad, is_large}
 use Rattle.vdr_terms.specs.declared.datagram.Verdict.TheVariants.{Yes, Bad, Large}
 use Rattle.vdr_terms.specs.Rates.{Limit, is_licensed}
-use Rattle.vdr_history.specs.Accounts.{AreMissed}
+use Rattle.vdr_core.specs.Accounts.{AreMissed}
 use Rattle.vdr_terms.specs.Counting.{merged, one_full, one_bad, one_large}
-use Rattle.vdr_history.specs.Taken.{AreCounted}
+use Rattle.vdr_core.specs.Taken.{AreCounted}
 
 pub count_append : {X : Type 0} (p : X → Bool) (xs ys : List X) → count_by p (xs ++ ys) ≡ count_by p xs + count_by p ys
 count_append p xs ys = sum_by-append (λ x. cond (p x) 1 0) xs ys

@@ -4,7 +4,7 @@ use Rattle.std.proofs.lemmas.List.Sums.{sum_by-append}
 use Rattle.vdr_terms.specs.declared.counts.Counts.{Counts}
 use Rattle.vdr_terms.specs.Records.{none_missed, total}
 use Rattle.vdr_terms.specs.Counting.{merged}
-use Rattle.vdr_history.specs.Sums.{sum_counts}
+use Rattle.vdr_core.specs.Sums.{sum_counts}
 use Rattle.vdr_core.proofs.Feeding.{counts_path}
 
 pub merged_none : (c : Counts) → merged c none_missed ≡ c

@@ -4,11 +4,11 @@ use Rattle.std.proofs.lemmas.List.Elements.{All-nil, All-cons, All-append}
 use Rattle.vdr_terms.specs.declared.counts.Counts.{Counts}
 use Rattle.vdr_terms.specs.Records.{Record, FeedItem, total}
 use Rattle.vdr_terms.specs.Counting.{Pending, with_missed}
-use Rattle.vdr_history.specs.Runs.{RunStart}
-use Rattle.vdr_history.specs.Taken.{Captured}
-use Rattle.vdr_history.specs.Recorder.{Recorder, begun, next_in, tick_of, tick_with, gap_unless_none, gap_of, datagram_of, passed, admits, took, taken_all, recorder_after, gaps_below, stop_of, closed_run}
-use Rattle.vdr_history.specs.Feed.{feed_records}
-use Rattle.vdr_history.specs.Shapes.{SaysMissed, NoEmptyGap}
+use Rattle.vdr_core.specs.Runs.{RunStart}
+use Rattle.vdr_core.specs.Taken.{Captured}
+use Rattle.vdr_core.specs.Recorder.{Recorder, begun, next_in, tick_of, tick_with, gap_unless_none, gap_of, datagram_of, passed, admits, took, taken_all, recorder_after, gaps_below, stop_of, closed_run}
+use Rattle.vdr_core.specs.Feed.{feed_records}
+use Rattle.vdr_core.specs.Shapes.{SaysMissed, NoEmptyGap}
 use Rattle.vdr_core.specs.Replay.{taken_of, rest_after}
 use Rattle.vdr_core.proofs.Feeding.{is_replay}
 

@@ -3,11 +3,11 @@ use Rattle.std.proofs.Common.{◌≡◌, ◌≤◌, ◌<◌, ℕ, List, [], ◌+
 use Rattle.std.proofs.lemmas.Bool.{cases_lt}
 use Rattle.std.proofs.lemmas.List.Elements.{filter-append}
 use Rattle.vdr_terms.specs.Records.{Item}
-use Rattle.vdr_history.specs.Runs.{RunStart, base_of}
-use Rattle.vdr_history.specs.Taken.{Captured, Feeds, AllFeed, AreQueued, of_group}
-use Rattle.vdr_history.specs.Recorder.{begun, tick_of, closed_run}
-use Rattle.vdr_history.specs.Sums.{Sums}
-use Rattle.vdr_history.specs.FullCounts.{AreFullSteps}
+use Rattle.vdr_core.specs.Runs.{RunStart, base_of}
+use Rattle.vdr_core.specs.Taken.{Captured, Feeds, AllFeed, AreQueued, of_group}
+use Rattle.vdr_core.specs.Recorder.{begun, tick_of, closed_run}
+use Rattle.vdr_core.specs.Sums.{Sums}
+use Rattle.vdr_core.specs.FullCounts.{AreFullSteps}
 use Rattle.vdr_core.specs.Machine.{Plan, Lane, Ended, State, start_of, committed, rest_of, run_of, all_quiet}
 use Rattle.vdr_core.specs.Law.{Admits, IsRun}
 use Rattle.vdr_core.specs.Ended.{HasEnded, RunAddsUp, RunCountsFull}

@@ -6,12 +6,12 @@ use Rattle.vdr_terms.specs.declared.counts.Counts.{Counts}
 use Rattle.vdr_terms.specs.Records.{Content, Record, Item, total, has_items, records_of}
 use Rattle.vdr_terms.specs.Records.Content.{Stop}
 use Rattle.vdr_terms.specs.Rates.{Limit}
-use Rattle.vdr_history.specs.Accounts.{AreMissed, AllAccounted, Accounts, AccountsPrefix}
-use Rattle.vdr_history.specs.Runs.{RunStart, base_of}
+use Rattle.vdr_core.specs.Accounts.{AreMissed, AllAccounted, Accounts, AccountsPrefix}
+use Rattle.vdr_core.specs.Runs.{RunStart, base_of}
 use Rattle.vdr_terms.specs.Counting.{Pending, merged, with_missed}
-use Rattle.vdr_history.specs.Recorder.{Recorder, tick_of, gap_of, gaps_below, stop_of, closing}
+use Rattle.vdr_core.specs.Recorder.{Recorder, tick_of, gap_of, gaps_below, stop_of, closing}
 use Rattle.vdr_core.specs.Machine.{Lane}
-use Rattle.vdr_history.specs.Taken.{AreQueued, Captured}
+use Rattle.vdr_core.specs.Taken.{AreQueued, Captured}
 use Rattle.vdr_core.proofs.Counted.{missed_more}
 use Rattle.vdr_core.proofs.Walk.{first_part}
 use Rattle.vdr_core.proofs.Lanes.{Inv, with_gap}

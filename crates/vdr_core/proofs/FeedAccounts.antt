@@ -5,11 +5,11 @@ use Rattle.vdr_terms.specs.Records.{Record, Item, FeedItem}
 use Rattle.vdr_terms.specs.declared.datagram.Verdict.{Verdict}
 use Rattle.vdr_terms.specs.Datagrams.{verdict, is_yes}
 use Rattle.vdr_terms.specs.declared.datagram.Verdict.TheVariants.{Yes, Bad, Large}
-use Rattle.vdr_history.specs.Accounts.{Accounts}
-use Rattle.vdr_history.specs.Runs.{RunStart, base_of}
-use Rattle.vdr_history.specs.Feed.{items_of}
+use Rattle.vdr_core.specs.Accounts.{Accounts}
+use Rattle.vdr_core.specs.Runs.{RunStart, base_of}
+use Rattle.vdr_core.specs.Feed.{items_of}
 use Rattle.vdr_core.specs.Law.{Admits, IsRun}
-use Rattle.vdr_history.specs.Taken.{AllFeed, AreCounted, AreQueued, Captured, of_group}
+use Rattle.vdr_core.specs.Taken.{AllFeed, AreCounted, AreQueued, Captured, of_group}
 use Rattle.vdr_core.specs.Replay.{since_yes, captured_after, captured_if, taken_of, rest_after, IsOfGroups, FeedAccounts, FeedsAreRuns}
 use Rattle.vdr_core.proofs.Counted.{count_no, length_snoc}
 use Rattle.vdr_core.proofs.Feeding.{yes_of, items_own, items_other, since_more, total_counts, is_replay}

@@ -6,8 +6,8 @@ use Rattle.vdr_terms.specs.Records.{Item}
 use Rattle.vdr_terms.specs.Datagrams.{verdict}
 use Rattle.vdr_terms.specs.Rates.{Limit}
 use Rattle.vdr_terms.specs.Counting.{no_pending}
-use Rattle.vdr_history.specs.Taken.{Captured, AreQueued, AreCounted}
-use Rattle.vdr_history.specs.Sums.{missed_before}
+use Rattle.vdr_core.specs.Taken.{Captured, AreQueued, AreCounted}
+use Rattle.vdr_core.specs.Sums.{missed_before}
 use Rattle.vdr_core.specs.Machine.{Lane, idle, with_item, counted, captured, queued, was_full, with_queue}
 use Rattle.vdr_core.proofs.Counted.{none_counted, none_are_missed, counts_full, length_snoc}
 use Rattle.vdr_core.proofs.Meter.{latest_none}

@@ -10,12 +10,12 @@ use Rattle.vdr_terms.specs.Records.Content.{Datagram, Stop}
 use Rattle.vdr_terms.specs.declared.datagram.Verdict.{Verdict}
 use Rattle.vdr_terms.specs.Datagrams.{verdict, is_yes, is_bad, is_large}
 use Rattle.vdr_terms.specs.declared.datagram.Verdict.TheVariants.{Yes, Bad, Large}
-use Rattle.vdr_history.specs.Runs.{RunStart, base_of, utc_after}
-use Rattle.vdr_history.specs.Taken.{Captured}
+use Rattle.vdr_core.specs.Runs.{RunStart, base_of, utc_after}
+use Rattle.vdr_core.specs.Taken.{Captured}
 use Rattle.vdr_terms.specs.Counting.{Pending, merged, with_missed, one_rate, past_datagram, past_refusal}
-use Rattle.vdr_history.specs.Feed.{items_of, counts_of, recordable, gap_for, gap_after, number_after, missed_since, tick_after, utc_of, utc_last, made_after, closing_gaps, feed_along}
+use Rattle.vdr_core.specs.Feed.{items_of, counts_of, recordable, gap_for, gap_after, number_after, missed_since, tick_after, utc_of, utc_last, made_after, closing_gaps, feed_along}
 use Rattle.vdr_terms.specs.Rates.{is_admitted}
-use Rattle.vdr_history.specs.Recorder.{Recorder, with_pending, passed, admits, tick_with, datagram_of, make, begun, next_in, gap_unless_none, gap_of, tick_of, gaps_below, took, taken_all, closing}
+use Rattle.vdr_core.specs.Recorder.{Recorder, with_pending, passed, admits, tick_with, datagram_of, make, begun, next_in, gap_unless_none, gap_of, tick_of, gaps_below, took, taken_all, closing}
 use Rattle.vdr_core.specs.Replay.{since_yes, captured_after, captured_if, taken_of, rest_after, IsReplay}
 use Rattle.vdr_core.proofs.Counted.{count_append, count_yes, count_no, length_snoc}
 use Rattle.vdr_core.proofs.Meter.{last_snoc}

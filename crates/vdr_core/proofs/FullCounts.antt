@@ -4,12 +4,12 @@ use Rattle.std.proofs.lemmas.Bool.{cases_eq, eq-eqb, ne_eqb, cond-true, cond-fal
 use Rattle.std.proofs.lemmas.List.Elements.{filter-append}
 use Rattle.vdr_terms.specs.declared.counts.Counts.{Counts}
 use Rattle.vdr_terms.specs.Records.{Content, Record, Item, is_datagram, datagrams_of}
-use Rattle.vdr_history.specs.Runs.{RunStart}
-use Rattle.vdr_history.specs.Taken.{Captured, AllFeed, of_group}
-use Rattle.vdr_history.specs.Recorder.{recorder_after, stop_of, closed_run}
-use Rattle.vdr_history.specs.Sums.{Sums, missed_before}
-use Rattle.vdr_history.specs.Shapes.{AreTaken, IsOpenRun}
-use Rattle.vdr_history.specs.FullCounts.{AreFullSteps, AreSomeOf, FullCounts}
+use Rattle.vdr_core.specs.Runs.{RunStart}
+use Rattle.vdr_core.specs.Taken.{Captured, AllFeed, of_group}
+use Rattle.vdr_core.specs.Recorder.{recorder_after, stop_of, closed_run}
+use Rattle.vdr_core.specs.Sums.{Sums, missed_before}
+use Rattle.vdr_core.specs.Shapes.{AreTaken, IsOpenRun}
+use Rattle.vdr_core.specs.FullCounts.{AreFullSteps, AreSomeOf, FullCounts}
 use Rattle.vdr_core.proofs.Meter.{filter_twice}
 use Rattle.vdr_core.proofs.Sums.{run_datagrams}
 use Rattle.vdr_core.proofs.RunSums.{closed_sums}

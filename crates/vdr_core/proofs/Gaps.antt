@@ -6,11 +6,11 @@ use Rattle.std.proofs.lemmas.Bool.{cases_eq}
 use Rattle.vdr_terms.specs.declared.counts.Counts.{Counts}
 use Rattle.vdr_terms.specs.Records.{Record, has_items, is_gap, records_of}
 use Rattle.vdr_terms.specs.Records.Content.{Stop}
-use Rattle.vdr_history.specs.Accounts.{BeginsWithDatagram, IsClosing, GapsStand}
-use Rattle.vdr_history.specs.Taken.{Captured}
-use Rattle.vdr_history.specs.Runs.{RunStart}
+use Rattle.vdr_core.specs.Accounts.{BeginsWithDatagram, IsClosing, GapsStand}
+use Rattle.vdr_core.specs.Taken.{Captured}
+use Rattle.vdr_core.specs.Runs.{RunStart}
 use Rattle.vdr_terms.specs.Counting.{with_missed}
-use Rattle.vdr_history.specs.Recorder.{Recorder, gap_of, gap_unless_none, gaps_below, next_in, tick_of}
+use Rattle.vdr_core.specs.Recorder.{Recorder, gap_of, gap_unless_none, gaps_below, next_in, tick_of}
 use Rattle.vdr_core.proofs.Lanes.{added, gap_own, gap_other}
 
 -- each Gap stands directly before a Datagram of its group

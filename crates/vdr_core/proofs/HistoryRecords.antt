@@ -5,9 +5,9 @@ use Rattle.std.proofs.lemmas.List.Elements.{All-head, All-tail, All-nil, All-app
 use Rattle.vdr_terms.specs.Records.{Record, last}
 use Rattle.vdr_terms.specs.Order.{NeverFalls}
 use Rattle.vdr_terms.proofs.Running.{never_falls_behind}
-use Rattle.vdr_history.specs.Runs.{Stamp, RunStart, base_after, base_of, last_tick}
-use Rattle.vdr_history.specs.Histories.{Continues, stamp_of}
-use Rattle.vdr_history.specs.Shapes.{SaysMissed, NoEmptyGap}
+use Rattle.vdr_core.specs.Runs.{Stamp, RunStart, base_after, base_of, last_tick}
+use Rattle.vdr_core.specs.Histories.{Continues, stamp_of}
+use Rattle.vdr_core.specs.Shapes.{SaysMissed, NoEmptyGap}
 use Rattle.vdr_core.specs.Machine.{Plan, Ended, State, Step, opened, start_of, committed, after}
 use Rattle.vdr_core.specs.Law.{Admits, IsRun}
 use Rattle.vdr_core.specs.Ended.{place_after, stamp_after, RunsFollow, RunsAreConsecutive, HasEnded, HistoryRunsOn}

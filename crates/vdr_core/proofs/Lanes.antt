@@ -10,12 +10,12 @@ use Rattle.vdr_terms.specs.declared.datagram.Verdict.TheVariants.{Yes}
 use Rattle.vdr_terms.specs.declared.rate.Rate.{Rate}
 use Rattle.vdr_terms.specs.Rates.{Limit, is_admitted, is_licensed}
 use Rattle.vdr_terms.specs.Rates.Limit.{NotConfigured, Unlimited, AtMost}
-use Rattle.vdr_history.specs.Accounts.{AreMissed, AllAccounted}
-use Rattle.vdr_history.specs.Runs.{RunStart, base_of}
+use Rattle.vdr_core.specs.Accounts.{AreMissed, AllAccounted}
+use Rattle.vdr_core.specs.Runs.{RunStart, base_of}
 use Rattle.vdr_terms.specs.Counting.{Pending, merged, with_missed, past_datagram, past_refusal, no_pending}
-use Rattle.vdr_history.specs.Recorder.{make, gap_unless_none, datagram_of}
+use Rattle.vdr_core.specs.Recorder.{make, gap_unless_none, datagram_of}
 use Rattle.vdr_core.specs.Machine.{Lane, idle, with_item, counted, captured, queued, with_queue}
-use Rattle.vdr_history.specs.Taken.{AreCounted, AreQueued, Captured, IsQueued}
+use Rattle.vdr_core.specs.Taken.{AreCounted, AreQueued, Captured, IsQueued}
 use Rattle.vdr_core.proofs.Counted.{none_counted, none_are_missed, missed_more, missed_rate, length_snoc}
 use Rattle.vdr_core.proofs.Walk.{one_more}
 use Rattle.vdr_core.proofs.Meter.{Latest, latest_none, latest_grows, latest_snoc, licence}

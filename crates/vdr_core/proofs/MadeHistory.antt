@@ -5,12 +5,12 @@ use Rattle.vdr_terms.specs.Records.{Record}
 use Rattle.vdr_terms.specs.Records.Content.{Start}
 use Rattle.vdr_terms.specs.Channels.{Channels, bits_of}
 use Rattle.vdr_terms.specs.Order.{NeverFalls}
-use Rattle.vdr_history.specs.Runs.{RunStart, last_tick}
-use Rattle.vdr_history.specs.Taken.{Captured}
-use Rattle.vdr_history.specs.Histories.{Act, Continues, records_of_act}
-use Rattle.vdr_history.specs.Histories.Act.{Commit, Save, Release, Look}
-use Rattle.vdr_history.specs.Recorder.{begun, next_in, tick_of, recorder_after, gaps_below, stop_of, closing}
-use Rattle.vdr_history.specs.RunStates.{RunState, begin_run, end_run, next_start, after_commit, between_runs, recorder_in, GoesOnWith, BeginsWith, ClosesWith, AreMadeFrom}
+use Rattle.vdr_core.specs.Runs.{RunStart, last_tick}
+use Rattle.vdr_core.specs.Taken.{Captured}
+use Rattle.vdr_core.specs.Histories.{Act, Continues, records_of_act}
+use Rattle.vdr_core.specs.Histories.Act.{Commit, Save, Release, Look}
+use Rattle.vdr_core.specs.Recorder.{begun, next_in, tick_of, recorder_after, gaps_below, stop_of, closing}
+use Rattle.vdr_core.specs.RunStates.{RunState, begin_run, end_run, next_start, after_commit, between_runs, recorder_in, GoesOnWith, BeginsWith, ClosesWith, AreMadeFrom}
 use Rattle.vdr_core.specs.Commits.{ComeNext, MadeHistoriesRunOn}
 use Rattle.vdr_core.proofs.Places.{continues_append}
 use Rattle.vdr_core.proofs.Ticking.{lower}

@@ -7,10 +7,10 @@ use Rattle.vdr_terms.specs.declared.datagram.Verdict.TheVariants.{Yes, Bad, Larg
 use Rattle.vdr_terms.specs.Records.{Record, Item, FeedItem, total, datagrams_of, last}
 use Rattle.vdr_terms.specs.Counting.{Pending, with_missed}
 use Rattle.vdr_terms.specs.Datagrams.{verdict, is_yes, is_bad, is_large}
-use Rattle.vdr_history.specs.Runs.{RunStart}
-use Rattle.vdr_history.specs.Taken.{Captured}
-use Rattle.vdr_history.specs.Feed.{items_of, counts_of, number_after, missed_since}
-use Rattle.vdr_history.specs.Recorder.{Recorder, begun, took, taken_all, passed, admits, tick_with, next_in, gap_of, gap_unless_none, datagram_of}
+use Rattle.vdr_core.specs.Runs.{RunStart}
+use Rattle.vdr_core.specs.Taken.{Captured}
+use Rattle.vdr_core.specs.Feed.{items_of, counts_of, number_after, missed_since}
+use Rattle.vdr_core.specs.Recorder.{Recorder, begun, took, taken_all, passed, admits, tick_with, next_in, gap_of, gap_unless_none, datagram_of}
 use Rattle.vdr_core.specs.Replay.{since_yes, captured_if, taken_of, fed, missed_with, GoesOn, NumbersAddUp, RecordsAreFew}
 use Rattle.vdr_core.proofs.Counted.{count_yes, count_no, length_snoc}
 use Rattle.vdr_core.proofs.Feeding.{yes_of, counts_path, items_own, items_other, since_more, total_counts, same_fed}

@@ -3,10 +3,10 @@ use Rattle.std.proofs.Common.{◌≡◌, ◌+◌, ℕ, List, [], ◌∷◌, ◌+
 use Rattle.std.proofs.lemmas.Bool.{and_parts, cond_both}
 use Rattle.std.proofs.lemmas.List.Elements.{All-nil, All-push, All-weaker}
 use Rattle.vdr_terms.specs.Records.{Record, last}
-use Rattle.vdr_history.specs.Runs.{Stamp}
-use Rattle.vdr_history.specs.Taken.{Captured}
-use Rattle.vdr_history.specs.Histories.{Act, stamp_of}
-use Rattle.vdr_history.specs.Recorder.{closing}
+use Rattle.vdr_core.specs.Runs.{Stamp}
+use Rattle.vdr_core.specs.Taken.{Captured}
+use Rattle.vdr_core.specs.Histories.{Act, stamp_of}
+use Rattle.vdr_core.specs.Recorder.{closing}
 use Rattle.vdr_core.specs.Machine.{Plan, Ended, State, Step, opened, start_at, start_of, recorder, committed, takes_from, with_lane, with_item, pops, rest_of, run_of, ends, closes, puts, restarts, all_quiet, state_after, after}
 use Rattle.vdr_core.specs.Machine.Step.{Save, Release, Look, Take, Drop, Push, Full, Pop, Commit, CloseRun, PowerFails, Restart}
 use Rattle.vdr_core.specs.Law.{Admits}

@@ -4,13 +4,13 @@ use Rattle.vdr_terms.specs.declared.counts.Counts.{Counts}
 use Rattle.vdr_terms.specs.Records.{Record}
 use Rattle.vdr_terms.specs.Channels.{Channels}
 use Rattle.std.specs.List.{AllByRecursion}
-use Rattle.vdr_history.specs.Runs.{RunStart, TickOf, base_of}
+use Rattle.vdr_core.specs.Runs.{RunStart, TickOf, base_of}
 use Rattle.vdr_core.specs.Law.{FrontsOfRuns}
-use Rattle.vdr_history.specs.Histories.{Continues}
-use Rattle.vdr_history.specs.Taken.{Captured}
+use Rattle.vdr_core.specs.Histories.{Continues}
+use Rattle.vdr_core.specs.Taken.{Captured}
 use Rattle.vdr_terms.specs.Counting.{Pending, merged, with_missed}
 use Rattle.vdr_terms.proofs.Running.{never_falls_front}
-use Rattle.vdr_history.specs.Recorder.{Recorder, begun, next_in, tick_of, tick_with, gap_unless_none, gap_of, datagram_of, passed, admits, took, taken_all, recorder_after, gaps_below, stop_of, closing}
+use Rattle.vdr_core.specs.Recorder.{Recorder, begun, next_in, tick_of, tick_with, gap_unless_none, gap_of, datagram_of, passed, admits, took, taken_all, recorder_after, gaps_below, stop_of, closing}
 
 pub continues_append : (channels : Channels) (place : ℕ) (xs ys : List Record) → Continues channels place xs → Continues channels (place + length xs) ys → Continues channels place (xs ++ ys)
 continues_append channels place [] ys h k = subst (λ (n : ℕ). Continues channels n ys) (omega arith) k

@@ -7,7 +7,7 @@ use Rattle.vdr_terms.specs.declared.datagram.Verdict.{Verdict}
 use Rattle.vdr_terms.specs.declared.datagram.Verdict.TheVariants.{Yes, Bad, Large}
 use Rattle.vdr_terms.specs.Datagrams.{verdict}
 use Rattle.vdr_terms.specs.Counting.{one_bad, one_large}
-use Rattle.vdr_history.specs.Taken.{Captured, of_group}
+use Rattle.vdr_core.specs.Taken.{Captured, of_group}
 use Rattle.vdr_core.specs.Machine.{Plan, Lane, State, Step, takes_from, with_lane, with_item, captured, queued, was_full, dropped, drops, offered, pushes, turned_away, fulls, with_queue, popped, pops, all_quiet, puts, closes, ends, restarts, committed, state_after}
 use Rattle.vdr_core.specs.Machine.Step.{Save, Release, Look, Take, Drop, Push, Full, Pop, Commit, CloseRun, PowerFails, Restart}
 use Rattle.vdr_core.proofs.Counted.{counts_bad, counts_large}

@@ -6,12 +6,12 @@ use Rattle.std.proofs.Math.Seq.{drop-append_seam}
 use Rattle.vdr_terms.specs.declared.counts.Counts.{Counts}
 use Rattle.vdr_terms.specs.Records.{Content, Record, last, last_after}
 use Rattle.vdr_terms.specs.Records.Content.{Start, Datagram, Gap, Stop}
-use Rattle.vdr_history.specs.Runs.{RunStart, Stamp}
-use Rattle.vdr_history.specs.Taken.{Captured}
-use Rattle.vdr_history.specs.Histories.{Act, stamp_of}
-use Rattle.vdr_history.specs.Recorder.{begun, recorder_after, gaps_below, stop_of, closing}
-use Rattle.vdr_history.specs.Shapes.{MayStandBefore, AreInside}
-use Rattle.vdr_history.specs.RunStates.{RunState, is_start, is_stop, begin_run, ends_with_stop, end_run, next_start, after_commit, after_act, between_runs, state_along, IsMadeIn, AreMadeFrom}
+use Rattle.vdr_core.specs.Runs.{RunStart, Stamp}
+use Rattle.vdr_core.specs.Taken.{Captured}
+use Rattle.vdr_core.specs.Histories.{Act, stamp_of}
+use Rattle.vdr_core.specs.Recorder.{begun, recorder_after, gaps_below, stop_of, closing}
+use Rattle.vdr_core.specs.Shapes.{MayStandBefore, AreInside}
+use Rattle.vdr_core.specs.RunStates.{RunState, is_start, is_stop, begin_run, ends_with_stop, end_run, next_start, after_commit, after_act, between_runs, state_along, IsMadeIn, AreMadeFrom}
 use Rattle.vdr_core.specs.Machine.{Plan, Lane, State, Step, opened, start_at, start_of, recorder, committed, takes_from, with_lane, with_item, with_queue, pops, adds, rest_of, puts, closes, ends, restarts, all_quiet, state_after, after}
 use Rattle.vdr_core.specs.Machine.Step.{Save, Release, Look, Take, Drop, Push, Full, Pop, Commit, CloseRun, PowerFails, Restart}
 use Rattle.vdr_core.specs.Commits.{IsLeft, is_power_failure, PowerLasts, IsRecorders}

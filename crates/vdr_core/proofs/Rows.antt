@@ -4,7 +4,7 @@ use Rattle.vdr_terms.specs.Records.{Record, Item}
 use Rattle.vdr_terms.specs.Records.Content.{Start, Datagram, Gap, Stop}
 use Rattle.vdr_terms.specs.Rates.Limit.{AtMost}
 use Rattle.vdr_terms.specs.Channels.{no_channels}
-use Rattle.vdr_history.proofs.Rows.{small}
+use Rattle.vdr_core.proofs.HistoryRows.{small}
 use Rattle.vdr_core.specs.Machine.{Plan, Step, Ended, after, opened}
 use Rattle.vdr_core.specs.Machine.Step.{Take, Push, Full, Pop, Commit, CloseRun, Restart}
 

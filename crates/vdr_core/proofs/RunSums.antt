@@ -7,11 +7,11 @@ use Rattle.vdr_terms.specs.Records.{Record, Item, FeedItem, total}
 use Rattle.vdr_terms.specs.Records.Content.{Stop}
 use Rattle.vdr_terms.specs.Datagrams.{verdict, is_yes, is_bad, is_large}
 use Rattle.vdr_terms.specs.Counting.{merged}
-use Rattle.vdr_history.specs.Runs.{RunStart}
-use Rattle.vdr_history.specs.Taken.{Captured, AreQueued, AllFeed, Feeds, of_group}
-use Rattle.vdr_history.specs.Recorder.{Recorder, admits, recorder_after, gaps_below, stop_of, closed_run}
-use Rattle.vdr_history.specs.Sums.{missed_in, missed_before, counted_by, Sums, AddsUp}
-use Rattle.vdr_history.specs.Feed.{items_of, feed_records}
+use Rattle.vdr_core.specs.Runs.{RunStart}
+use Rattle.vdr_core.specs.Taken.{Captured, AreQueued, AllFeed, Feeds, of_group}
+use Rattle.vdr_core.specs.Recorder.{Recorder, admits, recorder_after, gaps_below, stop_of, closed_run}
+use Rattle.vdr_core.specs.Sums.{missed_in, missed_before, counted_by, Sums, AddsUp}
+use Rattle.vdr_core.specs.Feed.{items_of, feed_records}
 use Rattle.vdr_core.specs.Replay.{captured_after, captured_if, taken_of, rest_after, IsOfGroups}
 use Rattle.vdr_core.specs.Summary.{ItemAddsUp, CloseAddsUp}
 use Rattle.vdr_core.proofs.Counted.{count_append, count_one}

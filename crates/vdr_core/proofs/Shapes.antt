@@ -6,11 +6,11 @@ use Rattle.vdr_terms.specs.declared.counts.Counts.{Counts}
 use Rattle.vdr_terms.specs.Records.{Content, Record, FeedItem, total, is_datagram, last}
 use Rattle.vdr_terms.specs.Records.Content.{Start, Datagram, Gap, Stop}
 use Rattle.vdr_terms.specs.Counting.{Pending, merged, with_missed}
-use Rattle.vdr_history.specs.Runs.{RunStart, base_of}
-use Rattle.vdr_history.specs.Taken.{Captured}
-use Rattle.vdr_history.specs.Feed.{feed_records}
-use Rattle.vdr_history.specs.Recorder.{Recorder, begun, next_in, tick_of, tick_with, gap_unless_none, gap_of, datagram_of, passed, admits, took, taken_all, recorder_after, gaps_below, stop_of, closed_run}
-use Rattle.vdr_history.specs.Shapes.{tick_at, utc_or, IsMarker, AreTaken, MayStandBefore, AreInside, AreClosingGaps, IsOpenRun, IsClosedRun}
+use Rattle.vdr_core.specs.Runs.{RunStart, base_of}
+use Rattle.vdr_core.specs.Taken.{Captured}
+use Rattle.vdr_core.specs.Feed.{feed_records}
+use Rattle.vdr_core.specs.Recorder.{Recorder, begun, next_in, tick_of, tick_with, gap_unless_none, gap_of, datagram_of, passed, admits, took, taken_all, recorder_after, gaps_below, stop_of, closed_run}
+use Rattle.vdr_core.specs.Shapes.{tick_at, utc_or, IsMarker, AreTaken, MayStandBefore, AreInside, AreClosingGaps, IsOpenRun, IsClosedRun}
 use Rattle.vdr_core.specs.Replay.{taken_of, rest_after}
 use Rattle.vdr_core.proofs.Feeding.{is_replay}
 

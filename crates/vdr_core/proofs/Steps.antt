@@ -9,15 +9,15 @@ use Rattle.vdr_terms.specs.declared.datagram.Verdict.{Verdict}
 use Rattle.vdr_terms.specs.Datagrams.{verdict}
 use Rattle.vdr_terms.specs.declared.datagram.Verdict.TheVariants.{Yes, Bad, Large}
 use Rattle.vdr_terms.specs.Rates.{Limit, is_configured}
-use Rattle.vdr_history.specs.Runs.{Stamp, base_of}
-use Rattle.vdr_history.specs.Histories.{Act, records_of_act}
-use Rattle.vdr_history.specs.Histories.Act.{Commit}
+use Rattle.vdr_core.specs.Runs.{Stamp, base_of}
+use Rattle.vdr_core.specs.Histories.{Act, records_of_act}
+use Rattle.vdr_core.specs.Histories.Act.{Commit}
 use Rattle.vdr_terms.specs.Counting.{Pending, one_full, one_bad, one_large}
-use Rattle.vdr_history.specs.Recorder.{begun, Recorder, tick_of, recorder_after, closing}
+use Rattle.vdr_core.specs.Recorder.{begun, Recorder, tick_of, recorder_after, closing}
 use Rattle.vdr_core.specs.Machine.{Plan, Lane, Ended, State, Step, idle, opened, start_of, recorder, committed, takes_from, with_lane, with_item, counted, queued, dropped, drops, offered, pushes, was_full, turned_away, fulls, with_queue, popped, pops, all_quiet, rest_of, run_of, ends, closes, puts, adds, restarts, state_after, after}
 use Rattle.vdr_core.specs.Machine.Step.{Save, Release, Look, Take, Drop, Push, Full, Pop, Commit, CloseRun, PowerFails, Restart}
 use Rattle.vdr_core.specs.Law.{Admits, EachItemHasItsPlace, RunAccounts, AllRunsAccount, HistoryIsRuns}
-use Rattle.vdr_history.specs.Taken.{AreQueued, Captured}
+use Rattle.vdr_core.specs.Taken.{AreQueued, Captured}
 use Rattle.vdr_core.proofs.Counted.{counts_bad, counts_large, counts_full}
 use Rattle.vdr_core.proofs.Lanes.{Inv, inv_took, inv_counted, inv_queued}
 use Rattle.vdr_core.proofs.Taking.{AllLanes, begun_lanes, took_keeps, all_grows, made_paired, one_more_taken, more_taken}

@@ -6,10 +6,10 @@ use Rattle.vdr_terms.specs.declared.counts.Counts.{Counts}
 use Rattle.vdr_terms.specs.Records.{Content, Record, none_missed, total, is_datagram, has_items, records_of, datagrams_of}
 use Rattle.vdr_terms.specs.Records.Content.{Stop}
 use Rattle.vdr_terms.specs.Counting.{Pending, merged, with_missed, one_rate, past_datagram, past_refusal}
-use Rattle.vdr_history.specs.Runs.{RunStart}
-use Rattle.vdr_history.specs.Taken.{Captured, of_group}
-use Rattle.vdr_history.specs.Recorder.{Recorder, begun, next_in, tick_of, tick_with, gap_unless_none, gap_of, datagram_of, with_pending, passed, admits, took, taken_all, recorder_after, gaps_below}
-use Rattle.vdr_history.specs.Sums.{missed_of, sum_counts, missed_in, recorded_in, missed_before, counted_by, AddsUp}
+use Rattle.vdr_core.specs.Runs.{RunStart}
+use Rattle.vdr_core.specs.Taken.{Captured, of_group}
+use Rattle.vdr_core.specs.Recorder.{Recorder, begun, next_in, tick_of, tick_with, gap_unless_none, gap_of, datagram_of, with_pending, passed, admits, took, taken_all, recorder_after, gaps_below}
+use Rattle.vdr_core.specs.Sums.{missed_of, sum_counts, missed_in, recorded_in, missed_before, counted_by, AddsUp}
 use Rattle.vdr_core.proofs.Feeding.{counts_path}
 use Rattle.vdr_core.proofs.Lanes.{gap_own, gap_other, gap_no_data}
 use Rattle.vdr_core.proofs.Gaps.{own_gap, no_gap}

@@ -5,13 +5,13 @@ use Rattle.std.proofs.lemmas.List.Elements.{filter-append}
 use Rattle.vdr_terms.specs.declared.counts.Counts.{Counts}
 use Rattle.vdr_terms.specs.Records.{Record, Item, records_of}
 use Rattle.vdr_terms.specs.Rates.{Limit}
-use Rattle.vdr_history.specs.Accounts.{AccountsPrefix}
-use Rattle.vdr_history.specs.Runs.{RunStart, base_of}
+use Rattle.vdr_core.specs.Accounts.{AccountsPrefix}
+use Rattle.vdr_core.specs.Runs.{RunStart, base_of}
 use Rattle.vdr_terms.specs.Counting.{no_pending}
-use Rattle.vdr_history.specs.Recorder.{Recorder, begun, took, taken_all, tick_of, recorder_after}
+use Rattle.vdr_core.specs.Recorder.{Recorder, begun, took, taken_all, tick_of, recorder_after}
 use Rattle.vdr_core.specs.Machine.{Lane, with_queue}
 use Rattle.vdr_core.specs.Law.{Admits, ClosedRunsAccount, CutRunsAccount}
-use Rattle.vdr_history.specs.Taken.{AllFeed, Captured, Feeds, of_group}
+use Rattle.vdr_core.specs.Taken.{AllFeed, Captured, Feeds, of_group}
 use Rattle.vdr_core.proofs.Counted.{none_are_missed}
 use Rattle.vdr_core.proofs.Meter.{latest_none}
 use Rattle.vdr_core.proofs.Lanes.{Inv}

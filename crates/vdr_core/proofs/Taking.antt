@@ -4,12 +4,12 @@ use Rattle.std.proofs.lemmas.Bool.{cases_eq, eq-eqb, ne_eqb, cond-true, cond-fal
 use Rattle.std.proofs.lemmas.List.Elements.{filter-append}
 use Rattle.std.proofs.lemmas.List.Sums.{fold-append}
 use Rattle.vdr_terms.specs.Records.{Record, total, second, has_items, records_of}
-use Rattle.vdr_history.specs.Runs.{RunStart, base_of}
+use Rattle.vdr_core.specs.Runs.{RunStart, base_of}
 use Rattle.vdr_terms.specs.Counting.{Pending, merged, with_missed, past_datagram, past_refusal}
-use Rattle.vdr_history.specs.Recorder.{Recorder, begun, next_in, tick_of, tick_with, gap_of, with_pending, passed, admits, took, taken_all, recorder_after}
+use Rattle.vdr_core.specs.Recorder.{Recorder, begun, next_in, tick_of, tick_with, gap_of, with_pending, passed, admits, took, taken_all, recorder_after}
 use Rattle.vdr_core.specs.Machine.{Lane, idle, with_queue}
 use Rattle.vdr_core.specs.Law.{Admits}
-use Rattle.vdr_history.specs.Taken.{Captured}
+use Rattle.vdr_core.specs.Taken.{Captured}
 use Rattle.vdr_core.proofs.Meter.{same_admitted}
 use Rattle.vdr_core.proofs.Lanes.{Inv, inv_idle, inv_grows, inv_refused, inv_admitted, added, added_own, added_other}
 use Rattle.vdr_core.proofs.Gaps.{GapsPaired, paired_append, paired_added}

@@ -8,12 +8,12 @@ use Rattle.vdr_terms.specs.Records.{Record, Item, is_gap, total, records_of}
 use Rattle.vdr_terms.specs.Records.Content.{Stop}
 use Rattle.vdr_terms.specs.Rates.{Limit}
 use Rattle.vdr_terms.specs.Order.{NeverFalls}
-use Rattle.vdr_history.specs.Runs.{RunStart, base_of, IsGiven, SameStamp, GapStamps, TickOf, Ticks}
+use Rattle.vdr_core.specs.Runs.{RunStart, base_of, IsGiven, SameStamp, GapStamps, TickOf, Ticks}
 use Rattle.vdr_terms.specs.Counting.{Pending, merged, with_missed}
-use Rattle.vdr_history.specs.Recorder.{Recorder, begun, next_in, tick_of, tick_with, gap_unless_none, gap_of, datagram_of, passed, admits, took, taken_all, recorder_after, gaps_below, stop_of}
+use Rattle.vdr_core.specs.Recorder.{Recorder, begun, next_in, tick_of, tick_with, gap_unless_none, gap_of, datagram_of, passed, admits, took, taken_all, recorder_after, gaps_below, stop_of}
 use Rattle.vdr_core.specs.Machine.{Lane, with_queue}
 use Rattle.vdr_core.specs.Law.{Admits, ClosedRunsAreRuns, CutRunsAreRuns, IsRun}
-use Rattle.vdr_history.specs.Taken.{AreQueued, Captured, Feeds, of_group}
+use Rattle.vdr_core.specs.Taken.{AreQueued, Captured, Feeds, of_group}
 use Rattle.vdr_core.proofs.Lanes.{Inv}
 use Rattle.vdr_core.proofs.Taking.{AllLanes}
 use Rattle.vdr_core.proofs.Taken.{taken_keeps, lane_of, first_lanes, feeds_first, feeds_all}

@@ -2,7 +2,7 @@
 use Rattle.std.proofs.Common.{◌≡◌, ◌+◌, ℕ, List, [], ◌∷◌, ◌++◌, length, refl, sym, ap, ◌∙◌, subst, arith, length-append, append_assoc, append-nil, add-zero}
 use Rattle.vdr_terms.specs.Records.{Record, Item}
 use Rattle.vdr_terms.specs.Rates.{Limit}
-use Rattle.vdr_history.specs.Accounts.{AccountsFor, AllAccounted}
+use Rattle.vdr_core.specs.Accounts.{AccountsFor, AllAccounted}
 
 module _ (limit : Limit) (base : ℕ) where
   -- one more record, which accounts for the items that follow

@@ -4,12 +4,12 @@ use Rattle.std.specs.List.{AllByRecursion}
 use Rattle.vdr_terms.specs.declared.counts.Counts.{Counts}
 use Rattle.vdr_terms.specs.Records.{Record, last}
 use Rattle.vdr_terms.specs.Order.{NeverFalls}
-use Rattle.vdr_history.specs.Runs.{RunStart, Stamp, last_tick}
-use Rattle.vdr_history.specs.Taken.{Captured}
-use Rattle.vdr_history.specs.Recorder.{next_in, tick_of, recorder_after, closing}
-use Rattle.vdr_history.specs.Histories.{Act, Continues, records_of_act, stamp_of}
-use Rattle.vdr_history.specs.Shapes.{AreInside}
-use Rattle.vdr_history.specs.RunStates.{RunState, between_runs, state_along, AreMadeFrom}
+use Rattle.vdr_core.specs.Runs.{RunStart, Stamp, last_tick}
+use Rattle.vdr_core.specs.Taken.{Captured}
+use Rattle.vdr_core.specs.Recorder.{next_in, tick_of, recorder_after, closing}
+use Rattle.vdr_core.specs.Histories.{Act, Continues, records_of_act, stamp_of}
+use Rattle.vdr_core.specs.Shapes.{AreInside}
+use Rattle.vdr_core.specs.RunStates.{RunState, between_runs, state_along, AreMadeFrom}
 use Rattle.vdr_core.specs.Machine.{Plan, State, Step, start_at, start_of, committed}
 use Rattle.vdr_core.specs.Machine.Step.{Save, Release, Look, Take, Drop, Push, Full, Pop, Commit, CloseRun, PowerFails, Restart}
 

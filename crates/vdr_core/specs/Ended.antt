@@ -3,12 +3,12 @@ use Rattle.std.specs.Prelude.{ℕ, ◌+◌, ◌≡◌, ⊤, Bool, true, false, L
 use Rattle.vdr_terms.specs.declared.counts.Counts.{Counts}
 use Rattle.vdr_terms.specs.Records.{last}
 use Rattle.vdr_terms.specs.Order.{NeverFalls}
-use Rattle.vdr_history.specs.Runs.{Stamp, last_tick}
-use Rattle.vdr_history.specs.Taken.{Captured, of_group}
-use Rattle.vdr_history.specs.Histories.{Continues, records_of_act, stamp_of}
-use Rattle.vdr_history.specs.Sums.{Sums}
-use Rattle.vdr_history.specs.Shapes.{NoEmptyGap, IsOpenRun, IsClosedRun}
-use Rattle.vdr_history.specs.FullCounts.{FullCounts}
+use Rattle.vdr_core.specs.Runs.{Stamp, last_tick}
+use Rattle.vdr_core.specs.Taken.{Captured, of_group}
+use Rattle.vdr_core.specs.Histories.{Continues, records_of_act, stamp_of}
+use Rattle.vdr_core.specs.Sums.{Sums}
+use Rattle.vdr_core.specs.Shapes.{NoEmptyGap, IsOpenRun, IsClosedRun}
+use Rattle.vdr_core.specs.FullCounts.{FullCounts}
 use Rattle.vdr_core.specs.Machine.{Plan, Ended, State, start_at}
 use Rattle.vdr_core.specs.Law.{IsRun}
 

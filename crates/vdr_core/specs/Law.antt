@@ -5,14 +5,14 @@ use Rattle.vdr_terms.specs.Records.{Record, Item, records_of}
 use Rattle.vdr_terms.specs.declared.rate.Rate.{Rate}
 use Rattle.vdr_terms.specs.Rates.{Limit}
 use Rattle.vdr_terms.specs.Rates.Limit.{AtMost}
-use Rattle.vdr_history.specs.Accounts.{AreMissed, AllAccounted, Accounts, AccountsPrefix}
-use Rattle.vdr_history.specs.Histories.{Continues, records_of_act}
-use Rattle.vdr_history.specs.Taken.{Captured, AreCounted, AreQueued, AllFeed}
-use Rattle.vdr_history.specs.Runs.{RunStart, TickOf, Ticks, base_of}
+use Rattle.vdr_core.specs.Accounts.{AreMissed, AllAccounted, Accounts, AccountsPrefix}
+use Rattle.vdr_core.specs.Histories.{Continues, records_of_act}
+use Rattle.vdr_core.specs.Taken.{Captured, AreCounted, AreQueued, AllFeed}
+use Rattle.vdr_core.specs.Runs.{RunStart, TickOf, Ticks, base_of}
 use Rattle.vdr_terms.specs.Order.{NeverFalls}
 use Rattle.std.specs.List.{AllByRecursion}
 use Rattle.vdr_terms.specs.Counting.{Pending}
-use Rattle.vdr_history.specs.Recorder.{recorder_after, closed_run}
+use Rattle.vdr_core.specs.Recorder.{recorder_after, closed_run}
 use Rattle.vdr_core.specs.Machine.{Plan, Lane, Ended, State, start_of, recorder, committed}
 
 -- A group with a rate may have at least one datagram a second.

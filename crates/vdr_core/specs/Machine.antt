@@ -7,11 +7,11 @@ use Rattle.vdr_terms.specs.Datagrams.{verdict}
 use Rattle.vdr_terms.specs.declared.datagram.Verdict.TheVariants.{Yes, Bad, Large}
 use Rattle.vdr_terms.specs.Rates.{Limit, is_configured}
 use Rattle.vdr_terms.specs.Channels.{Channels}
-use Rattle.vdr_history.specs.Runs.{Stamp, RunStart}
-use Rattle.vdr_history.specs.Histories.{Act, stamp_of}
-use Rattle.vdr_history.specs.Taken.{Captured}
+use Rattle.vdr_core.specs.Runs.{Stamp, RunStart}
+use Rattle.vdr_core.specs.Histories.{Act, stamp_of}
+use Rattle.vdr_core.specs.Taken.{Captured}
 use Rattle.vdr_terms.specs.Counting.{Tally, no_tally, tallied, pushed, one_full, one_bad, one_large}
-use Rattle.vdr_history.specs.Recorder.{Recorder, begun, recorder_after, closing}
+use Rattle.vdr_core.specs.Recorder.{Recorder, begun, recorder_after, closing}
 
 -- What stays: the rate of each configured group, the channels, and each queue's capacity.
 pub record Plan : Type 0 where

@@ -6,11 +6,11 @@ use Rattle.vdr_terms.specs.declared.datagram.Verdict.{Verdict}
 use Rattle.vdr_terms.specs.declared.datagram.Verdict.TheVariants.{Yes, Bad, Large}
 use Rattle.vdr_terms.specs.Datagrams.{verdict, is_yes}
 use Rattle.vdr_terms.specs.Counting.{next_number, one_bad, one_large}
-use Rattle.vdr_history.specs.Accounts.{Accounts}
-use Rattle.vdr_history.specs.Runs.{RunStart, base_of}
-use Rattle.vdr_history.specs.Feed.{items_of, counts_of, feed_records}
-use Rattle.vdr_history.specs.Recorder.{Recorder, recorder_after, taken_all, closed_run}
-use Rattle.vdr_history.specs.Taken.{Captured, AllFeed}
+use Rattle.vdr_core.specs.Accounts.{Accounts}
+use Rattle.vdr_core.specs.Runs.{RunStart, base_of}
+use Rattle.vdr_core.specs.Feed.{items_of, counts_of, feed_records}
+use Rattle.vdr_core.specs.Recorder.{Recorder, recorder_after, taken_all, closed_run}
+use Rattle.vdr_core.specs.Taken.{Captured, AllFeed}
 use Rattle.vdr_core.specs.Law.{IsRun}
 
 -- The items at the end that come after the last recordable one.

@@ -4,12 +4,12 @@ use Rattle.vdr_terms.specs.declared.counts.Counts.{Counts}
 use Rattle.vdr_terms.specs.Records.{Item, FeedItem}
 use Rattle.vdr_terms.specs.Datagrams.{verdict, is_yes}
 use Rattle.vdr_terms.specs.Counting.{merged, one_rate}
-use Rattle.vdr_history.specs.Runs.{RunStart}
-use Rattle.vdr_history.specs.Feed.{items_of, feed_records}
-use Rattle.vdr_history.specs.Recorder.{Recorder, admits, took, recorder_after, closed_run}
-use Rattle.vdr_history.specs.Taken.{Captured, AllFeed, of_group}
-use Rattle.vdr_history.specs.Sums.{Sums, missed_in, recorded_in, missed_before, counted_by}
-use Rattle.vdr_history.specs.FullCounts.{AreFullSteps, FullCounts}
+use Rattle.vdr_core.specs.Runs.{RunStart}
+use Rattle.vdr_core.specs.Feed.{items_of, feed_records}
+use Rattle.vdr_core.specs.Recorder.{Recorder, admits, took, recorder_after, closed_run}
+use Rattle.vdr_core.specs.Taken.{Captured, AllFeed, of_group}
+use Rattle.vdr_core.specs.Sums.{Sums, missed_in, recorded_in, missed_before, counted_by}
+use Rattle.vdr_core.specs.FullCounts.{AreFullSteps, FullCounts}
 use Rattle.vdr_core.specs.Replay.{IsOfGroups}
 
 -- A closed run adds up to what each port gave. What its Gaps say of full queues is what the items and the counts at the end say of them.

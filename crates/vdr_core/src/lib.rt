@@ -4,12 +4,12 @@
 ghost use Rattle.std.specs.Prelude.{◌≡◌, ◌<◌, List, [], Option, ℕ};
 ghost use Rattle.vdr_terms.specs.declared.counts.Counts.{Counts};
 ghost use Rattle.vdr_terms.specs.Records.{FeedItem};
-ghost use Rattle.vdr_history.specs.Feed.{feed_records};
-ghost use Rattle.vdr_history.specs.Recorder.{Recorder, closed_run, recorder_after};
-ghost use Rattle.vdr_history.specs.Runs.{RunStart, Stamp};
-ghost use Rattle.vdr_history.specs.Shapes.{IsClosedRun, IsOpenRun, NoEmptyGap};
-ghost use Rattle.vdr_history.specs.Sums.{AddsUp};
-ghost use Rattle.vdr_history.specs.Taken.{Captured, of_group};
+ghost use Rattle.vdr_core.specs.Feed.{feed_records};
+ghost use Rattle.vdr_core.specs.Recorder.{Recorder, closed_run, recorder_after};
+ghost use Rattle.vdr_core.specs.Runs.{RunStart, Stamp};
+ghost use Rattle.vdr_core.specs.Shapes.{IsClosedRun, IsOpenRun, NoEmptyGap};
+ghost use Rattle.vdr_core.specs.Sums.{AddsUp};
+ghost use Rattle.vdr_core.specs.Taken.{Captured, of_group};
 ghost use Rattle.vdr_core.specs.Machine.{Plan, Step, after, opened};
 ghost use Rattle.vdr_core.specs.Commits.{
   ClosesComeNext,

@@ -7,9 +7,9 @@ use Rattle.std.proofs.lemmas.Option.{none-some, same_Some}
 use Rattle.vdr_terms.specs.Records.{Record, last, last_after, second}
 use Rattle.vdr_terms.specs.Order.{NeverFalls}
 use Rattle.vdr_entry.specs.declared.summary.Summary.{Summary}
-use Rattle.vdr_survey.specs.Summaries.{IsSummaryOf}
-use Rattle.vdr_survey.specs.Audits.{IsCovered}
-use Rattle.vdr_survey.proofs.CoverLemmas.{covered}
+use Rattle.vdr_index.specs.Summaries.{IsSummaryOf}
+use Rattle.vdr_index.specs.Audits.{IsCovered}
+use Rattle.vdr_index.proofs.CoverLemmas.{covered}
 use Rattle.vdr_directory.specs.Order.{begin_second, end_second}
 use Rattle.vdr_directory.specs.Growing.{tick_of}
 use Rattle.vdr_directory.proofs.Runs.{first_to_last, ticks_between}

@@ -3,9 +3,9 @@ use Rattle.std.proofs.Common.{◌≡◌, ◌≢◌, ◌⊎◌, ◌<◌, ◌≤�
 use Rattle.std.proofs.lemmas.Option.{none-some, same_Some, get_or_from_slice_get}
 use Rattle.std.proofs.lemmas.List.Elements.{All-contains, Contains-append_cases, Contains-append_left, Contains-append_right}
 use Rattle.vdr_terms.specs.Records.{Record, last, last_after}
-use Rattle.vdr_retention.proofs.Lists.{all_from, contains_cases, contains_here, contains_there, last_behind, last_contained, none_contained}
+use Rattle.vdr_durability.proofs.Lists.{all_from, contains_cases, contains_here, contains_there, last_behind, last_contained, none_contained}
 use Rattle.vdr_entry.specs.declared.summary.Summary.{Summary}
-use Rattle.vdr_survey.specs.Extents.{extent_of}
+use Rattle.vdr_index.specs.Extents.{extent_of}
 use Rattle.vdr_index.specs.declared.known.Known.{Known}
 use Rattle.vdr_index.specs.Indexes.{IsNewest, Keeps}
 use Rattle.vdr_directory.specs.declared.newest.Newest.{Newest}

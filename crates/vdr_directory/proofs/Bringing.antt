@@ -5,12 +5,12 @@ use Rattle.std.proofs.lemmas.Bool.{and_parts, false≢true}
 use Rattle.std.proofs.lemmas.Option.{none-some}
 use Rattle.vdr_terms.specs.Records.{Record}
 use Rattle.vdr_terms.proofs.Somewhere.{any_cases, any_here, any_none, any_there}
-use Rattle.vdr_retention.specs.Layout.{segment_records}
+use Rattle.vdr_durability.specs.Layout.{segment_records}
 use Rattle.vdr_entry.specs.declared.summary.Summary.{Summary}
 use Rattle.vdr_directory.specs.Sequence.{Placed, batches_of, first_of, records_of, segments_in, batches_in}
 use Rattle.vdr_directory.specs.Order.{AreInPlace, HasNone, HasPlace, MayPrecede}
 use Rattle.vdr_directory.specs.Knowns.{AreInPlaceBy}
-use Rattle.vdr_survey.specs.declared.extent.Extent.{Extent}
+use Rattle.vdr_index.specs.declared.extent.Extent.{Extent}
 use Rattle.vdr_directory.specs.declared.entry.Entry.{Entry}
 use Rattle.vdr_directory.specs.Entries.{Describe}
 use Rattle.vdr_directory.specs.Indexed.{extent_by}

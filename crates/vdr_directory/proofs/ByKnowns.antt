@@ -8,11 +8,11 @@ use Rattle.vdr_terms.specs.Records.{Record, last, last_after, second}
 use Rattle.vdr_terms.specs.Legality.{IsRecord}
 use Rattle.vdr_terms.specs.Order.{RunOn, NeverFalls}
 use Rattle.vdr_terms.proofs.Running.{last_of_run}
-use Rattle.vdr_retention.specs.Layout.{segment_records}
+use Rattle.vdr_durability.specs.Layout.{segment_records}
 use Rattle.vdr_entry.specs.declared.summary.Summary.{Summary}
 use Rattle.vdr_segment.specs.Batches.{IsBatch}
 use Rattle.vdr_segment.specs.Segments.{AreBatches}
-use Rattle.vdr_survey.specs.Audits.{IsCovered}
+use Rattle.vdr_index.specs.Audits.{IsCovered}
 use Rattle.vdr_directory.specs.Sequence.{Placed, first_of, batches_of, records_of}
 use Rattle.vdr_directory.specs.Order.{Agrees, AreInOrder, AreInPlace, HasNone, IsInPlace, MayFollow, MayPrecede, RunsOn, begin_second, end_second}
 use Rattle.vdr_directory.specs.Knowns.{summary_of, batches_read, known_of, records_read, count_by, known_count, HasNoneBy, MayStand, IsWhole, RunsOnBy, begin_by, end_by, MayFollowBy, MayPrecedeBy, AreInPlaceBy, AreInOrderBy}

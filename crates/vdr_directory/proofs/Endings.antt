@@ -5,10 +5,10 @@ use Rattle.std.specs.Option.{IsSomeAnd}
 use Rattle.std.proofs.lemmas.Option.{none-some, same_Some, slice_get-get_or}
 use Rattle.std.proofs.lemmas.Grind.{flat_map-append}
 use Rattle.vdr_terms.specs.Records.{Record, last_after, last, second}
-use Rattle.vdr_retention.specs.Victims.{IsLastSecond}
-use Rattle.vdr_retention.proofs.Lists.{last_behind}
-use Rattle.vdr_survey.specs.declared.extent.Extent.{Extent}
-use Rattle.vdr_survey.specs.Extents.{records_in, first_records, extent_between, extent_of}
+use Rattle.vdr_durability.specs.Victims.{IsLastSecond}
+use Rattle.vdr_durability.proofs.Lists.{last_behind}
+use Rattle.vdr_index.specs.declared.extent.Extent.{Extent}
+use Rattle.vdr_index.specs.Extents.{records_in, first_records, extent_between, extent_of}
 use Rattle.vdr_directory.specs.declared.newest.Ending.{Ending}
 use Rattle.vdr_directory.specs.Sequence.{Placed, batches_of, records_of, batches_in, all_records}
 use Rattle.vdr_directory.specs.Directories.{ending_by, later}

@@ -4,8 +4,8 @@ use Rattle.std.specs.Prelude.{◌⊎◌, slice_get}
 use Rattle.std.proofs.lemmas.Option.{none-some}
 use Rattle.vdr_terms.specs.Records.{Record, last}
 use Rattle.vdr_entry.specs.declared.summary.Summary.{Summary}
-use Rattle.vdr_survey.specs.declared.extent.Extent.{Extent}
-use Rattle.vdr_survey.specs.Extents.{records_in, first_records, extent_between, extent_of}
+use Rattle.vdr_index.specs.declared.extent.Extent.{Extent}
+use Rattle.vdr_index.specs.Extents.{records_in, first_records, extent_between, extent_of}
 use Rattle.vdr_directory.specs.declared.newest.Ending.{Ending}
 use Rattle.vdr_directory.specs.Sequence.{Placed, batches_of, batches_in}
 use Rattle.vdr_directory.specs.Order.{AreInPlace, HasNone}

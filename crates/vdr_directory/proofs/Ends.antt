@@ -3,8 +3,8 @@ use Rattle.std.proofs.Common.{◌≡◌, List, [], ◌∷◌, ◌++◌, Option, 
 use Rattle.std.proofs.lemmas.Option.{same_Some}
 use Rattle.std.proofs.lemmas.Grind.{flat_map-append}
 use Rattle.vdr_terms.specs.Records.{Record}
-use Rattle.vdr_survey.specs.declared.extent.Extent.{Extent}
-use Rattle.vdr_survey.specs.Extents.{records_in, first_records, extent_between, extent_of}
+use Rattle.vdr_index.specs.declared.extent.Extent.{Extent}
+use Rattle.vdr_index.specs.Extents.{records_in, first_records, extent_between, extent_of}
 use Rattle.vdr_directory.specs.Sequence.{Placed, batches_of, batches_in, all_records}
 
 -- Batches

@@ -4,8 +4,8 @@ use Rattle.std.specs.Prelude.{◌⊎◌, IfSome, MatchOption}
 use Rattle.std.proofs.lemmas.List.{take_more}
 use Rattle.std.proofs.lemmas.Option.{none-some, same_Some}
 use Rattle.vdr_terms.specs.Records.{last}
-use Rattle.vdr_survey.specs.declared.extent.Extent.{Extent}
-use Rattle.vdr_survey.specs.declared.extent.Survey.{Survey}
+use Rattle.vdr_index.specs.declared.extent.Extent.{Extent}
+use Rattle.vdr_index.specs.declared.extent.Survey.{Survey}
 use Rattle.vdr_directory.specs.declared.entry.Entry.{Entry}
 use Rattle.vdr_directory.specs.declared.newest.Newest.{Newest}
 use Rattle.vdr_directory.specs.declared.newest.Ending.{Ending}

@@ -5,13 +5,13 @@ use Rattle.std.proofs.Common.{leb}
 use Rattle.std.proofs.lemmas.Bool.{leb-true, le-leb}
 use Rattle.std.proofs.lemmas.Option.{none-some, same_Some}
 use Rattle.vdr_terms.specs.Records.{Record, last, last_after}
-use Rattle.vdr_retention.specs.Layout.{segment_records}
+use Rattle.vdr_durability.specs.Layout.{segment_records}
 use Rattle.vdr_entry.specs.declared.summary.Summary.{Summary}
-use Rattle.vdr_survey.specs.declared.extent.Extent.{Extent}
-use Rattle.vdr_survey.specs.declared.extent.Survey.{Survey}
-use Rattle.vdr_survey.specs.Summaries.{IsSummaryOf, Summarises}
-use Rattle.vdr_survey.specs.Surveys.{Surveys}
-use Rattle.vdr_survey.specs.Extents.{records_in, first_records, extent_between}
+use Rattle.vdr_index.specs.declared.extent.Extent.{Extent}
+use Rattle.vdr_index.specs.declared.extent.Survey.{Survey}
+use Rattle.vdr_index.specs.Summaries.{IsSummaryOf, Summarises}
+use Rattle.vdr_index.specs.Surveys.{Surveys}
+use Rattle.vdr_index.specs.Extents.{records_in, first_records, extent_between}
 use Rattle.vdr_directory.specs.declared.entry.Entry.{Entry}
 use Rattle.vdr_directory.specs.Sequence.{Placed, first_of, batches_of}
 use Rattle.vdr_directory.specs.Knowns.{summary_of, batches_read, records_read, known_count, next_known, begin_by, count_by, end_by, HasNoneBy, RunsOnBy, TicksRiseBy, SecondsRiseBy, FollowsBy}

@@ -13,14 +13,14 @@ use Rattle.vdr_entry.specs.declared.summary.Summary.{Summary}
 use Rattle.vdr_segment.specs.Batches.{batch_bytes}
 use Rattle.vdr_segment.specs.Segments.{Segment, AreBatches}
 use Rattle.vdr_segment.proofs.ChangeLemmas.{length-batches}
-use Rattle.vdr_slots.specs.Slots.{place_of}
-use Rattle.vdr_slots.proofs.Holding.{slot_of, slot_long}
+use Rattle.vdr_segment.specs.Slots.{place_of}
+use Rattle.vdr_segment.proofs.Holding.{slot_of, slot_long}
 use Rattle.vdr_outside.specs.Parts.{part}
-use Rattle.vdr_survey.specs.declared.extent.Survey.{Survey}
-use Rattle.vdr_survey.specs.Extents.{records_in}
-use Rattle.vdr_survey.specs.Summaries.{IsSummaryOf, Summarises}
-use Rattle.vdr_survey.proofs.JoinLemmas.{one_summarised}
-use Rattle.vdr_retention.proofs.Lists.{contains_here, contains_there, contains_cases, all_from}
+use Rattle.vdr_index.specs.declared.extent.Survey.{Survey}
+use Rattle.vdr_index.specs.Extents.{records_in}
+use Rattle.vdr_index.specs.Summaries.{IsSummaryOf, Summarises}
+use Rattle.vdr_index.proofs.JoinLemmas.{one_summarised}
+use Rattle.vdr_durability.proofs.Lists.{contains_here, contains_there, contains_cases, all_from}
 use Rattle.vdr_index.specs.declared.known.Known.{Known}
 use Rattle.vdr_directory.specs.declared.entry.Entry.{Entry}
 use Rattle.vdr_directory.specs.Sequence.{Placed, batches_of, records_of, AreInSequence}

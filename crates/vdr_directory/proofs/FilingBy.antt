@@ -8,13 +8,13 @@ use Rattle.std.proofs.lemmas.Option.{none-some, same_Some}
 use Rattle.vdr_terms.specs.Records.{Record}
 use Rattle.vdr_entry.specs.declared.summary.Summary.{Summary}
 use Rattle.vdr_segment.specs.declared.header.Header.{Header}
-use Rattle.vdr_slots.specs.Slots.{IsFront}
-use Rattle.vdr_slots.proofs.Holding.{one_front}
-use Rattle.vdr_survey.specs.declared.extent.Survey.{Survey}
-use Rattle.vdr_survey.specs.Extents.{records_in}
-use Rattle.vdr_survey.specs.Summaries.{Summarises}
-use Rattle.vdr_survey.proofs.JoinLemmas.{one_summarised}
-use Rattle.vdr_retention.proofs.Lists.{contains_here, contains_there, all_from}
+use Rattle.vdr_segment.specs.Slots.{IsFront}
+use Rattle.vdr_segment.proofs.Holding.{one_front}
+use Rattle.vdr_index.specs.declared.extent.Survey.{Survey}
+use Rattle.vdr_index.specs.Extents.{records_in}
+use Rattle.vdr_index.specs.Summaries.{Summarises}
+use Rattle.vdr_index.proofs.JoinLemmas.{one_summarised}
+use Rattle.vdr_durability.proofs.Lists.{contains_here, contains_there, all_from}
 use Rattle.vdr_index.specs.declared.known.Known.{Known}
 use Rattle.vdr_directory.specs.declared.entry.Entry.{Entry}
 use Rattle.vdr_directory.specs.Sequence.{Placed, batches_of, records_of}

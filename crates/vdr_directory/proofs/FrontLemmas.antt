@@ -5,8 +5,8 @@ use Rattle.std.proofs.lemmas.List.Elements.{All-contains, Contains-append_left, 
 use Rattle.vdr_segment.specs.declared.header.Header.{Header}
 use Rattle.vdr_segment.specs.Gates.{IsOpenAt}
 use Rattle.vdr_segment.specs.Headers.{IsHeader}
-use Rattle.vdr_slots.specs.Slots.{IsFront, place_of}
-use Rattle.vdr_retention.proofs.Lists.{none_contained, contains_here, contains_there, contains_cases, all_from}
+use Rattle.vdr_segment.specs.Slots.{IsFront, place_of}
+use Rattle.vdr_durability.proofs.Lists.{none_contained, contains_here, contains_there, contains_cases, all_from}
 use Rattle.vdr_directory.specs.declared.entry.Entry.{Entry}
 use Rattle.vdr_directory.specs.Entries.{slot_of}
 use Rattle.vdr_directory.specs.Opening.{front_bytes, RefusesHeader}

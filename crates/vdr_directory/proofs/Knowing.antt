@@ -3,13 +3,13 @@ use Rattle.std.proofs.Common.{◌≡◌, ◌<◌, ◌≤◌, ℕ, List, [], ◌�
 use Rattle.std.proofs.lemmas.List.Elements.{All-nil, All-cons, All-head, All-tail, All-contains}
 use Rattle.std.proofs.lemmas.Option.{none-some, same_Some, slice_get_within, slice_get-get_or}
 use Rattle.vdr_terms.specs.Records.{Record}
-use Rattle.vdr_retention.proofs.Lists.{contains_here, contains_there, contains_cases, none_contained, all_from}
+use Rattle.vdr_durability.proofs.Lists.{contains_here, contains_there, contains_cases, none_contained, all_from}
 use Rattle.vdr_entry.specs.declared.summary.Summary.{Summary}
 use Rattle.vdr_segment.specs.declared.header.Header.{Header}
 use Rattle.vdr_segment.specs.Segments.{Segment, AreBatches}
 use Rattle.vdr_segment.proofs.BatchListLemmas.{one_batches}
-use Rattle.vdr_slots.specs.Slots.{IsFront, header_of}
-use Rattle.vdr_slots.proofs.Holding.{slot_of as slot_held, front_at}
+use Rattle.vdr_segment.specs.Slots.{IsFront, header_of}
+use Rattle.vdr_segment.proofs.Holding.{slot_of as slot_held, front_at}
 use Rattle.vdr_directory.specs.declared.entry.Entry.{Entry}
 use Rattle.vdr_directory.specs.Sequence.{Placed, IsBefore, Rises, batches_of, first_of}
 use Rattle.vdr_directory.specs.Entries.{Describe, SurveysUnless}

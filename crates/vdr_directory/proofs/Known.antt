@@ -6,14 +6,14 @@ use Rattle.std.proofs.lemmas.Option.{none-some, same_Some, get_or_from_slice_get
 use Rattle.std.proofs.lemmas.List.Elements.{All-nil, All-cons, All-contains, All-weaker, Contains-append_cases}
 use Rattle.vdr_terms.specs.Records.{last}
 use Rattle.vdr_terms.proofs.Somewhere.{any_here, any_there}
-use Rattle.vdr_retention.proofs.Lists.{none_contained, contains_cases}
+use Rattle.vdr_durability.proofs.Lists.{none_contained, contains_cases}
 use Rattle.vdr_entry.specs.declared.summary.Summary.{Summary}
-use Rattle.vdr_survey.proofs.JoinLemmas.{one_summarised}
+use Rattle.vdr_index.proofs.JoinLemmas.{one_summarised}
 use Rattle.vdr_index.specs.declared.known.Known.{Known}
 use Rattle.vdr_index.specs.Indexes.{Keeps}
 use Rattle.vdr_index.proofs.Ranks.{keeps_at}
 use Rattle.vdr_directory.specs.Sequence.{Placed, first_of, records_of, seq_of}
-use Rattle.vdr_survey.specs.Audits.{IsCovered}
+use Rattle.vdr_index.specs.Audits.{IsCovered}
 use Rattle.vdr_directory.specs.Order.{next_place, Agrees, HasNone, RunsOn, AreInPlace, AreInOrder}
 use Rattle.vdr_directory.specs.Growing.{next_seq}
 use Rattle.vdr_directory.specs.Indexed.{IsKnown, IsKnownAs, IsIndexed, StandsFor}

@@ -4,9 +4,9 @@ use Rattle.std.proofs.lemmas.List.Elements.{All-nil, All-cons, All-contains, Con
 use Rattle.std.proofs.lemmas.Option.{none-some}
 use Rattle.vdr_terms.specs.Records.{Record, last, last_after}
 use Rattle.vdr_terms.specs.Legality.{IsRecord}
-use Rattle.vdr_retention.proofs.Lists.{all_from, last_behind}
+use Rattle.vdr_durability.proofs.Lists.{all_from, last_behind}
 use Rattle.vdr_entry.specs.declared.summary.Summary.{Summary}
-use Rattle.vdr_survey.specs.Extents.{records_in}
+use Rattle.vdr_index.specs.Extents.{records_in}
 use Rattle.vdr_directory.specs.Sequence.{Placed, all_records, batches_in, batches_of, records_of}
 use Rattle.vdr_directory.specs.Order.{AreInOrder, AreInPlace}
 use Rattle.vdr_directory.specs.Knowns.{summary_of, known_of, AreInOrderBy}

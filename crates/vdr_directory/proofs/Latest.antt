@@ -10,9 +10,9 @@ use Rattle.vdr_entry.specs.declared.summary.Summary.{Summary}
 use Rattle.vdr_segment.specs.Gates.{open_gate}
 use Rattle.vdr_segment.specs.Batches.{IsBatch}
 use Rattle.vdr_segment.specs.Segments.{AreBatches}
-use Rattle.vdr_survey.specs.declared.extent.Survey.{Survey}
-use Rattle.vdr_survey.specs.Extents.{records_in}
-use Rattle.vdr_survey.specs.Surveys.{Surveys}
+use Rattle.vdr_index.specs.declared.extent.Survey.{Survey}
+use Rattle.vdr_index.specs.Extents.{records_in}
+use Rattle.vdr_index.specs.Surveys.{Surveys}
 use Rattle.vdr_directory.specs.declared.entry.Entry.{Entry}
 use Rattle.vdr_directory.specs.Opening.{slot_bytes}
 use Rattle.vdr_directory.specs.Indexed.{extent_by}

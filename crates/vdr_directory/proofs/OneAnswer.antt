@@ -5,11 +5,11 @@ use Rattle.std.proofs.lemmas.List.Elements.{All-nil, All-cons, All-contains, All
 use Rattle.vdr_terms.specs.Records.{Record}
 use Rattle.vdr_entry.specs.declared.summary.Summary.{Summary}
 use Rattle.vdr_segment.specs.Segments.{AreBatches}
-use Rattle.vdr_slots.specs.Slots.{IsFront, place_of}
-use Rattle.vdr_slots.proofs.Holding.{one_front}
-use Rattle.vdr_survey.specs.Surveys.{BreaksAt}
-use Rattle.vdr_survey.proofs.SpanLemmas.{one_break, never_both}
-use Rattle.vdr_retention.proofs.Lists.{none_contained, contains_here, contains_there, contains_cases}
+use Rattle.vdr_segment.specs.Slots.{IsFront, place_of}
+use Rattle.vdr_segment.proofs.Holding.{one_front}
+use Rattle.vdr_index.specs.Surveys.{BreaksAt}
+use Rattle.vdr_index.proofs.SpanLemmas.{one_break, never_both}
+use Rattle.vdr_durability.proofs.Lists.{none_contained, contains_here, contains_there, contains_cases}
 use Rattle.vdr_directory.specs.Sequence.{Placed}
 use Rattle.vdr_directory.specs.declared.entry.Entry.{Entry}
 use Rattle.vdr_directory.specs.Knowns.{AreInOrderBy, BreaksBy, known_of}

@@ -1,7 +1,7 @@
 -- What opening a medium finds or refuses, once its fronts are read, sorted and surveyed.
 use Rattle.std.proofs.Common.{◌≡◌, ℕ, zero, suc, List, [], ◌∷◌, get_or, slice_get, All, Some, None, inl, inr, sym, ap, ◌∙◌, subst}
 use Rattle.std.proofs.lemmas.Option.{same_Some, none-some}
-use Rattle.vdr_slots.specs.Slots.{place_of}
+use Rattle.vdr_segment.specs.Slots.{place_of}
 use Rattle.vdr_directory.specs.declared.entry.Entry.{Entry}
 use Rattle.vdr_directory.specs.Sequence.{Placed}
 use Rattle.vdr_directory.specs.Knowns.{AreInOrderBy, BreaksBy}

@@ -6,7 +6,7 @@ use Rattle.std.proofs.lemmas.Grind.{flat_map-append}
 use Rattle.vdr_terms.specs.Records.{Record, last_after, last}
 use Rattle.vdr_terms.specs.Order.{RunOn, NeverFalls}
 use Rattle.vdr_terms.proofs.Running.{run_on_join}
-use Rattle.vdr_retention.proofs.Lists.{last_behind}
+use Rattle.vdr_durability.proofs.Lists.{last_behind}
 use Rattle.vdr_entry.specs.declared.summary.Summary.{Summary}
 use Rattle.vdr_directory.specs.Sequence.{Placed, seq_of, first_of, records_of, all_records}
 use Rattle.vdr_directory.specs.Order.{next_place, HasNone, RunsOn, Agrees, begin_second, end_second, Follows, MayFollow, MayPrecede, IsInPlace, AreInPlace, AreInOrder}

@@ -5,7 +5,7 @@ use Rattle.std.proofs.lemmas.Option.{none-some, same_Some, slice_get_within}
 use Rattle.std.proofs.lemmas.List.Elements.{All-contains, All-append, All-cons, Contains-append_left, Contains-append_right, Contains-append_cases}
 use Rattle.vdr_terms.specs.Records.{Record}
 use Rattle.vdr_segment.specs.Segments.{Segment, with_batch}
-use Rattle.vdr_retention.proofs.Lists.{none_contained, contains_here, contains_there, contains_cases, all_from}
+use Rattle.vdr_durability.proofs.Lists.{none_contained, contains_here, contains_there, contains_cases, all_from}
 use Rattle.vdr_directory.specs.Sequence.{Placed, seq_of, IsBefore, Rises, AreInSequence}
 use Rattle.vdr_directory.specs.Growing.{new_segment, with_batch_in}
 

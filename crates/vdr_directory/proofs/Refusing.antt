@@ -4,13 +4,13 @@ use Rattle.std.proofs.lemmas.Option.{same_Some, none-some}
 use Rattle.std.proofs.lemmas.List.Elements.{All-nil, All-cons, All-head, All-tail}
 use Rattle.vdr_terms.specs.Records.{Record}
 use Rattle.vdr_entry.specs.declared.summary.Summary.{Summary}
-use Rattle.vdr_survey.specs.declared.extent.Survey.{Survey}
+use Rattle.vdr_index.specs.declared.extent.Survey.{Survey}
 use Rattle.vdr_segment.specs.declared.header.Header.{Header}
 use Rattle.vdr_segment.specs.Segments.{AreBatches}
-use Rattle.vdr_slots.specs.Slots.{IsFront, place_of}
-use Rattle.vdr_slots.proofs.Holding.{one_front}
-use Rattle.vdr_survey.specs.Surveys.{BreaksAt}
-use Rattle.vdr_retention.proofs.Lists.{none_contained, contains_here, contains_there, contains_cases}
+use Rattle.vdr_segment.specs.Slots.{IsFront, place_of}
+use Rattle.vdr_segment.proofs.Holding.{one_front}
+use Rattle.vdr_index.specs.Surveys.{BreaksAt}
+use Rattle.vdr_durability.proofs.Lists.{none_contained, contains_here, contains_there, contains_cases}
 use Rattle.vdr_directory.specs.declared.entry.Entry.{Entry}
 use Rattle.vdr_directory.specs.Entries.{slot_of}
 use Rattle.vdr_directory.specs.Opening.{front_bytes, slot_bytes, Headed, IsEarlier, RiseBySeq, AreHeaders, RefusesBatch}

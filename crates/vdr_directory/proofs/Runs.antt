@@ -4,7 +4,7 @@ use Rattle.std.proofs.lemmas.Option.{none-some, same_Some, slice_get-get_or}
 use Rattle.vdr_terms.specs.Records.{Record, last_after, last}
 use Rattle.vdr_terms.specs.Order.{RunOn, NeverFalls}
 use Rattle.vdr_terms.proofs.Running.{never_falls_behind}
-use Rattle.vdr_retention.proofs.Lists.{none_contained, contains_cases, last_behind}
+use Rattle.vdr_durability.proofs.Lists.{none_contained, contains_cases, last_behind}
 use Rattle.vdr_directory.specs.Growing.{tick_of}
 
 -- Lists, empty and not

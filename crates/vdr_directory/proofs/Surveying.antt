@@ -7,11 +7,11 @@ use Rattle.std.proofs.lemmas.List.{get_or-take, take-append-drop}
 use Rattle.std.proofs.lemmas.List.Elements.{All-head, All-tail, All-cons, AllWithin-more_set}
 use Rattle.std.proofs.lemmas.Option.{same_Some, slice_get_within}
 use Rattle.vdr_directory.specs.Opening.{slot_bytes}
-use Rattle.vdr_slots.specs.Slots.{place_of}
+use Rattle.vdr_segment.specs.Slots.{place_of}
 use Rattle.vdr_segment.specs.Gates.{open_gate}
 use Rattle.vdr_entry.specs.declared.summary.Summary.{Summary}
-use Rattle.vdr_survey.specs.declared.extent.Survey.{Survey}
-use Rattle.vdr_survey.specs.Surveys.{BreaksAt}
+use Rattle.vdr_index.specs.declared.extent.Survey.{Survey}
+use Rattle.vdr_index.specs.Surveys.{BreaksAt}
 use Rattle.vdr_directory.specs.declared.entry.Entry.{Entry}
 use Rattle.vdr_directory.specs.Fronts.{head_of, HasSurveyUnless, BreaksIn, IsSurveyed, BreaksAmong}
 

@@ -7,11 +7,11 @@ use Rattle.std.proofs.lemmas.List.Sums.{sum_by_push}
 use Rattle.std.proofs.lemmas.List.Elements.{All-contains, Contains-append_right}
 use Rattle.vdr_terms.specs.Records.{Record, last}
 use Rattle.vdr_terms.specs.Sizes.{batch_size}
-use Rattle.vdr_retention.proofs.Lists.{contains_here, last_behind, last_contained, all_from}
+use Rattle.vdr_durability.proofs.Lists.{contains_here, last_behind, last_contained, all_from}
 use Rattle.vdr_entry.specs.declared.summary.Summary.{Summary}
 use Rattle.vdr_segment.specs.Segments.{Segment, end_of}
-use Rattle.vdr_survey.specs.Summaries.{IsSummaryOf, Summarises}
-use Rattle.vdr_survey.proofs.JoinLemmas.{one_summarised}
+use Rattle.vdr_index.specs.Summaries.{IsSummaryOf, Summarises}
+use Rattle.vdr_index.proofs.JoinLemmas.{one_summarised}
 use Rattle.vdr_index.specs.declared.known.Known.{Known}
 use Rattle.vdr_index.specs.Indexes.{IsFirstClear, Keeps}
 use Rattle.vdr_directory.specs.declared.newest.Newest.{Newest}

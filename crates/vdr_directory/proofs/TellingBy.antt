@@ -6,7 +6,7 @@ use Rattle.std.proofs.lemmas.List.Elements.{All-nil, All-cons, All-head, All-tai
 use Rattle.vdr_terms.specs.Records.{Record, last}
 use Rattle.vdr_terms.proofs.Somewhere.{any_cases, any_here, any_none, any_there}
 use Rattle.vdr_entry.specs.declared.summary.Summary.{Summary}
-use Rattle.vdr_survey.specs.Summaries.{IsSummaryOf}
+use Rattle.vdr_index.specs.Summaries.{IsSummaryOf}
 use Rattle.vdr_index.specs.declared.known.Known.{Known}
 use Rattle.vdr_directory.specs.declared.newest.Newest.{Newest}
 use Rattle.vdr_directory.specs.Sequence.{Placed, batches_of, records_of}

@@ -2,7 +2,7 @@
 use Rattle.std.specs.Prelude.{ℕ, List, length, get_or, option_map, Option, Some, None}
 use Rattle.vdr_entry.specs.declared.summary.Summary.{Summary}
 use Rattle.vdr_segment.specs.Segments.{end_of}
-use Rattle.vdr_survey.specs.declared.extent.Extent.{Extent}
+use Rattle.vdr_index.specs.declared.extent.Extent.{Extent}
 use Rattle.vdr_index.specs.declared.known.Known.{Known}
 use Rattle.vdr_directory.specs.declared.newest.Newest.{Newest}
 use Rattle.vdr_directory.specs.declared.newest.Ending.{Ending}

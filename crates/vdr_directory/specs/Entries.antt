@@ -2,8 +2,8 @@
 use Rattle.std.specs.Prelude.{◌≡◌, ℕ, List, [], ◌∷◌, Option, Some, None, ⊤}
 use Rattle.vdr_terms.specs.Records.{Record}
 use Rattle.vdr_entry.specs.declared.summary.Summary.{Summary}
-use Rattle.vdr_survey.specs.declared.extent.Survey.{Survey}
-use Rattle.vdr_survey.specs.Surveys.{Surveys}
+use Rattle.vdr_index.specs.declared.extent.Survey.{Survey}
+use Rattle.vdr_index.specs.Surveys.{Surveys}
 use Rattle.vdr_directory.specs.declared.entry.Entry.{Entry}
 use Rattle.vdr_directory.specs.Sequence.{Placed, seq_of, first_of, batches_of}
 

@@ -5,9 +5,9 @@ use Rattle.vdr_terms.specs.Records.{Record}
 use Rattle.vdr_entry.specs.declared.summary.Summary.{Summary}
 use Rattle.vdr_segment.specs.declared.header.Header.{Header}
 use Rattle.vdr_segment.specs.Segments.{AreBatches}
-use Rattle.vdr_slots.specs.Slots.{IsFront, place_of}
-use Rattle.vdr_survey.specs.declared.extent.Survey.{Survey}
-use Rattle.vdr_survey.specs.Surveys.{Surveys, BreaksAt}
+use Rattle.vdr_segment.specs.Slots.{IsFront, place_of}
+use Rattle.vdr_index.specs.declared.extent.Survey.{Survey}
+use Rattle.vdr_index.specs.Surveys.{Surveys, BreaksAt}
 use Rattle.vdr_directory.specs.declared.entry.Entry.{Entry}
 use Rattle.vdr_directory.specs.Sequence.{Placed}
 use Rattle.vdr_directory.specs.Knowns.{AreInOrderBy}

@@ -2,8 +2,8 @@
 use Rattle.std.specs.Prelude.{◌≡◌, ℕ, List, length, Any, option_map, Option}
 use Rattle.vdr_terms.specs.Records.{last}
 use Rattle.vdr_segment.specs.Segments.{Segment}
-use Rattle.vdr_survey.specs.Extents.{extent_of}
-use Rattle.vdr_slots.specs.Slots.{HoldsSlots}
+use Rattle.vdr_index.specs.Extents.{extent_of}
+use Rattle.vdr_segment.specs.Slots.{HoldsSlots}
 use Rattle.vdr_directory.specs.Sequence.{Placed, AreInSequence, batches_in}
 use Rattle.vdr_directory.specs.Directories.{DirectoryState, newest_of, ending_by}
 use Rattle.vdr_directory.specs.Indexed.{IsIndexed}

@@ -3,8 +3,8 @@ use Rattle.std.specs.Prelude.{◌≡◌, ◌≢◌, ◌≤◌, ◌&&◌, ℕ, Bo
 use Rattle.vdr_terms.specs.Records.{Record}
 use Rattle.vdr_terms.specs.Queries.{Query, Span, in_span, matches, meets}
 use Rattle.vdr_entry.specs.declared.summary.Summary.{Summary}
-use Rattle.vdr_survey.specs.declared.extent.Extent.{Extent}
-use Rattle.vdr_survey.specs.declared.extent.Survey.{Survey}
+use Rattle.vdr_index.specs.declared.extent.Extent.{Extent}
+use Rattle.vdr_index.specs.declared.extent.Survey.{Survey}
 use Rattle.vdr_index.specs.declared.known.Known.{Known}
 use Rattle.vdr_index.specs.Indexes.{summary_of}
 use Rattle.vdr_directory.specs.declared.entry.Entry.{Entry}

@@ -3,7 +3,7 @@
 use Rattle.std.specs.Prelude.{◌≡◌, ◌⊎◌, ◌<◌, ◌≤◌, ◌+◌, ◌*◌, ◌^◌, ℕ, suc, List, [], ◌∷◌, length, slice_get, option_map, Option, Some, None, IfSome, ⊤}
 use Rattle.vdr_terms.specs.Records.{Record, last, second}
 use Rattle.vdr_terms.specs.Order.{RunOn, NeverFalls}
-use Rattle.vdr_retention.specs.Layout.{segment_records}
+use Rattle.vdr_durability.specs.Layout.{segment_records}
 use Rattle.vdr_entry.specs.declared.summary.Summary.{Summary}
 use Rattle.vdr_directory.specs.Sequence.{Placed, seq_of, first_of, batches_of}
 

@@ -3,7 +3,7 @@ use Rattle.std.specs.Prelude.{◌≡◌, ℕ, List, [], ◌∷◌, ◌++◌, len
 use Rattle.vdr_terms.specs.Records.{last}
 use Rattle.vdr_entry.specs.declared.summary.Summary.{Summary}
 use Rattle.vdr_segment.specs.Segments.{with_summary}
-use Rattle.vdr_survey.specs.Summaries.{IsSummaryOf}
+use Rattle.vdr_index.specs.Summaries.{IsSummaryOf}
 use Rattle.vdr_directory.specs.Sequence.{Placed, records_of}
 use Rattle.vdr_directory.specs.Order.{HasNone}
 

@@ -10,8 +10,8 @@ use Rattle.vdr_outside.specs.declared.fault.PartRefused.TheVariants.{Fault}
 use Rattle.vdr_entry.specs.declared.summary.Summary.{Summary}
 use Rattle.vdr_segment.specs.declared.header.Header.{Header}
 use Rattle.vdr_segment.specs.Segments.{AreBatches}
-use Rattle.vdr_slots.specs.Slots.{IsFront, place_of}
-use Rattle.vdr_survey.specs.Surveys.{BreaksAt}
+use Rattle.vdr_segment.specs.Slots.{IsFront, place_of}
+use Rattle.vdr_index.specs.Surveys.{BreaksAt}
 use Rattle.vdr_directory.specs.Sequence.{Placed}
 use Rattle.vdr_directory.specs.Knowns.{BreaksBy}
 

@@ -3,7 +3,7 @@ use Rattle.std.specs.Prelude.{◌≡◌, ◌⊎◌, ◌<◌, ◌≤◌, ◌+◌,
 use Rattle.vdr_terms.specs.Records.{Record, last, last_after, second}
 use Rattle.vdr_terms.specs.Order.{RunOn, NeverFalls}
 use Rattle.vdr_entry.specs.declared.summary.Summary.{Summary}
-use Rattle.vdr_survey.specs.Audits.{IsCovered}
+use Rattle.vdr_index.specs.Audits.{IsCovered}
 use Rattle.vdr_directory.specs.Sequence.{Placed, seq_of, first_of, records_of}
 
 -- The place after a segment's last record, of one without records its first place.

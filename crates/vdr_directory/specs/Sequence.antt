@@ -3,7 +3,7 @@ use Rattle.std.specs.Prelude.{◌≡◌, ◌⊎◌, ◌<◌, ℕ, List, [], ◌�
 use Rattle.std.specs.List.{flat_map}
 use Rattle.vdr_terms.specs.Records.{Record}
 use Rattle.vdr_segment.specs.Segments.{Segment}
-use Rattle.vdr_retention.specs.Layout.{segment_records, records_in}
+use Rattle.vdr_durability.specs.Layout.{segment_records, records_in}
 
 -- An open slot, and the segment in it.
 pub record Placed : Type 0 where

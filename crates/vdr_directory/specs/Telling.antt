@@ -1,7 +1,7 @@
 -- What a directory tells of segments as opening knows them (this project's profile).
 use Rattle.std.specs.Prelude.{◌≡◌, ◌≢◌, ◌<◌, ◌≤◌, ℕ, List, [], ◌∷◌, length, get_or, option_map, All, Any, Option, Some, None, ⊤}
 use Rattle.vdr_terms.specs.Records.{last}
-use Rattle.vdr_survey.specs.Extents.{extent_of}
+use Rattle.vdr_index.specs.Extents.{extent_of}
 use Rattle.vdr_index.specs.declared.known.Known.{Known}
 use Rattle.vdr_directory.specs.Sequence.{Placed, seq_of, first_of, batches_in}
 use Rattle.vdr_directory.specs.Knowns.{HasNoneBy, next_known}

@@ -1,8 +1,8 @@
 ghost use Rattle.std.specs.Prelude.{◌≡◌, ◌<◌, ◌+◌, ◌^◌, ◌++◌, ◌∷◌, [], ℕ, List, length, replicate, All, IfOk, IfSome, IfNone, MatchOption, get_or, option_map, set, Some, None};
 ghost use Rattle.vdr_terms.specs.Records.{Record as ARecord};
 ghost use Rattle.vdr_entry.specs.declared.summary.Summary.{Summary as ASummary};
-ghost use Rattle.vdr_survey.specs.Extents.{extent_of};
-ghost use Rattle.vdr_survey.specs.Summaries.{IsSummaryOf, Summarises};
+ghost use Rattle.vdr_index.specs.Extents.{extent_of};
+ghost use Rattle.vdr_index.specs.Summaries.{IsSummaryOf, Summarises};
 ghost use Rattle.vdr_index.specs.declared.known.Known.{Known as AKnown};
 ghost use Rattle.vdr_directory.specs.declared.newest.Newest.{Newest as ANewest};
 ghost use Rattle.vdr_directory.specs.Sequence.{Placed};
@@ -22,9 +22,8 @@ use crate::newest::{Ending, Newest, ending_among, ending_of, newest_among};
 use std::alloc::Global;
 use std::marker::Model;
 use vdr_entry::{Record, Summary};
-use vdr_index::{Index, NoMemory};
+use vdr_index::{Index, NoMemory, summary_with};
 use vdr_segment::HEADER_SIZE;
-use vdr_survey::summary_with;
 
 /// What is known of the segments of a medium without reading them. The slot of each that has records has it in the
 /// index; the newest may have none, and then its slot is clear there. But for `of` nothing takes memory.

@@ -2,7 +2,7 @@ ghost use Rattle.std.specs.Prelude.{◌≡◌};
 ghost use Rattle.vdr_directory.specs.Indexed.{extent_by, summary_by};
 
 use vdr_entry::Summary;
-use vdr_survey::{Extent, Survey};
+use vdr_index::{Extent, Survey};
 
 /// What opening a medium finds of an open segment.
 #[derive(Clone, Copy, Debug, PartialEq, Eq, Drop)]

@@ -4,8 +4,8 @@ ghost use Rattle.vdr_outside.specs.Causes.{counted};
 ghost use Rattle.vdr_outside.specs.Disk.{Unchanged, content};
 ghost use Rattle.vdr_outside.specs.declared.fault.PartRefused.TheVariants.{Damaged};
 ghost use Rattle.vdr_segment.specs.declared.header.Header.{Header as AHeader};
-ghost use Rattle.vdr_slots.specs.Areas.{HasRoom};
-ghost use Rattle.vdr_slots.specs.Slots.{IsFront, place_of};
+ghost use Rattle.vdr_segment.specs.Areas.{HasRoom};
+ghost use Rattle.vdr_segment.specs.Slots.{IsFront, place_of};
 ghost use Rattle.vdr_directory.specs.Entries.{slot_of};
 ghost use Rattle.vdr_directory.specs.Opening.{HasFaultCause, RefusesHeader, front_bytes};
 ghost use Rattle.vdr_directory.specs.Costs.{ReadsAtMost};
@@ -14,8 +14,7 @@ ghost use Rattle.vdr_directory.specs.Fronts.{AreSlots, Ascends, TellFronts, open
 use crate::entry::Entry;
 use std::alloc::{AllocError, Global};
 use vdr_outside::{Media, PartRefused};
-use vdr_segment::{HEADER_SIZE, Header, OPEN_GATE, read_header};
-use vdr_slots::{Area, read_front};
+use vdr_segment::{Area, HEADER_SIZE, Header, OPEN_GATE, read_front, read_header};
 
 // Adds a slot with this header, if it is open.
 fn add(opened: &mut Vec<Entry>, slot: u32, front: Option<Header>) -> Result<(), AllocError>

@@ -1,7 +1,7 @@
 // What a directory keeps of the newest segment, and of the last record.
 ghost use Rattle.std.specs.Prelude.{◌≡◌, ◌<◌, ◌∷◌, [], ℕ, List, All, IfSome, MatchOption, length, option_map, Some, None};
 ghost use Rattle.vdr_terms.specs.Records.{last};
-ghost use Rattle.vdr_survey.specs.Extents.{extent_of};
+ghost use Rattle.vdr_index.specs.Extents.{extent_of};
 ghost use Rattle.vdr_directory.specs.Sequence.{Placed, batches_in};
 ghost use Rattle.vdr_directory.specs.Order.{AreInOrder};
 ghost use Rattle.vdr_directory.specs.Knowns.{AreInOrderBy};
@@ -10,8 +10,8 @@ ghost use Rattle.vdr_directory.specs.Directories.{ending_by, later, newest_of};
 
 use crate::entry::Entry;
 use vdr_entry::Record;
+use vdr_index::{Extent, Survey};
 use vdr_segment::HEADER_SIZE;
-use vdr_survey::{Extent, Survey};
 
 /// The newest segment.
 #[derive(Clone, Copy, Debug, PartialEq, Eq, Drop)]

@@ -1,7 +1,7 @@
 ghost use Rattle.std.specs.Prelude.{◌≡◌, ℕ, List, length, IfOk, Some};
 ghost use Rattle.vdr_outside.specs.Disk.{Unchanged, content};
 ghost use Rattle.vdr_outside.specs.declared.fault.PartRefused.TheVariants.{Damaged};
-ghost use Rattle.vdr_slots.specs.Areas.{HasRoom};
+ghost use Rattle.vdr_segment.specs.Areas.{HasRoom};
 ghost use Rattle.vdr_directory.specs.Opening.{HasFaultCause, Refuses, slot_bytes};
 ghost use Rattle.vdr_directory.specs.Sequence.{Placed};
 ghost use Rattle.vdr_directory.specs.Order.{AreInOrder};
@@ -16,7 +16,7 @@ use crate::order::first_break;
 use crate::surveys::{sort_by_seq, survey_all};
 use std::alloc::Global;
 use vdr_outside::{Media, PartRefused};
-use vdr_slots::Area;
+use vdr_segment::Area;
 
 /// Reads and judges a medium's segments by their headers, and answers the open ones in order of sequence number, and
 /// the slot whose bytes the buffer holds then. Of a segment whose header has no summary the batches are read and

@@ -7,16 +7,15 @@ ghost use Rattle.std.specs.List.Sorted.{IsPermutation};
 ghost use Rattle.vdr_outside.specs.Causes.{counted};
 ghost use Rattle.vdr_outside.specs.Disk.{Unchanged, content};
 ghost use Rattle.vdr_outside.specs.declared.fault.PartRefused.TheVariants.{Damaged};
-ghost use Rattle.vdr_slots.specs.Areas.{HasRoom};
+ghost use Rattle.vdr_segment.specs.Areas.{HasRoom};
 ghost use Rattle.vdr_directory.specs.Opening.{HasFaultCause, slot_bytes};
 ghost use Rattle.vdr_directory.specs.Costs.{ReadsAtMost, one_if_none, unsummarized};
 ghost use Rattle.vdr_directory.specs.Fronts.{AreSorted, head_of, HasSurvey, HasSurveyUnless, HoldsLatest, BreaksIn, IsSurveyed, BreaksAmong};
 
 use crate::entry::Entry;
+use vdr_index::{Survey, survey};
 use vdr_outside::{Media, PartRefused};
-use vdr_segment::OPEN_GATE;
-use vdr_slots::{Area, read_first_gate, read_slot};
-use vdr_survey::{Survey, survey};
+use vdr_segment::{Area, OPEN_GATE, read_first_gate, read_slot};
 
 // Sorts segments by sequence number, and those of one sequence number by slot.
 pub(crate) fn sort_by_seq(opened: &mut [Entry])

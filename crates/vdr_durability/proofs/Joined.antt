@@ -6,13 +6,13 @@ use Rattle.std.proofs.lemmas.Grind.{flat_map-append}
 use Rattle.vdr_terms.specs.Records.{Record, last, last_after}
 use Rattle.vdr_terms.specs.Order.{AreInOrder}
 use Rattle.vdr_terms.specs.Windows.{HasWindowPlaces}
-use Rattle.vdr_history.specs.Histories.{Act, Event, Incident, Opening, Continues, MayCome, MayFollow, all_records, incident_of, incidents, live, next_place, recorded, records_of_act, table_after, with_slot}
-use Rattle.vdr_history.specs.Histories.Act.{Commit, Save, Release, Look}
-use Rattle.vdr_retention.specs.Retention.{AreAmong, Holds, HoldsPlaces, Pin, Retains, at_places, within}
-use Rattle.vdr_retention.proofs.Appended.{holds_less}
-use Rattle.vdr_retention.proofs.Lists.{all_from, contains_filter, filter_test, last_contained}
-use Rattle.vdr_retention.proofs.Ordered.{IsBefore, append_in_order, no_earlier, no_later, parts_in_order, same_window, save_keeps_places}
-use Rattle.vdr_retention.proofs.Retained.{append_keeps, append_keeps_places}
+use Rattle.vdr_core.specs.Histories.{Act, Event, Incident, Opening, Continues, MayCome, MayFollow, all_records, incident_of, incidents, live, next_place, recorded, records_of_act, table_after, with_slot}
+use Rattle.vdr_core.specs.Histories.Act.{Commit, Save, Release, Look}
+use Rattle.vdr_durability.specs.Retention.{AreAmong, Holds, HoldsPlaces, Pin, Retains, at_places, within}
+use Rattle.vdr_durability.proofs.Appended.{holds_less}
+use Rattle.vdr_durability.proofs.Lists.{all_from, contains_filter, filter_test, last_contained}
+use Rattle.vdr_durability.proofs.Ordered.{IsBefore, append_in_order, no_earlier, no_later, parts_in_order, same_window, save_keeps_places}
+use Rattle.vdr_durability.proofs.Retained.{append_keeps, append_keeps_places}
 use Rattle.vdr_durability.specs.Readings.{Reading, records_on, restored}
 use Rattle.vdr_durability.specs.Shown.{Shows, opened, pins_of, pins_on}
 use Rattle.vdr_durability.proofs.Reopened.{reopened_goes_on}

@@ -1,8 +1,8 @@
 -- The media keep a history that grows by one event, and go on keeping it between the events.
 use Rattle.std.proofs.Common.{ℕ, ◌<◌, ◌≤◌, List, [], ◌∷◌, ◌++◌, length, Bool, true, false, Option, Some, None, ◌≡◌, ◌≢◌, ◌⊎◌, inl, inr, ⊎_elim, refl, sym, ap, ◌∙◌, subst, arith, append_assoc, append-nil}
 use Rattle.std.proofs.lemmas.Bool.{cases_Bool, cases_lt}
-use Rattle.vdr_history.specs.Histories.{Act, Event, EndsBy}
-use Rattle.vdr_history.specs.Histories.Act.{Look}
+use Rattle.vdr_core.specs.Histories.{Act, Event, EndsBy}
+use Rattle.vdr_core.specs.Histories.Act.{Look}
 use Rattle.vdr_outside.specs.Disk.{Disk, Image, Unchanged}
 use Rattle.vdr_outside.specs.Moments.{AtEachMoment}
 use Rattle.vdr_outside.proofs.Moments.{now_after, unchanged_now}

@@ -4,7 +4,7 @@ use Rattle.std.proofs.lemmas.Bool.{cases_Bool}
 use Rattle.std.proofs.lemmas.List.Elements.{All-nil, All-cons, All-head, All-tail, Contains-append_left}
 use Rattle.vdr_terms.proofs.Somewhere.{same_rest}
 use Rattle.vdr_terms.specs.Records.{Record, last}
-use Rattle.vdr_retention.proofs.Lists.{contains_here, contains_there}
+use Rattle.vdr_durability.proofs.Lists.{contains_here, contains_there}
 use Rattle.vdr_durability.specs.Readings.{Reading, AreLevel, EndBy, EndsMeet, EndsOff, IsPassedOn, ends_before, leading_batch}
 
 module _ (reading : Reading) (batch : Option (List Record)) where

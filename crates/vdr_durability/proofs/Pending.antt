@@ -1,9 +1,9 @@
 -- What follows events of which none is pending, and what follows a pending one.
 use Rattle.std.proofs.Common.{ℕ, List, [], ◌∷◌, ◌++◌, Some, None, ◌≡◌, ◌≢◌, sym, ◌∙◌}
 use Rattle.std.proofs.lemmas.List.Elements.{All-nil, All-cons, All-head, All-tail}
-use Rattle.vdr_history.specs.Histories.{Event, EndsBy, PendingEnds}
-use Rattle.vdr_history.specs.Histories.Act.{Look}
-use Rattle.vdr_history.proofs.Growing.{ends_whole, ends_look}
+use Rattle.vdr_core.specs.Histories.{Event, EndsBy, PendingEnds}
+use Rattle.vdr_core.specs.Histories.Act.{Look}
+use Rattle.vdr_core.proofs.Growing.{ends_whole, ends_look}
 use Rattle.vdr_durability.specs.Keeping.{IsWhole}
 
 abbrev pub Has : Event → Type 0

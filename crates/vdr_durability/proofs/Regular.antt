@@ -7,14 +7,14 @@ use Rattle.vdr_terms.specs.Records.{Record, last}
 use Rattle.vdr_terms.specs.Sizes.{records_size}
 use Rattle.vdr_terms.specs.Order.{AreInOrder, NeverFalls, RunOn}
 use Rattle.vdr_terms.specs.Needs.{Sizes, cost, usable, needed_slots}
-use Rattle.vdr_retention.specs.Layout.{Batches, batch_size_at, batches_size_at, records_in, segment_records, batches_in}
-use Rattle.vdr_retention.specs.Regular.{FollowOn, IsPaced}
-use Rattle.vdr_retention.specs.Retention.{at_places, within}
-use Rattle.vdr_retention.specs.Victims.{ArePinsOf, HasVictim}
-use Rattle.vdr_retention.proofs.Lists.{all_from, contains_filter, filter_test, filter_was, last_contained, records_of_batches}
-use Rattle.vdr_retention.proofs.Ordered.{parts_in_order}
-use Rattle.vdr_retention.proofs.Following.{follow_in_order}
-use Rattle.vdr_retention.proofs.Victims.{medium_has_victim}
+use Rattle.vdr_durability.specs.Layout.{Batches, batch_size_at, batches_size_at, records_in, segment_records, batches_in}
+use Rattle.vdr_durability.specs.Regular.{FollowOn, IsPaced}
+use Rattle.vdr_durability.specs.Retention.{at_places, within}
+use Rattle.vdr_durability.specs.Victims.{ArePinsOf, HasVictim}
+use Rattle.vdr_durability.proofs.Lists.{all_from, contains_filter, filter_test, filter_was, last_contained, records_of_batches}
+use Rattle.vdr_durability.proofs.Ordered.{parts_in_order}
+use Rattle.vdr_durability.proofs.Following.{follow_in_order}
+use Rattle.vdr_durability.proofs.Victims.{medium_has_victim}
 use Rattle.vdr_durability.specs.Readings.{Reading, AreLevel, IsPassedOn, begins_at, ends_before, lead, leading_batch, next_after, records_on, restored, with_next}
 use Rattle.vdr_durability.specs.Shown.{pins_on}
 use Rattle.vdr_durability.specs.Regularity.{AreRegular, IsRegularAsRead, IsRegularMember, Layout, segments_of}

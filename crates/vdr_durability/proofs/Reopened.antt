@@ -5,13 +5,13 @@ use Rattle.vdr_terms.specs.Records.{Record, last}
 use Rattle.vdr_terms.specs.Order.{AreInOrder, RunOn}
 use Rattle.vdr_terms.specs.Windows.{window}
 use Rattle.vdr_terms.proofs.Running.{run_on_join, last_of_run}
-use Rattle.vdr_history.specs.Histories.{Act, Event, Incident, IsOpening, MayCome, MayFollow, Opening, Settings, all_records, incidents, last_stamp, next_place, recorded, records_of_act, stamp_of, table_after, table_along}
-use Rattle.vdr_history.specs.Histories.Act.{Commit, Save, Release, Look}
-use Rattle.vdr_history.specs.Runs.{Stamp}
-use Rattle.vdr_history.proofs.Growing.{continues_run}
-use Rattle.vdr_retention.specs.Retention.{HoldsPlaces, Pin, Retains, at_places}
-use Rattle.vdr_retention.proofs.Lists.{last_behind}
-use Rattle.vdr_retention.proofs.Ordered.{same_window, same_places}
+use Rattle.vdr_core.specs.Histories.{Act, Event, Incident, IsOpening, MayCome, MayFollow, Opening, Settings, all_records, incidents, last_stamp, next_place, recorded, records_of_act, stamp_of, table_after, table_along}
+use Rattle.vdr_core.specs.Histories.Act.{Commit, Save, Release, Look}
+use Rattle.vdr_core.specs.Runs.{Stamp}
+use Rattle.vdr_core.proofs.Growing.{continues_run}
+use Rattle.vdr_durability.specs.Retention.{HoldsPlaces, Pin, Retains, at_places}
+use Rattle.vdr_durability.proofs.Lists.{last_behind}
+use Rattle.vdr_durability.proofs.Ordered.{same_window, same_places}
 use Rattle.vdr_durability.specs.Readings.{Reading, lead, next_after, records_on, restored}
 use Rattle.vdr_durability.specs.Shown.{GoesOnFrom, Shows, opened, pins_on}
 use Rattle.vdr_durability.proofs.Shows.{OnSlot, recorded_with, slots_hold}

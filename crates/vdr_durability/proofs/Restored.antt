@@ -6,13 +6,13 @@ use Rattle.std.proofs.lemmas.List.Elements.{All-append, All-contains}
 use Rattle.std.proofs.lemmas.Grind.{flat_map-append}
 use Rattle.vdr_terms.specs.Records.{Record, last_after, last}
 use Rattle.vdr_terms.specs.Order.{AreInOrder}
-use Rattle.vdr_retention.specs.Layout.{Batches, segment_records}
-use Rattle.vdr_retention.specs.Retention.{Pin, Retains}
-use Rattle.vdr_retention.specs.Regular.{FollowOn}
-use Rattle.vdr_retention.proofs.Lists.{all_from, contains_cases, last_behind, last_contained}
-use Rattle.vdr_retention.proofs.Ordered.{parts_in_order, run_on_in_order}
-use Rattle.vdr_retention.proofs.Following.{follow_no_earlier}
-use Rattle.vdr_retention.proofs.Appended.{append_retains}
+use Rattle.vdr_durability.specs.Layout.{Batches, segment_records}
+use Rattle.vdr_durability.specs.Retention.{Pin, Retains}
+use Rattle.vdr_durability.specs.Regular.{FollowOn}
+use Rattle.vdr_durability.proofs.Lists.{all_from, contains_cases, last_behind, last_contained}
+use Rattle.vdr_durability.proofs.Ordered.{parts_in_order, run_on_in_order}
+use Rattle.vdr_durability.proofs.Following.{follow_no_earlier}
+use Rattle.vdr_durability.proofs.Appended.{append_retains}
 use Rattle.vdr_durability.specs.Readings.{Reading, AreLevel, EndBy, EndsMeet, IsPassedOn, begins_at, begins_since, comes_next, ends_before, leading_batch, next_after, records_on, restored, with_next}
 use Rattle.vdr_durability.proofs.Meeting.{then_lack}
 

@@ -6,14 +6,14 @@ use Rattle.std.proofs.lemmas.Grind.{flat_map-append}
 use Rattle.vdr_terms.specs.Records.{Record, last}
 use Rattle.vdr_terms.specs.Order.{AreInOrder}
 use Rattle.vdr_terms.specs.Windows.{window}
-use Rattle.vdr_history.specs.Histories.{Event, Incident, Opening, Settings, MayCome, all_records, incident_of, incidents, recorded, records_of_act, table_after, table_along, with_slot}
-use Rattle.vdr_history.specs.Histories.Act.{Commit, Save, Release}
-use Rattle.vdr_history.specs.Taken.{Captured}
-use Rattle.vdr_retention.specs.Retention.{Holds, HoldsPlaces, Pin, Retains, at_places, within}
-use Rattle.vdr_retention.specs.Regular.{FollowOn}
-use Rattle.vdr_retention.proofs.Lists.{all_from, filter_was}
-use Rattle.vdr_retention.proofs.Retained.{recent}
-use Rattle.vdr_retention.proofs.Ordered.{save_keeps_places}
+use Rattle.vdr_core.specs.Histories.{Event, Incident, Opening, Settings, MayCome, all_records, incident_of, incidents, recorded, records_of_act, table_after, table_along, with_slot}
+use Rattle.vdr_core.specs.Histories.Act.{Commit, Save, Release}
+use Rattle.vdr_core.specs.Taken.{Captured}
+use Rattle.vdr_durability.specs.Retention.{Holds, HoldsPlaces, Pin, Retains, at_places, within}
+use Rattle.vdr_durability.specs.Regular.{FollowOn}
+use Rattle.vdr_durability.proofs.Lists.{all_from, filter_was}
+use Rattle.vdr_durability.proofs.Retained.{recent}
+use Rattle.vdr_durability.proofs.Ordered.{save_keeps_places}
 use Rattle.vdr_durability.specs.Readings.{Reading, AreLevel, AreMembers, EndsMeet, IsPassedOn, ends_before, leading_batch, records_on, restored, with_next}
 use Rattle.vdr_durability.specs.Shown.{IsReconciled, Shows, opened, pins_of, pins_on}
 use Rattle.vdr_durability.proofs.Meeting.{level_meet}

@@ -6,13 +6,13 @@ use Rattle.vdr_terms.specs.Records.{Record, second, last_after, last}
 use Rattle.vdr_terms.specs.Order.{AreInOrder, RunOn}
 use Rattle.vdr_terms.specs.Windows.{in_window, window_before}
 use Rattle.vdr_terms.proofs.Running.{run_on_join, last_of_run}
-use Rattle.vdr_history.specs.Histories.{Event, MayFollow, Opening, all_records, recorded}
-use Rattle.vdr_retention.specs.Regular.{FollowOn}
-use Rattle.vdr_retention.specs.Retention.{Holds}
-use Rattle.vdr_retention.proofs.Lists.{all_from, last_behind, last_contained}
-use Rattle.vdr_retention.proofs.Ordered.{IsBefore, filter_in_order, parts_in_order, run_on_in_order, same_window}
-use Rattle.vdr_retention.proofs.Following.{follow_in_order}
-use Rattle.vdr_retention.proofs.Retained.{second_rises}
+use Rattle.vdr_core.specs.Histories.{Event, MayFollow, Opening, all_records, recorded}
+use Rattle.vdr_durability.specs.Regular.{FollowOn}
+use Rattle.vdr_durability.specs.Retention.{Holds}
+use Rattle.vdr_durability.proofs.Lists.{all_from, last_behind, last_contained}
+use Rattle.vdr_durability.proofs.Ordered.{IsBefore, filter_in_order, parts_in_order, run_on_in_order, same_window}
+use Rattle.vdr_durability.proofs.Following.{follow_in_order}
+use Rattle.vdr_durability.proofs.Retained.{second_rises}
 use Rattle.vdr_durability.specs.Readings.{Reading, next_after, records_on, restored}
 use Rattle.vdr_durability.specs.Shown.{Shows}
 use Rattle.vdr_durability.specs.Soundness.{IsUnbroken}

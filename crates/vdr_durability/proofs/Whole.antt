@@ -2,8 +2,8 @@
 use Rattle.std.proofs.Common.{ℕ, suc, ◌≤◌, List, [], ◌∷◌, length, false, Option, Some, None, ◌≡◌, ◌≢◌, ◌↔◌, refl, ap, ◌∙◌, arith}
 use Rattle.std.proofs.lemmas.Bool.{le-ltb, ltb-false}
 use Rattle.std.proofs.lemmas.List.Elements.{All-nil, All-cons, All-head, All-tail}
-use Rattle.vdr_history.specs.Histories.{Event, done, done_from}
-use Rattle.vdr_history.specs.RunStates.{has_failed}
+use Rattle.vdr_core.specs.Histories.{Event, done, done_from}
+use Rattle.vdr_core.specs.RunStates.{has_failed}
 use Rattle.vdr_durability.specs.Keeping.{IsWhole}
 use Rattle.vdr_durability.proofs.Pending.{Has}
 

@@ -5,11 +5,11 @@ use Rattle.vdr_terms.specs.Records.{Record}
 use Rattle.vdr_terms.specs.Records.Content.{Stop}
 use Rattle.vdr_terms.specs.Channels.{no_channels}
 use Rattle.vdr_terms.specs.Rates.Limit.{Unlimited}
-use Rattle.vdr_history.specs.Histories.{Event, Opening, PendingEnds, Settings, incidents}
-use Rattle.vdr_history.specs.Histories.Act.{Commit, Save, Release, Look}
-use Rattle.vdr_history.proofs.Checks.{at, pending}
-use Rattle.vdr_retention.specs.Layout.{Batches}
-use Rattle.vdr_retention.proofs.Lists.{contains_cases, contains_here, contains_there, none_contained}
+use Rattle.vdr_core.specs.Histories.{Event, Opening, PendingEnds, Settings, incidents}
+use Rattle.vdr_core.specs.Histories.Act.{Commit, Save, Release, Look}
+use Rattle.vdr_core.proofs.Checks.{at, pending}
+use Rattle.vdr_durability.specs.Layout.{Batches}
+use Rattle.vdr_durability.proofs.Lists.{contains_cases, contains_here, contains_there, none_contained}
 use Rattle.vdr_durability.specs.Keeping.{RiseTo, acknowledged, moment_of, moments}
 use Rattle.vdr_durability.specs.Readings.{EndsMeet, EndsOff, Reading, ends_before, records_on, restored}
 use Rattle.vdr_durability.specs.Shown.{RetainsOn, Shows, given_with, opened, pins_of}

@@ -1,7 +1,7 @@
 -- A run on what a stop left of the run before it (this project's profile: places run on over the whole life of the media).
 use Rattle.std.specs.Prelude.{◌≤◌, ℕ, List, [], Contains}
 use Rattle.vdr_terms.specs.Order.{AreInOrder}
-use Rattle.vdr_history.specs.Histories.{Event, MayFollow, Opening, all_records}
+use Rattle.vdr_core.specs.Histories.{Event, MayFollow, Opening, all_records}
 use Rattle.vdr_durability.specs.Readings.{Reading, lead}
 use Rattle.vdr_durability.specs.Shown.{GoesOnFrom, Shows, opened}
 

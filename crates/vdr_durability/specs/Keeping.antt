@@ -1,8 +1,8 @@
 -- Which part of a history the media must show after a stop (this project's profile: what was acknowledged is never lost).
 use Rattle.std.specs.Prelude.{ℕ, zero, suc, ◌≤◌, ◌≡◌, ◌≢◌, ◌⊎◌, Bool, true, false, List, [], ◌∷◌, ◌++◌, length, All, nat_le, if◌then◌else◌, Option, Some, None}
 use Rattle.std.specs.List.{filter_map}
-use Rattle.vdr_history.specs.Histories.{Event, PendingEnds}
-use Rattle.vdr_history.specs.Histories.Act.{Look}
+use Rattle.vdr_core.specs.Histories.{Event, PendingEnds}
+use Rattle.vdr_core.specs.Histories.Act.{Look}
 use Rattle.vdr_outside.specs.Disk.{Disk, Image, Unchanged}
 use Rattle.vdr_outside.specs.Moments.{AtEachMoment}
 

@@ -1,3 +1,12 @@
+pub mod Playback
+pub mod Sources
+pub mod Replies
+pub mod Commits
+pub mod Media
+pub mod Layout
+pub mod Retention
+pub mod Regular
+pub mod Victims
 pub mod Readings
 pub mod Shown
 pub mod Keeping

@@ -2,8 +2,8 @@
 -- profile: a batch goes to the media one after another, and a stop may come between them).
 use Rattle.std.specs.Prelude.{ℕ, suc, ◌<◌, ◌≡◌, ◌⊎◌, ⊤, Bool, true, false, List, [], ◌∷◌, ◌++◌, length, All, ◌==◌, if◌then◌else◌, ◌&&◌, nat_le, Option, Some, None}
 use Rattle.vdr_terms.specs.Records.{Record, last}
-use Rattle.vdr_history.specs.Histories.{Incident}
-use Rattle.vdr_retention.specs.Layout.{Batches, segment_records}
+use Rattle.vdr_core.specs.Histories.{Incident}
+use Rattle.vdr_durability.specs.Layout.{Batches, segment_records}
 
 -- What legible media read as: the batches of each medium by its number, the table of incidents, and the configuration's text.
 pub record Reading : Type 0 where

@@ -2,9 +2,9 @@
 use Rattle.std.specs.Prelude.{ℕ, ◌≤◌, ◌≡◌, List, [], ◌∷◌, ◌++◌, All}
 use Rattle.vdr_terms.specs.Order.{AreInOrder}
 use Rattle.vdr_terms.specs.Needs.{Sizes, cost, usable}
-use Rattle.vdr_retention.specs.Layout.{Batches, batches_size_at, batches_in}
-use Rattle.vdr_retention.specs.Regular.{IsRegular}
-use Rattle.vdr_retention.specs.Victims.{ArePinsOf}
+use Rattle.vdr_durability.specs.Layout.{Batches, batches_size_at, batches_in}
+use Rattle.vdr_durability.specs.Regular.{IsRegular}
+use Rattle.vdr_durability.specs.Victims.{ArePinsOf}
 use Rattle.vdr_durability.specs.Readings.{Reading, records_on, restored}
 use Rattle.vdr_durability.specs.Shown.{pins_on}
 

@@ -2,8 +2,8 @@
 use Rattle.std.specs.Prelude.{ℕ, ◌≡◌, List, [], All, Contains, ◌==◌, if◌then◌else◌, Option, None, option_map}
 use Rattle.std.specs.List.{filter_map}
 use Rattle.vdr_terms.specs.Records.{Record, last}
-use Rattle.vdr_history.specs.Histories.{Event, Incident, Settings, Opening, stamp_of, all_records, incidents}
-use Rattle.vdr_retention.specs.Retention.{Pin, Retains}
+use Rattle.vdr_core.specs.Histories.{Event, Incident, Settings, Opening, stamp_of, all_records, incidents}
+use Rattle.vdr_durability.specs.Retention.{Pin, Retains}
 use Rattle.vdr_durability.specs.Readings.{Reading, AreMembers, AreLevel, EndsMeet, lead, leading_batch, next_after, records_on, restored}
 
 -- The places of the live incidents.

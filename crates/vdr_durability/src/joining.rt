@@ -1,6 +1,6 @@
 ghost use Rattle.std.specs.Prelude.{◌++◌, [], ℕ, List, Contains};
 ghost use Rattle.vdr_terms.specs.Order.{AreInOrder};
-ghost use Rattle.vdr_history.specs.Histories.{Event, MayFollow, Opening, all_records};
+ghost use Rattle.vdr_core.specs.Histories.{Event, MayFollow, Opening, all_records};
 ghost use Rattle.vdr_durability.specs.FurtherRuns.{IsTwoRuns};
 ghost use Rattle.vdr_durability.specs.Readings.{Reading};
 ghost use Rattle.vdr_durability.specs.Shown.{Shows};

@@ -1,6 +1,6 @@
 ghost use Rattle.std.specs.Prelude.{◌≡◌, ◌≤◌, ◌↔◌, [], ◌∷◌, ◌++◌, ℕ, suc, true, false, List, length};
-ghost use Rattle.vdr_history.specs.Histories.{Event};
-ghost use Rattle.vdr_history.specs.RunStates.{has_failed};
+ghost use Rattle.vdr_core.specs.Histories.{Event};
+ghost use Rattle.vdr_core.specs.RunStates.{has_failed};
 ghost use Rattle.vdr_outside.specs.Disk.{Image};
 ghost use Rattle.vdr_durability.specs.Keeping.{GoesOnKeeping, IsWhole, acknowledged, is_by};
 

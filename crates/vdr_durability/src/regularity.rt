@@ -2,9 +2,9 @@ ghost use Rattle.std.specs.Prelude.{◌≡◌, ◌<◌, ◌≤◌, ℕ, true, Li
 ghost use Rattle.vdr_terms.specs.Needs.{Sizes, cost, needed_slots, usable};
 ghost use Rattle.vdr_terms.specs.Order.{RunOn};
 ghost use Rattle.vdr_terms.specs.Records.{Record};
-ghost use Rattle.vdr_retention.specs.Layout.{records_in};
-ghost use Rattle.vdr_retention.specs.Regular.{IsPaced};
-ghost use Rattle.vdr_retention.specs.Victims.{ArePinsOf, HasVictim};
+ghost use Rattle.vdr_durability.specs.Layout.{records_in};
+ghost use Rattle.vdr_durability.specs.Regular.{IsPaced};
+ghost use Rattle.vdr_durability.specs.Victims.{ArePinsOf, HasVictim};
 ghost use Rattle.vdr_durability.specs.Readings.{AreLevel, IsPassedOn, Reading, ends_before, lead, leading_batch, records_on, restored};
 ghost use Rattle.vdr_durability.specs.Regularity.{AreRegular, IsRegularAsRead, Layout, segments_of};
 ghost use Rattle.vdr_durability.specs.Shown.{pins_on};

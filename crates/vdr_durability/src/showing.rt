@@ -2,7 +2,7 @@ ghost use Rattle.std.specs.Prelude.{◌≡◌, ◌≤◌, [], ◌∷◌, ◌++�
 ghost use Rattle.vdr_terms.specs.Order.{AreInOrder};
 ghost use Rattle.vdr_terms.specs.Records.{Record, last};
 ghost use Rattle.vdr_terms.specs.Windows.{window};
-ghost use Rattle.vdr_history.specs.Histories.{
+ghost use Rattle.vdr_core.specs.Histories.{
   Event,
   Incident,
   IsOpening,
@@ -17,10 +17,10 @@ ghost use Rattle.vdr_history.specs.Histories.{
   records_of_act,
   table_after,
 };
-ghost use Rattle.vdr_history.specs.Histories.Act.{Commit, Save, Release};
-ghost use Rattle.vdr_history.specs.Taken.{Captured};
-ghost use Rattle.vdr_retention.specs.Regular.{FollowOn};
-ghost use Rattle.vdr_retention.specs.Retention.{at_places};
+ghost use Rattle.vdr_core.specs.Histories.Act.{Commit, Save, Release};
+ghost use Rattle.vdr_core.specs.Taken.{Captured};
+ghost use Rattle.vdr_durability.specs.Regular.{FollowOn};
+ghost use Rattle.vdr_durability.specs.Retention.{at_places};
 ghost use Rattle.vdr_durability.specs.Readings.{
   AreLevel,
   AreMembers,

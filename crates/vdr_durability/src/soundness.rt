@@ -1,9 +1,9 @@
 ghost use Rattle.std.specs.Prelude.{◌≡◌, ◌<◌, ◌≤◌, [], ◌++◌, ℕ, List, Contains};
 ghost use Rattle.vdr_terms.specs.Order.{AreInOrder};
 ghost use Rattle.vdr_terms.specs.Records.{Record, last};
-ghost use Rattle.vdr_history.specs.Histories.{Event, MayFollow, Opening, all_records};
-ghost use Rattle.vdr_retention.specs.Regular.{FollowOn};
-ghost use Rattle.vdr_retention.specs.Retention.{Holds};
+ghost use Rattle.vdr_core.specs.Histories.{Event, MayFollow, Opening, all_records};
+ghost use Rattle.vdr_durability.specs.Regular.{FollowOn};
+ghost use Rattle.vdr_durability.specs.Retention.{Holds};
 ghost use Rattle.vdr_durability.specs.Readings.{Reading, next_after, records_on, restored};
 ghost use Rattle.vdr_durability.specs.Shown.{Shows};
 ghost use Rattle.vdr_durability.specs.Soundness.{IsUnbroken};

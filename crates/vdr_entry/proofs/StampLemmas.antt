@@ -6,7 +6,7 @@ use Rattle.std.proofs.lemmas.Option.{none-some, same_Some}
 use Rattle.std.proofs.lemmas.List.{length-append}
 use Rattle.std.proofs.lemmas.List.Folds.{list_all-append}
 use Rattle.std.proofs.lemmas.List.Sums.{fold-append}
-use Rattle.vdr_digits.specs.Digits.{are_digits, decimal_value, is_digit, number}
+use Rattle.vdr_bytes.specs.Digits.{are_digits, decimal_value, is_digit, number}
 use Rattle.vdr_entry.specs.Utc.{date_text, last_digits, time_text, utc_text}
 use Rattle.vdr_terms.specs.Stamps.{IsStamp}
 use Rattle.vdr_entry.proofs.DayLemmas.{Dated, date_at, date_text-at, day-at, number-at, year-at}

@@ -7,7 +7,7 @@ ghost use Rattle.vdr_entry.specs.Utc.{date_text, last_digits, time_text, utc_tex
 use arrayvec::ArrayVec;
 use jiff::ToSpan;
 use jiff::civil::{self, Date};
-use vdr_digits::number;
+use vdr_bytes::number;
 
 /// The milliseconds of a day.
 const DAY: u64 = 86_400_000;

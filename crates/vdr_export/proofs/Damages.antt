@@ -3,16 +3,16 @@ use Rattle.std.proofs.Common.{◌≡◌, ℕ, List, Option, Result, Ok, Err, Som
 use Rattle.std.specs.Bool.{⊤}
 use Rattle.vdr_terms.specs.Queries.{Query}
 use Rattle.vdr_terms.specs.Records.{Record}
-use Rattle.vdr_playback.specs.Playback.{medium_of}
+use Rattle.vdr_durability.specs.Playback.{medium_of}
 use Rattle.vdr_outside.specs.Disk.{Disk, Unchanged}
 use Rattle.vdr_ring.specs.Meets.{AreApart}
 use Rattle.vdr_vault.specs.Plays.{ReadsOn, TellsDamageOf}
 use Rattle.vdr_vault.specs.Vaults.{AreJudged, VaultState}
 use Rattle.vdr_vault.proofs.Stepping.{intact_over, met_over, same_index}
-use Rattle.vdr_visit.specs.Visits.{HasVisited}
-use Rattle.vdr_visit.specs.declared.refused.VisitRefused.{VisitRefused}
-use Rattle.vdr_visit.specs.declared.refused.VisitRefused.TheVariants as stops
-use Rattle.vdr_visit.proofs.Reading.{damaged_before}
+use Rattle.vdr_vault.specs.Visits.{HasVisited}
+use Rattle.vdr_vault.specs.declared.visit_refused.VisitRefused.{VisitRefused}
+use Rattle.vdr_vault.specs.declared.visit_refused.VisitRefused.TheVariants as stops
+use Rattle.vdr_vault.proofs.Reading.{damaged_before}
 use Rattle.vdr_export.specs.Refusals.{refusal_by}
 use Rattle.vdr_export.specs.declared.refused.ExportRefused.{ExportRefused}
 use Rattle.vdr_export.specs.declared.refused.ExportRefused.TheVariants.{Damaged}

@@ -9,9 +9,9 @@ use Rattle.std.proofs.lemmas.List.{map-append}
 use Rattle.std.proofs.lemmas.List.Elements.{filter_map-append}
 use Rattle.vdr_terms.specs.Records.{Record}
 use Rattle.vdr_outside.specs.Writes.{AppendsFront}
-use Rattle.vdr_visit.specs.Visits.{AreVisited, HasMade}
-use Rattle.vdr_visit.specs.declared.refused.VisitRefused.{VisitRefused}
-use Rattle.vdr_visit.specs.declared.refused.VisitRefused.TheVariants as stops
+use Rattle.vdr_vault.specs.Visits.{AreVisited, HasMade}
+use Rattle.vdr_vault.specs.declared.visit_refused.VisitRefused.{VisitRefused}
+use Rattle.vdr_vault.specs.declared.visit_refused.VisitRefused.TheVariants as stops
 use Rattle.vdr_export.specs.Answers.{FileEnds, IsFailure, IsPictureRefusal, data_of, first_missing, joined, picture_of, unless_missing, unless_mixed, unless_part}
 use Rattle.vdr_export.specs.Collected.{IsCollected, StopsAt}
 use Rattle.vdr_export.specs.Numbers.{mixed_at}

@@ -9,10 +9,10 @@ use Rattle.vdr_vault.specs.Vaults.{AreRings}
 use Rattle.vdr_recorder.proofs.Looking.{looked}
 use Rattle.vdr_recorder.specs.Looks.{HasLooked}
 use Rattle.vdr_recorder.specs.Recordings.{RecorderState}
-use Rattle.vdr_visit.specs.Refusals.{HasOutputCause}
-use Rattle.vdr_visit.specs.Visits.{HasMade}
-use Rattle.vdr_visit.specs.declared.refused.VisitRefused.{VisitRefused}
-use Rattle.vdr_visit.specs.declared.refused.VisitRefused.TheVariants as stops
+use Rattle.vdr_vault.specs.Refusals.{HasOutputCause}
+use Rattle.vdr_vault.specs.Visits.{HasMade}
+use Rattle.vdr_vault.specs.declared.visit_refused.VisitRefused.{VisitRefused}
+use Rattle.vdr_vault.specs.declared.visit_refused.VisitRefused.TheVariants as stops
 use Rattle.vdr_export.specs.Refusals.{refusal_by}
 use Rattle.vdr_export.specs.declared.refused.ExportRefused.{ExportRefused}
 use Rattle.vdr_export.specs.declared.refused.ExportRefused.TheVariants.{Damaged, Fault, Output}

@@ -3,14 +3,14 @@ use Rattle.std.proofs.Common.{◌≡◌, inl, inr, ⊎_elim, ℕ, false, List, l
 use Rattle.std.specs.Bool.{⊤}
 use Rattle.std.specs.Prelude.{OnOk}
 use Rattle.std.specs.Io.KnownBytes.{Appends}
-use Rattle.vdr_history.specs.Histories.{Incident}
+use Rattle.vdr_core.specs.Histories.{Incident}
 use Rattle.vdr_outside.specs.Writes.{AppendsFront}
 use Rattle.vdr_config.specs.Configuration.{Configuration}
 use Rattle.vdr_entry.specs.Queries.{asked}
 use Rattle.vdr_entry.specs.declared.query.Query.{Query}
 use Rattle.vdr_vault.specs.Plays.{ReadsOn}
 use Rattle.vdr_vault.specs.Vaults.{AreRings, VaultState}
-use Rattle.vdr_visit.specs.Refusals.{lacks_channel, lacks_incident}
+use Rattle.vdr_vault.specs.Refusals.{lacks_channel, lacks_incident}
 use Rattle.vdr_recorder.specs.Recordings.{RecorderState}
 use Rattle.vdr_export.specs.Asked.{MayBeAsked}
 use Rattle.vdr_export.specs.Answers.{AnswersOrFails, FileEnds, OkOrFails, size_of, wave_of, wave_with}

@@ -3,14 +3,14 @@ use Rattle.std.proofs.Common.{◌≡◌, ℕ, List, Option, Some, Result, Err, a
 use Rattle.std.specs.Bool.{⊤}
 use Rattle.vdr_terms.specs.Queries.{Query}
 use Rattle.vdr_terms.specs.Records.{Record}
-use Rattle.vdr_history.specs.Histories.{Event, Opening}
-use Rattle.vdr_playback.specs.Playback.{selected}
+use Rattle.vdr_core.specs.Histories.{Event, Opening}
+use Rattle.vdr_durability.specs.Playback.{selected}
 use Rattle.vdr_outside.specs.Disk.{Disk}
 use Rattle.vdr_directory.specs.Sequence.{Placed}
 use Rattle.vdr_vault.specs.Vaults.{IsReadable, VaultState}
-use Rattle.vdr_visit.specs.Visits.{HasVisited}
-use Rattle.vdr_visit.specs.declared.refused.VisitRefused.{VisitRefused}
-use Rattle.vdr_visit.specs.declared.refused.VisitRefused.TheVariants as stops
+use Rattle.vdr_vault.specs.Visits.{HasVisited}
+use Rattle.vdr_vault.specs.declared.visit_refused.VisitRefused.{VisitRefused}
+use Rattle.vdr_vault.specs.declared.visit_refused.VisitRefused.TheVariants as stops
 use Rattle.vdr_export.specs.Answers.{AnswersOrFails, FileEnds, IsPictureRefusal, IsSizeRefusal, IsWriteRefusal, OkOrFails, picture_of, size_of}
 use Rattle.vdr_export.specs.Collected.{StopsAt}
 use Rattle.vdr_export.specs.Heard.{IsMixed}

@@ -3,7 +3,7 @@ use Rattle.std.specs.Prelude.{◌≡◌, false, ℕ, List, length}
 use Rattle.vdr_entry.specs.declared.query.Query.{Query}
 use Rattle.vdr_entry.specs.Queries.{asked}
 use Rattle.vdr_vault.specs.Vaults.{AreRings}
-use Rattle.vdr_visit.specs.Refusals.{lacks_channel, lacks_incident}
+use Rattle.vdr_vault.specs.Refusals.{lacks_channel, lacks_incident}
 use Rattle.vdr_recorder.specs.Recordings.{RecorderState}
 
 -- The query's channel is configured, and its incident is live, where it asks for one.

@@ -1,12 +1,12 @@
 // A file out of what a query selects.
 ghost use Rattle.std.specs.Prelude.{◌≡◌, ◌⊎◌, ℕ, List, true, Ok, Err, IfErr};
-ghost use Rattle.vdr_history.specs.Histories.{Event, Opening};
-ghost use Rattle.vdr_playback.specs.Playback.{selected};
+ghost use Rattle.vdr_core.specs.Histories.{Event, Opening};
+ghost use Rattle.vdr_durability.specs.Playback.{selected};
 ghost use Rattle.vdr_entry.specs.Queries.{asked};
 ghost use Rattle.vdr_directory.specs.Sequence.{Placed};
 ghost use Rattle.vdr_vault.specs.Plays.{TellsDamageOf};
 ghost use Rattle.vdr_vault.specs.Vaults.{IsReadable};
-ghost use Rattle.vdr_visit.specs.Refusals.{HasOutputCause};
+ghost use Rattle.vdr_vault.specs.Refusals.{HasOutputCause};
 ghost use Rattle.vdr_recorder.specs.Looks.{HasLooked};
 ghost use Rattle.vdr_export.specs.Asked.{MayBeAsked};
 ghost use Rattle.vdr_export.specs.Answers.{FileEnds, IsFileRefusal, IsWaveRefusal, IsWriteRefusal, MayBeBegun, file_of, wave_of};

@@ -3,3 +3,5 @@ pub mod Spelled
 pub mod Generated
 pub mod Unique
 pub mod Progress
+pub mod Left
+pub mod Legal

@@ -7,3 +7,4 @@ pub mod Reader
 pub mod Progress
 pub mod Trial
 pub mod Failing
+pub mod Generated

@@ -1,8 +1,8 @@
 -- The generated feed (this project's profile): a gyro's headings on transmission group NAVD, 400 milliseconds apart.
 use Rattle.std.specs.Prelude.{ℕ, ◌+◌, ◌*◌, ◌/◌, ◌%◌, ◌^◌, pos, List, [], ◌∷◌, ◌++◌, codes}
 use Rattle.vdr_terms.specs.Records.{FeedItem}
-use Rattle.vdr_digits.specs.Checksum.{checksum}
-use Rattle.vdr_digits.specs.Digits.{upper_digits}
+use Rattle.vdr_bytes.specs.Checksum.{checksum}
+use Rattle.vdr_bytes.specs.Digits.{upper_digits}
 
 -- The next state, from which an item's heading is taken.
 abbrev pub trial_state : ℕ → ℕ

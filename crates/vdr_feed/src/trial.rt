@@ -5,7 +5,7 @@ ghost use Rattle.vdr_feed.specs.Trial.{checked, trial_bytes, trial_heading, tria
 
 use crate::Item;
 use arrayvec::ArrayVec;
-use vdr_digits::{checksum, upper_digits};
+use vdr_bytes::{checksum, upper_digits};
 use vdr_outside::LONGEST_TAKEN;
 
 // The transmission group NAVD (IEC 61162-450).

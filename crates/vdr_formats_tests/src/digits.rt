@@ -1,5 +1,5 @@
 use std::test::Fail;
-use vdr_digits::{checksum, hex_byte, is_hex_digit, number, split_checksum, upper_digits};
+use vdr_bytes::{checksum, hex_byte, is_hex_digit, number, split_checksum, upper_digits};
 
 // The checksums of `GPHDT,123.456,T` and `s:GP0001,n:7` by hand: 0x32 and 0x10.
 #[test]

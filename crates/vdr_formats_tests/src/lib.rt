@@ -18,6 +18,8 @@ mod gaps;
 #[cfg(test)]
 mod images;
 #[cfg(test)]
+mod messages;
+#[cfg(test)]
 mod meters;
 #[cfg(test)]
 mod numbers;
@@ -30,8 +32,14 @@ mod sentences;
 #[cfg(test)]
 mod tags;
 #[cfg(test)]
+mod targets;
+#[cfg(test)]
 mod texts;
 #[cfg(test)]
+mod trials;
+#[cfg(test)]
 mod values;
+#[cfg(test)]
+mod watches;
 #[cfg(test)]
 mod windows;

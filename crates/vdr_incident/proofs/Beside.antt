@@ -1,10 +1,10 @@
 -- What is written in one incident slot, or behind all of them, and what stands beside it.
 use Rattle.std.proofs.Common.{◌≡◌, ◌⊎◌, inl, inr, ℕ, zero, suc, ◌+◌, ◌*◌, ◌<◌, ◌≤◌, List, [], ◌∷◌, length, get_or, take, drop, slice_get, Option, refl, sym, ◌∙◌, ap, subst, arith}
 use Rattle.std.proofs.lemmas.List.{drop-drop, take-take}
-use Rattle.vdr_history.specs.Histories.{Incident}
+use Rattle.vdr_core.specs.Histories.{Incident}
 use Rattle.vdr_outside.specs.Parts.{part}
 use Rattle.vdr_segment.specs.Segments.{Segment, IsSlot}
-use Rattle.vdr_slots.specs.Slots.{HoldsSlots}
+use Rattle.vdr_segment.specs.Slots.{HoldsSlots}
 use Rattle.vdr_incident.specs.Saves.{IsIncidentSlot}
 use Rattle.vdr_incident.specs.Tables.{HoldsTable, SameBesideSlot, place_of}
 

@@ -1,9 +1,9 @@
 -- What one incident slot is after a write.
 use Rattle.std.proofs.Common.{◌≡◌, ◌≢◌, ◌≤◌, ℕ, List, [], ◌∷◌, ◌++◌, length, drop, Option, None, Some, refl, sym, ap, subst, arith}
-use Rattle.vdr_history.specs.Histories.{Incident}
+use Rattle.vdr_core.specs.Histories.{Incident}
 use Rattle.vdr_outside.specs.Disk.{over}
 use Rattle.vdr_segment.specs.Gates.{open_gate, IsOpenAt}
-use Rattle.vdr_slots.proofs.Gates.{from_write, gate_before, gate_opened, gate_closed, gate_again}
+use Rattle.vdr_segment.proofs.Gates.{from_write, gate_before, gate_opened, gate_closed, gate_again}
 use Rattle.vdr_incident.specs.Saves.{IsIncidentSlot, SpellsSave}
 use Rattle.vdr_incident.proofs.Spelling.{one_save, spells_more}
 

@@ -1,6 +1,6 @@
 -- Reading slot after slot.
 use Rattle.std.proofs.Common.{◌≡◌, ℕ, suc, ◌+◌, ◌<◌, ◌≤◌, List, [], ◌∷◌, ◌++◌, length, Result, Err, Option, sym, ◌∙◌, ap, subst, arith}
-use Rattle.vdr_history.specs.Histories.{Incident}
+use Rattle.vdr_core.specs.Histories.{Incident}
 use Rattle.vdr_outside.specs.Causes.{counted}
 use Rattle.vdr_outside.specs.Disk.{Disk, content}
 use Rattle.vdr_outside.specs.Parts.{part}

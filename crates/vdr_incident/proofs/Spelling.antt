@@ -7,7 +7,7 @@ use Rattle.std.proofs.lemmas.List.{drop-drop}
 use Rattle.std.proofs.lemmas.Bool.{and_parts, leb-true}
 use Rattle.vdr_terms.specs.Legality.{IsBytes}
 use Rattle.vdr_terms.specs.Stamps.{IsStamp, last_stamp}
-use Rattle.vdr_history.specs.Histories.{Incident}
+use Rattle.vdr_core.specs.Histories.{Incident}
 use Rattle.vdr_bytes.specs.Numbers.{le_u64s, u64_at, Puts}
 use Rattle.vdr_terms.proofs.Bytes.{part_long}
 use Rattle.vdr_bytes.proofs.NumberLemmas.{cut, take-front}

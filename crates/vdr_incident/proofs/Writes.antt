@@ -2,14 +2,14 @@
 use Rattle.std.proofs.Common.{◌≡◌, ◌≢◌, inl, inr, ℕ, ◌+◌, ◌<◌, List, [], ◌∷◌, ◌++◌, length, set, drop, slice_get, Option, None, Some, refl, sym, ◌∙◌, ap, subst, arith}
 use Rattle.std.proofs.lemmas.Bool.{cases_eq}
 use Rattle.std.proofs.lemmas.Option.{slice_get_within}
-use Rattle.vdr_history.specs.Histories.{Incident}
+use Rattle.vdr_core.specs.Histories.{Incident}
 use Rattle.vdr_outside.specs.Disk.{Disk, Overwritten, Durable, content, over}
 use Rattle.vdr_outside.specs.Moments.{AtEachMoment, ChangesOnly, Settled}
 use Rattle.vdr_outside.specs.Parts.{part}
 use Rattle.vdr_outside.proofs.Moments.{changes_through, changes_join, settled_through}
 use Rattle.vdr_outside.proofs.Parts.{part_over}
 use Rattle.vdr_segment.specs.Gates.{open_gate, closed_gate}
-use Rattle.vdr_slots.proofs.Gates.{from_write}
+use Rattle.vdr_segment.proofs.Gates.{from_write}
 use Rattle.vdr_incident.specs.Saves.{SpellsSave}
 use Rattle.vdr_incident.specs.Tables.{HoldsTable, HoldsBeside, HoldsEither, place_of}
 use Rattle.vdr_incident.proofs.Slot.{closed_behind, closed_now, open_still, opened}

@@ -1,6 +1,6 @@
 -- What each call on the incident slots of the long-term medium keeps, whatever becomes of it.
 use Rattle.std.specs.Prelude.{◌≡◌, ℕ, suc, List, get_or, Option, Some, is_none, option_map, position, Result, IfOk, IsErrOf, OnErr}
-use Rattle.vdr_history.specs.Histories.{Incident, with_slot}
+use Rattle.vdr_core.specs.Histories.{Incident, with_slot}
 use Rattle.vdr_outside.specs.declared.fault.PartRefused.{PartRefused}
 use Rattle.vdr_outside.specs.declared.fault.PartRefused.TheVariants.{Fault}
 use Rattle.vdr_outside.specs.declared.media.Media.{Ghosts as MediaTells}

@@ -7,7 +7,7 @@
 use Rattle.std.specs.Prelude.{◌≡◌, ◌<◌, ◌≤◌, ◌^◌, ℕ, Bool, true, List, [], ◌∷◌, ◌++◌, length, drop, unsigned_abs, Option, Some, None}
 use Rattle.vdr_terms.specs.Texts.{is_label}
 use Rattle.vdr_terms.specs.Stamps.{IsStamp}
-use Rattle.vdr_history.specs.Histories.{Incident}
+use Rattle.vdr_core.specs.Histories.{Incident}
 use Rattle.vdr_bytes.specs.Numbers.{le_u64s}
 use Rattle.vdr_segment.specs.Gates.{IsOpenAt}
 

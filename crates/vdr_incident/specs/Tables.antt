@@ -1,7 +1,7 @@
 -- The incident slots of the long-term medium, which is medium 1 (this project's profile; IMO MSC.333(90) asks that the record of
 -- an incident be kept).
 use Rattle.std.specs.Prelude.{◌≡◌, ◌⊎◌, ◌<◌, ◌≤◌, ◌+◌, ◌*◌, ℕ, zero, suc, List, length, get_or, Option}
-use Rattle.vdr_history.specs.Histories.{Incident}
+use Rattle.vdr_core.specs.Histories.{Incident}
 use Rattle.vdr_outside.specs.Causes.{counted}
 use Rattle.vdr_outside.specs.Parts.{Slots, part}
 use Rattle.vdr_incident.specs.Saves.{IsIncidentSlot}

@@ -1,8 +1,8 @@
 ghost use Rattle.std.specs.Prelude.{◌≡◌, ◌≤◌, ◌<◌, ◌+◌, ◌⊎◌, ℕ, List, length, slice_get, Option};
-ghost use Rattle.vdr_history.specs.Histories.{Incident};
+ghost use Rattle.vdr_core.specs.Histories.{Incident};
 ghost use Rattle.vdr_outside.specs.Parts.{part};
 ghost use Rattle.vdr_segment.specs.Segments.{Segment};
-ghost use Rattle.vdr_slots.specs.Slots.{HoldsSlots};
+ghost use Rattle.vdr_segment.specs.Slots.{HoldsSlots};
 ghost use Rattle.vdr_incident.specs.Saves.{IsIncidentSlot};
 ghost use Rattle.vdr_incident.specs.Tables.{HoldsTable, Refuses, SameBesideSlot, place_of};
 

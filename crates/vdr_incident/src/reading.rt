@@ -1,5 +1,5 @@
 ghost use Rattle.std.specs.Prelude.{◌≡◌, ◌≤◌, ◌<◌, ℕ, Option, IfOk, OnOk, length, Err};
-ghost use Rattle.vdr_history.specs.Histories.{Incident};
+ghost use Rattle.vdr_core.specs.Histories.{Incident};
 ghost use Rattle.vdr_outside.specs.Causes.{HasCauseOn, counted};
 ghost use Rattle.vdr_outside.specs.Disk.{Unchanged, content};
 ghost use Rattle.vdr_outside.specs.Parts.{part};

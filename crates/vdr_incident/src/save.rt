@@ -1,5 +1,5 @@
 ghost use Rattle.std.specs.Prelude.{◌≡◌, ◌≤◌, ◌↔◌, ◌&&◌, nat_le, Option, length, drop, IsTrue, IfSome, IfNone};
-ghost use Rattle.vdr_history.specs.Histories.{Incident};
+ghost use Rattle.vdr_core.specs.Histories.{Incident};
 ghost use Rattle.vdr_terms.specs.Texts.{is_label};
 ghost use Rattle.vdr_incident.specs.Saves.{IsIncidentSlot, IsSave, SpellsSave};
 ghost use Rattle.vdr_incident.specs.Fields.{AreInRange, HasLabel, label_in};
@@ -36,7 +36,7 @@ pub struct Save {
 }
 
 impl Model for Save {
-    ghost use Rattle.vdr_history.specs.Histories.{Incident};
+    ghost use Rattle.vdr_core.specs.Histories.{Incident};
     ghost use Rattle.vdr_incident.specs.Saves.{IsSave};
 
     ghost Value = { Incident };

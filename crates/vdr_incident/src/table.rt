@@ -1,5 +1,5 @@
 ghost use Rattle.std.specs.Prelude.{◌≡◌, ◌≤◌, ◌<◌, ◌↔◌, ◌+◌, ℕ, suc, Option, Some, None, is_none, position, set, length, option_copied, Err, Ok, OnOk, IfOk, IsErrOf, OnErr, IfSome, IsSome, IsTrue, count_by, is_some};
-ghost use Rattle.vdr_history.specs.Histories.{Incident, live, with_slot};
+ghost use Rattle.vdr_core.specs.Histories.{Incident, live, with_slot};
 ghost use Rattle.vdr_outside.specs.Disk.{content};
 ghost use Rattle.vdr_outside.specs.Moments.{ChangesOnly, Settled};
 ghost use Rattle.vdr_outside.specs.declared.fault.PartRefused.TheVariants.{Damaged, NoMemory};
@@ -25,7 +25,7 @@ pub struct Table {
 
 impl Model for Table {
     ghost use Rattle.std.specs.Prelude.{List, Option};
-    ghost use Rattle.vdr_history.specs.Histories.{Incident};
+    ghost use Rattle.vdr_core.specs.Histories.{Incident};
 
     ghost Value = { List (Option Incident) };
 

@@ -1,5 +1,5 @@
 ghost use Rattle.std.specs.Prelude.{◌≡◌, ◌<◌, ℕ, List, set, slice_get, Option, None, Some, OnOk};
-ghost use Rattle.vdr_history.specs.Histories.{Incident};
+ghost use Rattle.vdr_core.specs.Histories.{Incident};
 ghost use Rattle.vdr_outside.specs.Disk.{content};
 ghost use Rattle.vdr_outside.specs.Frames.{WritesTo};
 ghost use Rattle.vdr_outside.specs.Moments.{ChangesOnly, Settled};

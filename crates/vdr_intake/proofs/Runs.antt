@@ -1,7 +1,7 @@
 -- Runs of items, from both ends.
 use Rattle.std.proofs.Common.{◌≡◌, ◌<◌, ℕ, List, [], ◌∷◌, ◌++◌, Some, refl, subst, append_assoc, append-nil, sym}
 use Rattle.vdr_terms.specs.Records.{last}
-use Rattle.vdr_history.specs.Taken.{Captured}
+use Rattle.vdr_core.specs.Taken.{Captured}
 use Rattle.vdr_intake.specs.Items.{Follows, IsRun, most_items}
 
 -- one more item at the end

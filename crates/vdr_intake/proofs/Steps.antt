@@ -4,7 +4,7 @@ use mathlib.Core.Option.{some}
 use lib.ListN.{get_elem?}
 use Rattle.crossbeam_queue.specs.Fifo.{Pushes, Pops, Forks, Merges, Learns}
 use Rattle.crossbeam_queue.proofs.Lists.{at_set}
-use Rattle.vdr_history.specs.Taken.{Captured}
+use Rattle.vdr_core.specs.Taken.{Captured}
 use Rattle.vdr_intake.specs.declared.view.EndView.{EndView}
 use Rattle.vdr_intake.specs.Items.{Follows, IsRun, most_items}
 use Rattle.vdr_intake.specs.Rule.{Agrees, IsOrdered, HasPushed, HasPopped, IsNoLonger, IsLeft, whole, feeding, taking, joined, spent}

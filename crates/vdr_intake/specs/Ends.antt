@@ -1,7 +1,7 @@
 -- What contracts see of a queue and of its two ends.
 use Rattle.std.specs.Prelude.{◌≡◌, ◌≤◌, ◌<◌, ◌+◌, ℕ, List, length, Option, Some, None}
 use Rattle.atomic_table.specs.Seated.{TableId}
-use Rattle.vdr_history.specs.Taken.{Captured}
+use Rattle.vdr_core.specs.Taken.{Captured}
 
 -- A queue: which one, its group and its capacity.
 pub record QueueId : Type 0 where

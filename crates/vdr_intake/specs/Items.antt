@@ -4,7 +4,7 @@ use Rattle.vdr_terms.specs.declared.datagram.Verdict.TheVariants.{Yes}
 use Rattle.vdr_terms.specs.Records.{total, last}
 use Rattle.vdr_terms.specs.Datagrams.{verdict}
 use Rattle.vdr_terms.specs.Stamps.{IsStamp}
-use Rattle.vdr_history.specs.Taken.{Captured}
+use Rattle.vdr_core.specs.Taken.{Captured}
 
 -- A legal item.
 pub record IsCaptured (c : Captured) : Type 0 where

@@ -1,7 +1,7 @@
 -- What the pass of an end shows, and what each end keeps.
 use Rattle.std.specs.Prelude.{◌≡◌, ◌≤◌, ◌<◌, ℕ, true, false, [], length}
 use Rattle.crossbeam_queue.specs.Passes.{Pass, view}
-use Rattle.vdr_history.specs.Taken.{Captured}
+use Rattle.vdr_core.specs.Taken.{Captured}
 use Rattle.vdr_intake.specs.Ends.{QueueId}
 use Rattle.vdr_intake.specs.declared.view.EndView.{EndView}
 

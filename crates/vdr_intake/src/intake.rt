@@ -1,6 +1,6 @@
 ghost use Rattle.std.specs.Prelude.{◌≡◌, ℕ, ◌+◌, ◌<◌, ◌≤◌, ◌^◌, List, [], ◌∷◌, ◌++◌, length, Some, None, IfOk, IfErr, OnOk, OnErr, IfSome, IfNone};
 ghost use Rattle.crossbeam_queue.specs.Passes.{view, IsPassOf, ruled_capacity};
-ghost use Rattle.vdr_history.specs.Taken.{Captured as CapturedTold};
+ghost use Rattle.vdr_core.specs.Taken.{Captured as CapturedTold};
 ghost use Rattle.vdr_intake.specs.Ends.{FindsFull, HasLimits};
 ghost use Rattle.vdr_intake.specs.Items.{Follows, most_items};
 

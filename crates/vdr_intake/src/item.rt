@@ -24,7 +24,7 @@ pub struct Captured {
 }
 
 impl Model for Captured {
-    ghost use Rattle.vdr_history.specs.Taken.{Captured as CapturedTold};
+    ghost use Rattle.vdr_core.specs.Taken.{Captured as CapturedTold};
     ghost use Rattle.vdr_intake.specs.Items.{IsCaptured};
 
     ghost Value = { CapturedTold };

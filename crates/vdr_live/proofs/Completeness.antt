@@ -2,7 +2,7 @@
 use Rattle.std.proofs.Common.{◌≡◌, ◌≢◌, ◌≤◌, ◌<◌, ◌^◌, inl, inr, ⊎_elim, ℕ, Bool, true, false, List, length, get_or, Option, Some, None, Result, Ok, Err, refl, sym, ap, ◌∙◌, subst, arith}
 use Rattle.vdr_terms.specs.declared.rate.Rate.{Rate}
 use Rattle.vdr_terms.specs.Records.{Item}
-use Rattle.vdr_history.specs.Runs.{base_after}
+use Rattle.vdr_core.specs.Runs.{base_after}
 use Rattle.vdr_outside.specs.Causes.{Rose}
 use Rattle.vdr_opening.specs.Media.{Contents, HoldsContents, opening_of}
 use Rattle.vdr_opening.specs.declared.refused.OpenRefused.{OpenRefused}

@@ -1,7 +1,7 @@
 -- What `record` leaves, from what opening the media and the session ensure.
 use Rattle.std.proofs.Common.{◌≡◌, ◌≤◌, ◌<◌, ℕ, List, [], length, get_or, Ok, sym, ap, ◌∙◌, subst}
 use Rattle.std.specs.Prelude.{sum}
-use Rattle.vdr_history.specs.Histories.{recorded}
+use Rattle.vdr_core.specs.Histories.{recorded}
 use Rattle.vdr_durability.specs.Readings.{EndsMeet}
 use Rattle.vdr_outside.specs.Causes.{NoneFalls, Rose}
 use Rattle.vdr_outside.specs.Disk.{Image}
@@ -21,8 +21,8 @@ use Rattle.vdr_session.specs.declared.mark.Mark.{Mark}
 use Rattle.vdr_session.specs.Desks.{DesksReplied, DesksTold, FailureTold}
 use Rattle.vdr_session.specs.Sessions.{HasGroups, HasSessionCause, RecordsSession, SessionWith}
 use Rattle.vdr_session.specs.declared.session.SessionEnd.{SessionEnd}
-use Rattle.vdr_headline.proofs.Passing.{passes_opened}
-use Rattle.vdr_headline.proofs.Playing.{config_read}
+use Rattle.vdr_recorder.proofs.Passing.{passes_opened}
+use Rattle.vdr_recorder.proofs.Playing.{config_read}
 use Rattle.vdr_command.specs.Opened.{WasRecorded}
 use Rattle.vdr_command.proofs.OpenedLemmas.{OpenedOn, TellsOn, opened_so}
 use Rattle.vdr_command.specs.Outside.{MediaSeen}

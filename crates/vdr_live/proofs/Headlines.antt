@@ -3,10 +3,10 @@ use Rattle.std.proofs.Common.{◌≡◌, ◌≤◌, ◌<◌, ◌+◌, ◌++◌, 
 use Rattle.vdr_terms.specs.declared.counts.Counts.{Counts}
 use Rattle.vdr_terms.specs.declared.rate.Rate.{Rate}
 use Rattle.vdr_terms.specs.Records.{Item, Record}
-use Rattle.vdr_history.specs.Histories.{Event, recorded}
-use Rattle.vdr_history.specs.Runs.{RunStart}
-use Rattle.vdr_history.specs.Sums.{missed_in, recorded_in}
-use Rattle.vdr_history.specs.Taken.{AllFeed, Captured}
+use Rattle.vdr_core.specs.Histories.{Event, recorded}
+use Rattle.vdr_core.specs.Runs.{RunStart}
+use Rattle.vdr_core.specs.Sums.{missed_in, recorded_in}
+use Rattle.vdr_core.specs.Taken.{AllFeed, Captured}
 use Rattle.vdr_outside.specs.Disk.{Disk}
 use Rattle.vdr_config.specs.Grammar.{configuration}
 use Rattle.vdr_intake.specs.Ends.{QueueId, Taking}
@@ -17,7 +17,7 @@ use Rattle.vdr_capture.specs.declared.sums.Outcome.{Outcome}
 use Rattle.vdr_capture.specs.declared.sums.Outcome.TheVariants.{Done, NoMemory, Place, Tick, MediaFault, PortFault, LinkFault}
 use Rattle.vdr_session.specs.Sessions.{HasGroups, KeepsSession, RecordsSession, has_groups, is_closed}
 use Rattle.vdr_session.specs.declared.session.SessionEnd.{SessionEnd}
-use Rattle.vdr_headline.proofs.Headlines.{after_opening, order_after}
+use Rattle.vdr_recorder.proofs.Headlines.{after_opening, order_after}
 use Rattle.vdr_live.specs.Headline.{AccountsForSession, SessionHeadline}
 use Rattle.vdr_live.specs.Links.{AreReplied, LinkSeen}
 

@@ -5,3 +5,4 @@ pub mod LinkLemmas
 pub mod Lives
 pub mod PortLemmas
 pub mod Words
+mod Numbered

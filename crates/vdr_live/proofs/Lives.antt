@@ -1,16 +1,16 @@
 -- Media of this product stay so over a live recording, and their life goes on with it.
 use Rattle.std.proofs.Common.{◌≡◌, ℕ, List, Result, Ok, Err, sym, subst}
-use Rattle.vdr_history.specs.Histories.{Event}
+use Rattle.vdr_core.specs.Histories.{Event}
 use Rattle.vdr_outside.specs.Disk.{Image}
 use Rattle.vdr_config.specs.Configuration.{Configuration}
 use Rattle.vdr_opening.specs.Media.{HoldsContents}
 use Rattle.vdr_opening.specs.declared.refused.OpenRefused.{OpenRefused}
 use Rattle.vdr_capture.specs.declared.sums.Outcome.TheVariants.{MediaFault}
 use Rattle.vdr_session.specs.declared.session.SessionEnd.{SessionEnd}
-use Rattle.vdr_life.specs.Lives.{Life, LivesOn}
-use Rattle.vdr_life.specs.Ours.{AreOurs, RestAs, StayOurs}
-use Rattle.vdr_life.proofs.Lives.{LifeHolds, life_holds}
-use Rattle.vdr_life.proofs.Ours.{ours_opened}
+use Rattle.vdr_vault.specs.Lives.{Life, LivesOn}
+use Rattle.vdr_vault.specs.Ours.{AreOurs, RestAs, StayOurs}
+use Rattle.vdr_vault.proofs.Lives.{LifeHolds, life_holds}
+use Rattle.vdr_vault.proofs.Ours.{ours_opened}
 use Rattle.vdr_command.specs.Statuses.{status_of_opening}
 use Rattle.vdr_command.specs.Outside.{MediaFailed, MediaSeen}
 use Rattle.vdr_vault.proofs.OpenMoments.{never_both}

@@ -5,13 +5,13 @@
 use Rattle.std.specs.Prelude.{◌≡◌, ◌≤◌, ◌<◌, ◌+◌, ◌++◌, ℕ, true, List, get_or, is_some, None}
 use Rattle.vdr_terms.specs.declared.counts.Counts.{Counts}
 use Rattle.vdr_terms.specs.Records.{Item}
-use Rattle.vdr_history.specs.Histories.{Event, recorded}
-use Rattle.vdr_history.specs.Sums.{missed_in, recorded_in}
-use Rattle.vdr_history.specs.Taken.{AllFeed, Captured}
+use Rattle.vdr_core.specs.Histories.{Event, recorded}
+use Rattle.vdr_core.specs.Sums.{missed_in, recorded_in}
+use Rattle.vdr_core.specs.Taken.{AllFeed, Captured}
 use Rattle.vdr_outside.specs.Disk.{Disk}
 use Rattle.vdr_opening.specs.Media.{Contents, opening_of}
 use Rattle.vdr_recorder.specs.Recordings.{start_of_opening}
-use Rattle.vdr_headline.specs.Headline.{RecordingHeadline}
+use Rattle.vdr_recorder.specs.Headline.{RecordingHeadline}
 use Rattle.vdr_capture.specs.declared.sums.Outcome.TheVariants.{MediaFault}
 use Rattle.vdr_session.specs.Sessions.{OutcomeMeans, RecordsSession, is_closed}
 use Rattle.vdr_session.specs.declared.session.SessionEnd.{SessionEnd}

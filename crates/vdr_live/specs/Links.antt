@@ -1,6 +1,6 @@
 -- The links of a recording, by what they tell before and after it, and what was answered over them (this project's profile).
 use Rattle.std.specs.Prelude.{◌≡◌, ◌≢◌, ◌<◌, ◌⊎◌, ℕ, Bool, true, false, List, [], map, length, get_or, Option, Some, None, ⊤}
-use Rattle.vdr_history.specs.Histories.{Event, Opening}
+use Rattle.vdr_core.specs.Histories.{Event, Opening}
 use Rattle.vdr_outside.specs.Calls.{Asked}
 use Rattle.vdr_outside.specs.Causes.{Rose}
 use Rattle.vdr_outside.specs.declared.link.Link.{Ghosts as LinkTells}

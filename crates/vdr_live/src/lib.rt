@@ -2,12 +2,21 @@
 #![tactic(auto)]
 
 mod command;
+mod desks;
+mod explaining;
+mod help;
 mod lanes;
+mod ports;
+mod program;
 mod recording;
 mod session;
 mod turns;
 mod using;
 
 pub use command::run;
+pub use desks::tcp_desk;
 pub use lanes::are_lanes;
+pub use ports::udp_lanes;
+pub use program::command_line;
 pub use using::uses_media;
+pub use vdr_adapters::Alarm;

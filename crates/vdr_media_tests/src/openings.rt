@@ -1,5 +1,5 @@
 ghost use Rattle.std.specs.Prelude.{◌≡◌, ◌<◌, ◌≤◌, length, get_or};
-ghost use Rattle.vdr_slots.specs.Areas.{HasRoom};
+ghost use Rattle.vdr_segment.specs.Areas.{HasRoom};
 
 use std::alloc::{AllocError, Global};
 use std::process::Abort;
@@ -9,8 +9,7 @@ use vdr_media::format;
 use vdr_memory::RamMedia;
 use vdr_opening::{OpenRefused, law_of_contents, law_of_parts, law_of_refusals, read_media};
 use vdr_outside::Media;
-use vdr_segment::write_batch;
-use vdr_slots::{Area, append_batch, begin_segment};
+use vdr_segment::{Area, append_batch, begin_segment, write_batch};
 
 // Windows of a second and two incidents, for which the media need four slots and eight.
 const CONFIG: &[u8] =

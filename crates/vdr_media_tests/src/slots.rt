@@ -1,5 +1,5 @@
 ghost use Rattle.std.specs.Prelude.{◌≡◌, ◌<◌};
-ghost use Rattle.vdr_slots.specs.Areas.{HasRoom};
+ghost use Rattle.vdr_segment.specs.Areas.{HasRoom};
 
 use std::alloc::{AllocError, Global};
 use std::process::Abort;
@@ -7,10 +7,9 @@ use std::test::Fail;
 use vdr_entry::{Record, Summary};
 use vdr_memory::{Call, MemoryMedia, RamMedia, Torn, Work};
 use vdr_outside::{Fault, Media};
-use vdr_segment::{HEADER_SIZE, OPEN_GATE, Walk, walk, write_batch};
-use vdr_slots::{
-    Area, append_batch, begin_segment, close_slot, law_of_fronts, law_of_slots, read_first_gate,
-    read_front, read_slot, summarize,
+use vdr_segment::{
+    Area, HEADER_SIZE, OPEN_GATE, Walk, append_batch, begin_segment, close_slot, law_of_fronts,
+    law_of_slots, read_first_gate, read_front, read_slot, summarize, walk, write_batch,
 };
 
 // Two slots of 8,192 bytes on medium 1, which has room for them.

@@ -1,9 +1,9 @@
 use vdr_entry::{Record, Summary};
-use vdr_segment::write_batch;
-use vdr_survey::{
+use vdr_index::{
     Extent, Position, Survey, audit, law_of_audits, law_of_positions, law_of_surveys, step,
     summary_with, survey,
 };
+use vdr_segment::write_batch;
 
 /// The second batch begins at 163 and ends at 212, where a closed gate stands.
 const SEGMENT_SIZE: usize = 220;

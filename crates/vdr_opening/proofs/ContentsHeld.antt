@@ -1,12 +1,12 @@
 -- An image holds one list of contents.
 use Rattle.std.proofs.Common.{◌≡◌, All, ℕ, ◌+◌, ◌<◌, ◌≤◌, ◌^◌, List, [], length, Option, Result, Ok, inl, inr, sym, ap, ◌∙◌, subst, append-nil, arith, ◌↔◌, suc, Bool, true, false, ◌∷◌, ◌++◌, get_or, take, drop, Some, None, refl, IsTrue, add-one, drop-cons}
-use Rattle.vdr_history.specs.Histories.{Incident, live}
+use Rattle.vdr_core.specs.Histories.{Incident, live}
 use Rattle.vdr_bytes.specs.Numbers.{le_u32, u32_at}
 use Rattle.vdr_bytes.proofs.NumberLemmas.{read_u32}
 use Rattle.vdr_outside.specs.Disk.{Image, content}
 use Rattle.vdr_outside.specs.Parts.{part}
 use Rattle.vdr_segment.specs.Segments.{Segment}
-use Rattle.vdr_slots.proofs.Holding.{one_holding}
+use Rattle.vdr_segment.proofs.Holding.{one_holding}
 use Rattle.vdr_directory.specs.Sequence.{Placed, AreInSequence}
 use Rattle.vdr_directory.specs.Holds.{HoldsPlaced}
 use Rattle.vdr_directory.proofs.Placing.{one_sequence}

@@ -24,7 +24,7 @@ use Rattle.vdr_config.specs.Sizes.{sizes_of}
 use Rattle.vdr_media.proofs.Rooms.{text_fits, slots_fit, some_slot}
 use Rattle.vdr_opening.specs.Media.{HasFront, members, AreThere, HoldsContents, IsMedium, nothing_on, reading_of}
 use Rattle.std.proofs.lemmas.List.Elements.{All-nil}
-use Rattle.vdr_history.specs.Histories.{Incident}
+use Rattle.vdr_core.specs.Histories.{Incident}
 use Rattle.vdr_durability.specs.Readings.{EndsMeet}
 use Rattle.vdr_outside.specs.Disk.{Image, content}
 use Rattle.vdr_config.proofs.Ranges.{ranges_of}

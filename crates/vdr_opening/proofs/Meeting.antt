@@ -4,7 +4,7 @@ use Rattle.std.specs.Prelude.{All}
 use Rattle.std.proofs.lemmas.List.{get_or_default}
 use Rattle.std.proofs.lemmas.Option.{same_Some}
 use Rattle.vdr_terms.specs.Records.{Record, last}
-use Rattle.vdr_retention.specs.Layout.{Batches, segment_records}
+use Rattle.vdr_durability.specs.Layout.{Batches, segment_records}
 use Rattle.vdr_durability.specs.Readings.{EndsMeet, EndsOff, comes_next, ends_before}
 use Rattle.vdr_durability.proofs.Meeting.{level_meet}
 use Rattle.vdr_outside.specs.Disk.{Disk, Image, Unchanged, content}
@@ -18,7 +18,7 @@ use Rattle.vdr_media.proofs.Two.{all_two, of_each, all_one}
 use Rattle.vdr_opening.specs.Media.{members, Contents, reading_of, AreThereBy, HoldsParts, IsMediumBy}
 use Rattle.vdr_opening.specs.Answers.{IsMissing, no_ring, ring_at, IsOpenedBy, OpenedState}
 use Rattle.vdr_opening.specs.Parts.{AreKnownTo, LacksPlacesAt, KnowsMedium}
-use Rattle.vdr_history.specs.Histories.{Incident}
+use Rattle.vdr_core.specs.Histories.{Incident}
 use Rattle.vdr_config.specs.Configuration.{Configuration}
 use Rattle.vdr_incident.specs.Tables.{HoldsTable}
 use Rattle.vdr_incident.specs.Tables as incidents

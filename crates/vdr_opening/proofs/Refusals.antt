@@ -10,8 +10,8 @@ use Rattle.vdr_config.specs.Configuration.{Configuration}
 use Rattle.vdr_terms.specs.Slots.{slot_count}
 use Rattle.vdr_durability.specs.Readings.{EndsMeet, EndsOff}
 use Rattle.vdr_durability.proofs.Meeting.{none_off, one_off}
-use Rattle.vdr_history.specs.Histories.{Incident}
-use Rattle.vdr_retention.proofs.Lists.{contains_here}
+use Rattle.vdr_core.specs.Histories.{Incident}
+use Rattle.vdr_durability.proofs.Lists.{contains_here}
 use Rattle.vdr_incident.specs.Tables.{HoldsTable, place_of}
 use Rattle.vdr_incident.specs.Tables as incidents
 use Rattle.vdr_incident.proofs.Holding.{held_not_refused as table_not_refused, one_refused}

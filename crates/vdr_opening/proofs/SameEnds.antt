@@ -4,8 +4,8 @@ use Rattle.std.specs.Prelude.{if◌then◌else◌}
 use Rattle.std.proofs.lemmas.List.Elements.{All-head, All-tail, All-cons, All-nil}
 use Rattle.std.proofs.lemmas.Grind.{flat_map-append}
 use Rattle.vdr_terms.specs.Records.{Record, last}
-use Rattle.vdr_retention.specs.Layout.{Batches, segment_records}
-use Rattle.vdr_retention.proofs.Lists.{last_behind}
+use Rattle.vdr_durability.specs.Layout.{Batches, segment_records}
+use Rattle.vdr_durability.proofs.Lists.{last_behind}
 use Rattle.vdr_durability.specs.Readings.{Reading, EndBy, EndsMeet, EndsOff, IsPassedOn, comes_next, ends_before, records_on, restored, with_next}
 use Rattle.vdr_opening.specs.Media.{members}
 use Rattle.vdr_opening.specs.Answers.{IsMissing}

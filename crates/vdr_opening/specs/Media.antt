@@ -1,6 +1,6 @@
 -- What the capsule and the long-term medium hold, by the parts of their bytes (this project's profile).
 use Rattle.std.specs.Prelude.{◌≡◌, ℕ, List, [], length, map, replicate, All, IfSome, Option, None}
-use Rattle.vdr_history.specs.Histories.{Incident, Opening}
+use Rattle.vdr_core.specs.Histories.{Incident, Opening}
 use Rattle.vdr_durability.specs.Readings.{Reading}
 use Rattle.vdr_durability.specs.Shown.{opened}
 use Rattle.vdr_outside.specs.Disk.{Image, content}

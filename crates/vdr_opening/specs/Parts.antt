@@ -1,6 +1,6 @@
 -- What the parts of opening owe each other. No public clause cites it, but for what an answer of a part is as an answer of all.
 use Rattle.std.specs.Prelude.{◌≡◌, ◌<◌, ◌≤◌, ◌∷◌, ◌++◌, ℕ, List, length, get_or, drop, All, Any, IfSome, Option, Some, option_map, Result, IsErrOf}
-use Rattle.vdr_history.specs.Histories.{Incident}
+use Rattle.vdr_core.specs.Histories.{Incident}
 use Rattle.vdr_outside.specs.Causes.{NoneFalls, Rose}
 use Rattle.vdr_outside.specs.Disk.{Disk, Unchanged, content}
 use Rattle.vdr_outside.specs.declared.fault.PartRefused.{PartRefused}

@@ -2,7 +2,7 @@
 -- medium after the other these are its superblock, its configuration, its segments and their order. Then come the incident
 -- slots, by their bytes and then by whether their places are there; then whether the ends of the media meet.
 use Rattle.std.specs.Prelude.{◌≡◌, ◌⊎◌, ◌∷◌, ◌++◌, ℕ, List, [], length, All, IfSome, Option, Some, None}
-use Rattle.vdr_history.specs.Histories.{Incident}
+use Rattle.vdr_core.specs.Histories.{Incident}
 use Rattle.vdr_durability.specs.Readings.{EndsOff}
 use Rattle.vdr_outside.specs.Disk.{Image, content}
 use Rattle.vdr_config.specs.Configuration.{Configuration}

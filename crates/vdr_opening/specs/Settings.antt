@@ -1,6 +1,6 @@
 -- The numbers of a configuration on which a history depends.
 use Rattle.std.specs.Prelude.{◌≡◌, ℕ, List, Ok}
-use Rattle.vdr_history.specs.Histories.{Settings}
+use Rattle.vdr_core.specs.Histories.{Settings}
 use Rattle.vdr_config.specs.Configuration.{Configuration}
 use Rattle.vdr_config.specs.Grammar.{configuration}
 use Rattle.vdr_config.specs.Sizes.{limits_in, window_of}

@@ -1,6 +1,6 @@
 // The incident slots, and whether the places of each live incident are there.
 ghost use Rattle.std.specs.Prelude.{◌≡◌, ◌⊎◌, ◌↔◌, ℕ, suc, List, length, Err, IfOk, IfSome, IfNone, IsTrue};
-ghost use Rattle.vdr_history.specs.Histories.{live};
+ghost use Rattle.vdr_core.specs.Histories.{live};
 ghost use Rattle.vdr_outside.specs.Disk.{Unchanged, content};
 ghost use Rattle.vdr_outside.specs.declared.fault.PartRefused.TheVariants.{Damaged};
 ghost use Rattle.vdr_directory.specs.Costs.{ReadsAtMost};

@@ -1,6 +1,6 @@
 -- The line that is printed for each line of a sentence datagram (this project's profile).
 use Rattle.std.specs.Prelude.{ℕ, List, [], ◌∷◌, ◌++◌, codes, decimal, Option, option_map, unwrap_or}
-use Rattle.vdr_digits.specs.Digits.{upper_digits}
+use Rattle.vdr_bytes.specs.Digits.{upper_digits}
 use Rattle.vdr_sentence.specs.Addresses.{address_of}
 use Rattle.vdr_sentence.specs.declared.bad.Bad.{Bad}
 use Rattle.vdr_sentence.specs.declared.bad.Bad.TheVariants.{Start, Length, Character, Address, Missing, Wrong}

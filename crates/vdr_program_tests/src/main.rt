@@ -9,8 +9,8 @@ use std::sync::Wait;
 use std::thread::Threads;
 use std::{fs, io};
 use vdr_capture::Lane;
+use vdr_live::{Alarm, command_line, tcp_desk, udp_lanes};
 use vdr_outside::{Link, Port};
-use vdr_program::{Alarm, command_line, tcp_desk, udp_lanes};
 use vdr_session::{Desk, Mark};
 
 #[cfg(test)]

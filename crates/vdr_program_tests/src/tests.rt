@@ -1,6 +1,6 @@
 use std::io::Cursor;
 use std::test::Fail;
-use vdr_program::{Alarm, command_line, tcp_desk, udp_lanes};
+use vdr_live::{Alarm, command_line, tcp_desk, udp_lanes};
 use vdr_tool::Status;
 
 #[test]

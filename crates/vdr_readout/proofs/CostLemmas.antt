@@ -3,8 +3,8 @@ use Rattle.std.proofs.Common.{◌≡◌, ◌<◌, ◌≤◌, ◌*◌, ℕ, List,
 use mathlib.Core.List.{Sublist, sublist-append_left}
 use Rattle.vdr_terms.specs.Queries.{Query, Span}
 use Rattle.vdr_terms.specs.Slots.{slot_count}
-use Rattle.vdr_history.specs.Histories.{Incident, Opening}
-use Rattle.vdr_playback.specs.Playback.{medium_of}
+use Rattle.vdr_core.specs.Histories.{Incident, Opening}
+use Rattle.vdr_durability.specs.Playback.{medium_of}
 use Rattle.vdr_outside.specs.Disk.{Image, Unchanged, content}
 use Rattle.vdr_config.specs.Configuration.{Configuration}
 use Rattle.vdr_entry.specs.Queries.{asked_medium}
@@ -17,10 +17,10 @@ use Rattle.vdr_media.proofs.Two.{of_all, of_each}
 use Rattle.vdr_ring.specs.Openings.{IsRingOf}
 use Rattle.vdr_opening.specs.Costs.{ReadsToOpen}
 use Rattle.vdr_opening.specs.Media.{Contents, opening_of, parts_of}
-use Rattle.vdr_cursor.specs.Budgets.{budget}
+use Rattle.vdr_ring.specs.Budgets.{budget}
 use Rattle.vdr_vault.specs.Plays.{AreOfSegments, ring_for, span_in, whole_budget}
 use Rattle.vdr_vault.specs.Vaults.{AreRings, IsReadable, IsReadableAt, VaultState, ring_of}
-use Rattle.vdr_visit.specs.Visits.{ReadsEachOnce}
+use Rattle.vdr_vault.specs.Visits.{ReadsEachOnce}
 use Rattle.vdr_command.specs.Outside.{MediaSeen}
 use Rattle.vdr_readout.specs.Reads.{AskedPlay, MeetAll, ReadsFew, query_of}
 

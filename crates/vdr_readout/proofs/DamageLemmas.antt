@@ -2,13 +2,13 @@
 use Rattle.std.specs.Prelude.{Contains}
 use Rattle.std.proofs.Common.{◌≡◌, ◌<◌, ℕ, List, Option, Some, None, sym, ap, subst, ◌∙◌, arith}
 use Rattle.vdr_terms.specs.Queries.{Query, Span}
-use Rattle.vdr_history.specs.Histories as histories
+use Rattle.vdr_core.specs.Histories as histories
 use Rattle.vdr_outside.specs.Disk.{Disk, Image, Unchanged, content}
 use Rattle.vdr_config.specs.Configuration.{Configuration}
 use Rattle.vdr_entry.specs.Queries.{asked_medium}
 use Rattle.vdr_entry.specs.declared.query.Medium.{Medium}
 use Rattle.vdr_entry.specs.declared.query.Medium.TheVariants.{Capsule, LongTerm, Incident}
-use Rattle.vdr_playback.specs.Playback.{medium_of}
+use Rattle.vdr_durability.specs.Playback.{medium_of}
 use Rattle.vdr_index.specs.declared.known.Known.{Known}
 use Rattle.vdr_directory.specs.Knowns.{AreInOrderBy}
 use Rattle.vdr_directory.specs.Opening.{slot_bytes}

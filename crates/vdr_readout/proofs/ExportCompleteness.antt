@@ -1,6 +1,6 @@
 -- By exclusion: what can be made is made, and what can't is refused by its own refusal.
 use Rattle.std.proofs.Common.{◌≡◌, inl, inr, ⊎_elim, ℕ, List, Option, Some, None, Result, Ok, Err, refl, sym, ap, ◌∙◌, subst}
-use Rattle.vdr_history.specs.Histories as histories
+use Rattle.vdr_core.specs.Histories as histories
 use Rattle.vdr_config.specs.Configuration.{Configuration}
 use Rattle.vdr_opening.specs.Media.{Contents, HoldsParts, parts_of}
 use Rattle.vdr_export.specs.declared.refused.ExportRefused.{ExportRefused}

@@ -4,10 +4,10 @@ use Rattle.std.specs.Bool.{⊤}
 use Rattle.std.specs.Prelude.{IfErr, bytes_eq}
 use Rattle.std.proofs.KnownBytes.{Appends-nil}
 use Rattle.vdr_terms.specs.Queries.{Query}
-use Rattle.vdr_history.specs.Histories.{Event, Opening}
-use Rattle.vdr_history.specs.Histories as histories
+use Rattle.vdr_core.specs.Histories.{Event, Opening}
+use Rattle.vdr_core.specs.Histories as histories
 use Rattle.vdr_durability.specs.Readings.{AreLevel, EndsMeet}
-use Rattle.vdr_playback.specs.Playback.{selected}
+use Rattle.vdr_durability.specs.Playback.{selected}
 use Rattle.vdr_outside.specs.Causes.{NoneFalls}
 use Rattle.vdr_outside.specs.Disk.{SameBut}
 use Rattle.vdr_config.specs.Configuration.{Configuration}
@@ -20,9 +20,9 @@ use Rattle.vdr_recorder.specs.Recordings.{HasRecorded, RecorderState}
 use Rattle.vdr_vault.proofs.Playing.{stands_to_read}
 use Rattle.vdr_vault.specs.Openings.{IsToldBy, OpensAtEachMoment}
 use Rattle.vdr_vault.specs.Vaults.{IsReadable, VaultState, ShowsHistory}
-use Rattle.vdr_visit.specs.Refusals.{HasOutputCause, IsAccepted, lacks_channel, lacks_incident, unanswered}
-use Rattle.vdr_visit.specs.declared.refused.VisitRefused.{VisitRefused}
-use Rattle.vdr_visit.specs.declared.refused.VisitRefused.TheVariants as stops
+use Rattle.vdr_vault.specs.Refusals.{HasOutputCause, IsAccepted, lacks_channel, lacks_incident, unanswered}
+use Rattle.vdr_vault.specs.declared.visit_refused.VisitRefused.{VisitRefused}
+use Rattle.vdr_vault.specs.declared.visit_refused.VisitRefused.TheVariants as stops
 use Rattle.vdr_export.specs.Answers.{FileEnds, IsFileRefusal, MayBeBegun, file_of}
 use Rattle.vdr_export.specs.declared.file.File.{File}
 use Rattle.vdr_export.specs.declared.refused.ExportRefused.{ExportRefused}

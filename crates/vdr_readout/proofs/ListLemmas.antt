@@ -1,6 +1,6 @@
 -- What `incidents` answers, from what opening the media ensures; and by exclusion, that what may be listed is.
 use Rattle.std.proofs.Common.{◌≡◌, ⊎_elim, ℕ, List, [], Result, Ok, refl}
-use Rattle.vdr_history.specs.Histories.{Event}
+use Rattle.vdr_core.specs.Histories.{Event}
 use Rattle.vdr_durability.specs.Readings.{EndsMeet}
 use Rattle.vdr_outside.specs.Disk.{SameBut}
 use Rattle.vdr_directory.specs.Sequence.{Placed}
@@ -8,8 +8,8 @@ use Rattle.vdr_opening.specs.Media.{members, Contents, HoldsContents, opening_of
 use Rattle.vdr_opening.specs.declared.refused.OpenRefused.{OpenRefused}
 use Rattle.vdr_vault.specs.Openings.{OpensAtEachMoment}
 use Rattle.vdr_vault.specs.Vaults.{VaultState, ShowsHistory, Stands}
-use Rattle.vdr_headline.proofs.Playing.{config_read}
-use Rattle.vdr_headline.proofs.Resting.{stand_reads}
+use Rattle.vdr_recorder.proofs.Playing.{config_read}
+use Rattle.vdr_recorder.proofs.Resting.{stand_reads}
 use Rattle.vdr_command.specs.Endings.{IsWorkDone}
 use Rattle.vdr_readout.specs.Incidents.{CanList, IsListStatus, ListsAll}
 use Rattle.vdr_command.specs.Opened.{AreLooks, MediaEnds, OneAnswer, WasRecorded}

@@ -1,7 +1,7 @@
 -- By exclusion: what may be played is, and what may not is refused by its own refusal.
 use Rattle.std.proofs.Common.{◌≡◌, inl, inr, ⊎_elim, ℕ, List, Option, None, refl, sym, subst, ◌∙◌}
-use Rattle.vdr_history.specs.Histories.{live}
-use Rattle.vdr_history.specs.Histories as histories
+use Rattle.vdr_core.specs.Histories.{live}
+use Rattle.vdr_core.specs.Histories as histories
 use Rattle.vdr_config.specs.Configuration.{Configuration}
 use Rattle.vdr_entry.specs.declared.query.Medium.{Medium}
 use Rattle.vdr_entry.specs.declared.query.Medium.TheVariants.{Incident}

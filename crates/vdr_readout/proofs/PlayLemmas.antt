@@ -5,7 +5,7 @@ use Rattle.vdr_outside.specs.Disk.{Disk}
 use Rattle.vdr_opening.specs.Media.{Contents, HoldsContents}
 use Rattle.vdr_play.specs.Streams.{Seen, nothing_seen}
 use Rattle.vdr_play.specs.Texts.{records_text}
-use Rattle.vdr_visit.specs.Prints.{whole_text}
+use Rattle.vdr_vault.specs.Prints.{whole_text}
 use Rattle.vdr_command.specs.Endings.{IsWorkDone}
 use Rattle.vdr_command.specs.Opened.{OneAnswer, PrintsText}
 use Rattle.vdr_command.specs.Outside.{Outside, OutputFailed, OutputSeen, Prints, PrintsFront, Writes}

@@ -2,12 +2,12 @@
 use Rattle.std.specs.Prelude.{sum, true, false, ⊤, length}
 use Rattle.std.proofs.Common.{◌≡◌, ◌≤◌, ◌∷◌, inl, inr, ⊎_elim, ℕ, ℤ, List, [], Option, Result, Ok, Err, refl, sym, ap, subst, ◌∙◌}
 use Rattle.vdr_terms.specs.Queries.{Query}
-use Rattle.vdr_history.specs.Histories.{Act, Event, Opening, incidents, records_of_act, table_after}
-use Rattle.vdr_history.specs.Histories.{all_records as given}
-use Rattle.vdr_history.specs.Histories as histories
-use Rattle.vdr_history.specs.Histories.Act.{Look}
+use Rattle.vdr_core.specs.Histories.{Act, Event, Opening, incidents, records_of_act, table_after}
+use Rattle.vdr_core.specs.Histories.{all_records as given}
+use Rattle.vdr_core.specs.Histories as histories
+use Rattle.vdr_core.specs.Histories.Act.{Look}
 use Rattle.vdr_durability.specs.Readings.{AreLevel, EndsMeet}
-use Rattle.vdr_playback.specs.Playback.{selected}
+use Rattle.vdr_durability.specs.Playback.{selected}
 use Rattle.vdr_outside.specs.Causes.{NoneFalls, Rose}
 use Rattle.vdr_outside.specs.Disk.{Disk, Image, SameBut}
 use Rattle.vdr_outside.specs.Writes.{AppendsFront}
@@ -29,16 +29,16 @@ use Rattle.vdr_vault.proofs.ShownHistory.{stands_silent, stands_still}
 use Rattle.vdr_vault.specs.Vaults.{IsReadable, VaultState, ShowsHistory, Stands}
 use Rattle.vdr_command.specs.Opened.{AreLooks, IsOpenableWith, KeepsContents, WasRecorded}
 use Rattle.vdr_command.specs.Outside.{MediaSeen, OutputFailed, OutputSeen, PrintsFront}
-use Rattle.vdr_visit.specs.Prints.{whole_text}
-use Rattle.vdr_visit.specs.Refusals.{IsAccepted, lacks_channel, lacks_incident}
-use Rattle.vdr_visit.specs.Visits.{AreVisited, HasMade, HasVisited}
-use Rattle.vdr_visit.specs.declared.refused.VisitRefused.{VisitRefused}
-use Rattle.vdr_visit.specs.declared.refused.VisitRefused.TheVariants as stops
+use Rattle.vdr_vault.specs.Prints.{whole_text}
+use Rattle.vdr_vault.specs.Refusals.{IsAccepted, lacks_channel, lacks_incident}
+use Rattle.vdr_vault.specs.Visits.{AreVisited, HasMade, HasVisited}
+use Rattle.vdr_vault.specs.declared.visit_refused.VisitRefused.{VisitRefused}
+use Rattle.vdr_vault.specs.declared.visit_refused.VisitRefused.TheVariants as stops
 use Rattle.vdr_readout.specs.Reads.{AreIntactAsked, AskedPlay, CanBeRead, CanPlay, IfItself, IsMetDamage, IsOwnStatus, LacksChannel, LacksIncident, MetUnreadable, PlayEnds, ShowsReading, query_of, records_asked, status_by}
 use Rattle.vdr_command.specs.declared.status.Status.{Status}
 use Rattle.vdr_command.specs.declared.status.Status.TheVariants.{Done, Damaged, OutputFault, NoChannel, NoIncident}
-use Rattle.vdr_headline.proofs.Playing.{config_read}
-use Rattle.vdr_headline.proofs.Resting.{stand_reads}
+use Rattle.vdr_recorder.proofs.Playing.{config_read}
+use Rattle.vdr_recorder.proofs.Resting.{stand_reads}
 use Rattle.vdr_command.proofs.OpenedLemmas.{OpenedOn, TellsOn, kept_by_call, one_look, opened_by, opened_so, worked_ends}
 use Rattle.vdr_readout.proofs.DamageLemmas.{IsTold}
 use Rattle.vdr_readout.proofs.OwnStatuses.{own_status}

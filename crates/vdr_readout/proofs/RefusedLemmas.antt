@@ -2,8 +2,8 @@
 use Rattle.std.specs.Prelude.{true, false, bytes_eq, length, is_none}
 use Rattle.std.proofs.Common.{◌≡◌, inl, inr, ⊎_elim, ℕ, List, [], Option, Some, None, Result, Ok, refl, sym, ap, subst}
 use Rattle.std.proofs.KnownBytes.{Appends-nil}
-use Rattle.vdr_history.specs.Histories.{live}
-use Rattle.vdr_history.specs.Histories as histories
+use Rattle.vdr_core.specs.Histories.{live}
+use Rattle.vdr_core.specs.Histories as histories
 use Rattle.vdr_durability.specs.Readings.{EndsMeet}
 use Rattle.vdr_outside.specs.Disk.{Disk, SameBut}
 use Rattle.vdr_terms.specs.Records.{Record}
@@ -22,12 +22,12 @@ use Rattle.vdr_command.specs.Endings.{IsWorkDone}
 use Rattle.vdr_command.specs.Statuses.{status_of_opening}
 use Rattle.vdr_command.specs.Outside.{MediaSeen, Outside, OutputSeen, Writes}
 use Rattle.vdr_command.specs.StatusLine.{channel_line}
-use Rattle.vdr_visit.proofs.Channels.{has_number, number_if, position_within}
-use Rattle.vdr_visit.specs.Refusals.{lacks_channel, lacks_incident}
+use Rattle.vdr_vault.proofs.Channels.{has_number, number_if, position_within}
+use Rattle.vdr_vault.specs.Refusals.{lacks_channel, lacks_incident}
 use Rattle.vdr_readout.specs.Reads.{AskedPlay, CanPlay, IsOwnStatus, LacksChannel, LacksIncident, MetUnreadable, PlayEnds, ReadsOut, ShowsReading, StoppedItself, channel_asked, channel_in, all_records, id_of, records_asked}
 use Rattle.vdr_command.specs.declared.status.Status.{Status}
 use Rattle.vdr_command.specs.declared.status.Status.TheVariants.{Done, Words, Config, Small, Unformatted, Formatted, Damaged, MediaFault, PortFault, LinkFault, InputFault, OutputFault, NoMemory, Feed, NoChannel, NoIncident, SaveRefused, Place, Tick, ExportKind, ExportNothing, ExportMixed, ExportLong, ExportPart}
-use Rattle.vdr_headline.proofs.Playing.{config_read}
+use Rattle.vdr_recorder.proofs.Playing.{config_read}
 use Rattle.vdr_command.proofs.OpenedLemmas.{OpenedOn, kept_opened, no_looks, opened_so}
 
 none_of : {A : Type 0} (o : Option A) → is_none o ≡ true → o ≡ None

@@ -3,7 +3,7 @@ use Rattle.std.proofs.Common.{◌≡◌, ◌≤◌, ◌<◌, ◌+◌, ◌∙◌,
 use Rattle.std.specs.Io.KnownBytes.{Appends}
 use Rattle.std.proofs.KnownBytes.{Appends-trans}
 use Rattle.std.proofs.lemmas.Bool.{cases_lt}
-use Rattle.vdr_history.specs.Histories.{Incident, live}
+use Rattle.vdr_core.specs.Histories.{Incident, live}
 use Rattle.vdr_outside.specs.Writes.{AppendsFront}
 use Rattle.vdr_readout.specs.Incidents.{incidents_text, row_if, rows_to}
 use Rattle.vdr_command.proofs.Lines.{front_later}

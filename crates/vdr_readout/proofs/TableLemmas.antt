@@ -2,13 +2,13 @@
 use Rattle.std.proofs.Common.{◌≡◌, ◌⊎◌, inl, inr, ⊎_elim, ◌++◌, ℕ, ℤ, List, [], fold, refl, sym, ap, subst, ◌∙◌}
 use Rattle.std.proofs.KnownBytes.{Appends-nil}
 use Rattle.vdr_terms.specs.Records.{Record}
-use Rattle.vdr_playback.specs.Sources.{Row}
+use Rattle.vdr_durability.specs.Sources.{Row}
 use Rattle.vdr_outside.specs.Disk.{Disk}
 use Rattle.vdr_entry.specs.declared.query.Medium.{Medium}
 use Rattle.vdr_opening.specs.Media.{Contents, HoldsContents}
 use Rattle.vdr_sources.specs.Tables.{sources_of, sources_text, with_record}
 use Rattle.vdr_sources.proofs.Lines.{by_records}
-use Rattle.vdr_visit.specs.Prints.{text_of, whole_text}
+use Rattle.vdr_vault.specs.Prints.{text_of, whole_text}
 use Rattle.vdr_recorder.proofs.Printing.{no_lines}
 use Rattle.vdr_command.specs.Endings.{IsWorkDone}
 use Rattle.vdr_command.specs.Opened.{OneAnswer, PrintsText}

@@ -5,7 +5,7 @@ use Rattle.vdr_terms.specs.Records.{Record}
 use Rattle.vdr_outside.specs.Disk.{Disk}
 use Rattle.vdr_entry.specs.declared.query.Medium.{Medium}
 use Rattle.vdr_opening.specs.Media.{Contents, HoldsContents}
-use Rattle.vdr_visit.specs.Prints.{lines_behind, text_of, whole_text}
+use Rattle.vdr_vault.specs.Prints.{lines_behind, text_of, whole_text}
 use Rattle.vdr_watch.specs.Signs.{Sign}
 use Rattle.vdr_watch.specs.Supervision.{met_in}
 use Rattle.vdr_watch.specs.Texts.{closing_text, record_text, records_text, watch_text}

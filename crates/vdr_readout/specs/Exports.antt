@@ -1,6 +1,6 @@
 -- What `wav` and `picture` write and answer: a file out of what was recorded, or why there is none (this project's profile).
 use Rattle.std.specs.Prelude.{◌≡◌, ◌⊎◌, ◌∷◌, ◌<◌, ◌^◌, ℕ, true, List, [], codes, decimal, slice_get, option_map, Option, Some, None, Result, Ok, Err, ⊤}
-use Rattle.vdr_history.specs.Histories.{live}
+use Rattle.vdr_core.specs.Histories.{live}
 use Rattle.vdr_durability.specs.Readings.{EndsMeet}
 use Rattle.vdr_outside.specs.Disk.{Image}
 use Rattle.vdr_image.specs.Headers.{is_identifier}

@@ -1,6 +1,6 @@
 -- What `incidents` prints and answers (this project's profile; IMO MSC.333(90) asks that the record of an incident be kept).
 use Rattle.std.specs.Prelude.{◌≡◌, ◌⊎◌, ◌∷◌, ℕ, zero, suc, List, [], ◌++◌, codes, decimal, Option, Some, None, ⊤}
-use Rattle.vdr_history.specs.Histories.{Incident, live}
+use Rattle.vdr_core.specs.Histories.{Incident, live}
 use Rattle.vdr_durability.specs.Readings.{EndsMeet}
 use Rattle.vdr_outside.specs.Disk.{Image}
 use Rattle.vdr_entry.specs.Utc.{utc_text}

@@ -4,10 +4,10 @@ use mathlib.Core.List.{Sublist}
 use Rattle.vdr_terms.specs.Records.{Record}
 use Rattle.vdr_terms.specs.Queries.{Query, Span}
 use Rattle.vdr_terms.specs.Slots.{slot_count}
-use Rattle.vdr_history.specs.Histories.{live}
-use Rattle.vdr_history.specs.Histories as histories
+use Rattle.vdr_core.specs.Histories.{live}
+use Rattle.vdr_core.specs.Histories as histories
 use Rattle.vdr_durability.specs.Readings.{AreLevel, EndsMeet}
-use Rattle.vdr_playback.specs.Playback.{medium_of, selected}
+use Rattle.vdr_durability.specs.Playback.{medium_of, selected}
 use Rattle.vdr_outside.specs.Disk.{Disk, Image, content}
 use Rattle.vdr_config.specs.Configuration.{Configuration}
 use Rattle.vdr_directory.specs.Costs.{ReadsAtMost}
@@ -24,9 +24,9 @@ use Rattle.vdr_ring.specs.Damage.{IsDamagedIn, IsIntact}
 use Rattle.vdr_vault.specs.Openings.{IsLeftAsRead}
 use Rattle.vdr_vault.specs.Plays.{MeetsWithin, span_among}
 use Rattle.vdr_vault.specs.Vaults.{IsDamagedOn}
-use Rattle.vdr_visit.specs.Prints.{text_of, whole_text}
-use Rattle.vdr_visit.specs.declared.refused.VisitRefused.{VisitRefused}
-use Rattle.vdr_visit.specs.declared.refused.VisitRefused.TheVariants as stops
+use Rattle.vdr_vault.specs.Prints.{text_of, whole_text}
+use Rattle.vdr_vault.specs.declared.visit_refused.VisitRefused.{VisitRefused}
+use Rattle.vdr_vault.specs.declared.visit_refused.VisitRefused.TheVariants as stops
 use Rattle.vdr_command.specs.Endings.{IsDone, IsWorkDone}
 use Rattle.vdr_command.specs.Opened.{AddsMissing, AreLooks, IfNoIncident, IsOpenableWith, MediaEnds, RefusesAll, WasRecorded}
 use Rattle.vdr_command.specs.Outside.{MediaSeen, OutputFailed, OutputSeen, Outside, Prints, PrintsFront, Writes}

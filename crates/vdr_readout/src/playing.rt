@@ -12,7 +12,7 @@ use vdr_command::{Outer, Status, World, law_of_openings};
 use vdr_entry::Record;
 use vdr_outside::{Media, Sink, Source};
 use vdr_recorder::Player;
-use vdr_visit::{Visitor, VisitorRefused};
+use vdr_vault::{Visitor, VisitorRefused};
 
 // A player as a command has it: with a reason to stop that has a status, though it never stops by itself.
 #[derive(Drop)]

@@ -11,8 +11,7 @@ use vdr_entry::{Medium, Query};
 use vdr_opening::law_of_parts;
 use vdr_outside::{Media, Sink, Source};
 use vdr_recorder::Recorder;
-use vdr_vault::{law_of_budgets, law_of_meeting};
-use vdr_visit::{VisitRefused, Visitor};
+use vdr_vault::{VisitRefused, Visitor, law_of_budgets, law_of_meeting};
 
 /// The channel's name that stands for all records.
 pub(crate) const ALL: &[u8] = b"all";

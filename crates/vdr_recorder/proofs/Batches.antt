@@ -7,9 +7,9 @@ use Rattle.std.proofs.lemmas.List.Elements.{filter-append}
 use Rattle.vdr_terms.specs.Records.{Record, total}
 use Rattle.vdr_terms.specs.Counting.{next_number}
 use Rattle.vdr_config.specs.Configuration.{Configuration}
-use Rattle.vdr_history.specs.Runs.{RunStart}
-use Rattle.vdr_history.specs.Taken.{Captured, of_group}
-use Rattle.vdr_history.specs.Recorder.{recorder_after}
+use Rattle.vdr_core.specs.Runs.{RunStart}
+use Rattle.vdr_core.specs.Taken.{Captured, of_group}
+use Rattle.vdr_core.specs.Recorder.{recorder_after}
 use Rattle.vdr_run.specs.declared.maker.Maker.{Maker}
 use Rattle.vdr_run.specs.Accounts.{Counted}
 use Rattle.vdr_run.specs.Making.{counted_of, Makes, IsMaking, TakesOne}

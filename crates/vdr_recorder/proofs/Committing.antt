@@ -4,21 +4,21 @@ use Rattle.std.proofs.lemmas.Bool.{eqb-true}
 use Rattle.std.proofs.lemmas.List.Elements.{All-weaker}
 use Rattle.vdr_terms.specs.Needs.{cost}
 use Rattle.vdr_terms.specs.Records.{Record}
-use Rattle.vdr_history.specs.Histories.{Act, Event, Opening, next_place}
-use Rattle.vdr_history.specs.Histories.Act.{Commit, Look}
-use Rattle.vdr_history.specs.RunStates.{IsMadeIn, RunState, state_left}
-use Rattle.vdr_history.specs.Taken.{Captured}
-use Rattle.vdr_history.proofs.Growing.{continues_run}
-use Rattle.vdr_retention.specs.Regular.{IsPaced}
+use Rattle.vdr_core.specs.Histories.{Act, Event, Opening, next_place}
+use Rattle.vdr_core.specs.Histories.Act.{Commit, Look}
+use Rattle.vdr_core.specs.RunStates.{IsMadeIn, RunState, state_left}
+use Rattle.vdr_core.specs.Taken.{Captured}
+use Rattle.vdr_core.proofs.Growing.{continues_run}
+use Rattle.vdr_durability.specs.Regular.{IsPaced}
 use Rattle.vdr_durability.specs.Keeping.{Extends, IsWhole, ShowsEither, moment_of}
 use Rattle.vdr_outside.specs.Disk.{Disk}
 use Rattle.vdr_outside.specs.declared.fault.Fault.{Fault}
 use Rattle.vdr_outside.proofs.Moments.{moments_none}
 use Rattle.vdr_config.specs.Configuration.{Configuration}
 use Rattle.vdr_config.specs.Sizes.{sizes_of}
-use Rattle.vdr_pace.specs.Commits.{IsDoneIn, closing_size}
-use Rattle.vdr_pace.specs.Media.{IsAppended, IsMediumOf, state_after}
-use Rattle.vdr_pace.proofs.Media.{appended, is_paced, silent}
+use Rattle.vdr_durability.specs.Commits.{IsDoneIn, closing_size}
+use Rattle.vdr_durability.specs.Media.{IsAppended, IsMediumOf, state_after}
+use Rattle.vdr_durability.proofs.Media.{appended, is_paced, silent}
 use Rattle.vdr_media.proofs.Two.{all_two}
 use Rattle.vdr_directory.specs.Sequence.{Placed, segments_in}
 use Rattle.vdr_opening.specs.Media.{members}

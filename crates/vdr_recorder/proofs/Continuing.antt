@@ -4,19 +4,19 @@ use Rattle.std.proofs.lemmas.List.Elements.{All-nil, All-cons, All-head, All-tai
 use Rattle.std.proofs.lemmas.Grind.{flat_map-append}
 use Rattle.vdr_terms.specs.Records.{Record, last}
 use Rattle.vdr_terms.specs.Rates.{Limit}
-use Rattle.vdr_history.specs.Taken.{Captured}
-use Rattle.vdr_history.specs.Histories.{Act, Event, Opening, Continues, EndsBy, done, done_from, incidents, next_place, last_stamp, recorded, records_of_act, stamp_of}
-use Rattle.vdr_history.specs.Histories.Act.{Commit, Save, Release, Look}
-use Rattle.vdr_history.specs.RunStates.{RunState, AreMadeFrom, IsMadeIn, IsRecorderHistory, after_act, begin_run, has_failed, next_start, state_along, state_left, state_opened}
+use Rattle.vdr_core.specs.Taken.{Captured}
+use Rattle.vdr_core.specs.Histories.{Act, Event, Opening, Continues, EndsBy, done, done_from, incidents, next_place, last_stamp, recorded, records_of_act, stamp_of}
+use Rattle.vdr_core.specs.Histories.Act.{Commit, Save, Release, Look}
+use Rattle.vdr_core.specs.RunStates.{RunState, AreMadeFrom, IsMadeIn, IsRecorderHistory, after_act, begin_run, has_failed, next_start, state_along, state_left, state_opened}
 use Rattle.vdr_core.proofs.MadeHistory.{made_runs_on}
 use Rattle.vdr_core.proofs.Commits.{continues_back}
 use Rattle.vdr_core.proofs.RecorderHistory.{stamp_append, made_snoc}
 use Rattle.vdr_durability.specs.Keeping.{IsWhole, moment_of}
 use Rattle.vdr_durability.proofs.Acknowledged.{whole_last}
 use Rattle.vdr_durability.proofs.Whole.{whole_has_not_failed}
-use Rattle.vdr_pace.specs.Commits.{IsDoneIn}
-use Rattle.vdr_pace.specs.Media.{state_after}
-use Rattle.vdr_pace.proofs.Media.{all_made}
+use Rattle.vdr_durability.specs.Commits.{IsDoneIn}
+use Rattle.vdr_durability.specs.Media.{state_after}
+use Rattle.vdr_durability.proofs.Media.{all_made}
 use Rattle.vdr_outside.specs.Disk.{Disk}
 use Rattle.vdr_directory.specs.Sequence.{Placed}
 use Rattle.vdr_vault.specs.Vaults.{VaultState, Stands, of_stamp}

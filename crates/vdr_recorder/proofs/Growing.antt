@@ -1,10 +1,10 @@
 -- A call's event is one more of the history that the media keep.
 use Rattle.std.proofs.Common.{◌≡◌, ◌≢◌, ℕ, List, [], ◌∷◌, ◌++◌, Bool, true, false, ◌⊎◌, inl, inr, ⊎_elim, refl, sym, ap, ◌∙◌, arith, append-nil}
 use Rattle.std.proofs.lemmas.Bool.{cases_Bool}
-use Rattle.vdr_history.specs.Histories.{Act, Event, Opening, MayCome}
-use Rattle.vdr_history.specs.Histories.Act.{Look}
-use Rattle.vdr_history.specs.RunStates.{IsMadeIn, state_left}
-use Rattle.vdr_history.proofs.Growing.{history_grows}
+use Rattle.vdr_core.specs.Histories.{Act, Event, Opening, MayCome}
+use Rattle.vdr_core.specs.Histories.Act.{Look}
+use Rattle.vdr_core.specs.RunStates.{IsMadeIn, state_left}
+use Rattle.vdr_core.proofs.Growing.{history_grows}
 use Rattle.vdr_durability.specs.Keeping.{Extends, IsWhole, ShowsEither, ShowsPrefix, moment_of}
 use Rattle.vdr_durability.proofs.Kept.{keeps_call}
 use Rattle.vdr_durability.proofs.Whole.{whole_has_not_failed}

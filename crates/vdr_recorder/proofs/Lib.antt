@@ -10,3 +10,9 @@ pub mod Opened
 pub mod Printing
 pub mod Answering
 pub mod Admitting
+pub mod Ordering
+pub mod Restoring
+pub mod Playing
+pub mod Resting
+pub mod Passing
+pub mod Headlines

@@ -2,12 +2,12 @@
 use Rattle.std.proofs.Common.{◌≡◌, ℕ, List, [], ◌∷◌, ◌++◌, Bool, true, false, Option, Some, None, ◌⊎◌, inl, inr, refl, sym, ap, ◌∙◌, subst, arith, true≢false}
 use Rattle.std.proofs.lemmas.List.Elements.{All-weaker}
 use Rattle.std.proofs.lemmas.Bool.{cases_Bool}
-use Rattle.vdr_history.specs.Histories.{Act, Event, EndsBy, IsHistory, Opening}
-use Rattle.vdr_history.specs.Histories.Act.{Look}
-use Rattle.vdr_history.specs.RunStates.{RunState, state_left}
-use Rattle.vdr_history.proofs.Growing.{history_grows, history_looks}
+use Rattle.vdr_core.specs.Histories.{Act, Event, EndsBy, IsHistory, Opening}
+use Rattle.vdr_core.specs.Histories.Act.{Look}
+use Rattle.vdr_core.specs.RunStates.{RunState, state_left}
+use Rattle.vdr_core.proofs.Growing.{history_grows, history_looks}
 use Rattle.vdr_terms.specs.Queries.{Query}
-use Rattle.vdr_playback.specs.Playback.{medium_of}
+use Rattle.vdr_durability.specs.Playback.{medium_of}
 use Rattle.vdr_durability.specs.Keeping.{IsWhole, Keeps, ShowsEither, ShowsPrefix, moment_of}
 use Rattle.vdr_durability.proofs.Kept.{keeps_after_fault, keeps_done}
 use Rattle.vdr_durability.proofs.Whole.{whole_has_not_failed}
@@ -15,15 +15,15 @@ use Rattle.vdr_outside.specs.Disk.{Disk, Image, Unchanged}
 use Rattle.vdr_outside.specs.Moments.{AtEachMoment}
 use Rattle.vdr_config.specs.Configuration.{Configuration}
 use Rattle.vdr_config.specs.Sizes.{sizes_of}
-use Rattle.vdr_pace.specs.Media.{IsMediumOf}
-use Rattle.vdr_pace.proofs.Media.{silent}
+use Rattle.vdr_durability.specs.Media.{IsMediumOf}
+use Rattle.vdr_durability.proofs.Media.{silent}
 use Rattle.vdr_directory.specs.Sequence.{Placed, segments_in}
 use Rattle.vdr_opening.specs.Media.{members}
 use Rattle.vdr_vault.specs.Vaults.{VaultState, ShowsHistory, Stands}
 use Rattle.vdr_vault.proofs.ShownHistory.{stand_shows, stands_silent}
-use Rattle.vdr_visit.specs.Refusals.{HasVisitCause}
-use Rattle.vdr_visit.specs.Visits.{HasOnlyRead}
-use Rattle.vdr_visit.proofs.Reading.{cause_join, only_read_join, reads_keep, reads_keep_failed}
+use Rattle.vdr_vault.specs.Refusals.{HasVisitCause}
+use Rattle.vdr_vault.specs.Visits.{HasOnlyRead}
+use Rattle.vdr_vault.proofs.Reading.{cause_join, only_read_join, reads_keep, reads_keep_failed}
 use Rattle.vdr_recorder.specs.Looks.{HasLooked}
 use Rattle.vdr_recorder.specs.Making.{MakesBy}
 use Rattle.vdr_recorder.specs.Recordings.{HasDone, HasRecorded, IsWorking, RecorderState, TellsLeft, acts_of, start_of_opening}

@@ -4,15 +4,15 @@ use Rattle.std.proofs.lemmas.List.Elements.{All-nil}
 use Rattle.vdr_terms.specs.Needs.{cost, usable}
 use Rattle.vdr_terms.specs.Order.{AreInOrder}
 use Rattle.vdr_terms.specs.Records.{Record, last}
-use Rattle.vdr_history.specs.Histories.{Event, Opening, Settings, stamp_of}
-use Rattle.vdr_history.specs.Runs.{RunStart}
-use Rattle.vdr_retention.specs.Layout.{Batches, batches_size_at, records_in}
+use Rattle.vdr_core.specs.Histories.{Event, Opening, Settings, stamp_of}
+use Rattle.vdr_core.specs.Runs.{RunStart}
+use Rattle.vdr_durability.specs.Layout.{Batches, batches_size_at, records_in}
 use Rattle.vdr_durability.specs.Readings.{next_after}
 use Rattle.vdr_durability.specs.Keeping.{Keeps}
 use Rattle.vdr_outside.specs.Disk.{Disk, Image}
 use Rattle.vdr_config.specs.Sizes.{sizes_of}
-use Rattle.vdr_pace.specs.Media.{EndsBefore, IsMediumOf}
-use Rattle.vdr_pace.proofs.Media.{at_opening}
+use Rattle.vdr_durability.specs.Media.{EndsBefore, IsMediumOf}
+use Rattle.vdr_durability.proofs.Media.{at_opening}
 use Rattle.vdr_media.proofs.Two.{all_two}
 use Rattle.vdr_directory.specs.Sequence.{Placed, all_records, batches_in, segments_in}
 use Rattle.vdr_ring.specs.Regularity.{AreLaidOut, AreRegular}

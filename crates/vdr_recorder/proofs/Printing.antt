@@ -5,9 +5,9 @@ use Rattle.std.specs.Io.KnownBytes.{Appends, Keeps}
 use Rattle.std.proofs.lemmas.List.Sums.{fold-append}
 use Rattle.vdr_terms.specs.Queries.{Query}
 use Rattle.vdr_terms.specs.Records.{Record}
-use Rattle.vdr_history.specs.Histories.{Event, Opening}
-use Rattle.vdr_playback.specs.Playback.{selected}
-use Rattle.vdr_playback.specs.Sources.{Row}
+use Rattle.vdr_core.specs.Histories.{Event, Opening}
+use Rattle.vdr_durability.specs.Playback.{selected}
+use Rattle.vdr_durability.specs.Sources.{Row}
 use Rattle.vdr_outside.specs.Disk.{Disk}
 use Rattle.vdr_outside.specs.Writes.{AppendsFront}
 use Rattle.vdr_directory.specs.Sequence.{Placed}
@@ -16,10 +16,10 @@ use Rattle.vdr_play.specs.Texts.{record_text, records_text, seen_by}
 use Rattle.vdr_sources.specs.Tables.{sources_of, sources_text, with_record}
 use Rattle.vdr_sources.proofs.Lines.{by_records}
 use Rattle.vdr_vault.specs.Vaults.{IsReadable, VaultState}
-use Rattle.vdr_visit.specs.Prints.{lines_behind, text_of, whole_text}
-use Rattle.vdr_visit.specs.Visits.{AreVisited, HasMade, HasVisited}
-use Rattle.vdr_visit.specs.declared.refused.VisitRefused.{VisitRefused}
-use Rattle.vdr_visit.specs.declared.refused.VisitRefused.TheVariants.{NoChannel, NoIncident, Fault, Damaged, Output, Own}
+use Rattle.vdr_vault.specs.Prints.{lines_behind, text_of, whole_text}
+use Rattle.vdr_vault.specs.Visits.{AreVisited, HasMade, HasVisited}
+use Rattle.vdr_vault.specs.declared.visit_refused.VisitRefused.{VisitRefused}
+use Rattle.vdr_vault.specs.declared.visit_refused.VisitRefused.TheVariants.{NoChannel, NoIncident, Fault, Damaged, Output, Own}
 use Rattle.vdr_recorder.specs.Playing.{HasLines, HasPlayed, HasTable, HasTold}
 
 -- What is printed of a record, from these tracks on.

@@ -2,16 +2,16 @@
 use Rattle.std.proofs.Common.{◌≡◌, ◌≢◌, ℕ, List, [], ◌∷◌, ◌++◌, Bool, true, false, Option, Some, None, Result, Ok, Err, OnOk, OnErr, ◌⊎◌, inl, inr, refl, sym, ap, ◌∙◌, subst, true≢false}
 use Rattle.std.proofs.lemmas.List.Elements.{All-weaker}
 use Rattle.vdr_terms.specs.Rates.{Limit}
-use Rattle.vdr_history.specs.Histories.{Act, Event, Incident, MayCome, Opening, live, records_of_act}
-use Rattle.vdr_history.specs.Histories.Act.{Look, Release, Save}
-use Rattle.vdr_history.specs.RunStates.{IsMadeIn, RunState, after_act, state_left}
+use Rattle.vdr_core.specs.Histories.{Act, Event, Incident, MayCome, Opening, live, records_of_act}
+use Rattle.vdr_core.specs.Histories.Act.{Look, Release, Save}
+use Rattle.vdr_core.specs.RunStates.{IsMadeIn, RunState, after_act, state_left}
 use Rattle.vdr_durability.specs.Keeping.{Extends}
 use Rattle.vdr_outside.specs.Disk.{Disk, Unchanged}
 use Rattle.vdr_config.specs.Configuration.{Configuration}
 use Rattle.vdr_config.specs.Sizes.{sizes_of}
-use Rattle.vdr_pace.specs.Commits.{IsDoneIn}
-use Rattle.vdr_pace.specs.Media.{IsMediumOf, state_after}
-use Rattle.vdr_pace.proofs.Media.{silent}
+use Rattle.vdr_durability.specs.Commits.{IsDoneIn}
+use Rattle.vdr_durability.specs.Media.{IsMediumOf, state_after}
+use Rattle.vdr_durability.proofs.Media.{silent}
 use Rattle.vdr_directory.specs.Sequence.{segments_in}
 use Rattle.vdr_incident.specs.declared.refused.ReleaseRefused.{ReleaseRefused}
 use Rattle.vdr_incident.specs.declared.refused.ReleaseRefused.TheVariants as releases

@@ -10,12 +10,12 @@ use Rattle.vdr_entry.proofs.SpellingLemmas.{recordable_short}
 use Rattle.vdr_terms.specs.Rates.{Limit, is_configured}
 use Rattle.vdr_terms.specs.Records.{Record, total}
 use Rattle.vdr_terms.specs.Sizes.{records_size}
-use Rattle.vdr_history.specs.Histories.{Act, Event, Opening, Settings}
-use Rattle.vdr_history.specs.Histories.Act.{Commit}
-use Rattle.vdr_history.specs.Recorder.{closing, gaps_below, recorder_after, stop_of}
-use Rattle.vdr_history.specs.RunStates.{RunState, after_act, after_commit, begin_run, end_run, next_start, recorder_in, state_left}
-use Rattle.vdr_history.specs.Runs.{RunStart}
-use Rattle.vdr_history.specs.Taken.{Captured}
+use Rattle.vdr_core.specs.Histories.{Act, Event, Opening, Settings}
+use Rattle.vdr_core.specs.Histories.Act.{Commit}
+use Rattle.vdr_core.specs.Recorder.{closing, gaps_below, recorder_after, stop_of}
+use Rattle.vdr_core.specs.RunStates.{RunState, after_act, after_commit, begin_run, end_run, next_start, recorder_in, state_left}
+use Rattle.vdr_core.specs.Runs.{RunStart}
+use Rattle.vdr_core.specs.Taken.{Captured}
 use Rattle.vdr_core.proofs.Commits.{further_items}
 use Rattle.vdr_core.proofs.RecorderHistory.{ends_with, inside_begins_none, inside_ends_none}
 use Rattle.vdr_durability.specs.Keeping.{IsWhole}
@@ -23,8 +23,8 @@ use Rattle.vdr_durability.proofs.Whole.{whole_has_not_failed}
 use Rattle.vdr_outside.specs.Disk.{Disk}
 use Rattle.vdr_config.specs.Configuration.{Configuration}
 use Rattle.vdr_config.specs.Sizes.{limits_in}
-use Rattle.vdr_pace.specs.Commits.{IsDoneIn, IsFit, items_size}
-use Rattle.vdr_pace.proofs.ItemSizes.{closes_size, made_size}
+use Rattle.vdr_durability.specs.Commits.{IsDoneIn, IsFit, items_size}
+use Rattle.vdr_durability.proofs.ItemSizes.{closes_size, made_size}
 use Rattle.vdr_run.specs.Making.{closing_by, rest_of}
 use Rattle.vdr_recorder.specs.Making.{MakesBy}
 use Rattle.vdr_recorder.specs.Recordings.{HasDone, HasKept, HasRecorded, KeepsEvent, RecorderState}

@@ -4,19 +4,19 @@ use Rattle.std.proofs.lemmas.List.Elements.{All-contains}
 use Rattle.vdr_terms.specs.Legality.{IsRecord}
 use Rattle.vdr_terms.specs.Records.{Record, last}
 use Rattle.vdr_terms.specs.Stamps.{IsStamp}
-use Rattle.vdr_history.specs.Histories.{Event, Opening, Settings, last_stamp, stamp_of}
-use Rattle.vdr_history.specs.Histories.Act.{Commit}
-use Rattle.vdr_history.specs.Recorder.{begun}
-use Rattle.vdr_history.specs.RunStates.{next_start, state_left}
-use Rattle.vdr_history.specs.Runs.{RunStart, Stamp, base_after}
-use Rattle.vdr_retention.proofs.Lists.{last_contained}
+use Rattle.vdr_core.specs.Histories.{Event, Opening, Settings, last_stamp, stamp_of}
+use Rattle.vdr_core.specs.Histories.Act.{Commit}
+use Rattle.vdr_core.specs.Recorder.{begun}
+use Rattle.vdr_core.specs.RunStates.{next_start, state_left}
+use Rattle.vdr_core.specs.Runs.{RunStart, Stamp, base_after}
+use Rattle.vdr_durability.proofs.Lists.{last_contained}
 use Rattle.vdr_durability.specs.Keeping.{IsWhole}
 use Rattle.vdr_durability.proofs.Whole.{whole_has_not_failed}
 use Rattle.vdr_outside.specs.Disk.{Disk, content}
 use Rattle.vdr_config.specs.Configuration.{Configuration}
 use Rattle.vdr_config.specs.Sizes.{limits_in}
 use Rattle.vdr_datagram.specs.Channels.{channels_of}
-use Rattle.vdr_pace.specs.Commits.{IsDoneIn}
+use Rattle.vdr_durability.specs.Commits.{IsDoneIn}
 use Rattle.vdr_directory.specs.Sequence.{all_records}
 use Rattle.vdr_directory.specs.Holds.{HoldsPlaced}
 use Rattle.vdr_ring.proofs.Beginning.{legal_batches}

@@ -4,12 +4,12 @@ use Rattle.vdr_terms.specs.declared.counts.Counts.{Counts}
 use Rattle.vdr_terms.specs.Counting.{next_number}
 use Rattle.vdr_terms.specs.Rates.{is_configured}
 use Rattle.vdr_terms.specs.Records.{total}
-use Rattle.vdr_history.specs.Histories.{Event, Incident, Opening, live}
-use Rattle.vdr_history.specs.Histories.Act.{Look, Release, Save}
-use Rattle.vdr_history.specs.Runs.{base_after}
-use Rattle.vdr_history.specs.Taken.{Captured}
+use Rattle.vdr_core.specs.Histories.{Event, Incident, Opening, live}
+use Rattle.vdr_core.specs.Histories.Act.{Look, Release, Save}
+use Rattle.vdr_core.specs.Runs.{base_after}
+use Rattle.vdr_core.specs.Taken.{Captured}
 use Rattle.vdr_durability.specs.Readings.{AreLevel, EndsMeet}
-use Rattle.vdr_pace.specs.Commits.{items_size}
+use Rattle.vdr_durability.specs.Commits.{items_size}
 use Rattle.vdr_config.specs.Sizes.{limits_in}
 use Rattle.vdr_outside.specs.declared.media.Media.{Ghosts as MediaTells}
 use Rattle.vdr_outside.specs.Disk.{Disk}

@@ -5,3 +5,4 @@ pub mod Refusals
 pub mod Looks
 pub mod Playing
 pub mod Calls
+pub mod Headline

@@ -1,12 +1,12 @@
 -- What a call that only reads leaves of a recorder.
 use Rattle.std.specs.Prelude.{◌≡◌, ℕ, List}
 use Rattle.vdr_terms.specs.Queries.{Query}
-use Rattle.vdr_history.specs.Histories.{Event, Opening}
-use Rattle.vdr_history.specs.Histories.Act.{Look}
-use Rattle.vdr_playback.specs.Playback.{medium_of}
+use Rattle.vdr_core.specs.Histories.{Event, Opening}
+use Rattle.vdr_core.specs.Histories.Act.{Look}
+use Rattle.vdr_durability.specs.Playback.{medium_of}
 use Rattle.vdr_outside.specs.Disk.{Disk}
-use Rattle.vdr_visit.specs.Refusals.{HasVisitCause}
-use Rattle.vdr_visit.specs.Visits.{HasOnlyRead}
+use Rattle.vdr_vault.specs.Refusals.{HasVisitCause}
+use Rattle.vdr_vault.specs.Visits.{HasOnlyRead}
 use Rattle.vdr_recorder.specs.Recordings.{HasDone, HasRecorded, RecorderState}
 
 module _ {tells tells_images : Type 0} where

@@ -4,9 +4,9 @@ use Rattle.vdr_terms.specs.Records.{total}
 use Rattle.vdr_terms.specs.Counting.{next_number}
 use Rattle.vdr_config.specs.Configuration.{Configuration}
 use Rattle.vdr_config.specs.Sizes.{limits_in}
-use Rattle.vdr_history.specs.Runs.{RunStart}
-use Rattle.vdr_history.specs.Taken.{Captured, of_group}
-use Rattle.vdr_pace.specs.Commits.{least_item}
+use Rattle.vdr_core.specs.Runs.{RunStart}
+use Rattle.vdr_core.specs.Taken.{Captured, of_group}
+use Rattle.vdr_durability.specs.Commits.{least_item}
 use Rattle.vdr_run.specs.Making.{Makes, counted_of}
 use Rattle.vdr_run.specs.Meters.{rates_of}
 use Rattle.vdr_run.specs.declared.maker.Maker.{Maker}

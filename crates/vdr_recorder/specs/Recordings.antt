@@ -1,10 +1,10 @@
 -- A recorder over its media: each of its calls is one event of one history.
 use Rattle.std.specs.Prelude.{◌≡◌, ◌⊎◌, ◌∷◌, ◌++◌, ℕ, Bool, true, false, List, [], map, All, option_map}
-use Rattle.vdr_history.specs.Histories.{Act, Event, IsHistory, Opening, done, incidents}
-use Rattle.vdr_history.specs.Runs.{RunStart}
-use Rattle.vdr_history.specs.Taken.{Captured}
-use Rattle.vdr_history.specs.RunStates.{IsRecorderHistory, has_failed, state_left}
-use Rattle.vdr_pace.specs.Media.{IsMediumOf}
+use Rattle.vdr_core.specs.Histories.{Act, Event, IsHistory, Opening, done, incidents}
+use Rattle.vdr_core.specs.Runs.{RunStart}
+use Rattle.vdr_core.specs.Taken.{Captured}
+use Rattle.vdr_core.specs.RunStates.{IsRecorderHistory, has_failed, state_left}
+use Rattle.vdr_durability.specs.Media.{IsMediumOf}
 use Rattle.vdr_durability.specs.Keeping.{Keeps, ShowsPrefix, moment_of}
 use Rattle.vdr_outside.specs.Disk.{Disk}
 use Rattle.vdr_outside.specs.Moments.{AtEachMoment}

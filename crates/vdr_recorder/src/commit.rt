@@ -1,11 +1,11 @@
 // A commit of what a run has made.
 ghost use Rattle.std.specs.Prelude.{◌≡◌, ◌≤◌, ◌<◌, ℕ, List, length, true, false, OnErr, OnOk};
 ghost use Rattle.vdr_terms.specs.Sizes.{records_size};
-ghost use Rattle.vdr_history.specs.Histories.{Event, Opening};
-ghost use Rattle.vdr_history.specs.Histories.Act.{Commit};
-ghost use Rattle.vdr_history.specs.RunStates.{state_left};
-ghost use Rattle.vdr_history.specs.Taken.{Captured};
-ghost use Rattle.vdr_pace.specs.Commits.{IsDoneIn, closing_size};
+ghost use Rattle.vdr_core.specs.Histories.{Event, Opening};
+ghost use Rattle.vdr_core.specs.Histories.Act.{Commit};
+ghost use Rattle.vdr_core.specs.RunStates.{state_left};
+ghost use Rattle.vdr_core.specs.Taken.{Captured};
+ghost use Rattle.vdr_durability.specs.Commits.{IsDoneIn, closing_size};
 ghost use Rattle.vdr_vault.specs.Calls.{HasVaultCause, SameElsewhere};
 ghost use Rattle.vdr_vault.specs.Vaults.{AreRings};
 ghost use Rattle.vdr_recorder.specs.Recordings.{HasKept, KeepsEvent};

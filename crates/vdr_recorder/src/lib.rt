@@ -2,6 +2,7 @@
 #![tactic(auto)]
 
 mod commit;
+mod law;
 mod making;
 mod play;
 mod recorder;
@@ -11,6 +12,7 @@ mod sources;
 mod start;
 mod visiting;
 
+pub use law::law_of_playing;
 pub use making::LEAST_ITEM;
 pub use play::Player;
 pub use recorder::{Recorder, State};

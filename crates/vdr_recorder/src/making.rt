@@ -3,10 +3,10 @@ ghost use Rattle.std.specs.Prelude.{◌≡◌, ◌≤◌, ◌<◌, ◌+◌, ◌*
 ghost use Rattle.vdr_terms.specs.Records.{Record as Told, total};
 ghost use Rattle.vdr_terms.specs.Counting.{next_number};
 ghost use Rattle.vdr_terms.specs.Stamps.{IsStamp};
-ghost use Rattle.vdr_history.specs.Runs.{RunStart, base_after};
-ghost use Rattle.vdr_history.specs.Taken.{Captured as CapturedTold};
-ghost use Rattle.vdr_history.specs.Recorder.{recorder_after, begun};
-ghost use Rattle.vdr_pace.specs.Commits.{items_size};
+ghost use Rattle.vdr_core.specs.Runs.{RunStart, base_after};
+ghost use Rattle.vdr_core.specs.Taken.{Captured as CapturedTold};
+ghost use Rattle.vdr_core.specs.Recorder.{recorder_after, begun};
+ghost use Rattle.vdr_durability.specs.Commits.{items_size};
 ghost use Rattle.vdr_run.specs.Making.{IsMaking, Makes, TakesOne, counted_of};
 ghost use Rattle.vdr_run.specs.Starts.{stamp_of, start_with};
 ghost use Rattle.vdr_recorder.specs.Making.{HasRoom, MakesBy, NumbersFit, numbers_of};

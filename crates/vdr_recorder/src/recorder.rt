@@ -1,11 +1,11 @@
 // A recorder without its media, how it is opened, and what it answers without a call on them.
 ghost use Rattle.std.specs.Prelude.{◌≡◌, ◌≤◌, ◌<◌, List, [], length, count_by, is_some, option_map, false, Err, IfOk};
-ghost use Rattle.vdr_history.specs.Histories.{Event, Opening, done, incidents};
-ghost use Rattle.vdr_history.specs.Recorder.{recorder_after};
-ghost use Rattle.vdr_history.specs.RunStates.{state_left};
-ghost use Rattle.vdr_history.specs.Runs.{RunStart, last_tick};
-ghost use Rattle.vdr_history.specs.Sums.{counted_by, recorded_in};
-ghost use Rattle.vdr_history.specs.Taken.{Captured as CapturedTold};
+ghost use Rattle.vdr_core.specs.Histories.{Event, Opening, done, incidents};
+ghost use Rattle.vdr_core.specs.Recorder.{recorder_after};
+ghost use Rattle.vdr_core.specs.RunStates.{state_left};
+ghost use Rattle.vdr_core.specs.Runs.{RunStart, last_tick};
+ghost use Rattle.vdr_core.specs.Sums.{counted_by, recorded_in};
+ghost use Rattle.vdr_core.specs.Taken.{Captured as CapturedTold};
 ghost use Rattle.vdr_durability.specs.Readings.{EndsMeet};
 ghost use Rattle.vdr_opening.specs.Costs.{ReadsToOpen};
 ghost use Rattle.vdr_opening.specs.Media.{Contents, HoldsContents, HoldsParts, members, opening_of, reading_of};

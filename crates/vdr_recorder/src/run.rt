@@ -2,12 +2,12 @@
 ghost use Rattle.std.specs.Prelude.{◌≡◌, ◌≤◌, ◌++◌, ℕ, List, [], true, false, length, All, Err};
 ghost use Rattle.vdr_terms.specs.Datagrams.{largest};
 ghost use Rattle.vdr_terms.specs.Records.{Record as Entry};
-ghost use Rattle.vdr_history.specs.Histories.{Event, Opening};
-ghost use Rattle.vdr_history.specs.Histories.Act.{Commit};
-ghost use Rattle.vdr_history.specs.Recorder.{begun, closing, recorder_after};
-ghost use Rattle.vdr_history.specs.RunStates.{next_start, recorder_in, state_left};
-ghost use Rattle.vdr_history.specs.Runs.{RunStart};
-ghost use Rattle.vdr_history.specs.Taken.{Captured as CapturedTold};
+ghost use Rattle.vdr_core.specs.Histories.{Event, Opening};
+ghost use Rattle.vdr_core.specs.Histories.Act.{Commit};
+ghost use Rattle.vdr_core.specs.Recorder.{begun, closing, recorder_after};
+ghost use Rattle.vdr_core.specs.RunStates.{next_start, recorder_in, state_left};
+ghost use Rattle.vdr_core.specs.Runs.{RunStart};
+ghost use Rattle.vdr_core.specs.Taken.{Captured as CapturedTold};
 ghost use Rattle.vdr_vault.specs.Keeps.{StopsAtFault, WritesToBoth};
 ghost use Rattle.vdr_vault.specs.Vaults.{AreRings};
 ghost use Rattle.vdr_recorder.specs.Calls.{BeginsRun, EndsRun, FitBatch, FitClose, GoesOnWith, RefusesStart, StaysBelowLimits, WritesStart};

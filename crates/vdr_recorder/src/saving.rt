@@ -1,6 +1,6 @@
 // What is kept of an incident, and until when.
 ghost use Rattle.std.specs.Prelude.{◌≡◌, option_copied, Err};
-ghost use Rattle.vdr_history.specs.Histories.{live};
+ghost use Rattle.vdr_core.specs.Histories.{live};
 ghost use Rattle.vdr_incident.specs.declared.refused.ReleaseRefused.TheVariants.{Fault as AReleaseFault};
 ghost use Rattle.vdr_vault.specs.Vaults.{AreRings};
 ghost use Rattle.vdr_vault.specs.Plays.{ReadsNoOther};

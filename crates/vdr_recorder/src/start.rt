@@ -1,7 +1,7 @@
 // Where a run begins.
 ghost use Rattle.std.specs.Prelude.{◌≡◌, ◌<◌, ◌≤◌, ◌↔◌, ◌^◌, true, IfSome, option_map};
 ghost use Rattle.vdr_terms.specs.Stamps.{IsStamp};
-ghost use Rattle.vdr_history.specs.Runs.{base_after};
+ghost use Rattle.vdr_core.specs.Runs.{base_after};
 ghost use Rattle.vdr_run.specs.Starts.{stamp_of};
 
 use vdr_terms::LAST_STAMP;

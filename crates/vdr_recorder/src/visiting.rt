@@ -2,16 +2,16 @@
 ghost use Rattle.std.specs.Prelude.{◌≡◌, ◌⊎◌, [], length, true, Err};
 ghost use Rattle.vdr_entry.specs.Queries.{asked};
 ghost use Rattle.vdr_vault.specs.Vaults.{AreRings};
-ghost use Rattle.vdr_visit.specs.Prints.{whole_text};
-ghost use Rattle.vdr_visit.specs.Refusals.{HasOutputCause, IsAccepted, after_fault, lacks_channel, lacks_incident, unanswered};
-ghost use Rattle.vdr_visit.specs.Visits.{HasVisited, ReadsEachOnce};
-ghost use Rattle.vdr_visit.specs.declared.refused.VisitRefused.TheVariants.{Fault as AFault, NoChannel, NoIncident, Output};
+ghost use Rattle.vdr_vault.specs.Prints.{whole_text};
+ghost use Rattle.vdr_vault.specs.Refusals.{HasOutputCause, IsAccepted, after_fault, lacks_channel, lacks_incident, unanswered};
+ghost use Rattle.vdr_vault.specs.Visits.{HasVisited, ReadsEachOnce};
+ghost use Rattle.vdr_vault.specs.declared.visit_refused.VisitRefused.TheVariants.{Fault as AFault, NoChannel, NoIncident, Output};
 ghost use Rattle.vdr_recorder.specs.Looks.{HasLooked};
 
 use crate::Recorder;
 use vdr_entry::Query;
 use vdr_outside::{Media, Sink};
-use vdr_visit::{VisitRefused, Visitor, accept, visit_selected};
+use vdr_vault::{VisitRefused, Visitor, accept, visit_selected};
 
 impl Recorder {
     /// Whether a query asks for a channel that is configured and for an incident that is live, where it asks for one.

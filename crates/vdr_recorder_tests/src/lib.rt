@@ -2,6 +2,14 @@
 #![tactic(auto)]
 
 #[cfg(test)]
+mod desks;
+#[cfg(test)]
+mod lanes;
+#[cfg(test)]
+mod meeting;
+#[cfg(test)]
 mod recordings;
 #[cfg(test)]
 mod replays;
+#[cfg(test)]
+mod sessions;

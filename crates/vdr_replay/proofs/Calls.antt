@@ -3,13 +3,13 @@ use Rattle.std.proofs.Common.{◌≡◌, inl, inr, ℕ, List, [], ◌∷◌, ◌
 use Rattle.std.proofs.lemmas.Bool.{cond-false}
 use Rattle.vdr_terms.specs.declared.counts.Counts.{Counts}
 use Rattle.vdr_terms.specs.Records.{Record, FeedItem}
-use Rattle.vdr_history.specs.Feed.{feed_records}
-use Rattle.vdr_history.specs.Histories.{Act, Event, Opening, recorded, records_of_act}
-use Rattle.vdr_history.specs.Histories.Act.{Commit}
-use Rattle.vdr_history.specs.Recorder.{begun, closed_run, closing, recorder_after}
-use Rattle.vdr_history.specs.RunStates.{RunState, after_act, after_commit, begin_run, next_start, recorder_in, state_left}
-use Rattle.vdr_history.specs.Runs.{RunStart}
-use Rattle.vdr_history.specs.Taken.{Captured}
+use Rattle.vdr_core.specs.Feed.{feed_records}
+use Rattle.vdr_core.specs.Histories.{Act, Event, Opening, recorded, records_of_act}
+use Rattle.vdr_core.specs.Histories.Act.{Commit}
+use Rattle.vdr_core.specs.Recorder.{begun, closed_run, closing, recorder_after}
+use Rattle.vdr_core.specs.RunStates.{RunState, after_act, after_commit, begin_run, next_start, recorder_in, state_left}
+use Rattle.vdr_core.specs.Runs.{RunStart}
+use Rattle.vdr_core.specs.Taken.{Captured}
 use Rattle.vdr_terms.specs.Datagrams.{verdict, is_yes}
 use Rattle.vdr_core.specs.Replay.{captured_if, rest_after, taken_of}
 use Rattle.vdr_core.proofs.Commits.{further_items}

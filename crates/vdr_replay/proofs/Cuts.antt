@@ -2,11 +2,11 @@
 use Rattle.std.proofs.Common.{◌≡◌, ◌<◌, inl, inr, ℕ, List, [], ◌∷◌, ◌++◌, All, Bool, true, false, refl, sym, ap, ◌∙◌, subst, append-nil, append_assoc}
 use Rattle.std.proofs.lemmas.List.Sums.{fold-append}
 use Rattle.vdr_terms.specs.Records.{Record, FeedItem}
-use Rattle.vdr_history.specs.Accounts.{Accounts, AccountsPrefix}
-use Rattle.vdr_history.specs.Feed.{feed_records, items_of}
-use Rattle.vdr_history.specs.Recorder.{Recorder, admits, begun, closing, passed, recorder_after, taken_all, tick_with, took}
-use Rattle.vdr_history.specs.Runs.{RunStart, base_of}
-use Rattle.vdr_history.specs.Taken.{Captured, AllFeed}
+use Rattle.vdr_core.specs.Accounts.{Accounts, AccountsPrefix}
+use Rattle.vdr_core.specs.Feed.{feed_records, items_of}
+use Rattle.vdr_core.specs.Recorder.{Recorder, admits, begun, closing, passed, recorder_after, taken_all, tick_with, took}
+use Rattle.vdr_core.specs.Runs.{RunStart, base_of}
+use Rattle.vdr_core.specs.Taken.{Captured, AllFeed}
 use Rattle.vdr_terms.specs.Counting.{with_missed}
 use Rattle.vdr_core.specs.Law.{Admits}
 use Rattle.vdr_core.specs.Replay.{rest_after, taken_of}

@@ -9,8 +9,8 @@ use Rattle.vdr_terms.specs.Counting.{Tally, next_number}
 use Rattle.vdr_terms.specs.Datagrams.{verdict, is_yes}
 use Rattle.vdr_terms.specs.Rates.{is_configured}
 use Rattle.vdr_terms.specs.Records.{FeedItem, total}
-use Rattle.vdr_history.specs.Feed.{items_of}
-use Rattle.vdr_history.specs.Taken.{Captured}
+use Rattle.vdr_core.specs.Feed.{items_of}
+use Rattle.vdr_core.specs.Taken.{Captured}
 use Rattle.vdr_core.specs.Replay.{captured_after, captured_if, missed_with, rest_after}
 use Rattle.vdr_core.proofs.OneMore.{goes_on}
 use Rattle.vdr_core.proofs.Counted.{length_snoc}

@@ -4,7 +4,7 @@ use Rattle.std.proofs.lemmas.List.{get_or_default}
 use Rattle.vdr_terms.specs.declared.rate.Rate.{Rate}
 use Rattle.vdr_terms.specs.Rates.{is_configured, limit_of}
 use Rattle.vdr_terms.specs.Records.{FeedItem, Item, total}
-use Rattle.vdr_history.specs.Feed.{items_of, counts_of}
+use Rattle.vdr_core.specs.Feed.{items_of, counts_of}
 use Rattle.vdr_core.specs.Replay.{rest_after, since_yes}
 use Rattle.vdr_config.specs.Sizes.{limits_in}
 use Rattle.vdr_run.proofs.Given.{all_but, none_in}

@@ -1,7 +1,7 @@
 -- What a run leaves, in the words of its headline.
 use Rattle.std.proofs.Common.{◌≡◌, ◌⊎◌, inl, inr, ◌≤◌, ℕ, List, [], Option, Some, Result, Ok, Err, refl, sym, ◌∙◌}
 use Rattle.vdr_terms.specs.Records.{FeedItem}
-use Rattle.vdr_history.specs.Histories.{Event, recorded}
+use Rattle.vdr_core.specs.Histories.{Event, recorded}
 use Rattle.vdr_core.specs.Law.{Admits}
 use Rattle.vdr_durability.specs.Keeping.{IsWhole}
 use Rattle.vdr_durability.proofs.Whole.{whole_has_not_failed}
@@ -14,9 +14,9 @@ use Rattle.vdr_vault.specs.Openings.{OpensAtEachMoment}
 use Rattle.vdr_vault.specs.Regularity.{AreSound}
 use Rattle.vdr_vault.specs.Vaults.{ShowsHistory}
 use Rattle.vdr_recorder.specs.Recordings.{HasRecorded, Passes, RecorderState, start_of_opening}
-use Rattle.vdr_headline.proofs.Headlines.{after_opening, no_event_whole, only_opened, order_after, order_quiet}
-use Rattle.vdr_headline.proofs.Playing.{plays}
-use Rattle.vdr_headline.proofs.Resting.{stand_reads}
+use Rattle.vdr_recorder.proofs.Headlines.{after_opening, no_event_whole, only_opened, order_after, order_quiet}
+use Rattle.vdr_recorder.proofs.Playing.{plays}
+use Rattle.vdr_recorder.proofs.Resting.{stand_reads}
 use Rattle.vdr_feed.specs.Progress.{HasRead}
 use Rattle.vdr_feed.specs.Reader.{Reading}
 use Rattle.vdr_replay.specs.Answers.{Answers}

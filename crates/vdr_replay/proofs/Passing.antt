@@ -1,11 +1,11 @@
 -- The parts of a run, one after another.
 use Rattle.std.proofs.Common.{◌≡◌, ℕ, List, [], ◌++◌, sym, ap, ◌∙◌, subst, append_assoc, append-nil}
 use Rattle.vdr_terms.specs.Records.{FeedItem}
-use Rattle.vdr_history.specs.Histories.{Event, Opening, recorded}
-use Rattle.vdr_history.specs.Taken.{Captured}
+use Rattle.vdr_core.specs.Histories.{Event, Opening, recorded}
+use Rattle.vdr_core.specs.Taken.{Captured}
 use Rattle.vdr_outside.specs.Disk.{Disk}
 use Rattle.vdr_recorder.specs.Recordings.{HasRecorded, Passes, RecorderState, start_of_opening}
-use Rattle.vdr_headline.proofs.Passing.{passes_first, passes_join}
+use Rattle.vdr_recorder.proofs.Passing.{passes_first, passes_join}
 use Rattle.vdr_replay.specs.Taking.{BreaksOff, Closes, HasTaken, IsCut, TakesOn}
 
 joined : (before some more : List Event) → (before ++ some) ++ more ≡ before ++ (some ++ more)

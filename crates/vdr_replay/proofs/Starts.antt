@@ -4,12 +4,12 @@ use Rattle.std.proofs.lemmas.Bool.{cases_lt}
 use Rattle.std.proofs.lemmas.List.Elements.{All-nil}
 use Rattle.vdr_terms.specs.declared.rate.Rate.{Rate}
 use Rattle.vdr_terms.specs.Records.{Record, FeedItem}
-use Rattle.vdr_history.specs.Feed.{feed_records}
-use Rattle.vdr_history.specs.Histories.{Opening}
-use Rattle.vdr_history.specs.Histories.Act.{Commit}
-use Rattle.vdr_history.specs.Recorder.{begun}
-use Rattle.vdr_history.specs.RunStates.{next_start, state_left}
-use Rattle.vdr_history.specs.Runs.{base_after}
+use Rattle.vdr_core.specs.Feed.{feed_records}
+use Rattle.vdr_core.specs.Histories.{Opening}
+use Rattle.vdr_core.specs.Histories.Act.{Commit}
+use Rattle.vdr_core.specs.Recorder.{begun}
+use Rattle.vdr_core.specs.RunStates.{next_start, state_left}
+use Rattle.vdr_core.specs.Runs.{base_after}
 use Rattle.vdr_durability.proofs.Whole.{whole_has_not_failed}
 use Rattle.vdr_outside.specs.Disk.{Disk}
 use Rattle.vdr_feed.specs.Reader.{Reading}
@@ -34,7 +34,7 @@ use Rattle.vdr_replay.specs.declared.ended.ReplayRefused.TheVariants as stops
 use Rattle.vdr_replay.specs.Refusals.{refused_by_start}
 use Rattle.vdr_replay.specs.Taking.{Closes}
 use Rattle.vdr_replay.proofs.Calls.{start_breaks}
-use Rattle.vdr_headline.proofs.Passing.{passes_first}
+use Rattle.vdr_recorder.proofs.Passing.{passes_first}
 use Rattle.vdr_replay.proofs.Reading.{reached}
 
 abbrev pub Started : Type 0

@@ -4,10 +4,10 @@ use Rattle.vdr_terms.specs.declared.counts.Counts.{Counts}
 use Rattle.vdr_terms.specs.Counting.{Tally}
 use Rattle.vdr_terms.specs.Datagrams.{verdict, is_yes}
 use Rattle.vdr_terms.specs.Records.{Record, FeedItem}
-use Rattle.vdr_history.specs.Feed.{feed_records, items_of}
-use Rattle.vdr_history.specs.Recorder.{closed_run, recorder_after}
-use Rattle.vdr_history.specs.Runs.{RunStart}
-use Rattle.vdr_history.specs.Sums.{Sums, counted_by, missed_in, recorded_in}
+use Rattle.vdr_core.specs.Feed.{feed_records, items_of}
+use Rattle.vdr_core.specs.Recorder.{closed_run, recorder_after}
+use Rattle.vdr_core.specs.Runs.{RunStart}
+use Rattle.vdr_core.specs.Sums.{Sums, counted_by, missed_in, recorded_in}
 use Rattle.vdr_core.specs.Replay.{rest_after, taken_of}
 use Rattle.vdr_core.specs.Summary.{CloseAddsUp}
 use Rattle.vdr_core.proofs.RunSums.{close_adds_up, feed_sums}

@@ -1,8 +1,8 @@
 -- What `replay` answers, and what it leaves of the media.
 use Rattle.std.specs.Prelude.{◌≡◌, ◌≢◌, ◌≤◌, ◌<◌, ◌^◌, ◌⊎◌, ℕ, List, length, take, get_or, sum, Any, Option, Result, Ok, Err, ⊤}
 use Rattle.vdr_terms.specs.Records.{FeedItem}
-use Rattle.vdr_history.specs.Feed.{items_of, feed_records}
-use Rattle.vdr_history.specs.Runs.{base_after}
+use Rattle.vdr_core.specs.Feed.{items_of, feed_records}
+use Rattle.vdr_core.specs.Runs.{base_after}
 use Rattle.vdr_durability.specs.Readings.{EndsMeet}
 use Rattle.vdr_outside.specs.Causes.{NoneFalls, Rose}
 use Rattle.vdr_outside.specs.Disk.{Disk, Image}

@@ -1,6 +1,6 @@
 -- An item as it is taken.
 use Rattle.std.specs.Prelude.{◌+◌, ℕ, length}
-use Rattle.vdr_pace.specs.Commits.{least_item}
+use Rattle.vdr_durability.specs.Commits.{least_item}
 use Rattle.vdr_feed.specs.declared.item.Item.{Item}
 
 -- The most bytes that its records take, where it is recordable.

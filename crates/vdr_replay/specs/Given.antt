@@ -3,10 +3,10 @@ use Rattle.std.specs.Prelude.{◌≡◌, ◌≤◌, ◌<◌, ◌+◌, ◌*◌, �
 use Rattle.vdr_terms.specs.Counting.{next_number}
 use Rattle.vdr_terms.specs.Rates.{is_configured}
 use Rattle.vdr_terms.specs.Records.{FeedItem, total}
-use Rattle.vdr_history.specs.Feed.{items_of}
-use Rattle.vdr_history.specs.Taken.{Captured}
+use Rattle.vdr_core.specs.Feed.{items_of}
+use Rattle.vdr_core.specs.Taken.{Captured}
 use Rattle.vdr_core.specs.Replay.{rest_after}
-use Rattle.vdr_pace.specs.Commits.{items_size, largest_item, least_item}
+use Rattle.vdr_durability.specs.Commits.{items_size, largest_item, least_item}
 use Rattle.vdr_config.specs.Configuration.{Configuration}
 use Rattle.vdr_config.specs.Sizes.{limits_in}
 use Rattle.vdr_run.specs.Given.{CountsFeed}

@@ -3,15 +3,15 @@
 -- was acknowledged (this project's profile; IEC 61996-1 and IMO MSC.333(90) for the windows that the media keep).
 use Rattle.std.specs.Prelude.{◌≡◌, ◌⊎◌, ◌++◌, ℕ, ⊤, List, []}
 use Rattle.vdr_terms.specs.Records.{Record, FeedItem}
-use Rattle.vdr_history.specs.Runs.{RunStart, base_of}
-use Rattle.vdr_history.specs.Accounts.{Accounts, AccountsPrefix}
-use Rattle.vdr_history.specs.Histories.{Event, recorded}
-use Rattle.vdr_history.specs.Feed.{items_of, feed_records}
+use Rattle.vdr_core.specs.Runs.{RunStart, base_of}
+use Rattle.vdr_core.specs.Accounts.{Accounts, AccountsPrefix}
+use Rattle.vdr_core.specs.Histories.{Event, recorded}
+use Rattle.vdr_core.specs.Feed.{items_of, feed_records}
 use Rattle.vdr_outside.specs.Disk.{Disk}
 use Rattle.vdr_opening.specs.Media.{Contents, opening_of}
 use Rattle.vdr_vault.specs.Openings.{LeavesAll}
 use Rattle.vdr_recorder.specs.Recordings.{start_of_opening}
-use Rattle.vdr_headline.specs.Headline.{PlaysBack, RecordingHeadline}
+use Rattle.vdr_recorder.specs.Headline.{PlaysBack, RecordingHeadline}
 
 -- How far the run came.
 pub data RunEnd : Type 0 where

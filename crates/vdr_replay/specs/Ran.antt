@@ -2,9 +2,9 @@
 use Rattle.std.specs.Prelude.{◌≡◌, ◌≤◌, ◌<◌, ◌^◌, ℕ, ℤ, false, List, [], length, All, option_map, Option, Result, Ok, Err, ⊤}
 use Rattle.vdr_terms.specs.declared.rate.Rate.{Rate}
 use Rattle.vdr_terms.specs.Records.{FeedItem}
-use Rattle.vdr_history.specs.Feed.{items_of, feed_records}
-use Rattle.vdr_history.specs.Histories.{Opening}
-use Rattle.vdr_history.specs.Runs.{base_after}
+use Rattle.vdr_core.specs.Feed.{items_of, feed_records}
+use Rattle.vdr_core.specs.Histories.{Opening}
+use Rattle.vdr_core.specs.Runs.{base_after}
 use Rattle.vdr_outside.specs.Disk.{Disk}
 use Rattle.vdr_feed.specs.Feed.{Reaches, longest_feed}
 use Rattle.vdr_feed.specs.Reader.{IfKnown, Reading}

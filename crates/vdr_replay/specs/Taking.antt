@@ -1,12 +1,12 @@
 -- What a recorder has of a feed while it is read, and what its calls make of it.
 use Rattle.std.specs.Prelude.{◌≡◌, ◌<◌, ◌⊎◌, ◌++◌, ℕ, List, [], All, Option}
 use Rattle.vdr_terms.specs.Records.{Record, FeedItem}
-use Rattle.vdr_history.specs.Feed.{feed_records}
-use Rattle.vdr_history.specs.Histories.{Event, Opening, recorded}
-use Rattle.vdr_history.specs.Recorder.{recorder_after}
-use Rattle.vdr_history.specs.RunStates.{recorder_in, state_left}
-use Rattle.vdr_history.specs.Runs.{RunStart}
-use Rattle.vdr_history.specs.Taken.{Captured}
+use Rattle.vdr_core.specs.Feed.{feed_records}
+use Rattle.vdr_core.specs.Histories.{Event, Opening, recorded}
+use Rattle.vdr_core.specs.Recorder.{recorder_after}
+use Rattle.vdr_core.specs.RunStates.{recorder_in, state_left}
+use Rattle.vdr_core.specs.Runs.{RunStart}
+use Rattle.vdr_core.specs.Taken.{Captured}
 use Rattle.vdr_core.specs.Replay.{taken_of}
 use Rattle.vdr_outside.specs.Disk.{Disk}
 use Rattle.vdr_feed.specs.Feed.{Reaches, longest_feed}

@@ -2,7 +2,7 @@
 ghost use Rattle.std.specs.Prelude.{◌≡◌, ◌≤◌, ◌<◌, ◌↔◌, ◌∷◌, ◌++◌, ◌+◌, ℕ, List, [], true, false, length, IfOk, OnOk, OnErr};
 ghost use Rattle.vdr_terms.specs.Datagrams.{verdict, is_yes};
 ghost use Rattle.vdr_terms.specs.Records.{FeedItem};
-ghost use Rattle.vdr_history.specs.Histories.{Event, Opening};
+ghost use Rattle.vdr_core.specs.Histories.{Event, Opening};
 ghost use Rattle.vdr_core.specs.Replay.{captured_if};
 ghost use Rattle.vdr_config.specs.Configuration.{IsConfiguration};
 ghost use Rattle.vdr_feed.specs.Kept.{Holds, IsLegalItem};

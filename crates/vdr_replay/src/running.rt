@@ -1,7 +1,7 @@
 // A run over a feed, on media that were opened.
 ghost use Rattle.std.specs.Prelude.{◌≡◌, ◌≤◌, ◌<◌, ℕ, List, [], true, false, Option, IfOk, OnErr, OnOk};
 ghost use Rattle.std.specs.Io.KnownBytes.{IsAtEnd};
-ghost use Rattle.vdr_history.specs.Histories.{Opening};
+ghost use Rattle.vdr_core.specs.Histories.{Opening};
 ghost use Rattle.vdr_outside.specs.Causes.{Rose};
 ghost use Rattle.vdr_vault.specs.Calls.{SameElsewhere};
 ghost use Rattle.vdr_vault.specs.Openings.{HasCauseOnBoth};

@@ -1,8 +1,8 @@
 // What a run adds up to.
 ghost use Rattle.std.specs.Prelude.{◌≡◌, ◌<◌, List, [], All};
 ghost use Rattle.vdr_terms.specs.Records.{FeedItem};
-ghost use Rattle.vdr_history.specs.Feed.{items_of, feed_records};
-ghost use Rattle.vdr_history.specs.Runs.{RunStart};
+ghost use Rattle.vdr_core.specs.Feed.{items_of, feed_records};
+ghost use Rattle.vdr_core.specs.Runs.{RunStart};
 ghost use Rattle.vdr_core.specs.Replay.{taken_of};
 ghost use Rattle.vdr_run.specs.Making.{CountsItems};
 ghost use Rattle.vdr_run.specs.Given.{CountsFeed, tally_after};

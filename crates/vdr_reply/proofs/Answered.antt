@@ -2,13 +2,13 @@
 use Rattle.std.proofs.Common.{◌≡◌, ◌⊎◌, inl, inr, ◌++◌, ◌∷◌, ◌&&◌, not, ℕ, Bool, true, false, true≢false, List, [], Option, Some, None, Result, Ok, Err, cond, refl, sym, ap, ◌∙◌, subst}
 use Rattle.std.specs.Prelude.{IfOk, count_by, is_none, is_some, option_map, position, suc, ⊤}
 use Rattle.std.proofs.lemmas.Bool.{cond-false, cond-true}
-use Rattle.vdr_history.specs.Histories.{Act, Event, Incident, MayCome, Opening, incidents, last_stamp, live, next_place}
-use Rattle.vdr_history.specs.Histories.Act.{Look, Release, Save}
-use Rattle.vdr_history.specs.Runs.{Stamp, last_tick}
+use Rattle.vdr_core.specs.Histories.{Act, Event, Incident, MayCome, Opening, incidents, last_stamp, live, next_place}
+use Rattle.vdr_core.specs.Histories.Act.{Look, Release, Save}
+use Rattle.vdr_core.specs.Runs.{Stamp, last_tick}
 use Rattle.vdr_durability.specs.Keeping.{moment_of}
-use Rattle.vdr_playback.specs.Replies.{Reply, act_of, answer_before, release_reply, reply, save_of, save_reply}
-use Rattle.vdr_playback.specs.Replies as replies
-use Rattle.vdr_playback.specs.Replies.Reply.{Saved, NoLabel, NothingToSave, TableFull, Failed}
+use Rattle.vdr_durability.specs.Replies.{Reply, act_of, answer_before, release_reply, reply, save_of, save_reply}
+use Rattle.vdr_durability.specs.Replies as replies
+use Rattle.vdr_durability.specs.Replies.Reply.{Saved, NoLabel, NothingToSave, TableFull, Failed}
 use Rattle.vdr_terms.specs.Texts.{is_label}
 use Rattle.vdr_incident.specs.declared.refused.ReleaseRefused.{ReleaseRefused}
 use Rattle.vdr_incident.specs.declared.refused.ReleaseRefused.TheVariants as releases

@@ -3,12 +3,12 @@ use Rattle.std.proofs.Common.{◌≡◌, ◌⊎◌, inl, inr, ◌↔◌, ◌++�
 use Rattle.std.specs.Prelude.{bytes_eq, codes, is_none, is_some, OnOk, ⊤}
 use Rattle.vdr_terms.specs.Queries.{Query}
 use Rattle.vdr_terms.specs.Records.{Record}
-use Rattle.vdr_history.specs.Histories.{Event, Incident, Opening, incidents, live}
-use Rattle.vdr_history.specs.Histories.Act.{Look}
+use Rattle.vdr_core.specs.Histories.{Event, Incident, Opening, incidents, live}
+use Rattle.vdr_core.specs.Histories.Act.{Look}
 use Rattle.vdr_durability.specs.Keeping.{moment_of}
-use Rattle.vdr_playback.specs.Playback.{selected}
-use Rattle.vdr_playback.specs.Replies.{Reply, answer_before, is_there, play_reply, refusal_of, reply}
-use Rattle.vdr_playback.specs.Replies.Reply.{NoChannel, NoIncident}
+use Rattle.vdr_durability.specs.Playback.{selected}
+use Rattle.vdr_durability.specs.Replies.{Reply, answer_before, is_there, play_reply, refusal_of, reply}
+use Rattle.vdr_durability.specs.Replies.Reply.{NoChannel, NoIncident}
 use Rattle.vdr_play.specs.Streams.{nothing_seen}
 use Rattle.vdr_play.specs.Texts.{records_text}
 use Rattle.vdr_outside.specs.Disk.{Disk}
@@ -20,10 +20,10 @@ use Rattle.vdr_opening.specs.Media.{members}
 use Rattle.vdr_control.specs.Orders.{PlainOrder}
 use Rattle.vdr_control.specs.Orders.PlainOrder.{Play as PlayOrder}
 use Rattle.vdr_recorder.specs.Recordings.{HasDone, HasRecorded, RecorderState}
-use Rattle.vdr_visit.proofs.Channels.{has_number, number_if, position_within}
-use Rattle.vdr_visit.specs.Refusals.{lacks_channel, lacks_incident}
-use Rattle.vdr_visit.specs.declared.refused.VisitRefused.{VisitRefused}
-use Rattle.vdr_visit.specs.declared.refused.VisitRefused.TheVariants as plays
+use Rattle.vdr_vault.proofs.Channels.{has_number, number_if, position_within}
+use Rattle.vdr_vault.specs.Refusals.{lacks_channel, lacks_incident}
+use Rattle.vdr_vault.specs.declared.visit_refused.VisitRefused.{VisitRefused}
+use Rattle.vdr_vault.specs.declared.visit_refused.VisitRefused.TheVariants as plays
 use Rattle.vdr_reply.specs.Answers.{HasAnswered, Spells}
 use Rattle.vdr_reply.specs.Orders.{channel_in, is_every, is_named, order_of, query_of}
 use Rattle.vdr_reply.specs.Texts.{IsPlayed, done_line, memory_line, not_there_line, page_text, text_of}

@@ -1,8 +1,8 @@
 -- What an order is answered, and the event that it is (this project's profile).
 use Rattle.std.specs.Prelude.{◌≡◌, ◌⊎◌, ℕ, Bool, true, List, cond, sum, None}
-use Rattle.vdr_history.specs.Histories.{Act, Event, Opening}
+use Rattle.vdr_core.specs.Histories.{Act, Event, Opening}
 use Rattle.vdr_durability.specs.Keeping.{moment_of}
-use Rattle.vdr_playback.specs.Replies.{Reply, act_of, reply, reply_with}
+use Rattle.vdr_durability.specs.Replies.{Reply, act_of, reply, reply_with}
 use Rattle.vdr_outside.specs.Causes.{NoneFalls, Rose}
 use Rattle.vdr_outside.specs.Disk.{Disk}
 use Rattle.vdr_config.specs.Configuration.{Selector}

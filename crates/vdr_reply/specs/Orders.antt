@@ -1,9 +1,9 @@
 -- The orders of lines as the history knows them, and what they change (this project's profile).
 use Rattle.std.specs.Prelude.{ℕ, ℤ, List, Bool, false, ◌&&◌, ◌||◌, not, is_some, is_none, position, bytes_eq, codes, if◌then◌else◌, Option, Some, None}
 use Rattle.vdr_terms.specs.Queries.{Query}
-use Rattle.vdr_history.specs.Histories.{Act, Event, Opening, live}
-use Rattle.vdr_playback.specs.Replies as replies
-use Rattle.vdr_playback.specs.Replies.{free_id, save_of}
+use Rattle.vdr_core.specs.Histories.{Act, Event, Opening, live}
+use Rattle.vdr_durability.specs.Replies as replies
+use Rattle.vdr_durability.specs.Replies.{free_id, save_of}
 use Rattle.vdr_config.specs.Configuration.{Selector}
 use Rattle.vdr_entry.specs.Queries.{asked_medium}
 use Rattle.vdr_entry.specs.declared.query.Medium.{Medium}

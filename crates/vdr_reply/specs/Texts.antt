@@ -1,16 +1,16 @@
 -- How replies are spelled (this project's profile). Each line ends with LF.
 use Rattle.std.specs.Prelude.{◌≡◌, ◌⊎◌, ℕ, List, ◌++◌, codes, decimal, Result, Ok, Err, ⊤}
 use Rattle.vdr_terms.specs.Records.{Record}
-use Rattle.vdr_playback.specs.Replies.{Reply}
-use Rattle.vdr_playback.specs.Replies.Reply.{State, Saved, Released, Played, NoLabel, NothingToSave, TableFull, NoChannel, NoMedium, NoIncident, Failed}
+use Rattle.vdr_durability.specs.Replies.{Reply}
+use Rattle.vdr_durability.specs.Replies.Reply.{State, Saved, Released, Played, NoLabel, NothingToSave, TableFull, NoChannel, NoMedium, NoIncident, Failed}
 use Rattle.vdr_play.specs.Streams.{nothing_seen}
 use Rattle.vdr_play.specs.Texts.{records_text}
 use Rattle.vdr_incident.specs.declared.refused.ReleaseRefused.{ReleaseRefused}
 use Rattle.vdr_incident.specs.declared.refused.ReleaseRefused.TheVariants as releases
 use Rattle.vdr_vault.specs.declared.refused.SaveRefused.{SaveRefused}
 use Rattle.vdr_vault.specs.declared.refused.SaveRefused.TheVariants as saves
-use Rattle.vdr_visit.specs.declared.refused.VisitRefused.{VisitRefused}
-use Rattle.vdr_visit.specs.declared.refused.VisitRefused.TheVariants as visits
+use Rattle.vdr_vault.specs.declared.visit_refused.VisitRefused.{VisitRefused}
+use Rattle.vdr_vault.specs.declared.visit_refused.VisitRefused.TheVariants as visits
 
 -- The media have failed, a record of them is not legal, or there is no memory for the text.
 abbrev pub fault_line : List ℕ

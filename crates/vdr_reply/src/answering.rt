@@ -1,6 +1,6 @@
 // The answer to an order.
 ghost use Rattle.std.specs.Prelude.{◌≡◌, ℕ, List, false, sum};
-ghost use Rattle.vdr_history.specs.Histories.{Event, Opening};
+ghost use Rattle.vdr_core.specs.Histories.{Event, Opening};
 ghost use Rattle.vdr_outside.specs.Causes.{Rose};
 ghost use Rattle.vdr_vault.specs.Calls.{SameElsewhere};
 ghost use Rattle.vdr_vault.specs.Vaults.{AreRings};

@@ -1,6 +1,6 @@
 // Playing what was recorded, over a link.
 ghost use Rattle.std.specs.Prelude.{◌≡◌, ℕ, IfSome, IfNone, false, true, sum};
-ghost use Rattle.vdr_history.specs.Histories.{Event, Opening};
+ghost use Rattle.vdr_core.specs.Histories.{Event, Opening};
 ghost use Rattle.std.specs.Prelude.{List};
 ghost use Rattle.vdr_outside.specs.Causes.{Rose};
 ghost use Rattle.vdr_entry.specs.Queries.{asked};
@@ -20,7 +20,7 @@ use vdr_desk::Reply;
 use vdr_entry::{Medium, Query};
 use vdr_outside::Media;
 use vdr_recorder::Recorder;
-use vdr_visit::VisitRefused;
+use vdr_vault::VisitRefused;
 
 /// The channel's name that stands for every record.
 const EVERY: &[u8] = b"all";

@@ -6,7 +6,7 @@ use Rattle.vdr_terms.specs.declared.counts.Counts.{Counts}
 use Rattle.vdr_terms.specs.Records.{Record, FeedItem, has_items, second, last, last_after}
 use Rattle.vdr_terms.specs.Rates.{Limit}
 use Rattle.vdr_terms.specs.Windows.{in_window, window, window_before}
-use Rattle.vdr_history.specs.Recorder.{closing, gaps_below, stop_of}
+use Rattle.vdr_core.specs.Recorder.{closing, gaps_below, stop_of}
 use Rattle.vdr_core.specs.Replay.{fed, rest_after, taken_of, IsReplay}
 use Rattle.vdr_core.proofs.Meter.{last_snoc}
 use Rattle.vdr_run.specs.Making.{closing_by, rest_of}

@@ -6,9 +6,9 @@ use Rattle.vdr_terms.specs.Counting.{next_number}
 use Rattle.vdr_terms.specs.Datagrams.{verdict, is_yes}
 use Rattle.vdr_terms.specs.Rates.{Limit}
 use Rattle.vdr_terms.specs.Records.{Record, FeedItem, has_items, second, total}
-use Rattle.vdr_history.specs.Recorder.{recorder_after}
-use Rattle.vdr_history.specs.Runs.{RunStart}
-use Rattle.vdr_history.specs.Taken.{Captured}
+use Rattle.vdr_core.specs.Recorder.{recorder_after}
+use Rattle.vdr_core.specs.Runs.{RunStart}
+use Rattle.vdr_core.specs.Taken.{Captured}
 use Rattle.vdr_core.specs.Replay.{NumbersAddUp, RecordsAreFew, captured_if, fed, rest_after, taken_of}
 use Rattle.vdr_feed.specs.Kept.{Holds}
 use Rattle.vdr_feed.specs.declared.item.Item.{Item}

@@ -6,8 +6,8 @@ use Rattle.vdr_terms.specs.Rates.Limit.{Unlimited, AtMost}
 use Rattle.vdr_terms.specs.declared.rate.Rate.{Rate}
 use Rattle.vdr_terms.specs.Channels.{no_channels}
 use Rattle.vdr_terms.specs.Windows.{window, in_window}
-use Rattle.vdr_history.specs.Runs.{RunStart}
-use Rattle.vdr_history.specs.Feed.{feed_records}
+use Rattle.vdr_core.specs.Runs.{RunStart}
+use Rattle.vdr_core.specs.Feed.{feed_records}
 use Rattle.vdr_play.specs.Streams.{nothing_seen}
 use Rattle.vdr_play.specs.Texts.{records_text}
 use Rattle.vdr_feed.specs.Feed.{IsFeed, longest_feed}

@@ -3,9 +3,9 @@ use Rattle.std.specs.Prelude.{◌≡◌, ◌≤◌, ◌<◌, ◌+◌, ℕ, List,
 use Rattle.vdr_terms.specs.declared.counts.Counts.{Counts}
 use Rattle.vdr_terms.specs.Records.{Record, FeedItem, has_items, second}
 use Rattle.vdr_terms.specs.Rates.{Limit}
-use Rattle.vdr_history.specs.Recorder.{recorder_after}
-use Rattle.vdr_history.specs.Runs.{RunStart}
-use Rattle.vdr_history.specs.Taken.{Captured}
+use Rattle.vdr_core.specs.Recorder.{recorder_after}
+use Rattle.vdr_core.specs.Runs.{RunStart}
+use Rattle.vdr_core.specs.Taken.{Captured}
 use Rattle.vdr_core.specs.Replay.{fed, taken_of}
 use Rattle.vdr_feed.specs.declared.item.Item.{Item}
 use Rattle.vdr_run.specs.Given.{CountsFeed, pushed_as}

@@ -14,12 +14,12 @@ use Rattle.vdr_segment.specs.Gates.{closed_gate}
 use Rattle.vdr_segment.specs.Batches.{IsBatch, batch_bytes}
 use Rattle.vdr_segment.specs.Segments.{Segment, end_of, with_batch}
 use Rattle.vdr_segment.proofs.BatchLemmas.{length-batch_bytes}
-use Rattle.vdr_slots.specs.Slots.{HoldsSlots, HoldsEither, slots_with_batch}
+use Rattle.vdr_segment.specs.Slots.{HoldsSlots, HoldsEither, slots_with_batch}
 use Rattle.vdr_entry.specs.declared.summary.Summary.{Summary}
-use Rattle.vdr_survey.specs.Summaries.{IsSummaryOf, Summarises}
+use Rattle.vdr_index.specs.Summaries.{IsSummaryOf, Summarises}
 use Rattle.vdr_directory.specs.declared.newest.Newest.{Newest}
-use Rattle.vdr_retention.specs.Retention.{Pin}
-use Rattle.vdr_retention.proofs.Lists.{contains_here, last_behind}
+use Rattle.vdr_durability.specs.Retention.{Pin}
+use Rattle.vdr_durability.proofs.Lists.{contains_here, last_behind}
 use Rattle.vdr_directory.specs.Sequence.{Placed, records_of, AreInSequence}
 use Rattle.vdr_directory.specs.Order.{AreInOrder}
 use Rattle.vdr_directory.specs.Directories.{DirectoryState, newest_of, summary_at}

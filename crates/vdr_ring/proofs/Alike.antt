@@ -10,9 +10,9 @@ use Rattle.vdr_outside.specs.Disk.{Disk, Durable, content}
 use Rattle.vdr_outside.specs.Moments.{ChangesOnly, Settled}
 use Rattle.vdr_outside.proofs.Moments.{changes_none, changes_weaken, settled_image}
 use Rattle.vdr_segment.specs.Segments.{Segment}
-use Rattle.vdr_slots.specs.Slots.{HoldsSlots, HoldsEither, slots_with_summary}
-use Rattle.vdr_slots.specs.Writes.{KeepsFront}
-use Rattle.vdr_slots.proofs.Fronts.{front_joined, front_none, front_same, front_then}
+use Rattle.vdr_segment.specs.Slots.{HoldsSlots, HoldsEither, slots_with_summary}
+use Rattle.vdr_segment.specs.Writes.{KeepsFront}
+use Rattle.vdr_segment.proofs.Fronts.{front_joined, front_none, front_same, front_then}
 use Rattle.vdr_index.specs.declared.known.Known.{Known}
 use Rattle.vdr_directory.specs.Sequence.{Placed}
 use Rattle.vdr_directory.specs.Order.{AreInOrder}

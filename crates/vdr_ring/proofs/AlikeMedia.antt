@@ -1,10 +1,10 @@
 -- A medium that is brought up: with the same records in the same places, and with its front.
 use Rattle.std.proofs.Common.{◌≡◌, ℕ, List, sym, ap, subst}
-use Rattle.vdr_retention.specs.Layout.{records_in}
+use Rattle.vdr_durability.specs.Layout.{records_in}
 use Rattle.vdr_outside.specs.Disk.{Disk, Image, content}
 use Rattle.vdr_outside.proofs.Moments.{settled_image}
-use Rattle.vdr_slots.specs.Slots.{SameFront}
-use Rattle.vdr_slots.proofs.Fronts.{front_same}
+use Rattle.vdr_segment.specs.Slots.{SameFront}
+use Rattle.vdr_segment.proofs.Fronts.{front_same}
 use Rattle.vdr_directory.specs.Sequence.{Placed, all_records}
 use Rattle.vdr_directory.specs.Holds.{HoldsPlaced}
 use Rattle.vdr_directory.specs.Lookup.{HoldAll}

@@ -6,18 +6,18 @@ use mathlib.Core.List.{Sublist, sublist-append_right}
 use mathlib.Core.List.Sublist
 use Rattle.vdr_terms.specs.Records.{Record, last_after, last}
 use Rattle.vdr_terms.specs.Needs.{Sizes, cost, usable}
-use Rattle.vdr_retention.specs.Layout.{Batches, records_in, segment_records}
-use Rattle.vdr_retention.specs.Regular.{IsPaced}
-use Rattle.vdr_retention.specs.Retention.{Pin, Retains, at_places, within}
-use Rattle.vdr_retention.specs.Victims.{ArePinsOf, MayGo}
-use Rattle.vdr_retention.proofs.Lists.{contains_filter, filter_test, filter_was, last_behind, last_contained}
-use Rattle.vdr_retention.proofs.Appended.{remove_stays_paced}
-use Rattle.vdr_retention.proofs.Paced.{begin_stays_paced}
-use Rattle.vdr_retention.proofs.Needed.{last_stays}
-use Rattle.vdr_retention.proofs.Ordered.{parts_in_order}
-use Rattle.vdr_retention.proofs.Following.{follow_in_order}
+use Rattle.vdr_durability.specs.Layout.{Batches, records_in, segment_records}
+use Rattle.vdr_durability.specs.Regular.{IsPaced}
+use Rattle.vdr_durability.specs.Retention.{Pin, Retains, at_places, within}
+use Rattle.vdr_durability.specs.Victims.{ArePinsOf, MayGo}
+use Rattle.vdr_durability.proofs.Lists.{contains_filter, filter_test, filter_was, last_behind, last_contained}
+use Rattle.vdr_durability.proofs.Appended.{remove_stays_paced}
+use Rattle.vdr_durability.proofs.Paced.{begin_stays_paced}
+use Rattle.vdr_durability.proofs.Needed.{last_stays}
+use Rattle.vdr_durability.proofs.Ordered.{parts_in_order}
+use Rattle.vdr_durability.proofs.Following.{follow_in_order}
 use Rattle.vdr_durability.proofs.Restored.{all_with}
-use Rattle.vdr_pace.specs.Media.{IsAppended}
+use Rattle.vdr_durability.specs.Media.{IsAppended}
 use Rattle.vdr_directory.specs.Sequence.{Placed, all_records, batches_in, batches_of, records_of, segments_in}
 use Rattle.vdr_directory.specs.Order.{AreInOrder, HasNone, MayPrecede}
 use Rattle.vdr_directory.specs.Growing.{new_segment, next_seq, with_batch_in}

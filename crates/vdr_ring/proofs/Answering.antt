@@ -6,13 +6,13 @@ use Rattle.std.proofs.lemmas.List.Elements.{All-nil, All-contains}
 use Rattle.vdr_terms.specs.Records.{Record}
 use Rattle.vdr_terms.specs.Queries.{Query, Span, meets}
 use Rattle.vdr_entry.specs.declared.summary.Summary.{Summary}
-use Rattle.vdr_retention.proofs.Lists.{all_from}
-use Rattle.vdr_retention.proofs.Ordered.{places_run}
+use Rattle.vdr_durability.proofs.Lists.{all_from}
+use Rattle.vdr_durability.proofs.Ordered.{places_run}
 use Rattle.vdr_index.specs.declared.known.Known.{Known}
 use Rattle.vdr_index.specs.Indexes.{IsCandidate, IsWithin, Keeps, MayAnswer, summary_of}
 use Rattle.vdr_index.specs.Indexes as indexes
 use Rattle.vdr_directory.specs.Sequence.{Placed, first_of, records_of, seq_of}
-use Rattle.vdr_survey.specs.Audits.{IsCovered}
+use Rattle.vdr_index.specs.Audits.{IsCovered}
 use Rattle.vdr_directory.specs.Order.{Agrees, RunsOn, AreInOrder}
 use Rattle.vdr_index.specs.Indexes.{IsAbove}
 use Rattle.vdr_directory.specs.Indexed.{IsKnown, IsKnownAs, IsIndexed, Meets, IsNextToMeet, HasNoneSelected, is_selected}

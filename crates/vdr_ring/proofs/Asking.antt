@@ -1,7 +1,7 @@
 -- What a ring answers of its segments without reading them.
 use Rattle.std.proofs.Common.{◌≡◌, ◌≤◌, ℕ, List, get_or, Contains, Option, Some, None, inl, inr, sym, ap, ◌∙◌, subst, arith}
 use Rattle.std.proofs.lemmas.Option.{none-some, same_Some}
-use Rattle.vdr_retention.proofs.Lists.{last_contained}
+use Rattle.vdr_durability.proofs.Lists.{last_contained}
 use Rattle.vdr_index.specs.declared.known.Known.{Known}
 use Rattle.vdr_index.specs.Indexes.{IsNextAbove, Keeps}
 use Rattle.vdr_index.specs.Indexes as indexes

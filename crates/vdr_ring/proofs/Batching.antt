@@ -5,14 +5,14 @@ use Rattle.std.proofs.lemmas.List.Elements.{All-nil, All-append, All-contains, A
 use Rattle.vdr_terms.specs.Records.{Record, last}
 use Rattle.vdr_terms.specs.Order.{RunOn, NeverFalls}
 use Rattle.vdr_segment.specs.Batches.{IsBatch}
-use Rattle.vdr_retention.specs.Layout.{Batches, segment_records}
-use Rattle.vdr_retention.proofs.Lists.{contains_cases, last_contained, none_contained}
+use Rattle.vdr_durability.specs.Layout.{Batches, segment_records}
+use Rattle.vdr_durability.proofs.Lists.{contains_cases, last_contained, none_contained}
 use Rattle.vdr_durability.specs.Readings.{begins_at, begins_since, next_after}
 use Rattle.vdr_directory.specs.Sequence.{Placed, batches_in, batches_of, first_of}
 use Rattle.vdr_directory.specs.Order.{AreInOrder, AreInPlace}
 use Rattle.vdr_directory.specs.Holds.{HoldsPlaced}
 use Rattle.vdr_ring.proofs.Beginning.{legal_batches}
-use Rattle.vdr_retention.specs.Regular.{FollowOn}
+use Rattle.vdr_durability.specs.Regular.{FollowOn}
 
 -- Records that go on: their places run, and their ticks never fall. So do those in front and those behind.
 

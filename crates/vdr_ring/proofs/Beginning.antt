@@ -8,10 +8,10 @@ use Rattle.vdr_outside.specs.Moments.{ChangesOnly, Settled}
 use Rattle.vdr_outside.proofs.Moments.{changes_weaken, changes_join}
 use Rattle.vdr_segment.specs.Batches.{IsBatch}
 use Rattle.vdr_segment.specs.Segments.{Segment}
-use Rattle.vdr_slots.specs.Slots.{HoldsSlots, HoldsEither, slots_begun}
-use Rattle.vdr_slots.proofs.Holding.{slot_of}
-use Rattle.vdr_retention.specs.Retention.{Pin}
-use Rattle.vdr_retention.proofs.Lists.{all_from, contains_here, contains_there, none_contained}
+use Rattle.vdr_segment.specs.Slots.{HoldsSlots, HoldsEither, slots_begun}
+use Rattle.vdr_segment.proofs.Holding.{slot_of}
+use Rattle.vdr_durability.specs.Retention.{Pin}
+use Rattle.vdr_durability.proofs.Lists.{all_from, contains_here, contains_there, none_contained}
 use Rattle.vdr_directory.specs.declared.newest.Newest.{Newest}
 use Rattle.vdr_directory.specs.Sequence.{Placed, seq_of, batches_of, AreInSequence}
 use Rattle.vdr_directory.specs.Order.{AreInOrder}

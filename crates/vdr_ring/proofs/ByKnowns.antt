@@ -5,8 +5,8 @@ use Rattle.std.proofs.lemmas.List.{nil_from_length}
 use Rattle.std.proofs.lemmas.List.Elements.{All-contains, All-head, All-tail}
 use Rattle.std.proofs.lemmas.Option.{none-some, get_or_from_slice_get}
 use Rattle.vdr_terms.specs.Records.{Record, last}
-use Rattle.vdr_retention.specs.Layout.{segment_records}
-use Rattle.vdr_retention.proofs.Lists.{contains_cases, contains_here, contains_there, none_contained}
+use Rattle.vdr_durability.specs.Layout.{segment_records}
+use Rattle.vdr_durability.proofs.Lists.{contains_cases, contains_here, contains_there, none_contained}
 use Rattle.vdr_entry.specs.declared.summary.Summary.{Summary}
 use Rattle.vdr_segment.specs.Batches.{IsBatch}
 use Rattle.vdr_index.specs.declared.known.Known.{Known}

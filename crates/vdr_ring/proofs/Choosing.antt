@@ -4,9 +4,9 @@ use Rattle.std.specs.List.{list_all}
 use Rattle.std.proofs.lemmas.List.Folds.{list_all-map}
 use Rattle.std.proofs.lemmas.Option.{none-some, get_or_from_slice_get, slice_get_within}
 use Rattle.std.proofs.lemmas.List.Elements.{All-contains, Contains-append_left}
-use Rattle.vdr_retention.specs.Retention.{Pin}
-use Rattle.vdr_retention.specs.Victims.{IsLastSecond, is_apart}
-use Rattle.vdr_retention.proofs.Lists.{contains_here, last_contained, all_from}
+use Rattle.vdr_durability.specs.Retention.{Pin}
+use Rattle.vdr_durability.specs.Victims.{IsLastSecond, is_apart}
+use Rattle.vdr_durability.proofs.Lists.{contains_here, last_contained, all_from}
 use Rattle.vdr_index.specs.declared.known.Known.{Known}
 use Rattle.vdr_index.specs.Indexes.{IsAbove, IsFirst, IsNextAbove, Keeps, passes_by}
 use Rattle.vdr_directory.specs.declared.newest.Newest.{Newest}

@@ -6,9 +6,9 @@ use Rattle.vdr_terms.specs.Needs.{cost, usable}
 use Rattle.vdr_terms.specs.Order.{NeverFalls, RunOn}
 use Rattle.vdr_terms.specs.Records.{Record, last}
 use Rattle.vdr_terms.specs.Sizes.{records_size}
-use Rattle.vdr_retention.specs.Layout.{Batches, segment_records}
-use Rattle.vdr_retention.specs.Regular.{FollowOn}
-use Rattle.vdr_retention.proofs.Lists.{last_contained}
+use Rattle.vdr_durability.specs.Layout.{Batches, segment_records}
+use Rattle.vdr_durability.specs.Regular.{FollowOn}
+use Rattle.vdr_durability.proofs.Lists.{last_contained}
 use Rattle.vdr_durability.specs.Readings.{begins_at, comes_next, ends_before, next_after}
 use Rattle.vdr_durability.proofs.Restored.{all_with, comes_behind, ends_in}
 use Rattle.vdr_directory.specs.Sequence.{Placed, all_records, batches_in, batches_of, segments_in}

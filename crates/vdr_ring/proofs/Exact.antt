@@ -3,10 +3,10 @@ use Rattle.std.proofs.Common.{◌≡◌, ⊎_elim, inl, inr, ℕ, List, [], ◌�
 use Rattle.std.proofs.lemmas.List.Elements.{All-append, All-cons, All-contains, All-head, All-push, All-tail, Contains-append_left, Contains-append_right}
 use Rattle.vdr_terms.specs.Records.{Record, last}
 use Rattle.vdr_entry.specs.declared.summary.Summary.{Summary}
-use Rattle.vdr_retention.specs.Retention.{Pin}
-use Rattle.vdr_retention.proofs.Lists.{all_from, contains_cases, contains_there}
-use Rattle.vdr_retention.specs.Layout.{segment_records}
-use Rattle.vdr_survey.specs.Summaries.{IsSummaryOf}
+use Rattle.vdr_durability.specs.Retention.{Pin}
+use Rattle.vdr_durability.proofs.Lists.{all_from, contains_cases, contains_there}
+use Rattle.vdr_durability.specs.Layout.{segment_records}
+use Rattle.vdr_index.specs.Summaries.{IsSummaryOf}
 use Rattle.vdr_directory.specs.Sequence.{Placed, batches_of, records_of, segments_in}
 use Rattle.vdr_directory.specs.Bringing.{AreAlike, IsAlike}
 use Rattle.vdr_directory.proofs.Bringing.{alike_segments}

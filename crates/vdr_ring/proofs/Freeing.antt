@@ -6,9 +6,9 @@ use Rattle.vdr_outside.specs.Disk.{Disk}
 use Rattle.vdr_outside.specs.Moments.{ChangesOnly, Settled}
 use Rattle.vdr_outside.proofs.Moments.{changes_none, changes_weaken, settled_image}
 use Rattle.vdr_segment.specs.Segments.{Segment}
-use Rattle.vdr_slots.specs.Slots.{HoldsSlots, HoldsEither, slots_closed}
-use Rattle.vdr_retention.specs.Retention.{Pin}
-use Rattle.vdr_retention.proofs.Lists.{contains_here}
+use Rattle.vdr_segment.specs.Slots.{HoldsSlots, HoldsEither, slots_closed}
+use Rattle.vdr_durability.specs.Retention.{Pin}
+use Rattle.vdr_durability.proofs.Lists.{contains_here}
 use Rattle.vdr_terms.proofs.Somewhere.{any_here, any_there}
 use Rattle.vdr_directory.specs.Sequence.{Placed, AreInSequence}
 use Rattle.vdr_directory.specs.Order.{AreInOrder}

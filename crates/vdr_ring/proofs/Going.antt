@@ -8,16 +8,16 @@ use Rattle.vdr_terms.specs.Records.{Record, second, last, last_after}
 use Rattle.vdr_terms.specs.Order.{AreInOrder as RunInOrder, NeverFalls, RunOn}
 use Rattle.vdr_terms.specs.Windows.{window}
 use Rattle.vdr_entry.specs.declared.summary.Summary.{Summary}
-use Rattle.vdr_retention.specs.Retention.{Pin, AreAmong, AreOutside, HaveNoPlace, within}
-use Rattle.vdr_retention.specs.Victims.{Extent, IsExtent, IsLastSecond, MayGo, is_apart, may_go_by_numbers}
-use Rattle.vdr_retention.proofs.Lists.{all_from, contains_cases, contains_here, contains_there, last_contained, none_contained}
-use Rattle.vdr_retention.proofs.Needed.{segment_among}
-use Rattle.vdr_retention.proofs.Choice.{may_go_by_numbers-decides}
-use Rattle.vdr_retention.proofs.Ordered.{latest}
-use Rattle.vdr_retention.proofs.Retained.{in_the_window, outside_by_test}
+use Rattle.vdr_durability.specs.Retention.{Pin, AreAmong, AreOutside, HaveNoPlace, within}
+use Rattle.vdr_durability.specs.Victims.{Extent, IsExtent, IsLastSecond, MayGo, is_apart, may_go_by_numbers}
+use Rattle.vdr_durability.proofs.Lists.{all_from, contains_cases, contains_here, contains_there, last_contained, none_contained}
+use Rattle.vdr_durability.proofs.Needed.{segment_among}
+use Rattle.vdr_durability.proofs.Choice.{may_go_by_numbers-decides}
+use Rattle.vdr_durability.proofs.Ordered.{latest}
+use Rattle.vdr_durability.proofs.Retained.{in_the_window, outside_by_test}
 use Rattle.vdr_index.specs.declared.known.Known.{Known}
 use Rattle.vdr_directory.specs.Sequence.{Placed, batches_of, records_of, segments_in, all_records}
-use Rattle.vdr_survey.specs.Audits.{IsCovered}
+use Rattle.vdr_index.specs.Audits.{IsCovered}
 use Rattle.vdr_directory.specs.Order.{Agrees, AreInOrder, HasNone, RunsOn, end_second}
 use Rattle.vdr_directory.specs.Leaving.{IsExact, IsExactlySummarized}
 use Rattle.vdr_directory.specs.Indexed.{IsKnown, StandsFor}

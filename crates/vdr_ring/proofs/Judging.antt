@@ -6,12 +6,12 @@ use Rattle.std.proofs.lemmas.Option.{none-some, same_Some}
 use Rattle.vdr_terms.specs.Records.{Record}
 use Rattle.vdr_outside.specs.Disk.{Disk, Unchanged, content}
 use Rattle.vdr_segment.specs.Gates.{IsOpenAt}
-use Rattle.vdr_survey.specs.declared.position.Position.{Position}
-use Rattle.vdr_survey.specs.declared.selection.Selection.{Selection}
-use Rattle.vdr_survey.specs.Positions.{front, IsAt, HasAhead}
-use Rattle.vdr_survey.specs.Extents.{records_in}
-use Rattle.vdr_survey.proofs.StepLemmas.{front_ahead, none_ahead}
-use Rattle.vdr_slots.specs.Slots.{place_of}
+use Rattle.vdr_index.specs.declared.position.Position.{Position}
+use Rattle.vdr_index.specs.declared.selection.Selection.{Selection}
+use Rattle.vdr_index.specs.Positions.{front, IsAt, HasAhead}
+use Rattle.vdr_index.specs.Extents.{records_in}
+use Rattle.vdr_index.proofs.StepLemmas.{front_ahead, none_ahead}
+use Rattle.vdr_segment.specs.Slots.{place_of}
 use Rattle.vdr_directory.specs.Opening.{slot_bytes}
 use Rattle.vdr_ring.specs.Damage.{IsDamagedAt, IsDamagedIn, IsIntact}
 use Rattle.vdr_ring.specs.Rings.{RingState}

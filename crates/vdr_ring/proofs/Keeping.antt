@@ -7,7 +7,7 @@ use Rattle.vdr_outside.specs.Disk.{Disk}
 use Rattle.vdr_terms.specs.Sizes.{batch_size}
 use Rattle.vdr_terms.proofs.Somewhere.{any_cases, any_none}
 use Rattle.vdr_segment.specs.Batches.{IsBatch}
-use Rattle.vdr_retention.specs.Retention.{Pin, Retains}
+use Rattle.vdr_durability.specs.Retention.{Pin, Retains}
 use Rattle.vdr_directory.specs.Sequence.{Placed, all_records, batches_in}
 use Rattle.vdr_directory.specs.Order.{AreInOrder}
 use Rattle.vdr_directory.specs.Holds.{HoldsPlaced, HoldsAny}

@@ -2,8 +2,8 @@
 use Rattle.std.proofs.Common.{◌≡◌, ⊎_elim, ℕ, List, Option, sym, ◌∙◌, subst, true, refl}
 use Rattle.vdr_terms.specs.Needs.{Sizes}
 use Rattle.vdr_terms.specs.Records.{Record}
-use Rattle.vdr_retention.specs.Retention.{Pin}
-use Rattle.vdr_slots.proofs.Holding.{one_holding}
+use Rattle.vdr_durability.specs.Retention.{Pin}
+use Rattle.vdr_segment.proofs.Holding.{one_holding}
 use Rattle.vdr_segment.specs.Segments.{Segment}
 use Rattle.vdr_directory.specs.Sequence.{AreInSequence, Placed}
 use Rattle.vdr_directory.specs.Order.{AreInOrder}

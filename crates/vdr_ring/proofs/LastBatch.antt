@@ -20,10 +20,10 @@ use Rattle.vdr_segment.specs.Walks.{Walks}
 use Rattle.vdr_segment.specs.declared.step.Walk.TheVariants.{Batch}
 use Rattle.vdr_segment.proofs.WalkLemmas.{first_begins, records_behind, begun_size}
 use Rattle.vdr_segment.proofs.BatchListLemmas.{one_batches}
-use Rattle.vdr_slots.specs.Slots.{IsFront, place_of}
-use Rattle.vdr_survey.specs.Surveys.{BreaksAt}
-use Rattle.vdr_survey.proofs.SpanLemmas.{Front, front_none, front_more, span_records, never_both}
-use Rattle.vdr_retention.proofs.Lists.{contains_cases, last_behind, none_contained}
+use Rattle.vdr_segment.specs.Slots.{IsFront, place_of}
+use Rattle.vdr_index.specs.Surveys.{BreaksAt}
+use Rattle.vdr_index.proofs.SpanLemmas.{Front, front_none, front_more, span_records, never_both}
+use Rattle.vdr_durability.proofs.Lists.{contains_cases, last_behind, none_contained}
 use Rattle.vdr_directory.specs.Sequence.{Placed, batches_of, batches_in}
 use Rattle.vdr_directory.specs.Holds.{HoldsPlaced}
 use Rattle.vdr_directory.specs.Knowns.{known_of, summary_of}

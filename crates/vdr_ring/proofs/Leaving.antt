@@ -10,9 +10,9 @@ use Rattle.vdr_outside.specs.Disk.{Disk}
 use Rattle.vdr_outside.specs.Moments.{ChangesOnly, Settled}
 use Rattle.vdr_outside.proofs.Moments.{changes_weaken, changes_join}
 use Rattle.vdr_segment.specs.Segments.{Segment}
-use Rattle.vdr_slots.specs.Slots.{HoldsSlots, HoldsEither, slots_with_summary}
-use Rattle.vdr_retention.specs.Retention.{Pin}
-use Rattle.vdr_retention.proofs.Lists.{last_contained}
+use Rattle.vdr_segment.specs.Slots.{HoldsSlots, HoldsEither, slots_with_summary}
+use Rattle.vdr_durability.specs.Retention.{Pin}
+use Rattle.vdr_durability.proofs.Lists.{last_contained}
 use Rattle.vdr_directory.specs.Sequence.{Placed}
 use Rattle.vdr_directory.specs.Directories.{DirectoryState}
 use Rattle.vdr_directory.specs.Holds.{HoldsPlaced, HoldsAny, Tells}

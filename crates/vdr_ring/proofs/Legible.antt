@@ -12,12 +12,12 @@ use Rattle.vdr_segment.specs.Gates.{IsOpenAt}
 use Rattle.vdr_segment.specs.Headers.{IsHeader}
 use Rattle.vdr_segment.specs.Segments.{AreBatches, Segment, IsSlot}
 use Rattle.vdr_segment.proofs.SegmentLemmas.{one_header}
-use Rattle.vdr_survey.specs.declared.extent.Survey.{Survey}
-use Rattle.vdr_survey.specs.Audits.{Agree, DisagreesAt}
-use Rattle.vdr_survey.specs.Surveys.{BreaksAt, Surveys}
-use Rattle.vdr_survey.proofs.AuditLemmas.{never_agrees}
-use Rattle.vdr_survey.proofs.SpanLemmas.{never_both}
-use Rattle.vdr_slots.proofs.Holding.{slot_of}
+use Rattle.vdr_index.specs.declared.extent.Survey.{Survey}
+use Rattle.vdr_index.specs.Audits.{Agree, DisagreesAt}
+use Rattle.vdr_index.specs.Surveys.{BreaksAt, Surveys}
+use Rattle.vdr_index.proofs.AuditLemmas.{never_agrees}
+use Rattle.vdr_index.proofs.SpanLemmas.{never_both}
+use Rattle.vdr_segment.proofs.Holding.{slot_of}
 use Rattle.vdr_directory.specs.Sequence.{Placed, batches_of, first_of}
 use Rattle.vdr_directory.specs.Order.{Agrees, RunsOn}
 use Rattle.vdr_directory.proofs.Known.{agrees, runs_on}

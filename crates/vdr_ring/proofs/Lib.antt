@@ -32,3 +32,9 @@ pub mod Batching
 pub mod Lacking
 pub mod Still
 pub mod Taken
+pub mod CursorReading
+pub mod Walking
+pub mod Passing
+pub mod Spending
+pub mod Counting
+pub mod Midway

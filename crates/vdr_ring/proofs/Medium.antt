@@ -3,8 +3,8 @@ use Rattle.std.proofs.Common.{◌≡◌, ◌≢◌, ◌⊎◌, ◌<◌, ◌≤�
 use Rattle.std.proofs.lemmas.List.Elements.{All-head, All-weaker, Contains-append_cases}
 use Rattle.vdr_terms.specs.Records.{Record, last_after, last}
 use Rattle.vdr_terms.specs.Order.{RunOn, NeverFalls, AreInOrder as RecordsAreInOrder}
-use Rattle.vdr_retention.proofs.Lists.{none_contained, ticks_from}
-use Rattle.vdr_retention.proofs.Ordered.{places_run, run_on_in_order, append_in_order as join_in_order}
+use Rattle.vdr_durability.proofs.Lists.{none_contained, ticks_from}
+use Rattle.vdr_durability.proofs.Ordered.{places_run, run_on_in_order, append_in_order as join_in_order}
 use Rattle.vdr_directory.specs.Sequence.{Placed, first_of, records_of, all_records}
 use Rattle.vdr_directory.specs.Order.{next_place, HasNone, Follows, MayPrecede, AreInPlace, AreInOrder}
 use Rattle.vdr_directory.specs.Growing.{next_of, tick_of}

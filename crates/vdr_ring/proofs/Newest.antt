@@ -2,8 +2,8 @@
 use Rattle.std.proofs.Common.{◌≡◌, ◌<◌, ℕ, zero, suc, List, length, get_or, [], ◌∷◌, ◌++◌, Contains, Option, Some, None, ⊎_elim, refl, sym, ap, ◌∙◌, subst, arith, append_assoc}
 use Rattle.std.specs.Prelude.{is_some}
 use Rattle.std.proofs.lemmas.List.Elements.{All-contains}
-use Rattle.vdr_retention.proofs.Lists.{contains_cases, contains_here, contains_there, none_contained}
-use Rattle.vdr_survey.specs.declared.extent.Extent.{Extent}
+use Rattle.vdr_durability.proofs.Lists.{contains_cases, contains_here, contains_there, none_contained}
+use Rattle.vdr_index.specs.declared.extent.Extent.{Extent}
 use Rattle.vdr_index.specs.declared.known.Known.{Known}
 use Rattle.vdr_index.specs.Indexes.{IsNewest}
 use Rattle.vdr_directory.specs.declared.entry.Entry.{Entry}

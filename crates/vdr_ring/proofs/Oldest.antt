@@ -8,15 +8,15 @@ use Rattle.vdr_terms.specs.Order.{AreInOrder}
 use Rattle.vdr_terms.specs.Needs.{Sizes, cost, usable, needed_slots}
 use Rattle.vdr_terms.specs.Sizes.{batch_size, records_size}
 use Rattle.vdr_segment.specs.Segments.{end_of}
-use Rattle.vdr_retention.specs.Layout.{Batches, batches_size, records_in}
-use Rattle.vdr_retention.specs.Regular.{IsRegular}
-use Rattle.vdr_retention.specs.Retention.{Pin}
-use Rattle.vdr_retention.specs.Victims.{ArePinsOf, HasVictim, IsOldestCandidate, MayGo}
-use Rattle.vdr_retention.proofs.Lists.{all_from, contains_cases, contains_here, none_contained}
-use Rattle.vdr_retention.proofs.Ordered.{parts_in_order}
-use Rattle.vdr_retention.proofs.Paced.{full_where_unfit}
-use Rattle.vdr_retention.proofs.Needed.{one_victim}
-use Rattle.vdr_retention.proofs.Victims.{medium_has_victim}
+use Rattle.vdr_durability.specs.Layout.{Batches, batches_size, records_in}
+use Rattle.vdr_durability.specs.Regular.{IsRegular}
+use Rattle.vdr_durability.specs.Retention.{Pin}
+use Rattle.vdr_durability.specs.Victims.{ArePinsOf, HasVictim, IsOldestCandidate, MayGo}
+use Rattle.vdr_durability.proofs.Lists.{all_from, contains_cases, contains_here, none_contained}
+use Rattle.vdr_durability.proofs.Ordered.{parts_in_order}
+use Rattle.vdr_durability.proofs.Paced.{full_where_unfit}
+use Rattle.vdr_durability.proofs.Needed.{one_victim}
+use Rattle.vdr_durability.proofs.Victims.{medium_has_victim}
 use Rattle.vdr_directory.specs.Sequence.{Placed, batches_of, records_of, segments_in, all_records}
 use Rattle.vdr_directory.specs.Leaving.{IsExactlySummarized}
 use Rattle.vdr_directory.specs.Closed.{IsFull}

@@ -6,16 +6,16 @@ use Rattle.std.proofs.lemmas.List.Elements.{All-contains, Contains-append_left, 
 use Rattle.vdr_terms.specs.Records.{Record}
 use Rattle.vdr_terms.specs.Order.{RunOn}
 use Rattle.vdr_terms.proofs.Somewhere.{any_cases, any_none, any_left, any_right}
-use Rattle.vdr_retention.specs.Layout.{segment_records}
-use Rattle.vdr_retention.specs.Retention.{Pin, HaveNoPlace, within}
-use Rattle.vdr_retention.specs.Victims.{MayGo}
-use Rattle.vdr_retention.proofs.Lists.{contains_here, contains_there, none_contained}
+use Rattle.vdr_durability.specs.Layout.{segment_records}
+use Rattle.vdr_durability.specs.Retention.{Pin, HaveNoPlace, within}
+use Rattle.vdr_durability.specs.Victims.{MayGo}
+use Rattle.vdr_durability.proofs.Lists.{contains_here, contains_there, none_contained}
 use Rattle.vdr_directory.specs.Sequence.{Placed, all_records, batches_of, first_of, records_of}
 use Rattle.vdr_directory.specs.Order.{HasPlace, RunsOn, IsInPlace, AreInPlace, AreInOrder}
 use Rattle.vdr_directory.specs.Lookup.{HoldAll}
 use Rattle.vdr_directory.specs.Growing.{with_batch_in}
 use Rattle.vdr_directory.proofs.Ordering.{records_with_batch}
-use Rattle.vdr_retention.proofs.Ordered.{places_run}
+use Rattle.vdr_durability.proofs.Ordered.{places_run}
 
 -- All places of each of these pins stand in the segments.
 abbrev pub HoldPins : List Pin → List Placed → Type 0

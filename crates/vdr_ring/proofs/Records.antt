@@ -3,7 +3,7 @@ use Rattle.std.proofs.Common.{◌≡◌, List, [], ◌∷◌, refl, ap, ◌∙�
 use Rattle.std.proofs.lemmas.List.Elements.{All-nil, All-head, All-tail, All-append}
 use Rattle.std.proofs.lemmas.Grind.{flat_map-append}
 use Rattle.vdr_terms.specs.Records.{Record}
-use Rattle.vdr_retention.specs.Layout.{segment_records, Batches}
+use Rattle.vdr_durability.specs.Layout.{segment_records, Batches}
 use Rattle.vdr_directory.specs.Sequence.{Placed, all_records, batches_in, batches_of}
 use Rattle.vdr_terms.specs.Legality.{IsRecord}
 use Rattle.vdr_segment.specs.Batches.{IsBatch}

@@ -5,13 +5,13 @@ use Rattle.std.proofs.lemmas.List.Elements.{All-nil, All-cons, Contains-append_r
 use Rattle.vdr_terms.specs.Records.{Record, last}
 use Rattle.vdr_terms.specs.Needs.{Sizes, cost, usable}
 use Rattle.vdr_terms.specs.Sizes.{records_size}
-use Rattle.vdr_retention.specs.Layout.{Batches, batches_size, records_in}
-use Rattle.vdr_retention.specs.Regular.{FollowOn, IsPaced, IsRegular}
-use Rattle.vdr_retention.specs.Retention.{Pin, Retains}
-use Rattle.vdr_retention.specs.Victims.{MayGo}
-use Rattle.vdr_retention.proofs.Lists.{contains_here, last_behind}
-use Rattle.vdr_retention.proofs.Appended.{batch_retains, begin_retains, close_retains, remove_stays_paced}
-use Rattle.vdr_retention.proofs.Paced.{append_stays_regular, begin_stays_paced, begin_stays_regular, remove_stays_regular}
+use Rattle.vdr_durability.specs.Layout.{Batches, batches_size, records_in}
+use Rattle.vdr_durability.specs.Regular.{FollowOn, IsPaced, IsRegular}
+use Rattle.vdr_durability.specs.Retention.{Pin, Retains}
+use Rattle.vdr_durability.specs.Victims.{MayGo}
+use Rattle.vdr_durability.proofs.Lists.{contains_here, last_behind}
+use Rattle.vdr_durability.proofs.Appended.{batch_retains, begin_retains, close_retains, remove_stays_paced}
+use Rattle.vdr_durability.proofs.Paced.{append_stays_regular, begin_stays_paced, begin_stays_regular, remove_stays_regular}
 use Rattle.vdr_directory.specs.Sequence.{Placed, batches_of, segments_in, all_records}
 use Rattle.vdr_directory.specs.Closed.{IsFull, IsLeastClosed}
 use Rattle.vdr_directory.specs.Growing.{new_segment, next_seq, with_batch_in}

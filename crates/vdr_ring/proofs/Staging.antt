@@ -9,10 +9,10 @@ use Rattle.vdr_terms.specs.Sizes.{batch_size}
 use Rattle.vdr_terms.specs.Windows.{window}
 use Rattle.vdr_segment.specs.Batches.{IsBatch}
 use Rattle.vdr_segment.specs.Segments.{Segment, with_batch}
-use Rattle.vdr_retention.specs.Layout.{segment_records}
-use Rattle.vdr_retention.specs.Retention.{Pin, AreOutside}
-use Rattle.vdr_retention.proofs.Lists.{contains_here, last_behind, last_contained}
-use Rattle.vdr_retention.proofs.Retained.{in_the_window}
+use Rattle.vdr_durability.specs.Layout.{segment_records}
+use Rattle.vdr_durability.specs.Retention.{Pin, AreOutside}
+use Rattle.vdr_durability.proofs.Lists.{contains_here, last_behind, last_contained}
+use Rattle.vdr_durability.proofs.Retained.{in_the_window}
 use Rattle.vdr_directory.specs.Sequence.{Placed, seq_of, batches_of, records_of, all_records, AreInSequence}
 use Rattle.vdr_directory.specs.Order.{AreInOrder}
 use Rattle.vdr_directory.specs.Closed.{IsFull, IsLeastClosed}

@@ -7,7 +7,7 @@ use Rattle.vdr_outside.specs.Disk.{Disk}
 use Rattle.vdr_outside.specs.Moments.{ChangesOnly, Settled}
 use Rattle.vdr_outside.proofs.Moments.{changes_weaken}
 use Rattle.vdr_segment.specs.Segments.{Segment, with_summary}
-use Rattle.vdr_slots.specs.Slots.{HoldsSlots, HoldsEither, slots_with_summary}
+use Rattle.vdr_segment.specs.Slots.{HoldsSlots, HoldsEither, slots_with_summary}
 use Rattle.vdr_directory.specs.Sequence.{Placed, AreInSequence}
 use Rattle.vdr_directory.specs.Holds.{HoldsPlaced, HoldsAny}
 use Rattle.vdr_directory.specs.Leaving.{summarized}

@@ -8,11 +8,11 @@ use Rattle.std.specs.Prelude.{Any, ⊤}
 use Rattle.std.proofs.lemmas.Result.{on_ok_weaker}
 use Rattle.vdr_terms.specs.Needs.{Sizes}
 use Rattle.vdr_terms.specs.Records.{Record}
-use Rattle.vdr_retention.specs.Retention.{Pin, Retains}
+use Rattle.vdr_durability.specs.Retention.{Pin, Retains}
 use Rattle.vdr_outside.specs.Parts.{part}
 use Rattle.vdr_outside.specs.declared.fault.Fault.{Fault}
-use Rattle.vdr_slots.specs.Slots.{SameFront, place_of}
-use Rattle.vdr_slots.proofs.Fronts.{front_same}
+use Rattle.vdr_segment.specs.Slots.{SameFront, place_of}
+use Rattle.vdr_segment.proofs.Fronts.{front_same}
 use Rattle.vdr_directory.specs.Sequence.{Placed, all_records}
 use Rattle.vdr_directory.specs.Order.{AreInOrder}
 use Rattle.vdr_directory.specs.Holds.{HoldsAny, HoldsPlaced}

@@ -9,13 +9,13 @@ use Rattle.vdr_outside.specs.Disk.{Disk, Image, Unchanged, content}
 use Rattle.vdr_segment.specs.Gates.{IsOpenAt}
 use Rattle.vdr_segment.specs.Batches.{batch_bytes}
 use Rattle.vdr_segment.specs.Segments.{Segment, IsSegment, IsSlot}
-use Rattle.vdr_survey.specs.declared.position.Position.{Position}
-use Rattle.vdr_survey.specs.declared.selection.Selection.{Selection}
-use Rattle.vdr_survey.specs.Positions.{front, IsAt, HasAhead}
-use Rattle.vdr_survey.specs.Selections.{is_selected}
-use Rattle.vdr_survey.proofs.StepLemmas.{left_none, front_ahead, none_ahead}
-use Rattle.vdr_slots.specs.Slots.{place_of}
-use Rattle.vdr_slots.proofs.Holding.{slot_of}
+use Rattle.vdr_index.specs.declared.position.Position.{Position}
+use Rattle.vdr_index.specs.declared.selection.Selection.{Selection}
+use Rattle.vdr_index.specs.Positions.{front, IsAt, HasAhead}
+use Rattle.vdr_index.specs.Selections.{is_selected}
+use Rattle.vdr_index.proofs.StepLemmas.{left_none, front_ahead, none_ahead}
+use Rattle.vdr_segment.specs.Slots.{place_of}
+use Rattle.vdr_segment.proofs.Holding.{slot_of}
 use Rattle.vdr_directory.specs.Sequence.{Placed, records_of}
 use Rattle.vdr_ring.specs.Damage.{IsDamagedAt}
 use Rattle.vdr_ring.specs.Rings.{RingState, Reads}

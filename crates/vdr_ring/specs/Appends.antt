@@ -5,7 +5,7 @@ use Rattle.vdr_terms.specs.Sizes.{batch_size}
 use Rattle.vdr_outside.specs.Disk.{Disk, Rises}
 use Rattle.vdr_outside.specs.Moments.{Settled}
 use Rattle.vdr_segment.specs.Batches.{IsBatch}
-use Rattle.vdr_retention.specs.Retention.{Pin}
+use Rattle.vdr_durability.specs.Retention.{Pin}
 use Rattle.vdr_directory.specs.declared.newest.Newest.{Newest}
 use Rattle.vdr_directory.specs.Sequence.{Placed}
 use Rattle.vdr_directory.specs.Order.{AreInOrder}

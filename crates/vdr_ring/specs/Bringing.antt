@@ -8,7 +8,7 @@ use Rattle.vdr_directory.specs.Order.{AreInOrder}
 use Rattle.vdr_directory.specs.Directories.{DirectoryState}
 use Rattle.vdr_directory.specs.Holds.{HoldsPlaced, Tells}
 use Rattle.vdr_directory.specs.Bringing.{AreAlike, IsBroughtUp, bare_of}
-use Rattle.vdr_slots.specs.Writes.{KeepsFront}
+use Rattle.vdr_segment.specs.Writes.{KeepsFront}
 use Rattle.vdr_ring.specs.Rings.{RingState, Reads, StaysOnMedium}
 use Rattle.vdr_ring.specs.Visits.{HasJudged}
 

@@ -9,8 +9,8 @@ use Rattle.vdr_outside.specs.declared.fault.PartRefused.TheVariants.{Damaged as 
 use Rattle.vdr_outside.specs.declared.media.Media.{Ghosts as MediaTells}
 use Rattle.vdr_outside.specs.Causes.{NoneFalls, Rose, counted}
 use Rattle.vdr_outside.specs.Disk.{Unchanged, content}
-use Rattle.vdr_slots.specs.Slots.{place_of}
-use Rattle.vdr_survey.specs.declared.selection.Selection.{Selection}
+use Rattle.vdr_segment.specs.Slots.{place_of}
+use Rattle.vdr_index.specs.declared.selection.Selection.{Selection}
 use Rattle.vdr_directory.specs.Sequence.{Placed, batches_in}
 use Rattle.vdr_ring.specs.Rings.{HasMedium, Knows, Reads, RingState}
 use Rattle.vdr_ring.specs.Visits.{AreAhead, VisitState, HasJudged, IsLoaded, StandsAmong, StandsIn, Steps, Visits, position_in, slot_read}

@@ -1,8 +1,8 @@
 -- What a ring knows of a segment that may go, and of a pin.
 use Rattle.std.specs.Prelude.{◌≡◌, ◌+◌, ◌≤◌, ℕ, true, Bool, List, All, Some}
 use Rattle.vdr_terms.specs.Records.{Record, last, second}
-use Rattle.vdr_retention.specs.Retention.{Pin, HaveNoPlace}
-use Rattle.vdr_retention.specs.Victims.{Extent, may_go_by_numbers}
+use Rattle.vdr_durability.specs.Retention.{Pin, HaveNoPlace}
+use Rattle.vdr_durability.specs.Victims.{Extent, may_go_by_numbers}
 use Rattle.vdr_index.specs.declared.known.Known.{Known}
 use Rattle.vdr_directory.specs.Sequence.{Placed, records_of}
 use Rattle.vdr_directory.specs.Order.{end_second}

@@ -7,9 +7,9 @@ use Rattle.vdr_segment.specs.declared.header.Header.{Header}
 use Rattle.vdr_segment.specs.Gates.{IsOpenAt}
 use Rattle.vdr_segment.specs.Headers.{IsHeader}
 use Rattle.vdr_segment.specs.Segments.{AreBatches}
-use Rattle.vdr_slots.specs.Slots.{place_of}
-use Rattle.vdr_survey.specs.Audits.{Agree, DisagreesAt}
-use Rattle.vdr_survey.specs.Surveys.{BreaksAt}
+use Rattle.vdr_segment.specs.Slots.{place_of}
+use Rattle.vdr_index.specs.Audits.{Agree, DisagreesAt}
+use Rattle.vdr_index.specs.Surveys.{BreaksAt}
 use Rattle.vdr_directory.specs.Opening.{slot_bytes}
 
 -- The first batch of a segment that is not legal, or does not agree with the summary in its header, if it has one, is at this offset

@@ -3,7 +3,7 @@ use Rattle.std.specs.Prelude.{◌≡◌, ◌⊎◌, ℕ, List, [], ◌∷◌, �
 use Rattle.vdr_terms.specs.Records.{Record}
 use Rattle.vdr_terms.specs.Needs.{Sizes, cost, usable}
 use Rattle.vdr_outside.specs.Disk.{Disk}
-use Rattle.vdr_retention.specs.Retention.{Pin, Retains}
+use Rattle.vdr_durability.specs.Retention.{Pin, Retains}
 use Rattle.vdr_directory.specs.Sequence.{Placed, batches_in, all_records}
 use Rattle.vdr_directory.specs.Order.{AreInOrder}
 use Rattle.vdr_directory.specs.Holds.{HoldsPlaced}

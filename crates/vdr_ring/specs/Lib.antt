@@ -13,3 +13,7 @@ pub mod Lasts
 pub mod Meets
 pub mod Calls
 pub mod Taking
+pub mod Walks
+pub mod Budgets
+pub mod Passing
+pub mod Steps

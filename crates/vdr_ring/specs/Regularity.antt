@@ -2,10 +2,10 @@
 use Rattle.std.specs.Prelude.{◌≡◌, ◌⊎◌, ◌<◌, ◌≤◌, ◌+◌, ℕ, List, [], ◌∷◌, ◌++◌, All}
 use Rattle.vdr_terms.specs.Records.{Record}
 use Rattle.vdr_terms.specs.Needs.{Sizes, cost, usable, needed_slots}
-use Rattle.vdr_retention.specs.Layout.{Batches}
-use Rattle.vdr_retention.specs.Regular.{IsPaced, IsRegular}
-use Rattle.vdr_retention.specs.Retention.{Pin}
-use Rattle.vdr_retention.specs.Victims.{ArePinsOf}
+use Rattle.vdr_durability.specs.Layout.{Batches}
+use Rattle.vdr_durability.specs.Regular.{IsPaced, IsRegular}
+use Rattle.vdr_durability.specs.Retention.{Pin}
+use Rattle.vdr_durability.specs.Victims.{ArePinsOf}
 use Rattle.vdr_directory.specs.Sequence.{Placed, segments_in, all_records}
 use Rattle.vdr_directory.specs.Leaving.{IsExactlySummarized}
 

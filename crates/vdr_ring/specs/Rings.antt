@@ -5,7 +5,7 @@ use Rattle.vdr_outside.specs.Moments.{Settled}
 use Rattle.vdr_outside.specs.Parts.{part}
 use Rattle.vdr_index.specs.Indexes.{IsNewest}
 use Rattle.vdr_terms.specs.Slots.{slots_from}
-use Rattle.vdr_slots.specs.Slots.{place_of}
+use Rattle.vdr_segment.specs.Slots.{place_of}
 use Rattle.vdr_directory.specs.Sequence.{Placed}
 use Rattle.vdr_directory.specs.Order.{AreInOrder}
 use Rattle.vdr_directory.specs.Holds.{HoldsPlaced, Tells}

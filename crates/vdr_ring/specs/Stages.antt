@@ -4,7 +4,7 @@ use Rattle.vdr_terms.specs.Records.{Record, last}
 use Rattle.vdr_terms.specs.Sizes.{batch_size}
 use Rattle.vdr_entry.specs.declared.summary.Summary.{Summary}
 use Rattle.vdr_segment.specs.Segments.{end_of}
-use Rattle.vdr_retention.specs.Retention.{Pin}
+use Rattle.vdr_durability.specs.Retention.{Pin}
 use Rattle.vdr_directory.specs.Sequence.{Placed, all_records}
 use Rattle.vdr_directory.specs.Closed.{IsFull, IsLeastClosed}
 use Rattle.vdr_directory.specs.Growing.{new_segment, next_seq, with_batch_in}

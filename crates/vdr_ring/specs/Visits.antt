@@ -3,10 +3,10 @@ use Rattle.std.specs.Prelude.{◌≡◌, ◌≢◌, ◌⊎◌, ◌↔◌, ◌+�
 use Rattle.vdr_terms.specs.Records.{Record}
 use Rattle.vdr_outside.specs.Disk.{Disk, content}
 use Rattle.vdr_segment.specs.Gates.{IsOpenAt}
-use Rattle.vdr_survey.specs.declared.position.Position.{Position}
-use Rattle.vdr_survey.specs.declared.selection.Selection.{Selection}
-use Rattle.vdr_survey.specs.Selections.{Passes, StartsSelected, is_selected}
-use Rattle.vdr_survey.specs.Positions.{front, IsAt, HasAhead, IsBrokenAt, StepsOver}
+use Rattle.vdr_index.specs.declared.position.Position.{Position}
+use Rattle.vdr_index.specs.declared.selection.Selection.{Selection}
+use Rattle.vdr_index.specs.Selections.{Passes, StartsSelected, is_selected}
+use Rattle.vdr_index.specs.Positions.{front, IsAt, HasAhead, IsBrokenAt, StepsOver}
 use Rattle.vdr_directory.specs.Sequence.{Placed, records_of}
 use Rattle.vdr_ring.specs.Damage.{IsDamagedAt, IsIntact}
 use Rattle.vdr_ring.specs.Rings.{RingState}

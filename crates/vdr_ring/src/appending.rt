@@ -6,7 +6,7 @@ ghost use Rattle.vdr_outside.specs.Disk.{Durable, Rises, SameBut};
 ghost use Rattle.vdr_outside.specs.Frames.{WritesTo};
 ghost use Rattle.vdr_outside.specs.Moments.{ChangesOnly};
 ghost use Rattle.vdr_segment.specs.Batches.{IsBatch};
-ghost use Rattle.vdr_slots.specs.Writes.{KeepsFront};
+ghost use Rattle.vdr_segment.specs.Writes.{KeepsFront};
 ghost use Rattle.vdr_directory.specs.Sequence.{Placed};
 ghost use Rattle.vdr_directory.specs.Order.{AreInOrder};
 ghost use Rattle.vdr_directory.specs.Holds.{HoldsAny, Tells};
@@ -23,8 +23,7 @@ use crate::pins::Pins;
 use vdr_directory::Newest;
 use vdr_entry::{Record, Summary};
 use vdr_outside::{Fault, Media};
-use vdr_segment::write_batch;
-use vdr_slots::{append_batch, begin_segment, close_slot, summarize};
+use vdr_segment::{append_batch, begin_segment, close_slot, summarize, write_batch};
 
 impl Ring {
     // The sequence number of the next segment.

@@ -2,8 +2,8 @@
 ghost use Rattle.std.specs.Prelude.{◌≤◌, ◌<◌, ℕ, length, IfSome, IfNone};
 ghost use Rattle.vdr_ring.specs.Damage.{IsDamagedAt, IsIntact};
 
+use vdr_index::{audit, survey};
 use vdr_segment::{HEADER_SIZE, OPEN_GATE, read_header};
-use vdr_survey::{audit, survey};
 
 // Where a slot with these bytes is damaged: its header, or the first batch that is not legal or does not agree with the
 // summary in the header. None where the slot is closed or intact.

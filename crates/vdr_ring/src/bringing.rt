@@ -3,8 +3,8 @@ ghost use Rattle.std.specs.Prelude.{◌≡◌, [], List, OnOk};
 ghost use Rattle.vdr_outside.specs.Causes.{HasCauseOn};
 ghost use Rattle.vdr_outside.specs.Disk.{SameBut};
 ghost use Rattle.vdr_outside.specs.Moments.{ChangesOnly};
-ghost use Rattle.vdr_slots.specs.Areas.{HasRoom};
-ghost use Rattle.vdr_slots.specs.Writes.{KeepsFront};
+ghost use Rattle.vdr_segment.specs.Areas.{HasRoom};
+ghost use Rattle.vdr_segment.specs.Writes.{KeepsFront};
 ghost use Rattle.vdr_directory.specs.Sequence.{Placed};
 ghost use Rattle.vdr_directory.specs.Directories.{count_of};
 ghost use Rattle.vdr_ring.specs.Rings.{HasMedium, Reads};
@@ -13,7 +13,7 @@ ghost use Rattle.vdr_ring.specs.Bringing.{HasBroughtUp, HoldsAlike, KeepsBrought
 use crate::Ring;
 use vdr_directory::Directory;
 use vdr_outside::{Fault, Media};
-use vdr_slots::{Area, summarize};
+use vdr_segment::{Area, summarize};
 
 // Writes the summaries of the segments in these slots, one after another.
 fn summarize_all<M: Media>(

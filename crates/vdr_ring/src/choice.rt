@@ -1,7 +1,7 @@
 // Which segment is written over.
 ghost use Rattle.std.specs.Prelude.{◌≡◌, ◌<◌, ◌≤◌, ◌+◌, ℕ, List, All, IfSome, IfNone, find, get_or, nat_le, None};
 ghost use Rattle.std.specs.List.{list_all};
-ghost use Rattle.vdr_retention.specs.Victims.{IsLastSecond, is_apart};
+ghost use Rattle.vdr_durability.specs.Victims.{IsLastSecond, is_apart};
 ghost use Rattle.vdr_index.specs.Indexes.{passes_by};
 ghost use Rattle.vdr_directory.specs.Sequence.{Placed, all_records};
 ghost use Rattle.vdr_directory.specs.Order.{AreInOrder};

@@ -7,9 +7,9 @@ ghost use Rattle.vdr_outside.specs.declared.fault.PartRefused.TheVariants.{Damag
 ghost use Rattle.vdr_segment.specs.Gates.{IsOpenAt};
 ghost use Rattle.vdr_segment.specs.Batches.{AreRecords, IsBatch};
 ghost use Rattle.vdr_segment.specs.Segments.{AreBatches};
-ghost use Rattle.vdr_survey.specs.Surveys.{BreaksAt};
+ghost use Rattle.vdr_index.specs.Surveys.{BreaksAt};
 ghost use Rattle.vdr_index.specs.Indexes.{IsNewest};
-ghost use Rattle.vdr_slots.specs.Slots.{place_of};
+ghost use Rattle.vdr_segment.specs.Slots.{place_of};
 ghost use Rattle.vdr_directory.specs.Sequence.{Placed};
 ghost use Rattle.vdr_directory.specs.Knowns.{AreInOrderBy};
 ghost use Rattle.vdr_directory.specs.Telling.{TellsBy};

@@ -1,8 +1,8 @@
 ghost use Rattle.std.specs.Prelude.{◌≡◌, ◌≢◌, ◌↔◌, ◌≤◌, [], ◌∷◌, ◌++◌, ℕ, List};
 ghost use Rattle.vdr_terms.specs.Needs.{Sizes, cost, usable};
 ghost use Rattle.vdr_terms.specs.Records.{Record};
-ghost use Rattle.vdr_retention.specs.Retention.{Pin, Retains};
-ghost use Rattle.vdr_retention.specs.Victims.{IsOldestCandidate};
+ghost use Rattle.vdr_durability.specs.Retention.{Pin, Retains};
+ghost use Rattle.vdr_durability.specs.Victims.{IsOldestCandidate};
 ghost use Rattle.vdr_directory.specs.Sequence.{Placed, all_records, batches_in, batches_of, segments_in};
 ghost use Rattle.vdr_directory.specs.Lookup.{HoldAll};
 ghost use Rattle.vdr_directory.specs.Bringing.{AreAlike};

@@ -6,6 +6,8 @@ mod appending;
 mod audit;
 mod bringing;
 mod choice;
+mod cursor;
+mod cursor_law;
 mod last_batch;
 mod law;
 mod lookup;
@@ -18,6 +20,8 @@ mod refused;
 mod ring;
 mod visit;
 
+pub use cursor::Cursor;
+pub use cursor_law::law_of_budget;
 pub use law::{law_of_alike, law_of_stages};
 pub use pins::Pins;
 pub use refused::ReadRefused;

@@ -11,7 +11,7 @@ use std::alloc::Global;
 use vdr_config::Config;
 use vdr_directory::{Directory, bare_slots, read_segments};
 use vdr_outside::{Media, PartRefused};
-use vdr_slots::Area;
+use vdr_segment::Area;
 use vdr_terms::slot_count;
 
 // The slots of medium m, of so many bytes.

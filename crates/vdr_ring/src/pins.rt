@@ -19,7 +19,7 @@ pub struct Pins {
 
 impl Model for Pins {
     ghost use Rattle.std.specs.Prelude.{List, map};
-    ghost use Rattle.vdr_retention.specs.Retention.{Pin as APin};
+    ghost use Rattle.vdr_durability.specs.Retention.{Pin as APin};
     ghost use Rattle.vdr_ring.specs.Candidates.{pin_of};
 
     ghost Value = { List APin };

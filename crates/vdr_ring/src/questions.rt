@@ -1,7 +1,7 @@
 // What a ring answers from its directory, without reading the medium.
 ghost use Rattle.std.specs.Prelude.{◌≡◌, ◌<◌, ◌↔◌, List, Contains, IsTrue, IfSome, IfNone, option_map};
 ghost use Rattle.vdr_terms.specs.Records.{last};
-ghost use Rattle.vdr_survey.specs.Extents.{first_records};
+ghost use Rattle.vdr_index.specs.Extents.{first_records};
 ghost use Rattle.vdr_directory.specs.Sequence.{Placed, seq_of, batches_in, all_records};
 ghost use Rattle.vdr_directory.specs.Order.{AreInOrder};
 ghost use Rattle.vdr_directory.specs.Holds.{Tells};

@@ -2,8 +2,8 @@ ghost use Rattle.std.specs.Prelude.{◌≡◌, ◌≢◌, ◌⊎◌, ◌↔◌, 
 ghost use Rattle.vdr_outside.specs.Causes.{NoneFalls, Rose, counted};
 ghost use Rattle.vdr_outside.specs.Disk.{Unchanged};
 ghost use Rattle.vdr_segment.specs.Gates.{IsOpenAt};
-ghost use Rattle.vdr_slots.specs.Slots.{place_of};
-ghost use Rattle.vdr_survey.specs.Positions.{IsAt};
+ghost use Rattle.vdr_segment.specs.Slots.{place_of};
+ghost use Rattle.vdr_index.specs.Positions.{IsAt};
 ghost use Rattle.vdr_ring.specs.Rings.{HasMedium};
 ghost use Rattle.vdr_ring.specs.Damage.{IsDamagedAt, IsIntact};
 ghost use Rattle.vdr_ring.specs.Visits.{StandsIn, IsLoaded, position_in, slot_read, Steps};
@@ -13,10 +13,9 @@ ghost use Rattle.vdr_ring.specs.declared.refused.ReadRefused.TheVariants.{Fault 
 use crate::audit::first_damage;
 use crate::visit::stands_in;
 use crate::{ReadRefused, Ring, Visit};
+use vdr_index::{Position, Selection};
 use vdr_outside::Media;
-use vdr_segment::OPEN_GATE;
-use vdr_slots::read_slot;
-use vdr_survey::{Position, Selection};
+use vdr_segment::{OPEN_GATE, read_slot};
 
 impl Ring {
     // Reads a slot into the buffer, where the buffer does not hold it already, and judges it. Says whether the buffer held

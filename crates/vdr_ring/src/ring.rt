@@ -1,6 +1,6 @@
 use std::marker::Model;
 use vdr_directory::Directory;
-use vdr_slots::Area;
+use vdr_segment::Area;
 
 /// One medium as a ring of segments. Its type keeps that its directory has a place for each slot, of which there are at least four, that the buffer has room for a
 /// segment, and that the window is 1 to 31,536,000 seconds.

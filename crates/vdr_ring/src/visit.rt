@@ -1,12 +1,12 @@
 ghost use Rattle.std.specs.Prelude.{◌≡◌, ◌↔◌, List, IsTrue, None, option_map};
 ghost use Rattle.vdr_terms.specs.Records.{Record as Entry};
 ghost use Rattle.vdr_segment.specs.Batches.{AreRecords};
-ghost use Rattle.vdr_survey.specs.Positions.{IsAt};
+ghost use Rattle.vdr_index.specs.Positions.{IsAt};
 ghost use Rattle.vdr_ring.specs.Visits.{StepsFrom, position_in, without_item};
 
 use std::marker::Model;
 use vdr_entry::{Record, record_at};
-use vdr_survey::{Position, Selection, pass_by, step};
+use vdr_index::{Position, Selection, pass_by, step};
 
 /// A position in a segment, and the record there. It takes no memory, and each record is read into the place of the one before.
 #[derive(Drop)]

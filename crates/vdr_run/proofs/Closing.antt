@@ -10,10 +10,10 @@ use Rattle.vdr_config.specs.Configuration.{Configuration}
 use Rattle.vdr_datagram.specs.Channels.{channels_of}
 use Rattle.vdr_meter.specs.Metering.{Metering}
 use Rattle.vdr_run.specs.Meters.{IsMetered}
-use Rattle.vdr_history.specs.Runs.{RunStart}
-use Rattle.vdr_history.specs.Taken.{Captured}
-use Rattle.vdr_history.specs.Recorder.{Recorder, make, next_in, tick_of, gap_of, gaps_below, recorder_after}
-use Rattle.vdr_history.specs.Sums.{recorded_in, missed_in, counted_by}
+use Rattle.vdr_core.specs.Runs.{RunStart}
+use Rattle.vdr_core.specs.Taken.{Captured}
+use Rattle.vdr_core.specs.Recorder.{Recorder, make, next_in, tick_of, gap_of, gaps_below, recorder_after}
+use Rattle.vdr_core.specs.Sums.{recorded_in, missed_in, counted_by}
 use Rattle.vdr_core.specs.Summary.{CloseAddsUp}
 use Rattle.vdr_run.specs.declared.maker.Maker.{Maker}
 use Rattle.vdr_run.specs.Accounts.{Counted, nothing_counted, with_rest, gap_after, gap_records}

@@ -5,9 +5,9 @@ use Rattle.vdr_terms.specs.Records.{Record, total}
 use Rattle.vdr_terms.specs.Records.Content.{Gap}
 use Rattle.vdr_terms.specs.Channels.{Channels}
 use Rattle.vdr_terms.specs.Counting.{Pending, with_missed}
-use Rattle.vdr_history.specs.Runs.{RunStart}
-use Rattle.vdr_history.specs.Taken.{Captured}
-use Rattle.vdr_history.specs.Recorder.{make, gap_of, gap_unless_none, datagram_of}
+use Rattle.vdr_core.specs.Runs.{RunStart}
+use Rattle.vdr_core.specs.Taken.{Captured}
+use Rattle.vdr_core.specs.Recorder.{make, gap_of, gap_unless_none, datagram_of}
 use Rattle.vdr_run.specs.declared.maker.Maker.{Maker}
 use Rattle.vdr_run.specs.Making.{Adds}
 use Rattle.vdr_run.specs.Accounts.{gap_unless_empty, gap_after, gap_records, datagram_record, item_records}

@@ -12,9 +12,9 @@ use Rattle.vdr_terms.specs.Datagrams.{largest, verdict, is_yes, is_bad, is_large
 use Rattle.vdr_terms.specs.Channels.{no_channels}
 use Rattle.vdr_terms.specs.Rates.Limit.{NotConfigured}
 use Rattle.vdr_terms.specs.Records.{FeedItem, Item, none_missed}
-use Rattle.vdr_history.specs.Feed.{items_of, counts_of}
-use Rattle.vdr_history.specs.Runs.{RunStart}
-use Rattle.vdr_history.specs.Taken.{Captured}
+use Rattle.vdr_core.specs.Feed.{items_of, counts_of}
+use Rattle.vdr_core.specs.Runs.{RunStart}
+use Rattle.vdr_core.specs.Taken.{Captured}
 use Rattle.vdr_core.specs.Replay.{IsOfGroups, captured_if, missed_with, rest_after, since_yes, taken_of}
 use Rattle.vdr_core.proofs.OneMore.{goes_on}
 use Rattle.vdr_core.proofs.Counted.{count_no, count_yes}

@@ -6,9 +6,9 @@ use Rattle.vdr_terms.specs.declared.rate.Rate.{Rate}
 use Rattle.vdr_terms.specs.Records.{Record, second, is_datagram}
 use Rattle.vdr_terms.specs.Rates.{is_admitted}
 use Rattle.vdr_terms.specs.Counting.{Pending, with_missed}
-use Rattle.vdr_history.specs.Runs.{RunStart}
-use Rattle.vdr_history.specs.Taken.{Captured}
-use Rattle.vdr_history.specs.Recorder.{Recorder, passed, with_datagram, gap_unless_none, tick_with, admits, took}
+use Rattle.vdr_core.specs.Runs.{RunStart}
+use Rattle.vdr_core.specs.Taken.{Captured}
+use Rattle.vdr_core.specs.Recorder.{Recorder, passed, with_datagram, gap_unless_none, tick_with, admits, took}
 use Rattle.vdr_config.specs.Sizes.{limits_in}
 use Rattle.vdr_meter.specs.Metering.{Metering, Measures, HasNoDatagram, IsDatagramOf}
 use Rattle.vdr_run.specs.Meters.{IsMeterOf}

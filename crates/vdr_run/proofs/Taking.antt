@@ -7,10 +7,10 @@ use Rattle.vdr_terms.specs.Records.{Record}
 use Rattle.vdr_terms.specs.Counting.{Pending, with_missed, past_datagram, past_refusal, one_rate}
 use Rattle.vdr_config.specs.Configuration.{Configuration}
 use Rattle.vdr_datagram.specs.Channels.{channels_of}
-use Rattle.vdr_history.specs.Runs.{RunStart}
-use Rattle.vdr_history.specs.Taken.{Captured}
-use Rattle.vdr_history.specs.Recorder.{Recorder, begun, next_in, gap_of, datagram_of, with_pending, passed, tick_with, admits, took, recorder_after}
-use Rattle.vdr_history.specs.Sums.{recorded_in, counted_by}
+use Rattle.vdr_core.specs.Runs.{RunStart}
+use Rattle.vdr_core.specs.Taken.{Captured}
+use Rattle.vdr_core.specs.Recorder.{Recorder, begun, next_in, gap_of, datagram_of, with_pending, passed, tick_with, admits, took, recorder_after}
+use Rattle.vdr_core.specs.Sums.{recorded_in, counted_by}
 use Rattle.vdr_core.specs.Summary.{ItemAddsUp}
 use Rattle.vdr_run.specs.declared.maker.Maker.{Maker}
 use Rattle.vdr_run.specs.Accounts.{Counted, nothing_counted, with_recorded, with_refused, gap_after, item_records}

@@ -5,7 +5,7 @@ use Rattle.vdr_terms.specs.Records.{Record, total}
 use Rattle.vdr_terms.specs.Records.Content.{Datagram, Gap}
 use Rattle.vdr_terms.specs.Channels.{Channels}
 use Rattle.vdr_terms.specs.Counting.{Pending, no_pending, with_missed, past_gap, past_datagram, past_refusal}
-use Rattle.vdr_history.specs.Recorder.{make}
+use Rattle.vdr_core.specs.Recorder.{make}
 
 -- What is pending of a group, how many of its items the run has recorded, and how many its rate refused.
 pub record Counted : Type 0 where

@@ -8,8 +8,8 @@ use Rattle.vdr_terms.specs.Records.{Record, total}
 use Rattle.vdr_terms.specs.Stamps.{IsStamp}
 use Rattle.vdr_config.specs.Configuration.{Configuration}
 use Rattle.vdr_datagram.specs.Channels.{channels_of}
-use Rattle.vdr_history.specs.Recorder.{begun}
-use Rattle.vdr_history.specs.Runs.{base_after}
+use Rattle.vdr_core.specs.Recorder.{begun}
+use Rattle.vdr_core.specs.Runs.{base_after}
 use Rattle.vdr_meter.specs.Metering.{HasNoDatagram, Metering}
 use Rattle.vdr_run.specs.Making.{Makes, counted_of}
 use Rattle.vdr_run.specs.Meters.{IsMetered, second_of}

@@ -4,8 +4,8 @@ use Rattle.vdr_terms.specs.declared.counts.Counts.{Counts}
 use Rattle.vdr_terms.specs.Counting.{Tally, no_tally}
 use Rattle.vdr_terms.specs.Datagrams.{verdict, is_bad, is_large}
 use Rattle.vdr_terms.specs.Records.{FeedItem, Item}
-use Rattle.vdr_history.specs.Feed.{items_of}
-use Rattle.vdr_history.specs.Taken.{Captured}
+use Rattle.vdr_core.specs.Feed.{items_of}
+use Rattle.vdr_core.specs.Taken.{Captured}
 use Rattle.vdr_core.specs.Replay.{rest_after}
 use Rattle.vdr_feed.specs.declared.item.Item.{Item as Held}
 use Rattle.vdr_run.specs.declared.ports.Ports.{Ports}

@@ -6,10 +6,10 @@ use Rattle.vdr_terms.specs.Channels.{Channels}
 use Rattle.vdr_terms.specs.Counting.{next_number}
 use Rattle.vdr_config.specs.Configuration.{Configuration}
 use Rattle.vdr_datagram.specs.Channels.{channels_of}
-use Rattle.vdr_history.specs.Runs.{RunStart, base_of}
-use Rattle.vdr_history.specs.Taken.{Captured}
-use Rattle.vdr_history.specs.Recorder.{next_in, recorder_after, closing, closed_run}
-use Rattle.vdr_history.specs.Sums.{recorded_in, counted_by}
+use Rattle.vdr_core.specs.Runs.{RunStart, base_of}
+use Rattle.vdr_core.specs.Taken.{Captured}
+use Rattle.vdr_core.specs.Recorder.{next_in, recorder_after, closing, closed_run}
+use Rattle.vdr_core.specs.Sums.{recorded_in, counted_by}
 use Rattle.vdr_run.specs.Accounts.{Counted, nothing_counted, with_recorded, with_rest, gap_after, gap_records, item_records}
 use Rattle.vdr_run.specs.declared.maker.ItemHead.{ItemHead}
 use Rattle.vdr_run.specs.declared.maker.Maker.{Maker}

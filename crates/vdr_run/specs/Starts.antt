@@ -5,7 +5,7 @@ use Rattle.vdr_terms.specs.Rates.{Limit}
 use Rattle.vdr_config.specs.Configuration.{Configuration}
 use Rattle.vdr_config.specs.Sizes.{limits_in}
 use Rattle.vdr_datagram.specs.Channels.{channels_of}
-use Rattle.vdr_history.specs.Runs.{Stamp, RunStart}
+use Rattle.vdr_core.specs.Runs.{Stamp, RunStart}
 
 -- The stamp of a tick and a utc.
 abbrev pub stamp_of : ℕ × ℤ → Stamp

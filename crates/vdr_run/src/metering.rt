@@ -1,9 +1,9 @@
 // Whether a run records an item, by its meter if it has one.
 ghost use Rattle.std.specs.Prelude.{◌≡◌, ◌≤◌, ◌<◌, length};
 ghost use Rattle.vdr_terms.specs.Records.{second};
-ghost use Rattle.vdr_history.specs.Runs.{RunStart};
-ghost use Rattle.vdr_history.specs.Taken.{Captured};
-ghost use Rattle.vdr_history.specs.Recorder.{Recorder, took, tick_with, admits};
+ghost use Rattle.vdr_core.specs.Runs.{RunStart};
+ghost use Rattle.vdr_core.specs.Taken.{Captured};
+ghost use Rattle.vdr_core.specs.Recorder.{Recorder, took, tick_with, admits};
 ghost use Rattle.vdr_run.specs.Meters.{IsMetered, rates_of, second_of};
 
 use vdr_meter::Meter;

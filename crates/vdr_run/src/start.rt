@@ -1,6 +1,6 @@
 // Where a run begins.
 ghost use Rattle.std.specs.Prelude.{◌≡◌, ◌<◌, ◌^◌, IfSome, option_map};
-ghost use Rattle.vdr_history.specs.Runs.{base_after, utc_after};
+ghost use Rattle.vdr_core.specs.Runs.{base_after, utc_after};
 ghost use Rattle.vdr_run.specs.Starts.{stamp_of};
 
 /// The tick, in milliseconds, at which a run begins: the next whole second after the last record's tick, 0 where there is none

@@ -7,3 +7,10 @@ pub mod BatchListLemmas
 pub mod SegmentLemmas
 pub mod ChangeLemmas
 pub mod Rows
+pub mod Gates
+pub mod Segments
+pub mod Holding
+pub mod Writes
+pub mod Opening
+pub mod Summaries
+pub mod Fronts

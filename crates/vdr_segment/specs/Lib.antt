@@ -4,3 +4,6 @@ pub mod Headers
 pub mod Batches
 pub mod Segments
 pub mod Walks
+pub mod Slots
+pub mod Areas
+pub mod Writes

@@ -2,8 +2,8 @@
 use Rattle.std.proofs.Common.{◌≡◌, ◌++◌, ◌∙◌, ◌+◌, ℕ, suc, Bool, true, false, ◌&&◌, ◌||◌, List, [], ◌∷◌, take, Some, refl, sym, ap, arith, length-append, eqb}
 use Rattle.std.proofs.Math.Bool.{and_assoc, and-false}
 use Rattle.std.proofs.lemmas.Bool.Decides.{nat_tests}
-use Rattle.vdr_digits.specs.Digits.{hex_byte, is_hex_digit}
-use Rattle.vdr_digits.proofs.HexLemmas.{AreHexDigits-from_byte}
+use Rattle.vdr_bytes.specs.Digits.{hex_byte, is_hex_digit}
+use Rattle.vdr_bytes.proofs.HexLemmas.{AreHexDigits-from_byte}
 use Rattle.vdr_sentence.specs.Characters.{begins_with_code, is_character, is_body_character, each_passes}
 use Rattle.vdr_sentence.specs.Addresses.{address_of}
 

@@ -4,9 +4,9 @@ use Rattle.std.specs.Option.{option_or}
 use Rattle.std.proofs.lemmas.Bool.{not-false, le-ltb, ltb-false, eqb-true, eq-eqb, and_parts, or_parts}
 use Rattle.std.proofs.lemmas.List.{take-append-drop, drop_more, at_drop_all, get_or-append-add}
 use Rattle.std.proofs.Math.Seq.{take-append_seam, get_or-append_seam}
-use Rattle.vdr_digits.specs.Checksum.{checksum, written, covered}
-use Rattle.vdr_digits.proofs.ChecksumLemmas.{HasField-from_written, written-from_HasField, covered-from_HasField}
-use Rattle.vdr_digits.proofs.Refusals.{row_none}
+use Rattle.vdr_bytes.specs.Checksum.{checksum, written, covered}
+use Rattle.vdr_bytes.proofs.ChecksumLemmas.{HasField-from_written, written-from_HasField, covered-from_HasField}
+use Rattle.vdr_bytes.proofs.Refusals.{row_none}
 use Rattle.vdr_sentence.specs.declared.bad.Bad.{Bad}
 use Rattle.vdr_sentence.specs.declared.bad.Bad.TheVariants.{Start, Length, Character, Address, Wrong}
 use Rattle.vdr_sentence.specs.Characters.{is_start, is_body_character, each_passes}

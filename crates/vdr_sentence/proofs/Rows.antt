@@ -1,6 +1,6 @@
 -- Worked examples, by computation.
 use Rattle.std.proofs.Common.{◌≡◌, ◌++◌, ℕ, List, [], ◌∷◌, Some, None, Ok, refl, codes, replicate}
-use Rattle.vdr_digits.specs.Checksum.{checksum}
+use Rattle.vdr_bytes.specs.Checksum.{checksum}
 use Rattle.vdr_sentence.specs.declared.bad.Bad.TheVariants.{Start, Length, Character, Address, Missing, Wrong}
 use Rattle.vdr_sentence.specs.Fields.{field, field_count}
 use Rattle.vdr_sentence.specs.Refusals.{body, body_refusal, first_refusal, frame_refusal, reading, writing_refusal}

@@ -1,9 +1,9 @@
 -- What is written is a sentence.
 use Rattle.std.proofs.Common.{◌≡◌, ◌++◌, ◌∙◌, ◌/◌, ◌%◌, ℕ, not, List, [], ◌∷◌, length, Some, None, refl, sym, ap, append_assoc, ltb}
 use Rattle.std.proofs.lemmas.Bool.{not-false, ltb-false}
-use Rattle.vdr_digits.specs.Digits.{hex_byte, upper_digit}
-use Rattle.vdr_digits.specs.Checksum.{checksum}
-use Rattle.vdr_digits.proofs.Refusals.{row_none}
+use Rattle.vdr_bytes.specs.Digits.{hex_byte, upper_digit}
+use Rattle.vdr_bytes.specs.Checksum.{checksum}
+use Rattle.vdr_bytes.proofs.Refusals.{row_none}
 use Rattle.vdr_sentence.specs.declared.bad.Bad.TheVariants.{Start, Length, Character, Address}
 use Rattle.vdr_sentence.specs.Characters.{is_start, is_character, each_passes}
 use Rattle.vdr_sentence.specs.Addresses.{is_address, address_of}

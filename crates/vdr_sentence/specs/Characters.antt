@@ -1,6 +1,6 @@
 -- The characters of a sentence. IEC 61162-1 reserves some; which of them are refused is this project's profile.
 use Rattle.std.specs.Prelude.{ℕ, Bool, true, false, not, ◌&&◌, ◌||◌, ◌==◌, nat_le, List, [], ◌∷◌, length}
-use Rattle.vdr_digits.specs.Digits.{is_hex_digit}
+use Rattle.vdr_bytes.specs.Digits.{is_hex_digit}
 
 -- `$` begins a parametric sentence, `!` an encapsulation sentence.
 abbrev pub is_start : ℕ → Bool

@@ -1,7 +1,7 @@
 -- The refusals of bytes that are no sentence. Which there are, and their order, is this project's profile.
 use Rattle.std.specs.Prelude.{ℕ, ◌-◌, Bool, not, ◌&&◌, ◌||◌, ◌==◌, nat_lt, List, length, take, drop, slice_index, Option, Some, None, Result, Ok, Err, if◌then◌else◌}
 use Rattle.std.specs.Option.{option_or}
-use Rattle.vdr_digits.specs.Checksum.{checksum, written, covered}
+use Rattle.vdr_bytes.specs.Checksum.{checksum, written, covered}
 use Rattle.vdr_sentence.specs.Characters.{is_start, is_character, is_body_character, each_passes}
 use Rattle.vdr_sentence.specs.Addresses.{is_address, address_of}
 use Rattle.vdr_sentence.specs.declared.bad.Bad.{Bad}

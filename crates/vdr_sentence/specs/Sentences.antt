@@ -1,7 +1,7 @@
 -- What a sentence is (IEC 61162-1).
 use Rattle.std.specs.Prelude.{◌≡◌, ◌≤◌, ◌++◌, ℕ, true, List, [], ◌∷◌, length}
-use Rattle.vdr_digits.specs.Digits.{upper_digits}
-use Rattle.vdr_digits.specs.Checksum.{HasField, checksum}
+use Rattle.vdr_bytes.specs.Digits.{upper_digits}
+use Rattle.vdr_bytes.specs.Checksum.{HasField, checksum}
 use Rattle.vdr_sentence.specs.Characters.{is_start, is_character, each_passes}
 use Rattle.vdr_sentence.specs.Addresses.{is_address, address_of}
 

@@ -3,7 +3,7 @@ ghost use Rattle.std.specs.List.{list_all};
 ghost use Rattle.vdr_sentence.specs.Characters.{begins_with_code, each_passes, is_body_character, is_character, is_refused, is_start};
 ghost use Rattle.vdr_sentence.specs.Addresses.{address_of, is_address, is_capital_or_digit};
 
-use vdr_digits::is_hex_digit;
+use vdr_bytes::is_hex_digit;
 
 /// `$` of a parametric or `!` of an encapsulation sentence.
 pub(crate) fn is_start(byte: u8) -> bool

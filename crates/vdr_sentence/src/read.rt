@@ -1,5 +1,5 @@
 ghost use Rattle.std.specs.Prelude.{◌≡◌, ℕ, List, Ok, Err, Some, None, IfOk, IfErr, MatchResult, slice_index};
-ghost use Rattle.vdr_digits.specs.Checksum.{covered};
+ghost use Rattle.vdr_bytes.specs.Checksum.{covered};
 ghost use Rattle.vdr_sentence.specs.Refusals.{body, body_refusal, first_refusal, frame_refusal, reading};
 ghost use Rattle.vdr_sentence.specs.Sentences.{IsSentence};
 
@@ -7,7 +7,7 @@ use crate::bad::Bad;
 use crate::characters::{address_of, are_body_characters, is_address};
 use crate::frame::Frame;
 use crate::sentence::Sentence;
-use vdr_digits::{checksum, split_checksum};
+use vdr_bytes::{checksum, split_checksum};
 
 /// The most bytes of a sentence, with its start and its CR LF (IEC 61162-1).
 const LONGEST: usize = 82;

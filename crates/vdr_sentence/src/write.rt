@@ -1,14 +1,14 @@
 ghost use Rattle.std.specs.Prelude.{◌≡◌, ◌≤◌, ◌+◌, ◌/◌, ◌%◌, ◌++◌, Ok, Some, None, IfNone, OnOk, OnErr, IfErr, length};
 ghost use Rattle.arrayvec.specs.ArrayVec.{array_vec_len};
-ghost use Rattle.vdr_digits.specs.Checksum.{checksum};
-ghost use Rattle.vdr_digits.specs.Digits.{hex_byte, upper_digit};
+ghost use Rattle.vdr_bytes.specs.Checksum.{checksum};
+ghost use Rattle.vdr_bytes.specs.Digits.{hex_byte, upper_digit};
 ghost use Rattle.vdr_sentence.specs.Refusals.{reading, writing_refusal};
 ghost use Rattle.vdr_sentence.specs.Sentences.{IsContent, IsSentence, written_text};
 
 use crate::bad::Bad;
 use crate::characters::{address_of, are_characters, is_address, is_start};
 use arrayvec::ArrayVec;
-use vdr_digits::{checksum, upper_digits};
+use vdr_bytes::{checksum, upper_digits};
 
 /// The most bytes of a content: those of a sentence without start, checksum and CR LF.
 const LONGEST_CONTENT: usize = 76;

@@ -10,12 +10,12 @@ use Rattle.vdr_terms.specs.Counting.{next_number}
 use Rattle.vdr_terms.specs.Rates.{is_configured}
 use Rattle.vdr_terms.specs.Records.{none_missed, total}
 use Rattle.vdr_config.specs.Sizes.{limits_in}
-use Rattle.vdr_history.specs.Histories.{Event, Opening}
-use Rattle.vdr_history.specs.Histories.Act.{Commit}
-use Rattle.vdr_history.specs.Recorder.{closing}
-use Rattle.vdr_history.specs.Runs.{RunStart}
-use Rattle.vdr_history.specs.RunStates.{recorder_in, state_left}
-use Rattle.vdr_history.specs.Taken.{Captured}
+use Rattle.vdr_core.specs.Histories.{Event, Opening}
+use Rattle.vdr_core.specs.Histories.Act.{Commit}
+use Rattle.vdr_core.specs.Recorder.{closing}
+use Rattle.vdr_core.specs.Runs.{RunStart}
+use Rattle.vdr_core.specs.RunStates.{recorder_in, state_left}
+use Rattle.vdr_core.specs.Taken.{Captured}
 use Rattle.vdr_durability.specs.Keeping.{IsWhole}
 use Rattle.vdr_durability.proofs.Whole.{whole_has_not_failed}
 use Rattle.vdr_intake.specs.Ends.{QueueId, Taking}

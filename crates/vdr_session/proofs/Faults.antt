@@ -7,8 +7,8 @@ use Rattle.vdr_recorder.proofs.Continuing.{whole_with}
 use Rattle.vdr_session.specs.declared.mark.Did.{Did}
 use Rattle.vdr_session.specs.declared.mark.Did.TheVariants.{Begin, Take, Save, Release, Look, Miss}
 use Rattle.vdr_session.specs.declared.mark.Mark.{Mark}
-use Rattle.vdr_history.specs.Histories.{Event, Opening}
-use Rattle.vdr_history.specs.Taken.{Captured}
+use Rattle.vdr_core.specs.Histories.{Event, Opening}
+use Rattle.vdr_core.specs.Taken.{Captured}
 use Rattle.vdr_durability.specs.Keeping.{IsWhole}
 use Rattle.vdr_session.specs.Events.{event_of, events_along, is_started}
 use Rattle.vdr_session.specs.Marks.{begins, has_fault, leads, taken_by}

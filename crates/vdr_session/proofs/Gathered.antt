@@ -3,7 +3,7 @@ use Rattle.std.proofs.Common.{◌≡◌, ◌<◌, ◌≤◌, ◌++◌, ℕ, zero
 use Rattle.std.proofs.Math.Dec.{leb}
 use Rattle.std.proofs.lemmas.Bool.Decides.{leb_tells}
 use Rattle.std.proofs.lemmas.List.{get_or_past}
-use Rattle.vdr_history.specs.Taken.{AllFeed, Captured, Feeds, of_group}
+use Rattle.vdr_core.specs.Taken.{AllFeed, Captured, Feeds, of_group}
 use Rattle.vdr_terms.specs.declared.counts.Counts.{Counts}
 use Rattle.vdr_intake.specs.Ends.{QueueId, Taking}
 use Rattle.vdr_outside.specs.declared.port.Port.{Ghosts as PortTells}

@@ -2,10 +2,10 @@
 use Rattle.std.proofs.Common.{◌≡◌, ◌<◌, ◌≤◌, ◌++◌, ◌==◌, ℕ, Bool, true, List, [], ◌∷◌, All, Contains, Option, None, get_or, ⊎_elim, refl, sym, subst}
 use Rattle.std.proofs.lemmas.Bool.{cases_lt, eq-eqb}
 use Rattle.std.proofs.lemmas.List.Elements.{Contains-append_left}
-use Rattle.vdr_history.specs.Taken.{Captured, of_group}
+use Rattle.vdr_core.specs.Taken.{Captured, of_group}
 use Rattle.vdr_intake.specs.Ends.{QueueId, Taking}
 use Rattle.vdr_intake.specs.Items.{IsRun}
-use Rattle.vdr_retention.proofs.Lists.{all_from, contains_filter, none_contained}
+use Rattle.vdr_durability.proofs.Lists.{all_from, contains_filter, none_contained}
 use Rattle.vdr_session.specs.Heads.{AreHeld}
 use Rattle.vdr_session.specs.Lanes.{AreMet, held}
 use Rattle.vdr_session.proofs.Marked.{met_known, met_run}

@@ -3,12 +3,12 @@ use Rattle.std.proofs.Common.{◌≡◌, ◌<◌, ◌≤◌, ◌++◌, ◌+◌, 
 use Rattle.std.proofs.lemmas.List.{get_or-set_same, get_or-set_other}
 use Rattle.std.proofs.lemmas.List.Sums.{sum_by-append}
 use Rattle.std.proofs.lemmas.List.Elements.{All-cons, All-nil}
-use Rattle.vdr_history.specs.Taken.{Captured, of_group}
+use Rattle.vdr_core.specs.Taken.{Captured, of_group}
 use Rattle.vdr_intake.specs.Ends.{Feeding, QueueId, Taking}
 use Rattle.vdr_intake.specs.Items.{Follows, IsRun, most_items}
 use Rattle.vdr_intake.proofs.Runs.{run_more}
-use Rattle.vdr_pace.specs.Commits.{item_size, items_size, least_item}
-use Rattle.vdr_pace.proofs.ItemSizes.{fit_few}
+use Rattle.vdr_durability.specs.Commits.{item_size, items_size, least_item}
+use Rattle.vdr_durability.proofs.ItemSizes.{fit_few}
 use Rattle.vdr_desk.proofs.Lists.{no_default, at_each}
 use Rattle.vdr_session.specs.Heads.{AreHeld, NoneHeld, Steps}
 use Rattle.vdr_session.specs.Lanes.{AreMet, ArePopped, HasPopped, IsDrained, IsFront, IsMet, Pops, StayJoined, held, joined_to, popped_by}

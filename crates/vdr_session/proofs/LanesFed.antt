@@ -6,7 +6,7 @@ use Rattle.std.proofs.lemmas.Bool.Decides.{leb_tells}
 use Rattle.std.proofs.lemmas.List.{get_or_past}
 use Rattle.vdr_terms.specs.declared.counts.Counts.{Counts}
 use Rattle.vdr_terms.specs.Records.{Item, none_missed}
-use Rattle.vdr_history.specs.Taken.{AllFeed, AreQueued, Captured, Feeds}
+use Rattle.vdr_core.specs.Taken.{AllFeed, AreQueued, Captured, Feeds}
 use Rattle.vdr_intake.specs.Ends.{Feeding, QueueId, Taking}
 use Rattle.vdr_outside.specs.declared.port.Port.{Ghosts as PortTells}
 use Rattle.vdr_capture.specs.declared.lane.Lane.{Lane}

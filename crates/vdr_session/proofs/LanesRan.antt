@@ -1,6 +1,6 @@
 -- A lane through a session: made ready, captured, joined, drained.
 use Rattle.std.proofs.Common.{◌≡◌, ◌<◌, ◌++◌, ℕ, Bool, false, List, [], ◌∷◌, Option, Some, None, length, get_or, set, refl, sym, ap, ◌∙◌, subst, arith}
-use Rattle.vdr_history.specs.Taken.{Captured, of_group}
+use Rattle.vdr_core.specs.Taken.{Captured, of_group}
 use Rattle.vdr_intake.specs.Ends.{QueueId, Taking, Feeding}
 use Rattle.vdr_intake.specs.Items.{IsRun}
 use Rattle.vdr_outside.specs.declared.port.Port.{Ghosts as PortTells}

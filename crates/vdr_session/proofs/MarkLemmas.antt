@@ -6,10 +6,10 @@ use Rattle.std.proofs.lemmas.List.Elements.{All-cons, All-head, All-nil, All-tai
 use Rattle.std.proofs.lemmas.List.Folds.{list_any-append}
 use Rattle.std.proofs.Math.Seq.{drop-append_seam}
 use Rattle.vdr_terms.specs.Records.{Record}
-use Rattle.vdr_history.specs.Histories.{Event}
-use Rattle.vdr_history.specs.Recorder.{recorder_after}
-use Rattle.vdr_history.specs.Runs.{RunStart}
-use Rattle.vdr_history.specs.Taken.{Captured}
+use Rattle.vdr_core.specs.Histories.{Event}
+use Rattle.vdr_core.specs.Recorder.{recorder_after}
+use Rattle.vdr_core.specs.Runs.{RunStart}
+use Rattle.vdr_core.specs.Taken.{Captured}
 use Rattle.vdr_durability.specs.Keeping.{ShowsPrefix, moment_of}
 use Rattle.vdr_outside.specs.Disk.{Image}
 use Rattle.vdr_recorder.specs.Recordings.{RecorderState}

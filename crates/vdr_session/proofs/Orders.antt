@@ -5,10 +5,10 @@ use Rattle.std.proofs.lemmas.Bool.{cases_Bool, le-leb, leb-true}
 use Rattle.vdr_terms.specs.Counting.{next_number}
 use Rattle.vdr_terms.specs.declared.rate.Rate.{Rate}
 use Rattle.std.specs.Prelude.{Option}
-use Rattle.vdr_history.specs.Histories.{Act, Event, Opening, records_of_act}
-use Rattle.vdr_history.specs.RunStates.{RunState, after_act}
-use Rattle.vdr_history.specs.Taken.{Captured}
-use Rattle.vdr_playback.specs.Replies.{Reply}
+use Rattle.vdr_core.specs.Histories.{Act, Event, Opening, records_of_act}
+use Rattle.vdr_core.specs.RunStates.{RunState, after_act}
+use Rattle.vdr_core.specs.Taken.{Captured}
+use Rattle.vdr_durability.specs.Replies.{Reply}
 use Rattle.vdr_outside.specs.Causes.{Rose}
 use Rattle.vdr_outside.specs.Disk.{Disk}
 use Rattle.vdr_config.specs.Configuration.{Selector}

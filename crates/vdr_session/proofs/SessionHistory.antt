@@ -8,13 +8,13 @@ use Rattle.vdr_terms.specs.Rates.{is_configured, limit_of}
 use Rattle.vdr_terms.specs.Records.{Item, Record, none_missed}
 use Rattle.vdr_terms.specs.Counting.{Tally}
 use Rattle.vdr_terms.specs.Datagrams.{is_bad, is_large, verdict}
-use Rattle.vdr_history.specs.Accounts.{Accounts, AccountsPrefix}
-use Rattle.vdr_history.specs.FullCounts.{AreFullSteps, FullCounts}
-use Rattle.vdr_history.specs.Histories.{Opening, recorded}
-use Rattle.vdr_history.specs.Recorder.{closed_run, recorder_after}
-use Rattle.vdr_history.specs.Runs.{RunStart, base_of}
-use Rattle.vdr_history.specs.Sums.{Sums, counted_by, missed_before, missed_in, recorded_in}
-use Rattle.vdr_history.specs.Taken.{AllFeed, Captured, Feeds, of_group}
+use Rattle.vdr_core.specs.Accounts.{Accounts, AccountsPrefix}
+use Rattle.vdr_core.specs.FullCounts.{AreFullSteps, FullCounts}
+use Rattle.vdr_core.specs.Histories.{Opening, recorded}
+use Rattle.vdr_core.specs.Recorder.{closed_run, recorder_after}
+use Rattle.vdr_core.specs.Runs.{RunStart, base_of}
+use Rattle.vdr_core.specs.Sums.{Sums, counted_by, missed_before, missed_in, recorded_in}
+use Rattle.vdr_core.specs.Taken.{AllFeed, Captured, Feeds, of_group}
 use Rattle.vdr_core.specs.Law.{Admits}
 use Rattle.vdr_core.specs.Summary.{CloseAddsUp}
 use Rattle.vdr_core.proofs.RunSums.{close_adds_up}

@@ -6,12 +6,12 @@ use Rattle.vdr_terms.specs.declared.counts.Counts.{Counts}
 use Rattle.vdr_terms.specs.declared.rate.Rate.{Rate}
 use Rattle.vdr_terms.specs.Rates.{is_configured, limit_of}
 use Rattle.vdr_terms.specs.Records.{Item, Record, none_missed}
-use Rattle.vdr_history.specs.FullCounts.{FullCounts}
+use Rattle.vdr_core.specs.FullCounts.{FullCounts}
 use Rattle.vdr_config.specs.Configuration.{Configuration}
 use Rattle.vdr_config.specs.Sizes.{limits_in}
-use Rattle.vdr_history.specs.Histories.{Event, Opening, Settings, recorded}
-use Rattle.vdr_history.specs.Runs.{RunStart}
-use Rattle.vdr_history.specs.Taken.{AllFeed, Captured, of_group}
+use Rattle.vdr_core.specs.Histories.{Event, Opening, Settings, recorded}
+use Rattle.vdr_core.specs.Runs.{RunStart}
+use Rattle.vdr_core.specs.Taken.{AllFeed, Captured, of_group}
 use Rattle.vdr_core.specs.Law.{Admits}
 use Rattle.vdr_durability.proofs.Whole.{whole_has_not_failed}
 use Rattle.vdr_intake.specs.Ends.{QueueId, Taking, full_of}

@@ -1,9 +1,9 @@
 -- What the answer of a start means for the opening.
 use Rattle.std.proofs.Common.{◌≡◌, ◌↔◌, ◌<◌, ◌≤◌, ◌^◌, ℕ, ℤ, false, Option, option_map, Result, Err, ⊎_elim, sym, ap, ◌∙◌, subst, arith, List}
 use Rattle.std.proofs.lemmas.Bool.{cases_lt}
-use Rattle.vdr_history.specs.Histories.{Opening}
-use Rattle.vdr_history.specs.Runs.{RunStart, base_after}
-use Rattle.vdr_history.specs.RunStates.{state_left}
+use Rattle.vdr_core.specs.Histories.{Opening}
+use Rattle.vdr_core.specs.Runs.{RunStart, base_after}
+use Rattle.vdr_core.specs.RunStates.{state_left}
 use Rattle.vdr_outside.specs.Disk.{Disk}
 use Rattle.vdr_recorder.specs.Recordings.{RecorderState}
 use Rattle.vdr_run.specs.Starts.{stamp_of}

@@ -8,12 +8,12 @@ use Rattle.std.proofs.lemmas.List.Elements.{All-nil}
 use Rattle.vdr_terms.specs.Counting.{next_number}
 use Rattle.vdr_terms.specs.Records.{Record}
 use Rattle.vdr_terms.specs.declared.rate.Rate.{Rate}
-use Rattle.vdr_history.specs.Histories.{Event, Opening, recorded, records_of_act}
-use Rattle.vdr_history.specs.Histories.Act.{Commit}
-use Rattle.vdr_history.specs.Recorder.{begun, recorder_after}
-use Rattle.vdr_history.specs.Runs.{RunStart}
-use Rattle.vdr_history.specs.RunStates.{RunState, after_act, begin_run, next_start, recorder_in, state_left}
-use Rattle.vdr_history.specs.Taken.{Captured}
+use Rattle.vdr_core.specs.Histories.{Event, Opening, recorded, records_of_act}
+use Rattle.vdr_core.specs.Histories.Act.{Commit}
+use Rattle.vdr_core.specs.Recorder.{begun, recorder_after}
+use Rattle.vdr_core.specs.Runs.{RunStart}
+use Rattle.vdr_core.specs.RunStates.{RunState, after_act, begin_run, next_start, recorder_in, state_left}
+use Rattle.vdr_core.specs.Taken.{Captured}
 use Rattle.vdr_core.proofs.Commits.{further_items}
 use Rattle.vdr_core.proofs.RecorderHistory.{inside_begins_none}
 use Rattle.vdr_config.specs.Configuration.{Configuration}

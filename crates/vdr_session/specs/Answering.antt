@@ -1,6 +1,6 @@
 -- The orders of a session's desks: what their marks are, and what their answers mean over an opening.
 use Rattle.std.specs.Prelude.{◌≡◌, ◌+◌, ◌-◌, ◌^◌, ℕ, Bool, true, List, cond, min, nat_le}
-use Rattle.vdr_history.specs.Histories.{Opening}
+use Rattle.vdr_core.specs.Histories.{Opening}
 use Rattle.vdr_durability.specs.Keeping.{moment_of}
 use Rattle.vdr_config.specs.Configuration.{Selector}
 use Rattle.vdr_control.specs.Orders.{PlainOrder}

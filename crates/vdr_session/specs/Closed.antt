@@ -1,6 +1,6 @@
 -- What a session comes to, by the marks of its turns.
 use Rattle.std.specs.Prelude.{◌≡◌, ◌<◌, ◌++◌, ◌⊎◌, ℕ, Bool, true, false, List, [], get_or, length, Option, None}
-use Rattle.vdr_history.specs.Taken.{Captured}
+use Rattle.vdr_core.specs.Taken.{Captured}
 use Rattle.vdr_intake.specs.Ends.{QueueId, Taking}
 use Rattle.vdr_outside.specs.declared.port.Port.{Ghosts as PortTells}
 use Rattle.vdr_outside.specs.declared.link.Link.{Ghosts as LinkTells}

@@ -1,7 +1,7 @@
 -- What a session comes to at its desks (this project's profile): each line that a link gave is answered once and in order; one that asks for an
 -- order is one event of the session's history, and its reply is a function of the history before that.
 use Rattle.std.specs.Prelude.{◌≡◌, ◌≢◌, ◌<◌, ◌⊎◌, ℕ, false, List, [], length, get_or, Some, None, ⊤}
-use Rattle.vdr_history.specs.Histories.{Event, Opening}
+use Rattle.vdr_core.specs.Histories.{Event, Opening}
 use Rattle.vdr_outside.specs.declared.link.Link.{Ghosts as LinkTells}
 use Rattle.vdr_config.specs.Configuration.{Selector}
 use Rattle.vdr_capture.specs.declared.lane.Cause.{Cause}

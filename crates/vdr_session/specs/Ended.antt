@@ -2,8 +2,8 @@
 use Rattle.std.specs.Prelude.{◌≡◌, ◌⊎◌, ◌++◌, ℕ, Bool, true, false, List, sum, Option}
 use Rattle.vdr_terms.specs.declared.counts.Counts.{Counts}
 use Rattle.vdr_terms.specs.Records.{none_missed}
-use Rattle.vdr_history.specs.Histories.{Event, Opening, recorded}
-use Rattle.vdr_history.specs.Recorder.{closed_run}
+use Rattle.vdr_core.specs.Histories.{Event, Opening, recorded}
+use Rattle.vdr_core.specs.Recorder.{closed_run}
 use Rattle.vdr_durability.specs.Keeping.{IsWhole}
 use Rattle.vdr_intake.specs.Ends.{QueueId, Taking}
 use Rattle.vdr_outside.specs.Causes.{NoneFalls, Rose}

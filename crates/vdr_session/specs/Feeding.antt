@@ -2,7 +2,7 @@
 use Rattle.std.specs.Prelude.{◌≡◌, ◌≤◌, ◌<◌, ◌++◌, ℕ, List, [], All, get_or, Option, Some, None}
 use Rattle.vdr_terms.specs.declared.counts.Counts.{Counts}
 use Rattle.vdr_terms.specs.Records.{Item, none_missed}
-use Rattle.vdr_history.specs.Taken.{Captured, Feeds}
+use Rattle.vdr_core.specs.Taken.{Captured, Feeds}
 use Rattle.vdr_intake.specs.Ends.{QueueId, Taking}
 use Rattle.vdr_outside.specs.declared.port.Port.{Ghosts as PortTells}
 use Rattle.vdr_capture.specs.declared.lane.Lane.{Lane}

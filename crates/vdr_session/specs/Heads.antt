@@ -1,6 +1,6 @@
 -- The oldest item of each queue, which is held until a batch takes it.
 use Rattle.std.specs.Prelude.{◌≡◌, ◌<◌, ◌≤◌, ◌++◌, ◌^◌, ℕ, Bool, List, [], All, get_or, Option, Some, None}
-use Rattle.vdr_history.specs.Taken.{Captured, of_group}
+use Rattle.vdr_core.specs.Taken.{Captured, of_group}
 use Rattle.vdr_intake.specs.Ends.{QueueId, Taking}
 use Rattle.vdr_session.specs.Lanes.{IsMet, held, joined_to, popped_by}
 

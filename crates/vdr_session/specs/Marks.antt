@@ -1,9 +1,9 @@
 -- The marks of a session: what each turn at the latch did.
 use Rattle.std.specs.Prelude.{◌≡◌, ◌≤◌, ◌++◌, ℕ, Bool, true, false, List, [], ◌∷◌, flat_map, All, ◌&&◌, is_some, not, None, ◌⊎◌}
 use Rattle.std.specs.List.{list_any}
-use Rattle.vdr_history.specs.Taken.{Captured, of_group}
+use Rattle.vdr_core.specs.Taken.{Captured, of_group}
 use Rattle.vdr_intake.specs.Items.{IsRun}
-use Rattle.vdr_pace.specs.Commits.{items_size}
+use Rattle.vdr_durability.specs.Commits.{items_size}
 use Rattle.vdr_session.specs.declared.mark.Did.{Did}
 use Rattle.vdr_session.specs.declared.mark.Did.TheVariants.{Begin, Take, Save, Release, Look, Miss}
 use Rattle.vdr_session.specs.declared.mark.Mark.{Mark}

@@ -3,7 +3,7 @@ use Rattle.std.specs.Prelude.{◌≡◌, ◌≤◌, ◌++◌, ℕ, Bool, true, L
 use Rattle.vdr_terms.specs.declared.counts.Counts.{Counts}
 use Rattle.vdr_terms.specs.Counting.{Tally, no_tally}
 use Rattle.vdr_terms.specs.Records.{Item, none_missed}
-use Rattle.vdr_history.specs.Taken.{Captured}
+use Rattle.vdr_core.specs.Taken.{Captured}
 use Rattle.vdr_intake.specs.Ends.{QueueId, Taking, Feeding}
 use Rattle.vdr_outside.specs.Causes.{Rose}
 use Rattle.vdr_outside.specs.declared.port.Port.{Ghosts as PortTells}

@@ -5,13 +5,13 @@ use Rattle.std.specs.Prelude.{◌≡◌, ◌≢◌, ◌<◌, ◌++◌, ◌⊎◌
 use Rattle.vdr_terms.specs.declared.counts.Counts.{Counts}
 use Rattle.vdr_terms.specs.declared.rate.Rate.{Rate}
 use Rattle.vdr_terms.specs.Records.{Item, Record}
-use Rattle.vdr_history.specs.Accounts.{Accounts, AccountsPrefix}
-use Rattle.vdr_history.specs.FullCounts.{FullCounts}
-use Rattle.vdr_history.specs.Histories.{Event, IsHistory, Opening, recorded}
-use Rattle.vdr_history.specs.Recorder.{closed_run, recorder_after}
-use Rattle.vdr_history.specs.RunStates.{IsRecorderHistory}
-use Rattle.vdr_history.specs.Runs.{RunStart, base_of}
-use Rattle.vdr_history.specs.Taken.{AllFeed, Captured}
+use Rattle.vdr_core.specs.Accounts.{Accounts, AccountsPrefix}
+use Rattle.vdr_core.specs.FullCounts.{FullCounts}
+use Rattle.vdr_core.specs.Histories.{Event, IsHistory, Opening, recorded}
+use Rattle.vdr_core.specs.Recorder.{closed_run, recorder_after}
+use Rattle.vdr_core.specs.RunStates.{IsRecorderHistory}
+use Rattle.vdr_core.specs.Runs.{RunStart, base_of}
+use Rattle.vdr_core.specs.Taken.{AllFeed, Captured}
 use Rattle.vdr_durability.specs.Keeping.{IsWhole, Keeps}
 use Rattle.vdr_intake.specs.Ends.{QueueId, Taking, full_of}
 use Rattle.vdr_outside.specs.Causes.{NoneFalls, Rose}

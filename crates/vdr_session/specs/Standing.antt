@@ -1,13 +1,13 @@
 -- A recorder under the latch, after these marks.
 use Rattle.std.specs.Prelude.{◌≡◌, ◌≢◌, ◌≤◌, ◌<◌, ◌⊎◌, ◌+◌, ◌*◌, ◌^◌, ℕ, Bool, true, false, List, [], length, cond, sum, All, Option, None, ⊤}
 use Rattle.vdr_terms.specs.Counting.{next_number}
-use Rattle.vdr_history.specs.Histories.{Event, Opening, recorded}
-use Rattle.vdr_history.specs.RunStates.{next_start, state_left}
-use Rattle.vdr_history.specs.Runs.{base_after}
+use Rattle.vdr_core.specs.Histories.{Event, Opening, recorded}
+use Rattle.vdr_core.specs.RunStates.{next_start, state_left}
+use Rattle.vdr_core.specs.Runs.{base_after}
 use Rattle.vdr_terms.specs.declared.rate.Rate.{Rate}
 use Rattle.vdr_config.specs.Configuration.{Selector}
 use Rattle.vdr_durability.specs.Keeping.{ShowsPrefix, moment_of}
-use Rattle.vdr_history.specs.Taken.{Captured}
+use Rattle.vdr_core.specs.Taken.{Captured}
 use Rattle.vdr_outside.specs.Causes.{NoneFalls, Rose}
 use Rattle.vdr_outside.specs.Disk.{Disk, Image}
 use Rattle.vdr_vault.specs.Calls.{SameElsewhere}

@@ -1,10 +1,10 @@
 -- What a session's counters come to.
 use Rattle.std.specs.Prelude.{◌≤◌, ◌<◌, ℕ, List, length, Option, Some, None, IfSome}
 use Rattle.vdr_terms.specs.Counting.{Tally}
-use Rattle.vdr_history.specs.Recorder.{recorder_after}
-use Rattle.vdr_history.specs.Runs.{RunStart}
-use Rattle.vdr_history.specs.Sums.{counted_by, recorded_in}
-use Rattle.vdr_history.specs.Taken.{Captured}
+use Rattle.vdr_core.specs.Recorder.{recorder_after}
+use Rattle.vdr_core.specs.Runs.{RunStart}
+use Rattle.vdr_core.specs.Sums.{counted_by, recorded_in}
+use Rattle.vdr_core.specs.Taken.{Captured}
 use Rattle.vdr_intake.specs.Ends.{Taking}
 use Rattle.vdr_capture.specs.declared.sums.GroupSums.{GroupSums}
 

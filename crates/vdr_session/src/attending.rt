@@ -1,9 +1,9 @@
 // The desks beside the captures and the recorder's loop.
 ghost use Rattle.std.specs.Prelude.{◌≡◌, ◌≤◌, ◌<◌, ◌/◌, ◌++◌, ◌^◌, ℕ, List, [], All, None, Some, true, false, slice_index_or, length};
 ghost use mathlib.Core.List.{IsPrefix};
-ghost use Rattle.vdr_history.specs.Taken.{Captured as CapturedTold};
+ghost use Rattle.vdr_core.specs.Taken.{Captured as CapturedTold};
 ghost use Rattle.vdr_latch.specs.Passes.{Passing};
-ghost use Rattle.vdr_pace.specs.Commits.{largest_item, least_item};
+ghost use Rattle.vdr_durability.specs.Commits.{largest_item, least_item};
 ghost use Rattle.vdr_intake.specs.Items.{most_items};
 ghost use Rattle.vdr_capture.specs.Lanes.{CapturesHeld, IsReadyAmong};
 ghost use Rattle.vdr_desk.specs.Desks.{HasServed, Serves};

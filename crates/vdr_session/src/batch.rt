@@ -13,7 +13,7 @@ pub(crate) struct Batch {
 }
 
 impl<T: Records> Job<T> for Batch {
-    ghost use Rattle.vdr_history.specs.Taken.{Captured as CapturedTold};
+    ghost use Rattle.vdr_core.specs.Taken.{Captured as CapturedTold};
     ghost use Rattle.vdr_session.specs.Marks.{IsMarkOf, MayTake};
 
     ghost asks = { λ j x. (popped : List CapturedTold) × T.takes popped x × MayTake T.room T.configured popped j.items.items };

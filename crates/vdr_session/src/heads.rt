@@ -1,7 +1,7 @@
 // The oldest item of each queue, held until a batch takes it.
 ghost use Rattle.std.specs.Prelude.{◌≡◌, ◌≤◌, ◌<◌, ◌+◌, ◌/◌, ◌++◌, ℕ, Bool, List, [], true, None, Some, IfSome, get_or, length};
-ghost use Rattle.vdr_history.specs.Taken.{Captured as CapturedTold};
-ghost use Rattle.vdr_pace.specs.Commits.{items_size, least_item};
+ghost use Rattle.vdr_core.specs.Taken.{Captured as CapturedTold};
+ghost use Rattle.vdr_durability.specs.Commits.{items_size, least_item};
 ghost use Rattle.vdr_session.specs.Heads.{AreHeld, IsOldest, NoneHeld, received_of as received};
 ghost use Rattle.vdr_session.specs.Lanes.{AreDrained, AreMet, StayJoined, held};
 

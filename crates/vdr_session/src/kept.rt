@@ -12,7 +12,7 @@ pub(crate) trait Lent {
     ghost use Rattle.std.specs.Prelude.{ℕ, List};
     ghost use Rattle.vdr_terms.specs.declared.rate.Rate.{Rate};
     ghost use Rattle.std.specs.Prelude.{Option};
-    ghost use Rattle.vdr_history.specs.Histories.{Opening};
+    ghost use Rattle.vdr_core.specs.Histories.{Opening};
     ghost use Rattle.vdr_outside.specs.Disk.{Image};
     ghost use Rattle.vdr_config.specs.Configuration.{Selector};
 
@@ -96,7 +96,7 @@ impl<'a, M: Media, O: Lent> Records for Kept<'a, M, O> {
     ghost use Rattle.vdr_terms.specs.Rates.{is_configured};
     ghost use Rattle.vdr_config.specs.Sizes.{limits_in};
     ghost use Rattle.vdr_session.specs.Standing.{IsFresh, IsTaking, StartMeans, batch_mark, start_mark};
-    ghost use Rattle.vdr_history.specs.Histories.{Opening};
+    ghost use Rattle.vdr_core.specs.Histories.{Opening};
     ghost use Rattle.std.specs.Prelude.{ℕ};
 
     ghost room = { O.room };

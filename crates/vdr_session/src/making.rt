@@ -1,6 +1,6 @@
 // The memory of a session, before it begins.
 ghost use Rattle.std.specs.Prelude.{◌≡◌, ◌≤◌, ◌<◌, ◌/◌, ℕ, [], None, OnOk, IfOk, length, replicate, get_or, slice_index_or, false};
-ghost use Rattle.vdr_pace.specs.Commits.{least_item};
+ghost use Rattle.vdr_durability.specs.Commits.{least_item};
 ghost use Rattle.vdr_session.specs.Ran.{IsSetUp, LaneIsReady};
 
 use crate::batch::Batch;

@@ -2,7 +2,7 @@ ghost use Rattle.std.specs.Prelude.{◌≡◌, ◌≤◌, ◌<◌, ℕ, false, l
 ghost use Rattle.vdr_terms.specs.Rates.{is_configured};
 ghost use Rattle.vdr_config.specs.Configuration.{IsConfiguration};
 ghost use Rattle.vdr_config.specs.Sizes.{limits_in};
-ghost use Rattle.vdr_pace.specs.Commits.{largest_item};
+ghost use Rattle.vdr_durability.specs.Commits.{largest_item};
 
 use vdr_config::Config;
 

@@ -1,6 +1,6 @@
 // Popping the queue of one group.
 ghost use Rattle.std.specs.Prelude.{◌≡◌, ◌≤◌, ◌<◌, ◌∷◌, ◌++◌, ℕ, Bool, List, [], true, None, Some, length};
-ghost use Rattle.vdr_pace.specs.Commits.{items_size};
+ghost use Rattle.vdr_durability.specs.Commits.{items_size};
 ghost use Rattle.vdr_intake.specs.Items.{IsRun};
 ghost use Rattle.vdr_session.specs.Heads.{Steps};
 ghost use Rattle.vdr_session.specs.Lanes.{AllPopped, HasPopped, IsDrained, IsFront, IsMet, Pops, held};

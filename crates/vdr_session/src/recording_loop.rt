@@ -1,8 +1,8 @@
 // The recorder's loop.
 ghost use Rattle.std.specs.Prelude.{◌≡◌, ◌≤◌, ◌<◌, ◌/◌, ◌++◌, ℕ, List, [], true, false, length};
 ghost use mathlib.Core.List.{IsPrefix};
-ghost use Rattle.vdr_history.specs.Taken.{Captured as CapturedTold};
-ghost use Rattle.vdr_pace.specs.Commits.{largest_item, least_item};
+ghost use Rattle.vdr_core.specs.Taken.{Captured as CapturedTold};
+ghost use Rattle.vdr_durability.specs.Commits.{largest_item, least_item};
 ghost use Rattle.vdr_session.specs.declared.mark.Mark.{Mark as Marked};
 ghost use Rattle.vdr_session.specs.Lanes.{AreDrained, AreMet, ArePopped, StayJoined};
 ghost use Rattle.vdr_session.specs.Marks.{is_begun, is_leading, has_fault, taken_in};

@@ -1,6 +1,6 @@
 // What a value under the latch is to the recorder's loop.
 ghost use Rattle.std.specs.Prelude.{◌≡◌, ◌⊎◌, ◌++◌, ◌∷◌, ℕ, Bool, List, [], true, false};
-ghost use Rattle.vdr_history.specs.Taken.{Captured as CapturedTold};
+ghost use Rattle.vdr_core.specs.Taken.{Captured as CapturedTold};
 ghost use Rattle.vdr_session.specs.declared.mark.Mark.{Mark as Marked};
 ghost use Rattle.vdr_session.specs.declared.records.Began.{Began as HowBegun};
 ghost use Rattle.vdr_session.specs.declared.records.Began.TheVariants.{Place, Tick};

@@ -2,8 +2,8 @@
 ghost use Rattle.std.specs.Prelude.{◌≡◌, ◌≤◌, ◌<◌, ◌/◌, ◌++◌, ℕ, List, [], All, true, false, get_or, slice_index_or, length, None};
 ghost use mathlib.Core.List.{IsPrefix};
 ghost use Rattle.vdr_desk.specs.Desks.{HasServed};
-ghost use Rattle.vdr_history.specs.Taken.{Captured as CapturedTold};
-ghost use Rattle.vdr_pace.specs.Commits.{largest_item, least_item};
+ghost use Rattle.vdr_core.specs.Taken.{Captured as CapturedTold};
+ghost use Rattle.vdr_durability.specs.Commits.{largest_item, least_item};
 ghost use Rattle.vdr_intake.specs.Items.{most_items};
 ghost use Rattle.vdr_capture.specs.Lanes.{CapturesHeld, IsReadyAmong};
 ghost use Rattle.vdr_session.specs.declared.mark.Mark.{Mark as Marked};

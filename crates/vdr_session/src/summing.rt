@@ -1,7 +1,7 @@
 // What a session came to.
 ghost use Rattle.std.specs.Prelude.{◌≡◌, ◌≢◌, ◌<◌, ℕ, List, length, true, Option, Some, None, is_some, get_or, slice_index_or, IfSome, IsNone};
-ghost use Rattle.vdr_history.specs.Runs.{RunStart};
-ghost use Rattle.vdr_history.specs.Taken.{Captured as CapturedTold};
+ghost use Rattle.vdr_core.specs.Runs.{RunStart};
+ghost use Rattle.vdr_core.specs.Taken.{Captured as CapturedTold};
 ghost use Rattle.vdr_intake.specs.Ends.{QueueId, Taking};
 ghost use Rattle.vdr_capture.specs.declared.lane.Cause.TheVariants.{Failed};
 ghost use Rattle.vdr_run.specs.Making.{CountsItems, rest_of};

@@ -1,7 +1,7 @@
 // A session over a value, from the making of the latch to its close.
 ghost use Rattle.std.specs.Prelude.{◌≡◌, ◌≤◌, ◌<◌, ◌/◌, ◌++◌, ◌∷◌, ◌^◌, ℕ, List, [], true, false, get_or, slice_index_or, length, None, IfOk, IfErr};
 ghost use Rattle.std.specs.List.{filter};
-ghost use Rattle.vdr_pace.specs.Commits.{largest_item, least_item};
+ghost use Rattle.vdr_durability.specs.Commits.{largest_item, least_item};
 ghost use Rattle.vdr_intake.specs.Items.{most_items};
 ghost use Rattle.vdr_session.specs.declared.mark.Mark.{Mark as Marked};
 ghost use Rattle.vdr_session.specs.Marks.{is_begun, is_leading, taken_in};

@@ -14,7 +14,7 @@ use Rattle.vdr_datagram.specs.Lines.{and_lines, cut, cut_behind, with_byte}
 use Rattle.vdr_datagram.specs.Tokens.{token}
 use Rattle.vdr_datagram.specs.Verdicts.{LineSpan, line_spans, spans_from, spans_under}
 use Rattle.vdr_datagram.specs.Views.{span_of}
-use Rattle.vdr_playback.specs.Sources.{Line as ALine, Row, readings_of, with_line}
+use Rattle.vdr_durability.specs.Sources.{Line as ALine, Row, readings_of, with_line}
 use Rattle.vdr_sources.specs.Rows.{line_told, lines_at}
 use Rattle.vdr_sources.specs.Tables.{lines_in, with_record, read_lines, reading_of}
 use Rattle.vdr_sources.proofs.Names.{line_short}

@@ -6,8 +6,8 @@ use Rattle.std.specs.Option.{option_or}
 use Rattle.std.proofs.lemmas.Bool.{and_parts, leb-true}
 use Rattle.vdr_tag.specs.declared.bad.BadTag.{BadTag}
 use Rattle.vdr_tag.specs.declared.grouping.Grouping.{Grouping}
-use Rattle.vdr_digits.specs.Checksum.{covered}
-use Rattle.vdr_digits.specs.Digits.{number}
+use Rattle.vdr_bytes.specs.Checksum.{covered}
+use Rattle.vdr_bytes.specs.Digits.{number}
 use Rattle.vdr_tag.specs.Values.{TagValues, all_said, code_named, grouping, is_identifier, nothing, over, said_by}
 use Rattle.vdr_tag.specs.Items.{item_values, items, values_in}
 use Rattle.vdr_tag.specs.Blocks.{block_refusal, block_values}

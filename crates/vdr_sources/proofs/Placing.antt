@@ -7,9 +7,9 @@ use Rattle.std.proofs.lemmas.Bool.{cases_lt}
 use Rattle.std.proofs.lemmas.List.Elements.{All-cons, All-head, All-nil, All-tail}
 use Rattle.std.proofs.lemmas.List.Sums.{fold-append}
 use Rattle.std.proofs.lemmas.Option.{get_or_from_slice_get, slice_get_read, slice_get_within, same_Some, none-some}
-use Rattle.vdr_playback.specs.Sources.{AreSorted, Line, Row, Source, first_row, one_line, put_line, source_cmp, with_line}
-use Rattle.vdr_playback.proofs.SourceOrder.{before_both, one_where, turned}
-use Rattle.vdr_playback.proofs.Tables.{are_rows}
+use Rattle.vdr_durability.specs.Sources.{AreSorted, Line, Row, Source, first_row, one_line, put_line, source_cmp, with_line}
+use Rattle.vdr_durability.proofs.SourceOrder.{before_both, one_where, turned}
+use Rattle.vdr_durability.proofs.Tables.{are_rows}
 use Rattle.vdr_sources.specs.Rows.{ComesBefore, ComesBehind, IsAt, IsGap, IsTable}
 
 -- Sorted rows by their places.

@@ -2,7 +2,7 @@
 use Rattle.std.specs.Prelude.{◌≡◌, ◌≤◌, ◌<◌, ℕ, ℤ, List, length, map, All, Some, slice_get}
 use Rattle.std.specs.declared.cmp.Ordering.TheVariants.{Less, Equal, Greater}
 use Rattle.vdr_terms.specs.Stamps.{IsStamp}
-use Rattle.vdr_playback.specs.Sources.{Line, Reading, Row, Source, source_cmp, table_of}
+use Rattle.vdr_durability.specs.Sources.{Line, Reading, Row, Source, source_cmp, table_of}
 use Rattle.vdr_sources.specs.declared.line.Told.{Told}
 
 -- What a line says.

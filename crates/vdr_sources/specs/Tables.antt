@@ -6,7 +6,7 @@ use Rattle.vdr_terms.specs.Records.{Record}
 use Rattle.vdr_entry.specs.Utc.{utc_text}
 use Rattle.vdr_datagram.specs.Verdicts.{LineReading, line_spans}
 use Rattle.vdr_datagram.specs.Verdicts.LineReading.{Good, Tag, Sentence}
-use Rattle.vdr_playback.specs.Sources.{Line, Reading, Row, lines_of, table_of, with_line}
+use Rattle.vdr_durability.specs.Sources.{Line, Reading, Row, lines_of, table_of, with_line}
 
 -- The name of a line that names no source.
 abbrev pub named : Option (List ℕ) → List ℕ

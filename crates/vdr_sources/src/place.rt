@@ -1,6 +1,6 @@
 // Where the row of a source stands among rows that are sorted.
 ghost use Rattle.std.specs.Prelude.{◌≡◌, IfErr, IfOk, length};
-ghost use Rattle.vdr_playback.specs.Sources.{AreSorted};
+ghost use Rattle.vdr_durability.specs.Sources.{AreSorted};
 ghost use Rattle.vdr_sources.specs.Rows.{IsAt, IsGap};
 
 use crate::row::Row;

@@ -3,7 +3,7 @@ ghost use Rattle.std.specs.Prelude.{◌≡◌, ◌≤◌, ◌<◌, ◌+◌, ◌^
 ghost use Rattle.arrayvec.specs.ArrayVec.{array_vec_len};
 ghost use Rattle.vdr_terms.specs.Stamps.{IsStamp};
 ghost use Rattle.vdr_entry.specs.Utc.{utc_text};
-ghost use Rattle.vdr_playback.specs.Sources.{break_at, first_row, is_next, one_line, source_cmp};
+ghost use Rattle.vdr_durability.specs.Sources.{break_at, first_row, is_next, one_line, source_cmp};
 ghost use Rattle.vdr_sources.specs.Rows.{line_told, reading_told};
 ghost use Rattle.vdr_sources.specs.Tables.{row_text};
 
@@ -34,7 +34,7 @@ pub(crate) struct Row {
 }
 
 impl Model for Row {
-    ghost use Rattle.vdr_playback.specs.Sources.{Row as ARow};
+    ghost use Rattle.vdr_durability.specs.Sources.{Row as ARow};
     ghost use Rattle.vdr_sources.specs.Rows.{IsKept};
 
     ghost Value = { ARow };

@@ -1,6 +1,6 @@
 ghost use Rattle.std.specs.Prelude.{◌≡◌, ◌≤◌, ◌<◌, ◌+◌, ◌^◌, [], All, List, OnErr, OnOk, fold, length, map, vec_capacity, vec_len};
 ghost use Rattle.vdr_terms.specs.Stamps.{IsStamp};
-ghost use Rattle.vdr_playback.specs.Sources.{with_line};
+ghost use Rattle.vdr_durability.specs.Sources.{with_line};
 ghost use Rattle.vdr_sources.specs.Rows.{IsTable, line_told, lines_at, reading_told};
 ghost use Rattle.vdr_sources.specs.Tables.{read_lines, with_record};
 
@@ -27,7 +27,7 @@ pub struct SourceTable {
 
 impl Model for SourceTable {
     ghost use Rattle.std.specs.Prelude.{List};
-    ghost use Rattle.vdr_playback.specs.Sources.{Row as ARow};
+    ghost use Rattle.vdr_durability.specs.Sources.{Row as ARow};
     ghost use Rattle.vdr_sources.specs.Rows.{IsTable};
 
     ghost Value = { List ARow };

@@ -1,7 +1,7 @@
 -- What an item adds to what was said before it, by its code.
 use Rattle.std.proofs.Common.{◌≡◌, ap, refl, ℕ, true, List, Option, Some, None, Bor, option_copied}
 use Rattle.std.specs.Option.{option_or}
-use Rattle.vdr_digits.specs.Digits.{number}
+use Rattle.vdr_bytes.specs.Digits.{number}
 use Rattle.vdr_tag.specs.declared.grouping.Grouping.{Grouping}
 use Rattle.vdr_tag.specs.declared.code.Code.{Code}
 use Rattle.vdr_tag.specs.declared.code.Code.TheVariants.{Source, Destination, Line, Group, Time, Relative, Text}

@@ -7,9 +7,9 @@ use Rattle.std.proofs.Math.Seq.{take-append_seam, drop-append-add, get_or-append
 use Rattle.std.proofs.lemmas.List.{get_or-take, get_or_append_left}
 use Rattle.std.proofs.lemmas.List.Folds.{length-prefix_len}
 use Rattle.std.proofs.lemmas.List.Sums.{passes_at_first, split_at_first, list_all-from_AllPass, AllPass-from_list_all, prefix_len_is, prefix_len_passes}
-use Rattle.vdr_digits.specs.Checksum.{checksum, covered, written}
-use Rattle.vdr_digits.proofs.ChecksumLemmas.{HasField-from_written, written-from_HasField, covered-from_HasField}
-use Rattle.vdr_digits.proofs.Refusals.{row_none}
+use Rattle.vdr_bytes.specs.Checksum.{checksum, covered, written}
+use Rattle.vdr_bytes.proofs.ChecksumLemmas.{HasField-from_written, written-from_HasField, covered-from_HasField}
+use Rattle.vdr_bytes.proofs.Refusals.{row_none}
 use Rattle.vdr_tag.specs.declared.bad.BadTag.{BadTag}
 use Rattle.vdr_tag.specs.declared.bad.BadTag.TheVariants.{Wrong, Field, Value}
 use Rattle.vdr_tag.specs.Values.{TagValues, all_said, code_named, said_by}

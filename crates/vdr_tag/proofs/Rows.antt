@@ -1,6 +1,6 @@
 -- Worked examples, by computation.
 use Rattle.std.proofs.Common.{◌≡◌, ◌++◌, ℕ, List, [], ◌∷◌, Some, Ok, Err, refl, codes}
-use Rattle.vdr_digits.specs.Checksum.{checksum}
+use Rattle.vdr_bytes.specs.Checksum.{checksum}
 use Rattle.vdr_tag.specs.declared.bad.BadTag.TheVariants.{Unclosed, Missing, Wrong, Field, Value}
 use Rattle.vdr_tag.specs.Values.{nothing}
 use Rattle.vdr_tag.specs.Items.{items_refusal}

@@ -1,7 +1,7 @@
 -- A TAG block between its two `\`: items, and the checksum field of their text (IEC 61162-450).
 use Rattle.std.specs.Prelude.{◌≡◌, ℕ, true, not, ◌==◌, List, Option, Some, None, if◌then◌else◌}
 use Rattle.std.specs.List.{AllZip, list_all}
-use Rattle.vdr_digits.specs.Checksum.{HasField, checksum, covered, written}
+use Rattle.vdr_bytes.specs.Checksum.{HasField, checksum, covered, written}
 use Rattle.vdr_tag.specs.declared.bad.BadTag.{BadTag}
 use Rattle.vdr_tag.specs.declared.bad.BadTag.TheVariants.{Missing, Wrong}
 use Rattle.vdr_tag.specs.Values.{TagValues, all_said}

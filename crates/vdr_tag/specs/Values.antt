@@ -2,7 +2,7 @@
 use Rattle.std.specs.Prelude.{ℕ, ◌+◌, min, Bool, ◌&&◌, ◌==◌, nat_le, List, [], ◌∷◌, length, Option, Some, None, option_map, if◌then◌else◌}
 use Rattle.std.specs.Option.{option_or}
 use Rattle.vdr_terms.specs.Texts.{are_graphic}
-use Rattle.vdr_digits.specs.Digits.{number}
+use Rattle.vdr_bytes.specs.Digits.{number}
 use Rattle.vdr_tag.specs.Parts.{parts}
 use Rattle.vdr_tag.specs.declared.grouping.Grouping.{Grouping}
 use Rattle.vdr_tag.specs.declared.code.Code.{Code}

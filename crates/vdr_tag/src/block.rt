@@ -9,7 +9,7 @@ use crate::bad::BadTag;
 use crate::items::read_items;
 use crate::split::split_once;
 use crate::tags::Tags;
-use vdr_digits::{checksum, split_checksum};
+use vdr_bytes::{checksum, split_checksum};
 
 /// The bytes behind the `\` that opens a block at the front. None where no block is opened there.
 pub(crate) fn open(bytes: &[u8]) -> Option<&[u8]>

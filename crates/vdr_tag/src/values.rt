@@ -8,7 +8,7 @@ use crate::code::Code;
 use crate::grouping::Grouping;
 use crate::split::split_once;
 use crate::tags::Tags;
-use vdr_digits::number;
+use vdr_bytes::number;
 use vdr_terms::are_graphic;
 
 // The value where it is an identifier.

@@ -11,9 +11,9 @@ use Rattle.vdr_media.specs.Formatted.{IsFormatted, IsUnformatted}
 use Rattle.vdr_entry.specs.Queries.{asked_medium}
 use Rattle.vdr_entry.specs.declared.query.Medium.{Medium}
 use Rattle.vdr_entry.specs.declared.query.Medium.TheVariants.{Capsule, LongTerm}
-use Rattle.vdr_history.specs.Histories.{Event, Opening}
-use Rattle.vdr_history.specs.Histories as histories
-use Rattle.vdr_playback.specs.Playback.{selected}
+use Rattle.vdr_core.specs.Histories.{Event, Opening}
+use Rattle.vdr_core.specs.Histories as histories
+use Rattle.vdr_durability.specs.Playback.{selected}
 use Rattle.vdr_directory.specs.Sequence.{Placed}
 use Rattle.vdr_opening.specs.Media.{members, Contents, HoldsContents, opening_of, reading_of}
 use Rattle.vdr_opening.specs.Refusals.{IsRefused}
@@ -24,11 +24,11 @@ use Rattle.vdr_vault.specs.Openings.{OpensAtEachMoment}
 use Rattle.vdr_vault.specs.Regularity.{AreSound}
 use Rattle.vdr_vault.specs.Vaults.{IsReadable, VaultState, ShowsHistory, Stands}
 use Rattle.vdr_vault.proofs.Playing.{stands_to_read}
-use Rattle.vdr_headline.proofs.Resting.{stand_reads}
-use Rattle.vdr_visit.specs.Refusals.{IsAccepted, lacks_incident}
-use Rattle.vdr_visit.specs.Visits.{AreVisited}
-use Rattle.vdr_visit.specs.declared.refused.VisitRefused.{VisitRefused}
-use Rattle.vdr_visit.specs.declared.refused.VisitRefused.TheVariants as visits
+use Rattle.vdr_recorder.proofs.Resting.{stand_reads}
+use Rattle.vdr_vault.specs.Refusals.{IsAccepted, lacks_incident}
+use Rattle.vdr_vault.specs.Visits.{AreVisited}
+use Rattle.vdr_vault.specs.declared.visit_refused.VisitRefused.{VisitRefused}
+use Rattle.vdr_vault.specs.declared.visit_refused.VisitRefused.TheVariants as visits
 use Rattle.vdr_recorder.specs.Looks.{HasLooked}
 use Rattle.vdr_recorder.specs.Recordings.{HasRecorded, RecorderState}
 use Rattle.vdr_command.specs.Opened.{OneAnswer}

@@ -1,7 +1,7 @@
 -- The life of the media goes on with each command that formats nothing.
 use Rattle.std.specs.Bool.{⊤}
 use Rattle.std.proofs.Common.{◌≡◌, ◌⊎◌, inl, inr, ⊎_elim, ℕ, List, Option, Result, refl, sym, subst}
-use Rattle.vdr_history.specs.Histories.{Event}
+use Rattle.vdr_core.specs.Histories.{Event}
 use Rattle.vdr_durability.specs.Keeping.{ShowsPrefix}
 use Rattle.vdr_outside.specs.Disk.{Disk, Image}
 use Rattle.vdr_outside.proofs.Moments.{moments_none}
@@ -9,11 +9,11 @@ use Rattle.vdr_config.specs.Configuration.{Configuration}
 use Rattle.vdr_opening.specs.Media.{members, Contents, HoldsContents, opening_of, reading_of}
 use Rattle.vdr_vault.specs.Openings.{LeavesAll}
 use Rattle.vdr_vault.specs.Vaults.{ShowsHistory}
-use Rattle.vdr_life.specs.Lives.{Life, LivesOn}
-use Rattle.vdr_life.specs.Ours.{RestAs}
-use Rattle.vdr_life.proofs.Lives.{LifeHolds, life_holds, lives_on, lives_still, run_in_order}
-use Rattle.vdr_headline.specs.Headline.{PlaysBack, RecordingHeadline}
-use Rattle.vdr_headline.proofs.Headlines.{prefix_told}
+use Rattle.vdr_vault.specs.Lives.{Life, LivesOn}
+use Rattle.vdr_vault.specs.Ours.{RestAs}
+use Rattle.vdr_vault.proofs.Lives.{LifeHolds, life_holds, lives_on, lives_still, run_in_order}
+use Rattle.vdr_recorder.specs.Headline.{PlaysBack, RecordingHeadline}
+use Rattle.vdr_recorder.proofs.Headlines.{prefix_told}
 use Rattle.vdr_replay.specs.Headline.{AccountsForFeed, LeavesHistory}
 use Rattle.vdr_replay.specs.Headline.RunEnd.{Broken}
 use Rattle.vdr_replay.specs.declared.ended.Replayed.{Replayed}

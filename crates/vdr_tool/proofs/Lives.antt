@@ -1,18 +1,18 @@
 -- Media of this product stay so over each command.
 use Rattle.std.specs.Bool.{⊤}
 use Rattle.std.proofs.Common.{◌≡◌, ◌≤◌, ◌⊎◌, inl, inr, ⊎_elim, ℕ, Bool, List, Option, Result, Err, arith}
-use Rattle.vdr_history.specs.Histories.{Event}
+use Rattle.vdr_core.specs.Histories.{Event}
 use Rattle.vdr_durability.specs.Keeping.{ShowsPrefix}
 use Rattle.vdr_outside.specs.Disk.{Disk, Durable, Image, Unchanged}
 use Rattle.vdr_opening.specs.Media.{Contents, opening_of}
 use Rattle.vdr_vault.specs.Openings.{LeavesAll}
-use Rattle.vdr_headline.specs.Headline.{PlaysBack, RecordingHeadline}
+use Rattle.vdr_recorder.specs.Headline.{PlaysBack, RecordingHeadline}
 use Rattle.vdr_replay.specs.Headline.{AccountsForFeed, LeavesHistory, RunEnd}
 use Rattle.vdr_replay.specs.Headline.RunEnd.{Broken}
 use Rattle.vdr_replay.specs.declared.ended.Replayed.{Replayed}
 use Rattle.vdr_replay.specs.declared.ended.ReplayRefused.{ReplayRefused}
-use Rattle.vdr_life.specs.Ours.{AreOurs, IsOurs, StayOurs}
-use Rattle.vdr_life.proofs.Ours.{ours_formatted, ours_opened, ours_unchanged}
+use Rattle.vdr_vault.specs.Ours.{AreOurs, IsOurs, StayOurs}
+use Rattle.vdr_vault.proofs.Ours.{ours_formatted, ours_opened, ours_unchanged}
 use Rattle.vdr_tool.specs.Commands.{Asked}
 use Rattle.vdr_tool.specs.Commands.Asked.{Review, Check, Format, Replay, Play, Incidents, Save, Release, Sources, Watch, Targets, Wav, Picture, Trial}
 use Rattle.vdr_tool.specs.Formats.{FormatEnds, outcome_of}
@@ -22,8 +22,8 @@ use Rattle.vdr_command.specs.Outside.{MediaFailed, MediaSeen, Outside}
 use Rattle.vdr_tool.specs.Replays.{ReplayEnds}
 use Rattle.vdr_tool.specs.Trials.{LeavesRun, TrialEnds, TrialLeaves, bench, bench_text}
 use Rattle.vdr_terms.specs.Records.{FeedItem}
-use Rattle.vdr_life.specs.Lives.{Life}
-use Rattle.vdr_life.proofs.Lives.{life_ours}
+use Rattle.vdr_vault.specs.Lives.{Life}
+use Rattle.vdr_vault.proofs.Lives.{life_ours}
 use Rattle.vdr_tool.specs.Runs.{page}
 use Rattle.vdr_command.specs.declared.status.Status.{Status}
 use Rattle.vdr_command.specs.declared.status.Status.TheVariants.{Done, MediaFault}

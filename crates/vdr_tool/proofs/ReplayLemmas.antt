@@ -4,7 +4,7 @@ use Rattle.std.specs.Io.KnownBytes.{Appends}
 use Rattle.std.proofs.Common.{◌≡◌, ◌≤◌, ◌<◌, ◌^◌, ◌∷◌, ◌++◌, inl, inr, ℕ, List, [], take, Option, None, Some, Result, Ok, Err, refl, sym, ap, subst, ◌∙◌, arith}
 use Rattle.vdr_terms.specs.Records.{FeedItem}
 use Rattle.vdr_terms.specs.declared.rate.Rate.{Rate}
-use Rattle.vdr_history.specs.Runs.{base_after}
+use Rattle.vdr_core.specs.Runs.{base_after}
 use Rattle.vdr_outside.specs.Causes.{HasCause}
 use Rattle.vdr_outside.specs.Disk.{Image}
 use Rattle.vdr_outside.specs.Writes.{AppendsFront}

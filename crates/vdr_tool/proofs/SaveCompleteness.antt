@@ -1,7 +1,7 @@
 -- By exclusion: what may be listed, saved or released is, and what may not is refused by its own refusal.
 use Rattle.std.proofs.Common.{◌≡◌, inl, inr, ⊎_elim, ℕ, List, Option, Some, None, option_map, refl, sym, ap, subst, ◌∙◌}
-use Rattle.vdr_history.specs.Histories.{Event, Incident, live}
-use Rattle.vdr_history.specs.Runs.{Stamp}
+use Rattle.vdr_core.specs.Histories.{Event, Incident, live}
+use Rattle.vdr_core.specs.Runs.{Stamp}
 use Rattle.vdr_opening.specs.Media.{Contents, HoldsContents, HoldsParts, parts_of}
 use Rattle.vdr_vault.specs.Vaults.{of_stamp}
 use Rattle.vdr_command.specs.Opened.{IfNoIncident, IsOpenableWith, MediaEnds, MetUnsound, OneAnswer, newest_of}

@@ -1,8 +1,8 @@
 -- What `incidents`, `save` and `release` answer, from what the calls on the media ensure.
 use Rattle.std.specs.Prelude.{sum, IfOk, Bool, true, false, ⊤, is_none, position}
 use Rattle.std.proofs.Common.{◌≡◌, ◌≤◌, ◌⊎◌, ◌∷◌, inl, inr, ⊎_elim, ℕ, ℤ, List, [], Option, Some, None, Result, Ok, Err, refl, sym, ap, subst, ◌∙◌}
-use Rattle.vdr_history.specs.Histories.{Act, Event, Incident, Opening, live}
-use Rattle.vdr_history.specs.Histories.Act.{Look, Release, Save}
+use Rattle.vdr_core.specs.Histories.{Act, Event, Incident, Opening, live}
+use Rattle.vdr_core.specs.Histories.Act.{Look, Release, Save}
 use Rattle.vdr_durability.specs.Keeping.{moment_of}
 use Rattle.vdr_durability.specs.Readings.{EndsMeet}
 use Rattle.vdr_outside.specs.Causes.{NoneFalls, Rose}
@@ -35,7 +35,7 @@ use Rattle.vdr_command.specs.declared.status.SaveCause.{SaveCause}
 use Rattle.vdr_command.specs.declared.status.SaveCause.TheVariants.{Label, Nothing, TableFull}
 use Rattle.vdr_command.specs.declared.status.Status.{Status}
 use Rattle.vdr_command.specs.declared.status.Status.TheVariants.{Done, MediaFault, OutputFault, SaveRefused}
-use Rattle.vdr_headline.proofs.Playing.{config_read}
+use Rattle.vdr_recorder.proofs.Playing.{config_read}
 use Rattle.vdr_command.proofs.OpenedLemmas.{OpenedOn, done_either, kept_by_call, missing_looked, missing_still, one_look, opened_so, reads_done, worked_ends}
 
 -- Of a refused opening nothing is printed.

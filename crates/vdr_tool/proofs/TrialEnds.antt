@@ -5,7 +5,7 @@ use Rattle.vdr_terms.specs.Records.{FeedItem, Record, last, second}
 use Rattle.std.proofs.lemmas.List.Sums.{count_by-le-length, length-filter}
 use Rattle.vdr_terms.specs.Queries.{matches}
 use Rattle.vdr_terms.specs.Windows.{in_window, window, window_before}
-use Rattle.vdr_retention.proofs.Lists.{contains_here, contains_there}
+use Rattle.vdr_durability.proofs.Lists.{contains_here, contains_there}
 use Rattle.vdr_durability.specs.Readings.{EndsMeet}
 use Rattle.vdr_outside.specs.Causes.{Rose}
 use Rattle.vdr_config.specs.Configuration.{Configuration}
@@ -17,10 +17,10 @@ use Rattle.vdr_vault.specs.Calls.{SameElsewhere}
 use Rattle.vdr_vault.specs.Regularity.{AreSound}
 use Rattle.vdr_vault.specs.Vaults.{ShowsHistory}
 use Rattle.vdr_vault.proofs.OpenMoments.{never_both}
-use Rattle.vdr_headline.proofs.Headlines.{told_as}
+use Rattle.vdr_recorder.proofs.Headlines.{told_as}
 use Rattle.vdr_replay.specs.Headline.{NothingIsRecorded, ReplayHeadline, RunEnd}
 use Rattle.vdr_replay.specs.Headline.RunEnd.{NotStarted, Closed, Broken}
-use Rattle.vdr_life.proofs.Lives.{LifeHolds, life_config, life_holds, life_windows}
+use Rattle.vdr_vault.proofs.Lives.{LifeHolds, life_config, life_holds, life_windows}
 use Rattle.vdr_command.specs.Endings.{IsWorkDone}
 use Rattle.vdr_command.specs.Opened.{PrintsText}
 use Rattle.vdr_command.specs.Outside.{MediaFailed, MediaSeen, OutputFailed, Outside}

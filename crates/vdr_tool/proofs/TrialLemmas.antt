@@ -5,7 +5,7 @@ use Rattle.std.specs.Str.{is_utf8, chars}
 use Rattle.std.proofs.lemmas.List.Elements.{All-head, All-tail}
 use Rattle.serde_json.proofs.OnLiterals.{serde_json_on_literals}
 use Rattle.vdr_terms.specs.Records.{FeedItem}
-use Rattle.vdr_history.specs.Histories.{Event, recorded}
+use Rattle.vdr_core.specs.Histories.{Event, recorded}
 use Rattle.vdr_durability.specs.Keeping.{IsWhole, ShowsOn, ShowsPrefix}
 use Rattle.vdr_durability.proofs.Kept.{keeps_on}
 use Rattle.vdr_outside.specs.Causes.{Rose}
@@ -29,13 +29,13 @@ use Rattle.vdr_vault.specs.Calls.{SameElsewhere}
 use Rattle.vdr_vault.specs.Openings.{LeavesAll}
 use Rattle.vdr_vault.specs.Regularity.{AreSound}
 use Rattle.vdr_vault.specs.Vaults.{ShowsHistory}
-use Rattle.vdr_headline.specs.Headline.{Headline, PlaysBack}
-use Rattle.vdr_headline.proofs.Headlines.{no_event_history, no_event_whole, order_quiet, told_as}
+use Rattle.vdr_recorder.specs.Headline.{Headline, PlaysBack}
+use Rattle.vdr_recorder.proofs.Headlines.{no_event_history, no_event_whole, order_quiet, told_as}
 use Rattle.vdr_replay.specs.Headline.{AccountBy, AccountsForFeed, NothingIsRecorded, RecordsAre, ReplayHeadline, RunEnd}
 use Rattle.vdr_replay.specs.Headline.RunEnd.{NotStarted, Closed, Broken}
-use Rattle.vdr_life.specs.Lives.{Life}
-use Rattle.vdr_life.specs.Lives.Life.{formatted, ran}
-use Rattle.vdr_life.proofs.Lives.{run_front, run_in_order}
+use Rattle.vdr_vault.specs.Lives.{Life}
+use Rattle.vdr_vault.specs.Lives.Life.{formatted, ran}
+use Rattle.vdr_vault.proofs.Lives.{run_front, run_in_order}
 use Rattle.vdr_command.specs.Endings.{IsWorkDone}
 use Rattle.vdr_command.specs.Outside.{MediaSeen}
 use Rattle.vdr_command.specs.declared.status.Status.{Status}

@@ -3,8 +3,8 @@ use Rattle.std.proofs.Common.{◌≡◌, ◌+◌, inl, inr, ⊎_elim, ℕ, zero,
 use Rattle.std.specs.Prelude.{slice_index_or}
 use Rattle.std.proofs.lemmas.List.Elements.{All-cons, All-nil}
 use Rattle.vdr_terms.specs.Records.{FeedItem}
-use Rattle.vdr_history.specs.Feed.{feed_records, items_of}
-use Rattle.vdr_history.specs.Runs.{base_after}
+use Rattle.vdr_core.specs.Feed.{feed_records, items_of}
+use Rattle.vdr_core.specs.Runs.{base_after}
 use Rattle.vdr_capture.specs.declared.sums.GroupSums.{GroupSums}
 use Rattle.vdr_capture.specs.Sums.{sums_of}
 use Rattle.vdr_outside.specs.Disk.{Disk}
@@ -12,7 +12,7 @@ use Rattle.vdr_feed.specs.Feed.{IsFeed, longest_feed}
 use Rattle.vdr_feed.specs.Law.{OneFeed}
 use Rattle.vdr_feed.specs.Trial.{trial_item, trial_state}
 use Rattle.vdr_feed.proofs.Unique.{begins}
-use Rattle.vdr_trial.specs.Generated.{generated_feed, items_from}
+use Rattle.vdr_feed.specs.Generated.{generated_feed, items_from}
 use Rattle.vdr_media.specs.Formatted.{IsFormatted, IsUnformatted}
 use Rattle.vdr_opening.specs.Media.{HoldsContents, opening_of}
 use Rattle.vdr_opening.specs.Refusals.{IsRefused}

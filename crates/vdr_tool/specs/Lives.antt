@@ -1,10 +1,10 @@
 -- What a life of the media asks of the moment at which a command begins, and what the command leaves of it (this project's profile).
 use Rattle.std.specs.Prelude.{ℕ, List, ⊤}
-use Rattle.vdr_history.specs.Histories.{Event}
+use Rattle.vdr_core.specs.Histories.{Event}
 use Rattle.vdr_outside.specs.Disk.{Disk, Durable, Image}
 use Rattle.vdr_config.specs.Configuration.{Configuration}
-use Rattle.vdr_life.specs.Lives.{Life, LivesOn}
-use Rattle.vdr_life.specs.Ours.{AreOurs, RestAs, StayOurs}
+use Rattle.vdr_vault.specs.Lives.{Life, LivesOn}
+use Rattle.vdr_vault.specs.Ours.{AreOurs, RestAs, StayOurs}
 use Rattle.vdr_tool.specs.Commands.{Asked}
 use Rattle.vdr_tool.specs.Commands.Asked.{Review, Check, Format, Replay, Play, Incidents, Save, Release, Sources, Watch, Targets, Wav, Picture, Trial}
 

@@ -1,7 +1,7 @@
 -- `release ID`: an incident is released (this project's profile).
 use Rattle.std.specs.Prelude.{◌≡◌, ◌≤◌, ◌⊎◌, ◌∷◌, ℕ, [], codes, decimal, Some, None, Result, Ok, Err, ⊤}
-use Rattle.vdr_history.specs.Histories.{Act, Incident, live}
-use Rattle.vdr_history.specs.Histories.Act.{Release as Releasing}
+use Rattle.vdr_core.specs.Histories.{Act, Incident, live}
+use Rattle.vdr_core.specs.Histories.Act.{Release as Releasing}
 use Rattle.vdr_durability.specs.Readings.{EndsMeet}
 use Rattle.vdr_outside.specs.Disk.{Image}
 use Rattle.vdr_incident.specs.declared.refused.ReleaseRefused.{ReleaseRefused}

@@ -1,8 +1,8 @@
 -- `save LABEL`: an incident is saved, and its id is printed (this project's profile; IMO MSC.333(90) asks that the record of an incident
 -- be kept).
 use Rattle.std.specs.Prelude.{◌≡◌, ◌⊎◌, ◌∷◌, ℕ, ℤ, suc, List, [], ◌++◌, codes, decimal, is_none, position, option_map, Option, Some, None, ⊤}
-use Rattle.vdr_history.specs.Histories.{Act, Incident}
-use Rattle.vdr_history.specs.Histories.Act.{Save as Saving}
+use Rattle.vdr_core.specs.Histories.{Act, Incident}
+use Rattle.vdr_core.specs.Histories.Act.{Save as Saving}
 use Rattle.vdr_durability.specs.Readings.{EndsMeet}
 use Rattle.vdr_outside.specs.Disk.{Image}
 use Rattle.vdr_terms.specs.Texts.{is_label}

@@ -6,12 +6,12 @@ use Rattle.vdr_terms.specs.Stamps.{last_stamp}
 use Rattle.vdr_outside.specs.Disk.{Disk}
 use Rattle.vdr_outside.specs.Moments.{AtEachMoment}
 use Rattle.vdr_feed.specs.Feed.{Reaches, longest_feed}
-use Rattle.vdr_trial.specs.Generated.{generated_feed}
+use Rattle.vdr_feed.specs.Generated.{generated_feed}
 use Rattle.vdr_config.specs.Sizes.{window_of}
 use Rattle.vdr_entry.specs.Queries.{asked_medium}
 use Rattle.vdr_entry.specs.declared.query.Medium.{Medium}
-use Rattle.vdr_visit.specs.declared.refused.VisitRefused.{VisitRefused}
-use Rattle.vdr_visit.specs.declared.refused.VisitRefused.TheVariants as visits
+use Rattle.vdr_vault.specs.declared.visit_refused.VisitRefused.{VisitRefused}
+use Rattle.vdr_vault.specs.declared.visit_refused.VisitRefused.TheVariants as visits
 use Rattle.vdr_opening.specs.Media.{Contents, opening_of}
 use Rattle.vdr_vault.specs.Vaults.{ShowsHistory}
 use Rattle.vdr_replay.specs.Headline.{NothingIsRecorded, ReplayHeadline}

@@ -7,16 +7,16 @@ use Rattle.vdr_terms.specs.Queries.Medium.{WindowOf}
 use Rattle.vdr_terms.specs.Records.{FeedItem, Record}
 use Rattle.vdr_terms.specs.Stamps.{last_stamp}
 use Rattle.vdr_terms.specs.Windows.{window}
-use Rattle.vdr_history.specs.Feed.{feed_records, items_of}
-use Rattle.vdr_history.specs.Histories.{Event, IsHistory, recorded}
-use Rattle.vdr_history.specs.Runs.{RunStart}
+use Rattle.vdr_core.specs.Feed.{feed_records, items_of}
+use Rattle.vdr_core.specs.Histories.{Event, IsHistory, recorded}
+use Rattle.vdr_core.specs.Runs.{RunStart}
 use Rattle.vdr_capture.specs.declared.sums.GroupSums.{GroupSums}
 use Rattle.vdr_capture.specs.Sums.{sums_of}
 use Rattle.vdr_durability.specs.Keeping.{IsWhole, Keeps, ShowsPrefix}
 use Rattle.vdr_outside.specs.Disk.{Disk, Durable, Unchanged}
 use Rattle.vdr_outside.specs.Moments.{AtEachMoment}
 use Rattle.vdr_feed.specs.Feed.{Reaches, longest_feed}
-use Rattle.vdr_trial.specs.Generated.{generated_feed, items_from}
+use Rattle.vdr_feed.specs.Generated.{generated_feed, items_from}
 use Rattle.vdr_config.specs.declared.media.TooSmall.{TooSmall}
 use Rattle.vdr_config.specs.declared.profile.Profile.TheVariants.{Bench}
 use Rattle.vdr_config.specs.Configuration.{Configuration}
@@ -29,7 +29,7 @@ use Rattle.vdr_opening.specs.Media.{Contents, nothing_on, opening_of}
 use Rattle.vdr_recorder.specs.Recordings.{start_of_opening}
 use Rattle.vdr_replay.specs.Headline.{AccountBy, RecordsAre, RunEnd}
 use Rattle.vdr_replay.specs.Headline.RunEnd.{NotStarted, Closed, Broken}
-use Rattle.vdr_life.specs.Lives.{Life}
+use Rattle.vdr_vault.specs.Lives.{Life}
 use Rattle.vdr_command.specs.Endings.{IsDone, IsWorkDone}
 use Rattle.vdr_command.specs.Opened.{PrintsText}
 use Rattle.vdr_command.specs.Outside.{MediaFailed, MediaSeen, NothingFailed, OutputFailed, Outside}

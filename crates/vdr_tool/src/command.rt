@@ -82,7 +82,7 @@ fn answer<I: Source + Drop, O: Sink + Drop, M: Media + Drop>(
 /// - `watch MEDIUM` reads no input. It prints what heartbeats and alarms show of the equipment in the window or the incident, as
 ///   `vdr_watch::Watch` does, in order of place.
 /// - `trial SEED COUNT` reads no input. It formats the media with the bench configuration, unless they are formatted already, records the
-///   first COUNT items of the generated feed from SEED on (`vdr_trial::GeneratedFeed`; SEED is 0 to 2,147,483,647, COUNT 0 to 1,000,000)
+///   first COUNT items of the generated feed from SEED on (`vdr_feed::GeneratedFeed`; SEED is 0 to 2,147,483,647, COUNT 0 to 1,000,000)
 ///   as `replay` does, opens the media again, and prints `taken N recorded N rate N`, `records N`, `capsule N` and `longterm N`: the sums
 ///   of the run, its records, and how many of them stand in the windows of both media.
 /// - `targets MEDIUM AT` reads no input. It prints the table of the ships that the AIS messages of these records report, up to the UTC

@@ -1,8 +1,8 @@
 // How many records stand in the windows of media that are opened for it.
 ghost use Rattle.std.specs.Prelude.{◌≡◌, ◌≤◌, ◌⊎◌, ℕ, List, length, sum, false};
-ghost use Rattle.vdr_history.specs.Histories.{Event, Opening};
+ghost use Rattle.vdr_core.specs.Histories.{Event, Opening};
 ghost use Rattle.vdr_durability.specs.Readings.{EndsMeet};
-ghost use Rattle.vdr_playback.specs.Playback.{selected};
+ghost use Rattle.vdr_durability.specs.Playback.{selected};
 ghost use Rattle.vdr_outside.specs.Causes.{NoneFalls, Rose};
 ghost use Rattle.vdr_outside.specs.Disk.{SameBut};
 ghost use Rattle.vdr_entry.specs.Queries.{asked_medium};
@@ -23,7 +23,7 @@ use vdr_entry::{Medium, Query, Record};
 use vdr_outside::{Failed, Media, Sink};
 use vdr_recorder::Recorder;
 use vdr_terms::LAST_STAMP;
-use vdr_visit::{VisitRefused, Visitor, VisitorRefused};
+use vdr_vault::{VisitRefused, Visitor, VisitorRefused};
 
 /// Counts the records that it is handed, and prints nothing. At the greatest u64 the count stands still.
 #[derive(Drop)]

@@ -1,6 +1,6 @@
 // Releasing an incident.
 ghost use Rattle.std.specs.Prelude.{◌≡◌, ◌≤◌, ◌⊎◌, length, None};
-ghost use Rattle.vdr_history.specs.Histories.{live};
+ghost use Rattle.vdr_core.specs.Histories.{live};
 ghost use Rattle.vdr_command.specs.Endings.{ending};
 ghost use Rattle.vdr_command.specs.Opened.{AddsMissing, IfNoIncident, IsOpenableWith, IsUnbegun, MayLeave, MediaEnds};
 ghost use Rattle.vdr_tool.specs.Releases.{CanRelease, IsReleaseStatus, Releases, ReleasesId, status_of_release};

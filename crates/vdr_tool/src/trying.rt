@@ -18,12 +18,11 @@ use arrayvec::ArrayVec;
 use itoa::Buffer;
 use std::alloc::Global;
 use vdr_command::{Outer, ROOM, Status, World, law_of_openings, number_of, push_text};
-use vdr_feed::law_of_feeds;
+use vdr_feed::{GeneratedFeed, law_of_feeds, law_of_generated_feeds};
 use vdr_media::{FormatRefused, format};
 use vdr_outside::{Media, Sink, Source, write_all};
 use vdr_replay::{FeedEnd, GroupSums, Replayed, replay};
 use vdr_terms::Counts;
-use vdr_trial::{GeneratedFeed, law_of_generated_feeds};
 
 /// The configuration with which the media are formatted: short windows, and one group of two datagrams and 200 bytes a second.
 const BENCH: &[u8] =

@@ -3,3 +3,13 @@
 
 #[cfg(test)]
 mod commands;
+#[cfg(test)]
+mod desks;
+#[cfg(test)]
+mod lives;
+#[cfg(test)]
+mod meeting;
+#[cfg(test)]
+mod recordings;
+#[cfg(test)]
+mod world;

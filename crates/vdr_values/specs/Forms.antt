@@ -1,7 +1,7 @@
 -- The forms of fields (IEC 61162-1), and what a field says that has a form.
 use Rattle.std.specs.Prelude.{ℕ, ◌*◌, ◌%◌, ◌^◌, Bool, true, false, ◌&&◌, ◌==◌, nat_le, nat_lt, List, [], ◌∷◌, Option, Some, None, option_map, option_and_then, if◌then◌else◌}
 use Rattle.std.specs.List.{list_any}
-use Rattle.vdr_digits.specs.Digits.{number}
+use Rattle.vdr_bytes.specs.Digits.{number}
 use Rattle.vdr_values.specs.Values.{Value}
 use Rattle.vdr_values.specs.Values as value
 use Rattle.vdr_values.specs.Spellings.{signed_number, time_of_day, angle, single_letter}

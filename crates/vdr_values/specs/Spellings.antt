@@ -1,7 +1,7 @@
 -- How the values of fields are spelled (IEC 61162-1). How many digits are accepted is this project's profile.
 use Rattle.std.specs.Prelude.{ℕ, ◌+◌, ◌-◌, ◌*◌, Bool, true, false, ◌==◌, List, [], ◌∷◌, ◌++◌, length, take, drop, slice_range, replicate, Option, Some, None, option_map, option_and_then, if◌then◌else◌}
 use Rattle.std.specs.List.{before_first, after_first}
-use Rattle.vdr_digits.specs.Digits.{number}
+use Rattle.vdr_bytes.specs.Digits.{number}
 use Rattle.vdr_values.specs.Values.{Value, Number, Time, Angle, Letter}
 
 abbrev pub is_point : ℕ → Bool

@@ -5,7 +5,7 @@ ghost use Rattle.vdr_values.specs.Views.{angle_value, digits_field, form_of, let
 
 use crate::spelling::{MILLION, angle, signed_number, time_of_day};
 use crate::value::{Num, Value};
-use vdr_digits::number;
+use vdr_bytes::number;
 
 /// The form of a field (IEC 61162-1).
 #[derive(Clone, Copy, Drop)]

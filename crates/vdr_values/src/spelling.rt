@@ -7,7 +7,7 @@ ghost use Rattle.vdr_values.specs.Views.{angle_value, number_value, time_value};
 use crate::place::place_of;
 use crate::value::{Angle, Num, Time};
 use arrayvec::ArrayVec;
-use vdr_digits::number;
+use vdr_bytes::number;
 
 /// Millionths of one.
 pub(crate) const MILLION: u64 = 1_000_000;

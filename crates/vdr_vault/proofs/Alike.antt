@@ -6,22 +6,22 @@ use Rattle.std.proofs.lemmas.Option.{IfSome_then}
 use Rattle.std.proofs.lemmas.Result.{on_ok_weaker}
 use Rattle.vdr_terms.specs.Needs.{cost}
 use Rattle.vdr_terms.specs.Records.{Record, last}
-use Rattle.vdr_history.specs.Histories.{Event, Opening, Settings, incidents, stamp_of}
-use Rattle.vdr_retention.specs.Layout.{Batches}
-use Rattle.vdr_retention.specs.Regular.{IsPaced}
-use Rattle.vdr_retention.specs.Retention.{Retains}
-use Rattle.vdr_retention.specs.Victims.{ArePinsOf}
+use Rattle.vdr_core.specs.Histories.{Event, Opening, Settings, incidents, stamp_of}
+use Rattle.vdr_durability.specs.Layout.{Batches}
+use Rattle.vdr_durability.specs.Regular.{IsPaced}
+use Rattle.vdr_durability.specs.Retention.{Retains}
+use Rattle.vdr_durability.specs.Victims.{ArePinsOf}
 use Rattle.vdr_durability.specs.Keeping.{Extends}
 use Rattle.vdr_durability.specs.Readings.{AreLevel, next_after}
 use Rattle.vdr_durability.specs.Shown.{given_with, pins_on}
 use Rattle.vdr_durability.specs.Soundness.{IsUnbroken}
-use Rattle.vdr_pace.specs.Media.{IsAppended}
+use Rattle.vdr_durability.specs.Media.{IsAppended}
 use Rattle.vdr_outside.specs.declared.fault.Fault.{Fault}
 use Rattle.vdr_outside.specs.Disk.{Disk, Image, content}
 use Rattle.vdr_outside.specs.Moments.{AtEachMoment}
 use Rattle.vdr_outside.proofs.Moments.{moments_join, moments_weaken, now_after}
 use Rattle.vdr_config.specs.Sizes.{sizes_of, window_of}
-use Rattle.vdr_slots.specs.Slots.{SameFront}
+use Rattle.vdr_segment.specs.Slots.{SameFront}
 use Rattle.vdr_directory.specs.Sequence.{Placed, all_records, batches_in, segments_in}
 use Rattle.vdr_directory.specs.Order.{AreInOrder}
 use Rattle.vdr_directory.specs.Holds.{HoldsPlaced}

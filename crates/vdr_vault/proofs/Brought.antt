@@ -13,9 +13,9 @@ use Rattle.vdr_outside.proofs.Counts.{none_falls_join, on_err, rose_after}
 use Rattle.vdr_outside.proofs.Moments.{changes_weaken, moments_join, moments_none, moments_weaken, now_after}
 use Rattle.vdr_config.specs.Configuration.{Configuration}
 use Rattle.vdr_config.specs.Sizes.{sizes_of}
-use Rattle.vdr_slots.specs.Slots.{SameFront}
-use Rattle.vdr_slots.specs.Writes.{KeepsFront}
-use Rattle.vdr_slots.proofs.Fronts.{front_joined, front_same}
+use Rattle.vdr_segment.specs.Slots.{SameFront}
+use Rattle.vdr_segment.specs.Writes.{KeepsFront}
+use Rattle.vdr_segment.proofs.Fronts.{front_joined, front_same}
 use Rattle.vdr_directory.specs.Sequence.{Placed}
 use Rattle.vdr_ring.specs.Rings.{RingState, StaysOnMedium}
 use Rattle.vdr_ring.specs.Rings as rings

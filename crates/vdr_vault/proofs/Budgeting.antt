@@ -4,16 +4,16 @@ use Rattle.vdr_terms.specs.Records.{last, second}
 use Rattle.vdr_terms.specs.Queries.{Medium, Query, Span}
 use Rattle.vdr_terms.specs.Queries.Medium.{WindowOf, Incident}
 use Rattle.vdr_terms.specs.Queries.Span.{Window}
-use Rattle.vdr_playback.specs.Playback.{medium_of}
+use Rattle.vdr_durability.specs.Playback.{medium_of}
 use Rattle.vdr_config.specs.Sizes.{window_of}
 use Rattle.vdr_outside.specs.Causes.{Rose}
 use Rattle.vdr_directory.specs.Sequence.{Placed, all_records, batches_in}
 use Rattle.vdr_directory.proofs.Endings.{ending_in, last_told}
 use Rattle.vdr_ring.specs.Rings.{RingState}
 use Rattle.vdr_ring.specs.declared.refused.ReadRefused.{ReadRefused}
-use Rattle.vdr_cursor.specs.declared.cursor.Standing.{Standing}
-use Rattle.vdr_cursor.specs.Budgets.{IsOfSegments, Spends, budget}
-use Rattle.vdr_cursor.specs.Walks.{CountsOn}
+use Rattle.vdr_ring.specs.declared.cursor.Standing.{Standing}
+use Rattle.vdr_ring.specs.Budgets.{IsOfSegments, Spends, budget}
+use Rattle.vdr_ring.specs.Walks.{CountsOn}
 use Rattle.vdr_vault.specs.Vaults.{VaultState, ring_of}
 use Rattle.vdr_vault.specs.Plays.{AreOfSegments, ReadsOn, budget_for, budget_of, ring_for, span_by, span_in}
 

@@ -5,10 +5,10 @@ use Rattle.vdr_terms.specs.Order.{AreInOrder}
 use Rattle.vdr_terms.specs.Queries.{Medium, Query, Span}
 use Rattle.vdr_terms.specs.Queries.Medium.{WindowOf, Incident}
 use Rattle.vdr_terms.specs.Queries.Span.{Window, Places}
-use Rattle.vdr_history.specs.Histories.{Event, Opening, Settings, live}
-use Rattle.vdr_history.specs.Histories as histories
-use Rattle.vdr_retention.specs.Retention.{Retains}
-use Rattle.vdr_playback.specs.Playback.{found, medium_of, pins_on, selected, span_of}
+use Rattle.vdr_core.specs.Histories.{Event, Opening, Settings, live}
+use Rattle.vdr_core.specs.Histories as histories
+use Rattle.vdr_durability.specs.Retention.{Retains}
+use Rattle.vdr_durability.specs.Playback.{found, medium_of, pins_on, selected, span_of}
 use Rattle.vdr_outside.specs.Disk.{Disk}
 use Rattle.vdr_entry.specs.Queries.{asked, asked_medium}
 use Rattle.vdr_entry.specs.declared.query.Medium.{Medium as Played}
@@ -20,10 +20,10 @@ use Rattle.vdr_ring.specs.Rings.{RingState}
 use Rattle.vdr_ring.specs.declared.refused.ReadRefused.{ReadRefused}
 use Rattle.vdr_ring.proofs.Medium.{in_order_records}
 use Rattle.vdr_vault.specs.Vaults.{IsReadable, IsReadableAt, VaultState, ring_of}
-use Rattle.vdr_cursor.specs.Walks.{CursorState, Slots, AreLeft, GivesNext, HasRead, slots_read}
+use Rattle.vdr_ring.specs.Walks.{CursorState, Slots, AreLeft, GivesNext, HasRead, slots_read}
 use Rattle.vdr_vault.specs.Plays.{AreToCome, ReadsOn, ring_for, span_in}
-use Rattle.vdr_cursor.proofs.Walking.{new_left}
-use Rattle.vdr_cursor.proofs.Reading.{same_slots}
+use Rattle.vdr_ring.proofs.Walking.{new_left}
+use Rattle.vdr_ring.proofs.CursorReading.{same_slots}
 
 -- the rings of a vault do not change what a query's medium comes to
 span_with : (vault : VaultState) (rings : List RingState) (placed : ℕ → List Placed) (medium : Medium) → span_in (record vault { rings = rings }) placed medium ≡ span_in vault placed medium

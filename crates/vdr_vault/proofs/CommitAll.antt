@@ -3,13 +3,13 @@ use Rattle.std.proofs.Common.{◌≡◌, ◌≢◌, ◌+◌, ◌-◌, ◌<◌, �
 use Rattle.std.proofs.lemmas.Option.{none-some}
 use Rattle.vdr_terms.specs.Order.{AreInOrder, RunOn}
 use Rattle.vdr_terms.specs.Records.{Record, last}
-use Rattle.vdr_history.specs.Histories.{Act, Event, Incident, Opening, all_records as all_given, incidents, last_stamp, next_place, recorded, records_of_act, stamp_of, table_after, Settings}
-use Rattle.vdr_history.specs.Histories.Act.{Commit}
-use Rattle.vdr_history.specs.Taken.{Captured}
-use Rattle.vdr_retention.specs.Regular.{FollowOn, IsPaced}
-use Rattle.vdr_retention.specs.Retention.{Retains, Pin}
-use Rattle.vdr_retention.specs.Victims.{ArePinsOf}
-use Rattle.vdr_retention.proofs.Following.{follow_in_order}
+use Rattle.vdr_core.specs.Histories.{Act, Event, Incident, Opening, all_records as all_given, incidents, last_stamp, next_place, recorded, records_of_act, stamp_of, table_after, Settings}
+use Rattle.vdr_core.specs.Histories.Act.{Commit}
+use Rattle.vdr_core.specs.Taken.{Captured}
+use Rattle.vdr_durability.specs.Regular.{FollowOn, IsPaced}
+use Rattle.vdr_durability.specs.Retention.{Retains, Pin}
+use Rattle.vdr_durability.specs.Victims.{ArePinsOf}
+use Rattle.vdr_durability.proofs.Following.{follow_in_order}
 use Rattle.vdr_durability.specs.Readings.{next_after}
 use Rattle.vdr_durability.specs.Shown.{given_with, pins_on, pins_of}
 use Rattle.vdr_durability.proofs.Shows.{all_records_with, incidents_with, recorded_with}
@@ -18,7 +18,7 @@ use Rattle.vdr_outside.specs.Moments.{ChangesOnly, AtEachMoment}
 use Rattle.vdr_outside.proofs.Moments.{moments_weaken}
 use Rattle.vdr_config.specs.Configuration.{Configuration, IsConfiguration}
 use Rattle.vdr_config.specs.Sizes.{sizes_of, window_of}
-use Rattle.vdr_slots.specs.Slots.{SameFront}
+use Rattle.vdr_segment.specs.Slots.{SameFront}
 use Rattle.vdr_directory.specs.Sequence.{Placed, all_records, batches_in, segments_in}
 use Rattle.vdr_ring.specs.Rings.{RingState}
 use Rattle.vdr_ring.specs.Rings as rings
@@ -34,11 +34,11 @@ use Rattle.vdr_vault.proofs.ShownImages.{front_stays, table_stays}
 use Rattle.vdr_vault.proofs.ShownPlaces.{stamp_told}
 use Rattle.std.specs.Prelude.{⊤}
 use Rattle.vdr_terms.specs.Needs.{Sizes, cost, usable}
-use Rattle.vdr_retention.proofs.Lists.{none_contained}
+use Rattle.vdr_durability.proofs.Lists.{none_contained}
 use Rattle.vdr_durability.specs.Keeping.{ShowsEither}
 use Rattle.vdr_outside.specs.declared.fault.Fault.{Fault}
 use Rattle.vdr_media.proofs.Two.{all_two, of_all, of_each, any_at}
-use Rattle.vdr_pace.specs.Media.{IsAppended}
+use Rattle.vdr_durability.specs.Media.{IsAppended}
 use Rattle.std.proofs.lemmas.Result.{on_ok_weaker}
 use Rattle.vdr_ring.specs.Regularity.{IsAllowed}
 use Rattle.vdr_vault.specs.Calls.{Commits, MayCommit, HasVaultCause}

@@ -3,15 +3,15 @@ use Rattle.std.proofs.Common.{◌≡◌, ◌⊎◌, inl, inr, ◌<◌, ℕ, List
 use Rattle.vdr_terms.specs.Needs.{Sizes}
 use Rattle.vdr_terms.specs.Order.{RunOn}
 use Rattle.vdr_terms.specs.Records.{Record, last}
-use Rattle.vdr_history.specs.Histories.{Event, Opening, next_place, Incident, incidents}
-use Rattle.vdr_retention.specs.Regular.{FollowOn}
-use Rattle.vdr_retention.specs.Retention.{Pin, Retains, at_places, within}
+use Rattle.vdr_core.specs.Histories.{Event, Opening, next_place, Incident, incidents}
+use Rattle.vdr_durability.specs.Regular.{FollowOn}
+use Rattle.vdr_durability.specs.Retention.{Pin, Retains, at_places, within}
 use Rattle.vdr_durability.specs.Readings.{next_after, ends_before}
 use Rattle.vdr_durability.specs.Shown.{given_with, pins_of, pins_on}
 use Rattle.vdr_outside.specs.Disk.{Disk, Image, content}
 use Rattle.vdr_outside.proofs.Moments.{size_read}
 use Rattle.vdr_config.specs.Configuration.{Configuration}
-use Rattle.vdr_slots.specs.Slots.{SameFront}
+use Rattle.vdr_segment.specs.Slots.{SameFront}
 use Rattle.vdr_directory.specs.Sequence.{Placed, all_records, batches_in}
 use Rattle.vdr_directory.specs.Order.{AreInOrder}
 use Rattle.vdr_directory.specs.Holds.{HoldsPlaced}
@@ -23,9 +23,9 @@ use Rattle.vdr_vault.specs.Passes.{Passes}
 use Rattle.vdr_ring.proofs.Allowed.{IsBefore, IsReady, IsAfter, done_after}
 use Rattle.vdr_vault.proofs.ShownImages.{front_stays, table_stays, placed_there, RetainsGiven, shown_level, shown_passed}
 use Rattle.std.proofs.lemmas.List.Elements.{All-nil, Contains-append_left}
-use Rattle.vdr_history.specs.Histories.Act.{Commit}
-use Rattle.vdr_history.specs.Taken.{Captured}
-use Rattle.vdr_retention.proofs.Lists.{contains_filter, filter_test, filter_was}
+use Rattle.vdr_core.specs.Histories.Act.{Commit}
+use Rattle.vdr_core.specs.Taken.{Captured}
+use Rattle.vdr_durability.proofs.Lists.{contains_filter, filter_test, filter_was}
 use Rattle.vdr_media.proofs.Two.{all_two, all_one, of_each}
 use Rattle.vdr_incident.specs.Tables.{HoldsTable}
 use Rattle.vdr_vault.proofs.Members.{passed_on}
@@ -37,8 +37,8 @@ use Rattle.vdr_durability.proofs.Unbroken.{unbroken_follows, unbroken_held}
 use Rattle.vdr_durability.specs.Soundness.{IsUnbroken}
 use Rattle.vdr_ring.proofs.Medium.{in_order_records}
 use Rattle.vdr_config.specs.Sizes.{sizes_of, window_of}
-use Rattle.vdr_retention.specs.Victims.{ArePinsOf}
-use Rattle.vdr_retention.proofs.Following.{follow_in_order}
+use Rattle.vdr_durability.specs.Victims.{ArePinsOf}
+use Rattle.vdr_durability.proofs.Following.{follow_in_order}
 use Rattle.vdr_ring.proofs.Lacking.{HoldsBefore, before_of}
 
 -- The segments of two media.

@@ -5,10 +5,10 @@ use Rattle.std.proofs.lemmas.Bool.{cond_both}
 use Rattle.std.proofs.lemmas.List.Elements.{All-contains, All-weaker}
 use Rattle.vdr_terms.specs.Needs.{cost, needed_slots, slots_in}
 use Rattle.vdr_terms.specs.Records.{Record}
-use Rattle.vdr_history.specs.Histories.{Event, Incident, Opening, Settings, incidents}
-use Rattle.vdr_retention.specs.Regular.{IsPaced}
-use Rattle.vdr_retention.specs.Retention.{Retains}
-use Rattle.vdr_retention.proofs.Lists.{all_from}
+use Rattle.vdr_core.specs.Histories.{Event, Incident, Opening, Settings, incidents}
+use Rattle.vdr_durability.specs.Regular.{IsPaced}
+use Rattle.vdr_durability.specs.Retention.{Retains}
+use Rattle.vdr_durability.proofs.Lists.{all_from}
 use Rattle.vdr_durability.specs.Shown.{given_with, pins_of, pins_on}
 use Rattle.vdr_durability.proofs.Shows.{OnSlot, pins_hold, slots_hold}
 use Rattle.vdr_outside.specs.Disk.{Disk}

@@ -26,3 +26,12 @@ pub mod SavePlaces
 pub mod Saved
 pub mod Sounding
 pub mod SoundMedia
+pub mod Reading
+pub mod Between
+pub mod Stopping
+pub mod Damages
+pub mod Visiting
+pub mod Printing
+pub mod Channels
+pub mod Ours
+pub mod Lives

@@ -4,8 +4,8 @@ use Rattle.std.specs.Prelude.{All, Any, Contains}
 use Rattle.std.proofs.lemmas.List.Elements.{All-contains}
 use Rattle.std.proofs.lemmas.Option.{none-some, get_or_from_slice_get}
 use Rattle.vdr_terms.specs.Queries.{Query, Span}
-use Rattle.vdr_playback.specs.Playback.{medium_of}
-use Rattle.vdr_retention.proofs.Lists.{contains_cases, none_contained}
+use Rattle.vdr_durability.specs.Playback.{medium_of}
+use Rattle.vdr_durability.proofs.Lists.{contains_cases, none_contained}
 use Rattle.vdr_index.specs.declared.known.Known.{Known}
 use Rattle.vdr_index.specs.Indexes.{Keeps}
 use Rattle.vdr_index.proofs.Ranks.{keeps_at}

@@ -11,9 +11,9 @@ use Rattle.vdr_terms.specs.Windows.{in_window, window, window_before}
 use Rattle.vdr_terms.specs.Queries.{Query, matches}
 use Rattle.vdr_terms.specs.Queries.Span.{Window}
 use Rattle.vdr_terms.specs.Queries.Medium.{WindowOf}
-use Rattle.vdr_retention.proofs.Lists.{last_contained, none_contained}
-use Rattle.vdr_retention.proofs.Retained.{in_the_window}
-use Rattle.vdr_playback.specs.Playback.{found}
+use Rattle.vdr_durability.proofs.Lists.{last_contained, none_contained}
+use Rattle.vdr_durability.proofs.Retained.{in_the_window}
+use Rattle.vdr_durability.specs.Playback.{found}
 use Rattle.vdr_directory.specs.Sequence.{Placed, all_records}
 use Rattle.vdr_ring.specs.Rings.{RingState, Reads}
 use Rattle.vdr_ring.specs.declared.refused.ReadRefused.{ReadRefused}
@@ -21,8 +21,8 @@ use Rattle.vdr_ring.specs.declared.refused.ReadRefused.TheVariants.{Damaged}
 use Rattle.vdr_ring.proofs.Beginning.{legal_batches}
 use Rattle.vdr_outside.specs.Disk.{Disk, content}
 use Rattle.vdr_vault.specs.Saves.{first_in_window}
-use Rattle.vdr_cursor.specs.Walks.{CursorState, AreLeft, GivesNext, slots_read}
-use Rattle.vdr_cursor.proofs.Walking.{new_left}
+use Rattle.vdr_ring.specs.Walks.{CursorState, AreLeft, GivesNext, slots_read}
+use Rattle.vdr_ring.proofs.Walking.{new_left}
 use Rattle.vdr_ring.proofs.Records.{all_legal}
 
 -- The records of the long-term medium, whatever their channels and stamps.

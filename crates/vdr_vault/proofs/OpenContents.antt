@@ -5,11 +5,11 @@ use Rattle.std.proofs.lemmas.Bool.{false≢true}
 use Rattle.std.proofs.lemmas.List.Elements.{All-append, All-cons, All-contains, All-head, All-nil, All-tail}
 use Rattle.vdr_terms.specs.Order.{AreInOrder as RecordsAreInOrder, NeverFalls, RunOn}
 use Rattle.vdr_terms.specs.Records.{Record, last}
-use Rattle.vdr_retention.specs.Layout.{Batches, segment_records}
-use Rattle.vdr_retention.proofs.Lists.{last_contained}
-use Rattle.vdr_retention.proofs.Ordered.{parts_in_order, run_on_in_order}
-use Rattle.vdr_retention.specs.Retention.{Retains}
-use Rattle.vdr_history.specs.Histories.{stamp_of}
+use Rattle.vdr_durability.specs.Layout.{Batches, segment_records}
+use Rattle.vdr_durability.proofs.Lists.{last_contained}
+use Rattle.vdr_durability.proofs.Ordered.{parts_in_order, run_on_in_order}
+use Rattle.vdr_durability.specs.Retention.{Retains}
+use Rattle.vdr_core.specs.Histories.{stamp_of}
 use Rattle.vdr_durability.specs.Readings.{AreLevel, EndBy, EndsMeet, IsPassedOn, Reading, ends_before, next_after, records_on, restored, with_next}
 use Rattle.vdr_durability.specs.Shown.{pins_on}
 use Rattle.vdr_durability.proofs.Restored.{ends_not_before, next_kept}

@@ -11,8 +11,8 @@ use Rattle.vdr_vault.specs.Openings.{HasCauseOnBoth, EndsWithin, GoesOnBehind, G
 use Rattle.std.proofs.lemmas.List.Elements.{All-weaker}
 use Rattle.vdr_terms.specs.Order.{AreInOrder as RecordsAreInOrder}
 use Rattle.vdr_terms.specs.Records.{Record, last}
-use Rattle.vdr_history.specs.Histories.{incidents}
-use Rattle.vdr_retention.specs.Retention.{Retains}
+use Rattle.vdr_core.specs.Histories.{incidents}
+use Rattle.vdr_durability.specs.Retention.{Retains}
 use Rattle.vdr_durability.specs.Readings.{AreLevel, next_after, records_on}
 use Rattle.vdr_durability.specs.Shown.{given_with, pins_on}
 use Rattle.vdr_durability.proofs.Restored.{level_restored}

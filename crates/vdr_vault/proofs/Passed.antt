@@ -8,10 +8,10 @@ use Rattle.vdr_vault.specs.Passes.{Passes, KeepsBeside, pins_at}
 use Rattle.std.specs.Prelude.{⊤}
 use Rattle.vdr_terms.specs.Needs.{Sizes, slots_in}
 use Rattle.vdr_terms.specs.Records.{Record}
-use Rattle.vdr_retention.specs.Retention.{Pin}
+use Rattle.vdr_durability.specs.Retention.{Pin}
 use Rattle.vdr_outside.specs.declared.fault.Fault.{Fault}
-use Rattle.vdr_slots.specs.Slots.{SameFront}
-use Rattle.vdr_slots.proofs.Fronts.{front_same, front_joined}
+use Rattle.vdr_segment.specs.Slots.{SameFront}
+use Rattle.vdr_segment.proofs.Fronts.{front_same, front_joined}
 use Rattle.vdr_directory.specs.Sequence.{Placed}
 use Rattle.vdr_ring.specs.Rings.{RingState, StaysOnMedium}
 use Rattle.vdr_ring.specs.Rings as rings
@@ -19,7 +19,7 @@ use Rattle.std.proofs.lemmas.List.{get_or-set_other, get_or-set_same, length-set
 use Rattle.vdr_outside.specs.declared.media.Media.{Ghosts as MediaTells}
 use Rattle.vdr_outside.specs.Frames.{WritesTo}
 use Rattle.vdr_outside.proofs.Counts.{none_falls_join}
-use Rattle.vdr_slots.specs.Writes.{KeepsFront}
+use Rattle.vdr_segment.specs.Writes.{KeepsFront}
 use Rattle.vdr_config.specs.Configuration.{Configuration}
 use Rattle.vdr_config.specs.Sizes.{sizes_of}
 use Rattle.vdr_opening.specs.Answers.{AreRingsOf, no_ring, ring_at}

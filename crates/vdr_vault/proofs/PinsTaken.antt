@@ -1,7 +1,7 @@
 -- The pins of a table, slot by slot.
 use Rattle.std.proofs.Common.{◌≡◌, ◌≤◌, ◌+◌, ℕ, zero, suc, List, [], ◌∷◌, ◌++◌, length, take, Option, Some, None, refl, sym, ap, ◌∙◌, subst, arith}
-use Rattle.vdr_history.specs.Histories.{Incident, live}
-use Rattle.vdr_retention.specs.Retention.{Pin}
+use Rattle.vdr_core.specs.Histories.{Incident, live}
+use Rattle.vdr_durability.specs.Retention.{Pin}
 use Rattle.vdr_durability.specs.Shown.{pins_of}
 
 -- What a slot pins.

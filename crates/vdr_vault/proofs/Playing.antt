@@ -3,8 +3,8 @@ use Rattle.std.proofs.Common.{◌≡◌, ℕ, List, sym, ap, ◌∙◌, subst, g
 use Rattle.vdr_outside.specs.Disk.{Disk, Image, content}
 use Rattle.vdr_ring.specs.Rings.{RingState}
 use Rattle.vdr_ring.specs.Visits.{HasJudged}
-use Rattle.vdr_cursor.specs.Walks.{HasRead}
-use Rattle.vdr_history.specs.Histories.{Event, Opening}
+use Rattle.vdr_ring.specs.Walks.{HasRead}
+use Rattle.vdr_core.specs.Histories.{Event, Opening}
 use Rattle.vdr_config.specs.Configuration.{Configuration}
 use Rattle.vdr_config.specs.Sizes.{sizes_of}
 use Rattle.vdr_terms.specs.Needs.{slots_in}
@@ -16,7 +16,7 @@ use Rattle.vdr_ring.specs.Openings.{IsRingOf}
 use Rattle.vdr_vault.specs.Vaults.{VaultState, AreJudged, AreRings, HoldsHistory, IsReadable, IsReadableAt, Stands, ring_of}
 use Rattle.vdr_vault.specs.Plays.{ReadsOn}
 use Rattle.vdr_vault.proofs.Members.{at_one}
-use Rattle.vdr_cursor.proofs.Reading.{other_read, room_kept}
+use Rattle.vdr_ring.proofs.CursorReading.{other_read, room_kept}
 
 -- What a read of one ring leaves of a vault.
 

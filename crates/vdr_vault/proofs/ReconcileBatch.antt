@@ -3,7 +3,7 @@ use Rattle.std.proofs.Common.{◌≡◌, ⊎_elim, ℕ, ◌+◌, List, [], ◌�
 use Rattle.std.proofs.lemmas.Bool.{and_parts, true≢false}
 use Rattle.vdr_terms.specs.Records.{Record, last}
 use Rattle.vdr_terms.specs.Order.{RunOn}
-use Rattle.vdr_retention.proofs.Lists.{last_contained}
+use Rattle.vdr_durability.proofs.Lists.{last_contained}
 use Rattle.vdr_durability.specs.Readings.{begins_at, EndsMeet, IsPassedOn, comes_next, ends_before, next_after}
 use Rattle.vdr_directory.specs.Sequence.{Placed, batches_in, all_records}
 use Rattle.vdr_directory.specs.Order.{AreInOrder}
@@ -11,7 +11,7 @@ use Rattle.vdr_directory.specs.Holds.{HoldsPlaced}
 use Rattle.vdr_ring.proofs.Beginning.{legal_batches}
 use Rattle.vdr_terms.specs.Needs.{needed_slots, slots_in}
 use Rattle.vdr_terms.specs.Sizes.{batch_size}
-use Rattle.vdr_retention.specs.Regular.{FollowOn}
+use Rattle.vdr_durability.specs.Regular.{FollowOn}
 use Rattle.vdr_durability.specs.Shown.{pins_of}
 use Rattle.vdr_outside.specs.Disk.{Disk, Durable, Image, content}
 use Rattle.vdr_outside.specs.Moments.{Changed}
@@ -19,7 +19,7 @@ use Rattle.vdr_outside.proofs.Moments.{size_read}
 use Rattle.vdr_config.specs.Configuration.{IsConfiguration}
 use Rattle.vdr_config.specs.Sizes.{sizes_of}
 use Rattle.vdr_media.proofs.Two.{all_two}
-use Rattle.vdr_slots.specs.Slots.{SameFront}
+use Rattle.vdr_segment.specs.Slots.{SameFront}
 use Rattle.vdr_ring.specs.Rings.{RingState}
 use Rattle.vdr_directory.specs.Growing.{Continues}
 use Rattle.vdr_ring.specs.Stages.{AreStages, Stages}

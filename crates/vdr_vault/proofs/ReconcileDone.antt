@@ -3,9 +3,9 @@ use Rattle.std.proofs.Common.{◌≡◌, ⊎_elim, ℕ, ◌+◌, ◌<◌, ◌≤
 use Rattle.vdr_terms.specs.Records.{Record, last}
 use Rattle.vdr_terms.specs.Needs.{cost, needed_slots, slots_in, usable, Sizes}
 use Rattle.vdr_terms.specs.Order.{RunOn, AreInOrder as RecordsAreInOrder}
-use Rattle.vdr_retention.specs.Regular.{FollowOn}
-use Rattle.vdr_retention.specs.Retention.{Retains, Pin}
-use Rattle.vdr_retention.specs.Victims.{ArePinsOf}
+use Rattle.vdr_durability.specs.Regular.{FollowOn}
+use Rattle.vdr_durability.specs.Retention.{Retains, Pin}
+use Rattle.vdr_durability.specs.Victims.{ArePinsOf}
 use Rattle.vdr_durability.specs.Readings.{records_on, restored, next_after, AreLevel, IsPassedOn, Reading}
 use Rattle.vdr_durability.specs.Shown.{pins_of, pins_on, given_with}
 use Rattle.vdr_durability.proofs.Shows.{retains_itself}
@@ -14,7 +14,7 @@ use Rattle.vdr_outside.specs.Moments.{Changed, AtEachMoment, ChangesOnly}
 use Rattle.vdr_outside.proofs.Moments.{size_read, moments_none, moments_weaken}
 use Rattle.vdr_config.specs.Sizes.{sizes_of, window_of}
 use Rattle.vdr_media.proofs.Two.{all_two, of_all, of_each}
-use Rattle.vdr_slots.specs.Slots.{SameFront}
+use Rattle.vdr_segment.specs.Slots.{SameFront}
 use Rattle.vdr_directory.specs.Sequence.{Placed, all_records, batches_in}
 use Rattle.vdr_directory.specs.Order.{AreInOrder}
 use Rattle.vdr_directory.specs.Holds.{HoldsPlaced}
@@ -28,7 +28,7 @@ use Rattle.vdr_vault.specs.Vaults.{ShowsHistory, AreRings, HoldsHistory, VaultSt
 use Rattle.vdr_durability.specs.Soundness.{IsUnbroken}
 use Rattle.vdr_vault.specs.Regularity.{AreSound, IsRegularMedium, IsUnbrokenMedium}
 use Rattle.vdr_ring.proofs.Medium.{in_order_records}
-use Rattle.vdr_retention.proofs.Following.{follow_in_order}
+use Rattle.vdr_durability.proofs.Following.{follow_in_order}
 use Rattle.vdr_vault.proofs.Sounding.{IsSoundAlone, no_pins, sound_level, sound_passed, unbroken_waiting, missing_is_paced, pins_read, segments_read, AreOpened, capsule_restored, long_term_restored, opened_shown, passed_still, waiting_shown, with_long_term, with_placed, level_opened}
 use Rattle.vdr_durability.proofs.Unbroken.{unbroken_held}
 use Rattle.vdr_vault.proofs.ShownImages.{front_stays, table_stays, placed_there}
@@ -39,7 +39,7 @@ use Rattle.vdr_media.proofs.Formats.{zero_one}
 use Rattle.vdr_ring.proofs.Lacking.{before_of}
 use Rattle.vdr_ring.proofs.Batching.{last_runs_on}
 use Rattle.vdr_vault.proofs.ReconcileBatch.{HasIt, Lacks, LacksIt, first_place, lacked_follows, lacked_order, had_order, appending_within, held_within, lacked_goes_on}
-use Rattle.vdr_history.specs.Histories.{Incident, stamp_of}
+use Rattle.vdr_core.specs.Histories.{Incident, stamp_of}
 use Rattle.vdr_config.specs.Configuration.{Configuration, IsConfiguration}
 use Rattle.vdr_ring.specs.Rings as rings
 use Rattle.vdr_incident.specs.Tables.{HoldsTable}

@@ -1,7 +1,7 @@
 -- When a call on the table of incidents answers a fault, and what the vault knows of it then.
 use Rattle.std.proofs.Common.{◌≡◌, inr, ℕ, Bool, false, List, [], ◌∷◌, ◌++◌, get_or, Result, Ok, Err, OnOk, sym, ap, ◌∙◌, subst, refl}
 use Rattle.std.specs.Result.{result_eq}
-use Rattle.vdr_history.specs.Histories.{Event, Opening}
+use Rattle.vdr_core.specs.Histories.{Event, Opening}
 use Rattle.vdr_outside.specs.Causes.{NoneFalls, Rose}
 use Rattle.vdr_outside.specs.Disk.{Disk}
 use Rattle.vdr_outside.proofs.Counts.{sum_rose, none_falls_join, rose_after}

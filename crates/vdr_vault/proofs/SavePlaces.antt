@@ -7,11 +7,11 @@ use Rattle.std.proofs.lemmas.Option.{none-some, same_Some}
 use Rattle.vdr_terms.specs.Order.{AreInOrder as RecordsAreInOrder, RunOn}
 use Rattle.vdr_terms.specs.Records.{Record, last, last_after, second}
 use Rattle.vdr_terms.specs.Windows.{window}
-use Rattle.vdr_retention.specs.Retention.{at_places, within}
-use Rattle.vdr_retention.specs.Victims.{SpansAtMost}
-use Rattle.vdr_retention.proofs.Lists.{contains_here, filter_test, filter_was, last_contained, none_contained}
-use Rattle.vdr_retention.proofs.Ordered.{by_place, no_later, places_run}
-use Rattle.vdr_retention.proofs.Retained.{in_the_window, recent}
+use Rattle.vdr_durability.specs.Retention.{at_places, within}
+use Rattle.vdr_durability.specs.Victims.{SpansAtMost}
+use Rattle.vdr_durability.proofs.Lists.{contains_here, filter_test, filter_was, last_contained, none_contained}
+use Rattle.vdr_durability.proofs.Ordered.{by_place, no_later, places_run}
+use Rattle.vdr_durability.proofs.Retained.{in_the_window, recent}
 use Rattle.vdr_directory.specs.Lookup.{HoldAll}
 use Rattle.vdr_directory.specs.Order.{AreInOrder, HasPlace}
 use Rattle.vdr_directory.specs.Sequence.{Placed, all_records}

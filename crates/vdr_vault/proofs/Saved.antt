@@ -10,11 +10,11 @@ use Rattle.vdr_terms.specs.Order.{AreInOrder as RecordsAreInOrder, RunOn}
 use Rattle.vdr_terms.specs.Stamps.{IsStamp}
 use Rattle.vdr_terms.specs.Records.{Record, last, second}
 use Rattle.vdr_terms.specs.Windows.{window}
-use Rattle.vdr_history.specs.Histories.{Event, Incident, MayCome, Opening, Settings, incident_of, incidents, records_of_act, stamp_of, table_after, with_slot}
-use Rattle.vdr_history.specs.Histories.Act.{Save}
-use Rattle.vdr_retention.proofs.Appended.{holds_less}
-use Rattle.vdr_retention.proofs.Lists.{last_contained}
-use Rattle.vdr_retention.proofs.Ordered.{same_window, save_keeps_places}
+use Rattle.vdr_core.specs.Histories.{Event, Incident, MayCome, Opening, Settings, incident_of, incidents, records_of_act, stamp_of, table_after, with_slot}
+use Rattle.vdr_core.specs.Histories.Act.{Save}
+use Rattle.vdr_durability.proofs.Appended.{holds_less}
+use Rattle.vdr_durability.proofs.Lists.{last_contained}
+use Rattle.vdr_durability.proofs.Ordered.{same_window, save_keeps_places}
 use Rattle.vdr_durability.specs.Readings.{next_after}
 use Rattle.vdr_durability.specs.Shown.{given_with}
 use Rattle.vdr_durability.proofs.Shows.{incidents_with}
@@ -43,7 +43,7 @@ use Rattle.vdr_directory.specs.Holds.{Tells}
 use Rattle.vdr_ring.specs.Rings.{Reads}
 use Rattle.vdr_durability.proofs.Unbroken.{unbroken_less}
 use Rattle.vdr_vault.specs.Plays.{ReadsOn}
-use Rattle.vdr_cursor.specs.Walks.{HasRead}
+use Rattle.vdr_ring.specs.Walks.{HasRead}
 use Rattle.vdr_vault.proofs.Playing.{stands_still}
 
 -- What an accepted save has.

@@ -3,10 +3,10 @@ use Rattle.std.proofs.Common.{◌≡◌, ℕ, ◌+◌, List, [], ◌∷◌, ◌+
 use Rattle.std.proofs.lemmas.List.Elements.{All-weaker}
 use Rattle.vdr_terms.specs.Order.{AreInOrder}
 use Rattle.vdr_terms.specs.Records.{Record}
-use Rattle.vdr_history.specs.Histories.{Event, Incident, Opening, Settings, all_records, incidents, last_stamp, next_place, recorded, records_of_act, stamp_of, table_after}
+use Rattle.vdr_core.specs.Histories.{Event, Incident, Opening, Settings, all_records, incidents, last_stamp, next_place, recorded, records_of_act, stamp_of, table_after}
 use Rattle.vdr_terms.specs.Records as terms
-use Rattle.vdr_retention.specs.Retention.{Retains}
-use Rattle.vdr_retention.specs.Victims.{ArePinsOf}
+use Rattle.vdr_durability.specs.Retention.{Retains}
+use Rattle.vdr_durability.specs.Victims.{ArePinsOf}
 use Rattle.vdr_durability.specs.Shown.{given_with, pins_on}
 use Rattle.vdr_durability.proofs.Shows.{incidents_with, recorded_with}
 use Rattle.vdr_outside.specs.Disk.{Disk, Durable, Image, Unchanged, content}
@@ -23,7 +23,7 @@ use Rattle.vdr_vault.specs.Vaults.{VaultState, HoldsHistory, ShowsHistory, Stand
 use Rattle.vdr_durability.specs.Soundness.{IsUnbroken}
 use Rattle.vdr_vault.specs.Regularity.{AreSound}
 use Rattle.vdr_vault.proofs.ShownImages.{placed_there, shown_level}
-use Rattle.vdr_cursor.proofs.Reading.{other_read}
+use Rattle.vdr_ring.proofs.CursorReading.{other_read}
 use Rattle.vdr_vault.proofs.Playing.{stands_over}
 use Rattle.vdr_vault.proofs.Sounding.{IsSoundAlone, sound_level}
 use Rattle.vdr_durability.proofs.Unbroken.{unbroken_held}

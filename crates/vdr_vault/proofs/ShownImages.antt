@@ -3,7 +3,7 @@ use Rattle.std.proofs.Common.{◌≡◌, ◌≤◌, ◌+◌, ◌*◌, ℕ, Bool,
 use Rattle.std.specs.Prelude.{nat_lt}
 use Rattle.std.proofs.lemmas.Bool.{ltb-false}
 use Rattle.vdr_terms.specs.Needs.{Fits, slots_in}
-use Rattle.vdr_history.specs.Histories.{Incident, Act, Event, Opening, all_records as all_given, incidents}
+use Rattle.vdr_core.specs.Histories.{Incident, Act, Event, Opening, all_records as all_given, incidents}
 use Rattle.vdr_config.specs.declared.bad.ConfigBad.{ConfigBad}
 use Rattle.vdr_config.specs.Configuration.{Configuration}
 use Rattle.vdr_config.specs.Grammar.{configuration}
@@ -12,19 +12,19 @@ use Rattle.vdr_terms.specs.Slots.{slot_count, slots_from}
 use Rattle.vdr_media.specs.Layout.{superblock_bytes, text_from}
 use Rattle.vdr_media.specs.Medium.{IsSuperblock}
 use Rattle.vdr_outside.specs.Parts.{part}
-use Rattle.vdr_slots.specs.Slots.{SameFront}
+use Rattle.vdr_segment.specs.Slots.{SameFront}
 use Rattle.vdr_incident.specs.Saves.{IsIncidentSlot}
 use Rattle.vdr_incident.specs.Tables.{HoldsTable}
 use Rattle.vdr_opening.specs.Media.{HasFront, members, Contents, HoldsContents, IsMedium, reading_of}
 use Rattle.std.proofs.lemmas.List.Elements.{All-nil, All-cons, All-weaker}
 use Rattle.vdr_terms.specs.Records.{Record, last}
 use Rattle.vdr_terms.specs.Order.{AreInOrder as RecordsAreInOrder}
-use Rattle.vdr_history.specs.Histories.Act.{Commit}
-use Rattle.vdr_history.specs.Taken.{Captured}
-use Rattle.vdr_retention.specs.Layout.{segment_records}
-use Rattle.vdr_retention.specs.Regular.{FollowOn}
-use Rattle.vdr_retention.specs.Retention.{Retains}
-use Rattle.vdr_retention.proofs.Lists.{contains_here, contains_there}
+use Rattle.vdr_core.specs.Histories.Act.{Commit}
+use Rattle.vdr_core.specs.Taken.{Captured}
+use Rattle.vdr_durability.specs.Layout.{segment_records}
+use Rattle.vdr_durability.specs.Regular.{FollowOn}
+use Rattle.vdr_durability.specs.Retention.{Retains}
+use Rattle.vdr_durability.proofs.Lists.{contains_here, contains_there}
 use Rattle.vdr_durability.specs.Readings.{AreLevel, AreMembers, IsPassedOn}
 use Rattle.vdr_durability.specs.Shown.{Shows, pins_on}
 use Rattle.vdr_durability.proofs.Shows.{commit_shows, level_shows}

@@ -4,8 +4,8 @@ use Rattle.std.proofs.lemmas.Option.{same_Some}
 use Rattle.std.proofs.lemmas.List.Elements.{All-contains, All-nil, All-weaker}
 use Rattle.vdr_terms.specs.Records.{Record, last}
 use Rattle.vdr_terms.specs.Legality.{IsRecord}
-use Rattle.vdr_retention.proofs.Lists.{last_contained}
-use Rattle.vdr_history.specs.Histories.{stamp_of}
+use Rattle.vdr_durability.proofs.Lists.{last_contained}
+use Rattle.vdr_core.specs.Histories.{stamp_of}
 use Rattle.vdr_durability.specs.Readings.{next_after}
 use Rattle.vdr_entry.specs.declared.summary.Summary.{Summary}
 use Rattle.vdr_segment.specs.Batches.{IsBatch}

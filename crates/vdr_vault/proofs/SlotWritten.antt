@@ -14,10 +14,10 @@ use Rattle.std.specs.Prelude.{IfSome, ⊤}
 use Rattle.std.proofs.Math.ListN.{length-set}
 use Rattle.std.proofs.lemmas.Option.{none-some}
 use Rattle.std.proofs.lemmas.List.Elements.{All-contains, All-set}
-use Rattle.vdr_history.specs.Histories.{Event, Incident, Opening, incidents, live, records_of_act, with_slot, Settings, table_after}
-use Rattle.vdr_retention.specs.Retention.{HoldsPlaces, Pin, at_places, Retains}
-use Rattle.vdr_retention.specs.Victims.{SpansAtMost, ArePinsOf}
-use Rattle.vdr_retention.proofs.Lists.{all_from}
+use Rattle.vdr_core.specs.Histories.{Event, Incident, Opening, incidents, live, records_of_act, with_slot, Settings, table_after}
+use Rattle.vdr_durability.specs.Retention.{HoldsPlaces, Pin, at_places, Retains}
+use Rattle.vdr_durability.specs.Victims.{SpansAtMost, ArePinsOf}
+use Rattle.vdr_durability.proofs.Lists.{all_from}
 use Rattle.vdr_durability.specs.Shown.{given_with, pins_of, pins_on}
 use Rattle.vdr_durability.proofs.Shows.{OnSlot, slot_written as pins_written, incidents_with}
 use Rattle.vdr_outside.specs.Disk.{Disk, Image, SameBut, content}
@@ -31,7 +31,7 @@ use Rattle.vdr_durability.specs.Keeping.{ShowsEither}
 use Rattle.vdr_outside.specs.Moments.{AtEachMoment, Changed, ChangesOnly, Settled}
 use Rattle.vdr_outside.proofs.Moments.{moments_weaken}
 use Rattle.vdr_media.proofs.Two.{all_two}
-use Rattle.vdr_slots.specs.Slots.{place_of}
+use Rattle.vdr_segment.specs.Slots.{place_of}
 use Rattle.vdr_ring.specs.Rings.{RingState}
 use Rattle.vdr_ring.specs.Openings.{IsRingOf}
 use Rattle.vdr_media.proofs.Formats.{zero_one}
@@ -41,7 +41,7 @@ use Rattle.vdr_vault.proofs.Sounding.{IsSoundAlone, no_pins, sound_level}
 use Rattle.vdr_durability.specs.Soundness.{IsUnbroken}
 use Rattle.vdr_vault.specs.Regularity.{AreSound}
 use Rattle.vdr_directory.specs.Order.{AreInOrder as InOrder}
-use Rattle.vdr_history.specs.Histories.Act.{Release}
+use Rattle.vdr_core.specs.Histories.Act.{Release}
 
 module _ (slot : ℕ) (low : slot < 32) (old new : List ℕ) (beside : SameBesideSlot slot old new) where
   pub front_beside : (m : ℕ) (c : Configuration) (text : List ℕ) → HasFront m c text old → HasFront m c text new

@@ -1,9 +1,9 @@
 -- Soundness of media that were just formatted, and of the contents of one image.
 use Rattle.std.proofs.Common.{◌≡◌, inl, ℕ, zero, suc, List, [], replicate, None, refl, sym, ap, subst, arith}
 use Rattle.std.proofs.lemmas.List.Elements.{All-nil}
-use Rattle.vdr_retention.specs.Retention.{Pin}
-use Rattle.vdr_retention.specs.Victims.{ArePinsOf}
-use Rattle.vdr_retention.proofs.Lists.{none_contained}
+use Rattle.vdr_durability.specs.Retention.{Pin}
+use Rattle.vdr_durability.specs.Victims.{ArePinsOf}
+use Rattle.vdr_durability.proofs.Lists.{none_contained}
 use Rattle.vdr_durability.specs.Readings.{EndsMeet}
 use Rattle.vdr_durability.specs.Shown.{pins_of, pins_on}
 use Rattle.vdr_outside.specs.Disk.{Image}

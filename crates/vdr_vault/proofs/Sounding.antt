@@ -5,9 +5,9 @@ use Rattle.vdr_terms.specs.Records.{Record, last}
 use Rattle.vdr_terms.specs.Sizes.{records_size}
 use Rattle.vdr_terms.specs.Order.{RunOn, AreInOrder as RecordsAreInOrder}
 use Rattle.vdr_terms.specs.Needs.{cost, usable}
-use Rattle.vdr_retention.specs.Layout.{Batches, batches_in as all_batches, batches_size, records_in, segment_records}
-use Rattle.vdr_retention.specs.Regular.{IsPaced, IsRegular, FollowOn}
-use Rattle.vdr_retention.specs.Victims.{ArePinsOf}
+use Rattle.vdr_durability.specs.Layout.{Batches, batches_in as all_batches, batches_size, records_in, segment_records}
+use Rattle.vdr_durability.specs.Regular.{IsPaced, IsRegular, FollowOn}
+use Rattle.vdr_durability.specs.Victims.{ArePinsOf}
 use Rattle.vdr_durability.specs.Readings.{ends_before, leading_batch, AreLevel, IsPassedOn, comes_next, records_on, restored, with_next}
 use Rattle.vdr_durability.specs.Regularity.{IsRegularMember, Layout, segments_of, IsRegularAsRead}
 use Rattle.vdr_durability.specs.Regularity as layouts
@@ -22,7 +22,7 @@ use Rattle.vdr_vault.specs.Regularity.{AreRegularMedia, IsRegularMedium, AreSoun
 use Rattle.vdr_ring.proofs.Allowed.{segments_batches}
 use Rattle.vdr_ring.proofs.Records.{records_are}
 use Rattle.vdr_vault.proofs.ShownImages.{has_capsule, has_long_term, are_members}
-use Rattle.vdr_retention.specs.Retention.{Retains, Pin}
+use Rattle.vdr_durability.specs.Retention.{Retains, Pin}
 use Rattle.vdr_durability.proofs.Restored.{ends_not_before, follow_is_in_order, level_restored, next_added, next_kept, passed_leads}
 use Rattle.vdr_durability.proofs.Shows.{reconciled_shows, reconciling_shows, retains_itself}
 use Rattle.vdr_outside.specs.Disk.{Image}
@@ -31,10 +31,10 @@ use Rattle.vdr_ring.proofs.Medium.{in_order_records}
 use Rattle.vdr_opening.specs.Settings.{settings_of}
 use Rattle.vdr_vault.proofs.Members.{passed_on}
 use Rattle.vdr_vault.specs.Vaults.{ShowsHistory, reading_with}
-use Rattle.vdr_history.specs.Histories.{Incident}
-use Rattle.vdr_retention.proofs.Following.{follow_in_order, follow_no_earlier}
-use Rattle.vdr_retention.proofs.Lists.{none_contained}
-use Rattle.vdr_retention.proofs.Retained.{append_keeps}
+use Rattle.vdr_core.specs.Histories.{Incident}
+use Rattle.vdr_durability.proofs.Following.{follow_in_order, follow_no_earlier}
+use Rattle.vdr_durability.proofs.Lists.{none_contained}
+use Rattle.vdr_durability.proofs.Retained.{append_keeps}
 use Rattle.vdr_config.specs.Configuration.{Configuration}
 use Rattle.vdr_durability.specs.Soundness.{IsUnbroken}
 use Rattle.vdr_durability.proofs.Unbroken.{unbroken_held}

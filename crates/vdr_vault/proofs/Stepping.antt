@@ -4,10 +4,10 @@ use Rattle.std.specs.Prelude.{◌+◌, ◌-◌, ◌*◌, ◌^◌}
 use Rattle.std.proofs.lemmas.Bool.{false≢true}
 use Rattle.std.proofs.lemmas.List.{get_or-set_other, get_or-set_same}
 use Rattle.std.proofs.lemmas.Option.{IfSome_then}
-use Rattle.vdr_survey.specs.Positions.{IsAt, HasAhead}
+use Rattle.vdr_index.specs.Positions.{IsAt, HasAhead}
 use Rattle.vdr_terms.specs.Queries.{Query, Span}
 use Rattle.vdr_terms.specs.Records.{Record}
-use Rattle.vdr_playback.specs.Playback.{medium_of}
+use Rattle.vdr_durability.specs.Playback.{medium_of}
 use Rattle.vdr_outside.specs.Causes.{Rose}
 use Rattle.vdr_outside.proofs.Counts.{sum_rose}
 use Rattle.vdr_outside.specs.declared.media.Media.{Ghosts as MediaTells}
@@ -26,11 +26,11 @@ use Rattle.vdr_ring.specs.declared.refused.ReadRefused.TheVariants.{Damaged, Fau
 use Rattle.vdr_media.proofs.Two.{of_all, of_each}
 use Rattle.vdr_opening.specs.Answers.{AreJudgedOn, AreRingsOf, no_ring, ring_at}
 use Rattle.vdr_opening.proofs.Rings.{judged_beside}
-use Rattle.vdr_cursor.specs.declared.cursor.Standing.{Standing}
-use Rattle.vdr_cursor.specs.Passing.{ArePassedIntact, IsPassed, StandsToMeet}
-use Rattle.vdr_cursor.specs.Steps.{KeepsStep, NamesDamage, TellsDamage}
-use Rattle.vdr_cursor.specs.Walks.{CursorState, HasRead, Slots, new_cursor, reached_in, segments_left, steps_left}
-use Rattle.vdr_cursor.proofs.Reading.{same_slots}
+use Rattle.vdr_ring.specs.declared.cursor.Standing.{Standing}
+use Rattle.vdr_ring.specs.Passing.{ArePassedIntact, IsPassed, StandsToMeet}
+use Rattle.vdr_ring.specs.Steps.{KeepsStep, NamesDamage, TellsDamage}
+use Rattle.vdr_ring.specs.Walks.{CursorState, HasRead, Slots, new_cursor, reached_in, segments_left, steps_left}
+use Rattle.vdr_ring.proofs.CursorReading.{same_slots}
 use Rattle.vdr_vault.specs.Vaults.{AreJudged, AreRings, IsDamagedOn, VaultState, ring_of}
 use Rattle.vdr_vault.specs.Plays.{AreIntactFor, ArePassedFor, IsKnownToMeetIn, IsMetAt, MeetsFor, ReadsOn, StandsFor, ring_for, span_by}
 use Rattle.vdr_vault.specs.Keeps.{ReadsForPlay, StepsAmong}

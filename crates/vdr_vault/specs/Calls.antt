@@ -3,9 +3,9 @@ use Rattle.std.specs.Prelude.{◌≡◌, ◌≢◌, ◌⊎◌, ◌∷◌, ◌++�
 use Rattle.vdr_terms.specs.Needs.{cost}
 use Rattle.vdr_terms.specs.Order.{RunOn}
 use Rattle.vdr_terms.specs.Records.{Record}
-use Rattle.vdr_history.specs.Histories.{Event, Opening, next_place}
-use Rattle.vdr_retention.specs.Regular.{IsPaced}
-use Rattle.vdr_pace.specs.Media.{IsAppended}
+use Rattle.vdr_core.specs.Histories.{Event, Opening, next_place}
+use Rattle.vdr_durability.specs.Regular.{IsPaced}
+use Rattle.vdr_durability.specs.Media.{IsAppended}
 use Rattle.vdr_durability.specs.Keeping.{Extends}
 use Rattle.vdr_outside.specs.Causes.{NoneFalls, Rose}
 use Rattle.vdr_outside.specs.Disk.{Disk, Image, content}

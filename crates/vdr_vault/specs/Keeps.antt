@@ -2,9 +2,9 @@
 use Rattle.std.specs.Prelude.{◌≡◌, ◌≢◌, ◌⊎◌, ◌↔◌, ◌<◌, ◌-◌, ℕ, suc, Bool, true, false, List, is_none, position, Option, Some, None, option_map, Result, Ok, Err, IfOk, IsErr, OnErr, OnOk}
 use Rattle.vdr_terms.specs.Records.{Record, last}
 use Rattle.vdr_terms.specs.Queries.{Query}
-use Rattle.vdr_history.specs.Histories.{Event, Incident, Opening, live, with_slot}
+use Rattle.vdr_core.specs.Histories.{Event, Incident, Opening, live, with_slot}
 use Rattle.vdr_durability.specs.Readings.{next_after}
-use Rattle.vdr_playback.specs.Playback.{medium_of}
+use Rattle.vdr_durability.specs.Playback.{medium_of}
 use Rattle.vdr_outside.specs.declared.media.Media.{Ghosts as MediaTells}
 use Rattle.vdr_outside.specs.Disk.{Disk, SameBut, Unchanged}
 use Rattle.vdr_ring.specs.Meets.{AreApart}
@@ -20,7 +20,7 @@ use Rattle.vdr_vault.specs.declared.refused.SaveRefused.TheVariants.{Damaged, Fa
 use Rattle.vdr_vault.specs.Vaults.{AreJudged, AreRings, IsDamagedOn, IsReadable, VaultState, Stands, of_stamp, ring_of, tick_utc}
 use Rattle.vdr_vault.specs.Calls.{HasVaultCause, SameElsewhere}
 use Rattle.vdr_vault.specs.Saves.{HasFaultOn, save_refusal}
-use Rattle.vdr_cursor.specs.Walks.{CursorState, MayStep, steps_left}
+use Rattle.vdr_ring.specs.Walks.{CursorState, MayStep, steps_left}
 use Rattle.vdr_vault.specs.Plays.{AreIntactFor, ArePassedFor, HasReadCause, IsMetAt, ReadsNoOther, ReadsOn, StandsFor, ring_for}
 
 -- Where a write had failed before, the call does nothing; and where it fails, the next one does nothing.

@@ -8,3 +8,8 @@ pub mod Saves
 pub mod Keeps
 pub mod Passes
 pub mod Bringing
+pub mod Refusals
+pub mod Prints
+pub mod Visits
+pub mod Ours
+pub mod Lives

@@ -4,9 +4,9 @@ use Rattle.vdr_terms.specs.Records.{Record, second, last}
 use Rattle.vdr_terms.specs.Queries.{Medium, Query, Span, meets}
 use Rattle.vdr_terms.specs.Queries.Medium.{WindowOf, Incident}
 use Rattle.vdr_terms.specs.Queries.Span.{Window, Places}
-use Rattle.vdr_history.specs.Histories.{live}
-use Rattle.vdr_history.specs.Histories as histories
-use Rattle.vdr_playback.specs.Playback.{medium_of}
+use Rattle.vdr_core.specs.Histories.{live}
+use Rattle.vdr_core.specs.Histories as histories
+use Rattle.vdr_durability.specs.Playback.{medium_of}
 use Rattle.vdr_outside.specs.Causes.{NoneFalls, Rose}
 use Rattle.vdr_outside.specs.Disk.{Disk, content}
 use Rattle.vdr_config.specs.Configuration.{Configuration}
@@ -22,10 +22,10 @@ use Rattle.vdr_ring.specs.Visits.{slot_read}
 use Rattle.vdr_ring.specs.declared.refused.ReadRefused.{ReadRefused}
 use Rattle.vdr_ring.specs.declared.refused.ReadRefused.TheVariants.{Fault}
 use Rattle.vdr_vault.specs.Vaults.{AreJudged, IsDamagedOn, VaultState, ring_of}
-use Rattle.vdr_cursor.specs.declared.cursor.Standing.{Standing}
-use Rattle.vdr_cursor.specs.Budgets.{IsOfSegments, budget}
-use Rattle.vdr_cursor.specs.Passing.{IsPassed}
-use Rattle.vdr_cursor.specs.Walks.{CursorState, AreLeft, slots_read}
+use Rattle.vdr_ring.specs.declared.cursor.Standing.{Standing}
+use Rattle.vdr_ring.specs.Budgets.{IsOfSegments, budget}
+use Rattle.vdr_ring.specs.Passing.{IsPassed}
+use Rattle.vdr_ring.specs.Walks.{CursorState, AreLeft, slots_read}
 
 -- What a query's medium comes to, by the configuration, the incidents and the segments of the media: the seconds up to the last
 -- record's, or an incident's places.

@@ -2,8 +2,8 @@
 use Rattle.std.specs.Prelude.{◌≤◌, ℕ, All}
 use Rattle.vdr_terms.specs.Order.{AreInOrder}
 use Rattle.vdr_terms.specs.Needs.{cost, usable}
-use Rattle.vdr_retention.specs.Layout.{batches_size_at}
-use Rattle.vdr_retention.specs.Victims.{ArePinsOf}
+use Rattle.vdr_durability.specs.Layout.{batches_size_at}
+use Rattle.vdr_durability.specs.Victims.{ArePinsOf}
 use Rattle.vdr_durability.specs.Readings.{records_on, restored}
 use Rattle.vdr_durability.specs.Shown.{pins_on}
 use Rattle.vdr_durability.specs.Soundness.{IsUnbroken}

@@ -3,8 +3,8 @@
 use Rattle.std.specs.Prelude.{◌≡◌, ◌⊎◌, ◌∷◌, ◌++◌, ℕ, ℤ, Bool, true, false, List, [], get_or, sum, is_none, position, Option, Some, None, option_map, slice_get, Result, OnOk, IfOk}
 use Rattle.vdr_terms.specs.Records.{Record}
 use Rattle.vdr_terms.specs.Windows.{window}
-use Rattle.vdr_history.specs.Histories.{Event, Opening, MayCome}
-use Rattle.vdr_history.specs.Histories.Act.{Save}
+use Rattle.vdr_core.specs.Histories.{Event, Opening, MayCome}
+use Rattle.vdr_core.specs.Histories.Act.{Save}
 use Rattle.vdr_durability.specs.Keeping.{Extends}
 use Rattle.vdr_outside.specs.Causes.{NoneFalls, Rose}
 use Rattle.vdr_outside.specs.Disk.{Disk}

@@ -3,10 +3,10 @@ use Rattle.std.specs.Prelude.{◌≡◌, ◌<◌, ℕ, ℤ, Bool, false, List, l
 use Rattle.vdr_terms.specs.Records.{Record, last}
 use Rattle.vdr_terms.specs.Needs.{cost, slots_in, usable}
 use Rattle.vdr_terms.specs.Order.{AreInOrder}
-use Rattle.vdr_history.specs.Histories.{Event, Incident, Opening, incidents, last_stamp, next_place, stamp_of}
-use Rattle.vdr_history.specs.Runs.{Stamp}
-use Rattle.vdr_retention.specs.Retention.{Retains}
-use Rattle.vdr_retention.specs.Victims.{ArePinsOf}
+use Rattle.vdr_core.specs.Histories.{Event, Incident, Opening, incidents, last_stamp, next_place, stamp_of}
+use Rattle.vdr_core.specs.Runs.{Stamp}
+use Rattle.vdr_durability.specs.Retention.{Retains}
+use Rattle.vdr_durability.specs.Victims.{ArePinsOf}
 use Rattle.vdr_durability.specs.Readings.{Reading, AreLevel, next_after}
 use Rattle.vdr_durability.specs.Shown.{ImageShows, given_with, pins_on}
 use Rattle.vdr_outside.specs.Disk.{Disk, Image, content}

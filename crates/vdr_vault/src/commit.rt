@@ -1,9 +1,9 @@
 ghost use Rattle.std.specs.Prelude.{◌≡◌, ◌≤◌, ◌<◌, ℕ, List, length, false};
 ghost use Rattle.vdr_terms.specs.Records.{last};
 ghost use Rattle.vdr_terms.specs.Sizes.{records_size};
-ghost use Rattle.vdr_history.specs.Histories.{Event, Opening};
-ghost use Rattle.vdr_history.specs.Histories.Act.{Commit};
-ghost use Rattle.vdr_history.specs.Taken.{Captured};
+ghost use Rattle.vdr_core.specs.Histories.{Event, Opening};
+ghost use Rattle.vdr_core.specs.Histories.Act.{Commit};
+ghost use Rattle.vdr_core.specs.Taken.{Captured};
 ghost use Rattle.vdr_directory.specs.Sequence.{Placed};
 ghost use Rattle.vdr_vault.specs.Vaults.{AreRings, Stands, working, working_from};
 ghost use Rattle.vdr_vault.specs.Calls.{Commits, HasVaultCause, MayCommit, SameElsewhere};

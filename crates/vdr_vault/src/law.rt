@@ -1,9 +1,9 @@
 ghost use Rattle.std.specs.Prelude.{◌≡◌, ◌∷◌, ◌++◌, ℕ, List, []};
-ghost use Rattle.vdr_history.specs.Histories.{Event, Opening, all_records, incidents, records_of_act, table_after};
+ghost use Rattle.vdr_core.specs.Histories.{Event, Opening, all_records, incidents, records_of_act, table_after};
 ghost use Rattle.vdr_durability.specs.Readings.{EndsMeet};
 ghost use Rattle.vdr_outside.specs.Disk.{Image, Unchanged};
 ghost use Rattle.vdr_config.specs.Configuration.{Configuration};
-ghost use Rattle.vdr_playback.specs.Playback.{medium_of};
+ghost use Rattle.vdr_durability.specs.Playback.{medium_of};
 ghost use Rattle.vdr_terms.specs.Queries.{Query};
 ghost use Rattle.vdr_directory.specs.Knowns.{AreInOrderBy};
 ghost use Rattle.vdr_directory.specs.Sequence.{Placed};

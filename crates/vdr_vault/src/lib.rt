@@ -2,9 +2,13 @@
 #![tactic(auto)]
 
 mod appending;
+mod asking;
 mod bringing;
+mod buffered;
 mod commit;
+mod each;
 mod law;
+mod life_law;
 mod open;
 mod pins;
 mod play;
@@ -12,8 +16,16 @@ mod questions;
 mod refused;
 mod saving;
 mod vault;
+mod visit;
+mod visit_refused;
+mod visitor;
 
+pub use asking::accept;
 pub use law::{law_of_meeting, law_of_sound_media, law_of_vaults};
+pub use life_law::{law_of_lives, law_of_ours};
 pub use play::law_of_budgets;
 pub use refused::SaveRefused;
 pub use vault::Vault;
+pub use visit::visit_selected;
+pub use visit_refused::{VisitRefused, VisitorRefused};
+pub use visitor::Visitor;

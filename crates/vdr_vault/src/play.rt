@@ -1,8 +1,8 @@
 ghost use Rattle.std.specs.Prelude.{◌≡◌, ◌≢◌, ◌<◌, ◌↔◌, ℕ, List, true, None, Some, Ok, Err, All, option_map, get_or};
 ghost use Rattle.vdr_terms.specs.Records.{Record as Entry, last, second};
 ghost use Rattle.vdr_terms.specs.Queries.Span.{Window};
-ghost use Rattle.vdr_history.specs.Histories.{Event, Opening};
-ghost use Rattle.vdr_playback.specs.Playback.{medium_of, selected};
+ghost use Rattle.vdr_core.specs.Histories.{Event, Opening};
+ghost use Rattle.vdr_durability.specs.Playback.{medium_of, selected};
 ghost use Rattle.vdr_entry.specs.declared.query.Query.{Query as Asked};
 ghost use Rattle.vdr_entry.specs.Queries.{asked, asked_medium};
 ghost use Rattle.vdr_directory.specs.Sequence.{Placed, all_records};
@@ -11,21 +11,19 @@ ghost use Rattle.vdr_ring.specs.Rings.{Reads};
 ghost use Rattle.vdr_opening.specs.Media.{members};
 ghost use Rattle.vdr_vault.specs.Vaults.{AreRings, IsReadable, VaultState, ring_of};
 ghost use Rattle.vdr_index.specs.Indexes.{span_as};
-ghost use Rattle.vdr_cursor.specs.Budgets.{Spends};
-ghost use Rattle.vdr_cursor.specs.Steps.{KeepsStep, TellsDamage};
-ghost use Rattle.vdr_cursor.specs.Walks.{AreLeft, GivesNext, MayStep, new_cursor, slots_read};
+ghost use Rattle.vdr_ring.specs.Budgets.{Spends};
+ghost use Rattle.vdr_ring.specs.Steps.{KeepsStep, TellsDamage};
+ghost use Rattle.vdr_ring.specs.Walks.{AreLeft, GivesNext, MayStep, new_cursor, slots_read};
 ghost use Rattle.vdr_vault.specs.Keeps.{KeepsPlayed, ReadsForPlay, StandsAfter, StepsAmong};
 ghost use Rattle.vdr_vault.specs.Plays.{AreOfSegments, AreToCome, ReadsOn, budget_for, ring_for, span_by, span_in, whole_budget};
 
 use crate::Vault;
-use vdr_cursor::{Cursor, law_of_budget};
+use vdr_durability::law_of_playback;
 use vdr_entry::{Medium, Query};
 use vdr_incident::LONG_TERM;
-use vdr_index::Span;
+use vdr_index::{Selection, Span};
 use vdr_outside::Media;
-use vdr_playback::law_of_playback;
-use vdr_ring::{ReadRefused, Ring};
-use vdr_survey::Selection;
+use vdr_ring::{Cursor, ReadRefused, Ring, law_of_budget};
 
 // The window that ends with the second of a medium's last record. None where it has no record.
 fn window_of(ring: &Ring, seconds: u64) -> Option<Span>

@@ -1,6 +1,6 @@
 // What a vault answers without a call on its media.
 ghost use Rattle.std.specs.Prelude.{◌≡◌, option_copied, count_by, is_some};
-ghost use Rattle.vdr_history.specs.Histories.{live};
+ghost use Rattle.vdr_core.specs.Histories.{live};
 
 use crate::Vault;
 use vdr_config::Config;

@@ -1,8 +1,8 @@
 // What is kept of an incident, and until when.
 ghost use Rattle.std.specs.Prelude.{◌≡◌, ◌⊎◌, ◌-◌, ◌≤◌, ℕ, ℤ, suc, List, is_none, position, option_map, IfOk, IfNone, IfSome, OnErr, None, Some, Err, Ok, false};
 ghost use Rattle.vdr_terms.specs.Records.{Record, last, second};
-ghost use Rattle.vdr_history.specs.Histories.{Event, Incident, Opening, live, with_slot};
-ghost use Rattle.vdr_history.specs.Histories.Act.{Release};
+ghost use Rattle.vdr_core.specs.Histories.{Event, Incident, Opening, live, with_slot};
+ghost use Rattle.vdr_core.specs.Histories.Act.{Release};
 ghost use Rattle.vdr_outside.specs.Disk.{SameBut, Unchanged};
 ghost use Rattle.vdr_config.specs.Configuration.{IsConfiguration};
 ghost use Rattle.vdr_directory.specs.Sequence.{Placed, all_records};
@@ -13,7 +13,7 @@ ghost use Rattle.vdr_ring.specs.Rings.{Reads};
 ghost use Rattle.vdr_incident.specs.Saves.{IsSave};
 ghost use Rattle.vdr_incident.specs.declared.refused.ReleaseRefused.TheVariants.{Fault as AReleaseFault, NoSuch};
 ghost use Rattle.vdr_vault.specs.Vaults.{AreJudged, AreRings, IsDamagedOn, Stands, of_stamp, ring_of};
-ghost use Rattle.vdr_cursor.specs.Walks.{HasRead};
+ghost use Rattle.vdr_ring.specs.Walks.{HasRead};
 ghost use Rattle.vdr_vault.specs.Plays.{ReadsNoOther, ReadsOn};
 ghost use Rattle.vdr_vault.specs.Saves.{Does, HasFaultOn, Saves, first_in_window, save_refusal};
 ghost use Rattle.vdr_vault.specs.Keeps.{FailsWhere, FreesSlot, KeepsHistory, MeetsDamage, PutsIncident, RefusesRelease, RefusesSave, WritesToLongTerm};
@@ -21,12 +21,11 @@ ghost use Rattle.vdr_vault.specs.declared.refused.SaveRefused.{SaveRefused as Re
 ghost use Rattle.vdr_vault.specs.declared.refused.SaveRefused.TheVariants.{Damaged, Fault as AFault, Label, Nothing, TableFull};
 
 use crate::{SaveRefused, Vault};
-use vdr_cursor::Cursor;
 use vdr_entry::{Medium, Query};
 use vdr_incident::{LONG_TERM, ReleaseRefused, Save, is_label};
-use vdr_index::Span;
+use vdr_index::{Selection, Span};
 use vdr_outside::Media;
-use vdr_survey::Selection;
+use vdr_ring::Cursor;
 
 // The records of a medium, whatever their channels and stamps.
 const ALL: Query = Query {

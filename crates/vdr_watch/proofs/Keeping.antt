@@ -1,6 +1,6 @@
 -- What a row of a table is compared with, and what the table is with it.
 use Rattle.std.proofs.Common.{◌≡◌, ◌≤◌, ◌∙◌, ◌∷◌, ℕ, List, Option, Result, ap, subst, arith}
-use Rattle.vdr_playback.specs.Sources.{Source, source_cmp}
+use Rattle.vdr_durability.specs.Sources.{Source, source_cmp}
 use Rattle.vdr_watch.specs.Kept.{IsPlaced, row_at, with_row}
 use Rattle.vdr_watch.specs.Signs.{Alarm, Alarms, Beats, Heartbeat, Sign}
 use Rattle.vdr_watch.specs.Supervision.{alarm_cmp, beat_cmp, last_state, latest, predecessor, states}

@@ -4,8 +4,8 @@ use Rattle.std.specs.Cmp.{IsTotalOrder}
 use Rattle.std.specs.Ordering.{ordering_then}
 use Rattle.std.proofs.lemmas.Bool.{ltb-true, ne_eqb}
 use Rattle.std.proofs.lemmas.Cmp.{nat_cmp_total, on_total, then_total}
-use Rattle.vdr_playback.specs.Sources.{Source, is_same, source_cmp}
-use Rattle.vdr_playback.proofs.SourceOrder.{is_same_by, source_total}
+use Rattle.vdr_durability.specs.Sources.{Source, is_same, source_cmp}
+use Rattle.vdr_durability.proofs.SourceOrder.{is_same_by, source_total}
 use Rattle.vdr_watch.specs.Signs.{Alarm, Alarms, Beats, Begins, Heartbeat, Sign}
 use Rattle.vdr_watch.specs.Supervision.{AreOrdered, alarm_cmp, beat_cmp, last_state, latest, predecessor, states}
 use Rattle.vdr_watch.proofs.Ordered.{found_with, ordered_with, same_as}

@@ -9,7 +9,7 @@ use Rattle.vdr_values.specs.declared.formatter.Formatter.{Formatter}
 use Rattle.vdr_values.specs.declared.formatter.Formatter.TheVariants.{Hbt, Alr}
 use Rattle.vdr_values.specs.Readings.{Reading, reading}
 use Rattle.vdr_values.specs.Values.{Value, value_at, digits_in, raw_in, Number, Digits, Letter}
-use Rattle.vdr_playback.specs.Sources.{Source}
+use Rattle.vdr_durability.specs.Sources.{Source}
 use Rattle.vdr_sources.specs.Tables.{named}
 
 -- A heartbeat of a source.

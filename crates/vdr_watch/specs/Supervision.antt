@@ -6,7 +6,7 @@ use Rattle.std.specs.Ordering.{nat_cmp, ordering_then}
 use Rattle.std.specs.declared.cmp.Ordering.{Ordering}
 use Rattle.std.specs.declared.cmp.Ordering.TheVariants.{Less, Equal, Greater}
 use Rattle.vdr_terms.specs.Records.{Record}
-use Rattle.vdr_playback.specs.Sources.{Source, is_same, source_cmp}
+use Rattle.vdr_durability.specs.Sources.{Source, is_same, source_cmp}
 use Rattle.vdr_watch.specs.Signs.{Alarm, Alarms, Beats, Begins, Heartbeat, Sign, signs_of}
 
 -- The last heartbeat of the source, with no begin of a run behind it.

@@ -5,7 +5,7 @@ use Rattle.vdr_terms.specs.Groups.{group_name}
 use Rattle.vdr_terms.specs.Records.{Record, last}
 use Rattle.vdr_entry.specs.Escape.{escaped}
 use Rattle.vdr_entry.specs.Utc.{utc_text}
-use Rattle.vdr_playback.specs.Sources.{Source}
+use Rattle.vdr_durability.specs.Sources.{Source}
 use Rattle.vdr_watch.specs.Signs.{Alarm, Alarms, Beats, Begins, Heartbeat, Sign, signs_of}
 use Rattle.vdr_watch.specs.Supervision.{is_silent, last_state, latest, met_after, met_in, predecessor, same_state}
 

@@ -1,6 +1,6 @@
 // A heartbeat.
 ghost use Rattle.std.specs.Prelude.{◌≡◌, ◌-◌};
-ghost use Rattle.vdr_playback.specs.Sources.{source_cmp};
+ghost use Rattle.vdr_durability.specs.Sources.{source_cmp};
 ghost use Rattle.vdr_watch.specs.Supervision.{is_silent};
 
 use arrayvec::ArrayVec;

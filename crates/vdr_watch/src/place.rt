@@ -1,7 +1,7 @@
 // Where a row stands in a table that is in order.
 ghost use Rattle.std.specs.Prelude.{◌≡◌, ◌≤◌, ◌<◌, ◌+◌, length, vec_capacity, vec_len};
 ghost use Rattle.std.specs.List.Sorted.{IsSearchInRange};
-ghost use Rattle.vdr_playback.specs.Sources.{source_cmp};
+ghost use Rattle.vdr_durability.specs.Sources.{source_cmp};
 ghost use Rattle.vdr_watch.specs.Kept.{IsPlaced, with_row};
 ghost use Rattle.vdr_watch.specs.Supervision.{AreOrdered, alarm_cmp, beat_cmp};
 

@@ -10,9 +10,9 @@ use std::process::Abort;
 use std::test::Fail;
 use vdr_config::{fits, read_config};
 use vdr_entry::Record;
+use vdr_index::Selection;
 use vdr_outside::Media;
 use vdr_ring::{Pins, ReadRefused, Ring, Visit};
-use vdr_survey::Selection;
 use vdr_terms::{Verdict, recordable};
 
 // The bench configuration: a window of 60 seconds, for which the capsule has 11 slots.

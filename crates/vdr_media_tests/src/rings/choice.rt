@@ -1,6 +1,6 @@
 // Which segment is written over once no slot is closed.
 ghost use Rattle.std.specs.Prelude.{◌<◌};
-ghost use Rattle.vdr_slots.specs.Areas.{HasRoom};
+ghost use Rattle.vdr_segment.specs.Areas.{HasRoom};
 
 use std::alloc::Global;
 use std::process::Abort;
@@ -10,8 +10,7 @@ use vdr_entry::Record;
 use vdr_memory::RamMedia;
 use vdr_outside::{Fault, Media};
 use vdr_ring::{Pins, Ring};
-use vdr_segment::write_batch;
-use vdr_slots::{Area, append_batch, begin_segment};
+use vdr_segment::{Area, append_batch, begin_segment, write_batch};
 
 // A window of so many seconds, for which the capsule needs four slots.
 const CONFIG: &str =

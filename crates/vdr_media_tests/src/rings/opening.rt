@@ -1,5 +1,5 @@
 ghost use Rattle.std.specs.Prelude.{◌<◌};
-ghost use Rattle.vdr_slots.specs.Areas.{HasRoom};
+ghost use Rattle.vdr_segment.specs.Areas.{HasRoom};
 
 use std::alloc::Global;
 use std::process::Abort;
@@ -10,8 +10,7 @@ use vdr_entry::Record;
 use vdr_memory::{MemoryMedia, RamMedia};
 use vdr_outside::{Fault, Media, PartRefused};
 use vdr_ring::Ring;
-use vdr_segment::{OPEN_GATE, write_batch};
-use vdr_slots::{Area, append_batch, begin_segment};
+use vdr_segment::{Area, OPEN_GATE, append_batch, begin_segment, write_batch};
 
 // A window of a second, for which the capsule needs four slots.
 const CONFIG: &[u8] =

@@ -4,12 +4,11 @@ use std::alloc::Global;
 use std::process::Abort;
 use std::test::Fail;
 use vdr_entry::{Medium, Query, Summary};
-use vdr_index::Span;
+use vdr_index::{Selection, Span};
 use vdr_memory::{MemoryMedia, RamMedia, Torn};
 use vdr_outside::Media;
 use vdr_ring::{Pins, Ring};
 use vdr_segment::{HEADER_SIZE, read_header};
-use vdr_survey::Selection;
 use vdr_terms::SLOTS_FROM;
 
 // How many batches stand on the capsule before a slot is written over: 54 in each of 11 segments.

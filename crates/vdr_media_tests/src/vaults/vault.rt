@@ -7,12 +7,11 @@ use std::alloc::Global;
 use std::marker::Model;
 use std::process::Abort;
 use std::test::Fail;
-use vdr_cursor::Cursor;
 use vdr_entry::{Query, Record};
 use vdr_incident::ReleaseRefused;
 use vdr_opening::OpenRefused;
 use vdr_outside::Media;
-use vdr_ring::ReadRefused;
+use vdr_ring::{Cursor, ReadRefused};
 use vdr_vault::{SaveRefused, Vault};
 
 #[derive(Drop)]
@@ -119,7 +118,7 @@ impl<M: Media> Model for Play<M> {
     ghost use Rattle.vdr_entry.specs.Queries.{asked};
     ghost use Rattle.vdr_vault.specs.Vaults.{AreRings};
     ghost use Rattle.vdr_vault.specs.Plays.{ring_for};
-    ghost use Rattle.vdr_cursor.specs.Walks.{MayStep};
+    ghost use Rattle.vdr_ring.specs.Walks.{MayStep};
 
     ghost Value = { ⊤ };
 

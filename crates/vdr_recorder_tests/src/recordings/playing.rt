@@ -3,10 +3,10 @@ use std::alloc::Global;
 use std::marker::Model;
 use std::process::Abort;
 use std::test::Fail;
-use vdr_cursor::Cursor;
 use vdr_entry::Record;
 use vdr_outside::Media;
 use vdr_recorder::{Medium, Query};
+use vdr_ring::Cursor;
 use vdr_vault::Vault;
 
 const ALL: Query = Query {
@@ -32,7 +32,7 @@ impl<M: Media> Model for Play<M> {
     ghost use Rattle.vdr_entry.specs.Queries.{asked};
     ghost use Rattle.vdr_vault.specs.Vaults.{AreRings};
     ghost use Rattle.vdr_vault.specs.Plays.{ring_for};
-    ghost use Rattle.vdr_cursor.specs.Walks.{MayStep};
+    ghost use Rattle.vdr_ring.specs.Walks.{MayStep};
 
     ghost Value = { ⊤ };
 

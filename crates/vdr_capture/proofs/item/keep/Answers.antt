@@ -2,7 +2,7 @@ use Rattle.std.proofs.Common.{◌≡◌, ℕ, [], ◌∷◌, ◌++◌, refl, sym
 use Rattle.std.proofs.lemmas.Int.{to_z-of_z}
 use Rattle.vdr_terms.specs.Records.{Item}
 use Rattle.vdr_terms.specs.Counting.{Tally}
-use Rattle.vdr_history.specs.Taken.{Captured}
+use Rattle.vdr_core.specs.Taken.{Captured}
 use Rattle.vdr_core.specs.Machine.{captured}
 use Rattle.vdr_intake.specs.Items.{Follows}
 use Rattle.vdr_capture.specs.Items.{HasCaptured, IsOffered}

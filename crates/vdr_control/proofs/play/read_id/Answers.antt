@@ -1,6 +1,6 @@
 use Rattle.std.proofs.Common.{inl, inr, ℕ, List, get_or, ap, ◌∙◌, sym, arith}
 use Rattle.std.proofs.lemmas.Option.{none-some, same_Some}
-use Rattle.vdr_digits.specs.Digits.{number}
+use Rattle.vdr_bytes.specs.Digits.{number}
 use Rattle.vdr_control.proofs.IdLemmas.{id_begins, id_read, id_spelled, if_none}
 use Rattle.vdr_control.proofs.play.read_id.Goals as goal
 

@@ -1,6 +1,6 @@
 use Rattle.std.proofs.Common.{◌∙◌, ap, arith}
 use Rattle.std.specs.Prelude.{Option, is_some}
-use Rattle.vdr_survey.specs.declared.extent.Extent.{Extent}
+use Rattle.vdr_index.specs.declared.extent.Extent.{Extent}
 use Rattle.vdr_directory.proofs.Bringing.{one_behind}
 use Rattle.vdr_directory.proofs.bare.may_have_summary.Goals as goal
 

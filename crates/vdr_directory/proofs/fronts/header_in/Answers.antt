@@ -1,6 +1,6 @@
 use Rattle.std.proofs.Common.{ℕ, List, Some, sym, ap, ◌∙◌, subst, arith}
 use Rattle.std.proofs.lemmas.Option.{slice_get-get_or}
-use Rattle.vdr_slots.specs.Slots.{IsFront}
+use Rattle.vdr_segment.specs.Slots.{IsFront}
 use Rattle.vdr_directory.proofs.FrontLemmas.{no_front}
 use Rattle.vdr_directory.proofs.fronts.header_in.Goals as goal
 

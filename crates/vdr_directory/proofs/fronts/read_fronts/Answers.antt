@@ -3,7 +3,7 @@ use Rattle.std.proofs.lemmas.Result.{err_from_is_err_and}
 use Rattle.vdr_outside.specs.Disk.{Image, content}
 use Rattle.vdr_outside.proofs.Counts.{none_falls_join}
 use Rattle.vdr_outside.proofs.Moments.{unchanged_join}
-use Rattle.vdr_slots.specs.Slots.{IsFront}
+use Rattle.vdr_segment.specs.Slots.{IsFront}
 use Rattle.vdr_terms.proofs.Results.{same_err}
 use Rattle.vdr_directory.specs.Opening.{front_bytes}
 use Rattle.vdr_directory.specs.Fronts.{TellFronts}

@@ -1,7 +1,7 @@
 use Rattle.std.proofs.Common.{◌∙◌, None, Option, ap, arith}
 use Rattle.std.specs.Prelude.{option_map}
 use Rattle.std.proofs.lemmas.List.{take_all}
-use Rattle.vdr_survey.specs.declared.extent.Extent.{Extent}
+use Rattle.vdr_index.specs.declared.extent.Extent.{Extent}
 use Rattle.vdr_directory.specs.Directories.{ending_by, later}
 use Rattle.vdr_directory.proofs.EndingsBy.{precede_by}
 use Rattle.vdr_directory.proofs.Entering.{ending_placed, ending_read, ending_told, read_more}

@@ -1,7 +1,7 @@
 use Rattle.std.proofs.Common.{arith, ap, sym, subst, ◌∙◌}
 use Rattle.std.specs.Prelude.{◌↔◌, Bool, IsTrue, Option, is_some}
 use Rattle.std.proofs.lemmas.Bool.{ltb-true, lt-ltb}
-use Rattle.vdr_survey.specs.declared.extent.Extent.{Extent}
+use Rattle.vdr_index.specs.declared.extent.Extent.{Extent}
 use Rattle.vdr_directory.specs.Knowns.{HasNoneBy}
 use Rattle.vdr_directory.proofs.Extents.{count_summarized, has_some_bare}
 use Rattle.vdr_directory.proofs.order.has_records.Goals as goal

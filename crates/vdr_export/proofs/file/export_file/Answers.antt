@@ -1,5 +1,5 @@
 use Rattle.std.proofs.Common.{sym, subst}
-use Rattle.vdr_playback.specs.Playback.{selected}
+use Rattle.vdr_durability.specs.Playback.{selected}
 use Rattle.vdr_entry.specs.Queries.{asked}
 use Rattle.vdr_export.specs.Answers.{FileEnds, file_of}
 use Rattle.vdr_export.specs.declared.file.File.{File}

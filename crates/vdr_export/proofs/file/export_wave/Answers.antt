@@ -1,6 +1,6 @@
 use Rattle.std.proofs.Common.{◌≡◌, ◌∙◌, Ok, Err, inr, sym, ap}
 use Rattle.std.proofs.lemmas.Result.{err_from_is_err_and}
-use Rattle.vdr_playback.specs.Playback.{medium_of, selected}
+use Rattle.vdr_durability.specs.Playback.{medium_of, selected}
 use Rattle.vdr_entry.specs.Queries.{asked}
 use Rattle.vdr_recorder.proofs.Looking.{looks_join}
 use Rattle.vdr_export.specs.Sounds.{heard}

@@ -1,6 +1,6 @@
 use Rattle.std.proofs.Common.{◌∙◌, List, Err, refl, sym, ap, subst}
 use Rattle.std.proofs.lemmas.Result.{err_from_is_err_and}
-use Rattle.vdr_playback.specs.Playback.{selected}
+use Rattle.vdr_durability.specs.Playback.{selected}
 use Rattle.vdr_terms.specs.Records.{Record}
 use Rattle.vdr_entry.specs.Queries.{asked}
 use Rattle.vdr_export.specs.Collected.{IsCollected}

@@ -1,5 +1,5 @@
 use Rattle.std.proofs.Common.{List, Err, inl, refl, ap, subst}
-use Rattle.vdr_playback.specs.Playback.{selected}
+use Rattle.vdr_durability.specs.Playback.{selected}
 use Rattle.vdr_terms.specs.Records.{Record}
 use Rattle.vdr_entry.specs.Queries.{asked}
 use Rattle.vdr_export.specs.Heard.{IsSized}

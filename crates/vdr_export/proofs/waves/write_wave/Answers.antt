@@ -1,12 +1,12 @@
 use Rattle.std.proofs.Common.{◌∙◌, ℕ, List, subst, refl, ap}
 use Rattle.std.specs.Io.KnownBytes.{Appends}
-use Rattle.vdr_playback.specs.Playback.{selected}
+use Rattle.vdr_durability.specs.Playback.{selected}
 use Rattle.vdr_terms.specs.Records.{Record}
 use Rattle.vdr_outside.specs.Writes.{AppendsFront}
 use Rattle.vdr_entry.specs.Queries.{asked}
 use Rattle.vdr_export.specs.Sounds.{frames_of, heard, sound}
 use Rattle.vdr_export.specs.Waves.{wave_header}
-use Rattle.vdr_visit.proofs.Printing.{front_of_whole}
+use Rattle.vdr_vault.proofs.Printing.{front_of_whole}
 use Rattle.vdr_export.proofs.Passes.{wave_front, wave_written, whole_sound}
 use Rattle.vdr_export.proofs.Refusing.{looked_as, looked_nothing, output_after, output_as}
 use Rattle.vdr_export.proofs.Damages.{ended_told, none_told, stopped_told}

@@ -1,7 +1,7 @@
 use Rattle.std.specs.Bool.{⊤}
 use Rattle.std.proofs.Common.{◌≡◌, ◌∙◌, List, [], refl}
 use Rattle.std.proofs.lemmas.Result.{err_from_is_err_and}
-use Rattle.vdr_history.specs.Histories.{Event}
+use Rattle.vdr_core.specs.Histories.{Event}
 use Rattle.vdr_command.specs.Outside.{MediaSeen}
 use Rattle.vdr_command.proofs.OpenedLemmas.{refused_ends}
 use Rattle.vdr_live.proofs.Endings.{recorded_ends}

@@ -1,4 +1,4 @@
-use Rattle.vdr_survey.specs.Positions.{IsAt}
+use Rattle.vdr_index.specs.Positions.{IsAt}
 use Rattle.vdr_media_tests.proofs.surveys.stepped.Given as goal
 
 abbrev pub invariant-loop-place : goal.invariant-loop-place

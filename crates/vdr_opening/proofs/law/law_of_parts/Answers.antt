@@ -1,6 +1,6 @@
 use Rattle.std.proofs.Common.{Option, None, ap, arith}
 use Rattle.vdr_terms.specs.Records.{Record}
-use Rattle.vdr_history.specs.Histories.{stamp_of}
+use Rattle.vdr_core.specs.Histories.{stamp_of}
 use Rattle.vdr_opening.specs.Media.{parts_of, reading_of}
 use Rattle.vdr_opening.proofs.ContentsHeld.{never_unformatted}
 use Rattle.vdr_opening.proofs.PartsHeld.{are_legal, ends_known, legible, meet_known, one_capsule, one_config, one_configured_text, one_long_term, parts_table}

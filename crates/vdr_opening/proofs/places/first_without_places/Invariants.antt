@@ -1,5 +1,5 @@
 use Rattle.std.proofs.Common.{◌<◌, ℕ, suc, List}
-use Rattle.vdr_history.specs.Histories.{live}
+use Rattle.vdr_core.specs.Histories.{live}
 use Rattle.vdr_directory.specs.Knowns.{AreInOrderBy}
 use Rattle.vdr_directory.specs.Telling.{TellsBy}
 use Rattle.vdr_directory.specs.Sequence.{Placed}

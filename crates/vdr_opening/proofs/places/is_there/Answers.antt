@@ -1,5 +1,5 @@
 use Rattle.std.proofs.Common.{ap}
-use Rattle.vdr_history.specs.Histories.{Incident}
+use Rattle.vdr_core.specs.Histories.{Incident}
 use Rattle.vdr_opening.proofs.ContentsHeld.{there_by, there_if_free}
 use Rattle.vdr_opening.proofs.places.is_there.Goals as goal
 

@@ -5,7 +5,7 @@ use Rattle.vdr_command.specs.Opened.{AreLooks}
 use Rattle.vdr_command.specs.Outside.{Outside}
 use Rattle.vdr_command.proofs.OpenedLemmas.{missing_looked, no_looks, refused_ends}
 use Rattle.vdr_readout.specs.Reads.{AskedPlay, plain_play}
-use Rattle.vdr_visit.specs.declared.refused.VisitRefused.TheVariants.{Damaged}
+use Rattle.vdr_vault.specs.declared.visit_refused.VisitRefused.TheVariants.{Damaged}
 use Rattle.vdr_readout.proofs.CostLemmas.{reads_few}
 use Rattle.vdr_readout.proofs.DamageLemmas.{told_so}
 use Rattle.vdr_readout.proofs.ReadLemmas.{never_damaged, read_ends, read_shows, to_read, wanted_so}

@@ -1,5 +1,5 @@
 use Rattle.std.proofs.Common.{arith}
-use Rattle.vdr_pace.proofs.ItemSizes.{fit_few}
+use Rattle.vdr_durability.proofs.ItemSizes.{fit_few}
 use Rattle.vdr_recorder.proofs.Batches.{makes_all, number_fits, taken_more}
 use Rattle.vdr_recorder.proofs.making.make.Goals as goal
 

@@ -1,5 +1,5 @@
 use Rattle.std.proofs.Common.{◌∷◌, ◌++◌, [], ◌∙◌, subst}
-use Rattle.vdr_history.specs.Taken.{Captured}
+use Rattle.vdr_core.specs.Taken.{Captured}
 use Rattle.vdr_run.specs.Making.{IsMaking, TakesOne}
 use Rattle.vdr_terms.proofs.Stamping.{stamp_kept}
 use Rattle.vdr_recorder.proofs.making.take.Goals as goal

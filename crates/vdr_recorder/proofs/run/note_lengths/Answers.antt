@@ -1,7 +1,7 @@
 use Rattle.std.proofs.Common.{subst, ◌≡◌}
 use Rattle.vdr_terms.specs.declared.datagram.Verdict.TheVariants.{Yes}
 use Rattle.vdr_terms.specs.Datagrams.{verdict}
-use Rattle.vdr_history.specs.Taken.{Captured}
+use Rattle.vdr_core.specs.Taken.{Captured}
 use Rattle.vdr_recorder.proofs.Running.{short_more}
 use Rattle.vdr_recorder.proofs.run.note_lengths.Goals as goal
 

@@ -1,5 +1,5 @@
 use Rattle.std.proofs.Common.{◌<◌, ◌∷◌, ◌++◌, [], List, length, refl, sym, ◌∙◌, subst, arith}
-use Rattle.vdr_history.specs.Taken.{Captured}
+use Rattle.vdr_core.specs.Taken.{Captured}
 use Rattle.vdr_config.specs.Configuration.{Configuration}
 use Rattle.vdr_outside.proofs.Counts.{none_falls_join, none_fell, on_err}
 use Rattle.vdr_feed.specs.Feed.{longest_feed}

@@ -1,6 +1,6 @@
 use Rattle.std.proofs.Common.{◌≡◌, ◌≤◌, ◌+◌, ◌-◌, ℕ, List, [], true, false, Option}
 use Rattle.vdr_terms.specs.Records.{FeedItem}
-use Rattle.vdr_history.specs.Histories.{Event, Opening}
+use Rattle.vdr_core.specs.Histories.{Event, Opening}
 use Rattle.vdr_outside.specs.Causes.{NoneFalls}
 use Rattle.vdr_vault.specs.Calls.{SameElsewhere}
 use Rattle.vdr_vault.specs.Vaults.{AreRings}

@@ -10,8 +10,8 @@ use Rattle.vdr_opening.specs.Media.{opening_of}
 use Rattle.vdr_opening.specs.declared.refused.OpenRefused.{OpenRefused}
 use Rattle.vdr_vault.proofs.OpenMoments.{never_both}
 use Rattle.vdr_recorder.proofs.Admitting.{admits_all}
-use Rattle.vdr_headline.proofs.Passing.{passes_first, passes_opened}
-use Rattle.vdr_headline.proofs.Playing.{config_read}
+use Rattle.vdr_recorder.proofs.Passing.{passes_first, passes_opened}
+use Rattle.vdr_recorder.proofs.Playing.{config_read}
 use Rattle.vdr_replay.specs.Answers.{Answers, Decides, EndsAtHeader, IfOpened, IsOpenable, RefusesMedia, RefusesRun}
 use Rattle.vdr_replay.specs.Ran.{Runs}
 use Rattle.vdr_feed.specs.Progress.{HasRead}

@@ -1,7 +1,7 @@
 use Rattle.std.proofs.Common.{◌≤◌, [], ◌++◌, ℕ, length, ap, ◌∙◌, subst, arith}
 use Rattle.vdr_terms.specs.declared.counts.Counts.{Counts}
 use Rattle.vdr_terms.specs.Records.{total}
-use Rattle.vdr_history.specs.RunStates.{state_left}
+use Rattle.vdr_core.specs.RunStates.{state_left}
 use Rattle.vdr_config.specs.Configuration.{Configuration}
 use Rattle.vdr_outside.proofs.Counts.{none_falls_join, on_err}
 use Rattle.vdr_run.specs.Making.{rest_of}

@@ -1,7 +1,7 @@
 use Rattle.std.proofs.Common.{[], ◌++◌, Err, sym, ap, ◌∙◌, subst}
 use Rattle.std.proofs.lemmas.Result.{err_from_is_err_and}
 use Rattle.vdr_config.specs.Configuration.{Configuration}
-use Rattle.vdr_history.specs.Feed.{feed_records, items_of}
+use Rattle.vdr_core.specs.Feed.{feed_records, items_of}
 use Rattle.vdr_feed.specs.Reader.{IfKnown}
 use Rattle.vdr_recorder.specs.Recordings.{start_of_opening}
 use Rattle.vdr_replay.specs.Feeding.{AreConfigured, ReadsFeed}

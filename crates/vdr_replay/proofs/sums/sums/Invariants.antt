@@ -1,7 +1,7 @@
 use Rattle.std.proofs.Common.{◌≡◌, ◌<◌, ◌≤◌, ℕ, List, [], length, All, None, slice_index_or}
 use Rattle.vdr_terms.specs.Records.{FeedItem}
-use Rattle.vdr_history.specs.Feed.{items_of, feed_records}
-use Rattle.vdr_history.specs.Runs.{RunStart}
+use Rattle.vdr_core.specs.Feed.{items_of, feed_records}
+use Rattle.vdr_core.specs.Runs.{RunStart}
 use Rattle.vdr_core.specs.Replay.{taken_of}
 use Rattle.vdr_run.specs.Making.{CountsItems}
 use Rattle.vdr_run.specs.Given.{CountsFeed}

@@ -2,7 +2,7 @@ use Rattle.std.proofs.Common.{◌≡◌, List, drop}
 use Rattle.vdr_outside.specs.Causes.{NoneFalls}
 use Rattle.vdr_outside.specs.Disk.{Durable, SameBut}
 use Rattle.vdr_outside.specs.Moments.{ChangesOnly}
-use Rattle.vdr_slots.specs.Writes.{KeepsFront}
+use Rattle.vdr_segment.specs.Writes.{KeepsFront}
 use Rattle.vdr_directory.specs.Sequence.{Placed}
 use Rattle.vdr_ring.specs.Bringing.{HoldsAlike, StandsAlike}
 use Rattle.vdr_ring.proofs.bringing.summarize_all.Given as goal

@@ -1,5 +1,5 @@
 use Rattle.std.proofs.Common.{arith}
-use Rattle.vdr_survey.proofs.SpanLemmas.{front_closed, front_broken}
+use Rattle.vdr_index.proofs.SpanLemmas.{front_closed, front_broken}
 use Rattle.vdr_ring.proofs.LastBatch.{walked_none, walked_more}
 use Rattle.vdr_ring.proofs.last_batch.last_records.Goals as goal
 

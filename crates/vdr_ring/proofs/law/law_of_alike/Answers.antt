@@ -1,5 +1,5 @@
 use Rattle.std.proofs.Common.{ap}
-use Rattle.vdr_retention.specs.Layout.{records_in}
+use Rattle.vdr_durability.specs.Layout.{records_in}
 use Rattle.vdr_directory.proofs.Bringing.{alike_batches, alike_places, alike_segments, places_alike}
 use Rattle.vdr_ring.proofs.Exact.{alike_regular}
 use Rattle.vdr_ring.proofs.law.law_of_alike.Goals as goal

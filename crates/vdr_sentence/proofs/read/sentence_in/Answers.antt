@@ -1,5 +1,5 @@
 use Rattle.std.proofs.Common.{◌∙◌, ap, sym, subst, ℕ, List, Some}
-use Rattle.vdr_digits.specs.Checksum.{checksum}
+use Rattle.vdr_bytes.specs.Checksum.{checksum}
 use Rattle.vdr_sentence.specs.Addresses.{address_of, is_address}
 use Rattle.vdr_sentence.specs.Sentences.{IsContent}
 use Rattle.vdr_sentence.proofs.Readings.{IsChecked, legal_content, address_of-covered}

@@ -1,7 +1,7 @@
 use Rattle.std.proofs.Common.{◌≡◌, ◌<◌, ◌++◌, ℕ, List, Bool, Option, None, length, get_or, set, arith, sym, ap, ◌∙◌, subst, append_assoc}
 use Rattle.std.proofs.lemmas.List.{length-set}
-use Rattle.vdr_history.specs.Taken.{Captured as CapturedTold}
-use Rattle.vdr_pace.specs.Commits.{items_size}
+use Rattle.vdr_core.specs.Taken.{Captured as CapturedTold}
+use Rattle.vdr_durability.specs.Commits.{items_size}
 use Rattle.vdr_desk.proofs.Lists.{no_default}
 use Rattle.vdr_session.specs.Heads.{AreHeld, Steps}
 use Rattle.vdr_session.specs.Lanes.{AreMet, held}

@@ -1,6 +1,6 @@
 use Rattle.std.proofs.Common.{◌≡◌, ◌≤◌, ◌+◌, ◌/◌, ◌++◌, ℕ, Bool, List, length}
-use Rattle.vdr_history.specs.Taken.{Captured as CapturedTold}
-use Rattle.vdr_pace.specs.Commits.{items_size, least_item}
+use Rattle.vdr_core.specs.Taken.{Captured as CapturedTold}
+use Rattle.vdr_durability.specs.Commits.{items_size, least_item}
 use Rattle.vdr_session.specs.Heads.{AreHeld}
 use Rattle.vdr_session.specs.Lanes.{AreMet, StayJoined}
 use Rattle.vdr_session.proofs.heads.fill.Given as goal

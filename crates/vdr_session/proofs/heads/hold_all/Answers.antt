@@ -1,7 +1,7 @@
 use Rattle.std.proofs.Common.{◌<◌, ℕ, List, [], Bool, None, get_or, set, ◌∙◌, subst, append-nil}
 use Rattle.std.proofs.lemmas.List.{length-set}
 use Rattle.std.proofs.lemmas.Bool.{and_parts}
-use Rattle.vdr_history.specs.Taken.{Captured as CapturedTold}
+use Rattle.vdr_core.specs.Taken.{Captured as CapturedTold}
 use Rattle.vdr_session.specs.Heads.{AreHeld, Steps}
 use Rattle.vdr_session.specs.Lanes.{AreMet}
 use Rattle.vdr_session.proofs.Popped.{met_after}

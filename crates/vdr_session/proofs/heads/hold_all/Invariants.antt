@@ -1,5 +1,5 @@
 use Rattle.std.proofs.Common.{◌≡◌, ◌<◌, ℕ, Bool, List, true, None, length, get_or}
-use Rattle.vdr_history.specs.Taken.{Captured as CapturedTold}
+use Rattle.vdr_core.specs.Taken.{Captured as CapturedTold}
 use Rattle.vdr_session.specs.Heads.{AreHeld}
 use Rattle.vdr_session.specs.Lanes.{AreMet, IsDrained, StayJoined}
 use Rattle.vdr_session.proofs.heads.hold_all.Given as goal

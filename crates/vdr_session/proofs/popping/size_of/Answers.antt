@@ -1,7 +1,7 @@
 use Rattle.std.proofs.Common.{sym, ap, Option, arith}
 use Rattle.std.specs.Prelude.{length}
-use Rattle.vdr_history.specs.Taken.{Captured}
-use Rattle.vdr_pace.specs.Commits.{items_size}
+use Rattle.vdr_core.specs.Taken.{Captured}
+use Rattle.vdr_durability.specs.Commits.{items_size}
 use Rattle.vdr_session.specs.Lanes.{held}
 use Rattle.vdr_session.proofs.popping.size_of.Goals as goal
 

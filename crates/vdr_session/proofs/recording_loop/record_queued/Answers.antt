@@ -1,5 +1,5 @@
 use Rattle.std.proofs.Common.{rules, ◌≡◌, ◌++◌, List, [], true, false, refl, sym, ap, ◌∙◌, subst, append_assoc, append-nil, arith}
-use Rattle.vdr_history.specs.Taken.{Captured as CapturedTold}
+use Rattle.vdr_core.specs.Taken.{Captured as CapturedTold}
 use Rattle.vdr_session.specs.Heads.{AreHeld}
 use Rattle.vdr_session.specs.Lanes.{ArePopped}
 use Rattle.vdr_session.specs.Marks.{MayTake, taken_in}

@@ -1,6 +1,6 @@
 use Rattle.std.proofs.Common.{◌≡◌, ◌≤◌, ◌/◌, [], true, length}
 use mathlib.Core.List.{IsPrefix}
-use Rattle.vdr_pace.specs.Commits.{least_item}
+use Rattle.vdr_durability.specs.Commits.{least_item}
 use Rattle.vdr_session.specs.Heads.{AreHeld}
 use Rattle.vdr_session.specs.Lanes.{AreMet, StayJoined}
 use Rattle.vdr_session.specs.Marks.{is_begun, taken_in}

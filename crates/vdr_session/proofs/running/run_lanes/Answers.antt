@@ -1,5 +1,5 @@
 use Rattle.std.proofs.Common.{rules, ◌≡◌, ◌++◌, List, Bool, true, false, true≢false, None, get_or, arith, refl, sym, ap, ◌∙◌, subst, append-nil}
-use Rattle.vdr_history.specs.Taken.{Captured as CapturedTold}
+use Rattle.vdr_core.specs.Taken.{Captured as CapturedTold}
 use Rattle.vdr_capture.specs.declared.lane.Lane.{Lane}
 use Rattle.vdr_session.specs.Lanes.{ArePopped}
 use Rattle.vdr_session.specs.Marks.{has_fault, taken_in}

@@ -2,7 +2,7 @@ use Rattle.std.proofs.Common.{rules, ◌≡◌, ◌++◌, List, [], false, Optio
 use Rattle.std.specs.List.{filter}
 use Rattle.vdr_intake.specs.Ends.{Taking}
 use Rattle.vdr_capture.specs.declared.lane.Lane.{Lane}
-use Rattle.vdr_history.specs.Taken.{Captured}
+use Rattle.vdr_core.specs.Taken.{Captured}
 use Rattle.vdr_session.specs.declared.mark.Mark.{Mark as Marked}
 use Rattle.vdr_session.specs.Lanes.{AreDrained, AreMet, ArePopped}
 use Rattle.vdr_session.specs.Marks.{has_fault, is_begun, taken_in}

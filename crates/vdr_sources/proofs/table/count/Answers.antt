@@ -1,6 +1,6 @@
 use Rattle.std.proofs.Common.{◌+◌, List, sym, subst}
 use Rattle.std.proofs.lemmas.Int.{to_z-of_z}
-use Rattle.vdr_playback.specs.Sources.{Row}
+use Rattle.vdr_durability.specs.Sources.{Row}
 use Rattle.vdr_sources.specs.Rows.{IsAt, IsGap, IsTable, line_told, reading_told}
 use Rattle.vdr_sources.proofs.Placing.{put_at, put_in, sorted_of, table_with}
 use Rattle.vdr_sources.proofs.table.count.Goals as goal

@@ -3,7 +3,7 @@ use Rattle.std.proofs.lemmas.Int.{to_z-of_z}
 use Rattle.std.proofs.lemmas.Iterator.Consumers.{YieldsList-from_first, YieldsList-turn, YieldsList-end}
 use Rattle.vdr_datagram.specs.Verdicts.{LineSpan, line_spans}
 use Rattle.vdr_datagram.specs.Views.{lines_left, span_of}
-use Rattle.vdr_playback.specs.Sources.{Line, Reading, with_line}
+use Rattle.vdr_durability.specs.Sources.{Line, Reading, with_line}
 use Rattle.vdr_sources.proofs.Lines.{all_counted, counted_as, span_short, spans_few}
 use Rattle.vdr_sources.proofs.Placing.{table_more}
 use Rattle.vdr_sources.proofs.table.count_all.Goals as goal

@@ -1,6 +1,6 @@
 use Rattle.std.proofs.Common.{◌≡◌, ◌≤◌, ◌+◌, fold, length, map, vec_capacity, vec_len}
 use Rattle.vdr_datagram.specs.Views.{span_of}
-use Rattle.vdr_playback.specs.Sources.{with_line}
+use Rattle.vdr_durability.specs.Sources.{with_line}
 use Rattle.vdr_sources.specs.Rows.{IsTable}
 use Rattle.vdr_sources.proofs.Lines.{counted_as}
 use Rattle.vdr_sources.proofs.table.count_all.Given as goal

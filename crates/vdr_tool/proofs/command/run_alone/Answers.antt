@@ -1,6 +1,6 @@
 use Rattle.std.proofs.Common.{inl, inr, sym, subst}
-use Rattle.vdr_life.specs.Lives.{LivesOn}
-use Rattle.vdr_life.specs.Ours.{StayOurs}
+use Rattle.vdr_vault.specs.Lives.{LivesOn}
+use Rattle.vdr_vault.specs.Ours.{StayOurs}
 use Rattle.vdr_tool.specs.Commands.{plain}
 use Rattle.vdr_tool.proofs.LifeGoesOn.{life_of, life_still}
 use Rattle.vdr_tool.proofs.Lives.{lives_of, ours_still}

@@ -4,7 +4,7 @@ use Rattle.vdr_outside.proofs.Counts.{none_falls_join, sum_not_less}
 use Rattle.vdr_outside.proofs.Moments.{unchanged_join}
 use Rattle.vdr_opening.specs.Media.{opening_of}
 use Rattle.vdr_vault.specs.Vaults.{ShowsHistory}
-use Rattle.vdr_visit.proofs.Reading.{reads_keep_failed}
+use Rattle.vdr_vault.proofs.Reading.{reads_keep_failed}
 use Rattle.vdr_recorder.proofs.Answering.{in_this_call}
 use Rattle.vdr_tool.proofs.CountLemmas.{both_counted, first_stopped, open_fault, open_moments, open_own, open_stop, second_stopped, then_reads}
 use Rattle.vdr_tool.proofs.TrialLemmas.{rose_wider}

@@ -1,7 +1,7 @@
 use Rattle.std.proofs.Common.{List, Option, Some, ◌∙◌, ap, suc, sym}
 use Rattle.std.specs.Prelude.{is_none, option_map, position}
 use Rattle.std.proofs.lemmas.Result.{err_from_is_err_and}
-use Rattle.vdr_history.specs.Histories.{Incident}
+use Rattle.vdr_core.specs.Histories.{Incident}
 use Rattle.vdr_command.specs.Opened.{MetUnsound}
 use Rattle.vdr_command.specs.Endings.{ending}
 use Rattle.vdr_command.specs.Outside.{MediaSeen, OutputSeen}

@@ -3,7 +3,7 @@ use Rattle.std.proofs.lemmas.Result.{IfOk-from_err}
 use Rattle.vdr_outside.specs.Causes.{Rose}
 use Rattle.vdr_outside.specs.Disk.{SameBut}
 use Rattle.vdr_outside.proofs.Counts.{none_fell, on_err, rose_after}
-use Rattle.vdr_slots.proofs.Fronts.{front_same}
+use Rattle.vdr_segment.proofs.Fronts.{front_same}
 use Rattle.vdr_vault.proofs.Members.{in_range}
 use Rattle.vdr_vault.proofs.Passed.{its_ring, keeps_on, starts, walks_on, walks_step}
 use Rattle.vdr_vault.proofs.Stepping.{judged_after, unloaded}

@@ -1,7 +1,7 @@
 use Rattle.std.proofs.Common.{◌<◌, refl, arith}
 use Rattle.std.proofs.lemmas.Result.{IfOk-from_err}
 use Rattle.vdr_outside.proofs.Counts.{none_fell}
-use Rattle.vdr_slots.proofs.Fronts.{front_same}
+use Rattle.vdr_segment.proofs.Fronts.{front_same}
 use Rattle.vdr_vault.proofs.Brought.{brings_none, brings_step, cause_here, judged_on, keeps_on, moments_on}
 use Rattle.vdr_vault.proofs.Members.{in_range}
 use Rattle.vdr_vault.proofs.Passed.{its_ring}

@@ -1,6 +1,6 @@
 use Rattle.std.proofs.Common.{[], ◌∷◌, ◌++◌, append-nil, length, sym, ap, ◌∙◌, arith}
 use Rattle.std.specs.Option.{option_copied}
-use Rattle.vdr_history.specs.Histories.{Incident}
+use Rattle.vdr_core.specs.Histories.{Incident}
 use Rattle.vdr_vault.proofs.pins.pins_in.Goals as goal
 use Rattle.vdr_vault.proofs.pins.pins_in.Goals.{in-Some, in_default}
 use Rattle.vdr_vault.proofs.PinsTaken.{few_pins, pin_in, pins_with}

@@ -1,4 +1,4 @@
-use Rattle.vdr_playback.specs.Playback.{medium_of}
+use Rattle.vdr_durability.specs.Playback.{medium_of}
 use Rattle.vdr_entry.specs.Queries.{asked}
 use Rattle.vdr_vault.specs.Plays.{ring_for}
 use Rattle.vdr_vault.proofs.Budgeting.{span_same, whole_of_segments}

@@ -1,6 +1,6 @@
 use Rattle.std.proofs.Common.{rules}
 use Rattle.std.proofs.lemmas.Fn.{always_returns_same}
-use Rattle.vdr_playback.specs.Sources.{source_cmp}
+use Rattle.vdr_durability.specs.Sources.{source_cmp}
 use Rattle.vdr_watch.proofs.Ordered.{placed}
 use Rattle.vdr_watch.proofs.Orders.{beat_from, beat_total}
 use Rattle.vdr_watch.specs.Supervision.{beat_cmp}

@@ -1,6 +1,6 @@
 use Rattle.std.proofs.Common.{◌++◌, List, ℕ, rules, ap, Bor}
 use Rattle.std.specs.List.{flat_map}
-use Rattle.vdr_playback.specs.Sources.{Source}
+use Rattle.vdr_durability.specs.Sources.{Source}
 use Rattle.vdr_watch.proofs.Writing.{both_all, both_front, first_front, front_is}
 use Rattle.vdr_watch.proofs.print.print_line.Goals as goal
 

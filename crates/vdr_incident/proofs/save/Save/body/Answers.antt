@@ -1,5 +1,5 @@
 use Rattle.std.proofs.Common.{refl, subst, ◌∙◌, ap, unsigned_abs}
-use Rattle.vdr_history.specs.Histories.{Incident}
+use Rattle.vdr_core.specs.Histories.{Incident}
 use Rattle.vdr_terms.proofs.Stamping.{stamp_kept}
 use Rattle.vdr_incident.specs.Saves.{SpellsSave}
 use Rattle.vdr_incident.proofs.Spelling.{save_put}

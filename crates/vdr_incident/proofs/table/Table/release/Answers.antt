@@ -1,5 +1,5 @@
 use Rattle.std.proofs.Common.{ℕ, List, Option, None, subst, sym}
-use Rattle.vdr_history.specs.Histories.{Incident, with_slot}
+use Rattle.vdr_core.specs.Histories.{Incident, with_slot}
 use Rattle.vdr_outside.specs.Disk.{content}
 use Rattle.vdr_outside.specs.Moments.{ChangesOnly, Settled}
 use Rattle.vdr_incident.specs.Tables.{HoldsBeside, HoldsEither}

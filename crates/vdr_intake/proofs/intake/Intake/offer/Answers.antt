@@ -1,5 +1,5 @@
 use Rattle.std.proofs.Common.{◌≡◌, ℕ, List, sym, ap, ◌∙◌, subst}
-use Rattle.vdr_history.specs.Taken.{Captured}
+use Rattle.vdr_core.specs.Taken.{Captured}
 use Rattle.vdr_intake.specs.Ends.{QueueId, Feeding}
 use Rattle.vdr_intake.specs.Items.{Follows}
 use Rattle.vdr_intake.specs.Passes.{known}

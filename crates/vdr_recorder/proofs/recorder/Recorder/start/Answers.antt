@@ -1,6 +1,6 @@
 use Rattle.std.proofs.Common.{◌∙◌, sym, refl, ap, subst, arith, true≢false, [], Err}
 use Rattle.std.proofs.lemmas.Result.{err_from_is_err_and}
-use Rattle.vdr_history.specs.Runs.{RunStart}
+use Rattle.vdr_core.specs.Runs.{RunStart}
 use Rattle.vdr_config.specs.Configuration.{Configuration}
 use Rattle.vdr_recorder.specs.Making.{MakesBy}
 use Rattle.vdr_recorder.specs.Recordings.{RecorderState}

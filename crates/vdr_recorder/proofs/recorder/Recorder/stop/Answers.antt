@@ -1,11 +1,11 @@
 use Rattle.std.proofs.Common.{◌≡◌, ◌∙◌, ℕ, sym, ap, subst, refl, arith, false, List, []}
 use Rattle.vdr_terms.specs.Rates.{is_configured}
 use Rattle.vdr_terms.specs.Records.{Record, total}
-use Rattle.vdr_history.specs.Histories.Act.{Commit}
-use Rattle.vdr_history.specs.RunStates.{state_left}
+use Rattle.vdr_core.specs.Histories.Act.{Commit}
+use Rattle.vdr_core.specs.RunStates.{state_left}
 use Rattle.vdr_config.specs.Configuration.{Configuration}
 use Rattle.vdr_config.specs.Sizes.{limits_in}
-use Rattle.vdr_pace.specs.Commits.{IsDoneIn}
+use Rattle.vdr_durability.specs.Commits.{IsDoneIn}
 use Rattle.vdr_run.specs.Making.{Makes, rest_of}
 use Rattle.vdr_recorder.specs.Recordings.{KeepsEvent, RecorderState}
 use Rattle.vdr_recorder.proofs.Running.{close_done, close_goes_on, close_is_short, closing_is, kept_of, makes_now}

@@ -1,6 +1,6 @@
 use Rattle.std.proofs.Common.{◌≤◌, List, length, subst, sym, arith}
 use Rattle.vdr_outside.proofs.Counts.{on_err}
-use Rattle.vdr_history.specs.Taken.{Captured}
+use Rattle.vdr_core.specs.Taken.{Captured}
 use Rattle.vdr_recorder.specs.Calls.{FitBatch}
 use Rattle.vdr_replay.proofs.Calls.{breaks_batch, takes_batch}
 use Rattle.vdr_replay.proofs.Fitting.{numbers_fit}

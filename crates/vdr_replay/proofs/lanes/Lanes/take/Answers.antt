@@ -1,5 +1,5 @@
 use Rattle.std.proofs.Common.{arith}
-use Rattle.vdr_pace.proofs.ItemSizes.{fit_few}
+use Rattle.vdr_durability.proofs.ItemSizes.{fit_few}
 use Rattle.vdr_replay.proofs.lanes.Lanes.take.Goals as goal
 
 pub push-requires-clause-room : goal.push-requires-clause-room

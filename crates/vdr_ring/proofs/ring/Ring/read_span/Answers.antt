@@ -1,7 +1,7 @@
 use Rattle.std.proofs.Common.{rules}
 use Rattle.vdr_ring.specs.Damage.{IsIntact}
 use Rattle.vdr_ring.specs.Visits.{HasJudged, IsLoaded, Steps, slot_read}
-use Rattle.vdr_slots.specs.Slots.{place_of}
+use Rattle.vdr_segment.specs.Slots.{place_of}
 use Rattle.vdr_ring.proofs.Judging.{judged_on, judged_still, not_moved, slot_intact, stands_among, step_damage}
 use Rattle.vdr_ring.proofs.Visiting.{step_visits, read_steps}
 use Rattle.vdr_ring.proofs.ring.Ring.read_span.Goals as goal

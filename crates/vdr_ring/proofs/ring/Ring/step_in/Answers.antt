@@ -1,6 +1,6 @@
 use Rattle.std.proofs.Common.{◌∙◌, ap}
 use Rattle.std.proofs.Common.{rules}
-use Rattle.vdr_slots.specs.Slots.{place_of}
+use Rattle.vdr_segment.specs.Slots.{place_of}
 use Rattle.vdr_ring.proofs.Visiting.{steps_on}
 use Rattle.vdr_ring.proofs.ring.Ring.step_in.Goals as goal
 

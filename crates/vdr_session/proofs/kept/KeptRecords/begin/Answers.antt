@@ -3,8 +3,8 @@ use Rattle.std.proofs.lemmas.Bool.{cases_Bool}
 use Rattle.vdr_recorder.specs.declared.run.StartRefused.{StartRefused}
 use Rattle.vdr_recorder.specs.declared.run.StartRefused.TheVariants.{Place, Tick, Fault}
 use Rattle.vdr_recorder.specs.Refusals.{MayBegin}
-use Rattle.vdr_history.specs.Histories.{Opening}
-use Rattle.vdr_history.specs.Runs.{base_after}
+use Rattle.vdr_core.specs.Histories.{Opening}
+use Rattle.vdr_core.specs.Runs.{base_after}
 use Rattle.vdr_session.specs.Events.{is_started}
 use Rattle.vdr_session.specs.Standing.{Before, HasSession, IsKept, start_mark}
 use Rattle.vdr_session.specs.declared.records.Began.TheVariants as began

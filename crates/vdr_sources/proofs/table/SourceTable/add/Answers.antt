@@ -1,6 +1,6 @@
 use Rattle.std.proofs.Common.{◌≡◌, ◌∙◌, List, ℤ, fold, sym, ap, subst, w64, to_z, of_z, FitsSigned}
 use Rattle.std.proofs.lemmas.Int.{to_z-of_z}
-use Rattle.vdr_playback.specs.Sources.{Row, with_line}
+use Rattle.vdr_durability.specs.Sources.{Row, with_line}
 use Rattle.vdr_terms.specs.Records.{Record}
 use Rattle.vdr_terms.proofs.Stamping.{stamp_fits}
 use Rattle.vdr_sources.specs.Rows.{lines_at}

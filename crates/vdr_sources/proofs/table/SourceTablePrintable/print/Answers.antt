@@ -1,7 +1,7 @@
 use Rattle.std.proofs.Common.{◌≡◌, ◌<◌, ◌∙◌, ◌++◌, ◌+◌, List, ℕ, ap, sym, subst, drop, take, length, get_or}
 use Rattle.vdr_outside.specs.Writes.{AppendsFront}
 use Rattle.vdr_outside.proofs.Known.{front-more, pieces-at}
-use Rattle.vdr_playback.specs.Sources.{Row}
+use Rattle.vdr_durability.specs.Sources.{Row}
 use Rattle.vdr_sources.specs.Tables.{row_text, sources_text}
 use Rattle.vdr_sources.proofs.table.SourceTablePrintable.print.Goals as goal
 

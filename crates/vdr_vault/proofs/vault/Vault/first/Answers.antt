@@ -1,8 +1,8 @@
 use Rattle.std.proofs.Common.{Option, subst}
-use Rattle.vdr_playback.specs.Playback.{medium_of, selected}
+use Rattle.vdr_durability.specs.Playback.{medium_of, selected}
 use Rattle.vdr_entry.specs.Queries.{asked}
-use Rattle.vdr_cursor.specs.declared.cursor.Standing.{Standing}
-use Rattle.vdr_cursor.specs.Budgets.{Spends}
+use Rattle.vdr_ring.specs.declared.cursor.Standing.{Standing}
+use Rattle.vdr_ring.specs.Budgets.{Spends}
 use Rattle.vdr_vault.specs.Plays.{budget_for}
 use Rattle.vdr_vault.proofs.Coming.{selected_to_come}
 use Rattle.vdr_vault.proofs.Stepping.{steps_first}

@@ -1,12 +1,12 @@
 use Rattle.std.proofs.Common.{◌<◌, rules, arith, false, Option, Some, Ok, Err, sym, ap, ◌∙◌, subst}
 use Rattle.std.proofs.lemmas.Bool.{false≢true}
 use Rattle.vdr_terms.specs.Queries.{Span}
-use Rattle.vdr_playback.specs.Playback.{medium_of}
+use Rattle.vdr_durability.specs.Playback.{medium_of}
 use Rattle.vdr_entry.specs.Queries.{asked, asked_medium}
 use Rattle.vdr_vault.specs.Vaults.{VaultState}
 use Rattle.vdr_index.specs.Indexes.{span_as}
 use Rattle.vdr_ring.specs.declared.refused.ReadRefused.TheVariants.{Fault}
-use Rattle.vdr_cursor.specs.Walks.{AreLeft, slots_read}
+use Rattle.vdr_ring.specs.Walks.{AreLeft, slots_read}
 use Rattle.vdr_vault.specs.Plays.{budget_for, ring_for}
 use Rattle.vdr_vault.proofs.Budgeting.{spends_for, spends_nothing}
 use Rattle.vdr_vault.proofs.Coming.{gives_to_come, holds_on, none_to_come}

@@ -1,7 +1,7 @@
 use Rattle.std.proofs.Common.{◌≡◌, ◌∙◌, List, ℕ, ap, subst, sym, refl, rules}
 use Rattle.std.specs.Io.KnownBytes.{Appends}
 use Rattle.vdr_outside.specs.Writes.{AppendsFront}
-use Rattle.vdr_playback.specs.Sources.{Source, source_cmp}
+use Rattle.vdr_durability.specs.Sources.{Source, source_cmp}
 use Rattle.vdr_watch.specs.Kept.{IsPlaced, row_at}
 use Rattle.vdr_watch.specs.Signs.{Heartbeat}
 use Rattle.vdr_watch.specs.Supervision.{AreOrdered, beat_cmp}

@@ -1,5 +1,0 @@
-use Rattle.vdr_cursor.proofs.Counting.{of_segments}
-use Rattle.vdr_cursor.proofs.law.law_of_budget.Goals as goal
-
-pub returns : goal.returns
-returns c query span ring placed tells = of_segments query span ring placed tells.index

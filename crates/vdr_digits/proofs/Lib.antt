@@ -1,4 +1,0 @@
-pub mod DigitLemmas
-pub mod ChecksumLemmas
-pub mod HexLemmas
-pub mod Refusals

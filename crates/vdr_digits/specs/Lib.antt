@@ -1,3 +1,0 @@
--- Digits, and the checksum that is written in them.
-pub mod Digits
-pub mod Checksum

@@ -1,2 +1,0 @@
-pub mod Ours
-pub mod Lives

@@ -1,9 +1,0 @@
-use Rattle.vdr_playback.proofs.law.law_of_sources.Goals as goal
-use Rattle.vdr_playback.proofs.Tables.{are_rows}
-use Rattle.vdr_playback.proofs.OneTable.{one_table}
-
-pub returns-clause-rows : goal.returns-clause-rows
-returns-clause-rows c = are_rows
-
-pub returns-clause-one : goal.returns-clause-one
-returns-clause-one c = one_table

@@ -1,4 +1,0 @@
-pub mod Layout
-pub mod Retention
-pub mod Regular
-pub mod Victims

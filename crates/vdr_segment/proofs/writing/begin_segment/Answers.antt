@@ -1,0 +1,36 @@
+use Rattle.std.proofs.Common.{arith}
+use Rattle.vdr_terms.proofs.Results.{on_ok_both}
+use Rattle.vdr_segment.proofs.Fronts.{front_joined, front_then, front_through}
+use Rattle.vdr_segment.proofs.Opening.{header_moments, begin_moments, begin_settled}
+use Rattle.vdr_segment.proofs.writing.begin_segment.Goals as goal
+
+pub returns-in_err-write_synced-clause-moments : goal.returns-in_err-write_synced-clause-moments
+returns-in_err-write_synced-clause-moments g c slots settled held =
+    header_moments c.args.area.segment c.args.slot _ _ _ slots _ c.place_of-place.ensures (omega (arith, c.args.area.segment_low)) held (omega (arith, c.ranges.seq)) (omega (arith, c.ranges.first)) c.behind_gate.ensures
+    _ _ _ settled c.write_synced.ensures.moments
+
+pub returns-clause-moments : goal.returns-clause-moments
+returns-clause-moments g c slots settled held =
+    begin_moments c.args.area.segment c.args.slot _ _ _ slots _ c.place_of-place.ensures (omega (arith, c.args.area.segment_low)) held (omega (arith, c.ranges.seq)) (omega (arith, c.ranges.first)) c.behind_gate.ensures
+    _ _ _ settled c.write_synced.ensures.moments c.in_ok-write_synced.ensures.writes.durable c.in_ok-write_synced.ensures.reads _ c.write_synced-2.ensures.moments
+
+pub returns-clause-settled : goal.returns-clause-settled
+returns-clause-settled g c slots settled held =
+    on_ok_both c.write_synced-2.result
+    (begin_settled c.args.area.segment c.args.slot _ _ _ slots _ c.place_of-place.ensures (omega (arith, c.args.area.segment_low)) held (omega (arith, c.ranges.seq)) (omega (arith, c.ranges.first)) c.behind_gate.ensures
+    _ _ _ settled c.write_synced.ensures.moments c.in_ok-write_synced.ensures.writes.durable c.in_ok-write_synced.ensures.reads _)
+    c.write_synced-2.ensures.writes.durable c.write_synced-2.ensures.reads
+
+pub returns-in_err-write_synced-clause-front : goal.returns-in_err-write_synced-clause-front
+returns-in_err-write_synced-clause-front g c = record {
+  meanwhile = λ durable. front_through _ _ _ _ _ (omega (arith, c.place_of-place.ensures)) durable c.write_synced.ensures.moments;
+  reads = c.write_synced.ensures.front_reads;
+}
+
+pub returns-clause-front : goal.returns-clause-front
+returns-clause-front g c = record {
+  meanwhile = λ durable.
+      front_then _ _ _ _ (front_through _ _ _ _ _ (omega (arith, c.place_of-place.ensures)) durable c.write_synced.ensures.moments) c.write_synced.ensures.front_reads
+      (front_through _ _ _ _ _ (omega (arith, c.place_of-place.ensures)) c.in_ok-write_synced.ensures.writes.durable c.write_synced-2.ensures.moments);
+  reads = λ told. front_joined _ _ _ (c.write_synced.ensures.front_reads told) (c.write_synced-2.ensures.front_reads told);
+}

@@ -1,7 +1,0 @@
-pub mod Gates
-pub mod Segments
-pub mod Holding
-pub mod Writes
-pub mod Opening
-pub mod Summaries
-pub mod Fronts

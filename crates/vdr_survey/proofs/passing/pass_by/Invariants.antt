@@ -1,9 +1,0 @@
-use Rattle.std.proofs.Common.{◌<◌, ◌-◌, length}
-use Rattle.vdr_survey.specs.Selections.{Passes, StartsSelected}
-use Rattle.vdr_survey.proofs.passing.pass_by.Given as goal
-
-abbrev pub invariant-loop-reached : goal.invariant-loop-reached
-invariant-loop-reached l = Passes l.segment l.selection l.fn.position l.reached × (l.reached.at < l.reached.to → StartsSelected l.segment l.selection l.reached)
-
-abbrev pub decreases-loop-reached : goal.decreases-loop-reached
-decreases-loop-reached l = length l.segment - l.reached.to
