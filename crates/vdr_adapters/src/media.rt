@@ -1,3 +1,4 @@
+// Both media as the files capsule.vdr and longterm.vdr of a folder, locked while they are open.
 ghost use Rattle.std.specs.Prelude.{◌≡◌, [], ◌∷◌};
 ghost use Rattle.vdr_outside.specs.Untold.{sizes_alone};
 

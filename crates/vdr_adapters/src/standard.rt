@@ -1,3 +1,4 @@
+// The standard streams that were closed as the program began: /dev/null is opened for each, before any medium is.
 use std::fs::{File, Files, OpenOptions};
 use std::io;
 use std::os::fd::AsRawFd;

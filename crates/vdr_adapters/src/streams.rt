@@ -1,3 +1,4 @@
+// The standard input as a source of bytes, and the standard output as a sink.
 use crate::Trouble;
 use std::io;
 use std::io::{ErrorKind, Read, Write};

@@ -1,3 +1,4 @@
+// The link of an operator over TCP, one connection after another.
 ghost use Rattle.std.specs.Prelude.{◌≡◌, ◌≢◌, None};
 ghost use Rattle.vdr_outside.specs.Calls.{other};
 ghost use Rattle.vdr_outside.specs.Hears.{Hears, heard_answer};

@@ -1,3 +1,4 @@
+// What stood in the way of a call outside, for a person to read.
 use std::{fmt, io};
 
 /// What stood in the way of a call outside, in words for a person.

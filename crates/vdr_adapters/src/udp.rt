@@ -1,3 +1,4 @@
+// The port of a transmission group over UDP (IEC 61162-450).
 ghost use Rattle.std.specs.Prelude.{◌≡◌, ◌≢◌, ◌≤◌, ◌<◌, ◌^◌, None, [], length, IfOk, OnErr};
 ghost use Rattle.vdr_terms.specs.Stamps.{IsStamp};
 ghost use Rattle.vdr_adapters.specs.declared.udp.Came.TheVariants.{Datagram};

@@ -1,3 +1,4 @@
+// Links in memory: they fail and wait as they are told.
 use arrayvec::ArrayVec;
 use std::alloc::{AllocError, Global};
 use std::test::Fail;

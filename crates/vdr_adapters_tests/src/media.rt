@@ -1,3 +1,4 @@
+// Media as files: what is read of them, when they are locked, and what is told of trouble.
 use std::fs;
 use std::fs::{Files, OpenOptions};
 use std::os::unix::fs::symlink;

@@ -1,3 +1,4 @@
+// Which orders the lines of a link ask for.
 use vdr_control::{Order, law_of_lines, read_order};
 use vdr_entry::Medium;
 

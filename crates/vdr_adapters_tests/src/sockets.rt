@@ -1,3 +1,4 @@
+// Ports and links over sockets of this host.
 use arrayvec::ArrayVec;
 use std::io::{Read, Write};
 use std::net::{TcpStream, UdpSocket};

@@ -1,3 +1,4 @@
+// The standard streams: bytes handed on, why they fail, and closed ones that are filled.
 use std::fs;
 use std::fs::{File, OpenOptions};
 use std::io::Cursor;

@@ -1,3 +1,4 @@
+// The table of ships: the lines of sentence datagrams are read into it, and its rows are printed.
 ghost use Rattle.std.specs.Prelude.{◌≡◌, ◌≤◌, ◌+◌, All, IfOk, OnErr, OnOk, [], fold, length, vec_capacity, vec_len};
 ghost use Rattle.vdr_terms.specs.Stamps.{IsStamp};
 ghost use Rattle.vdr_ais.specs.Lines.{Key, lines_in};

@@ -1,3 +1,4 @@
+// Datagrams passed from one thread to another through the queue, and counted as they come in order.
 ghost use Rattle.std.specs.Prelude.{◌≡◌, ◌≤◌, ◌<◌, ◌+◌, [], ◌∷◌, ◌++◌};
 ghost use Rattle.std.specs.Bool.{OnTrue};
 ghost use Rattle.vdr_terms.specs.Records.{total};

@@ -1,3 +1,4 @@
+// A counter under the latch, and the two turns that are taken at it: one counts, one reads the count.
 use vdr_latch::{Job, Stepped};
 
 /// How many turns were counted.

@@ -1,3 +1,4 @@
+// Threads beside each other, each with a pass of its own, that take turns at the latch.
 ghost use Rattle.std.specs.Prelude.{◌≡◌, ◌≤◌, ◌^◌, All, IfOk};
 ghost use Rattle.vdr_bench_latch.specs.declared.counting.TheConstants.{MOST};
 

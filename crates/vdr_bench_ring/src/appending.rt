@@ -1,3 +1,4 @@
+// Batches of one datagram each, appended to the ring of a capsule.
 ghost use Rattle.std.specs.Prelude.{◌≡◌, ◌≤◌, IfOk};
 ghost use Rattle.vdr_ring.specs.Rings.{HasMedium};
 

@@ -1,3 +1,4 @@
+// The checksum of IEC 61162-1, and the field in which a line writes it.
 ghost use Rattle.std.specs.Prelude.{◌≡◌, Some, None, IfSome, IfNone};
 ghost use Rattle.vdr_bytes.specs.Checksum.{checksum, covered, written};
 

@@ -1,3 +1,4 @@
+// Numbers in decimal digits.
 ghost use Rattle.std.specs.Prelude.{◌≡◌, ◌≤◌, ◌<◌, ◌^◌, IfSome, length, true};
 ghost use Rattle.std.specs.List.{list_all};
 ghost use Rattle.vdr_bytes.specs.Digits.{are_digits, decimal_value, is_digit, number};

@@ -1,3 +1,4 @@
+// Bytes as two hexadecimal digits, read in either case and written in upper case.
 ghost use Rattle.std.specs.Prelude.{◌≡◌, ◌<◌, ◌/◌, ◌%◌, Some};
 ghost use Rattle.vdr_bytes.specs.Digits.{hex_byte, hex_value, is_hex_digit, upper_digit, upper_digits};
 

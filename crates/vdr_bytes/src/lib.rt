@@ -1,4 +1,9 @@
-//! Numbers as bytes: little-endian, as every format of the recorder has them.
+//! Numbers, digits and checksums, as the formats of the recorder write them.
+//!
+//! Numbers are little-endian in every format of the recorder. Digits are decimal, or hexadecimal in either case. The
+//! checksum is the one of IEC 61162-1. What is written reads back.
+//!
+//! Tests: vdr_formats_tests, modules numbers and digits.
 #![tactic(auto)]
 
 mod checksums;

@@ -1,3 +1,4 @@
+// Little-endian numbers of two, four and eight bytes at an offset, read and written.
 ghost use Rattle.std.specs.Prelude.{◌≡◌, ◌≤◌, ◌+◌, ◌*◌, length};
 ghost use Rattle.vdr_bytes.specs.Numbers.{Puts, le_u16, le_u32, le_u64, le_u64s, u16_at, u32_at, u64_at};
 

@@ -1,3 +1,4 @@
+// The lane of a transmission group: its port, with what its worker counts and how it ended.
 ghost use Rattle.std.specs.Prelude.{◌≡◌, None};
 ghost use Rattle.vdr_terms.specs.Counting.{no_tally};
 

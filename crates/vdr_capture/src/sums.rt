@@ -1,3 +1,4 @@
+// The sums of a group in a run, and how a recording ended.
 use vdr_terms::Counts;
 
 /// What became of the items that a group's port gave in a run: each was recorded, or is counted by its cause.

@@ -1,3 +1,4 @@
+// The work on a lane: what the port gives is pushed into its queue or counted.
 ghost use Rattle.std.specs.Prelude.{◌≡◌, ◌≤◌, []};
 ghost use Rattle.vdr_terms.specs.Counting.{no_tally};
 ghost use Rattle.vdr_outside.specs.Causes.{Rose};

@@ -1,3 +1,4 @@
+// The line of each status, as it is written to the output.
 ghost use Rattle.std.specs.Prelude.{◌≡◌, ◌≤◌, ◌+◌, ◌++◌, length};
 ghost use Rattle.arrayvec.specs.ArrayVec.{array_vec_len};
 ghost use Rattle.vdr_terms.specs.Groups.{group_name};

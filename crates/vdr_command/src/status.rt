@@ -1,3 +1,4 @@
+// How a command ended: the statuses with what they tell.
 ghost use Rattle.std.specs.Prelude.{◌≡◌};
 
 use vdr_config::TooSmall;

@@ -1,3 +1,4 @@
+// Why a text is no configuration: the refusals in the order of the grammar, with the path of the key.
 use std::alloc::{AllocError, AllocFailed};
 use std::marker::Model;
 

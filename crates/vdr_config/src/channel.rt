@@ -1,3 +1,4 @@
+// A channel of the configuration: a selection of the datagrams of one group, under a name.
 use arrayvec::ArrayVec;
 use std::marker::Model;
 

@@ -1,3 +1,4 @@
+// The configuration of a recorder, with the ranges that its type keeps, and its channels and windows.
 ghost use Rattle.std.specs.Prelude.{◌≡◌, ◌<◌, ℕ, length, replicate, [], Some, IfSome, bytes_eq, position, slice_get};
 ghost use Rattle.vdr_config.specs.Sizes.{window_of};
 

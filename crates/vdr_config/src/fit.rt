@@ -1,3 +1,4 @@
+// What a configuration needs of its media, and whether media of some sizes have it.
 ghost use Rattle.std.specs.Prelude.{◌≡◌, ◌≤◌, ◌+◌, ◌*◌, ◌/◌, length, All, IfSome, OnOk, sum_by};
 ghost use Rattle.vdr_terms.specs.Needs.{group_cost, cost, usable, needed_slots, slots_in, Fits};
 ghost use Rattle.vdr_config.specs.Configuration.{IsRate};

@@ -1,3 +1,4 @@
+// The law of ranges: what holds of each text that is a configuration.
 ghost use Rattle.std.specs.Prelude.{◌≡◌, ◌≤◌, ℕ, List, Ok};
 ghost use Rattle.vdr_config.specs.Configuration.{Configuration};
 ghost use Rattle.vdr_config.specs.Grammar.{configuration};

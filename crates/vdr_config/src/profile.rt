@@ -1,3 +1,4 @@
+// The profiles, ship and bench: which windows a configuration has to have.
 ghost use Rattle.std.specs.Prelude.{◌≡◌};
 ghost use Rattle.vdr_config.specs.Configuration.{is_ship};
 

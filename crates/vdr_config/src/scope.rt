@@ -1,3 +1,4 @@
+// Where in the text of a configuration a key stands, as the path that a refusal names.
 ghost use Rattle.std.specs.Prelude.{◌≡◌, IfOk};
 ghost use Rattle.vdr_config.specs.Grammar.{path, element_path};
 

@@ -1,3 +1,4 @@
+// The laws of orders: words spell one play at most, and a line asks for one order at most.
 ghost use Rattle.std.specs.Prelude.{◌≡◌, ℕ, List};
 ghost use Rattle.vdr_control.specs.Orders.{PlainOrder};
 ghost use Rattle.vdr_control.specs.Lines.{AsksFor};

@@ -1,3 +1,4 @@
+// Reading an order from a line of a link.
 ghost use Rattle.std.specs.Prelude.{◌≡◌, ◌==◌, ◌++◌, ◌∷◌, [], ℕ, List, codes, position, IfSome, IfNone};
 ghost use Rattle.vdr_control.specs.Lines.{AsksFor, IsPlayLine, words};
 ghost use Rattle.vdr_control.specs.Orders.{PlainOrder, plain};

@@ -1,3 +1,4 @@
+// The orders that a recorder in use takes.
 use vdr_entry::Medium;
 
 /// What is asked of a recorder (this project's profile).

@@ -1,3 +1,4 @@
+// Reading a play from its words: the medium, the channel, and the bounds of UTC.
 ghost use Rattle.std.specs.Prelude.{◌≡◌, ◌≤◌, ℕ, ℤ, pos, decimal, IfSome, IfNone};
 ghost use Rattle.vdr_terms.specs.Stamps.{last_stamp};
 ghost use Rattle.vdr_entry.specs.declared.query.Medium.{Medium as AMedium};

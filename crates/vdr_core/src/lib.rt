@@ -1,4 +1,14 @@
-//! The accounting of a recorder as a machine of steps, and its laws.
+//! Histories, and the laws of runs.
+//!
+//! A history is what the media held when they were opened and each event since then, and a run is what is recorded
+//! between a Start and a Stop. However the threads interleave, each item that a port gives in a run is recorded once,
+//! in the port's order, or counted in a Gap by its cause.
+//!
+//! - Histories: `specs/Histories`, which every layer above speaks of.
+//! - The recorder as a machine of steps, over all runs: `specs/Machine` and `specs/Recorder`.
+//! - What a run adds up to, and that its records run on: the laws below.
+//!
+//! It has laws and no code: docs/PROVED.md.
 #![tactic(auto)]
 
 ghost use Rattle.std.specs.Prelude.{◌≡◌, ◌<◌, List, [], Option, ℕ};

@@ -1,3 +1,4 @@
+// Cutting the first line off the bytes behind a token.
 ghost use Rattle.std.specs.Prelude.{◌≡◌, ◌<◌, ◌≤◌, [], ◌∷◌, length, take, drop, IfSome, IfNone};
 ghost use Rattle.vdr_datagram.specs.Lines.{HoldsNoOther, IsClosed, cut};
 

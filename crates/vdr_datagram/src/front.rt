@@ -1,3 +1,4 @@
+// Reading the token of a datagram.
 ghost use Rattle.std.specs.Prelude.{◌≡◌, true, false, take};
 ghost use Rattle.vdr_terms.specs.Datagrams.{has_token};
 ghost use Rattle.vdr_datagram.specs.Tokens.{token};

@@ -1,3 +1,4 @@
+// The laws of datagrams: they are cut into lines in one way, and each is of one kind.
 ghost use Rattle.std.specs.Prelude.{◌≡◌, ◌↔◌, ℕ, List, Some};
 ghost use Rattle.vdr_image.specs.Headers.{Header};
 ghost use Rattle.vdr_image.specs.Images.{image_in};

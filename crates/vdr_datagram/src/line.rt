@@ -1,3 +1,4 @@
+// A line of a sentence datagram, and what it reads as: TAG blocks, and the sentence behind them.
 ghost use Rattle.std.specs.Prelude.{◌≡◌};
 ghost use Rattle.vdr_datagram.specs.Verdicts.{line_reading};
 ghost use Rattle.vdr_datagram.specs.Views.{verdict_of};

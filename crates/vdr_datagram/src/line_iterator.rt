@@ -1,3 +1,4 @@
+// The lines of a sentence datagram, one after another.
 ghost use Rattle.std.specs.Prelude.{◌≡◌, ◌≤◌, length};
 
 use crate::cutting::first_line;

@@ -1,3 +1,4 @@
+// The marks by which channels select: a good line, an image, a PCM frame, or none of these.
 ghost use Rattle.std.specs.Prelude.{◌≡◌, ◌≢◌, option_copied};
 ghost use Rattle.vdr_config.specs.Configuration.{Selection};
 ghost use Rattle.vdr_config.specs.Kinds.{selection_of};

@@ -1,3 +1,4 @@
+// The lines of a sentence datagram, from its token on.
 ghost use Rattle.std.specs.Prelude.{◌≡◌, ◌≤◌, length};
 ghost use Rattle.vdr_datagram.specs.Verdicts.{line_spans};
 ghost use Rattle.vdr_datagram.specs.Views.{lines_left};

@@ -1,3 +1,4 @@
+// What a datagram holds by its token: sentences, an image or a file, sound, something else, or nothing of use.
 ghost use Rattle.std.specs.Prelude.{◌≡◌};
 
 /// What a datagram holds, by the token that it begins with.

@@ -1,3 +1,4 @@
+// The desk of an operator: a link with its worker's pass at the latch, and how the worker ended.
 ghost use Rattle.std.specs.Prelude.{◌≡◌, None};
 
 use vdr_capture::Cause;

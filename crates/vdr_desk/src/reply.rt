@@ -1,3 +1,4 @@
+// A reply to an operator's line, of no line, of one, or of several.
 ghost use Rattle.std.specs.Prelude.{◌≡◌, ◌≤◌, [], length};
 ghost use Rattle.vdr_desk.specs.Exchanges.{no_order_line};
 

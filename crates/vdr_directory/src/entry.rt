@@ -1,3 +1,4 @@
+// An open segment as opening a medium finds it: its header, and its batches where it has no summary.
 ghost use Rattle.std.specs.Prelude.{◌≡◌};
 ghost use Rattle.vdr_directory.specs.Indexed.{extent_by, summary_by};
 

@@ -1,3 +1,4 @@
+// The laws of opening a medium: it has one answer, and what it knows of segments is true of them.
 ghost use Rattle.std.specs.Prelude.{◌≡◌, ◌↔◌, ◌≤◌, ℕ, List, All, map};
 ghost use Rattle.vdr_terms.specs.Records.{last};
 ghost use Rattle.vdr_terms.specs.Legality.{IsRecord};

@@ -1,3 +1,4 @@
+// The laws of ends: where the media meet at the last batch, and which of them lack it.
 ghost use Rattle.std.specs.Prelude.{◌≡◌, ◌⊎◌, ◌<◌, [], ◌++◌, ℕ, List, Some, None, Contains, length};
 ghost use Rattle.vdr_terms.specs.Records.{Record, last};
 ghost use Rattle.vdr_durability.specs.Readings.{AreLevel, EndsMeet, EndsOff, IsPassedOn, Reading, leading_batch};

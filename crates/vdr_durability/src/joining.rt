@@ -1,3 +1,4 @@
+// The law of joined runs: a run, and one on what a stop left of it, are one history.
 ghost use Rattle.std.specs.Prelude.{◌++◌, [], ℕ, List, Contains};
 ghost use Rattle.vdr_terms.specs.Order.{AreInOrder};
 ghost use Rattle.vdr_core.specs.Histories.{Event, MayFollow, Opening, all_records};

@@ -1,3 +1,4 @@
+// The laws of keeping: which events are acknowledged, and that media keep a history from call to call.
 ghost use Rattle.std.specs.Prelude.{◌≡◌, ◌≤◌, ◌↔◌, [], ◌∷◌, ◌++◌, ℕ, suc, true, false, List, length};
 ghost use Rattle.vdr_core.specs.Histories.{Event};
 ghost use Rattle.vdr_core.specs.RunStates.{has_failed};

@@ -1,4 +1,14 @@
 //! What media show of a history, and which part of it they keep over a stop.
+//!
+//! Whatever a stop leaves of the media shows the events that were acknowledged, with the pending one or without it,
+//! and gives exactly the records of each window and of each live incident. The parts of this, from the bottom:
+//!
+//! - Retention: what a medium retains while batches are appended, and which segment is written over.
+//! - Pace: how many bytes a recorder commits in a second, so that media that fit their configuration never fill up.
+//! - Playback: what a query, a table of sources and an operator's orders give of a history.
+//! - Showing and keeping: what both media show during a commit, a save and an opening, and from call to call.
+//!
+//! It has laws and no code: docs/PROVED.md.
 #![tactic(auto)]
 
 mod ends;

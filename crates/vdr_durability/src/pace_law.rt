@@ -1,3 +1,4 @@
+// The laws of pace: how many bytes a recorder commits in a second, and that each of its batches may come next.
 ghost use Rattle.std.specs.Prelude.{◌≡◌, ◌<◌, ◌≤◌, ◌+◌, ◌*◌, ◌/◌, [], ◌∷◌, ◌++◌, ℕ, List, All, length, map, sum_by};
 ghost use Rattle.vdr_terms.specs.declared.counts.Counts.{Counts};
 ghost use Rattle.vdr_terms.specs.Needs.{Sizes, cost};

@@ -1,3 +1,4 @@
+// The laws of playback: what a query, the table of sources, and an operator's orders give of a history.
 ghost use Rattle.std.specs.Prelude.{◌≡◌, ◌<◌, [], ◌∷◌, ◌++◌, ℕ, List, All, Some, false, filter};
 ghost use Rattle.vdr_terms.specs.Order.{AreInOrder};
 ghost use Rattle.vdr_terms.specs.Queries.{Query, Span, matches, meets};

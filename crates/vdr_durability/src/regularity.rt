@@ -1,3 +1,4 @@
+// The law of regular media: they stay so as they are restored after a stop.
 ghost use Rattle.std.specs.Prelude.{◌≡◌, ◌<◌, ◌≤◌, ℕ, true, List, Some, All, Contains, length};
 ghost use Rattle.vdr_terms.specs.Needs.{Sizes, cost, needed_slots, usable};
 ghost use Rattle.vdr_terms.specs.Order.{RunOn};

@@ -1,3 +1,4 @@
+// The laws of retention: what a medium retains at each stage of an append, and which segment is the victim.
 ghost use Rattle.std.specs.Prelude.{◌≡◌, ◌<◌, ◌≤◌, ◌+◌, ◌-◌, ◌⊎◌, ◌↔◌, [], ◌∷◌, ◌++◌, ℕ, List, Some, IsTrue, Contains, length};
 ghost use Rattle.vdr_terms.specs.Needs.{Sizes, cost, usable, needed_slots};
 ghost use Rattle.vdr_terms.specs.Order.{AreInOrder, NeverFalls, RunOn};

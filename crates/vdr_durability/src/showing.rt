@@ -1,3 +1,4 @@
+// The laws of showing: which events media show during a commit, a save, an opening, and in a further run.
 ghost use Rattle.std.specs.Prelude.{◌≡◌, ◌≤◌, [], ◌∷◌, ◌++◌, ℕ, true, List, Option, Some, All, Contains, length};
 ghost use Rattle.vdr_terms.specs.Order.{AreInOrder};
 ghost use Rattle.vdr_terms.specs.Records.{Record, last};

@@ -1,3 +1,4 @@
+// The law of unbroken windows: where no place is skipped in a window, none is as batches follow.
 ghost use Rattle.std.specs.Prelude.{◌≡◌, ◌<◌, ◌≤◌, [], ◌++◌, ℕ, List, Contains};
 ghost use Rattle.vdr_terms.specs.Order.{AreInOrder};
 ghost use Rattle.vdr_terms.specs.Records.{Record, last};

@@ -1,3 +1,4 @@
+// What a record says, by its kind.
 use vdr_terms::Counts;
 
 /// What a record says.

@@ -1,3 +1,4 @@
+// Reading a record from its bytes.
 ghost use Rattle.std.specs.Prelude.{◌≡◌, ◌≢◌, ◌≤◌, ◌<◌, ◌+◌, ◌↔◌, ◌++◌, ℕ, List, IsTrue, IfSome, IfNone};
 ghost use Rattle.vdr_terms.specs.Legality.{IsMissed, IsRecord};
 ghost use Rattle.vdr_terms.specs.Records.{Record as Entry, total};

@@ -1,3 +1,4 @@
+// A record, one entry of the recording: how each kind is made, and what its type keeps.
 ghost use Rattle.std.specs.Prelude.{◌≡◌, ◌≤◌, ◌<◌, ◌^◌};
 ghost use Rattle.vdr_terms.specs.declared.datagram.Verdict.TheVariants.{Yes};
 ghost use Rattle.vdr_terms.specs.Datagrams.{verdict};

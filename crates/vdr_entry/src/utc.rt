@@ -1,3 +1,4 @@
+// UTC stamps as text, written and read (ISO 8601).
 ghost use Rattle.std.specs.Prelude.{◌≡◌, ◌++◌, ℕ, ℤ, pos, unsigned_abs, ◌≤◌, ◌<◌, ◌+◌, ◌%◌, codes, length, Some, IfSome, IfNone};
 ghost use Rattle.jiff.specs.Words.{IsDate, epoch_day};
 ghost use Rattle.jiff_core.specs.Calendar.{days_from_civil};

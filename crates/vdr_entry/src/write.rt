@@ -1,3 +1,4 @@
+// Writing a record as its bytes.
 ghost use Rattle.std.specs.Prelude.{◌≡◌, ◌≤◌, length};
 ghost use Rattle.vdr_bytes.specs.Numbers.{Puts};
 ghost use Rattle.vdr_terms.specs.Legality.{IsRecord};

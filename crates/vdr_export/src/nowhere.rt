@@ -1,3 +1,4 @@
+// A sink that throws away what it takes.
 use vdr_outside::{Failed, Sink};
 
 /// Where a visit writes that writes nothing. It never fails.

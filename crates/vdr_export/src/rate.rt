@@ -1,3 +1,4 @@
+// The sample rate of a sound.
 ghost use Rattle.std.specs.Prelude.{◌≤◌};
 
 /// The rate of a frame.

@@ -1,3 +1,4 @@
+// Why no file is made of what a query selects.
 ghost use Rattle.std.specs.Prelude.{◌≡◌, ◌⊎◌, Some};
 ghost use Rattle.vdr_vault.specs.declared.visit_refused.VisitRefused.TheVariants.{NoChannel, NoIncident};
 ghost use Rattle.vdr_export.specs.Refusals.{refusal_by};

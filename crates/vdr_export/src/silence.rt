@@ -1,3 +1,4 @@
+// Samples of silence, in the place of frames that are missing.
 ghost use Rattle.std.specs.Prelude.{◌≡◌, OnOk};
 ghost use Rattle.std.specs.Io.KnownBytes.{Appends};
 ghost use Rattle.vdr_outside.specs.Causes.{HasCause};

@@ -1,3 +1,4 @@
+// The header of a WAVE file (RIFF, linear PCM).
 ghost use Rattle.std.specs.Prelude.{◌≡◌, ◌≤◌, ◌+◌, ◌++◌, length};
 ghost use Rattle.arrayvec.specs.ArrayVec.{array_vec_len};
 ghost use Rattle.vdr_bytes.specs.Numbers.{le_u16, le_u32};

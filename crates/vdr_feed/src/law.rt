@@ -1,3 +1,4 @@
+// The law of feeds: two readings of one input agree.
 ghost use Rattle.vdr_feed.specs.Law.{OneFeed, NoFeedIsRefused, OneRefusal};
 
 /// Two readings of one input agree: the items of a feed are unique, a feed is not refused, and what is refused is refused

@@ -1,6 +1,10 @@
-//! The reader of feed files.
+//! Feeds: the files of items that are reviewed and recorded, and a generated one.
 //!
-//! The format, with an example: docs/formats/feed.md.
+//! - A [`FeedReader`] gives the items of a source one by one, or the number and the offset of the first refusal. Two
+//!   readings of one input agree.
+//! - A [`GeneratedFeed`] is a source of as many items as are asked for, which is never refused.
+//!
+//! The format, with an example: docs/formats/feed.md. Tests: vdr_formats_tests, modules feeds and trials.
 #![tactic(auto)]
 
 mod body;

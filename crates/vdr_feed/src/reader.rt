@@ -1,3 +1,4 @@
+// The reader of a feed: its header, and then one item after another.
 ghost use Rattle.std.specs.Prelude.{◌≡◌, ◌≢◌, ◌≤◌, ◌<◌, ◌^◌, true, false, None, Some, Err, ℕ, List, length, take, IfOk, IfErr, OnOk, IsErrOf};
 ghost use Rattle.std.specs.Io.KnownBytes.{Consumes};
 ghost use Rattle.vdr_feed.specs.Failing.{HasReadCause, ReadsPart};

@@ -1,3 +1,4 @@
+// The law of generated feeds: each is a feed of its items.
 ghost use Rattle.std.specs.Prelude.{◌≤◌, ℕ};
 ghost use Rattle.vdr_feed.specs.Feed.{IsFeed, longest_feed};
 ghost use Rattle.vdr_feed.specs.Generated.{generated_feed, items_from};

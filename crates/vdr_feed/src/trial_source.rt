@@ -1,3 +1,4 @@
+// The generated feed as a source of bytes.
 ghost use Rattle.std.specs.Prelude.{◌≡◌, ◌≤◌, ◌<◌, ◌+◌, ◌⊎◌, ◌++◌, [], length};
 ghost use Rattle.vdr_feed.specs.Feed.{spelling};
 ghost use Rattle.vdr_feed.specs.Trial.{trial_item as item_of, trial_state};

@@ -1,3 +1,4 @@
+// Which channels select datagrams of each kind.
 use std::test::Fail;
 use vdr_config::read_config;
 use vdr_datagram::{channel_bits, token};

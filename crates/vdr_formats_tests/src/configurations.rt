@@ -1,3 +1,4 @@
+// Texts of configurations: how they are read or refused, and what they need of media.
 use std::alloc::{AllocError, Global};
 use std::process::Abort;
 use std::test::*;

@@ -1,3 +1,4 @@
+// Tokens of datagrams, and the lines of sentence datagrams.
 use std::test::Fail;
 use vdr_datagram::{
     Line, LineVerdict, Token, Verdict, law_of_cutting, law_of_kinds, lines, recordable, token,

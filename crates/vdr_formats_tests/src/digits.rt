@@ -1,3 +1,4 @@
+// Checksums by values computed by hand, and numbers in decimal digits.
 use std::test::Fail;
 use vdr_bytes::{checksum, hex_byte, is_hex_digit, number, split_checksum, upper_digits};
 

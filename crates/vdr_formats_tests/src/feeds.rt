@@ -1,3 +1,4 @@
+// Feeds in pieces of any length, each refusal with its number and offset, and faults of their source.
 ghost use Rattle.std.specs.Prelude.{◌≡◌, ◌<◌, ◌^◌, true};
 
 use std::alloc::{AllocError, Global};

@@ -1,3 +1,4 @@
+// PCM frames, bytes that are none, and how frames follow each other.
 use vdr_bytes::put_u32;
 use vdr_pcm::{PcmStep, PcmTrack, law_of_pcm, read_pcm};
 

@@ -1,3 +1,4 @@
+// What is counted as missed, by a port's worker and by the recorder.
 ghost use Rattle.std.specs.Prelude.{◌≡◌};
 
 use std::test::Fail;

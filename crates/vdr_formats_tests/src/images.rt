@@ -1,3 +1,4 @@
+// Image datagrams, bytes that are none, and how parts follow each other.
 use vdr_bytes::put_u32;
 use vdr_image::{ImageStep, ImageTrack, law_of_images, read_image};
 

@@ -1,3 +1,4 @@
+// AIS messages of several parts, which end at their last part.
 use std::test::Fail;
 use vdr_ais::{Joiner, Report, read_message};
 use vdr_sentence::read_sentence;

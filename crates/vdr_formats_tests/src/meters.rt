@@ -1,3 +1,4 @@
+// What the rate of a group admits in a second.
 use std::test::Fail;
 use vdr_config::{Config, Rate};
 use vdr_meter::Meter;

@@ -1,3 +1,4 @@
+// Little-endian numbers, by bytes of a feed and of a superblock.
 use vdr_bytes::{put, put_u16, put_u32, put_u64, put_u64s, u16_at, u32_at, u64_at};
 
 /// The last fields of a feed's item (its stamp and its length), then the size of a segment in a superblock.

@@ -1,3 +1,4 @@
+// Which plays words ask for.
 use vdr_control::{Order, law_of_plays, read_play};
 use vdr_entry::Medium;
 

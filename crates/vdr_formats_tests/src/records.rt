@@ -1,3 +1,4 @@
+// Records and stamps, by their bytes and texts.
 ghost use Rattle.std.specs.Prelude.{◌≡◌, ◌≤◌};
 
 use arrayvec::ArrayVec;

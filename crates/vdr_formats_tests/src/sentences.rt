@@ -1,3 +1,4 @@
+// Sentences as manuals of receivers print them, and their fields.
 use arrayvec::ArrayVec;
 use std::test::Fail;
 use vdr_sentence::{Bad, law_of_reading, read_sentence, write_sentence};

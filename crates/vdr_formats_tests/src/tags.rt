@@ -1,3 +1,4 @@
+// TAG blocks as receivers and providers of AIS data write them, and their refusals.
 use std::test::Fail;
 use vdr_tag::{BadTag, Grouping, law_of_reading, read_tags};
 

@@ -1,3 +1,4 @@
+// Tables of ships, from published messages and from others written by the tables of ITU-R M.1371.
 ghost use Rattle.std.specs.Prelude.{◌≡◌};
 ghost use Rattle.vdr_terms.specs.Stamps.{IsStamp};
 

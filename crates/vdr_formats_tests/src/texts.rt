@@ -1,3 +1,4 @@
+// Records as text, also on a sink that fails.
 ghost use Rattle.std.specs.Prelude.{None, ◌≡◌};
 ghost use Rattle.vdr_terms.specs.declared.datagram.Verdict.TheVariants.{Yes};
 ghost use Rattle.vdr_terms.specs.Datagrams.{verdict};

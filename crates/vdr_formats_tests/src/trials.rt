@@ -1,3 +1,4 @@
+// The generated feed, by its first bytes and by what a reader makes of it.
 use std::alloc::Global;
 use std::process::Abort;
 use std::test::Fail;

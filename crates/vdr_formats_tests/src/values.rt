@@ -1,3 +1,4 @@
+// Readings of sentences: their texts, the ends of each form, and their fields.
 use arrayvec::ArrayVec;
 use std::process::Abort;
 use vdr_sentence::read_sentence;

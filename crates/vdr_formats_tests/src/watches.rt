@@ -1,3 +1,4 @@
+// What heartbeats and alarms show, record by record.
 use std::alloc::Global;
 use std::process::Abort;
 use std::test::Fail;

@@ -1,3 +1,4 @@
+// Where the window of a medium ends.
 use std::test::Fail;
 use vdr_window::in_window;
 

@@ -1,3 +1,4 @@
+// What a group has missed since its last Datagram record, until the next Gap.
 ghost use Rattle.std.specs.Prelude.{◌≡◌, ◌≤◌, ◌<◌, ◌+◌, ◌^◌, IsNone, IfSome, ◌↔◌};
 ghost use Rattle.vdr_terms.specs.Records.{total};
 

@@ -1,3 +1,4 @@
+// The tally of a port's worker: what it pushed, and what was missed by cause.
 ghost use Rattle.std.specs.Prelude.{◌≡◌, ◌≤◌, ◌<◌, ◌+◌, ◌^◌};
 ghost use Rattle.vdr_terms.specs.Records.{total};
 

@@ -1,3 +1,4 @@
+// The header of an image datagram (this project's profile).
 ghost use Rattle.vdr_image.specs.Headers.{IsHeader};
 
 /// The header of a datagram that holds a part of an image (this project's profile). Its type keeps the ranges.

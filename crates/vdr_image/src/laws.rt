@@ -1,3 +1,4 @@
+// The law of images: bytes read as a header exactly where they are an image datagram with it.
 ghost use Rattle.std.specs.Prelude.{◌≡◌, ◌↔◌, ℕ, List, Some};
 ghost use Rattle.vdr_terms.specs.Legality.{IsBytes};
 ghost use Rattle.vdr_image.specs.Headers.{Header};

@@ -1,3 +1,4 @@
+// Reading the header of an image datagram.
 ghost use Rattle.std.specs.Prelude.{◌≡◌, ◌≤◌, ◌&&◌, option_map, length, nat_le, IfSome, IfNone};
 ghost use Rattle.vdr_image.specs.Headers.{Header, is_identifier};
 ghost use Rattle.vdr_image.specs.Images.{IsImage, has_image_token, header_at, image_in, is_header, is_image, is_numbered};

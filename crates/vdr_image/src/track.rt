@@ -1,3 +1,4 @@
+// The track of a stream of images: how each header follows the one before.
 ghost use Rattle.std.specs.Prelude.{◌≡◌, Some, None};
 ghost use Rattle.vdr_image.specs.Tracks.{follows, part_of};
 ghost use Rattle.vdr_image.specs.Views.{header_of};

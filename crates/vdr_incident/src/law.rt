@@ -1,3 +1,4 @@
+// The laws of incident saves: a slot and a table read in one way, and what is beside a slot is held as before.
 ghost use Rattle.std.specs.Prelude.{◌≡◌, ◌≤◌, ◌<◌, ◌+◌, ◌⊎◌, ℕ, List, length, slice_get, Option};
 ghost use Rattle.vdr_core.specs.Histories.{Incident};
 ghost use Rattle.vdr_outside.specs.Parts.{part};

@@ -1,3 +1,4 @@
+// Reading the incident slots of the long-term medium.
 ghost use Rattle.std.specs.Prelude.{◌≡◌, ◌≤◌, ◌<◌, ℕ, Option, IfOk, OnOk, length, Err};
 ghost use Rattle.vdr_core.specs.Histories.{Incident};
 ghost use Rattle.vdr_outside.specs.Causes.{HasCauseOn, counted};

@@ -1,3 +1,4 @@
+// Why an incident is not saved, or not released.
 use vdr_outside::Fault;
 
 /// Why an incident is not saved.

@@ -1,3 +1,4 @@
+// An incident save, and the bytes of its slot.
 ghost use Rattle.std.specs.Prelude.{◌≡◌, ◌≤◌, ◌↔◌, ◌&&◌, nat_le, Option, length, drop, IsTrue, IfSome, IfNone};
 ghost use Rattle.vdr_core.specs.Histories.{Incident};
 ghost use Rattle.vdr_terms.specs.Texts.{is_label};

@@ -1,3 +1,4 @@
+// The table of incident saves: read from its slots, with saves added and released.
 ghost use Rattle.std.specs.Prelude.{◌≡◌, ◌≤◌, ◌<◌, ◌↔◌, ◌+◌, ℕ, suc, Option, Some, None, is_none, position, set, length, option_copied, Err, Ok, OnOk, IfOk, IsErrOf, OnErr, IfSome, IsSome, IsTrue, count_by, is_some};
 ghost use Rattle.vdr_core.specs.Histories.{Incident, live, with_slot};
 ghost use Rattle.vdr_outside.specs.Disk.{content};

@@ -1,3 +1,4 @@
+// Writing an incident slot, and closing its gate.
 ghost use Rattle.std.specs.Prelude.{◌≡◌, ◌<◌, ℕ, List, set, slice_get, Option, None, Some, OnOk};
 ghost use Rattle.vdr_core.specs.Histories.{Incident};
 ghost use Rattle.vdr_outside.specs.Disk.{content};

@@ -1,3 +1,4 @@
+// Auditing a segment: whether its batches are legal and agree with the summary in its header.
 ghost use Rattle.std.specs.Prelude.{◌≤◌, List, length, drop, IfOk, IfErr};
 ghost use Rattle.vdr_terms.specs.Records.{Record as Entry};
 ghost use Rattle.vdr_segment.specs.Segments.{AreBatches};

@@ -1,3 +1,4 @@
+// What is kept of a segment's records: where they begin and end, and what they have in common.
 ghost use Rattle.std.specs.Prelude.{◌≡◌, ◌↔◌, ◌+◌, ◌∷◌, [], ◌++◌, ℕ, List, IsTrue};
 ghost use Rattle.vdr_terms.specs.Records.{Record as Entry};
 ghost use Rattle.vdr_terms.specs.Sizes.{batch_size};

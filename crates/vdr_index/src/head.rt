@@ -1,3 +1,4 @@
+// The fields of a record that a query tests, read without its payload.
 ghost use Rattle.std.specs.Prelude.{◌≡◌, ℕ, List};
 ghost use Rattle.vdr_terms.specs.Records.{Record as Entry};
 ghost use Rattle.vdr_entry.specs.Reading.{Begins};

@@ -1,3 +1,4 @@
+// The index of a medium: what is known of the segment in each slot, and which of them may answer a query.
 ghost use Rattle.std.specs.Prelude.{◌≡◌, ◌≢◌, ◌<◌, ◌^◌, ℕ, length, replicate, set, get_or, option_map, Some, None, IfOk, IfSome, IfNone};
 ghost use Rattle.vdr_entry.specs.Queries.{asked};
 ghost use Rattle.vdr_index.specs.declared.known.Known.{Known as AKnown};

@@ -1,4 +1,14 @@
 //! What is known of the segments of a medium without reading them, and which of them may answer a query.
+//!
+//! A segment that the [`Index`] leaves out has no record that the query selects.
+//!
+//! - The index: of each slot the sequence number, the first place and the summary of its segment, and the candidates
+//!   of a query among them.
+//! - Within a segment: a survey tells what its batches come to, an audit whether they agree with its summary, and
+//!   steps from [`Position`] to position give its records, of which `pass_by` reads the heads of those that are not
+//!   selected.
+//!
+//! docs/MEDIA.md, "Segments" and "The ring". Tests: vdr_media_tests, modules indexes and surveys.
 #![tactic(auto)]
 
 mod agreeing;

@@ -1,3 +1,4 @@
+// Passing by the records of a segment that are not selected.
 ghost use Rattle.std.specs.Prelude.{◌≡◌, ◌<◌};
 ghost use Rattle.vdr_index.specs.Positions.{IsAt};
 ghost use Rattle.vdr_index.specs.Selections.{Passes, StartsSelected};

@@ -1,3 +1,4 @@
+// Stepping through the records of a segment, one after another.
 ghost use Rattle.std.specs.Prelude.{◌≡◌, ◌<◌, ◌↔◌, [], List, IfOk, IfErr, IfSome, IfNone, MatchResult};
 ghost use Rattle.vdr_terms.specs.Records.{Record as Entry};
 ghost use Rattle.vdr_segment.specs.Walks.{Walks};

@@ -1,3 +1,4 @@
+// What records one after another come to: first and last, whether they are in order, and their summary.
 ghost use Rattle.std.specs.Prelude.{◌≡◌, ◌<◌, ◌↔◌, ◌∷◌, [], ◌++◌, ℕ, List, length, IsTrue};
 ghost use Rattle.vdr_terms.specs.Records.{Record as Entry};
 ghost use Rattle.vdr_terms.specs.Sizes.{record_size};

@@ -1,3 +1,4 @@
+// Surveying a segment: what its batches come to, or the first of them that is not legal.
 ghost use Rattle.std.specs.Prelude.{◌≤◌, ◌<◌, List, length, drop, IfOk, IfErr};
 ghost use Rattle.vdr_terms.specs.Records.{Record as Entry};
 ghost use Rattle.vdr_segment.specs.Segments.{AreBatches};

@@ -1,3 +1,4 @@
+// The two ends of a queue: the right to push into it, and the right to pop from it.
 ghost use Rattle.std.specs.Prelude.{◌≡◌, ◌≤◌, ◌<◌, length, IfSome};
 ghost use Rattle.vdr_intake.specs.Ends.{full_of};
 

@@ -1,3 +1,4 @@
+// A recordable datagram on its way through a queue, with what its port missed before it.
 use arrayvec::ArrayVec;
 use std::marker::Model;
 use vdr_terms::Counts;

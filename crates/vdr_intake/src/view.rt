@@ -1,3 +1,4 @@
+// What an end of a queue knows of it, in the proofs alone.
 use crate::item::Captured;
 use std::collections::LinkedList;
 

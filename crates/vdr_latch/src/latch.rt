@@ -1,3 +1,4 @@
+// The latch: a turn at its value, passes that are split and joined, and the close that gives the value back.
 ghost use Rattle.std.specs.Prelude.{◌≡◌, ℕ, ◌+◌, ◌-◌, ◌<◌, ◌^◌, Bool, true, false, List, [], ◌∷◌, ◌++◌, length, IfOk, IfErr, Some, None};
 ghost use mathlib.Core.List.{IsPrefix};
 ghost use Rattle.vdr_latch.specs.Passes.{IsPossible};

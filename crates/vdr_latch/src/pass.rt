@@ -1,3 +1,4 @@
+// The pass to a latch: the right to take turns.
 use crate::view::View;
 use atomic_table::Badge;
 use std::marker::Model;

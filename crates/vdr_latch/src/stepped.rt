@@ -1,3 +1,4 @@
+// A value under a latch, as a trait: its events, and the jobs that make them.
 ghost use Rattle.std.specs.Prelude.{◌≡◌, Bool, List, [], ◌∷◌, ◌++◌};
 
 /// A value that can lie under a latch, with the meaning of a history of its events.

@@ -1,3 +1,4 @@
+// What a pass knows of the latch, in the proofs alone.
 use std::collections::LinkedList;
 
 /// What a seat at the latch knows. It exists in the proofs alone: no value of it is made.

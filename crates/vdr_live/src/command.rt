@@ -1,3 +1,4 @@
+// A command behind its words, `record` among them.
 ghost use Rattle.std.specs.Prelude.{◌≤◌, ◌<◌, ◌^◌, length};
 ghost use Rattle.vdr_session.specs.Calls.{AreByGroup};
 ghost use Rattle.vdr_tool.specs.Lives.{KeepsLife};

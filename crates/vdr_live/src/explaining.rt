@@ -1,3 +1,4 @@
+// What stood in the way of a command, as a line on the standard error.
 use std::io::{Read, Write};
 use vdr_adapters::{FileMedia, StdIn, StdOut};
 use vdr_tool::{Status, World};

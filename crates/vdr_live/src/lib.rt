@@ -1,4 +1,10 @@
-//! Live recording: the ports of the ship's network are recorded on the media, and all commands of the program with it.
+//! Live recording, and the program behind its words.
+//!
+//! - `record TURNS`: what the ports of the ship's network give is recorded on the media, while operators' orders are
+//!   answered. What such a recording leaves, and what it replies, stands in `specs/Headline`.
+//! - The program: its help, its version, its media, and every command.
+//!
+//! Tests: vdr_tool_tests, modules recordings and desks; vdr_program_tests runs the program on files.
 #![tactic(auto)]
 
 mod command;

@@ -1,3 +1,4 @@
+// Emptying the media: the gate of medium 0 is closed first, and it is opened last.
 ghost use Rattle.std.specs.Prelude.{◌≡◌, ◌<◌, ◌≤◌, true, false, length, get_or, Ok, All, OnOk};
 ghost use Rattle.vdr_terms.specs.Needs.{Fits};
 ghost use Rattle.vdr_outside.specs.Causes.{HasCauseOn};

@@ -1,3 +1,4 @@
+// Formatting the media with a configuration, so that they hold an empty history.
 ghost use Rattle.std.specs.Prelude.{◌≡◌, ◌<◌, ◌≤◌, true, false, length, All, OnOk, IfOk};
 ghost use Rattle.vdr_outside.specs.Causes.{HasCauseOn};
 ghost use Rattle.vdr_outside.specs.Disk.{Durable, Unchanged};

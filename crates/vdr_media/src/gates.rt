@@ -1,3 +1,4 @@
+// Closing gates of a medium that stand a step apart.
 ghost use Rattle.std.specs.Prelude.{◌≡◌, ◌+◌, ◌*◌, ◌<◌, ◌≤◌, ◌^◌, OnOk};
 ghost use Rattle.vdr_outside.specs.Causes.{HasCauseOn};
 ghost use Rattle.vdr_outside.specs.Disk.{InRange, content};

@@ -1,3 +1,4 @@
+// Laying out one medium so that it is empty: its gates closed, its configuration and its superblock written.
 ghost use Rattle.std.specs.Prelude.{◌≡◌, ◌+◌, ◌*◌, ◌<◌, ◌≤◌, ◌^◌, length, get_or, Ok, OnOk, ⊤};
 ghost use Rattle.vdr_bytes.specs.Numbers.{le_u32};
 ghost use Rattle.vdr_terms.specs.Needs.{Fits};

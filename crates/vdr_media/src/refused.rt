@@ -1,3 +1,4 @@
+// Why media were not formatted.
 use vdr_config::{ConfigBad, TooSmall};
 use vdr_outside::{Failed, Fault};
 

@@ -1,3 +1,4 @@
+// The bytes of a superblock behind its gate.
 ghost use Rattle.std.specs.Prelude.{◌≡◌, ◌<◌, ◌^◌};
 ghost use Rattle.vdr_media.specs.Layout.{superblock_bytes};
 

@@ -1,3 +1,4 @@
+// Formatting media in memory: what is refused, and in which order.
 use std::alloc::{AllocError, Global};
 use std::process::Abort;
 use std::test::Fail;

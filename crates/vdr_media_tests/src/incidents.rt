@@ -1,3 +1,4 @@
+// The table of incident saves on media in memory: saves, refusals, and stops.
 ghost use Rattle.std.specs.Prelude.{◌≤◌};
 ghost use Rattle.vdr_incident.specs.Tables.{HasIncidents};
 

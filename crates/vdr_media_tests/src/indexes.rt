@@ -1,3 +1,4 @@
+// Which segments an index takes for candidates of a query.
 ghost use Rattle.std.specs.Prelude.{◌≡◌, length, IfOk};
 
 use std::alloc::Global;

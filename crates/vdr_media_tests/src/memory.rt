@@ -1,3 +1,4 @@
+// Sources and sinks in memory, and texts in few writes.
 ghost use Rattle.std.specs.Prelude.{◌≡◌};
 ghost use Rattle.std.specs.List.{flat_map};
 

@@ -1,3 +1,4 @@
+// Media that are opened, or refused at their first part that is not legal.
 ghost use Rattle.std.specs.Prelude.{◌≡◌, ◌<◌, ◌≤◌, length, get_or};
 ghost use Rattle.vdr_segment.specs.Areas.{HasRoom};
 

@@ -1,3 +1,5 @@
+// The ring of one medium.
+
 mod belied;
 mod bringing;
 mod capsule;

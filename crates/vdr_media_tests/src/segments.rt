@@ -1,3 +1,4 @@
+// Headers and batches of a segment, by their bytes, and walks over them.
 use vdr_entry::{Record, Summary};
 use vdr_segment::{
     HEADER_SIZE, Header, OPEN_GATE, SUMMARY_GATE, SUMMARY_SIZE, Walk, law_of_segments,

@@ -1,3 +1,4 @@
+// Slots: what is synced before a gate opens, and what a stop leaves.
 ghost use Rattle.std.specs.Prelude.{◌≡◌, ◌<◌};
 ghost use Rattle.vdr_segment.specs.Areas.{HasRoom};
 

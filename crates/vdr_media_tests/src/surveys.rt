@@ -1,3 +1,4 @@
+// Surveys and audits of a segment, and steps through its records.
 use vdr_entry::{Record, Summary};
 use vdr_index::{
     Extent, Position, Survey, audit, law_of_audits, law_of_positions, law_of_surveys, step,

@@ -1,3 +1,4 @@
+// Both media as one vault.
 ghost use Rattle.std.specs.Prelude.{◌≤◌, ◌<◌, length, IfOk};
 ghost use Rattle.vdr_terms.specs.Sizes.{batch_size};
 ghost use Rattle.vdr_ring.specs.Rings.{HasMedium};

@@ -1,3 +1,4 @@
+// A write or a sync on the record of media in memory.
 ghost use Rattle.std.specs.Prelude.{◌≡◌};
 ghost use Rattle.vdr_memory.specs.Traces.{length_of};
 

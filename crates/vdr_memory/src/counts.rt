@@ -1,3 +1,4 @@
+// How often media in memory were called.
 ghost use Rattle.std.specs.Prelude.{◌≡◌};
 ghost use Rattle.vdr_memory.specs.Counts.{changes, one_change, one_read, total};
 

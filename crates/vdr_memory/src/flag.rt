@@ -1,3 +1,4 @@
+// A flag that threads share, for tests with several threads.
 use std::alloc::{AllocError, Global};
 use std::sync::Arc;
 use std::sync::atomic::{AtomicBool, Ordering};

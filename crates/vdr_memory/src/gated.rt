@@ -1,3 +1,4 @@
+// A port in memory of which the datagrams wait behind a gate.
 ghost use Rattle.std.specs.Prelude.{◌≡◌, ◌≢◌, ◌≤◌, ◌<◌, ◌↔◌, [], length, Contains};
 ghost use Rattle.vdr_outside.specs.Calls.{asked_again};
 ghost use Rattle.vdr_outside.specs.Causes.{Rose};

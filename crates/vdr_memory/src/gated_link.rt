@@ -1,3 +1,4 @@
+// A link in memory that asks for the status until a reply begins as it waits for, and then sets a flag.
 ghost use Rattle.std.specs.Prelude.{◌≡◌, ◌≤◌, ◌⊎◌, ◌++◌, ◌↔◌, None, IsTrue, IsOk, codes, length, take, []};
 ghost use Rattle.vdr_outside.specs.Calls.{asked_again};
 ghost use Rattle.vdr_outside.specs.Causes.{HasCause, Rose};

@@ -1,3 +1,4 @@
+// A datagram that a port in memory is to give.
 ghost use Rattle.std.specs.Prelude.{IsTrue, ◌↔◌};
 ghost use Rattle.vdr_memory.specs.Ports.{NeverFalls};
 

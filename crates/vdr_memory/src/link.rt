@@ -1,3 +1,4 @@
+// A link in memory: it gives its lines, keeps the replies, and fails where it is told to.
 ghost use Rattle.std.specs.Prelude.{◌≡◌, ◌≤◌, ◌⊎◌, [], ◌++◌, ◌↔◌, Some, OnOk, OnErr, IsErr, Contains};
 ghost use Rattle.std.specs.Io.KnownBytes.{Appends};
 ghost use Rattle.vdr_outside.specs.Calls.{asked_again};

@@ -1,3 +1,4 @@
+// Media in memory that record their writes and syncs, so that a stop at any of them can be looked at.
 ghost use Rattle.std.specs.Prelude.{◌≡◌, ◌≤◌, ◌<◌, ◌⊎◌, ◌↔◌, ◌+◌, ◌^◌, [], ℕ, None, length, get_or, map, replicate, reverse, slice_range, true, false, Contains, IfOk, IsErr, IsTrue, OnErr, OnOk};
 ghost use Rattle.vdr_outside.specs.Causes.{HasCauseOn, IsCounted, counted};
 ghost use Rattle.vdr_outside.specs.Disk.{Durable, Elapses, InRange, Narrows, Overwritten, Rises, Tears, Unchanged, content, written};

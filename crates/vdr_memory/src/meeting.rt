@@ -1,3 +1,4 @@
+// Two ports in memory that meet: each gives its second datagram only when the other gave its first.
 ghost use Rattle.std.specs.Prelude.{◌≡◌, [], ◌∷◌, IfOk};
 ghost use Rattle.vdr_memory.specs.Ports.{meeting, meeting_item};
 

@@ -1,3 +1,4 @@
+// A port in memory: it gives its datagrams, and fails and is quiet where it is told to.
 ghost use Rattle.std.specs.Prelude.{◌≡◌, ◌≢◌, ◌≤◌, ◌↔◌, [], Contains};
 ghost use Rattle.vdr_outside.specs.Calls.{asked_again};
 ghost use Rattle.vdr_outside.specs.Causes.{Rose};

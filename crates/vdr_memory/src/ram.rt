@@ -1,3 +1,4 @@
+// Media in memory that keep their contents alone and never fail.
 ghost use Rattle.std.specs.Prelude.{◌≡◌, ◌+◌, ◌≤◌, length, map, slice_range, IsOk};
 ghost use Rattle.vdr_outside.specs.Disk.{InRange, content, written};
 ghost use Rattle.vdr_memory.specs.Contents.{contents};

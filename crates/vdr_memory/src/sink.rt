@@ -1,3 +1,4 @@
+// A sink in memory: it keeps what it takes, and fails where it is told to.
 ghost use Rattle.std.specs.Prelude.{◌≡◌, ◌<◌, ◌⊎◌, [], ◌↔◌, length, Some, IfOk, OnErr, OnOk, IsErr, Contains};
 ghost use Rattle.std.specs.Io.{WritesAtMost};
 ghost use Rattle.std.specs.Io.KnownBytes.{WriteAppends};

@@ -1,3 +1,4 @@
+// The meter: what was admitted of each group in the present second of recording time.
 ghost use Rattle.std.specs.Prelude.{◌≡◌, ◌≢◌, ◌≤◌, ◌<◌, ◌+◌, ◌&&◌, ◌++◌, ◌∷◌, [], ℕ, List, nat_lt, nat_le, true, is_some, IfSome};
 ghost use Rattle.std.specs.Bool.{OnTrue, OnFalse};
 ghost use Rattle.vdr_terms.specs.Records.{Record, second};

@@ -1,3 +1,4 @@
+// The laws of opening: an image holds one list of contents, opening reads it, and it has one answer.
 ghost use Rattle.std.specs.Prelude.{◌≡◌, ◌↔◌, ℕ, List};
 ghost use Rattle.vdr_durability.specs.Readings.{EndsMeet};
 ghost use Rattle.vdr_outside.specs.Disk.{Image};

@@ -1,4 +1,9 @@
 //! What the capsule and the long-term medium hold, or the first part of them that is not legal.
+//!
+//! Opening writes nothing, and has one answer for each image of the media. It reads what stands before the slots, the
+//! front of each slot, and whole only the segments that lack a summary.
+//!
+//! docs/MEDIA.md, "How the media are opened". Tests: vdr_media_tests, module openings.
 #![tactic(auto)]
 
 mod ends;

@@ -1,3 +1,4 @@
+// The media as opening read them: configuration, rings, incident saves, and the batch that some of them lack.
 use std::marker::Model;
 use vdr_config::Config;
 use vdr_entry::Record;

@@ -1,3 +1,4 @@
+// Reading the media part by part, up to the first that is not legal.
 ghost use Rattle.std.specs.Prelude.{◌≡◌, ◌≤◌, ℕ, length, All, IfOk, Err};
 ghost use Rattle.vdr_outside.specs.Disk.{Durable, Unchanged};
 ghost use Rattle.vdr_outside.specs.declared.fault.PartRefused.TheVariants.{Damaged as PartDamaged};

@@ -1,3 +1,4 @@
+// Why media were not opened.
 use vdr_outside::{Failed, PartRefused};
 
 /// Why media were not opened.

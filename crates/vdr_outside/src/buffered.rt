@@ -1,3 +1,4 @@
+// A sink that gathers small pieces and hands them on in few writes.
 ghost use Rattle.std.specs.Prelude.{◌≡◌, ◌≤◌, ◌<◌, ◌+◌, length, drop, IfOk, OnOk};
 ghost use Rattle.std.specs.Io.{WritesAtMost};
 ghost use Rattle.std.specs.Io.KnownBytes.{append_known, Appends, Keeps, WriteAppends};

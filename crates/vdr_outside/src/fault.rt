@@ -1,3 +1,4 @@
+// A call outside that failed, as the layers above answer it.
 ghost use Rattle.std.specs.Prelude.{◌≡◌};
 
 /// A call outside failed. The object's count of faults rose in that call.

@@ -1,3 +1,4 @@
+// The link of an operator, as a trait: its lines, and the replies.
 ghost use Rattle.std.specs.Prelude.{◌≡◌, ◌≤◌, ℕ, List, Option, OnOk};
 ghost use Rattle.std.specs.Io.KnownBytes.{Appends, Keeps};
 ghost use Rattle.vdr_outside.specs.Calls.{Asked, asked_again};

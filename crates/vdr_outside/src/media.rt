@@ -1,3 +1,4 @@
+// The media, as a trait: read, written and synced, with the disk model of what a stop leaves.
 ghost use Rattle.std.specs.Prelude.{◌≡◌, ◌+◌, ℕ, List, length, get_or, slice_range, OnOk, OnErr};
 ghost use Rattle.vdr_outside.specs.Causes.{HasCauseOn, counted};
 ghost use Rattle.vdr_outside.specs.Disk.{Disk, InRange, Elapses, Rises, Tears, Narrows, Durable, Overwritten, Unchanged, content, written};

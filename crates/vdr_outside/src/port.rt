@@ -1,3 +1,4 @@
+// The port of a transmission group, as a trait.
 ghost use Rattle.std.specs.Prelude.{◌≡◌, ◌≤◌, ℕ};
 ghost use Rattle.vdr_outside.specs.Calls.{Asked, asked_again};
 ghost use Rattle.vdr_outside.specs.Causes.{Rose};

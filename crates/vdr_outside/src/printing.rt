@@ -1,3 +1,4 @@
+// What has a text, as a trait, and how the text is printed in few writes.
 ghost use Rattle.std.specs.Prelude.{List, ℕ, ◌≡◌, OnOk};
 ghost use Rattle.std.specs.Io.KnownBytes.{Appends};
 ghost use Rattle.vdr_outside.specs.Causes.{HasCause};

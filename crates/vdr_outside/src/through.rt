@@ -1,3 +1,4 @@
+// A write to a medium with a sync behind it.
 ghost use Rattle.std.specs.Prelude.{◌≡◌, length, OnOk};
 ghost use Rattle.vdr_outside.specs.Disk.{InRange, Overwritten, content, over};
 ghost use Rattle.vdr_outside.specs.Frames.{WritesThrough};

@@ -1,3 +1,4 @@
+// A frame of PCM samples (this project's profile).
 ghost use Rattle.vdr_pcm.specs.Frames.{IsFrame};
 
 /// A frame of PCM samples (this project's profile). Its type keeps the ranges.

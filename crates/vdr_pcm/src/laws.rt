@@ -1,3 +1,4 @@
+// The law of sound: bytes read as a frame exactly where they are a datagram with it.
 ghost use Rattle.std.specs.Prelude.{◌≡◌, ◌↔◌, ℕ, List, Some};
 ghost use Rattle.vdr_terms.specs.Legality.{IsBytes};
 ghost use Rattle.vdr_pcm.specs.Frames.{Frame};

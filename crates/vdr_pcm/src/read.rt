@@ -1,3 +1,4 @@
+// Reading a PCM frame.
 ghost use Rattle.std.specs.Prelude.{◌≡◌, ◌==◌, ◌+◌, ◌*◌, option_map, length, IfSome, IfNone};
 ghost use Rattle.vdr_bytes.specs.Numbers.{u16_at};
 ghost use Rattle.vdr_pcm.specs.Frames.{Frame};

@@ -1,3 +1,4 @@
+// The track of a stream of sound: how each frame follows the one before.
 ghost use Rattle.std.specs.Prelude.{◌≡◌, Some, None};
 ghost use Rattle.vdr_pcm.specs.Tracks.{after};
 

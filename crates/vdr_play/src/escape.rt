@@ -1,3 +1,4 @@
+// Bytes as printable ASCII characters, the others as `<hh>`.
 ghost use Rattle.std.specs.Prelude.{◌≡◌, ◌≤◌, ◌<◌, ◌∷◌, [], IfOk, OnErr, OnOk, length, take, take_while};
 ghost use Rattle.std.specs.Io.KnownBytes.{Appends};
 ghost use Rattle.vdr_entry.specs.Escape.{escaped, escaped_byte, hex_digit, is_plain};

@@ -1,3 +1,4 @@
+// The line of a record.
 ghost use Rattle.std.specs.Prelude.{◌≡◌, ◌∷◌, OnOk};
 ghost use Rattle.std.specs.Io.KnownBytes.{Appends};
 ghost use Rattle.vdr_terms.specs.Records.Content.{Datagram, Gap};

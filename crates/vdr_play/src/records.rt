@@ -1,3 +1,4 @@
+// A record as text: its line, and the lines under a datagram's.
 ghost use Rattle.std.specs.Prelude.{◌≡◌, OnOk};
 ghost use Rattle.std.specs.Io.KnownBytes.{Appends};
 ghost use Rattle.vdr_outside.specs.Causes.{HasCause};

@@ -1,3 +1,4 @@
+// What a printer of records has seen last, of images and of sound.
 ghost use Rattle.std.specs.Prelude.{◌≡◌};
 ghost use Rattle.vdr_play.specs.Streams.{nothing_seen};
 

@@ -1,3 +1,4 @@
+// Words of a line, with a space before each.
 ghost use Rattle.std.specs.Prelude.{◌≡◌, ◌∷◌, OnOk, map};
 ghost use Rattle.std.specs.Io.KnownBytes.{Appends};
 ghost use Rattle.vdr_entry.specs.Lines.{spaced};

@@ -1,3 +1,4 @@
+// What the program tells of itself, and words that ask for nothing.
 use std::io::Cursor;
 use std::test::Fail;
 use vdr_live::{Alarm, command_line, tcp_desk, udp_lanes};

@@ -1,3 +1,4 @@
+// The law of playing: media that show the first of a history's events play them back.
 ghost use Rattle.std.specs.Prelude.{◌≡◌, ◌++◌, ℕ, List, Contains, Ok};
 ghost use Rattle.vdr_terms.specs.Order.{AreInOrder};
 ghost use Rattle.vdr_core.specs.Histories.{Event, all_records};

@@ -1,4 +1,10 @@
 //! A recorder over its media: it makes records of the items that it takes, commits them, and plays what was recorded.
+//!
+//! - A [`Recorder`] is opened, starts a run, takes batches of items, and stops; it saves and releases incidents.
+//! - What was recorded is handed to a visitor, played as text, or told by its sources.
+//! - What a recording leaves at each moment and in the end stands in `specs/Headline`.
+//!
+//! Tests: vdr_recorder_tests, module recordings.
 #![tactic(auto)]
 
 mod commit;

@@ -1,3 +1,5 @@
+// A recorder on media in memory.
+
 mod bench;
 mod full;
 mod making;

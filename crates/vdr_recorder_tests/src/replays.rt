@@ -1,3 +1,4 @@
+// Feeds that are recorded on media in memory, and what is refused.
 use std::alloc::{AllocError, Global};
 use std::process::Abort;
 use std::test::Fail;

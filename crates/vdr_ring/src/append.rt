@@ -1,3 +1,4 @@
+// Appending a batch of records to the ring, with what a stop leaves at every moment.
 ghost use Rattle.std.specs.Prelude.{◌≡◌, ◌+◌, ◌<◌, ◌≤◌, ℕ, [], ◌∷◌, ◌++◌, List, length, None, OnOk};
 ghost use Rattle.vdr_terms.specs.Records.{Record as ARecord};
 ghost use Rattle.vdr_terms.specs.Needs.{Sizes};

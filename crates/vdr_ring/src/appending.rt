@@ -1,3 +1,4 @@
+// The steps of an append: room in the newest segment or a new one, the victim closed, the batch, a summary.
 ghost use Rattle.std.specs.Prelude.{◌≡◌, ◌+◌, ◌<◌, ◌≤◌, ℕ, [], ◌∷◌, List, length, Some, None, IfNone, IfOk, IfSome, MatchOption, OnErr, OnOk};
 ghost use Rattle.vdr_terms.specs.Records.{Record as ARecord, last};
 ghost use Rattle.vdr_terms.specs.Sizes.{batch_size};

@@ -1,3 +1,4 @@
+// A cursor over what a query selects of a medium, from segment to segment.
 ghost use Rattle.std.specs.Prelude.{◌≡◌, ◌<◌, ◌≤◌, List, [], true, false, Some, None, option_map};
 ghost use Rattle.vdr_terms.specs.Records.{Record as Entry};
 ghost use Rattle.vdr_directory.specs.Sequence.{Placed};

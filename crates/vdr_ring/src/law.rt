@@ -1,3 +1,4 @@
+// The laws of the ring: what it retains at each stage of an append, and that summaries change no record.
 ghost use Rattle.std.specs.Prelude.{◌≡◌, ◌≢◌, ◌↔◌, ◌≤◌, [], ◌∷◌, ◌++◌, ℕ, List};
 ghost use Rattle.vdr_terms.specs.Needs.{Sizes, cost, usable};
 ghost use Rattle.vdr_terms.specs.Records.{Record};

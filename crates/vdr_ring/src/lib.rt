@@ -1,4 +1,13 @@
 //! One medium as a ring of segments: opened, brought up, appended to at every moment, and read.
+//!
+//! A stop at any moment of an append leaves a legal medium that keeps its window and its pinned records.
+//!
+//! - A [`Ring`] has the directory of its medium and a buffer for one segment; the medium is lent to each call.
+//! - A batch goes into the newest segment, else into a new one in a closed slot, else into one in the victim's slot.
+//! - A [`Visit`] reads the records of one slot. A [`Cursor`] goes from slot to slot, and only into those of which the
+//!   segment may have a record that the query selects.
+//!
+//! docs/MEDIA.md, "The ring". Tests: vdr_media_tests, module rings.
 #![tactic(auto)]
 
 mod append;

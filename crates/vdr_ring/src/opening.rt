@@ -1,3 +1,4 @@
+// Opening one medium as a ring.
 ghost use Rattle.std.specs.Prelude.{◌≡◌, ◌+◌, ◌*◌, ◌<◌, ◌≤◌, ℕ, length, get_or, IfOk};
 ghost use Rattle.vdr_terms.specs.Needs.{Fits, slots_in};
 ghost use Rattle.vdr_outside.specs.Disk.{Unchanged, content};

@@ -1,3 +1,4 @@
+// The records that a medium keeps besides those of its window.
 ghost use Rattle.std.specs.Prelude.{◌≡◌, ◌<◌, [], ◌∷◌, ◌++◌, length, map};
 ghost use Rattle.vdr_ring.specs.Candidates.{pin_of};
 

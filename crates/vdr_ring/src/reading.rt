@@ -1,3 +1,4 @@
+// Reading the selected records of one slot, which is judged as it is read.
 ghost use Rattle.std.specs.Prelude.{◌≡◌, ◌≢◌, ◌⊎◌, ◌↔◌, ◌<◌, ◌≤◌, ◌+◌, ◌^◌, ℕ, get_or, true, false, IsTrue, IfOk, IfSome, IfNone, OnOk, OnErr, Option, Some, None, Ok, Err};
 ghost use Rattle.vdr_outside.specs.Causes.{NoneFalls, Rose, counted};
 ghost use Rattle.vdr_outside.specs.Disk.{Unchanged};

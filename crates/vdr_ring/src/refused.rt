@@ -1,3 +1,4 @@
+// Why a record is not read.
 use vdr_outside::Fault;
 
 /// Why a record is not read.

@@ -1,3 +1,4 @@
+// A ring without its medium: the directory, one buffer for a segment, and the window.
 use std::marker::Model;
 use vdr_directory::Directory;
 use vdr_segment::Area;

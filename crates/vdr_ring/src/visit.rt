@@ -1,3 +1,4 @@
+// A position in a segment, and the record there.
 ghost use Rattle.std.specs.Prelude.{◌≡◌, ◌↔◌, List, IsTrue, None, option_map};
 ghost use Rattle.vdr_terms.specs.Records.{Record as Entry};
 ghost use Rattle.vdr_segment.specs.Batches.{AreRecords};

@@ -1,3 +1,4 @@
+// Where the slots of a medium stand.
 ghost use Rattle.std.specs.Prelude.{◌≡◌, ◌≤◌};
 ghost use Rattle.vdr_segment.specs.Slots.{place_of};
 

@@ -1,3 +1,4 @@
+// Writing a batch: its gate, the length of its records, and the records.
 ghost use Rattle.std.specs.Prelude.{◌≡◌, ◌≤◌, ◌<◌, ◌+◌, ◌^◌, [], ◌∷◌, ◌++◌, length, All};
 ghost use Rattle.vdr_bytes.specs.Numbers.{Puts};
 ghost use Rattle.vdr_terms.specs.Legality.{IsRecord};

@@ -1,3 +1,4 @@
+// The header of a segment, with the summary of its records, read and written.
 ghost use Rattle.std.specs.Prelude.{◌≡◌, None, IfSome, IfNone, take, drop};
 ghost use Rattle.vdr_segment.specs.declared.header.Header.{Header as AHeader};
 ghost use Rattle.vdr_segment.specs.Headers.{IsHeader, TellsSummary, FitsSummary, new_header, summary_bytes};

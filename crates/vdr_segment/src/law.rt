@@ -1,3 +1,4 @@
+// The laws of segments: bytes are a segment in one way, walked in one way, whatever part of a write was torn.
 ghost use Rattle.std.specs.Prelude.{◌≡◌, ◌<◌, ◌+◌, ◌^◌, ◌∷◌, ◌++◌, ℕ, List, Option, None, IfSome, All, take, drop};
 ghost use Rattle.std.specs.List.{flat_map};
 ghost use Rattle.vdr_terms.specs.Records.{Record as Entry};

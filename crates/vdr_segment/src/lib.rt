@@ -1,6 +1,13 @@
-//! Segments: their headers, their batches of records, and a walk over the batches.
+//! Segments, and the slots of a medium that they stand in.
 //!
-//! The format, with an example: docs/MEDIA.md.
+//! A segment is a header and batches of records, each behind a gate: a byte that opens it once what stands behind it
+//! is synced. So a stop in any call leaves a slot as it was before or as it is after, and what is written reads back.
+//!
+//! - Segments as bytes: headers with their summaries, batches, and the walk from batch to batch.
+//! - Slots of an [`Area`]: read whole or by their front; begun, appended to, summarized and closed.
+//!
+//! docs/MEDIA.md, from "Gates" to "Batches", with a worked segment. Tests: vdr_media_tests, modules segments and
+//! slots.
 #![tactic(auto)]
 
 mod area;

@@ -1,3 +1,4 @@
+// Reading a slot, whole or its front alone.
 ghost use Rattle.std.specs.Prelude.{◌≡◌, ◌<◌, length, slice_get, IfOk, OnOk, Some};
 ghost use Rattle.vdr_outside.specs.Causes.{HasCauseOn, counted};
 ghost use Rattle.vdr_outside.specs.Disk.{Unchanged, content};

@@ -1,3 +1,4 @@
+// The laws of slots: bytes hold one list of slots, and what stands before them stays.
 ghost use Rattle.std.specs.Prelude.{◌≡◌, ◌<◌, ◌≤◌, ℕ, List, length, slice_get, Option, Some};
 ghost use Rattle.vdr_outside.specs.Parts.{part};
 ghost use Rattle.vdr_segment.specs.declared.header.Header.{Header as AHeader};

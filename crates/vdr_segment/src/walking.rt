@@ -1,3 +1,4 @@
+// Walking the batches of a segment.
 ghost use Rattle.std.specs.Prelude.{◌≡◌, ◌↔◌, List, IsTrue, IfSome, IfNone};
 ghost use Rattle.vdr_terms.specs.Records.{Record as Entry};
 ghost use Rattle.vdr_terms.specs.Sizes.{records_size};

@@ -1,3 +1,4 @@
+// Writing a slot, each gate behind a sync: a segment is begun, grows by a batch, gets its summary, and is closed.
 ghost use Rattle.std.specs.Prelude.{◌≡◌, ◌≢◌, ◌+◌, ◌<◌, ◌≤◌, [], ◌∷◌, ◌++◌, List, length, drop, slice_get, Option, None, Some, OnOk};
 ghost use Rattle.vdr_terms.specs.Records.{Record as Entry};
 ghost use Rattle.vdr_outside.specs.Disk.{InRange, Overwritten, content, over};

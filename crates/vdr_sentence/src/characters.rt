@@ -1,3 +1,4 @@
+// Which characters may stand where in a sentence, and which addresses are legal.
 ghost use Rattle.std.specs.Prelude.{◌≡◌, ◌==◌, ◌||◌, position};
 ghost use Rattle.std.specs.List.{list_all};
 ghost use Rattle.vdr_sentence.specs.Characters.{begins_with_code, each_passes, is_body_character, is_character, is_refused, is_start};

@@ -1,3 +1,4 @@
+// A sentence by its frame: the start, and what stands between it and the CR LF.
 ghost use Rattle.std.specs.Prelude.{◌≡◌, ◌≤◌, true, length};
 ghost use Rattle.vdr_sentence.specs.Characters.{is_start};
 

@@ -1,3 +1,4 @@
+// The law of reading: bytes are the sentence that is read, or have the refusal that is answered.
 ghost use Rattle.std.specs.Prelude.{◌≡◌, ◌↔◌, ℕ, List, Ok, Err, Some};
 ghost use Rattle.vdr_sentence.specs.declared.bad.Bad.{Bad};
 ghost use Rattle.vdr_sentence.specs.Refusals.{first_refusal, reading};

@@ -1,3 +1,4 @@
+// Reading a sentence, or the first refusal that holds of it.
 ghost use Rattle.std.specs.Prelude.{◌≡◌, ℕ, List, Ok, Err, Some, None, IfOk, IfErr, MatchResult, slice_index};
 ghost use Rattle.vdr_bytes.specs.Checksum.{covered};
 ghost use Rattle.vdr_sentence.specs.Refusals.{body, body_refusal, first_refusal, frame_refusal, reading};

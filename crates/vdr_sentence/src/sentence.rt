@@ -1,3 +1,4 @@
+// A sentence of IEC 61162-1, and its fields by number.
 ghost use Rattle.std.specs.Prelude.{◌≡◌, slice_get, option_copied};
 ghost use Rattle.vdr_sentence.specs.Addresses.{address_of};
 ghost use Rattle.vdr_sentence.specs.Fields.{fields};

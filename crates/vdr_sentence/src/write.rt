@@ -1,3 +1,4 @@
+// Writing a sentence with its checksum.
 ghost use Rattle.std.specs.Prelude.{◌≡◌, ◌≤◌, ◌+◌, ◌/◌, ◌%◌, ◌++◌, Ok, Some, None, IfNone, OnOk, OnErr, IfErr, length};
 ghost use Rattle.arrayvec.specs.ArrayVec.{array_vec_len};
 ghost use Rattle.vdr_bytes.specs.Checksum.{checksum};

@@ -1,3 +1,4 @@
+// How a session ended, and what it came to.
 use vdr_capture::{GroupSums, Outcome};
 use vdr_intake::{Intake, Taker};
 

@@ -1,3 +1,4 @@
+// The table of sources: the lines of sentence datagrams are counted into it, and its rows are printed.
 ghost use Rattle.std.specs.Prelude.{◌≡◌, ◌≤◌, ◌<◌, ◌+◌, ◌^◌, [], All, List, OnErr, OnOk, fold, length, map, vec_capacity, vec_len};
 ghost use Rattle.vdr_terms.specs.Stamps.{IsStamp};
 ghost use Rattle.vdr_durability.specs.Sources.{with_line};

@@ -1,3 +1,4 @@
+// Reading one TAG block: its items, and its checksum.
 ghost use Rattle.std.specs.Prelude.{◌≡◌, ◌∷◌, ◌<◌, ◌==◌, Some, None, OnOk, IfOk, IfErr, IfSome, IfNone, false, length};
 ghost use Rattle.std.specs.List.{after_first, before_first, position_or_len};
 ghost use Rattle.vdr_tag.specs.Values.{TagValues, over};

@@ -1,3 +1,4 @@
+// The codes of items in a TAG block.
 ghost use Rattle.std.specs.Prelude.{◌≡◌};
 
 /// The code of an item.

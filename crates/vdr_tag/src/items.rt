@@ -1,3 +1,4 @@
+// Reading the items of a TAG block.
 ghost use Rattle.std.specs.Prelude.{◌≡◌, ◌≤◌, ◌==◌, Some, None, IfOk, IfErr, OnOk, IfSome, IfNone, true, false, is_some};
 ghost use Rattle.std.specs.List.{after_first, before_first};
 ghost use Rattle.vdr_tag.specs.Values.{all_said, over};

@@ -1,3 +1,4 @@
+// The law of reading: TAG blocks at a front have the values that are read, or the refusal that is answered.
 ghost use Rattle.std.specs.Prelude.{◌≡◌, ◌↔◌, ℕ, List, Ok, Err};
 ghost use Rattle.vdr_tag.specs.declared.bad.BadTag.{BadTag};
 ghost use Rattle.vdr_tag.specs.Values.{TagValues};

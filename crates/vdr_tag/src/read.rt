@@ -1,3 +1,4 @@
+// Reading the TAG blocks at the front of a line.
 ghost use Rattle.std.specs.Prelude.{◌≡◌, ◌≤◌, ◌<◌, ◌==◌, Ok, Err, Some, None, IfOk, IfErr, MatchResult, length};
 ghost use Rattle.std.specs.List.{after_first, before_first, position_or_len};
 ghost use Rattle.vdr_tag.specs.Values.{TagValues, over};

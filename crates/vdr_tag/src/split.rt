@@ -1,3 +1,4 @@
+// Splitting bytes at the first byte of a value.
 ghost use Rattle.std.specs.Prelude.{◌≡◌, ◌≤◌, ◌<◌, ◌==◌, [], ◌∷◌, IfSome, IfNone, length, position};
 ghost use Rattle.std.specs.List.{after_first, before_first, position_or_len};
 ghost use Rattle.vdr_tag.specs.Parts.{parts};

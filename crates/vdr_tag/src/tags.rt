@@ -1,3 +1,4 @@
+// What the TAG blocks at the front of a line say.
 ghost use Rattle.std.specs.Prelude.{◌≡◌};
 ghost use Rattle.vdr_tag.specs.Values.{nothing};
 ghost use Rattle.vdr_tag.specs.Views.{values_of};

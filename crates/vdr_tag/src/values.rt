@@ -1,3 +1,4 @@
+// The values of items, each by its code.
 ghost use Rattle.std.specs.Prelude.{◌≡◌, ◌≤◌, ◌&&◌, [], ◌∷◌, Some, None, IfSome, IfNone, true, false, is_some, nat_le};
 ghost use Rattle.vdr_tag.specs.Parts.{parts};
 ghost use Rattle.vdr_tag.specs.Values.{code_named, grouping, is_identifier, said_by};

@@ -1,3 +1,4 @@
+// Which datagrams can be recorded, by their length and their token.
 ghost use Rattle.std.specs.Prelude.{◌≡◌};
 ghost use Rattle.vdr_terms.specs.Datagrams.{has_token, is_letter, verdict};
 

@@ -1,3 +1,4 @@
+// The names and numbers of the transmission groups (IEC 61162-450).
 ghost use Rattle.std.specs.Prelude.{◌≡◌, ◌≤◌, ◌<◌, Some, IfSome};
 ghost use Rattle.vdr_terms.specs.Groups.{group_name, group_numbered};
 

@@ -1,3 +1,4 @@
+// Captures: each datagram is pushed, or counted by its cause.
 ghost use Rattle.std.specs.Prelude.{◌≡◌, ◌≤◌, ◌<◌};
 
 mod beside;

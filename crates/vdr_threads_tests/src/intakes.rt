@@ -1,3 +1,4 @@
+// Queues: an item is popped once and in order, handed back, or counted as full.
 ghost use Rattle.std.specs.Prelude.{◌≡◌, ◌≤◌, ◌<◌, ◌+◌, [], ◌∷◌, length, None};
 ghost use Rattle.vdr_terms.specs.Records.{total};
 ghost use Rattle.vdr_intake.specs.Items.{most_items};

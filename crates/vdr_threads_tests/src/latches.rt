@@ -1,3 +1,5 @@
+// The latch: turns of two threads, and a value that holds a reference.
+
 mod counter;
 mod lent;
 

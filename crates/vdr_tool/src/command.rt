@@ -1,3 +1,4 @@
+// The commands that wait for nobody, behind their words.
 ghost use Rattle.std.specs.Prelude.{◌≡◌, ◌≤◌, ◌⊎◌, length};
 ghost use Rattle.vdr_tool.specs.Commands.{plain};
 ghost use Rattle.vdr_command.specs.Endings.{ending};

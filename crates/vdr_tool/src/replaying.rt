@@ -1,4 +1,4 @@
-// Recorder a feed on the media.
+// Recording a feed on the media.
 ghost use Rattle.std.specs.Prelude.{◌≡◌, ◌≤◌, Err, length};
 ghost use Rattle.vdr_command.specs.Endings.{ending};
 ghost use Rattle.vdr_tool.specs.Replays.{PrintsRun, Replays};

@@ -1,3 +1,4 @@
+// Whether words ask for a command that uses the media.
 ghost use Rattle.std.specs.Prelude.{◌≡◌, true, false};
 ghost use Rattle.vdr_tool.specs.Commands.{Asked};
 ghost use Rattle.vdr_tool.specs.Runs.{Asks, page};

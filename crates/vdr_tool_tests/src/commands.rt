@@ -1,3 +1,4 @@
+// The commands of the program, over inputs, outputs and media in memory.
 ghost use Rattle.std.specs.Prelude.{◌≡◌, ◌≤◌, length, IfOk};
 ghost use Rattle.vdr_outside.specs.Disk.{Disk};
 

@@ -1,3 +1,4 @@
+// Bytes as printable ASCII characters, the others as `<hh>`, appended to a text.
 ghost use Rattle.std.specs.Prelude.{◌≡◌, ◌≤◌, ◌<◌, ◌+◌, ◌++◌, length};
 ghost use Rattle.arrayvec.specs.ArrayVec.{array_vec_len};
 ghost use Rattle.vdr_entry.specs.Escape.{escaped, escaped_byte, hex_digit, is_plain};

@@ -1,3 +1,4 @@
+// What the fields of a reading say, by its formatter.
 use crate::value::{Angle, Num, Time};
 
 /// The fields of a reading by its formatter, in the order of the sentence (IEC 61162-1). An empty field is None.

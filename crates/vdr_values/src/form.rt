@@ -1,3 +1,4 @@
+// The forms of fields, and the values that texts of these forms have.
 ghost use Rattle.std.specs.Prelude.{◌≡◌, ◌≤◌, true, option_and_then, option_map};
 ghost use Rattle.vdr_values.specs.Forms.{form_value, is_sound};
 ghost use Rattle.vdr_values.specs.Forms as form;

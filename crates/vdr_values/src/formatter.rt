@@ -1,3 +1,4 @@
+// The formatters whose fields are read.
 ghost use Rattle.std.specs.Prelude.{◌≡◌, ◌==◌, bytes_eq, find, slice_index};
 ghost use Rattle.vdr_values.specs.Table.{formatter_of, formatters, row};
 

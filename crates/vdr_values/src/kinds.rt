@@ -1,3 +1,4 @@
+// The values of a reading at an index, each of its kind.
 ghost use Rattle.std.specs.Prelude.{◌≡◌};
 ghost use Rattle.vdr_values.specs.Kinds.{as_angle, as_digits, as_letter, as_number, as_raw, as_time};
 ghost use Rattle.vdr_values.specs.Values.{value_at};

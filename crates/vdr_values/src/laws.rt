@@ -1,3 +1,4 @@
+// The law of reading: values, or a refused field, are read exactly where the table's row says so.
 ghost use Rattle.std.specs.Prelude.{◌≡◌, ◌↔◌, ℕ, List, Option, Ok, Err, Some, None};
 ghost use Rattle.vdr_sentence.specs.Addresses.{address_of};
 ghost use Rattle.vdr_values.specs.declared.formatter.Formatter.{Formatter};

@@ -1,3 +1,4 @@
+// Cutting a text at its first comma.
 ghost use Rattle.std.specs.Prelude.{◌≡◌, ◌≤◌, ◌==◌, ◌∷◌, [], IfSome, IfNone, length, position};
 ghost use Rattle.std.specs.List.{position_or_len};
 ghost use Rattle.vdr_values.specs.Readings.{fields_behind};

@@ -1,3 +1,4 @@
+// Reading the fields of a sentence in the forms of its row.
 ghost use Rattle.std.specs.Prelude.{◌≡◌, ◌≤◌, true, drop, length, map, option_map, Some, None, MatchResult};
 ghost use Rattle.std.specs.List.{list_all};
 ghost use Rattle.vdr_sentence.specs.Fields.{fields};

@@ -1,3 +1,4 @@
+// A reading: the formatter of a sentence, and the values of its fields.
 ghost use Rattle.std.specs.Prelude.{◌≡◌, ◌↔◌, true, Ok, Some, None};
 ghost use Rattle.vdr_values.specs.Table.{formatter_of};
 ghost use Rattle.vdr_values.specs.Readings.{reading};

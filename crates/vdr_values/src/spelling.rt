@@ -1,3 +1,4 @@
+// Reading numbers, times and angles from their digits.
 ghost use Rattle.std.specs.Prelude.{◌≡◌, ◌≤◌, ◌<◌, ◌^◌, ◌++◌, ◌-◌, length, drop, replicate, option_map, IfSome};
 ghost use Rattle.vdr_values.specs.Spellings.{magnitude, millionths, parted, signed_number};
 ghost use Rattle.vdr_values.specs.Forms.{form_value};

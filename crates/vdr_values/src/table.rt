@@ -1,3 +1,4 @@
+// The table of sentences: of each formatter the forms of its fields, and the text of a reading.
 ghost use Rattle.std.specs.Prelude.{◌≡◌, ◌≤◌, true, map, length};
 ghost use Rattle.std.specs.List.{list_all};
 ghost use Rattle.vdr_values.specs.Forms.{is_sound};

@@ -1,3 +1,4 @@
+// The values of fields: numbers, times, angles, digits, letters and bytes.
 ghost use Rattle.std.specs.Prelude.{◌≤◌, ◌<◌, ◌^◌};
 
 /// A decimal number of up to nine digits before the point and six behind it.

@@ -1,3 +1,4 @@
+// From the values of a sentence to its fields by name, a function for each formatter.
 ghost use Rattle.std.specs.Prelude.{◌≡◌};
 ghost use Rattle.vdr_values.specs.Kinds.{kept_as};
 ghost use Rattle.vdr_values.specs.Views.{told_by, values_of};

@@ -1,3 +1,4 @@
+// A commit: one batch appended to the capsule, and then to the long-term medium.
 ghost use Rattle.std.specs.Prelude.{◌≡◌, ◌≤◌, ◌<◌, ℕ, List, length, false};
 ghost use Rattle.vdr_terms.specs.Records.{last};
 ghost use Rattle.vdr_terms.specs.Sizes.{records_size};

@@ -1,3 +1,4 @@
+// The laws of a vault: what a stop leaves of it at rest, which media are sound, and which segments meet a query.
 ghost use Rattle.std.specs.Prelude.{◌≡◌, ◌∷◌, ◌++◌, ℕ, List, []};
 ghost use Rattle.vdr_core.specs.Histories.{Event, Opening, all_records, incidents, records_of_act, table_after};
 ghost use Rattle.vdr_durability.specs.Readings.{EndsMeet};

@@ -1,4 +1,15 @@
 //! The capsule and the long-term medium as one vault: a batch goes to both, and both are played.
+//!
+//! What was acknowledged is on the media after a stop at any moment, and over any number of runs and stops they hold
+//! just what was recorded.
+//!
+//! - The [`Vault`] is opened, commits batches, saves and releases incidents, and gives the records that a query
+//!   selects.
+//! - A visit hands these records to a [`Visitor`], which makes something of them, such as their text.
+//! - The laws of a life say what media hold that were formatted once and then used, run after run.
+//!
+//! docs/MEDIA.md, "How the media are opened" and "How a batch goes to both media". Tests: vdr_media_tests, module
+//! vaults; vdr_tool_tests, module lives.
 #![tactic(auto)]
 
 mod appending;

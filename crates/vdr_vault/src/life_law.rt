@@ -1,3 +1,4 @@
+// The laws of a life: what media hold that were formatted once, over any number of runs and stops.
 ghost use Rattle.std.specs.Prelude.{◌≡◌, ◌++◌, ℕ, List, Contains, Some};
 ghost use Rattle.vdr_terms.specs.Windows.{window};
 ghost use Rattle.vdr_core.specs.Histories.{Event, Incident, incidents, recorded};

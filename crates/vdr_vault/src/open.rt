@@ -1,3 +1,4 @@
+// Opening both media: synced, read, and the last batch appended where the long-term medium lacks it.
 ghost use Rattle.std.specs.Prelude.{◌≡◌, ◌≢◌, ◌⊎◌, ◌+◌, ◌<◌, ◌≤◌, ℕ, List, [], length, All, IfOk, OnOk, Err, false};
 ghost use Rattle.vdr_terms.specs.Sizes.{batch_size};
 ghost use Rattle.vdr_durability.specs.Readings.{AreLevel, EndsMeet};

@@ -1,3 +1,4 @@
+// Playing what a query selects, record by record, from the medium that has it.
 ghost use Rattle.std.specs.Prelude.{◌≡◌, ◌≢◌, ◌<◌, ◌↔◌, ℕ, List, true, None, Some, Ok, Err, All, option_map, get_or};
 ghost use Rattle.vdr_terms.specs.Records.{Record as Entry, last, second};
 ghost use Rattle.vdr_terms.specs.Queries.Span.{Window};

@@ -1,3 +1,4 @@
+// Why an incident is not saved.
 use vdr_incident::TableRefused;
 use vdr_ring::ReadRefused;
 

@@ -1,3 +1,4 @@
+// Both media as they were opened, without the media themselves.
 ghost use Rattle.std.specs.Prelude.{◌≡◌, ◌<◌, ℕ, List, option_map};
 ghost use Rattle.vdr_terms.specs.Records.{last};
 ghost use Rattle.vdr_durability.specs.Readings.{next_after};

@@ -1,3 +1,4 @@
+// Handing the records that a query selects to a visitor, in few writes.
 ghost use Rattle.std.specs.Prelude.{◌≡◌, ◌⊎◌, [], length, true, Err};
 ghost use Rattle.vdr_durability.specs.Playback.{medium_of};
 ghost use Rattle.vdr_entry.specs.Queries.{asked};

@@ -1,3 +1,4 @@
+// Why a visitor stops, and why a visit ended before its end.
 use vdr_outside::Failed;
 use vdr_ring::ReadRefused;
 

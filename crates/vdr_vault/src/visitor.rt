@@ -1,3 +1,4 @@
+// What makes something of records, as a trait.
 ghost use Rattle.std.specs.Prelude.{◌≡◌, ◌∷◌, ◌++◌, ℕ, List, [], Err, OnOk};
 ghost use Rattle.vdr_terms.specs.Records.{Record as Entry};
 ghost use Rattle.vdr_vault.specs.Refusals.{HasOutputCause, IfOwn};

@@ -1,3 +1,4 @@
+// Why a record was not watched.
 use std::alloc::AllocError;
 use vdr_outside::Failed;
 

@@ -1,3 +1,4 @@
+// The laws of supervision: what records show is told record by record, and by the last heartbeats.
 ghost use Rattle.std.specs.Prelude.{◌≡◌, ◌++◌, ◌∷◌, [], List};
 ghost use Rattle.vdr_terms.specs.Records.{Record};
 ghost use Rattle.vdr_watch.specs.Signs.{Sign};

@@ -1,3 +1,4 @@
+// Supervision of equipment, record by record, and at the end of the records.
 ghost use Rattle.std.specs.Prelude.{◌≡◌, ◌≤◌, ◌∷◌, ◌++◌, [], List, Err, OnOk};
 ghost use Rattle.std.specs.Io.KnownBytes.{Appends};
 ghost use Rattle.vdr_outside.specs.Causes.{HasCause, Rose};

@@ -1,3 +1,4 @@
+// The writes and syncs of formatting, one by one.
 use super::*;
 use vdr_memory::{Call, Work};
 

@@ -1,3 +1,4 @@
+// What a stop or a fault leaves of media that are being formatted.
 use super::*;
 use vdr_memory::Torn;
 

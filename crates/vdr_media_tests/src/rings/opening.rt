@@ -1,3 +1,4 @@
+// A ring as it is opened: read, damaged at an offset, or met by a fault.
 ghost use Rattle.std.specs.Prelude.{◌<◌};
 ghost use Rattle.vdr_segment.specs.Areas.{HasRoom};
 

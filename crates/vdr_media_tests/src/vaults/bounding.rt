@@ -1,3 +1,4 @@
+// How many bytes a play reads of a medium.
 ghost use Rattle.std.specs.Prelude.{◌≤◌};
 ghost use Rattle.vdr_terms.specs.Sizes.{batch_size};
 

@@ -1,3 +1,4 @@
+// A batch that stands on both media.
 use super::vault::VaultBench;
 use super::{BENCH, BENCH_SIZES, UTC, formatted, last_on};
 use std::test::Fail;

@@ -1,3 +1,4 @@
+// A batch that the capsule alone has, and openings that are stopped.
 use super::vault::open;
 use super::{append, contents_of, formatted, last_on, ring_on, stopping};
 use std::alloc::Global;

@@ -1,3 +1,4 @@
+// The records that queries select.
 ghost use Rattle.std.specs.Prelude.{◌≡◌, ◌≤◌};
 ghost use Rattle.vdr_terms.specs.Sizes.{batch_size, record_size};
 

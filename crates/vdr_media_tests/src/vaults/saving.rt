@@ -1,3 +1,4 @@
+// Incident saves: in which order they are refused, and what a stop leaves.
 use super::vault::VaultBench;
 use super::{BENCH, BENCH_SIZES, contents_of, formatted, stopping};
 use std::alloc::Global;
