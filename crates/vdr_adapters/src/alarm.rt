@@ -1,4 +1,7 @@
 // The word that the media have failed.
+//
+// Once a medium can't be written or synced the ports and the link end, so that the process ends with status 5 and
+// its unit begins anew. A read that fails is no reason: it ends one play.
 use std::sync::atomic::{AtomicU64, Ordering};
 
 /// Whether a medium could not be written or synced. It never goes back. Where a recording has it, its ports and its link end then, and so

@@ -1,4 +1,7 @@
 // One medium as a file.
+//
+// The sync of a file that may only be read succeeds where its file system has no syncs, since nothing was written
+// that it could lose; of a file that may be written each failed sync is a fault.
 ghost use Rattle.std.specs.Prelude.{◌≡◌, ◌+◌, ◌-◌, ◌^◌, min, length};
 ghost use Rattle.vdr_outside.specs.Causes.{HasCause};
 

@@ -1,4 +1,7 @@
 // Both media as the files capsule.vdr and longterm.vdr of a folder, locked while they are open.
+//
+// The capsule's lock is asked for first, so that of two processes at once one goes on. Where one file may only be
+// read both are opened so: else a command that fails half way would leave the capsule ahead.
 ghost use Rattle.std.specs.Prelude.{◌≡◌, [], ◌∷◌};
 ghost use Rattle.vdr_outside.specs.Untold.{sizes_alone};
 

@@ -1,4 +1,6 @@
 // The bytes of a peer that were not given as a line yet.
+//
+// A line is counted without its CR and LF, so that one of 256 bytes is none too long.
 ghost use Rattle.std.specs.Prelude.{◌≡◌, ◌≢◌, ◌≤◌, ◌<◌, false, None, [], length, IfSome};
 ghost use Rattle.vdr_outside.specs.Calls.{other};
 ghost use Rattle.vdr_outside.specs.Hears.{Hears, heard_answer};

@@ -1,4 +1,8 @@
 // The link of an operator over TCP, one connection after another.
+//
+// A call for a line waits once, for a peer or for bytes, so that a peer that sends a byte at a time delays no other
+// call. A peer is hung up on by the waits within one order, and not by the time, so that a long play to a peer that
+// reads goes on.
 ghost use Rattle.std.specs.Prelude.{◌≡◌, ◌≢◌, None};
 ghost use Rattle.vdr_outside.specs.Calls.{other};
 ghost use Rattle.vdr_outside.specs.Hears.{Hears, heard_answer};

@@ -1,4 +1,8 @@
 // The messages that the lines of sentence datagrams carry.
+//
+// A message is defined by a look back over all lines of its key; the code keeps one message of each key that has
+// begun. A line that carries no part ends nothing, since nothing in it says whose it is. A part 0, and one behind
+// the last, are parts of their key and end what has begun.
 ghost use Rattle.std.specs.Prelude.{◌≡◌, ◌++◌, [], IfOk, List, OnErr, OnOk, option_and_then, option_map, option_to_list};
 ghost use Rattle.vdr_ais.specs.Lines.{Line as ALine, line_as};
 ghost use Rattle.vdr_ais.specs.Messages.{message_behind};

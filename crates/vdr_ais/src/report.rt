@@ -1,4 +1,7 @@
 // What a message reports.
+//
+// Names and numbers are kept as they were sent, "not available" among them: what to make of them is for who reads
+// the table.
 ghost use Rattle.std.specs.Prelude.{◌≡◌, ◌≤◌, length, option_map};
 ghost use Rattle.vdr_ais.specs.Bits.{bits_of};
 ghost use Rattle.vdr_ais.specs.Reports.{position_in, report_in};

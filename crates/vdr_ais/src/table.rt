@@ -1,4 +1,7 @@
 // The table of ships: the lines of sentence datagrams are read into it, and its rows are printed.
+//
+// The places of all lines of a record are made before any is taken, so that a refusal leaves the table as it was. So
+// many reports that 64 bits can't count them stay at the greatest number.
 ghost use Rattle.std.specs.Prelude.{◌≡◌, ◌≤◌, ◌+◌, All, IfOk, OnErr, OnOk, [], fold, length, vec_capacity, vec_len};
 ghost use Rattle.vdr_terms.specs.Stamps.{IsStamp};
 ghost use Rattle.vdr_ais.specs.Lines.{Key, lines_in};

@@ -1,4 +1,7 @@
 // Captures of several lanes beside each other.
+//
+// There are as many threads as lanes: with fewer two lanes could share one, and a port that waits for what another
+// gives would wait until its takes are used up.
 ghost use Rattle.std.specs.Prelude.{◌≤◌, ◌<◌, ℕ, All, length, slice_index_or};
 ghost use Rattle.vdr_intake.specs.Items.{most_items};
 ghost use Rattle.vdr_capture.specs.Lanes.{IsReadyAmong, CapturesHeld};

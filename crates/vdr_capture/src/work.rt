@@ -1,4 +1,7 @@
 // The work on a lane: what the port gives is pushed into its queue or counted.
+//
+// Where a port tells nothing the contract still says that some items, no more than the takes that gave no end, were
+// pushed or counted.
 ghost use Rattle.std.specs.Prelude.{◌≡◌, ◌≤◌, []};
 ghost use Rattle.vdr_terms.specs.Counting.{no_tally};
 ghost use Rattle.vdr_outside.specs.Causes.{Rose};

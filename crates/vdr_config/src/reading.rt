@@ -1,4 +1,7 @@
 // A configuration from its text.
+//
+// That want of memory comes only where a growth was refused no clause can say; the paths of keys are made as they
+// are refused.
 ghost use Rattle.std.specs.Prelude.{◌≡◌, ◌≤◌, ◌*◌, length, true, None, IfOk, OnOk, All};
 ghost use Rattle.serde_json.specs.View.{view};
 ghost use Rattle.vdr_config.specs.Configuration.{is_selection, is_ship, HasShipWindows};

@@ -9,6 +9,9 @@
 //! - What a run adds up to, and that its records run on: the laws below.
 //!
 //! It has laws and no code: docs/PROVED.md.
+//!
+//! In a history of the machine the power may fail and the run go on with the next; a recorder's history begins anew
+//! with each opening. Each stretch between two failures is one, since the machine may begin at any place and stamp.
 #![tactic(auto)]
 
 ghost use Rattle.std.specs.Prelude.{◌≡◌, ◌<◌, List, [], Option, ℕ};

@@ -1,4 +1,8 @@
 // Which channels of a configuration select a datagram, as bits.
+//
+// A channel's formatter and source are met by one line. A sentence datagram without a good line is selected by no
+// channel, and an opaque one selects bytes without a token too: whether it is asked of such is for its callers. A
+// source of an image that has not six bytes selects none.
 ghost use Rattle.std.specs.Prelude.{◌≡◌, ◌<◌, ◌≤◌, ◌^◌, ◌↔◌, ◌&&◌, ◌==◌, ℕ, true, Some, length, slice_get};
 ghost use Rattle.std.specs.Int.{bit_at};
 ghost use Rattle.std.specs.List.{list_any};

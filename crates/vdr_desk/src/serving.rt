@@ -1,4 +1,7 @@
 // The worker of a link.
+//
+// A reply that fails ends its link's worker, as a call for a line that fails does; a link that outlives a peer
+// answers Ok for a reply that the peer has not read.
 ghost use Rattle.std.specs.Prelude.{◌≡◌, ◌<◌, ℕ, List, Some, false, length, slice_index_or};
 ghost use mathlib.Core.List.{IsPrefix};
 ghost use Rattle.vdr_latch.specs.Passes.{Passing};

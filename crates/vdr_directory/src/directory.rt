@@ -1,4 +1,7 @@
 // The directory of a medium's segments, which is kept as segments are begun, grow, are left and are closed.
+//
+// A directory keeps the index, the newest segment and the last record, and nothing else of a slot. A segment without
+// records can only be the newest, and is not in the index.
 ghost use Rattle.std.specs.Prelude.{◌≡◌, ◌<◌, ◌+◌, ◌^◌, ◌++◌, ◌∷◌, [], ℕ, List, length, replicate, All, IfOk, IfSome, IfNone, MatchOption, get_or, option_map, set, Some, None};
 ghost use Rattle.vdr_terms.specs.Records.{Record as ARecord};
 ghost use Rattle.vdr_entry.specs.declared.summary.Summary.{Summary as ASummary};

@@ -1,4 +1,7 @@
 // What a directory keeps of the newest segment, and of the last record.
+//
+// Which segment is to get a summary as it is left is not kept: it is the newest of the index, which knows nothing of
+// one without records.
 ghost use Rattle.std.specs.Prelude.{◌≡◌, ◌<◌, ◌∷◌, [], ℕ, List, All, IfSome, MatchOption, length, option_map, Some, None};
 ghost use Rattle.vdr_terms.specs.Records.{last};
 ghost use Rattle.vdr_index.specs.Extents.{extent_of};

@@ -1,4 +1,8 @@
 // The order in a medium (this project's profile).
+//
+// A summary that can't stand for records breaks the order at its header: one of no records, one that ends before it
+// begins, one with a place or a millisecond from 2^63 on. Of two segments of one number the one in the later slot
+// does.
 ghost use Rattle.std.specs.Prelude.{◌≡◌, ◌↔◌, ◌<◌, ◌≤◌, ◌-◌, ℕ, suc, List, IsTrue, Option, IfSome, IfNone, MatchOption, SomeIff, Some, None, length, option_copied, slice_get};
 ghost use Rattle.vdr_directory.specs.Sequence.{Placed, first_of};
 ghost use Rattle.vdr_directory.specs.Knowns.{next_known, HasNoneBy, MayStand, IsWhole, RunsOnBy, TicksRiseBy, SecondsRiseBy, FollowsBy, MayFollowBy, MayPrecedeBy, IsInPlaceBy, AreInOrderBy, BreaksBy};

@@ -1,4 +1,7 @@
 // The laws of ends: where the media meet at the last batch, and which of them lack it.
+//
+// The medium whose end is off is the first with which the media no longer meet; where the leading one is empty, the
+// first that isn't.
 ghost use Rattle.std.specs.Prelude.{◌≡◌, ◌⊎◌, ◌<◌, [], ◌++◌, ℕ, List, Some, None, Contains, length};
 ghost use Rattle.vdr_terms.specs.Records.{Record, last};
 ghost use Rattle.vdr_durability.specs.Readings.{AreLevel, EndsMeet, EndsOff, IsPassedOn, Reading, leading_batch};

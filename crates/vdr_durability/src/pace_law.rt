@@ -1,4 +1,8 @@
 // The laws of pace: how many bytes a recorder commits in a second, and that each of its batches may come next.
+//
+// A record that is no Gap pays for its batch's five bytes: each batch has one in the second of its first record.
+// With the Gap before it a Datagram costs 133 bytes and its own, of 140; a Start and a Stop 49 each, of the 128 that
+// each second has.
 ghost use Rattle.std.specs.Prelude.{◌≡◌, ◌<◌, ◌≤◌, ◌+◌, ◌*◌, ◌/◌, [], ◌∷◌, ◌++◌, ℕ, List, All, length, map, sum_by};
 ghost use Rattle.vdr_terms.specs.declared.counts.Counts.{Counts};
 ghost use Rattle.vdr_terms.specs.Needs.{Sizes, cost};

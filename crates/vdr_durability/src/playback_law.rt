@@ -1,4 +1,7 @@
 // The laws of playback: what a query, the table of sources, and an operator's orders give of a history.
+//
+// The table of sources is a fold over lines, of any reading that gives a name, a count and whether the line is good.
+// A line without a source counts for `-`, and shares its row with a source of that very name.
 ghost use Rattle.std.specs.Prelude.{◌≡◌, ◌<◌, [], ◌∷◌, ◌++◌, ℕ, List, All, Some, false, filter};
 ghost use Rattle.vdr_terms.specs.Order.{AreInOrder};
 ghost use Rattle.vdr_terms.specs.Queries.{Query, Span, matches, meets};

@@ -1,4 +1,7 @@
 // The law of unbroken windows: where no place is skipped in a window, none is as batches follow.
+//
+// What a medium holds gives exactly the window of all that it was given; so it has no hole there where the history
+// has none, and nothing is said of holes along the stages of an append.
 ghost use Rattle.std.specs.Prelude.{◌≡◌, ◌<◌, ◌≤◌, [], ◌++◌, ℕ, List, Contains};
 ghost use Rattle.vdr_terms.specs.Order.{AreInOrder};
 ghost use Rattle.vdr_terms.specs.Records.{Record, last};

@@ -1,4 +1,8 @@
 // Records that are made where they stand.
+//
+// Records are made where they stand, their bytes copied at their own length. In a Vec each was made apart and moved,
+// and 1.5 kB filled and copied several times. All bytes in one buffer would take less memory, but then a record is
+// no value whose type keeps that it is legal.
 ghost use Rattle.std.specs.Prelude.{◌≡◌, ◌≤◌, ◌<◌, ◌^◌, ◌∷◌, ◌++◌, [], length, take, vec_capacity, IfOk};
 ghost use Rattle.vdr_terms.specs.declared.datagram.Verdict.TheVariants.{Yes};
 ghost use Rattle.vdr_terms.specs.Datagrams.{verdict};

@@ -1,4 +1,7 @@
 // UTC stamps as text, written and read (ISO 8601).
+//
+// A text is a stamp's exactly where `write_utc` writes it: the calendar judges the date, and the stamp is written
+// once more and compared. So a second 60 and a date before 1970 need no rule of their own.
 ghost use Rattle.std.specs.Prelude.{◌≡◌, ◌++◌, ℕ, ℤ, pos, unsigned_abs, ◌≤◌, ◌<◌, ◌+◌, ◌%◌, codes, length, Some, IfSome, IfNone};
 ghost use Rattle.jiff.specs.Words.{IsDate, epoch_day};
 ghost use Rattle.jiff_core.specs.Calendar.{days_from_civil};

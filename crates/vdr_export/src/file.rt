@@ -1,4 +1,7 @@
 // A file out of what a query selects.
+//
+// A channel or an incident that is not there is no refusal of a file: whoever asks for the file asks for those first
+// (`Recorder::accept`).
 ghost use Rattle.std.specs.Prelude.{◌≡◌, ◌⊎◌, ℕ, List, true, Ok, Err, IfErr};
 ghost use Rattle.vdr_core.specs.Histories.{Event, Opening};
 ghost use Rattle.vdr_durability.specs.Playback.{selected};

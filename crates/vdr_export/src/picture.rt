@@ -1,4 +1,7 @@
 // The image of a block out of what a query selects.
+//
+// Parts are kept until the last was met, at most 65,535: to keep only where they are would need a pass for each. Of
+// a part that was recorded twice the first counts.
 ghost use Rattle.std.specs.Prelude.{◌≡◌, ◌⊎◌, ℕ, List, true, Ok, Err, IfErr, OnErr};
 ghost use Rattle.vdr_core.specs.Histories.{Event, Opening};
 ghost use Rattle.vdr_durability.specs.Playback.{selected};

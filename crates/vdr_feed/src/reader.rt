@@ -1,4 +1,7 @@
 // The reader of a feed: its header, and then one item after another.
+//
+// `header` reads eight bytes at most, also where it refuses. A reader keeps the memory into which it reads a body,
+// so that none is filled with zeros for each item. A negative stamp is read as a number from 2^63 on, and refused.
 ghost use Rattle.std.specs.Prelude.{◌≡◌, ◌≢◌, ◌≤◌, ◌<◌, ◌^◌, true, false, None, Some, Err, ℕ, List, length, take, IfOk, IfErr, OnOk, IsErrOf};
 ghost use Rattle.std.specs.Io.KnownBytes.{Consumes};
 ghost use Rattle.vdr_feed.specs.Failing.{HasReadCause, ReadsPart};

@@ -1,4 +1,6 @@
 // What a group has missed since its last Datagram record, until the next Gap.
+//
+// `datagram` moves past an item whatever is pending: the recorder takes the gap before, so that nothing is lost.
 ghost use Rattle.std.specs.Prelude.{◌≡◌, ◌≤◌, ◌<◌, ◌+◌, ◌^◌, IsNone, IfSome, ◌↔◌};
 ghost use Rattle.vdr_terms.specs.Records.{total};
 

@@ -1,4 +1,6 @@
 // The tally of a port's worker: what it pushed, and what was missed by cause.
+//
+// The totals stand beside what was missed since the last push, since a port's summary needs them.
 ghost use Rattle.std.specs.Prelude.{◌≡◌, ◌≤◌, ◌<◌, ◌+◌, ◌^◌};
 ghost use Rattle.vdr_terms.specs.Records.{total};
 

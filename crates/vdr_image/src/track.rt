@@ -1,4 +1,7 @@
 // The track of a stream of images: how each header follows the one before.
+//
+// A track keeps no reference: source, block, sequence number and greatest tell all of the step. Within a block a
+// step looks at the sequence number alone.
 ghost use Rattle.std.specs.Prelude.{◌≡◌, Some, None};
 ghost use Rattle.vdr_image.specs.Tracks.{follows, part_of};
 ghost use Rattle.vdr_image.specs.Views.{header_of};

@@ -1,4 +1,7 @@
 // Reading the incident slots of the long-term medium.
+//
+// Whether the places are on the medium is not asked here: the bytes alone say whether a slot is legal. Bytes of a
+// negative stamp are no save.
 ghost use Rattle.std.specs.Prelude.{◌≡◌, ◌≤◌, ◌<◌, ℕ, Option, IfOk, OnOk, length, Err};
 ghost use Rattle.vdr_core.specs.Histories.{Incident};
 ghost use Rattle.vdr_outside.specs.Causes.{HasCauseOn, counted};

@@ -1,4 +1,7 @@
 // Writing an incident slot, and closing its gate.
+//
+// A save writes 97 bytes behind its gate, zeros behind a short label, so that each makes the same calls. A release
+// writes the gate alone.
 ghost use Rattle.std.specs.Prelude.{◌≡◌, ◌<◌, ℕ, List, set, slice_get, Option, None, Some, OnOk};
 ghost use Rattle.vdr_core.specs.Histories.{Incident};
 ghost use Rattle.vdr_outside.specs.Disk.{content};

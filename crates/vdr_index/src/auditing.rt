@@ -1,4 +1,7 @@
 // Auditing a segment: whether its batches are legal and agree with the summary in its header.
+//
+// An audit surveys batch by batch and asks of each whether it is within the summary, so that it has no state of its
+// own; a front of records that agree agrees, so one offset is the first.
 ghost use Rattle.std.specs.Prelude.{◌≤◌, List, length, drop, IfOk, IfErr};
 ghost use Rattle.vdr_terms.specs.Records.{Record as Entry};
 ghost use Rattle.vdr_segment.specs.Segments.{AreBatches};

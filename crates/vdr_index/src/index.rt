@@ -1,4 +1,8 @@
 // The index of a medium: what is known of the segment in each slot, and which of them may answer a query.
+//
+// The slots stand in one order, those with a segment by number and then by slot, then the clear ones, so that a
+// search begins where the numbers above the given one begin. A begun segment moves 4-byte numbers, and none where it
+// comes behind all.
 ghost use Rattle.std.specs.Prelude.{◌≡◌, ◌≢◌, ◌<◌, ◌^◌, ℕ, length, replicate, set, get_or, option_map, Some, None, IfOk, IfSome, IfNone};
 ghost use Rattle.vdr_entry.specs.Queries.{asked};
 ghost use Rattle.vdr_index.specs.declared.known.Known.{Known as AKnown};

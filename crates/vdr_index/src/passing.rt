@@ -1,4 +1,7 @@
 // Passing by the records of a segment that are not selected.
+//
+// What is not selected is passed by at its head, where its bytes stand, so that a payload that nobody asked for is
+// not copied.
 ghost use Rattle.std.specs.Prelude.{◌≡◌, ◌<◌};
 ghost use Rattle.vdr_index.specs.Positions.{IsAt};
 ghost use Rattle.vdr_index.specs.Selections.{Passes, StartsSelected};

@@ -1,4 +1,7 @@
 // Surveying a segment: what its batches come to, or the first of them that is not legal.
+//
+// A survey judges no order: that places run on and ticks never fall is an answer, since what follows is a rule of
+// the medium. The count of its summary stays at 2^32 - 1; a segment of a medium has fewer.
 ghost use Rattle.std.specs.Prelude.{◌≤◌, ◌<◌, List, length, drop, IfOk, IfErr};
 ghost use Rattle.vdr_terms.specs.Records.{Record as Entry};
 ghost use Rattle.vdr_segment.specs.Segments.{AreBatches};

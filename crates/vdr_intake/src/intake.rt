@@ -1,4 +1,8 @@
 // The bounded queue of a transmission group: offered to, popped, and joined in the end.
+//
+// The taker keeps the feeder as an option, so that no list or count means anything before a join. An item's number
+// is below 10^12, by the queue's rule and not by the item's type: so the numbers at the recorder are small while
+// captures still run.
 ghost use Rattle.std.specs.Prelude.{◌≡◌, ℕ, ◌+◌, ◌<◌, ◌≤◌, ◌^◌, List, [], ◌∷◌, ◌++◌, length, Some, None, IfOk, IfErr, OnOk, OnErr, IfSome, IfNone};
 ghost use Rattle.crossbeam_queue.specs.Passes.{view, IsPassOf, ruled_capacity};
 ghost use Rattle.vdr_core.specs.Taken.{Captured as CapturedTold};

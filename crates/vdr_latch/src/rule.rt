@@ -1,4 +1,8 @@
 //! The rule of the latch, and what each kind of step tells. These types stand in the proofs alone.
+//!
+//! A value is never at home while its event is not served; the step that serves gives the slot back, so no step
+//! names an event beforehand. Served and held tickets add up to the next one, and exactly one seat leads: so
+//! `close` can say that its pass does.
 use crate::stepped::Stepped;
 use crate::view::View;
 use atomic_table::{Join, Play, Split, TableRule};

@@ -1,4 +1,8 @@
 //! The steps of one turn.
+//!
+//! A thread looks two hundred times and then sleeps, so that control workers take no processor from captures. Who
+//! serves wakes all sleepers, and calls only where one sleeps. A sleeper compares the low 32 bits of the number
+//! served, as the system's call does.
 ghost use Rattle.std.specs.Prelude.{◌≡◌, ℕ, ◌+◌, ◌-◌, ◌<◌, ◌^◌, Bool, true, false, List, [], ◌∷◌, ◌++◌, length, Option, Some, None};
 ghost use Rattle.vdr_latch.specs.Steps.{drew, Enters, served};
 ghost use Rattle.vdr_latch.specs.Turns.{IsInTurn};

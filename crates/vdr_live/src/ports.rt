@@ -1,4 +1,6 @@
 // The lanes of a recording.
+//
+// A clock that can't be read stops no recording: `received` then counts from the clock's own beginning.
 ghost use Rattle.std.specs.Prelude.{◌≡◌, ◌<◌, ℕ, length, get_or, IfOk};
 
 use std::alloc::{AllocError, Global};

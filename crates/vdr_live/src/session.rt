@@ -1,4 +1,6 @@
 // Media are opened, what the ports give is recorded on them, and the orders of the links are answered.
+//
+// The summary of a recording is that of a replay: one text and one type of sums.
 ghost use Rattle.std.specs.Prelude.{◌≡◌, ◌≤◌, ◌<◌, ◌^◌, length};
 ghost use Rattle.vdr_session.specs.Calls.{AreByGroup};
 ghost use Rattle.vdr_live.specs.Links.{seen_links};

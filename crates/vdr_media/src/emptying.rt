@@ -1,4 +1,7 @@
 // Emptying the media: the gate of medium 0 is closed first, and it is opened last.
+//
+// The sync of the capsule stands before any other byte is written, so that a capsule whose gate is open never stands
+// beside a half-made medium.
 ghost use Rattle.std.specs.Prelude.{◌≡◌, ◌<◌, ◌≤◌, true, false, length, get_or, Ok, All, OnOk};
 ghost use Rattle.vdr_terms.specs.Needs.{Fits};
 ghost use Rattle.vdr_outside.specs.Causes.{HasCauseOn};

@@ -1,4 +1,7 @@
 // Formatting the media with a configuration, so that they hold an empty history.
+//
+// Byte 0 is read before the sizes are compared, also where the media may be formatted again: one reading serves the
+// refusal and the first write. Where it can't be read nothing is said of the two later tests.
 ghost use Rattle.std.specs.Prelude.{◌≡◌, ◌<◌, ◌≤◌, true, false, length, All, OnOk, IfOk};
 ghost use Rattle.vdr_outside.specs.Causes.{HasCauseOn};
 ghost use Rattle.vdr_outside.specs.Disk.{Durable, Unchanged};

@@ -1,4 +1,6 @@
 // A link in memory that asks for the status until a reply begins as it waits for, and then sets a flag.
+//
+// It waits for a reply that begins with given bytes and not for a number, so that no number is read back.
 ghost use Rattle.std.specs.Prelude.{◌≡◌, ◌≤◌, ◌⊎◌, ◌++◌, ◌↔◌, None, IsTrue, IsOk, codes, length, take, []};
 ghost use Rattle.vdr_outside.specs.Calls.{asked_again};
 ghost use Rattle.vdr_outside.specs.Causes.{HasCause, Rose};

@@ -1,4 +1,7 @@
 // The images that a stop leaves, by choice.
+//
+// An image is chosen from the last call backwards, so that one choice stands for all others; the choice of a sync
+// says nothing, and no choice is refused.
 ghost use Rattle.std.specs.Prelude.{◌≡◌, ◌≤◌, ◌<◌, ◌+◌, ℕ, length, get_or, reverse, true};
 ghost use Rattle.std.specs.List.{sum_by};
 ghost use Rattle.vdr_memory.specs.Contents.{contents};

@@ -1,4 +1,8 @@
 // Media in memory that record their writes and syncs, so that a stop at any of them can be looked at.
+//
+// The power goes at a number of writes and syncs, not at a call; each later call fails and leaves no trace. A failed
+// write is torn like one that was done. The clock is the length of the record and the calls after it that left no
+// trace.
 ghost use Rattle.std.specs.Prelude.{◌≡◌, ◌≤◌, ◌<◌, ◌⊎◌, ◌↔◌, ◌+◌, ◌^◌, [], ℕ, None, length, get_or, map, replicate, reverse, slice_range, true, false, Contains, IfOk, IsErr, IsTrue, OnErr, OnOk};
 ghost use Rattle.vdr_outside.specs.Causes.{HasCauseOn, IsCounted, counted};
 ghost use Rattle.vdr_outside.specs.Disk.{Durable, Elapses, InRange, Narrows, Overwritten, Rises, Tears, Unchanged, content, written};

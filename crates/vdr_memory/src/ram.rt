@@ -1,4 +1,6 @@
 // Media in memory that keep their contents alone and never fail.
+//
+// No count is kept: none of its calls fails.
 ghost use Rattle.std.specs.Prelude.{◌≡◌, ◌+◌, ◌≤◌, length, map, slice_range, IsOk};
 ghost use Rattle.vdr_outside.specs.Disk.{InRange, content, written};
 ghost use Rattle.vdr_memory.specs.Contents.{contents};

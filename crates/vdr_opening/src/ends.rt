@@ -1,4 +1,7 @@
 // Whether the ends of the media meet, and which batch some of them lack.
+//
+// Ends are compared record by record, and not by place: a medium that ends at the same place with another batch is
+// damaged.
 ghost use Rattle.std.specs.Prelude.{◌≡◌, ◌≢◌, ◌+◌, ◌<◌, ◌≤◌, ℕ, List, [], length, All, Err, IfOk};
 ghost use Rattle.vdr_terms.specs.Records.{last};
 ghost use Rattle.vdr_terms.specs.Sizes.{batch_size};

@@ -1,4 +1,6 @@
 // Reading the media part by part, up to the first that is not legal.
+//
+// Which part is damaged is said of media on which nothing is unsynced: whoever opens media syncs them first.
 ghost use Rattle.std.specs.Prelude.{◌≡◌, ◌≤◌, ℕ, length, All, IfOk, Err};
 ghost use Rattle.vdr_outside.specs.Disk.{Durable, Unchanged};
 ghost use Rattle.vdr_outside.specs.declared.fault.PartRefused.TheVariants.{Damaged as PartDamaged};

@@ -1,4 +1,7 @@
 // A sink that gathers small pieces and hands them on in few writes.
+//
+// What it has taken is what the sink took and what is gathered, and a failed write leaves the sink a front of the
+// text. So printers write many small pieces and the program makes few writes.
 ghost use Rattle.std.specs.Prelude.{◌≡◌, ◌≤◌, ◌<◌, ◌+◌, length, drop, IfOk, OnOk};
 ghost use Rattle.std.specs.Io.{WritesAtMost};
 ghost use Rattle.std.specs.Io.KnownBytes.{append_known, Appends, Keeps, WriteAppends};

@@ -1,4 +1,7 @@
 // The track of a stream of sound: how each frame follows the one before.
+//
+// Numbers of frames don't begin again: behind 4,294,967,295 frame 0 is back. One track keeps one frame: where two
+// microphones alternate each is first.
 ghost use Rattle.std.specs.Prelude.{◌≡◌, Some, None};
 ghost use Rattle.vdr_pcm.specs.Tracks.{after};
 

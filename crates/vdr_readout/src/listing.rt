@@ -1,4 +1,6 @@
 // Listing the saved incidents.
+//
+// One write for each row, of which there are 32 at most. The list is no event: the recorder is opened and asked.
 ghost use Rattle.std.specs.Prelude.{◌≡◌, ◌≤◌, ◌⊎◌, ◌+◌, ◌++◌, codes, decimal, length, OnOk};
 ghost use Rattle.std.specs.Io.KnownBytes.{Appends};
 ghost use Rattle.arrayvec.specs.ArrayVec.{array_vec_len};

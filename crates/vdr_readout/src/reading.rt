@@ -1,4 +1,7 @@
 // Reading records out of recorded media, for every command that makes something of them.
+//
+// `read_out` opens, finds and reads for every command that makes something of records, and maps the ends to statuses
+// in one place.
 ghost use Rattle.std.specs.Prelude.{◌≡◌, ◌≤◌, ◌⊎◌, [], length, IfSome, IfNone};
 ghost use Rattle.vdr_entry.specs.Queries.{asked};
 ghost use Rattle.vdr_command.specs.Endings.{ending};

@@ -1,4 +1,6 @@
 // The ships that were reported by what was recorded.
+//
+// It is cut by a stamp, and `sources` is not: it tells who was where at a moment.
 ghost use Rattle.std.specs.Prelude.{◌≡◌, ◌≤◌, length};
 ghost use Rattle.vdr_ais.specs.Tables.{Shows};
 ghost use Rattle.vdr_ais.specs.Targets.{nothing};

@@ -1,4 +1,7 @@
 // What was recorded, as text.
+//
+// Each record is printed as it is read, through 8,192 bytes. To make the text first printed all or nothing, and took
+// as much memory as was selected.
 ghost use Rattle.std.specs.Prelude.{◌≡◌, ◌⊎◌, ℕ, length, true, Err};
 ghost use Rattle.vdr_entry.specs.Queries.{asked};
 ghost use Rattle.vdr_play.specs.Streams.{nothing_seen};

@@ -1,4 +1,7 @@
 // A recorder without its media, how it is opened, and what it answers without a call on them.
+//
+// A run is closed whatever the commit of its close answers: after a fault nothing is recorded any more. Place is
+// tested before tick, and both before any call.
 ghost use Rattle.std.specs.Prelude.{◌≡◌, ◌≤◌, ◌<◌, List, [], length, count_by, is_some, option_map, false, Err, IfOk};
 ghost use Rattle.vdr_core.specs.Histories.{Event, Opening, done, incidents};
 ghost use Rattle.vdr_core.specs.Recorder.{recorder_after};

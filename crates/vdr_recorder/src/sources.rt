@@ -1,4 +1,6 @@
 // The sources of what was recorded.
+//
+// The table is printed behind the last record alone: each record may change each row.
 ghost use Rattle.std.specs.Prelude.{◌≡◌, ◌⊎◌, [], length, true, Err};
 ghost use Rattle.vdr_entry.specs.Queries.{asked};
 ghost use Rattle.vdr_vault.specs.Vaults.{AreRings};

@@ -1,4 +1,7 @@
 // Where a run begins.
+//
+// A stamp that the vault tells is brought into its range before a run begins after it: media that tell hold no
+// other, and others need no `requires`.
 ghost use Rattle.std.specs.Prelude.{◌≡◌, ◌<◌, ◌≤◌, ◌↔◌, ◌^◌, true, IfSome, option_map};
 ghost use Rattle.vdr_terms.specs.Stamps.{IsStamp};
 ghost use Rattle.vdr_core.specs.Runs.{base_after};

@@ -1,4 +1,7 @@
 // The items of a feed, as they are read and recorded.
+//
+// An item that does not fit is in hand as it was read; the batch is recorded first, and the item is the first of the
+// next. To stop while fewer than 1,600 bytes are left would leave three quarters of the smallest batch empty.
 ghost use Rattle.std.specs.Prelude.{◌≡◌, ◌≤◌, ◌<◌, ◌+◌, ◌∷◌, ◌++◌, ℕ, List, [], true, false, length, Option, None, Some, IfNone, IfOk, IfSome, OnErr, OnOk};
 ghost use Rattle.std.specs.Io.KnownBytes.{IsAtEnd};
 ghost use Rattle.vdr_terms.specs.Records.{FeedItem};

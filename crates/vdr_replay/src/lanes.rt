@@ -1,4 +1,8 @@
 // What the ports of a feed gave, and what is on its way to the recorder.
+//
+// Memory for as many items as could fit, one for each 128 bytes, and two records each: 2.5 MB for a batch of 65,536
+// bytes, 40 MB for the largest. An item of a strange group is refused behind all that the reader refuses, at its own
+// offset.
 ghost use Rattle.std.specs.Prelude.{◌≡◌, ◌≤◌, ◌<◌, ◌↔◌, ◌∷◌, ◌++◌, ◌+◌, ℕ, List, [], true, false, length, IfOk, OnOk, OnErr};
 ghost use Rattle.vdr_terms.specs.Datagrams.{verdict, is_yes};
 ghost use Rattle.vdr_terms.specs.Records.{FeedItem};

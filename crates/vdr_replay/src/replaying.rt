@@ -1,4 +1,7 @@
 // A feed is recorded on the media.
+//
+// The order is header, opening, memory, limits, Start, items, close: what is refused before the Start leaves no
+// event.
 ghost use Rattle.std.specs.Prelude.{◌≡◌, ◌≤◌, ℕ, List, length, sum, Some, Err, IfOk, IsErrOf};
 ghost use Rattle.std.specs.Io.KnownBytes.{IsAtEnd};
 ghost use Rattle.vdr_durability.specs.Readings.{EndsMeet};

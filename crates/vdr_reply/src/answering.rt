@@ -1,4 +1,7 @@
 // The answer to an order.
+//
+// Once the media have failed every order is `FAULT 5`, also a play of what is not there, which the program alone
+// would refuse first.
 ghost use Rattle.std.specs.Prelude.{◌≡◌, ℕ, List, false, sum};
 ghost use Rattle.vdr_core.specs.Histories.{Event, Opening};
 ghost use Rattle.vdr_outside.specs.Causes.{Rose};

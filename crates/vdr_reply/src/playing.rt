@@ -1,4 +1,7 @@
 // Playing what was recorded, over a link.
+//
+// The page is made in memory within the turn and goes out after it, so that the latch is not held while a peer
+// reads.
 ghost use Rattle.std.specs.Prelude.{◌≡◌, ℕ, IfSome, IfNone, false, true, sum};
 ghost use Rattle.vdr_core.specs.Histories.{Event, Opening};
 ghost use Rattle.std.specs.Prelude.{List};

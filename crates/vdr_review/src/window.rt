@@ -1,4 +1,7 @@
 // The records that a review may print.
+//
+// Records are kept and not lines, each with its own bytes, so that memory grows with the window and not with the
+// feed.
 ghost use Rattle.std.specs.Prelude.{◌≡◌, ◌≤◌, ◌+◌, [], ◌∷◌, ◌++◌, List, All, OnOk, IsTrue, ◌↔◌};
 ghost use Rattle.std.specs.Io.KnownBytes.{Appends};
 ghost use Rattle.vdr_terms.specs.Records.{Record as Told, second};

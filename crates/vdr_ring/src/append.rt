@@ -1,4 +1,7 @@
 // Appending a batch of records to the ring, with what a stop leaves at every moment.
+//
+// The first records of an empty medium may have any place, but what holds at every moment is said where they begin
+// at 0: until the batch is there a segment without records stands, which is legal at place 0 alone.
 ghost use Rattle.std.specs.Prelude.{◌≡◌, ◌+◌, ◌<◌, ◌≤◌, ℕ, [], ◌∷◌, ◌++◌, List, length, None, OnOk};
 ghost use Rattle.vdr_terms.specs.Records.{Record as ARecord};
 ghost use Rattle.vdr_terms.specs.Needs.{Sizes};

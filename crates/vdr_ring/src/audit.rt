@@ -1,4 +1,7 @@
 // A slot that was read whole, judged.
+//
+// A segment without a summary was judged by opening and is judged again as it is read, since others may write the
+// medium; it costs a walk over the bytes that were just read.
 ghost use Rattle.std.specs.Prelude.{◌≤◌, ◌<◌, ℕ, length, IfSome, IfNone};
 ghost use Rattle.vdr_ring.specs.Damage.{IsDamagedAt, IsIntact};
 

@@ -1,4 +1,7 @@
 // A cursor over what a query selects of a medium, from segment to segment.
+//
+// A cursor keeps the number of its segment and a visit in it, and no list of records. It goes only to higher
+// numbers, and onward in each, so that a play of media that change ends.
 ghost use Rattle.std.specs.Prelude.{◌≡◌, ◌<◌, ◌≤◌, List, [], true, false, Some, None, option_map};
 ghost use Rattle.vdr_terms.specs.Records.{Record as Entry};
 ghost use Rattle.vdr_directory.specs.Sequence.{Placed};

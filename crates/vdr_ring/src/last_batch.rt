@@ -1,4 +1,7 @@
 // The last batch of a medium, read back from its slot.
+//
+// The last batch is read back from its slot, not kept: it is asked for once. A ring that was opened holds that slot,
+// so that no byte is read for it.
 ghost use Rattle.std.specs.Prelude.{◌≡◌, ◌≢◌, ◌⊎◌, ◌≤◌, ◌<◌, ◌+◌, ℕ, List, [], All, length, drop, IfOk, IfErr, IfSome, IsErrOf, Err};
 ghost use Rattle.vdr_terms.specs.Records.{Record as Entry, last};
 ghost use Rattle.vdr_terms.specs.Sizes.{batch_size, records_size};

@@ -1,4 +1,7 @@
 // Reading the selected records of one slot, which is judged as it is read.
+//
+// A slot that is refused is not loaded, so that it is judged again at each step. Where a slot has to be read again
+// the position is judged again, and there the slot itself is named.
 ghost use Rattle.std.specs.Prelude.{◌≡◌, ◌≢◌, ◌⊎◌, ◌↔◌, ◌<◌, ◌≤◌, ◌+◌, ◌^◌, ℕ, get_or, true, false, IsTrue, IfOk, IfSome, IfNone, OnOk, OnErr, Option, Some, None, Ok, Err};
 ghost use Rattle.vdr_outside.specs.Causes.{NoneFalls, Rose, counted};
 ghost use Rattle.vdr_outside.specs.Disk.{Unchanged};

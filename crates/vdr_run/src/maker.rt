@@ -1,4 +1,7 @@
 // The records of a run, as they are made of its items.
+//
+// It takes an item as its head and its bytes, since a recorder's items stand in queues and a review's in its reader.
+// A review has no meter.
 ghost use Rattle.std.specs.Prelude.{◌≡◌, ◌≤◌, ◌<◌, ◌+◌, ◌*◌, ◌^◌, ℕ, [], ◌∷◌, ◌++◌, List, length, replicate, max, IfOk, IfSome};
 ghost use Rattle.vdr_terms.specs.declared.datagram.Verdict.TheVariants.{Yes};
 ghost use Rattle.vdr_terms.specs.Datagrams.{verdict};

@@ -1,4 +1,8 @@
 // Writing a batch: its gate, the length of its records, and the records.
+//
+// `write_batch` writes an open gate and a closed one behind, so that its bytes are the batch as the grammar has it;
+// whoever writes to a medium writes from byte 1 on, syncs, and then byte 0. A batch without room for one more gate
+// is broken.
 ghost use Rattle.std.specs.Prelude.{◌≡◌, ◌≤◌, ◌<◌, ◌+◌, ◌^◌, [], ◌∷◌, ◌++◌, length, All};
 ghost use Rattle.vdr_bytes.specs.Numbers.{Puts};
 ghost use Rattle.vdr_terms.specs.Legality.{IsRecord};

@@ -1,4 +1,7 @@
 // The header of a segment, with the summary of its records, read and written.
+//
+// A new header's summary is zeros though it isn't read, so that a new header is one list of bytes. A header is legal
+// by its row alone; that numbers are in order is a rule of the medium.
 ghost use Rattle.std.specs.Prelude.{◌≡◌, None, IfSome, IfNone, take, drop};
 ghost use Rattle.vdr_segment.specs.declared.header.Header.{Header as AHeader};
 ghost use Rattle.vdr_segment.specs.Headers.{IsHeader, TellsSummary, FitsSummary, new_header, summary_bytes};

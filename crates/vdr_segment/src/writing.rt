@@ -1,4 +1,7 @@
 // Writing a slot, each gate behind a sync: a segment is begun, grows by a batch, gets its summary, and is closed.
+//
+// A new segment's first batch gate is written with its header, so that no batch of what stood there before is read
+// as one of the new. A batch isn't copied: what was made is written from byte 1 on.
 ghost use Rattle.std.specs.Prelude.{◌≡◌, ◌≢◌, ◌+◌, ◌<◌, ◌≤◌, [], ◌∷◌, ◌++◌, List, length, drop, slice_get, Option, None, Some, OnOk};
 ghost use Rattle.vdr_terms.specs.Records.{Record as Entry};
 ghost use Rattle.vdr_outside.specs.Disk.{InRange, Overwritten, content, over};

@@ -1,4 +1,7 @@
 // Whether the captures are done.
+//
+// The loop sleeps on the word that says that captures are done, for a millisecond at most, so that it needs no clock
+// and wakes at once where they end.
 use std::sync::Wait;
 use std::sync::atomic::{AtomicU64, Ordering};
 use std::time::Duration;

@@ -1,4 +1,7 @@
 // A session on media that were lent to it, with the close of its run.
+//
+// The close comes after the latch and asks the recorder whether it has failed, so that a control worker's fault
+// behind the loop's last turn is told too.
 ghost use Rattle.std.specs.Prelude.{◌≡◌, ◌≤◌, ◌<◌, ◌/◌, ◌^◌, ℕ, [], true, false, length, get_or, slice_index_or, None, IfSome};
 ghost use Rattle.vdr_terms.specs.Rates.{is_configured};
 ghost use Rattle.vdr_config.specs.Sizes.{limits_in};

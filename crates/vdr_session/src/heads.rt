@@ -1,4 +1,7 @@
 // The oldest item of each queue, held until a batch takes it.
+//
+// An item counts to the second of the greatest `received` before it. With one queue emptied after another, items of
+// later groups came too late for their second.
 ghost use Rattle.std.specs.Prelude.{◌≡◌, ◌≤◌, ◌<◌, ◌+◌, ◌/◌, ◌++◌, ℕ, Bool, List, [], true, None, Some, IfSome, get_or, length};
 ghost use Rattle.vdr_core.specs.Taken.{Captured as CapturedTold};
 ghost use Rattle.vdr_durability.specs.Commits.{items_size, least_item};

@@ -1,4 +1,7 @@
 // What a session came to.
+//
+// The port that failed first in the order of groups is told, not in time: time is not seen by the contract. A lane
+// without a queue has no cause, also where an earlier session left it one.
 ghost use Rattle.std.specs.Prelude.{◌≡◌, ◌≢◌, ◌<◌, ℕ, List, length, true, Option, Some, None, is_some, get_or, slice_index_or, IfSome, IsNone};
 ghost use Rattle.vdr_core.specs.Runs.{RunStart};
 ghost use Rattle.vdr_core.specs.Taken.{Captured as CapturedTold};

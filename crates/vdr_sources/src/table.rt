@@ -1,4 +1,8 @@
 // The table of sources: the lines of sentence datagrams are counted into it, and its rows are printed.
+//
+// Rows stand sorted, and a line finds its own by halving. Memory for as many sources as the record has bytes is
+// taken before any line is counted, so that a refusal leaves the table as it was; a tree would have to give back
+// what a record had put in.
 ghost use Rattle.std.specs.Prelude.{◌≡◌, ◌≤◌, ◌<◌, ◌+◌, ◌^◌, [], All, List, OnErr, OnOk, fold, length, map, vec_capacity, vec_len};
 ghost use Rattle.vdr_terms.specs.Stamps.{IsStamp};
 ghost use Rattle.vdr_durability.specs.Sources.{with_line};

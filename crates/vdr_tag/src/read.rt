@@ -1,4 +1,7 @@
 // Reading the TAG blocks at the front of a line.
+//
+// A block without items is refused as an item without a colon; where a code stands twice the first value counts, and
+// the later one must be accepted too. A `*` may stand inside the items.
 ghost use Rattle.std.specs.Prelude.{◌≡◌, ◌≤◌, ◌<◌, ◌==◌, Ok, Err, Some, None, IfOk, IfErr, MatchResult, length};
 ghost use Rattle.std.specs.List.{after_first, before_first, position_or_len};
 ghost use Rattle.vdr_tag.specs.Values.{TagValues, over};

@@ -1,4 +1,6 @@
 // What a configuration needs, read from its text.
+//
+// 16,381 bytes are read at most: so many tell that a text is longer than the longest configuration.
 ghost use Rattle.std.specs.Prelude.{◌≡◌, ◌≤◌, ◌⊎◌, ◌+◌, ◌++◌, Result, Ok, Err, length, IfOk, IsErrOf};
 ghost use Rattle.std.specs.Io.KnownBytes.{Appends, IsAtEnd};
 ghost use Rattle.arrayvec.specs.ArrayVec.{array_vec_len};

@@ -1,4 +1,7 @@
 // How many records stand in the windows of media that are opened for it.
+//
+// The windows are counted by a query of all records with a visitor that prints nothing; a count stands still at the
+// greatest u64.
 ghost use Rattle.std.specs.Prelude.{◌≡◌, ◌≤◌, ◌⊎◌, ℕ, List, length, sum, false};
 ghost use Rattle.vdr_core.specs.Histories.{Event, Opening};
 ghost use Rattle.vdr_durability.specs.Readings.{EndsMeet};

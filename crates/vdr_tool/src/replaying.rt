@@ -1,4 +1,7 @@
 // Recording a feed on the media.
+//
+// The sums of a closed run are printed whatever ended its feed; the line of the status is tried also after sums that
+// failed.
 ghost use Rattle.std.specs.Prelude.{◌≡◌, ◌≤◌, Err, length};
 ghost use Rattle.vdr_command.specs.Endings.{ending};
 ghost use Rattle.vdr_tool.specs.Replays.{PrintsRun, Replays};

@@ -1,4 +1,6 @@
 // Saving an incident.
+//
+// A label is judged after the media were opened. A save whose id can't be printed is saved.
 ghost use Rattle.std.specs.Prelude.{◌≡◌, ◌≤◌, ◌⊎◌, ◌++◌, codes, decimal, length, Some};
 ghost use Rattle.vdr_outside.specs.Causes.{Rose};
 ghost use Rattle.vdr_opening.specs.Media.{Contents, HoldsContents};

@@ -1,4 +1,6 @@
 // A batch goes to the media of a vault, one after another.
+//
+// A free function over the rings, since in a loop of a method a struct is opened and its model is not at hand.
 ghost use Rattle.std.specs.Prelude.{◌≡◌, ◌+◌, ◌<◌, ◌≤◌, ℕ, Bool, List, [], length};
 ghost use Rattle.vdr_terms.specs.Needs.{Sizes};
 ghost use Rattle.vdr_terms.specs.Records.{Record as ARecord};

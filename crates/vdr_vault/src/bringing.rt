@@ -1,4 +1,7 @@
 // The media of a vault are brought up, one after another.
+//
+// Missing summaries are written by the first commit behind an opening, before it appends, so that commands that only
+// read write nothing. A medium to which opening appended is brought up behind a later one.
 ghost use Rattle.std.specs.Prelude.{◌<◌, ℕ, List};
 ghost use Rattle.vdr_config.specs.Configuration.{Configuration};
 ghost use Rattle.vdr_directory.specs.Sequence.{Placed};

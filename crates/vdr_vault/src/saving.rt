@@ -1,4 +1,7 @@
 // What is kept of an incident, and until when.
+//
+// A read that fails while the first record is looked for counts as a fault of the save. A place that is not on the
+// medium is damage at offset 0: with such a save legible media would be legible no more.
 ghost use Rattle.std.specs.Prelude.{◌≡◌, ◌⊎◌, ◌-◌, ◌≤◌, ℕ, ℤ, suc, List, is_none, position, option_map, IfOk, IfNone, IfSome, OnErr, None, Some, Err, Ok, false};
 ghost use Rattle.vdr_terms.specs.Records.{Record, last, second};
 ghost use Rattle.vdr_core.specs.Histories.{Event, Incident, Opening, live, with_slot};

@@ -1,4 +1,7 @@
 // What makes something of records, as a trait.
+//
+// What is printed is a function of the records, so that what stands in the output is proved once. A visitor stops by
+// itself only before it prints.
 ghost use Rattle.std.specs.Prelude.{◌≡◌, ◌∷◌, ◌++◌, ℕ, List, [], Err, OnOk};
 ghost use Rattle.vdr_terms.specs.Records.{Record as Entry};
 ghost use Rattle.vdr_vault.specs.Refusals.{HasOutputCause, IfOwn};

@@ -2,6 +2,10 @@
 //! ALR of IEC 61162-1; when a line is printed is this project's profile).
 //!
 //! The format, with an example: docs/formats/printed.md.
+//!
+//! A heartbeat has an interval above 0: of another nothing says when the next is due. A Start ends a pair, since
+//! the equipment may have spoken meanwhile; an alarm's last state goes on over it. An alarm's text alone is no
+//! change. The last record stands as a heartbeat at the end. Room is made before a record is told.
 #![tactic(auto)]
 
 mod alarm;
