@@ -6,7 +6,7 @@ ghost use Rattle.vdr_outside.specs.Causes.{Rose};
 use std::marker::Model;
 
 // What the last call answered.
-#[derive(Clone, Copy, PartialEq, Eq, Drop)]
+#[derive(Clone, Copy, Drop)]
 enum Last {
     Other,
     Ended,

@@ -13,7 +13,7 @@ use std::{fs, io};
 use vdr_outside::Failed;
 
 /// What the file of a medium is opened for.
-#[derive(Clone, Copy, Debug, PartialEq, Eq, Drop)]
+#[derive(Clone, Copy, Drop)]
 pub(crate) enum Access {
     /// For reading and writing, with an exclusive lock.
     Full,

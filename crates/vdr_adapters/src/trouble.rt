@@ -2,7 +2,7 @@
 use std::{fmt, io};
 
 /// What stood in the way of a call outside, in words for a person.
-#[derive(Debug, Drop)]
+#[derive(Drop)]
 pub enum Trouble {
     /// The file is locked: by another process, or since both media are one file under two names.
     InUse,

@@ -23,7 +23,7 @@ const WAIT: u64 = 50;
 const LAST_RECEIVED: u64 = (1 << 48) - 1;
 
 // What came to a port.
-#[derive(Clone, Copy, PartialEq, Eq, Drop)]
+#[derive(Clone, Copy, Drop)]
 enum Came {
     Datagram,
     // None, in the time that a take waits.

@@ -6,7 +6,7 @@ use vdr_gap::Tally;
 use vdr_intake::Feeder;
 
 /// How a capture ended.
-#[derive(Clone, Copy, Debug, PartialEq, Eq, Drop)]
+#[derive(Clone, Copy, PartialEq, Eq, Drop)]
 pub enum Cause {
     /// The port answered that none is left.
     Ended,

@@ -13,7 +13,7 @@ pub struct GroupSums {
 }
 
 /// How a recording ended. Where several hold, the first of them is told.
-#[derive(Clone, Copy, Debug, PartialEq, Eq, Drop)]
+#[derive(Clone, Copy, PartialEq, Eq, Drop)]
 pub enum Outcome {
     /// The run was closed, and no port and no link failed.
     Done,

@@ -3,7 +3,7 @@ use arrayvec::ArrayVec;
 use std::marker::Model;
 
 /// Which datagrams of its group a channel selects.
-#[derive(Debug, Drop)]
+#[derive(Drop)]
 pub enum ChannelKind {
     /// Sentence datagrams that have a good line of this formatter and of this source, each where it is given.
     Sentence {
@@ -27,7 +27,7 @@ pub enum ChannelKind {
 }
 
 /// A channel: a selection of the datagrams of one group, under a name.
-#[derive(Debug, Drop)]
+#[derive(Drop)]
 pub struct Channel {
     /// 1 to 32 lower-case letters, digits and `_`, not `all`.
     pub name: ArrayVec<u8, 32>,

@@ -11,7 +11,7 @@ use vdr_terms::Rate;
 
 /// A configuration of a recorder. Its type keeps the ranges below, that a channel's group is configured, and that no two
 /// channels have one name.
-#[derive(Debug, Drop)]
+#[derive(Drop)]
 pub struct Config {
     /// Which windows the configuration has to have.
     pub profile: Profile,

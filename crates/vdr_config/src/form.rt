@@ -7,7 +7,7 @@ ghost use Rattle.vdr_config.specs.Forms.{profile_named, kind_named, is_key, shap
 use crate::profile::Profile;
 
 /// Which keys an object may have.
-#[derive(Clone, Copy, Debug, PartialEq, Eq, Drop)]
+#[derive(Clone, Copy, Drop)]
 pub(crate) enum Shape {
     Top,
     Group,
@@ -20,7 +20,7 @@ pub(crate) enum Shape {
 }
 
 /// The kinds of channels.
-#[derive(Clone, Copy, Debug, PartialEq, Eq, Drop)]
+#[derive(Clone, Copy, Drop)]
 pub(crate) enum KindName {
     Sentence,
     Image,

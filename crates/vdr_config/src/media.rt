@@ -1,5 +1,5 @@
 /// What a configuration needs of its media (this project's profile).
-#[derive(Clone, Copy, Debug, PartialEq, Eq, Drop)]
+#[derive(Clone, Copy, Drop)]
 pub struct Needs {
     /// The most bytes of batches that fall into one second.
     pub cost: u64,

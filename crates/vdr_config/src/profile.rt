@@ -3,7 +3,7 @@ ghost use Rattle.std.specs.Prelude.{◌≡◌};
 ghost use Rattle.vdr_config.specs.Configuration.{is_ship};
 
 /// Which windows a configuration has to have.
-#[derive(Clone, Copy, Debug, PartialEq, Eq, Drop)]
+#[derive(Clone, Copy, Drop)]
 pub enum Profile {
     /// 48 hours and 30 days at least (IEC 61996-1, IMO MSC.333(90)).
     Ship,

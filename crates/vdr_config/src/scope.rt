@@ -6,7 +6,7 @@ use crate::bad::KeyPath;
 use std::alloc::{AllocError, Global};
 
 /// An object of the text: the whole, or an element of one of its two arrays.
-#[derive(Clone, Copy, Debug, PartialEq, Eq, Drop)]
+#[derive(Clone, Copy, Drop)]
 pub(crate) enum Scope {
     Top,
     Group(usize),

@@ -7,7 +7,7 @@ use vdr_sentence::{Bad, Sentence, read_sentence};
 use vdr_tag::{BadTag, Tags, read_tags};
 
 /// A line of a sentence datagram.
-#[derive(Clone, Copy, Debug, PartialEq, Eq, Drop)]
+#[derive(Clone, Copy, Drop)]
 pub struct Line<'a> {
     /// Where it begins in the datagram.
     pub from: usize,
@@ -18,7 +18,7 @@ pub struct Line<'a> {
 }
 
 /// What a line reads as: TAG blocks at its front (IEC 61162-450), and a sentence of IEC 61162-1 that the rest is.
-#[derive(Clone, Copy, Debug, PartialEq, Eq, Drop)]
+#[derive(Clone, Copy, Drop)]
 pub enum LineVerdict<'a> {
     /// The TAG blocks and the sentence.
     Good {

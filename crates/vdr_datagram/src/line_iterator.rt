@@ -5,7 +5,7 @@ use crate::cutting::first_line;
 use crate::line::{Line, read_line};
 
 /// The lines of a datagram that are left.
-#[derive(Debug, Drop)]
+#[derive(Drop)]
 pub struct Lines<'a> {
     bytes: &'a [u8],
     // Where the next line begins.

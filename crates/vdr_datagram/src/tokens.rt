@@ -2,7 +2,7 @@
 ghost use Rattle.std.specs.Prelude.{◌≡◌};
 
 /// What a datagram holds, by the token that it begins with.
-#[derive(Clone, Copy, Debug, PartialEq, Eq, Drop)]
+#[derive(Clone, Copy, Drop)]
 pub enum Token {
     /// `UdPbC` and NUL: lines of TAG blocks and sentences (IEC 61162-450).
     Sentences,

@@ -6,7 +6,7 @@ use vdr_entry::Summary;
 use vdr_index::{Extent, Survey};
 
 /// What opening a medium finds of an open segment.
-#[derive(Clone, Copy, Debug, PartialEq, Eq, Drop)]
+#[derive(Clone, Copy, Drop)]
 pub struct Entry {
     /// Its slot, counted from 0.
     pub slot: u32,

@@ -17,7 +17,7 @@ use vdr_index::{Extent, Survey};
 use vdr_segment::HEADER_SIZE;
 
 /// The newest segment.
-#[derive(Clone, Copy, Debug, PartialEq, Eq, Drop)]
+#[derive(Clone, Copy, Drop)]
 pub struct Newest {
     /// Its slot, counted from 0.
     pub slot: u32,
@@ -30,7 +30,7 @@ pub struct Newest {
 }
 
 /// The medium's last record, and where its batch begins.
-#[derive(Clone, Copy, Debug, PartialEq, Eq, Drop)]
+#[derive(Clone, Copy, Drop)]
 pub struct Ending {
     /// Its place.
     pub place: u64,

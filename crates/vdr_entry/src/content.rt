@@ -2,7 +2,7 @@
 use vdr_terms::Counts;
 
 /// What a record says.
-#[derive(Clone, Copy, Debug, Drop)]
+#[derive(Clone, Copy, Drop)]
 pub enum Content<'a> {
     /// A run of the recorder begins.
     Start,

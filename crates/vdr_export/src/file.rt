@@ -26,7 +26,7 @@ use vdr_outside::{Media, Sink};
 use vdr_recorder::Recorder;
 
 /// What file is to be made.
-#[derive(Clone, Copy, Debug, PartialEq, Eq, Drop)]
+#[derive(Clone, Copy, Drop)]
 pub enum File {
     /// The sound of this microphone, as a WAVE file.
     Sound { microphone: u8 },

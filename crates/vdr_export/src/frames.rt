@@ -9,7 +9,7 @@ use vdr_entry::{Content, Record};
 use vdr_pcm::{PcmFrame, read_pcm};
 
 /// What the samples that are missing behind a frame are told by.
-#[derive(Clone, Copy, Debug, PartialEq, Eq, Drop)]
+#[derive(Clone, Copy, Drop)]
 pub(crate) struct Tail {
     /// The number of the frame.
     pub(crate) frame: u32,

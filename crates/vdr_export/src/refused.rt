@@ -6,7 +6,7 @@ ghost use Rattle.vdr_export.specs.Refusals.{refusal_by};
 use vdr_vault::VisitRefused;
 
 /// Why no file is made of what a query selects.
-#[derive(Clone, Copy, Debug, PartialEq, Eq, Drop)]
+#[derive(Clone, Copy, Drop)]
 pub enum ExportRefused {
     /// No record has such a frame, or such a part of an image.
     Nothing,

@@ -14,7 +14,7 @@ use vdr_bytes::{put_u16, put_u32};
 const HEADER: usize = 44;
 
 /// The sound of a WAVE file.
-#[derive(Clone, Copy, Debug, PartialEq, Eq, Drop)]
+#[derive(Clone, Copy, Drop)]
 pub struct WaveSize {
     /// Samples a second, 1 to 192,000.
     pub rate: u32,

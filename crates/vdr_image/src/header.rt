@@ -2,7 +2,7 @@
 ghost use Rattle.vdr_image.specs.Headers.{IsHeader};
 
 /// The header of a datagram that holds a part of an image (this project's profile). Its type keeps the ranges.
-#[derive(Clone, Copy, Debug, PartialEq, Eq, Drop)]
+#[derive(Clone, Copy, Drop)]
 pub struct ImageHeader<'a> {
     /// Who sends the image: 6 bytes of 0x21 to 0x7E, as the system function identifier `EI0001`.
     pub source: &'a [u8],

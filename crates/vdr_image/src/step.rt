@@ -1,5 +1,5 @@
 /// How an image header follows the header last seen.
-#[derive(Clone, Copy, Debug, PartialEq, Eq, Drop)]
+#[derive(Clone, Copy, Drop)]
 pub enum ImageStep {
     /// No header was seen before.
     First,

@@ -12,7 +12,7 @@ use crate::step::ImageStep;
 use std::marker::Model;
 
 /// Follows the image headers of a stream: it keeps what it needs of the header last seen.
-#[derive(Debug, Drop)]
+#[derive(Drop)]
 pub struct ImageTrack {
     last: Option<Part>,
 }

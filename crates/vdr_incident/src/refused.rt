@@ -22,7 +22,7 @@ impl From<Fault> for TableRefused {
 }
 
 /// Why an incident is not released.
-#[derive(Clone, Copy, Debug, PartialEq, Eq, Drop)]
+#[derive(Clone, Copy, PartialEq, Eq, Drop)]
 pub enum ReleaseRefused {
     /// No live save has this id.
     NoSuch,

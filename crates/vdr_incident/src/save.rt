@@ -22,7 +22,7 @@ const LABEL_MAX: usize = 64;
 
 /// An incident save (this project's profile). Its type keeps that the label is legal, that `a` is at most `b`, and that tick
 /// and utc are a stamp of a record.
-#[derive(Debug, Drop)]
+#[derive(Drop)]
 pub struct Save {
     /// 1 to 64 bytes of 0x20 to 0x7E.
     pub label: ArrayVec<u8, 64>,

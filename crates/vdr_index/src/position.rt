@@ -8,7 +8,7 @@ ghost use Rattle.vdr_index.specs.Positions.{front, IsAt, HasAhead};
 use vdr_segment::HEADER_SIZE;
 
 /// Where a reader of records stands in a segment.
-#[derive(Clone, Copy, Debug, PartialEq, Eq, Drop)]
+#[derive(Clone, Copy, Drop)]
 pub struct Position {
     /// The offset of the next record of its batch.
     pub at: usize,

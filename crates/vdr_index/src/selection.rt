@@ -7,7 +7,7 @@ use crate::{Span, has_channel};
 use vdr_entry::Query;
 
 /// What is asked of the records of a medium: to be of the span to which a query's medium comes, and what the query asks.
-#[derive(Clone, Copy, Debug, PartialEq, Eq, Drop)]
+#[derive(Clone, Copy, Drop)]
 pub struct Selection {
     pub span: Span,
     pub query: Query,

@@ -3,7 +3,7 @@ use vdr_config::{ConfigBad, TooSmall};
 use vdr_outside::{Failed, Fault};
 
 /// Why media were not formatted.
-#[derive(Debug, Drop)]
+#[derive(Drop)]
 pub enum FormatRefused {
     /// There was no memory to read the configuration. No call was made on the media.
     NoMemory,

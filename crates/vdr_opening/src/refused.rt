@@ -2,7 +2,7 @@
 use vdr_outside::{Failed, PartRefused};
 
 /// Why media were not opened.
-#[derive(Clone, Copy, Debug, PartialEq, Eq, Drop)]
+#[derive(Clone, Copy, Drop)]
 pub enum OpenRefused {
     /// There was no memory for the configuration, a table or a buffer.
     NoMemory,

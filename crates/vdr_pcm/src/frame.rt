@@ -2,7 +2,7 @@
 ghost use Rattle.vdr_pcm.specs.Frames.{IsFrame};
 
 /// A frame of PCM samples (this project's profile). Its type keeps the ranges.
-#[derive(Clone, Copy, Debug, PartialEq, Eq, Drop)]
+#[derive(Clone, Copy, Drop)]
 pub struct PcmFrame<'a> {
     /// The number of the microphone.
     pub microphone: u8,

@@ -1,5 +1,5 @@
 /// Which frame of which microphone: what a track keeps of the frame last seen.
-#[derive(Clone, Copy, Debug, PartialEq, Eq, Drop)]
+#[derive(Clone, Copy, Drop)]
 pub(crate) struct FrameNumber {
     pub(crate) microphone: u8,
     pub(crate) frame: u32,

@@ -11,7 +11,7 @@ use crate::step::PcmStep;
 use std::marker::Model;
 
 /// Follows the PCM frames of a stream: it keeps what it needs of the frame last seen.
-#[derive(Debug, Drop)]
+#[derive(Drop)]
 pub struct PcmTrack {
     last: Option<FrameNumber>,
 }

@@ -7,7 +7,7 @@ use vdr_image::ImageTrack;
 use vdr_pcm::PcmTrack;
 
 /// What a printer of records has seen last: a part of an image and a frame of sound, from which it tells how the next one follows.
-#[derive(Debug, Drop)]
+#[derive(Drop)]
 pub struct Tracks {
     pub(crate) image: ImageTrack,
     pub(crate) pcm: PcmTrack,

@@ -16,7 +16,7 @@ use vdr_recorder::Recorder;
 use vdr_vault::law_of_meeting;
 
 /// What file is asked for.
-#[derive(Clone, Copy, Debug, PartialEq, Eq, Drop)]
+#[derive(Clone, Copy, Drop)]
 pub enum Wish {
     /// The sound of a channel of PCM frames.
     Sound,

@@ -24,7 +24,7 @@ use vdr_outside::{Fault, Media};
 use vdr_terms::Counts;
 
 /// Why a run is not begun.
-#[derive(Clone, Copy, Debug, PartialEq, Eq, Drop)]
+#[derive(Clone, Copy, Drop)]
 pub enum StartRefused {
     /// The next place is 2^62 or more.
     Place,

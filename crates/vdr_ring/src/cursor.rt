@@ -23,7 +23,7 @@ use vdr_index::Selection;
 use vdr_outside::Media;
 
 // The segment in which a cursor stands.
-#[derive(Clone, Copy, Debug, PartialEq, Eq, Drop)]
+#[derive(Clone, Copy, Drop)]
 pub struct Standing {
     pub(crate) slot: u32,
     pub(crate) seq: u64,

@@ -6,7 +6,7 @@ use arrayvec::ArrayVec;
 use std::marker::Model;
 
 // The first and the last place of a live save. Where the last is below the first it pins nothing.
-#[derive(Clone, Copy, Debug, Default, PartialEq, Eq, Drop)]
+#[derive(Clone, Copy, Default, Drop)]
 pub(crate) struct Pin {
     pub(crate) a: u64,
     pub(crate) b: u64,

@@ -5,7 +5,7 @@ ghost use Rattle.vdr_segment.specs.Slots.{place_of};
 use vdr_terms::SLOTS_FROM;
 
 /// The slots of one medium: where they stand (this project's profile). Its type keeps the ranges.
-#[derive(Clone, Copy, Debug, Drop)]
+#[derive(Clone, Copy, Drop)]
 pub struct Area {
     /// The number of the medium.
     pub medium: u8,

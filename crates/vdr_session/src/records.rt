@@ -12,7 +12,7 @@ use vdr_intake::Captured;
 use vdr_latch::Stepped;
 
 /// How a run began.
-#[derive(Clone, Copy, Debug, PartialEq, Eq, Drop)]
+#[derive(Clone, Copy, Drop)]
 pub enum Began {
     /// Its Start was committed.
     Begun,

@@ -6,7 +6,7 @@ ghost use Rattle.vdr_tag.specs.Views.{values_of};
 use crate::grouping::Grouping;
 
 /// What the TAG blocks at the front of a line say. Where a code stands twice the first counts.
-#[derive(Clone, Copy, Debug, PartialEq, Eq, Drop)]
+#[derive(Clone, Copy, Drop)]
 pub struct Tags<'a> {
     /// `s`, where the line comes from: 1 to 15 bytes of 0x21 to 0x7E.
     pub source: Option<&'a [u8]>,

@@ -6,7 +6,7 @@ ghost use Rattle.vdr_terms.specs.Datagrams.{has_token, is_letter, verdict};
 const LARGEST: usize = 1472;
 
 /// Whether a datagram can be recorded.
-#[derive(Clone, Copy, Debug, PartialEq, Eq, Drop)]
+#[derive(Clone, Copy, Drop)]
 pub enum Verdict {
     /// It begins with a token and has at most 1,472 bytes.
     Yes,

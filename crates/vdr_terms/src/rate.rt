@@ -1,5 +1,5 @@
 /// What a group may have recorded in a second of recording time (this project's profile).
-#[derive(Clone, Copy, Debug, PartialEq, Eq, Drop)]
+#[derive(Clone, Copy, Drop)]
 pub struct Rate {
     /// Datagrams a second.
     pub datagrams: u32,

@@ -13,7 +13,7 @@ use vdr_outside::{Failed, Printable, Sink, write_all};
 use vdr_replay::GroupSums;
 
 /// What is printed of a run that was closed: a line for each configured group in their order, and the records of the run.
-#[derive(Clone, Copy, Drop)]
+#[derive(Clone, Copy, Debug, PartialEq, Eq, Drop)]
 pub struct Summary {
     /// The sums of each configured group by its number, None for the others.
     pub groups: [Option<GroupSums>; 16],

@@ -17,7 +17,7 @@ use vdr_sentence::Sentence;
 
 /// What a sentence says: its formatter, and what each of its fields says, in their order. Its type keeps that each value is in the range
 /// of its form, and that its raw fields have together at most 76 bytes.
-#[derive(Debug, Drop)]
+#[derive(Drop)]
 pub struct Reading<'a> {
     pub(crate) formatter: Formatter,
     pub(crate) values: ArrayVec<Option<Value<'a>>, 9>,

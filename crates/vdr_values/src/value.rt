@@ -40,7 +40,7 @@ pub struct Angle {
 }
 
 /// What a field says.
-#[derive(Clone, Copy, Debug, Drop)]
+#[derive(Clone, Copy, Drop)]
 pub(crate) enum Value<'a> {
     Number(Num),
     Time(Time),

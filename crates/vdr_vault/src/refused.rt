@@ -3,7 +3,7 @@ use vdr_incident::TableRefused;
 use vdr_ring::ReadRefused;
 
 /// Why an incident is not saved. The cases stand in the order in which they are tested.
-#[derive(Clone, Copy, Debug, PartialEq, Eq, Drop)]
+#[derive(Clone, Copy, PartialEq, Eq, Drop)]
 pub enum SaveRefused {
     /// The label is not 1 to 64 bytes of 0x20 to 0x7E. Nothing is called.
     Label,

@@ -3,7 +3,7 @@ use vdr_outside::Failed;
 use vdr_ring::ReadRefused;
 
 /// Why a visitor stops.
-#[derive(Clone, Copy, Debug, PartialEq, Eq, Drop)]
+#[derive(Clone, Copy, Drop)]
 pub enum VisitorRefused<R> {
     /// The output failed, and its count of faults rose.
     Output,
@@ -23,7 +23,7 @@ impl<R> From<Failed> for VisitorRefused<R> {
 }
 
 /// Why a visit ended before its end.
-#[derive(Clone, Copy, Debug, PartialEq, Eq, Drop)]
+#[derive(Clone, Copy, Drop)]
 pub enum VisitRefused<R> {
     /// No such channel is configured. Nothing was called.
     NoChannel,
