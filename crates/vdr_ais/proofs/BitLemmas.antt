@@ -52,9 +52,6 @@ one_bit bits first at le lt =
     ap number_of (ap (λ i. take i (drop first bits)) n ∙ take_more (drop first bits) k 0 w ∙ ap (λ b. take k (drop first bits) ++ b ∷ []) x)
     ∙ fold-append (λ n b. 2 * n + b) 0 (take k (drop first bits)) (get_or bits at 0 ∷ [])
 
-pub no_bit : (bits : List ℕ) (first : ℕ) → 0 ≡ number_of (slice_range bits first first)
-no_bit bits first = let none : 0 ≡ first - first = omega arith in ap (λ i. number_of (take i (drop first bits))) none
-
 -- A number of so many bits, and one more bit.
 pub below_more : (k n b : ℕ) → n < 2 ^ k → b ≤ 1 → 2 * n + b < 2 ^ (k + 1)
 below_more k n b lt one = let p : 2 ^ (k + 1) ≡ 2 ^ k * 2 = ap (λ j. 2 ^ j) (add-one k) ∙ pow-suc 2 k in omega (arith, p, lt, one)

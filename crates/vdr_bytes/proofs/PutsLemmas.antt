@@ -1,14 +1,9 @@
 -- Several writes in a row.
 use Rattle.std.proofs.Common.{◌≡◌, ◌≤◌, ◌<◌, ◌+◌, ◌*◌, ℕ, List, [], ◌∷◌, ◌++◌, length, take, drop, slice_index, refl, ap, ◌∙◌, sym, subst, arith}
-use Rattle.std.proofs.lemmas.List.{take-append-le, length-drop, length-take-le, length-append, append_assoc, append-nil, drop-drop, take-take, take_more, drop_all}
+use Rattle.std.proofs.lemmas.List.{take-append-le, length-take-le, length-append, append_assoc, append-nil, drop-drop, take-take, take_more, drop_all}
 use Rattle.std.proofs.lemmas.Grind.{flat_map-append}
 use Rattle.vdr_bytes.specs.Numbers.{Puts, le_u64, le_u64s}
 use Rattle.vdr_bytes.proofs.NumberLemmas.{drop-front, take-front, length-le_u64}
-
-pub length-puts : (old new : List ℕ) (at : ℕ) (x : List ℕ) → Puts old new at x → at + length x ≤ length old → length new ≡ length old
-length-puts old new at x p fits =
-    ap length p.is ∙ length-append (take at old ++ x) (drop (at + length x) old)
-    ∙ omega (arith, length-append (take at old) x, length-drop (at + length x) old, length-take-le at old (omega (arith, fits)))
 
 -- two writes of which the second begins where the first ends are one
 pub puts-more : (a b c : List ℕ) (at next : ℕ) (x y : List ℕ) → Puts a b at x → Puts b c next y → next ≡ at + length x → at + length x ≤ length a → Puts a c at (x ++ y)
@@ -43,13 +38,6 @@ puts-before a b c at next x y p q e fits =
           ∙ sym (append_assoc (take at a ++ x) y (drop (at + length (x ++ y)) a))
           ∙ ap (λ (xs : List ℕ). xs ++ drop (at + length (x ++ y)) a) (append_assoc (take at a) x y);
     }
-
--- a write at the front of what stands from an offset on
-pub puts-from : (old new : List ℕ) (at : ℕ) (x : List ℕ) → at ≤ length old → Puts (drop at old) new 0 x → Puts old (take at old ++ new) at x
-puts-from old new at x fits p = record {
-  is = ap (λ (xs : List ℕ). take at old ++ xs) p.is ∙ sym (append_assoc (take at old) x (drop (0 + length x) (drop at old)))
-      ∙ ap (λ (xs : List ℕ). take at old ++ x ++ xs) (drop-drop (0 + length x) at old ∙ ap (λ (j : ℕ). drop j old) (omega arith));
-}
 
 pub length-le_u64s : (numbers : List ℕ) → length (le_u64s numbers) ≡ 8 * length numbers
 length-le_u64s [] = refl

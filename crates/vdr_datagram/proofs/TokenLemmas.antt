@@ -1,5 +1,5 @@
 -- Tokens, and which datagrams have lines.
-use Rattle.std.proofs.Common.{◌≡◌, ◌≤◌, ◌||◌, inl, inr, ℕ, true, false, List, [], ◌∷◌, ◌++◌, length, take, Option, Some, None, refl, sym, ap, ◌∙◌, arith}
+use Rattle.std.proofs.Common.{◌≡◌, ◌≤◌, ◌||◌, inl, inr, ℕ, true, false, List, [], ◌∷◌, ◌++◌, length, take, Option, Some, None, refl, sym, ap, ◌∙◌}
 use Rattle.std.specs.Prelude.{codes, nat_eq}
 use Rattle.std.specs.List.{starts_with}
 use Rattle.std.specs.Cmp.Lexicographic.{pointwise}
@@ -10,21 +10,10 @@ use Rattle.vdr_image.specs.Headers.{Header}
 use Rattle.vdr_image.specs.Images.{has_image_token, header_at, image_in, is_image}
 use Rattle.vdr_pcm.specs.Frames.{Frame}
 use Rattle.vdr_pcm.specs.Datagrams.{frame_at, is_pcm, pcm_in}
-use Rattle.vdr_terms.specs.Datagrams.{has_token}
 use Rattle.vdr_datagram.specs.declared.tokens.Token.{Token}
 use Rattle.vdr_datagram.specs.declared.tokens.Token.TheVariants.{Sentences, Image, Pcm, Other, NoToken}
 use Rattle.vdr_datagram.specs.Tokens.{begins, token}
 use Rattle.vdr_datagram.specs.Verdicts.{spans_under}
-
--- six bytes tell whether a token stands at the front
-pub token-front : (bytes : List ℕ) → 6 ≤ length bytes → has_token (take 6 bytes) ≡ has_token bytes
-token-front (a ∷ b ∷ c ∷ d ∷ e ∷ f ∷ bytes) long = refl
-token-front (a ∷ b ∷ c ∷ d ∷ e ∷ []) long = let no : ⊥ = omega (arith, long) in absurd no
-token-front (a ∷ b ∷ c ∷ d ∷ []) long = let no : ⊥ = omega (arith, long) in absurd no
-token-front (a ∷ b ∷ c ∷ []) long = let no : ⊥ = omega (arith, long) in absurd no
-token-front (a ∷ b ∷ []) long = let no : ⊥ = omega (arith, long) in absurd no
-token-front (a ∷ []) long = let no : ⊥ = omega (arith, long) in absurd no
-token-front [] long = let no : ⊥ = omega (arith, long) in absurd no
 
 -- only a sentence datagram has lines
 pub no_spans : (kind : Token) (bytes : List ℕ) → (kind ≡ Sentences → ⊥) → spans_under kind bytes ≡ []

@@ -1,14 +1,13 @@
 -- What goes over a link, call by call.
-use Rattle.std.proofs.Common.{◌≡◌, ◌≢◌, ◌≤◌, ◌<◌, ◌+◌, ◌⊎◌, inl, inr, ℕ, Bool, true, false, List, [], ◌∷◌, ◌++◌, map, flat_map, length, nat_lt, Option, Some, None, IfSome, refl, sym, ap, ◌∙◌, subst, arith, append_assoc, append-nil}
+use Rattle.std.proofs.Common.{◌≡◌, ◌≢◌, ◌≤◌, ◌<◌, ◌+◌, ◌⊎◌, ℕ, List, [], ◌∷◌, ◌++◌, map, length, nat_lt, Option, Some, None, refl, sym, ap, ◌∙◌, subst, append_assoc, append-nil}
 use Rattle.std.specs.Prelude.{if◌then◌else◌}
-use Rattle.std.proofs.lemmas.List.{map-append, length-append}
+use Rattle.std.proofs.lemmas.List.{map-append}
 use Rattle.std.proofs.lemmas.Grind.{flat_map-append}
 use Rattle.std.proofs.lemmas.Bool.{cond-false, cond-true, le-ltb, lt-ltb}
 use Rattle.std.specs.Io.KnownBytes.{Appends, Keeps}
-use Rattle.vdr_outside.specs.Hears.{Passes, HearsNone, bare}
-use Rattle.vdr_outside.specs.Told.{Stays, Loses, NoneLeft}
+use Rattle.vdr_outside.specs.Hears.{Passes, bare}
+use Rattle.vdr_outside.specs.Told.{Stays, Loses}
 use Rattle.vdr_outside.specs.Writes.{AppendsFront}
-use Rattle.vdr_capture.specs.Gives.{LosesAll, NothingLeft}
 use Rattle.vdr_capture.proofs.Giving.{loses_none, loses_more, loses_stays}
 use mathlib.Core.List.{IsPrefix}
 use Rattle.vdr_control.specs.Orders.{PlainOrder}
@@ -65,9 +64,6 @@ replied_on (Some a) (Some b) (Some c) xs ys p q = q ∙ ap (λ (l : List ℕ). l
 
 pub replied_more : (a b c : Option (List ℕ)) (exchanges : List Exchange) (x : Exchange) → Appends a b (texts_of exchanges) → Appends b c x.text → Appends a c (texts_of (exchanges ++ x ∷ []))
 replied_more a b c exchanges x p q = subst (Appends a c) (sym (texts_more exchanges x)) (replied_on a b c (texts_of exchanges) x.text p q)
-
-pub all_replied : (a b : Option (List ℕ)) (xs : List ℕ) → Appends a b xs → AppendsFront a b xs
-all_replied a b xs p = (xs, [], sym (append-nil xs), p)
 
 pub front_replied : (a b c : Option (List ℕ)) (exchanges : List Exchange) (x : Exchange) → Appends a b (texts_of exchanges) → AppendsFront b c x.text → AppendsFront a c (texts_of (exchanges ++ x ∷ []))
 front_replied a b c exchanges x p q = (

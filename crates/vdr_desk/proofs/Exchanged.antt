@@ -1,10 +1,10 @@
 -- Exchanges, one after the other, in a history that grows.
-use Rattle.std.proofs.Common.{◌≡◌, ◌≤◌, ◌⊎◌, inl, inr, ℕ, suc, List, [], ◌∷◌, ◌++◌, Option, Some, None, IfSome, length, refl, sym, ap, ◌∙◌, subst, arith, append_assoc}
+use Rattle.std.proofs.Common.{◌≡◌, ◌≤◌, ◌⊎◌, inl, inr, ℕ, List, [], ◌∷◌, ◌++◌, Option, IfSome, length, sym, ap, ◌∙◌, arith, append_assoc}
 use Rattle.std.proofs.lemmas.List.{length-append}
 use mathlib.Core.List.{IsPrefix}
 use Rattle.vdr_control.specs.Orders.{PlainOrder}
 use Rattle.vdr_control.specs.Lines.{AsksFor}
-use Rattle.vdr_desk.specs.Exchanges.{AreExchanged, Exchange, IsExchanged, IsOrdered, IsRefused, no_order_line}
+use Rattle.vdr_desk.specs.Exchanges.{AreExchanged, Exchange, IsExchanged, no_order_line}
 
 pub prefix_long : {E : Type 0} (xs ys : List E) → IsPrefix xs ys → length xs ≤ length ys
 prefix_long xs ys p = let l = length-append xs p.0 in let e = ap length p.1 in omega (arith, l, e)

@@ -1,6 +1,5 @@
 -- A desk before and after its worker.
-use Rattle.std.specs.Prelude.{◌≡◌, ◌-◌, ℕ, false, List, [], length, get_or, Option, Some, None, ◌≢◌, ◌<◌, ◌≤◌}
-use mathlib.Core.List.{IsPrefix}
+use Rattle.std.specs.Prelude.{◌≡◌, ◌-◌, ℕ, false, List, [], length, get_or, Some, ◌≢◌, ◌<◌, ◌≤◌}
 use Rattle.vdr_latch.specs.Passes.{LatchId, Passing}
 use Rattle.vdr_outside.specs.declared.link.Link.{Ghosts as LinkTells}
 use Rattle.vdr_capture.specs.declared.lane.Cause.{Cause}

@@ -20,10 +20,6 @@ abbrev pub gap_cost : Option Rate → ℕ
 gap_cost None = 0
 gap_cost (Some rate) = 84
 
-over_none : (n : ℕ) → over_groups n (λ g. 0) ≡ 0
-over_none zero = refl
-over_none (suc n) = let a = over_none n in omega (arith, a)
-
 over_shift : (n : ℕ) (f : ℕ → ℕ) → over_groups (suc n) f ≡ f 0 + over_groups n (λ g. f (suc g))
 over_shift zero f = refl
 over_shift (suc n) f = let a = over_shift n f in omega (arith, a)

@@ -165,13 +165,3 @@ keeps_opened shows disk h = record {
   where
     same : (t : ℕ) → disk.clock ≤ t → t ≤ disk.clock → t ≡ disk.clock
     same t a b = omega arith
-
--- What shows more keeps as much.
-pub keeps_weaken : {tells tells_images : Type 0} (shows others : List Event → Image → Type 0) (events : List Event) (t0 : ℕ) (disk : Disk tells tells_images)
-    → ((es : List Event) (image : Image) → shows es image → others es image) → Keeps shows events t0 disk → Keeps others events t0 disk
-keeps_weaken shows others events t0 disk to h = record {
-  rising = h.rising;
-  pending = h.pending;
-  prefixes = λ t image start end left. let p = h.prefixes t image start end left in record { first = p.first; rest = p.rest; split = p.split; enough = p.enough; shown = to p.first image p.shown };
-  now = λ whole image now. to events image (h.now whole image now);
-}

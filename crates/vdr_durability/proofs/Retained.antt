@@ -63,13 +63,6 @@ recent_before seconds all batch r later here h = go (last all) refl later
           omega arith;
     })
 
--- a record of a longer list is in the window still: what was outside stays outside
-pub outside_later : (seconds : ℕ) (all batch victim : List Record) → AreAmong victim all → IsNoEarlier (last all) (last (all ++ batch)) → AreOutside seconds all victim → AreOutside seconds (all ++ batch) victim
-outside_later seconds all batch victim own later h =
-    all_from (λ (r : Record). Contains (window seconds (all ++ batch)) r → ⊥) victim
-    (λ r k w. All-contains (λ (r : Record). Contains (window seconds all) r → ⊥) victim r h k
-    (recent_before seconds all batch r later (All-contains (Contains all) victim r own k) w))
-
 -- what one test of its second shows of a record
 pub outside_by_test : (seconds : ℕ) (all : List Record) (newest r : Record) → last all ≡ Some newest → second r.tick + seconds ≤ second newest.tick → Contains (window seconds all) r → ⊥
 outside_by_test seconds all newest r e far h =
@@ -147,21 +140,6 @@ append_keeps seconds all held batch later h = record {
       (λ (m : Contains batch r). Contains-append_right held batch r m)
       (Contains-append_cases all batch r (recent seconds (all ++ batch) r k).there));
 }
-
--- What is read before and after a batch, and between, when the victim is closed.
-pub replace_keeps : (seconds : ℕ) (all before victim rest batch : List Record) → 0 < seconds → AreOutside seconds all victim → IsNoEarlier (last all) (last (all ++ batch))
-    → Holds seconds all (before ++ (victim ++ rest)) → Holds seconds all (before ++ rest) × Holds seconds (all ++ batch) ((before ++ rest) ++ batch)
-replace_keeps seconds all before victim rest batch some outside later h =
-    let k : Holds seconds all (before ++ rest) = remove_keeps seconds all before victim rest some outside h in
-    (k, append_keeps seconds all (before ++ rest) batch later k)
-
--- A medium that lags by the batch, while its victim goes: with the batch it still shows the longer list.
-pub reconcile_keeps : (seconds : ℕ) (all before victim rest batch : List Record) → 0 < seconds → AreAmong victim all → AreOutside seconds all victim → IsNoEarlier (last all) (last (all ++ batch))
-    → Holds seconds (all ++ batch) ((before ++ (victim ++ rest)) ++ batch) → Holds seconds (all ++ batch) ((before ++ rest) ++ batch)
-reconcile_keeps seconds all before victim rest batch some own outside later h =
-    subst (λ (xs : List Record). Holds seconds (all ++ batch) xs) (sym (append_assoc before rest batch))
-    (remove_keeps seconds (all ++ batch) before victim (rest ++ batch) some (outside_later seconds all batch victim own later outside)
-    (subst (λ (xs : List Record). Holds seconds (all ++ batch) xs) (append_assoc before (victim ++ rest) batch ∙ ap (λ (xs : List Record). before ++ xs) (append_assoc victim rest batch)) h))
 
 -- The places of an incident are kept when a batch is appended, and when a victim goes that has none of them.
 pub append_keeps_places : (all held batch : List Record) (a b : ℕ) → HoldsPlaces all held a b → HoldsPlaces (all ++ batch) (held ++ batch) a b

@@ -4,7 +4,7 @@ use Rattle.std.specs.List.{cons_option}
 use Rattle.std.specs.Prelude.{is_none, is_some, option_map, if◌then◌else◌}
 use Rattle.std.specs.declared.alloc.Global.{Global}
 use Rattle.std.specs.declared.vec.Vec.{Vec}
-use Rattle.std.proofs.lemmas.List.{get_or-map, length-drop, length-replicate, map-set, nil_from_length}
+use Rattle.std.proofs.lemmas.List.{get_or-map, length-replicate, map-set}
 use Rattle.std.proofs.lemmas.List.Elements.{filter_map-append}
 use Rattle.vdr_terms.specs.Records.{Record}
 use Rattle.vdr_image.specs.declared.header.ImageHeader.{ImageHeader}
@@ -47,9 +47,6 @@ shown_none P block seen r is holds = subst P (sym (filter_map-append (shown_in b
 
 pub shown_so : (block own : Block) (r : Record) (read was : Option ImageHeader) → option_map (shown_as r.place) read ≡ shown_in own r → own ≡ block → read ≡ was → shown_in block r ≡ option_map (shown_as r.place) was
 shown_so block own r read was reads same is = ap (λ (b : Block). shown_in b r) (sym same) ∙ sym reads ∙ ap (λ (o : Option ImageHeader). option_map (shown_as r.place) o) is
-
-pub missing_all : (n : ℕ) (parts : List (Option (List ℕ))) (i : ℕ) → length parts ≤ i → first_missing n (drop i parts) ≡ None
-missing_all n parts i past = ap (first_missing n) (nil_from_length (drop i parts) (let l = length-drop i parts in omega (arith, l, past)))
 
 next : (i : ℕ) → suc i ≡ i + 1
 next i = omega arith

@@ -110,14 +110,6 @@ unfolding sound_after
 sound_joined before [] gs = refl
 sound_joined before (f ∷ fs) gs = ap (λ (l : List ℕ). piece before f ++ l) (sound_joined (Some f) fs gs) ∙ sym (append_assoc (piece before f) (sound_after (Some f) fs) (sound_after (latest (Some f) fs) gs))
 
-pub sound_of_all : (microphone : ℕ) (front rest : List Record) → (later : List ℕ) × (sound (frames_of (heard microphone (front ++ rest))) ≡ sound (frames_of (heard microphone front)) ++ later)
-sound_of_all microphone front rest = (
-  sound_after (latest None (frames_of (heard microphone front))) (frames_of (heard microphone rest)),
-  ap (λ (hs : List Heard). sound (frames_of hs)) (filter_map-append (heard_in microphone) front rest)
-      ∙ ap sound (map-append (λ (h : Heard). h.frame) (heard microphone front) (heard microphone rest))
-      ∙ sound_joined None (frames_of (heard microphone front)) (frames_of (heard microphone rest)),
-)
-
 -- What is mixed stays so.
 other_step : (b : Bool) (n : ℕ) (xs ys : List Numbered) (x : Numbered) (place : ℕ) → (first_other n xs ≡ Some place → first_other n (xs ++ ys) ≡ Some place)
     → (if b then first_other n xs else Some x.place) ≡ Some place → (if b then first_other n (xs ++ ys) else Some x.place) ≡ Some place

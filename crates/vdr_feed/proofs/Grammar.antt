@@ -10,7 +10,7 @@ use Rattle.vdr_terms.specs.Records.{FeedItem}
 use Rattle.vdr_terms.specs.Stamps.{last_stamp}
 use Rattle.vdr_terms.specs.Legality.{IsBytes}
 use Rattle.vdr_terms.proofs.Bytes.{IsBytes-drop, IsBytes-take, part_long}
-use Rattle.vdr_feed.specs.Feed.{IsItem, group_in, received_in, utc_in, length_in, number_fault, head_fault, body_fault, first_of, fault_of, spelling, head}
+use Rattle.vdr_feed.specs.Feed.{IsItem, group_in, received_in, utc_in, length_in, number_fault, head_fault, body_fault, first_of, fault_of, spelling}
 use Rattle.vdr_feed.specs.Reader.{IfKnown}
 
 -- what a fault is where some byte is left
@@ -164,6 +164,3 @@ refuses_body a b c limit count floor h front long room none p =
     (known b c p.0 (λ r. length r ≡ length p.0) p.2 (λ more more_is. let none_left : more ≡ [] = subst (λ (o : Option (List ℕ)). IsAtEnd o) more_is p.3 in length-append p.0 more ∙ ap (λ (r : List ℕ). length p.0 + length r) none_left ∙ omega arith)) in
     let less : length p.0 < length_in h = p.1 in
     inside_body limit count floor h rest long room none (omega (arith, all, less)))
-
-pub length-spelling : (i : FeedItem) → length (spelling i) ≡ 19 + length i.item.bytes
-length-spelling i = length-append (head i) i.item.bytes

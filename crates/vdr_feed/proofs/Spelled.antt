@@ -9,9 +9,6 @@ use Rattle.vdr_terms.specs.Stamps.{last_stamp}
 use Rattle.vdr_feed.specs.Feed.{IsItem, head, spelling, group_in, received_in, utc_in, length_in, number_fault, head_fault, body_fault, first_of, fault_of}
 use Rattle.vdr_feed.proofs.Grammar.{length-front, head_fault-front, long_fault}
 
-head_is_long : (i : FeedItem) → length (head i) ≡ 19
-head_is_long i = refl
-
 received_of : (i : FeedItem) → i.item.received < 2 ^ 64 → received_in (head i) ≡ i.item.received
 received_of i l = from_le_bytes-to_le_bytes_8 i.item.received l
 

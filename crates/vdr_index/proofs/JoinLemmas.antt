@@ -92,9 +92,6 @@ bit_by_test (suc zero) (suc (suc y)) p q e = absurd (omega (arith, q))
 same_bits : (a b : ℕ) → ((k : ℕ) → has_channel (Some k) a ≡ has_channel (Some k) b) → a ≡ b
 same_bits a b same = same_from_bits a b (λ k. bit_by_test (bit_at a k) (bit_at b k) (bit_at-lt a k) (bit_at-lt b k) (same k))
 
-same_second : (a b : ℕ) → Some a ≡ Some b → a ≡ b
-same_second a b e = same_Some a b e
-
 -- the stamp that one has lies within the bounds of both
 found_within : (records : List Record) (l g z : ℤ) → All (Within l g) records → Any (λ r. r.utc ≡ z) records → (int_le l z ≡ true) × (int_le z g ≡ true)
 found_within records l g z all h =

@@ -16,7 +16,7 @@ use Rattle.vdr_session.specs.Sessions.{OutcomeMeans, is_closed}
 use Rattle.vdr_session.specs.declared.session.SessionEnd.{SessionEnd}
 use Rattle.vdr_command.specs.Opened.{OneAnswer, WasRecorded}
 use Rattle.vdr_command.specs.Statuses.{status_of_opening}
-use Rattle.vdr_command.specs.Outside.{MediaFailed, MediaSeen, OutputFailed, OutputSeen, Writes}
+use Rattle.vdr_command.specs.Outside.{MediaFailed, MediaSeen, OutputFailed, OutputSeen}
 use Rattle.vdr_tool.specs.Summaries.{summary_text}
 use Rattle.vdr_command.specs.declared.status.Status.{Status}
 use Rattle.vdr_command.specs.declared.status.Status.TheVariants.{Done, MediaFault, PortFault, LinkFault, OutputFault, NoMemory, Place, Tick}
@@ -240,9 +240,3 @@ end_at_output outcomes.Tick summary status was next told is = let clash : Tick �
 end_at_output outcomes.MediaFault summary status was next told is = let clash : MediaFault ≡ OutputFault = sym told.0 ∙ is in let none : ⊥ = cc in absurd none
 end_at_output (outcomes.PortFault g) summary status was next told is = let clash : PortFault g ≡ OutputFault = sym told.0 ∙ is in let none : ⊥ = cc in absurd none
 end_at_output (outcomes.LinkFault i) summary status was next told is = let clash : LinkFault i ≡ OutputFault = sym told.0 ∙ is in let none : ⊥ = cc in absurd none
-
-pub prints_port : (outcome : Outcome) (group : ℕ) (summary : List ℕ) (was next : OutputSeen) → outcome ≡ outcomes.PortFault group → Writes summary was next → PrintsSession outcome summary (PortFault group) was next
-prints_port outcome group summary was next is wrote = subst (λ (o : Outcome). PrintsSession o summary (PortFault group) was next) (sym is) (refl, wrote)
-
-pub prints_link : (outcome : Outcome) (link : ℕ) (summary : List ℕ) (was next : OutputSeen) → outcome ≡ outcomes.LinkFault link → Writes summary was next → PrintsSession outcome summary (LinkFault link) was next
-prints_link outcome link summary was next is wrote = subst (λ (o : Outcome). PrintsSession o summary (LinkFault link) was next) (sym is) (refl, wrote)

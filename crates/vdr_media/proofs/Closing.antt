@@ -1,5 +1,5 @@
 -- One gate more is closed.
-use Rattle.std.proofs.Common.{◌≡◌, ◌≢◌, ◌⊎◌, inl, inr, ℕ, ◌+◌, ◌*◌, ◌<◌, ◌≤◌, List, [], ◌∷◌, length, slice_get, Option, Some, refl, sym, ◌∙◌, subst, arith, below_more}
+use Rattle.std.proofs.Common.{◌≡◌, ◌≢◌, ◌⊎◌, inl, inr, ℕ, ◌+◌, ◌*◌, ◌<◌, ◌≤◌, List, [], ◌∷◌, length, slice_get, Option, Some, sym, ◌∙◌, subst, arith, below_more}
 use Rattle.std.proofs.Math.Nat.{mul-le-mul_right}
 use Rattle.vdr_outside.specs.Disk.{over}
 use Rattle.vdr_outside.proofs.Bytes.{length-over, le_or_gt}
@@ -7,13 +7,6 @@ use Rattle.vdr_segment.specs.Gates.{open_gate}
 use Rattle.vdr_media.specs.Layout.{IsClosedAt}
 use Rattle.vdr_media.specs.Writing.{ClosesGates, HasClosedGates}
 use Rattle.vdr_media.proofs.Positions.{at_other, at_one}
-
-pub closes_none : (from step : ℕ) (b : List ℕ) → ClosesGates from step 0 b b
-closes_none from step b = record {
-  size = refl;
-  closed = record { each = λ k lt. absurd (omega (arith, lt)) };
-  rest = λ p none. refl;
-}
 
 pub closed_by : (old new : List ℕ) (p : ℕ) → slice_get new p ≡ slice_get old p → IsClosedAt old p → IsClosedAt new p
 closed_by old new p same closed opened = closed (sym same ∙ opened)

@@ -1,6 +1,6 @@
 -- Bytes written over others.
 use Rattle.std.proofs.Common.{◌≡◌, ◌⊎◌, inl, inr, ℕ, zero, suc, ◌+◌, ◌<◌, ◌≤◌, ◌≢◌, List, [], ◌∷◌, ◌++◌, length, map, get_or, set, take, drop, refl, sym, ◌∙◌, ap, arith, length-drop, take-append-drop}
-use Rattle.std.proofs.lemmas.List.{set-get_or, length-take-le, get_or-set_same, get_or-set_other}
+use Rattle.std.proofs.lemmas.List.{set-get_or, length-take-le, get_or-set_other}
 use Rattle.vdr_outside.specs.Disk.{Image, content, over, written}
 
 pub length-over : (b : List ℕ) (at : ℕ) (x : List ℕ) → length (over b at x) ≡ length b
@@ -47,9 +47,6 @@ pub size_of : (image : Image) (m : ℕ) → length (content image m) ≡ get_or 
 size_of [] m = refl
 size_of (b ∷ image) zero = refl
 size_of (b ∷ image) (suc m) = size_of image m
-
-pub content_set : (image : Image) (m : ℕ) (b : List ℕ) → m < length image → content (set image m b) m ≡ b
-content_set image m b h = get_or-set_same image m b [] h
 
 pub content_set_other : (image : Image) (m k : ℕ) (b : List ℕ) → k ≢ m → content (set image m b) k ≡ content image k
 content_set_other image m k b ne = get_or-set_other image m k b [] ne

@@ -1,9 +1,8 @@
 -- The sum of the counts of faults.
-use Rattle.std.proofs.Common.{refl, ◌≡◌, inl, inr, ℕ, zero, suc, ◌+◌, ◌-◌, ◌^◌, ◌<◌, ◌≤◌, min, List, [], ◌∷◌, length, get_or, set, sym, ◌∙◌, ap, subst, arith, length-set, get_or-set_same, get_or-set_other}
-use Rattle.std.proofs.lemmas.Bool.{cases_eq}
+use Rattle.std.proofs.Common.{refl, ◌≡◌, ℕ, zero, suc, ◌+◌, ◌-◌, ◌^◌, ◌<◌, ◌≤◌, min, List, [], ◌∷◌, length, get_or, ◌∙◌, arith}
 use Rattle.std.proofs.lemmas.List.Sums.{sum_by-cons}
 use Rattle.std.specs.Prelude.{sum, Result, Ok, Err, OnErr}
-use Rattle.vdr_outside.specs.Causes.{Rose, HasCause, HasCauseOn, NoneFalls, IsCounted}
+use Rattle.vdr_outside.specs.Causes.{Rose, NoneFalls}
 
 pub sum_not_less : (before now : List ℕ) → length now ≡ length before → ((k : ℕ) → get_or before k 0 ≤ get_or now k 0) → sum before ≤ sum now
 sum_not_less [] [] same le = omega arith
@@ -43,17 +42,6 @@ pub on_err : {T E P : Type 0} (r : Result T E) → P → OnErr r P
 on_err (Ok x) p = tt
 on_err (Err e) p = p
 
-pub has_cause_on : {T E : Type 0} (m : ℕ) (before now : List ℕ) (r : Result T E) → IsCounted m before now → HasCauseOn m before now r
-has_cause_on m before now r is = record { later = is.later; failed = on_err r is.rose }
-
--- What has a cause on one medium has it in the sum.
-pub sum_has_cause : {T E : Type 0} (m : ℕ) (before now : List ℕ) (r : Result T E) → HasCauseOn m before now r → HasCause (sum before) (sum now) r
-sum_has_cause m before now (Ok x) is = record { later = sum_not_less before now is.later.same_media is.later.none_falls; failed = tt }
-sum_has_cause m before now (Err e) is = record {
-  later = sum_not_less before now is.later.same_media is.later.none_falls;
-  failed = sum_rose before now m is.later.same_media is.later.none_falls is.failed;
-}
-
 pub none_fell : (counts : List ℕ) → NoneFalls counts counts
 none_fell counts = record { same_media = refl; none_falls = λ k. omega arith }
 
@@ -62,19 +50,3 @@ none_falls_join a b c first second = record {
   same_media = second.same_media ∙ first.same_media;
   none_falls = λ k. omega (arith, first.none_falls k, second.none_falls k);
 }
-
--- One more, as far as the type goes.
-pub counted_one : (m : ℕ) (before now : List ℕ) → m < length before → ((k : ℕ) → get_or before k 0 < 2 ^ 64) → now ≡ set before m (min (get_or before m 0 + 1) (2 ^ 64 - 1)) → IsCounted m before now
-counted_one m before now there fits is = record {
-  later = record {
-    same_media = ap length is ∙ length-set before m _;
-    none_falls = λ k. elim (cases_eq k m) [
-      | inl same ↦ subst (λ (j : ℕ). get_or before j 0 ≤ get_or now j 0) (sym same) (let here : get_or now m 0 ≡ min (get_or before m 0 + 1) (2 ^ 64 - 1) = at_m in omega (arith, fits m, here))
-      | inr other ↦ let there : get_or now k 0 ≡ get_or before k 0 = ap (λ (l : List ℕ). get_or l k 0) is ∙ get_or-set_other before m k _ 0 other in omega (arith, there)
-    ];
-  };
-  rose = omega (arith, at_m);
-}
-  where
-    at_m : get_or now m 0 ≡ min (get_or before m 0 + 1) (2 ^ 64 - 1)
-    at_m = ap (λ (l : List ℕ). get_or l m 0) is ∙ get_or-set_same before m _ 0 there

@@ -84,17 +84,6 @@ writes-past all a b items bytes handed (Err e) none k p =
     subst (λ (o : Option (List ℕ)). Keeps all o) (sym (known-none b items handed none))
     (kept-twice all a b (subst (λ (o : Option (List ℕ)). Keeps all o) empty k) p)
 
--- The sink behind the buffer took a front of all.
-pub front-buffered : (took : Option (List ℕ)) (gathered : List ℕ) → IsFrontOf took (append_known took gathered)
-front-buffered None gathered = tt
-front-buffered (Some x) gathered = (gathered, refl)
-
-pub front-kept : (took all now : Option (List ℕ)) → Keeps all now → IsFrontOf took now → IsFrontOf took all
-front-kept took None now k f = tt
-front-kept took (Some x) None k f = absurd k
-front-kept None (Some x) (Some y) k f = absurd f
-front-kept (Some t) (Some x) (Some y) k f = (f.0, sym k ∙ f.1)
-
 -- What was added to the start is a front of what was to be added.
 joins : (x y rest front : List ℕ) → take (length x) y ≡ x → y ++ rest ≡ x ++ front → drop (length x) y ++ rest ≡ front
 joins x y rest front e whole =

@@ -3,7 +3,7 @@ use Rattle.std.proofs.Common.{◌≡◌, ◌≤◌, ◌+◌, ℕ, List, [], ◌�
 use Rattle.std.proofs.lemmas.Bool.{cond-false, le-ltb}
 use Rattle.std.proofs.lemmas.List.Elements.{All-head, All-tail, filter-append}
 use Rattle.vdr_terms.specs.declared.counts.Counts.{Counts}
-use Rattle.vdr_terms.specs.Records.{Record, FeedItem, has_items, second, last, last_after}
+use Rattle.vdr_terms.specs.Records.{Record, FeedItem, has_items, second, last}
 use Rattle.vdr_terms.specs.Rates.{Limit}
 use Rattle.vdr_terms.specs.Windows.{in_window, window, window_before}
 use Rattle.vdr_core.specs.Recorder.{closing, gaps_below, stop_of}

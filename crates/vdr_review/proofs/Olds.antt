@@ -1,8 +1,8 @@
 -- What leaves a window for good.
-use Rattle.std.proofs.Common.{◌≡◌, ◌≤◌, ◌+◌, ℕ, List, [], ◌∷◌, ◌++◌, drop, All, true, refl, sym, ◌∙◌, ap, append_assoc}
+use Rattle.std.proofs.Common.{◌≡◌, ◌≤◌, ◌+◌, ℕ, List, [], ◌∷◌, ◌++◌, All, true, sym, ◌∙◌, ap, append_assoc}
 use Rattle.std.proofs.lemmas.List.Elements.{All-append, All-nil, All-cons}
 use Rattle.vdr_terms.specs.Records.{Record, second}
-use Rattle.vdr_review.specs.Review.{review_seconds, OnFirst, PopsOld}
+use Rattle.vdr_review.specs.Review.{review_seconds, PopsOld}
 
 abbrev pub IsOld : ℕ → Record → Type 0
 IsOld last r = second r.tick + review_seconds ≤ last
@@ -10,13 +10,6 @@ IsOld last r = second r.tick + review_seconds ≤ last
 -- so far these went
 abbrev pub Gone : ℕ → List Record → List Record → Type 0
 Gone last old new = (gone : List Record) × (old ≡ gone ++ new) × All (IsOld last) gone
-
-pub gone_none : (last : ℕ) (xs : List Record) → Gone last xs xs
-gone_none last xs = ([], refl, All-nil (IsOld last))
-
-pub pops_first : (last : ℕ) (old new : List Record) → OnFirst (IsOld last) old → new ≡ drop 1 old → PopsOld last true old new
-pops_first last [] new f e = absurd f
-pops_first last (x ∷ xs) new f e = (x, ap (λ (ys : List Record). x ∷ ys) (sym e), f)
 
 pub gone_more : (last : ℕ) (old mid new : List Record) → Gone last old mid → PopsOld last true mid new → Gone last old new
 gone_more last old mid new g p = (

@@ -1,5 +1,5 @@
 -- A walk that has taken an item has met it, and its numbers stay far below the ends of their types.
-use Rattle.std.proofs.Common.{◌≡◌, ◌≤◌, ◌<◌, ◌+◌, ◌^◌, ℕ, List, [], ◌∷◌, ◌++◌, length, filter, All, None, Some, sym, ap, ◌∙◌, subst, arith, append_assoc, append-nil}
+use Rattle.std.proofs.Common.{◌≡◌, ◌≤◌, ◌<◌, ◌+◌, ◌^◌, ℕ, List, [], ◌∷◌, ◌++◌, length, All, None, Some, sym, ap, ◌∙◌, subst, arith, append_assoc, append-nil}
 use Rattle.std.proofs.lemmas.List.Elements.{All-append, All-cons, All-nil, filter-append}
 use Rattle.vdr_terms.specs.declared.counts.Counts.{Counts}
 use Rattle.vdr_terms.specs.Counting.{next_number}
@@ -9,7 +9,7 @@ use Rattle.vdr_terms.specs.Records.{Record, FeedItem, has_items, second, total}
 use Rattle.vdr_core.specs.Recorder.{recorder_after}
 use Rattle.vdr_core.specs.Runs.{RunStart}
 use Rattle.vdr_core.specs.Taken.{Captured}
-use Rattle.vdr_core.specs.Replay.{NumbersAddUp, RecordsAreFew, captured_if, fed, rest_after, taken_of}
+use Rattle.vdr_core.specs.Replay.{NumbersAddUp, captured_if, fed, rest_after, taken_of}
 use Rattle.vdr_feed.specs.Kept.{Holds}
 use Rattle.vdr_feed.specs.declared.item.Item.{Item}
 use Rattle.vdr_config.specs.Configuration.{Configuration}
@@ -29,9 +29,6 @@ number_fits limit walk feed g t few l numbers =
     let next = ap next_number (t.makes.pending g l) in
     let n = fewer g feed in
     omega (arith, n, numbers, next, few)
-
-pub place_fits : (limit : Limit) (walk : Walk) (feed : List FeedItem) → Tells limit walk feed → length feed < 2 ^ 32 → RecordsAreFew (review_start limit) feed → walk.maker.place + 17 < 2 ^ 63
-place_fits limit walk feed t few records = let place = t.makes.place in omega (arith, place, records, few)
 
 -- more records were made, and some that were kept went
 keeps_more : (before after : ℕ) (made kept more now gone : List Record) → before ≤ after → KeepsWindow before made kept

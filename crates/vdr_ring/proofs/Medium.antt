@@ -1,6 +1,6 @@
 -- The records of a whole medium: they are in order, and its last one tells the place of the next.
-use Rattle.std.proofs.Common.{◌≡◌, ◌≢◌, ◌⊎◌, ◌<◌, ◌≤◌, ◌+◌, ℕ, suc, List, [], ◌∷◌, ◌++◌, length, All, Contains, Option, Some, None, inl, inr, ⊎_elim, refl, sym, ap, ◌∙◌, arith, append-nil}
-use Rattle.std.proofs.lemmas.List.Elements.{All-head, All-weaker, Contains-append_cases}
+use Rattle.std.proofs.Common.{◌≡◌, ◌≢◌, ◌⊎◌, ◌<◌, ◌≤◌, ◌+◌, ℕ, suc, List, [], ◌∷◌, ◌++◌, length, Contains, Option, Some, None, inl, inr, ⊎_elim, refl, sym, ap, ◌∙◌, arith, append-nil}
+use Rattle.std.proofs.lemmas.List.Elements.{Contains-append_cases}
 use Rattle.vdr_terms.specs.Records.{Record, last_after, last}
 use Rattle.vdr_terms.specs.Order.{RunOn, NeverFalls, AreInOrder as RecordsAreInOrder}
 use Rattle.vdr_durability.proofs.Lists.{none_contained, ticks_from}
@@ -63,14 +63,6 @@ records_behind o (p ∷ ps) h =
 -- Over a whole medium places rise and ticks never fall.
 pub in_order_records : (placed : List Placed) → AreInOrder placed → RecordsAreInOrder (all_records placed)
 in_order_records placed h = records_behind None placed h
-
-never_falls_from : (from : ℕ) (rs : List Record) → All (λ r. from ≤ r.tick) rs → RecordsAreInOrder rs → NeverFalls from rs
-never_falls_from from [] low h = tt
-never_falls_from from (r ∷ rs) low (first, more) =
-    (All-head (λ r. from ≤ r.tick) r rs low, never_falls_from r.tick rs (All-weaker (λ x. (r.place < x.place) × (r.tick ≤ x.tick)) (λ x. r.tick ≤ x.tick) (λ x k. k.1) rs first) more)
-
-pub never_falls_over : (placed : List Placed) → AreInOrder placed → NeverFalls 0 (all_records placed)
-never_falls_over placed h = never_falls_from 0 (all_records placed) (λ k d within. omega arith) (in_order_records placed h)
 
 -- The place after the last record
 

@@ -235,13 +235,6 @@ begins_anew size count seconds pins slots placed first records stages finds b =
       done_order = subst AreInOrder (sym b.done) (done_order size count seconds pins slots placed first records stages finds b);
     }
 
--- The batch goes into the newest segment.
-pub goes_on_in_sequence : (size : ℕ) (slots : List (Option Segment)) (placed : List Placed) (records : List Record) (stages : Stages) → AreInSequence slots placed → (g : GoesOn size placed records stages)
-    → AreInSequence (set slots g.newest.slot (Some (with_batch g.newest.segment records))) stages.done
-goes_on_in_sequence size slots placed records stages sequence g =
-    subst (λ (xs : List Placed). AreInSequence (set slots g.newest.slot (Some (with_batch g.newest.segment records))) xs) (sym g.done)
-    (append_in_sequence slots g.older g.newest records (subst (λ (xs : List Placed). AreInSequence slots xs) g.split sequence))
-
 pub goes_on_in_order : (size : ℕ) (placed : List Placed) (first : ℕ) (records : List Record) (stages : Stages) → AreInOrder placed → Continues placed first records → GoesOn size placed records stages
     → AreInOrder stages.done
 goes_on_in_order size placed first records stages order h g =

@@ -80,10 +80,6 @@ segment_appended old new s b rest is legal same appended =
 
 -- In the header
 
--- a header's own gate is not part of what it says
-pub header_gate : (gate gate' : ℕ) (xs : List ℕ) (h : Header) → IsHeader (gate ∷ xs) h → IsHeader (gate' ∷ xs) h
-header_gate gate gate' xs h i = record { gate = gate'; part = i.part; spelled = ap (λ (ys : List ℕ). gate' ∷ drop 1 ys) i.spelled; told = i.told; fits = i.fits }
-
 -- the bytes before the summary's gate and behind the summary
 header_around : (b : List ℕ) (h : Header) → (i : IsHeader b h) → (take 17 b ≡ i.gate ∷ le_u64s (h.seq ∷ h.first ∷ [])) × (drop 62 b ≡ 0 ∷ 0 ∷ [])
 header_around b h i =

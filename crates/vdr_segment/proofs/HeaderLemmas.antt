@@ -6,7 +6,7 @@ use Rattle.std.proofs.lemmas.List.{length-append, append_assoc, drop_all}
 use Rattle.vdr_terms.specs.Legality.{IsBytes}
 use Rattle.vdr_bytes.specs.Numbers.{le_u32, le_u64s, u32_at, Puts}
 use Rattle.vdr_terms.proofs.Bytes.{part_long}
-use Rattle.vdr_bytes.proofs.NumberLemmas.{length-le_u32, spelled_u32, take-front, drop-front, cut}
+use Rattle.vdr_bytes.proofs.NumberLemmas.{length-le_u32, spelled_u32, take-front, cut}
 use Rattle.vdr_bytes.proofs.PutsLemmas.{length-le_u64s, puts-more, puts-whole}
 use Rattle.vdr_entry.specs.declared.summary.Summary.{Summary}
 use Rattle.vdr_segment.specs.declared.header.Header.{Header}
@@ -122,11 +122,3 @@ header_spelled b seq first are_bytes long are p q =
     ∙ ap (λ (xs : List ℕ). le_u64s (u64s_at 2 1 b) ++ xs) (cut 17 45 b ∙ ap (λ (xs : List ℕ). part ++ xs) (two_zeros b long p q))
     ∙ sym (append_assoc (le_u64s (u64s_at 2 1 b)) part (0 ∷ 0 ∷ []))
     ∙ ap (λ (ns : List ℕ). (le_u64s ns ++ part) ++ 0 ∷ 0 ∷ []) (sym are))
-
--- a header ends with two zeros
-pub header_ends : (b : List ℕ) (h : Header) → IsHeader b h → (slice_index b 62 ≡ 0) × (slice_index b 63 ≡ 0)
-header_ends b h i =
-    let f : List ℕ = front i.gate h.seq h.first i.part in
-    let end : drop 62 b ≡ 0 ∷ 0 ∷ [] =
-    ap (λ (xs : List ℕ). drop 62 xs) i.spelled ∙ drop-front 62 f (0 ∷ 0 ∷ []) (length-front i.gate h.seq h.first i.part (length-told i.part h.summary i.told)) in
-    (sym (get_or-drop 62 b 0 0) ∙ ap (λ (xs : List ℕ). slice_index xs 0) end, sym (get_or-drop 62 b 1 0) ∙ ap (λ (xs : List ℕ). slice_index xs 1) end)

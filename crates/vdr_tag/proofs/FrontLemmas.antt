@@ -15,9 +15,6 @@ pub record IsBehind (bytes rest : List ℕ) (values : TagValues) : Type 0 where
   pub blocks : AreBlocks insides values
   pub spelled : bytes ≡ flat_map block_text insides ++ rest
 
-pub IsBehind-first : (bytes : List ℕ) → IsBehind bytes bytes nothing
-IsBehind-first bytes = record { insides = []; blocks = refl; spelled = refl }
-
 IsCounted-block : (inside : List ℕ) (values : TagValues) → IsBlock inside values → IsCounted values
 IsCounted-block inside values h = let P : TagValues → Type 0 = IsCounted in subst P (sym h.values_are) (IsCounted-all_said h.said)
 

@@ -17,9 +17,6 @@ pub record Reads (before : TagValues) (text rest : List ℕ) (said : TagValues) 
   pub accepted : list_all is_accepted (items text) ≡ (ok && list_all is_accepted (items rest))
   pub values : over before (all_said (values_in (items text))) ≡ over said (all_said (values_in (items rest)))
 
-pub Reads-first : (before : TagValues) (text : List ℕ) → Reads before text text before true
-Reads-first before text = record { coded = refl; accepted = refl; values = refl }
-
 said_more : (said : TagValues) (item : Option TagValues) (later : List TagValues) → over said (all_said (cons_option item later)) ≡ over (over_item said item) (all_said later)
 said_more said None later = refl
 said_more said (Some values) later = sym (over_assoc said values (all_said later))

@@ -15,9 +15,6 @@ parts-found at bytes inside = slice_split_first (λ b. eqb b at) bytes 0 inside
 pub parts-none : (at : ℕ) (bytes : List ℕ) → length bytes ≤ position_or_len (λ b. eqb b at) bytes → parts at bytes ≡ bytes ∷ []
 parts-none at bytes past = slice_split_none (λ b. eqb b at) bytes (λ k d inside. fails_before_first (λ b. eqb b at) bytes k d (omega arith))
 
-pub before_first-none : (at : ℕ) (bytes : List ℕ) → length bytes ≤ position_or_len (λ b. eqb b at) bytes → before_first (λ b. eqb b at) bytes ≡ bytes
-before_first-none at bytes past = take_all (position_or_len (λ b. eqb b at) bytes) bytes past
-
 -- The place of the first byte, where there is one.
 pub record IsPlace (at : ℕ) (bytes : List ℕ) (place : ℕ) : Type 0 where
   pub first : place ≡ position_or_len (λ b. eqb b at) bytes

@@ -64,13 +64,6 @@ not_done refusal.AlreadyFormatted is = cc
 not_done (refusal.TooSmall small) is = cc
 not_done refusal.Fault is = cc
 
-pub not_input : (r : FormatRefused) → status_of r ≡ InputFault → ⊥
-not_input refusal.NoMemory is = cc
-not_input (refusal.Config bad) is = cc
-not_input refusal.AlreadyFormatted is = cc
-not_input (refusal.TooSmall small) is = cc
-not_input refusal.Fault is = cc
-
 -- The text that was read is all of an input that is a configuration.
 pub known : (left : Option (List ℕ)) (text : List ℕ) (P : Configuration → List ℕ → Type 0) (c : Configuration)
     → IfKnown left (λ bytes. bytes ≡ text) → configuration text ≡ Ok c → P c text → IfConfiguration left P

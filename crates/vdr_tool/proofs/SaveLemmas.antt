@@ -15,7 +15,6 @@ use Rattle.vdr_incident.specs.declared.refused.ReleaseRefused.TheVariants as rel
 use Rattle.vdr_directory.specs.Sequence.{Placed}
 use Rattle.vdr_opening.specs.Media.{members, Contents, HoldsContents, opening_of, reading_of}
 use Rattle.vdr_opening.specs.declared.refused.OpenRefused.{OpenRefused}
-use Rattle.vdr_opening.specs.declared.refused.OpenRefused.TheVariants as openings
 use Rattle.vdr_recorder.specs.Recordings.{HasDone, HasRecorded, RecorderState}
 use Rattle.vdr_vault.specs.Openings.{IsToldBy, OpensAtEachMoment}
 use Rattle.vdr_vault.specs.Saves.{HasFaultOn, refusal_from, save_refusal}
@@ -26,8 +25,7 @@ use Rattle.vdr_vault.specs.declared.refused.SaveRefused.{SaveRefused as Refused}
 use Rattle.vdr_vault.specs.declared.refused.SaveRefused.TheVariants as saves
 use Rattle.vdr_command.specs.Endings.{IsWorkDone}
 use Rattle.vdr_command.specs.Opened.{AddsMissing, AreLooks, IfNoIncident, IsOpenableWith, IsOneEvent, IsUnbegun, KeepsContents, MayLeave, MediaEnds, MetUnsound, PrintsText, WasRecorded}
-use Rattle.vdr_command.specs.Statuses.{status_of_opening}
-use Rattle.vdr_command.specs.Outside.{MediaSeen, OutputSeen, Prints, PrintsFront}
+use Rattle.vdr_command.specs.Outside.{MediaSeen, OutputSeen}
 use Rattle.vdr_tool.specs.Releases.{CanRelease, IsReleaseStatus, ReleasesId, status_of_release}
 use Rattle.vdr_tool.specs.Saves.{CanSave, IfSaveRefused, IsJudged, SavesAs, cause_if, save_cause}
 use Rattle.vdr_command.specs.Statuses.{status_of_save}
@@ -38,35 +36,9 @@ use Rattle.vdr_command.specs.declared.status.Status.TheVariants.{Done, MediaFaul
 use Rattle.vdr_recorder.proofs.Playing.{config_read}
 use Rattle.vdr_command.proofs.OpenedLemmas.{OpenedOn, done_either, kept_by_call, missing_looked, missing_still, one_look, opened_so, reads_done, worked_ends}
 
--- Of a refused opening nothing is printed.
-pub prints_nothing : (text : List ℕ) (refused : OpenRefused) (old new : OutputSeen) → PrintsText text (status_of_opening refused) old new
-prints_nothing text openings.NoMemory old new = tt
-prints_nothing text openings.NotFormatted old new = tt
-prints_nothing text (openings.Damaged m offset) old new = tt
-prints_nothing text openings.Fault old new = tt
-
-pub no_save_refused : (P : SaveCause → Type 0) (refused : OpenRefused) → IfSaveRefused (status_of_opening refused) P
-no_save_refused P openings.NoMemory = tt
-no_save_refused P openings.NotFormatted = tt
-no_save_refused P (openings.Damaged m offset) = tt
-no_save_refused P openings.Fault = tt
-
-pub no_incident_refused : (P : ℕ → Type 0) (refused : OpenRefused) → IfNoIncident (status_of_opening refused) P
-no_incident_refused P openings.NoMemory = tt
-no_incident_refused P openings.NotFormatted = tt
-no_incident_refused P (openings.Damaged m offset) = tt
-no_incident_refused P openings.Fault = tt
-
 -- The text, or a front of it.
 pub prints_as : (status : Status) (text other : List ℕ) (old new : OutputSeen) → text ≡ other → PrintsText text status old new → PrintsText other status old new
 prints_as status text other old new same prints = subst (λ (t : List ℕ). PrintsText t status old new) same prints
-
-pub prints_all : (status : Status) (text : List ℕ) (old new : OutputSeen) → (status ≡ Done → Prints text old new) → (status ≡ OutputFault → PrintsFront text old new) → IsWorkDone status
-    → PrintsText text status old new
-prints_all status text old new all front done = ⊎_elim
-    (λ (is : status ≡ Done). subst (λ (s : Status). PrintsText text s old new) (sym is) (all is))
-    (λ (is : status ≡ OutputFault). subst (λ (s : Status). PrintsText text s old new) (sym is) (front is))
-    (done_either status done)
 
 -- An act that was acknowledged.
 may_leave : (Does : Act → Type 0) (clock : ℕ) (status : Status) (events : List Event) → IsWorkDone status → IsOneEvent Does (Some clock) events → MayLeave Does clock status events
@@ -309,14 +281,6 @@ module _ {tells tells_images : Type 0} (old mid new : MediaSeen tells tells_imag
     released_missing (Ok u) is = tt
     released_missing (Err releases.NoSuch) is = (refl, missing (reason is).1)
     released_missing (Err releases.Fault) is = tt
-
--- Of a refused save nothing is printed.
-pub unsaved_prints : (text : List ℕ) (refused : Refused) (old new : OutputSeen) → PrintsText text (status_of_save refused) old new
-unsaved_prints text saves.Label old new = tt
-unsaved_prints text saves.Nothing old new = tt
-unsaved_prints text saves.TableFull old new = tt
-unsaved_prints text (saves.Damaged m offset) old new = tt
-unsaved_prints text saves.Fault old new = tt
 
 -- A release has a status of its own.
 pub release_status : (released : Result ⊤ ReleaseRefused) (id : ℕ) → IsReleaseStatus (status_of_release released id)

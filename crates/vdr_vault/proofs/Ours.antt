@@ -1,6 +1,5 @@
 -- Images of this product: what leaves them so, and what they hold.
 use Rattle.std.proofs.Common.{◌≤◌, ◌⊎◌, inl, inr, ℕ, List, Result, ⊎_elim, sym, subst, arith}
-use Rattle.vdr_core.specs.Histories.{Event, Opening}
 use Rattle.vdr_durability.specs.Readings.{EndsMeet}
 use Rattle.vdr_outside.specs.Disk.{Disk, Image, Unchanged}
 use Rattle.vdr_config.specs.Configuration.{Configuration}
@@ -11,18 +10,8 @@ use Rattle.vdr_opening.proofs.ContentsHeld.{are_formatted}
 use Rattle.vdr_opening.proofs.Fronts.{empty_holds, empty_meet}
 use Rattle.vdr_vault.specs.Openings.{LeavesAll}
 use Rattle.vdr_vault.specs.Regularity.{AreSound}
-use Rattle.vdr_vault.specs.Vaults.{ShowsHistory}
 use Rattle.vdr_vault.proofs.SoundMedia.{sound_as, sound_nothing}
 use Rattle.vdr_vault.specs.Ours.{AreOurs, IsOurs, RestAs, StayOurs}
-
--- An image that shows a history is one.
-pub shown_ours : (opening : Opening) (events : List Event) (image : Image) → ShowsHistory opening events image → IsOurs image
-shown_ours opening events image (numbers, reading, is_read, shown) = inr (
-  is_read.reads.contents,
-  is_read.reads.holds,
-  subst (EndsMeet members) is_read.reads.is (subst (λ (ms : List ℕ). EndsMeet ms reading) is_read.reads.members_are shown.media.ends),
-  is_read.sound,
-)
 
 pub contents_ours : (image : Image) (x : Contents) → IsOurs image → HoldsContents image x → EndsMeet members (reading_of x) × AreSound x
 contents_ours image x (inl unformatted) holds = absurd (are_formatted image x holds unformatted)

@@ -1,6 +1,5 @@
 use Rattle.std.proofs.Common.{◌≡◌, ◌≤◌, ◌<◌, ◌+◌, ℕ, None, IfSome, get_or, length}
 use mathlib.Core.List.{IsPrefix}
-use Rattle.vdr_latch.specs.Passes.{Passing}
 use Rattle.vdr_desk.specs.declared.desk.Desk.{Desk}
 use Rattle.vdr_desk.proofs.passing.join_desks.Given as goal
 

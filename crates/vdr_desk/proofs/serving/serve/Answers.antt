@@ -1,16 +1,12 @@
-use Rattle.std.proofs.Common.{rules, ◌≡◌, ◌≤◌, ◌<◌, ◌+◌, ◌⊎◌, inl, inr, ◌++◌, ℕ, List, [], ◌∷◌, Option, Some, length, refl, sym, ap, ◌∙◌, subst, add-one, arith}
+use Rattle.std.proofs.Common.{rules, ◌≡◌, ◌≤◌, ◌<◌, ◌+◌, ◌⊎◌, inr, ◌++◌, ℕ, List, [], ◌∷◌, Some, length, refl, sym, ap, ◌∙◌, subst, add-one, arith}
 use Rattle.std.proofs.lemmas.List.{length-append}
 use Rattle.std.specs.Io.KnownBytes.{Appends}
-use Rattle.std.specs.Prelude.{Result}
-use mathlib.Core.List.{IsPrefix}
 use Rattle.vdr_latch.specs.Passes.{Passing}
-use Rattle.vdr_latch.proofs.Prefixes.{prefix_self}
 use Rattle.vdr_outside.specs.Calls.{Asked, asked_again, other}
 use Rattle.vdr_outside.specs.Causes.{Rose}
 use Rattle.vdr_outside.proofs.Counts.{rose_after}
 use Rattle.vdr_outside.specs.Writes.{AppendsFront}
-use Rattle.vdr_desk.specs.Exchanges.{AreExchanged, Exchange, IsExchanged, texts_of}
-use Rattle.vdr_desk.specs.Links.{HeardAll}
+use Rattle.vdr_desk.specs.Exchanges.{IsExchanged, texts_of}
 use Rattle.vdr_desk.proofs.Conversing.{IsAnswered, front_replied, heard_none, heard_still, line_answered, long_answered, replied_kept, replied_more, replied_none}
 use Rattle.vdr_desk.proofs.serving.serve.Goals as goal
 use Rattle.vdr_desk.proofs.serving.serve.Goals.{in-Line, in-Long}

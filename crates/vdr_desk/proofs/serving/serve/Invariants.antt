@@ -1,6 +1,5 @@
 use Rattle.std.proofs.Common.{◌≡◌, ◌≤◌, List, length, map}
 use Rattle.std.specs.Io.KnownBytes.{Appends}
-use mathlib.Core.List.{IsPrefix}
 use Rattle.vdr_capture.specs.Gives.{asked_often}
 use Rattle.vdr_desk.specs.Exchanges.{AreExchanged, Exchange, texts_of}
 use Rattle.vdr_desk.specs.Links.{HeardAll}
