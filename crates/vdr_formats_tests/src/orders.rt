@@ -1,64 +1,44 @@
-// Which plays words ask for.
-use vdr_control::{Order, law_of_plays, read_play};
+// Orders that the lines of a link ask for.
+
+use crate::printing::{bracketed, number, word};
+use vdr_control::{Order, read_order};
 use vdr_entry::Medium;
+use vdr_memory::MemorySink;
 
-/// The last stamp.
-const LAST: i64 = 253_402_300_799_999;
-
-/// Words, and the medium that they name.
-const MEDIA: [(&str, Option<Medium>); 15] = [
-    ("capsule", Some(Medium::Capsule)),
-    ("longterm", Some(Medium::LongTerm)),
-    ("incident-1", Some(Medium::Incident(1))),
-    ("incident-10", Some(Medium::Incident(10))),
-    ("incident-32", Some(Medium::Incident(32))),
-    ("incident-0", None),
-    ("incident-01", None),
-    ("incident-33", None),
-    ("incident-100", None),
-    ("incident-", None),
-    ("incident-+1", None),
-    ("incident", None),
-    ("Capsule", None),
-    ("capsule ", None),
-    ("", None),
-];
-
-/// Words, and the bounds that they set. The third play is from above to.
-const BOUNDS: [(&str, &str, Option<(i64, i64)>); 6] = [
-    ("-", "-", Some((0, LAST))),
-    ("1970-01-01T00:00:00.001Z", "-", Some((1, LAST))),
-    (
-        "1970-01-01T00:00:00.002Z",
-        "1970-01-01T00:00:00.001Z",
-        Some((2, 1)),
-    ),
-    ("-", "", None),
-    ("--", "-", None),
-    ("-", "2023-02-29T00:00:00.000Z", None),
-];
-
-#[test]
-fn words_ask_for_a_play(rt: HostRuntime) {
-    for (word, medium) in MEDIA {
-        let order = read_play(word.as_bytes(), b"GP HDT", b"-", b"-");
-        let expected = medium.map(|medium| Order::Play {
-            medium,
-            channel: b"GP HDT",
-            from: 0,
-            to: LAST,
-        });
-        assert!(rt; order == expected, "{word}");
+// Appends the word of a medium.
+fn put_medium(medium: Medium, out: &mut MemorySink) {
+    match medium {
+        Medium::Capsule => word(out, b"capsule"),
+        Medium::LongTerm => word(out, b"longterm"),
+        Medium::Incident(id) => number(out, u64::from(id)),
     }
-    for (first, second, bounds) in BOUNDS {
-        let order = read_play(b"longterm", b"", first.as_bytes(), second.as_bytes());
-        let expected = bounds.map(|(from, to)| Order::Play {
-            medium: Medium::LongTerm,
-            channel: b"",
-            from,
-            to,
-        });
-        assert!(rt; order == expected, "{first} {second}");
+}
+
+/// What a line asks for. Nothing where it asks for nothing.
+pub(crate) fn order(line: &[u8], out: &mut MemorySink) {
+    match read_order(line) {
+        None => {}
+        Some(Order::Status) => word(out, b"status"),
+        Some(Order::Save(label)) => {
+            word(out, b"save");
+            bracketed(out, label);
+        }
+        Some(Order::Release(id)) => {
+            word(out, b"release");
+            number(out, u64::from(id));
+        }
+        Some(
+            Order::Play {
+                medium,
+                channel,
+                from,
+                to,
+            },
+        ) => {
+            put_medium(medium, out);
+            bracketed(out, channel);
+            number(out, u64::try_from(from).unwrap_or(u64::MAX));
+            number(out, u64::try_from(to).unwrap_or(u64::MAX));
+        }
     }
-    law_of_plays();
 }

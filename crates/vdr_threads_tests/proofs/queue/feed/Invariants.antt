@@ -1,0 +1,11 @@
+use Rattle.std.proofs.Common.{◌≡◌, ◌+◌, length}
+use Rattle.vdr_terms.specs.Records.{last}
+use Rattle.vdr_intake.specs.Items.{number_after}
+use Rattle.vdr_threads_tests.proofs.queue.feed.Given as goal
+
+abbrev pub invariant-loop-number : goal.invariant-loop-number
+invariant-loop-number g l = record {
+  queue : l.feeder.queue ≡ l.queue;
+  next : number_after (last l.feeder.pushed) + l.full ≡ l.number;
+  counted : length l.feeder.pushed + l.feeder.full ≡ l.number;
+}
