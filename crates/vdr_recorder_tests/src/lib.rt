@@ -1,15 +1,8 @@
-//! Tests of the recorder and of `replay` on media in memory: a module for each crate that is tested. They are proved here, and nowhere else.
+//! Tests of what no command of the program reaches: a full queue that is drained, and a ring of batches of one record
+//! each. They are proved here, and nowhere else.
 #![tactic(auto)]
 
 #[cfg(test)]
-mod desks;
+mod queues;
 #[cfg(test)]
-mod lanes;
-#[cfg(test)]
-mod meeting;
-#[cfg(test)]
-mod recordings;
-#[cfg(test)]
-mod replays;
-#[cfg(test)]
-mod sessions;
+mod rings;

@@ -1,4 +1,4 @@
-use Rattle.std.proofs.Common.{◌≡◌, [], ◌∷◌, ◌++◌, ap, ◌∙◌, arith, length, length-append}
+use Rattle.std.proofs.Common.{[], ◌∷◌, ap, ◌∙◌, arith, length, length-append}
 use Rattle.vdr_terms.specs.Records.{last}
 use Rattle.vdr_intake.specs.Items.{number_after}
 use Rattle.vdr_intake.proofs.Runs.{last_more}

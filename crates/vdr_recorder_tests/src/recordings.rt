@@ -1,8 +1,0 @@
-// A recorder on media in memory.
-
-mod bench;
-mod full;
-mod making;
-mod playing;
-mod recording;
-mod saving;

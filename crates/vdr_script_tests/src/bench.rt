@@ -1,0 +1,174 @@
+// What the lines of scripts work on.
+use crate::gates::{answered_gated, answered_meeting};
+use crate::media::Shelf;
+use crate::ran::Ran;
+use crate::running::{MemoryWorld, answered, contents_of, ran_in, words_of, world_of};
+use crate::setting::Setting;
+use crate::texts::Texts;
+use anyhow::{Result, ensure};
+use std::alloc::Global;
+use std::mem;
+use std::sync::Wait;
+use std::thread::Threads;
+use std::time::Clock;
+use vdr_memory::MemoryMedia;
+
+#[derive(Drop)]
+pub(crate) struct Bench {
+    alloc: Global,
+    texts: Texts,
+    shelf: Shelf,
+    // What stands around the next command.
+    setting: Setting,
+    // The last command.
+    ran: Ran,
+}
+
+impl Bench {
+    pub(crate) fn new(alloc: Global) -> Bench {
+        Bench {
+            alloc,
+            texts: Texts::new(alloc),
+            shelf: Shelf::new(alloc),
+            setting: Setting::new(alloc),
+            ran: Ran::none(alloc),
+        }
+    }
+
+    /// That all that the last command printed was gone over.
+    pub(crate) fn end(&self) -> Result<()> {
+        self.ran.end()
+    }
+
+    // The text of this name; the empty name has none.
+    fn input(&self, name: &str) -> Result<&[u8]> {
+        if name.is_empty() {
+            return Ok(&[]);
+        }
+        self.texts.get(name)
+    }
+
+    // The words and the world of a line `WORDS`, or `WORDS < TEXT`, whose input is that text.
+    fn asked(&mut self, rest: &str, setting: &Setting) -> Result<(Vec<String>, MemoryWorld)> {
+        self.ran.end()?;
+        let (words, name) = rest.rsplit_once(" < ").unwrap_or((rest, ""));
+        let input = self.input(name)?;
+        let words = words_of(self.alloc, words)?;
+        let contents = self.shelf.contents.as_slice();
+        Ok((words, world_of(self.alloc, input, contents, setting)?))
+    }
+
+    // Keeps what a command did, and its media where they were to fail.
+    fn keep(&mut self, ran: Ran, media: MemoryMedia, fails: bool) -> Result<()> {
+        self.ran = ran;
+        self.shelf.contents = contents_of(self.alloc, &media)?;
+        if fails {
+            self.shelf.hold(media);
+        }
+        Ok(())
+    }
+
+    // Runs the command of a line.
+    fn run<R: Threads + Wait + Sync>(&mut self, rt: &R, rest: &str) -> Result<()> {
+        let alloc = self.alloc;
+        let setting = mem::replace(&mut self.setting, Setting::new(alloc));
+        let (words, mut world) = self.asked(rest, &setting)?;
+        let mut lanes = setting.lanes()?;
+        let fails = setting.fails_media();
+        let mut desks = setting.into_desks()?;
+        let status = answered(
+            rt,
+            alloc,
+            words.as_slice(),
+            &mut world,
+            lanes.as_mut_slice(),
+            desks.as_mut_slice(),
+        )?;
+        let ran = ran_in(alloc, status, &world, desks.as_slice())?;
+        self.keep(ran, world.media, fails)
+    }
+
+    // Runs the command of a line over ports that meet.
+    fn run_meeting<R: Threads + Wait + Clock + Sync>(&mut self, rt: &R, rest: &str) -> Result<()> {
+        let setting = Setting::new(self.alloc);
+        let (words, mut world) = self.asked(rest, &setting)?;
+        let status = answered_meeting(rt, self.alloc, words.as_slice(), &mut world)?;
+        let ran = ran_in(self.alloc, status, &world, &[])?;
+        self.keep(ran, world.media, false)
+    }
+
+    // Runs the command of a line over a port that waits for a link.
+    fn run_gated<R: Threads + Wait + Clock + Sync>(&mut self, rt: &R, rest: &str) -> Result<()> {
+        let setting = Setting::new(self.alloc);
+        let (words, mut world) = self.asked(rest, &setting)?;
+        let status = answered_gated(rt, self.alloc, words.as_slice(), &mut world)?;
+        let ran = ran_in(self.alloc, status, &world, &[])?;
+        self.keep(ran, world.media, false)
+    }
+
+    // That all that was printed is this text.
+    fn is(&mut self, name: &str) -> Result<()> {
+        self.ran.printed.pass(self.texts.get(name)?)
+    }
+
+    // That what is left of the output is the first records of this text.
+    fn is_front(&mut self, name: &str) -> Result<()> {
+        let text = self.texts.get(name)?;
+        let left = self.ran.printed.left();
+        ensure!(text.starts_with(left), "it is no front");
+        let next = text.get(left.len());
+        ensure!(
+            next.is_some_and(|byte| byte.is_ascii_digit()),
+            "a record is cut off"
+        );
+        self.ran.printed.pass_all();
+        Ok(())
+    }
+
+    // Follows a line that none of the parts follows. False where there is no such line.
+    fn follow_beside<R: Threads + Wait + Clock + Sync>(
+        &mut self,
+        rt: &R,
+        verb: &str,
+        rest: &str,
+    ) -> Result<bool> {
+        match verb {
+            "$" => self.run(rt, rest)?,
+            "is" => self.is(rest)?,
+            "front" => self.is_front(rest)?,
+            "take" => self
+                .texts
+                .begin(rest, self.ran.printed.left().to_vec(self.alloc)?)?,
+            "meet" => self.run_meeting(rt, rest)?,
+            "gate" => self.run_gated(rt, rest)?,
+            _ => return Ok(false),
+        }
+        Ok(true)
+    }
+
+    /// Follows a line of a script.
+    pub(crate) fn follow<R: Threads + Wait + Clock + Sync>(
+        &mut self,
+        rt: &R,
+        line: &str,
+    ) -> Result<()> {
+        let (verb, rest) = line.split_once(' ').unwrap_or((line, ""));
+        let is_known = self.ran.follow(verb, rest)?
+            || self.texts.follow(verb, rest)?
+            || self.setting.follow(verb, rest)?
+            || self.shelf.follow(verb, rest)?
+            || self.follow_beside(rt, verb, rest)?;
+        ensure!(is_known, "no such line");
+        Ok(())
+    }
+
+    /// Tells what the last command printed that no line has gone over.
+    pub(crate) fn tell(&self, rt: &impl Print) -> Result<()> {
+        let code = self.ran.code;
+        match str::from_utf8(self.ran.printed.left()) {
+            Ok(text) => println!(rt; "status {code}: {text}")?,
+            Err(_) => println!(rt; "status {code}")?,
+        }
+        Ok(())
+    }
+}
