@@ -3,7 +3,7 @@
 //! Numbers are little-endian in every format of the recorder. Digits are decimal, or hexadecimal in either case. The
 //! checksum is the one of IEC 61162-1. What is written reads back.
 //!
-//! Tests: vdr_formats_tests, modules numbers and digits.
+//! Tests: vdr_formats_tests, rows of sentences and records.
 #![tactic(auto)]
 
 mod checksums;

@@ -1,7 +1,7 @@
 //! The table of incident saves on the long-term medium: how it is read, and how a save is added and released, with
 //! what a stop leaves of it at every moment.
 //!
-//! docs/MEDIA.md, "Incident saves". Tests: vdr_media_tests, module incidents.
+//! docs/MEDIA.md, "Incident saves". Tests: vdr_script_tests, script incident.
 #![tactic(auto)]
 
 mod law;

@@ -8,7 +8,7 @@
 //!   steps from [`Position`] to position give its records, of which `pass_by` reads the heads of those that are not
 //!   selected.
 //!
-//! docs/MEDIA.md, "Segments" and "The ring". Tests: vdr_media_tests, modules indexes and surveys.
+//! docs/MEDIA.md, "Segments" and "The ring". Tests: vdr_script_tests, scripts summary and reading.
 #![tactic(auto)]
 
 mod agreeing;

@@ -4,7 +4,7 @@
 //!   answered. What such a recording leaves, and what it replies, stands in `specs/Headline`.
 //! - The program: its help, its version, its media, and every command.
 //!
-//! Tests: vdr_tool_tests, modules recordings and desks; vdr_program_tests runs the program on files.
+//! Tests: vdr_script_tests, scripts record and link; vdr_program_tests runs the program on files.
 #![tactic(auto)]
 
 mod command;

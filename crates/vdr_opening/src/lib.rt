@@ -3,7 +3,7 @@
 //! Opening writes nothing, and has one answer for each image of the media. It reads what stands before the slots, the
 //! front of each slot, and whole only the segments that lack a summary.
 //!
-//! docs/MEDIA.md, "How the media are opened". Tests: vdr_media_tests, module openings.
+//! docs/MEDIA.md, "How the media are opened". Tests: vdr_script_tests, script open.
 #![tactic(auto)]
 
 mod ends;

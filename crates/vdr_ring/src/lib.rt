@@ -7,7 +7,7 @@
 //! - A [`Visit`] reads the records of one slot. A [`Cursor`] goes from slot to slot, and only into those of which the
 //!   segment may have a record that the query selects.
 //!
-//! docs/MEDIA.md, "The ring". Tests: vdr_media_tests, module rings.
+//! docs/MEDIA.md, "The ring". Tests: vdr_recorder_tests, module rings; vdr_script_tests, script wrap.
 #![tactic(auto)]
 
 mod append;

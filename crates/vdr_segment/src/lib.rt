@@ -6,8 +6,8 @@
 //! - Segments as bytes: headers with their summaries, batches, and the walk from batch to batch.
 //! - Slots of an [`Area`]: read whole or by their front; begun, appended to, summarized and closed.
 //!
-//! docs/MEDIA.md, from "Gates" to "Batches", with a worked segment. Tests: vdr_media_tests, modules segments and
-//! slots.
+//! docs/MEDIA.md, from "Gates" to "Batches", with a worked segment. Tests: vdr_script_tests, scripts layout and
+//! summary.
 #![tactic(auto)]
 
 mod area;

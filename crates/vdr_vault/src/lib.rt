@@ -8,8 +8,8 @@
 //! - A visit hands these records to a [`Visitor`], which makes something of them, such as their text.
 //! - The laws of a life say what media hold that were formatted once and then used, run after run.
 //!
-//! docs/MEDIA.md, "How the media are opened" and "How a batch goes to both media". Tests: vdr_media_tests, module
-//! vaults; vdr_tool_tests, module lives.
+//! docs/MEDIA.md, "How the media are opened" and "How a batch goes to both media". Tests: vdr_script_tests, scripts
+//! stop, wrap, incident and life.
 #![tactic(auto)]
 
 mod appending;
