@@ -5,7 +5,7 @@ use Rattle.vdr_command.specs.Refusals.{number_of}
 use Rattle.vdr_command.specs.Outside.{OutputSeen, Writes}
 use Rattle.vdr_command.specs.StatusLine.{status_line}
 use Rattle.vdr_command.specs.declared.status.Status.{Status}
-use Rattle.vdr_command.specs.declared.status.Status.TheVariants.{Done, Config, OutputFault, NoMemory, Feed, NoChannel}
+use Rattle.vdr_command.specs.declared.status.Status.TheVariants.{Done, Config, OutputFault, NoMemory, Feed, NoChannel, Capture}
 
 -- The status of a command that succeeded, or ended otherwise.
 abbrev pub ending : Result ⊤ Status → Status
@@ -38,6 +38,11 @@ abbrev pub IsRefusal : ℕ → ℕ → Status → Type 0
 IsRefusal number offset (Feed n at) = (n ≡ number) × (at ≡ offset)
 IsRefusal number offset NoMemory = ⊤
 IsRefusal number offset status = ⊥
+
+-- The capture was refused so.
+abbrev pub IsCaptureRefusal : ℕ → ℕ → Status → Type 0
+IsCaptureRefusal number offset (Capture n at) = (n ≡ number) × (at ≡ offset)
+IsCaptureRefusal number offset status = ⊥
 
 -- The configuration was refused so, or there was no memory.
 abbrev pub IsConfigRefusal : ConfigBad → Status → Type 0

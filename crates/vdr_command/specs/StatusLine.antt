@@ -9,7 +9,7 @@ use Rattle.vdr_command.specs.declared.status.SaveCause.{SaveCause}
 use Rattle.vdr_command.specs.declared.status.SaveCause.TheVariants.{Label, Nothing, TableFull}
 use Rattle.vdr_command.specs.declared.status.Status.{Status}
 use Rattle.vdr_config.specs.declared.media.TooSmall.{TooSmall}
-use Rattle.vdr_command.specs.declared.status.Status.TheVariants.{Done, Words, Config, Small, Unformatted, Formatted, Damaged, MediaFault, PortFault, LinkFault, InputFault, OutputFault, NoMemory, Feed, NoChannel, NoIncident, SaveRefused, Place, Tick, ExportKind, ExportNothing, ExportMixed, ExportLong, ExportPart}
+use Rattle.vdr_command.specs.declared.status.Status.TheVariants.{Done, Words, Config, Small, Unformatted, Formatted, Damaged, MediaFault, PortFault, LinkFault, InputFault, OutputFault, NoMemory, Feed, NoChannel, NoIncident, SaveRefused, Place, Tick, ExportKind, ExportNothing, ExportMixed, ExportLong, ExportPart, Capture}
 
 -- The program's exit status.
 abbrev pub code_of : Status → ℕ
@@ -37,6 +37,7 @@ code_of ExportNothing = 14
 code_of (ExportMixed place) = 14
 code_of ExportLong = 14
 code_of (ExportPart number) = 14
+code_of (Capture number offset) = 16
 
 -- The names of the media in texts.
 abbrev pub medium_name : ℕ → List ℕ
@@ -57,6 +58,9 @@ link_line link = codes "status 6 link " ++ decimal link ++ codes "\n"
 
 abbrev pub feed_line : (number offset : ℕ) → List ℕ
 feed_line number offset = codes "status 10 feed " ++ decimal number ++ codes " at " ++ decimal offset ++ codes "\n"
+
+abbrev pub capture_line : (number offset : ℕ) → List ℕ
+capture_line number offset = codes "status 16 capture " ++ decimal number ++ codes " at " ++ decimal offset ++ codes "\n"
 
 abbrev pub incident_line : ℕ → List ℕ
 incident_line id = codes "status 11 incident " ++ decimal id ++ codes "\n"
@@ -108,6 +112,7 @@ status_line ExportNothing = codes "status 14 none\n"
 status_line (ExportMixed place) = mixed_line place
 status_line ExportLong = codes "status 14 long\n"
 status_line (ExportPart number) = part_line number
+status_line (Capture number offset) = capture_line number offset
 
 -- The output grew by a front of the text, and by all of it unless the sink's count rose, which never falls.
 pub record Wrote (text : List ℕ) (old new : Option (List ℕ)) (before now : ℕ) : Type 0 where
@@ -119,6 +124,11 @@ pub record Wrote (text : List ℕ) (old new : Option (List ℕ)) (before now : �
 abbrev pub IfFeed : Status → (ℕ → ℕ → Type 0) → Type 0
 IfFeed (Feed number offset) P = P number offset
 IfFeed status P = ⊤
+
+-- What is said of a capture's refusal.
+abbrev pub IfCapture : Status → (ℕ → ℕ → Type 0) → Type 0
+IfCapture (Capture number offset) P = P number offset
+IfCapture status P = ⊤
 
 -- What is said of a medium that is too small.
 abbrev pub IfSmall : Status → (TooSmall → Type 0) → Type 0

@@ -1,9 +1,9 @@
 // The line of each status, as it is written to the output.
-ghost use Rattle.std.specs.Prelude.{◌≡◌, ◌≤◌, ◌+◌, ◌++◌, length};
+ghost use Rattle.std.specs.Prelude.{◌≡◌, ◌≤◌, ◌+◌, ◌++◌, codes, decimal, length};
 ghost use Rattle.arrayvec.specs.ArrayVec.{array_vec_len};
 ghost use Rattle.vdr_terms.specs.Groups.{group_name};
 ghost use Rattle.vdr_command.specs.Endings.{WritesLine};
-ghost use Rattle.vdr_command.specs.StatusLine.{damaged_line, feed_line, incident_line, link_line, medium_name, mixed_line, part_line, port_line, save_line, small_line, status_line};
+ghost use Rattle.vdr_command.specs.StatusLine.{damaged_line, incident_line, link_line, medium_name, mixed_line, part_line, port_line, save_line, small_line, status_line};
 
 use crate::{SaveCause, Status};
 use arrayvec::ArrayVec;
@@ -88,12 +88,13 @@ fn push_link(line: &mut ArrayVec<u8, ROOM>, link: u32)
     push_text(line, b"\n");
 }
 
-// Which item of a feed is refused.
-fn push_feed(line: &mut ArrayVec<u8, ROOM>, number: u8, offset: u64)
-    requires { array_vec_len line.old ≡ 0 }
-    ensures { line.new.items ≡ line.old.items ++ feed_line number offset }
+// What is refused, by its number, and where it begins.
+fn push_refusal(line: &mut ArrayVec<u8, ROOM>, front: &[u8], number: u8, offset: u64)
+    requires empty { array_vec_len line.old ≡ 0 }
+    requires short { length front.now ≤ 20 }
+    ensures { line.new.items ≡ line.old.items ++ (front.now ++ decimal number ++ codes " at " ++ decimal offset ++ codes "\n") }
 {
-    push_text(line, b"status 10 feed ");
+    push_text(line, front);
     push_text(line, Buffer::new().format(number).as_bytes());
     push_text(line, b" at ");
     push_text(line, Buffer::new().format(offset).as_bytes());
@@ -161,7 +162,9 @@ fn line_of(status: Status) -> ArrayVec<u8, ROOM>
         Status::LinkFault(link) => push_link(&mut line, link),
         Status::InputFault => push_text(&mut line, b"status 7 input\n"),
         Status::NoMemory => push_text(&mut line, b"status 9 memory\n"),
-        Status::Feed { number, offset } => push_feed(&mut line, number, offset),
+        Status::Feed { number, offset } => {
+            push_refusal(&mut line, b"status 10 feed ", number, offset);
+        }
         Status::NoIncident(id) => push_incident(&mut line, id),
         Status::SaveRefused(cause) => push_text(&mut line, save_line(cause)),
         Status::Place => push_text(&mut line, b"status 13 place\n"),
@@ -171,6 +174,9 @@ fn line_of(status: Status) -> ArrayVec<u8, ROOM>
         Status::ExportMixed(place) => push_mixed(&mut line, place),
         Status::ExportLong => push_text(&mut line, b"status 14 long\n"),
         Status::ExportPart(number) => push_part(&mut line, number),
+        Status::Capture { number, offset } => {
+            push_refusal(&mut line, b"status 16 capture ", number, offset);
+        }
     }
     line
 }

@@ -71,6 +71,8 @@ pub enum Status {
     ExportLong,
     /// No record has this part of the image, the first that is missing.
     ExportPart(u32),
+    /// The capture is refused by this number, at the packet or block that begins at this offset.
+    Capture { number: u8, offset: u64 },
 }
 
 impl Status {
@@ -99,6 +101,7 @@ impl Status {
             | Status::ExportMixed(_)
             | Status::ExportLong
             | Status::ExportPart(_) => 14,
+            Status::Capture { .. } => 16,
         }
     }
 }

@@ -16,3 +16,7 @@ pub record IsLegalItem (item : Item) : Type 0 where
   pub group : item.group < 16
   pub received : item.received < 2 ^ 48
   pub utc : IsStamp item.utc
+
+-- The item of a feed whose whole body is kept.
+abbrev pub item_in : Item → FeedItem
+item_in held = record { group = held.group; item = record { received = held.received; utc = held.utc; bytes = held.bytes.items } }

@@ -1,7 +1,7 @@
--- Two readings of one input agree.
-use Rattle.std.specs.Prelude.{◌≡◌, ℕ, List}
+-- Two readings of one input agree, and what is written reads back.
+use Rattle.std.specs.Prelude.{◌≡◌, ◌<◌, ◌++◌, ℕ, List, None}
 use Rattle.vdr_terms.specs.Records.{FeedItem}
-use Rattle.vdr_feed.specs.Feed.{IsFeed, IsRefused}
+use Rattle.vdr_feed.specs.Feed.{IsFeed, IsItem, IsRefused, fault_of, spelling}
 
 -- The bytes are a feed of one list of items only.
 abbrev pub OneFeed : Type 0
@@ -15,3 +15,9 @@ NoFeedIsRefused = (limit : ℕ) (bytes : List ℕ) (items : List FeedItem) (numb
 abbrev pub OneRefusal : Type 0
 OneRefusal = (limit : ℕ) (bytes : List ℕ) (number offset other at : ℕ)
     → IsRefused limit bytes number offset → IsRefused limit bytes other at → (number ≡ other) × (offset ≡ at)
+
+-- An item that may stand here is spelled without a fault, and its spelling is that of no other item, whatever follows it.
+abbrev pub ReadsBack : Type 0
+ReadsBack = (limit count floor : ℕ) (i : FeedItem) (rest : List ℕ) → count < limit → IsItem floor i
+    → (fault_of limit count floor (spelling i ++ rest) ≡ None)
+    × ((other : FeedItem) (more : List ℕ) → IsItem floor other → spelling i ++ rest ≡ spelling other ++ more → (i ≡ other) × (rest ≡ more))

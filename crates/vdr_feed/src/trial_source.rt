@@ -4,13 +4,11 @@ ghost use Rattle.vdr_feed.specs.Feed.{spelling};
 ghost use Rattle.vdr_feed.specs.Trial.{trial_item as item_of, trial_state};
 ghost use Rattle.vdr_feed.specs.Generated.{IsSpelled, generated_feed, left_of};
 
+use crate::writing::{LONGEST_ITEM, push, write_item};
 use crate::{Item, trial_item};
 use arrayvec::ArrayVec;
 use std::marker::Model;
 use vdr_outside::{Failed, Source};
-
-/// How many bytes an item is spelled in at most: a head of 19 bytes, and a body.
-const ROOM: usize = 1492;
 
 // What was spelled last.
 #[derive(Drop)]
@@ -20,7 +18,7 @@ struct Spelled {
     index: u64,
     // How many items the feed has.
     count: u64,
-    piece: ArrayVec<u8, ROOM>,
+    piece: ArrayVec<u8, LONGEST_ITEM>,
     // How much of the piece was given.
     given: usize,
 }
@@ -42,27 +40,15 @@ impl Model for GeneratedFeed {
     ghost invariant = { λ s. IsSpelled s.spelled };
 }
 
-fn push(piece: &mut ArrayVec<u8, ROOM>, bytes: &[u8])
-    requires { length piece.old.items + length bytes.now ≤ ROOM }
-    ensures { piece.new.items ≡ piece.old.items ++ bytes.now }
-{
-    let _ = piece.try_extend_from_slice(bytes);
-}
-
 // Spells the item of this index.
-fn spell(state: &mut u32, index: u64, piece: &mut ArrayVec<u8, ROOM>)
+fn spell(state: &mut u32, index: u64, piece: &mut ArrayVec<u8, LONGEST_ITEM>)
     requires { index < 1_000_000 }
     ensures state { state.new ≡ trial_state state.old }
     ensures piece { piece.new.items ≡ spelling (item_of (trial_state state.old) index) }
 {
     let mut item = Item::new();
     trial_item(state, index, &mut item);
-    piece.clear();
-    push(piece, &[item.group]);
-    push(piece, &item.received.to_le_bytes());
-    push(piece, &(item.utc as u64).to_le_bytes());
-    push(piece, &(item.bytes.len() as u16).to_le_bytes());
-    push(piece, item.bytes.as_slice());
+    write_item(&item, piece);
 }
 
 // Spells the next item where all of the last one was given.

@@ -22,6 +22,14 @@ Commands:
             The same, where each transmission group has at most D datagrams (1 to
             10,000) and B bytes of them (6 to 10,000,000) in a second of recorder
             time. What the rate refuses stands in a Gap record.
+  import    Reads a capture of tcpdump, dumpcap or Wireshark from standard input, as pcap or pcapng,
+            to its end, and writes the feed of its datagrams to the UDP ports of the groups,
+            60001 to 60016, to standard output, each as soon as it was read. One that was
+            captured in part is an item without bytes, so that its gap is marked.
+  packets   Reads a capture so, and prints what became of its packets: how many there are, for
+            each group how many of its datagrams were captured whole or cut, for each cause how
+            many were left out, how many the capture lost itself, and how often its clock
+            went back.
   check     Reads a configuration from standard input and prints what it needs: the
             number of groups, the cost of a second and the usable bytes of a segment,
             and the slots of the capsule and of the long-term medium. A medium of N
@@ -103,6 +111,8 @@ Examples:
   vdr . review < examples/harbour.feed
   vdr . review 2 200 < examples/harbour.feed
   vdr . check < examples/ship.json
+  vdr . packets < bridge.pcapng
+  vdr . import < bridge.pcapng | vdr voyage replay
 
 A voyage on bench media, of which the capsule keeps a minute:
   mkdir voyage
@@ -172,4 +182,8 @@ Exit status, with the line that ends the output:
       has to be released first
   13  `status 13 place`: the next place is 2^62 or more; nothing was recorded
   13  `status 13 tick`: a run would begin at a tick of 2^62 or more; nothing was recorded
+  16  `status 16 capture N at OFFSET`: the capture is refused at the packet or block that
+      begins at OFFSET: 1 no capture, 2 cut off, 3 another version or order of bytes, 4 a
+      length, 5 no such interface, 6 too many interfaces, 7 too many items. `import` has
+      written the items before it
 ";

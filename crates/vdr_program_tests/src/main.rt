@@ -1,5 +1,7 @@
 //! Runs the program's command line on files, command by command, as a voyage and its incident go: what it prints is compared with
-//! `stdout`.
+//! `stdout`. The captures are those of docs/formats/capture.md's rules, one for each: a whole heading in both forms, one captured in
+//! part, one cut off, clocks that go back, fragments and options, and packets of each type of link; what they become was told by
+//! a model of that page.
 #![tactic(auto)]
 
 ghost use Rattle.std.specs.Prelude.{◌≡◌, ◌<◌, ◌^◌, ℕ, length, slice_index_or};
@@ -17,7 +19,7 @@ use vdr_session::{Desk, Mark};
 mod tests;
 
 /// The words of each command, and the file that is its input.
-const COMMANDS: [(&str, &str); 14] = [
+const COMMANDS: [(&str, &str); 34] = [
     ("--version", "/dev/null"),
     ("media check", "bench.json"),
     ("media format", "bench.json"),
@@ -38,6 +40,27 @@ const COMMANDS: [(&str, &str); 14] = [
     ("media play incident-1 all - -", "/dev/null"),
     ("media sail", "/dev/null"),
     ("nowhere play capsule all - -", "/dev/null"),
+    // Captures: each becomes a feed, and its packets are counted.
+    (". import", "heading.pcap"),
+    (". packets", "heading.pcap"),
+    (". import", "heading.pcapng"),
+    (". packets", "heading.pcapng"),
+    (". import", "short.pcap"),
+    (". packets", "short.pcap"),
+    (". review", "short.feed"),
+    (". import", "cut_off.pcap"),
+    (". packets", "cut_off.pcap"),
+    (". review", "cut_off.feed"),
+    (". import", "clocks.pcap"),
+    (". packets", "clocks.pcap"),
+    (". import", "fragments.pcap"),
+    (". packets", "fragments.pcap"),
+    (". import", "/dev/null"),
+    (". packets", "/dev/null"),
+    (". import", "header.pcap"),
+    (". packets", "header.pcap"),
+    (". import", "links.pcapng"),
+    (". packets", "links.pcapng"),
 ];
 
 // Makes a file of this length.

@@ -1,3 +1,4 @@
+pub mod CaptureLemmas
 pub mod Completeness
 pub mod CountLemmas
 pub mod FeedLemmas

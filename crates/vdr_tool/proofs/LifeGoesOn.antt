@@ -19,7 +19,7 @@ use Rattle.vdr_replay.specs.Headline.RunEnd.{Broken}
 use Rattle.vdr_replay.specs.declared.ended.Replayed.{Replayed}
 use Rattle.vdr_replay.specs.declared.ended.ReplayRefused.{ReplayRefused}
 use Rattle.vdr_tool.specs.Commands.{Asked}
-use Rattle.vdr_tool.specs.Commands.Asked.{Review, Check, Format, Replay, Play, Incidents, Save, Release, Sources, Watch, Targets, Wav, Picture, Trial}
+use Rattle.vdr_tool.specs.Commands.Asked.{Review, Check, Format, Replay, Play, Incidents, Save, Release, Sources, Watch, Targets, Wav, Picture, Trial, Import, Packets}
 use Rattle.vdr_tool.specs.Lives.{FormatsNothing}
 use Rattle.vdr_command.specs.Opened.{ContentsKept, IsUnopened, KeepsContents, MediaEnds}
 use Rattle.vdr_command.specs.Outside.{MediaSeen, Outside}
@@ -70,6 +70,8 @@ module _ {tells tells_images : Type 0} (c : Configuration) (text : List ℕ) (al
       → tells → RestAs image old.media.disk → Life c text all image → LivesOn c text all old.media.disk new.media.disk
   life_of (Review rate) old new status owed uses none told rest life = absurd uses
   life_of Check old new status owed uses none told rest life = absurd uses
+  life_of Import old new status owed uses none told rest life = absurd uses
+  life_of Packets old new status owed uses none told rest life = absurd uses
   life_of (Format again) old new status owed uses none told rest life = absurd none
   life_of Replay old new status owed uses none told rest life = replay_life old.input.left new.input.left old.media new.media owed.answer owed.media told rest life
   life_of (Play asked) old new status owed uses none told rest life = media_life old.media new.media status owed.media.media told rest life

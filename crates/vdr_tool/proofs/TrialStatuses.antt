@@ -7,7 +7,7 @@ use Rattle.vdr_command.specs.Opened.{PrintsText}
 use Rattle.vdr_command.specs.Outside.{OutputSeen}
 use Rattle.vdr_command.specs.StatusLine.{IfSmall}
 use Rattle.vdr_command.specs.declared.status.Status.{Status}
-use Rattle.vdr_command.specs.declared.status.Status.TheVariants.{Done, Words, Config, Small, Unformatted, Formatted, Damaged, MediaFault, PortFault, LinkFault, InputFault, OutputFault, NoMemory, Feed, NoChannel, NoIncident, SaveRefused, Place, Tick, ExportKind, ExportNothing, ExportMixed, ExportLong, ExportPart}
+use Rattle.vdr_command.specs.declared.status.Status.TheVariants.{Done, Words, Config, Small, Unformatted, Formatted, Damaged, MediaFault, PortFault, LinkFault, InputFault, OutputFault, NoMemory, Feed, NoChannel, NoIncident, SaveRefused, Place, Tick, ExportKind, ExportNothing, ExportMixed, ExportLong, ExportPart, Capture}
 use Rattle.vdr_tool.specs.TrialParts.{IsBenchStatus, IsOwnStatus, IsPartStatus, IsRunStatus}
 use Rattle.vdr_tool.specs.Trials.{IsAfterRun, IsOfOtherMedia, IsTrialStatus}
 
@@ -36,6 +36,7 @@ bench_trial ExportNothing h = absurd h
 bench_trial (ExportMixed place) h = absurd h
 bench_trial ExportLong h = absurd h
 bench_trial (ExportPart part) h = absurd h
+bench_trial (Capture number offset) h = absurd h
 
 pub run_trial : (s : Status) → IsRunStatus s → IsPartStatus s
 run_trial Done h = absurd h
@@ -62,6 +63,7 @@ run_trial ExportNothing h = absurd h
 run_trial (ExportMixed place) h = absurd h
 run_trial ExportLong h = absurd h
 run_trial (ExportPart part) h = absurd h
+run_trial (Capture number offset) h = absurd h
 
 pub stop_status : (s : Status) → IsPartStatus s → IsTrialStatus s
 stop_status Done h = absurd h
@@ -88,6 +90,7 @@ stop_status ExportNothing h = absurd h
 stop_status (ExportMixed place) h = absurd h
 stop_status ExportLong h = absurd h
 stop_status (ExportPart part) h = absurd h
+stop_status (Capture number offset) h = absurd h
 
 -- No work is done where a part of it stopped.
 pub stop_undone : {P : Type 0} (s : Status) → IsPartStatus s → IsWorkDone s → P
@@ -115,6 +118,7 @@ stop_undone ExportNothing h done = absurd h
 stop_undone (ExportMixed place) h done = absurd h
 stop_undone ExportLong h done = absurd h
 stop_undone (ExportPart part) h done = absurd h
+stop_undone (Capture number offset) h done = absurd h
 
 pub stop_prints : (text : List ℕ) (was next : OutputSeen) (s : Status) → IsPartStatus s → PrintsText text s was next
 stop_prints text was next Done h = absurd h
@@ -141,6 +145,7 @@ stop_prints text was next ExportNothing h = absurd h
 stop_prints text was next (ExportMixed place) h = absurd h
 stop_prints text was next ExportLong h = absurd h
 stop_prints text was next (ExportPart part) h = absurd h
+stop_prints text was next (Capture number offset) h = absurd h
 
 pub run_not_formatted : (s : Status) → IsRunStatus s → s ≡ Formatted → ⊥
 run_not_formatted Done h is = absurd h
@@ -167,6 +172,7 @@ run_not_formatted ExportNothing h is = absurd h
 run_not_formatted (ExportMixed place) h is = absurd h
 run_not_formatted ExportLong h is = absurd h
 run_not_formatted (ExportPart part) h is = absurd h
+run_not_formatted (Capture number offset) h is = absurd h
 
 pub run_not_small : (P : TooSmall → Type 0) (s : Status) → IsRunStatus s → IfSmall s P
 run_not_small P Done h = absurd h
@@ -193,6 +199,7 @@ run_not_small P ExportNothing h = absurd h
 run_not_small P (ExportMixed place) h = absurd h
 run_not_small P ExportLong h = absurd h
 run_not_small P (ExportPart part) h = absurd h
+run_not_small P (Capture number offset) h = absurd h
 
 pub own_after : (s : Status) → IsOwnStatus s → IsAfterRun s
 own_after Done h = absurd h
@@ -219,6 +226,7 @@ own_after ExportNothing h = absurd h
 own_after (ExportMixed place) h = absurd h
 own_after ExportLong h = absurd h
 own_after (ExportPart part) h = absurd h
+own_after (Capture number offset) h = absurd h
 
 pub own_not_other : (s : Status) → IsOwnStatus s → IsOfOtherMedia s → ⊥
 own_not_other Done h other = absurd h
@@ -245,3 +253,4 @@ own_not_other ExportNothing h other = absurd h
 own_not_other (ExportMixed place) h other = absurd h
 own_not_other ExportLong h other = absurd h
 own_not_other (ExportPart part) h other = absurd h
+own_not_other (Capture number offset) h other = absurd h

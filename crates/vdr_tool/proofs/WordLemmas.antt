@@ -8,7 +8,7 @@ use Rattle.vdr_control.specs.Orders.{PlainOrder}
 use Rattle.vdr_control.specs.Orders.PlainOrder.{Play as PlayOrder, Status as StatusOrder, Save as SaveOrder, Release as ReleaseOrder}
 use Rattle.vdr_control.specs.Plays.{IsMedium, SpellsBound, SpellsPlay, medium_word}
 use Rattle.vdr_tool.specs.Commands.{Asked, plain}
-use Rattle.vdr_tool.specs.Commands.Asked.{Review, Check, Format, Replay, Play, Incidents, Save, Release, Sources, Watch, Targets, Wav, Picture, Trial}
+use Rattle.vdr_tool.specs.Commands.Asked.{Review, Check, Format, Replay, Play, Incidents, Save, Release, Sources, Watch, Targets, Wav, Picture, Trial, Import, Packets}
 use Rattle.vdr_readout.specs.Reads.{AskedPlay}
 use Rattle.vdr_tool.specs.Runs.{Spells}
 use Rattle.vdr_tool.specs.declared.words.Command.{Command}
@@ -79,6 +79,8 @@ pub target_words : (word first second : List ℕ) (command : Asked) → word ≡
 target_words word first second (Review None) w s = let e = s.words in let none : ⊥ = cc in absurd none
 target_words word first second (Review (Some rate)) w s = let e = s.words in let none : ⊥ = cc in absurd none
 target_words word first second Check w s = let e = s.words in let none : ⊥ = cc in absurd none
+target_words word first second Import w s = let e = s.words in let none : ⊥ = cc in absurd none
+target_words word first second Packets w s = let e = s.words in let none : ⊥ = cc in absurd none
 target_words word first second (Format true) w s = let e = s.words in let none : ⊥ = cc in absurd none
 target_words word first second (Format false) w s = let e = s.words in let none : ⊥ = cc in absurd none
 target_words word first second Replay w s = let e = s.words in let none : ⊥ = cc in absurd none
@@ -116,6 +118,8 @@ pub words_counted : (texts : List (List ℕ)) (command : Asked) → Spells texts
 words_counted texts (Review None) s = inl (ap (λ (l : List (List ℕ)). length l) s.words)
 words_counted texts (Review (Some rate)) s = inr (inr (inl (ap (λ (l : List (List ℕ)). length l) s.words)))
 words_counted texts Check s = inl (ap (λ (l : List (List ℕ)). length l) s.words)
+words_counted texts Import s = inl (ap (λ (l : List (List ℕ)). length l) s.words)
+words_counted texts Packets s = inl (ap (λ (l : List (List ℕ)). length l) s.words)
 words_counted texts (Format true) s = inl (ap (λ (l : List (List ℕ)). length l) s.words)
 words_counted texts (Format false) s = inl (ap (λ (l : List (List ℕ)). length l) s.words)
 words_counted texts Replay s = inl (ap (λ (l : List (List ℕ)). length l) s.words)

@@ -22,6 +22,8 @@ pub data Asked : Type 0 where
   Picture : (asked : AskedPlay) (block : Block) → Asked
   Trial : (seed count : ℕ) → Asked
   Targets : (medium : Medium) (at : ℤ) → Asked
+  Import : Asked
+  Packets : Asked
 
 abbrev pub plain : Command → Asked
 plain (commands.Review rate) = Review rate
@@ -38,3 +40,5 @@ plain (commands.Wav wanted) = Wav (plain_play wanted)
 plain (commands.Picture wanted block) = Picture (plain_play wanted) block
 plain (commands.Trial seed count) = Trial seed count
 plain (commands.Targets medium at) = Targets medium at
+plain commands.Import = Import
+plain commands.Packets = Packets

@@ -3,9 +3,11 @@ use Rattle.std.specs.Prelude.{◌≡◌, ◌≤◌, ◌⊎◌, ℕ, List, String
 use Rattle.std.specs.declared.alloc.Global.{Global}
 use Rattle.vdr_tool.specs.Checks.{checking}
 use Rattle.vdr_tool.specs.Commands.{Asked}
-use Rattle.vdr_tool.specs.Commands.Asked.{Review, Check, Format, Replay, Play, Incidents, Save, Release, Sources, Watch, Targets, Wav, Picture, Trial}
+use Rattle.vdr_tool.specs.Commands.Asked.{Review, Check, Format, Replay, Play, Incidents, Save, Release, Sources, Watch, Targets, Wav, Picture, Trial, Import, Packets}
 use Rattle.vdr_command.specs.Endings.{WritesLine}
 use Rattle.vdr_tool.specs.Formats.{formatting}
+use Rattle.vdr_tool.specs.Imports.{importing}
+use Rattle.vdr_tool.specs.Packets.{counting_packets}
 use Rattle.vdr_readout.specs.Incidents.{listing}
 use Rattle.vdr_command.specs.Outside.{OutputSeen, Outside}
 use Rattle.vdr_readout.specs.Plays.{playing}
@@ -37,6 +39,8 @@ page (Wav asked) = sounding asked
 page (Picture asked block) = picturing asked block
 page (Trial seed count) = trying seed count
 page (Targets medium at) = targeting medium at
+page Import = importing
+page Packets = counting_packets
 
 -- The texts are those of a command.
 pub record Spells (texts : List (List ℕ)) (command : Asked) : Type 0 where

@@ -7,7 +7,9 @@ ghost use Rattle.vdr_tool.specs.Runs.{Asks, Runs, TouchesAsked, page};
 ghost use Rattle.vdr_command.specs.declared.status.Status.TheVariants.{Words};
 
 use crate::checking::answer_check;
+use crate::counting_packets::answer_packets;
 use crate::formatting::answer_format;
+use crate::importing::answer_import;
 use crate::releasing::answer_release;
 use crate::replaying::answer_replay;
 use crate::reviewing::answer_review;
@@ -55,6 +57,8 @@ fn answer<I: Source + Drop, O: Sink + Drop, M: Media + Drop>(
         }
         Command::Trial { seed, count } => answer_trial(alloc, seed, count, world),
         Command::Targets { medium, at } => answer_targets(alloc, medium, at, world),
+        Command::Import => answer_import(world),
+        Command::Packets => answer_packets(world),
     }
 }
 
@@ -89,10 +93,15 @@ fn answer<I: Source + Drop, O: Sink + Drop, M: Media + Drop>(
 /// - `targets MEDIUM AT` reads no input. It prints the table of the ships that the AIS messages of these records report, up to the UTC
 ///   stamp AT, or all where AT is `-`: for each a line `MMSI UTC REPORTS LATITUDE LONGITUDE SPEED COURSE HEADING NAME`, by MMSI.
 ///
+/// - `import` reads a capture from the input to its end, a pcap or a pcapng file, and writes the feed of its datagrams to the ports of the
+///   transmission groups, each as soon as it was read.
+/// - `packets` reads a capture so, and prints what became of its packets: `packets N`, of each group `GROUP whole N cut N`, of each cause
+///   `left CAUSE N`, and `lost N` and `back N`.
+///
 /// Any other words end with `Words`, and nothing is touched. A number is decimal digits without a sign and without a leading zero.
 ///
 /// For each status but `Done` and `OutputFault` the output ends with a status line. It has nothing else, but where a run was closed by
-/// `replay` as the feed was refused or could not be read further: then the summary stands before it.
+/// `replay` as the feed was refused or could not be read further: then the summary stands before it. So does the feed of `import`.
 pub fn run_alone<I: Source + Drop, O: Sink + Drop, M: Media + Drop>(
     alloc: Global,
     words: &[String],

@@ -4,7 +4,9 @@
 mod checking;
 mod command;
 mod counting;
+mod counting_packets;
 mod formatting;
+mod importing;
 mod releasing;
 mod replaying;
 mod reviewing;

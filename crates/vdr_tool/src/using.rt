@@ -11,7 +11,8 @@ pub fn uses_media(words: &[String]) -> bool
     ensures unused { result ≡ false → (command : Asked) → Asks words.now command → (page command).uses_media → ⊥ }
 {
     match command_of(words) {
-        None | Some(Command::Review { .. } | Command::Check) => false,
+        None | Some(Command::Review { .. } | Command::Check | Command::Import | Command::Packets) =>
+            false,
         Some(
             Command::Format { .. }
             | Command::Replay

@@ -12,7 +12,7 @@ ghost use Rattle.vdr_readout.specs.Reads.{AskedPlay, plain_play};
 ghost use Rattle.vdr_entry.specs.declared.query.Medium.{Medium as AMedium};
 ghost use Rattle.vdr_tool.specs.Commands.{Asked, plain};
 ghost use Rattle.vdr_tool.specs.Commands.Asked.{Trial};
-ghost use Rattle.vdr_tool.specs.Runs.{Asks, Spells};
+ghost use Rattle.vdr_tool.specs.Runs.{Asks, Spells, page};
 
 use itoa::Buffer;
 use vdr_config::Rate;
@@ -53,6 +53,10 @@ pub(crate) enum Command<'a> {
     Trial { seed: u32, count: u64 },
     /// The table of ships is told, of what was recorded up to this stamp.
     Targets { medium: Medium, at: i64 },
+    /// A capture becomes a feed.
+    Import,
+    /// What became of a capture's packets is told.
+    Packets,
 }
 
 // A number within these limits, in decimal digits without a sign and without a leading zero.
@@ -82,16 +86,11 @@ fn rate_of(datagrams: &str, bytes: &str) -> Option<Rate>
     Some(Rate { datagrams, bytes })
 }
 
-fn one_word(word: &str) -> Option<Command<'static>>
-    ensures found { (command : Asked) → Spells (word.now ∷ []) command → option_map plain result ≡ Some command }
+// A word that asks for a command over media.
+fn media_word(word: &str) -> Option<Command<'static>>
+    ensures found { (command : Asked) → (page command).uses_media → Spells (word.now ∷ []) command → option_map plain result ≡ Some command }
     ensures only { IfSome result (λ command. Spells (word.now ∷ []) (plain command)) }
 {
-    if word == "review" {
-        return Some(Command::Review { rate: None });
-    }
-    if word == "check" {
-        return Some(Command::Check);
-    }
     if word == "format" {
         return Some(Command::Format { again: false });
     }
@@ -106,6 +105,25 @@ fn one_word(word: &str) -> Option<Command<'static>>
     } else {
         None
     }
+}
+
+fn one_word(word: &str) -> Option<Command<'static>>
+    ensures found { (command : Asked) → Spells (word.now ∷ []) command → option_map plain result ≡ Some command }
+    ensures only { IfSome result (λ command. Spells (word.now ∷ []) (plain command)) }
+{
+    if word == "review" {
+        return Some(Command::Review { rate: None });
+    }
+    if word == "check" {
+        return Some(Command::Check);
+    }
+    if word == "import" {
+        return Some(Command::Import);
+    }
+    if word == "packets" {
+        return Some(Command::Packets);
+    }
+    media_word(word)
 }
 
 // The medium, or the incident, of this name.

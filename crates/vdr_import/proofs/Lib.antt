@@ -1,0 +1,6 @@
+-- Proofs.
+mod Lines
+mod Parts
+mod Progress
+mod Legal
+mod Sums

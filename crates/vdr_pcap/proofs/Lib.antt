@@ -1,0 +1,12 @@
+pub mod BlockLemmas
+pub mod FillingLemmas
+pub mod NumberLemmas
+pub mod OptionLemmas
+pub mod Powers
+pub mod Telling
+pub mod UnitLemmas
+pub mod StepLemmas
+pub mod Local
+pub mod Unique
+pub mod Items
+pub mod Timed
