@@ -7,3 +7,4 @@ mod Shown
 mod Texts
 pub mod Entries
 pub mod Looking
+pub mod Formatters

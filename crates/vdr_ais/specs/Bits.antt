@@ -37,3 +37,7 @@ signed half n = if nat_lt n half then pos n else pos n -ℤ pos (2 * half)
 
 abbrev pub signed_field : (first last : ℕ) → List ℕ → ℤ
 signed_field first last bits = signed (2 ^ (last - first)) (field first last bits)
+
+-- The same in units that are so many times greater.
+abbrev pub scaled_field : (times first last : ℕ) → List ℕ → ℤ
+scaled_field times first last bits = signed (times * 2 ^ (last - first)) (times * field first last bits)

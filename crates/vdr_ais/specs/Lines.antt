@@ -1,13 +1,10 @@
 -- Lines that carry a part of an AIS message: VDM of another ship, VDO of the own ship (IEC 61162-1).
-use Rattle.std.specs.Prelude.{ℕ, ◌==◌, Bool, true, false, ◌&&◌, List, [], map, Option, Some, None, unwrap_or, Result, Ok, Err, bytes_eq, codes, option_map, if◌then◌else◌, nat_eq}
+use Rattle.std.specs.Prelude.{ℕ, ◌==◌, Bool, ◌&&◌, ◌||◌, List, [], map, Option, Some, None, unwrap_or, Result, Ok, Err, bytes_eq, codes, option_map, if◌then◌else◌, nat_eq}
 use Rattle.std.specs.List.{list_all, filter_map}
 use Rattle.std.specs.Option.{option_eq}
 use Rattle.vdr_terms.specs.Records.{Content}
 use Rattle.vdr_terms.specs.Records.Content.{Start, Datagram, Gap, Stop}
-use Rattle.vdr_values.specs.declared.formatter.Formatter.{Formatter}
-use Rattle.vdr_values.specs.declared.formatter.Formatter.TheVariants.{Vdm, Vdo}
 use Rattle.vdr_values.specs.Readings.{Reading, reading}
-use Rattle.vdr_values.specs.Table.{row}
 use Rattle.vdr_values.specs.Values.{value_at, digits_in, raw_in}
 use Rattle.vdr_datagram.specs.Verdicts.{LineReading, line_spans}
 use Rattle.vdr_datagram.specs.Verdicts.LineReading.{Good, Tag, Sentence}
@@ -41,24 +38,22 @@ part_from (Some total) (Some number) (Some payload) (Some fill) =
     if list_all is_legal payload then Some (record { total = total; number = number; sixes = map six payload; fill = fill }) else None
 part_from _ _ _ _ = None
 
-abbrev pub carries : Formatter → Bool
-carries Vdm = true
-carries Vdo = true
-carries _ = false
+abbrev pub carries : (formatter : List ℕ) → Bool
+carries formatter = bytes_eq formatter (codes "VDM") || bytes_eq formatter (codes "VDO")
 
 -- The line of a sentence that reads so. None where it carries no part.
 abbrev pub line_of : (group : ℕ) (source : List ℕ) → Reading → Option Line
 line_of group source r =
-    if carries r.formatter
+    if carries r.row.formatter
     then option_map (λ part. record {
-      key = record { group = group; source = source; formatter = (row r.formatter).code; sequence = digits_in (value_at r.values 2); channel = unwrap_or (raw_in (value_at r.values 3)) [] };
+      key = record { group = group; source = source; formatter = r.row.formatter; sequence = digits_in (value_at r.values 2); channel = unwrap_or (raw_in (value_at r.values 3)) [] };
       part = part;
     }) (part_from (digits_in (value_at r.values 0)) (digits_in (value_at r.values 1)) (raw_in (value_at r.values 4)) (digits_in (value_at r.values 5)))
     else None
 
 -- The same of a sentence whose formatter is told besides. Where the reading has another the line carries no part.
 abbrev pub line_as : (group : ℕ) (source formatter : List ℕ) → Reading → Option Line
-line_as group source formatter r = if bytes_eq (row r.formatter).code formatter then line_of group source r else None
+line_as group source formatter r = if bytes_eq r.row.formatter formatter then line_of group source r else None
 
 abbrev pub line_where : (group : ℕ) (source : List ℕ) → Result (Option Reading) ℕ → Option Line
 line_where group source (Ok (Some r)) = line_of group source r

@@ -1,6 +1,7 @@
 -- The table of ships that AIS messages report (this project's profile).
-use Rattle.std.specs.Prelude.{ℕ, ◌+◌, ◌-◌, ◌^◌, ℤ, pos, List, [], ◌∷◌, ◌++◌, length, fold, replicate, Option, Some, None, unwrap_or, codes, decimal, flat_map}
+use Rattle.std.specs.Prelude.{ℕ, ◌-◌, ℤ, pos, List, [], ◌∷◌, ◌++◌, length, fold, replicate, Option, Some, None, unwrap_or, codes, decimal, flat_map}
 use Rattle.std.specs.Fmt.{signed_decimal}
+use Rattle.std.specs.Option.{option_or}
 use Rattle.std.specs.Ordering.{nat_cmp}
 use Rattle.std.specs.Map.{lookup}
 use Rattle.std.specs.BTreeMap.{insert_entry, is_at}
@@ -10,21 +11,14 @@ use Rattle.vdr_entry.specs.Utc.{utc_text}
 use Rattle.vdr_ais.specs.Bits.{Message, bits_of}
 use Rattle.vdr_ais.specs.Lines.{Line, lines_of}
 use Rattle.vdr_ais.specs.Messages.{message_behind}
-use Rattle.vdr_ais.specs.Reports.{Report, Position, Static, report_in}
-
-pub record Place : Type 0 where
-  pub latitude : ℤ
-  pub longitude : ℤ
-  pub speed : ℕ
-  pub course : ℕ
-  pub heading : ℕ
+use Rattle.vdr_ais.specs.Reports.{Report, Position, report_in}
 
 -- What is known of a ship: the utc of the record in which its last report ended, how many reports there are, its last position, and its
 -- last name, empty where none came.
 pub record Ship : Type 0 where
   pub utc : ℤ
   pub reports : ℕ
-  pub place : Option Place
+  pub place : Option Position
   pub name : List ℕ
 
 -- A ship by its MMSI, in order of number.
@@ -35,25 +29,20 @@ Ships = List (ℕ × Ship)
 abbrev pub unknown : Ship
 unknown = record { utc = pos 0; reports = 0; place = None; name = [] }
 
-abbrev pub mmsi_of : Report → ℕ
-mmsi_of (Position mmsi latitude longitude speed course heading) = mmsi
-mmsi_of (Static mmsi name) = mmsi
-
 -- The ship with one more report.
 abbrev pub told : (utc : ℤ) → Report → Ship → Ship
-told utc (Position mmsi latitude longitude speed course heading) ship = record {
+told utc report ship = record {
   utc = utc;
   reports = one_more ship.reports;
-  place = Some (record { latitude = latitude; longitude = longitude; speed = speed; course = course; heading = heading });
-  name = ship.name;
+  place = option_or report.position ship.place;
+  name = unwrap_or report.name ship.name;
 }
-told utc (Static mmsi name) ship = record { utc = utc; reports = one_more ship.reports; place = ship.place; name = name }
 
 abbrev pub ship_in : Ships → (mmsi : ℕ) → Ship
 ship_in ships mmsi = unwrap_or (lookup (is_at (nat_cmp mmsi)) ships) unknown
 
 abbrev pub with_report : (utc : ℤ) → Ships → Report → Ships
-with_report utc ships report = insert_entry nat_cmp ships (mmsi_of report) (told utc report (ship_in ships (mmsi_of report)))
+with_report utc ships report = insert_entry nat_cmp ships report.mmsi (told utc report (ship_in ships report.mmsi))
 
 abbrev pub if_reported : (utc : ℤ) → Ships → Option Report → Ships
 if_reported utc ships None = ships
@@ -85,10 +74,15 @@ targets_of records = (fold with_record nothing records).ships
 abbrev pub mmsi_text : ℕ → List ℕ
 mmsi_text mmsi = replicate (9 - length (decimal mmsi)) 48 ++ decimal mmsi
 
-abbrev pub place_text : Option Place → List ℕ
+-- A number, or `-` where the message has no field for it.
+abbrev pub number_text : Option ℕ → List ℕ
+number_text None = codes "-"
+number_text (Some n) = decimal n
+
+abbrev pub place_text : Option Position → List ℕ
 place_text None = codes "- - - - -"
 place_text (Some p) =
-    signed_decimal p.latitude ++ codes " " ++ signed_decimal p.longitude ++ codes " " ++ decimal p.speed ++ codes " " ++ decimal p.course ++ codes " " ++ decimal p.heading
+    signed_decimal p.latitude ++ codes " " ++ signed_decimal p.longitude ++ codes " " ++ number_text p.speed ++ codes " " ++ number_text p.course ++ codes " " ++ number_text p.heading
 
 abbrev pub name_text : List ℕ → List ℕ
 name_text [] = codes "-"

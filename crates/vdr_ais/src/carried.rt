@@ -1,13 +1,18 @@
 // What the lines of sentence datagrams carry.
 ghost use Rattle.std.specs.Prelude.{◌≡◌, ◌≤◌, IfSome, length, option_copied, option_map};
 ghost use Rattle.vdr_datagram.specs.Views.{verdict_of};
-ghost use Rattle.vdr_ais.specs.Lines.{line_in, line_of, part_from};
+ghost use Rattle.vdr_ais.specs.Lines.{carries, line_in, line_of, part_from};
 ghost use Rattle.vdr_ais.specs.Views.{line_said, part_of};
 
 use crate::line::{Key, Line, Part};
 use crate::sixes::are_legal;
 use vdr_datagram::LineVerdict;
-use vdr_values::{Fields, Reading, read_value};
+use vdr_values::{Reading, read_value};
+
+/// An AIS message of another ship, and one of the own ship.
+const OTHER: &[u8] = b"VDM";
+
+const OWN: &[u8] = b"VDO";
 
 /// The source of a line that names none.
 const NO_SOURCE: &[u8] = b"-";
@@ -39,25 +44,30 @@ fn part_from<'a>(
     })
 }
 
+fn carries(formatter: &[u8]) -> bool
+    ensures { result ≡ carries formatter.now }
+{
+    formatter == OTHER || formatter == OWN
+}
+
 /// What a sentence that reads so carries.
 pub(crate) fn line_of<'a>(group: u8, source: &'a [u8], reading: &Reading<'a>) -> Option<Line<'a>>
     ensures { option_map line_said result ≡ line_of group source.now reading.now }
 {
-    match reading.fields() {
-        Fields::Vdm(total, number, sequence, channel, payload, fill)
-        | Fields::Vdo(total, number, sequence, channel, payload, fill) => {
-            let part = part_from(total, number, payload, fill)?;
-            let key = Key {
-                group,
-                source,
-                formatter: reading.formatter(),
-                sequence,
-                channel: channel.unwrap_or(b""),
-            };
-            Some(Line { key, part })
-        }
-        _ => None,
+    let formatter = reading.formatter();
+    if !carries(formatter) {
+        return None;
     }
+    let (total, number) = (reading.digits(0), reading.digits(1));
+    let part = part_from(total, number, reading.raw(4), reading.digits(5))?;
+    let key = Key {
+        group,
+        source,
+        formatter,
+        sequence: reading.digits(2),
+        channel: reading.raw(3).unwrap_or(b""),
+    };
+    Some(Line { key, part })
 }
 
 /// What a line of a datagram carries.

@@ -10,14 +10,13 @@ use arrayvec::ArrayVec;
 use std::alloc::{AllocError, Global};
 use std::cmp::Ordering;
 use std::marker::Model;
-use vdr_values::Formatter;
 
 /// A key of its own, and the message of it that has begun.
 #[derive(Drop)]
 pub(crate) struct Entry {
     group: u8,
     source: Vec<u8>,
-    formatter: Formatter,
+    formatter: &'static [u8],
     sequence: Option<u32>,
     channel: ArrayVec<u8, 76>,
     pending: Box<Pending>,
@@ -25,13 +24,12 @@ pub(crate) struct Entry {
 
 impl Model for Entry {
     ghost use Rattle.std.specs.Prelude.{ℕ, List};
-    ghost use Rattle.vdr_values.specs.Table.{row};
     ghost use Rattle.vdr_ais.specs.Lines.{Key as AKey};
     ghost use Rattle.vdr_ais.specs.Pending.{Pending as APending};
 
     ghost Value = { AKey × APending };
 
-    ghost view = { λ e. (record { group = e.group; source = e.source.items; formatter = (row e.formatter).code; sequence = e.sequence; channel = e.channel.items }, e.pending.value) };
+    ghost view = { λ e. (record { group = e.group; source = e.source.items; formatter = e.formatter.now; sequence = e.sequence; channel = e.channel.items }, e.pending.value) };
 }
 
 fn channel_of(text: &[u8]) -> ArrayVec<u8, 76>
@@ -62,11 +60,10 @@ impl Entry {
     pub(crate) fn order(&self, key: &Key<'_>) -> Ordering
         ensures { result ≡ key_cmp (key_of key.now) self.now.0 }
     {
-        let code = self.formatter.code();
         key.group
             .cmp(&self.group)
             .then(key.source.cmp(&self.source.as_slice()))
-            .then(key.formatter.code().cmp(&code))
+            .then(key.formatter.cmp(&self.formatter))
             .then(key.sequence.cmp(&self.sequence))
             .then(key.channel.cmp(&self.channel.as_slice()))
     }

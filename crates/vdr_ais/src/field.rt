@@ -1,6 +1,6 @@
 // The fields of a message by the numbers of their bits.
-ghost use Rattle.std.specs.Prelude.{◌≡◌, ◌≤◌, ◌<◌, ◌+◌, ◌-◌, ◌^◌, length, slice_index};
-ghost use Rattle.vdr_ais.specs.Bits.{bits_of, field, signed, signed_field};
+ghost use Rattle.std.specs.Prelude.{◌≡◌, ◌≤◌, ◌<◌, ◌+◌, ◌-◌, ◌*◌, ◌^◌, length, slice_index};
+ghost use Rattle.vdr_ais.specs.Bits.{bits_of, field, scaled_field, signed, signed_field};
 ghost use Rattle.vdr_ais.specs.Views.{message_of};
 
 use crate::message::Message;
@@ -25,7 +25,7 @@ fn bit(message: &Message, at: usize) -> u32
 
 /// The number that the bits from the first to the last write.
 pub(crate) fn field(message: &Message, first: usize, last: usize) -> u32
-    requires small { last < 256 }
+    requires small { last < 512 }
     requires order { first ≤ last }
     requires short { last < first + 30 }
     requires within { last < length (bits_of (message_of message.now)) }
@@ -54,11 +54,25 @@ fn signed(number: u32, half: u32) -> i32
 
 /// The number in two's complement that the bits from the first to the last write.
 pub(crate) fn signed_field(message: &Message, first: usize, last: usize) -> i32
-    requires small { last < 256 }
+    requires small { last < 512 }
     requires order { first ≤ last }
     requires short { last < first + 30 }
     requires within { last < length (bits_of (message_of message.now)) }
     ensures { result ≡ signed_field first last (bits_of (message_of message.now)) }
 {
     signed(field(message, first, last), 1 << (last - first))
+}
+
+/// The same of at most eighteen bits, in units that are a thousand times greater.
+pub(crate) fn thousands(message: &Message, first: usize, last: usize) -> i32
+    requires small { last < 512 }
+    requires order { first ≤ last }
+    requires short { last < first + 18 }
+    requires within { last < length (bits_of (message_of message.now)) }
+    ensures { result ≡ scaled_field 1000 first last (bits_of (message_of message.now)) }
+{
+    signed(
+        1000 * field(message, first, last),
+        1000 * (1 << (last - first)),
+    )
 }

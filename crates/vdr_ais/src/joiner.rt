@@ -57,7 +57,7 @@ impl Joiner {
             → IfOk result (λ message. option_map message_of message ≡ option_and_then (message_behind back) (line_as group source.now formatter.now reading.now)) }
         ensures kept { OnErr result (self.new ≡ self.old) }
     {
-        if reading.formatter().code() != formatter.as_slice() {
+        if reading.formatter() != formatter.as_slice() {
             return Ok(None);
         }
         let Some(line) = line_of(group, source, reading) else {

@@ -20,5 +20,5 @@ mod unfinished;
 
 pub use joiner::Joiner;
 pub use message::Message;
-pub use report::{Report, read_message};
+pub use report::{Position, Report, read_message};
 pub use table::TargetTable;

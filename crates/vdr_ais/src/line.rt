@@ -3,8 +3,6 @@ ghost use Rattle.std.specs.Prelude.{◌≡◌, ◌≤◌, true, length};
 ghost use Rattle.std.specs.List.{list_all};
 ghost use Rattle.vdr_ais.specs.Bits.{is_legal};
 
-use vdr_values::Formatter;
-
 /// What the parts of one message have in common.
 #[derive(Clone, Copy, Drop)]
 pub(crate) struct Key<'a> {
@@ -13,7 +11,7 @@ pub(crate) struct Key<'a> {
     /// The source that the TAG blocks name.
     pub(crate) source: &'a [u8],
     /// VDM of another ship, VDO of the own ship.
-    pub(crate) formatter: Formatter,
+    pub(crate) formatter: &'static [u8],
     /// The sequential identifier, None where its field is empty.
     pub(crate) sequence: Option<u32>,
     /// The text of the field of the radio channel.

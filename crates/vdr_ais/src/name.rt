@@ -1,5 +1,5 @@
 // The name of a ship.
-ghost use Rattle.std.specs.Prelude.{◌≡◌, ◌≤◌, ◌<◌, ◌==◌, length, position};
+ghost use Rattle.std.specs.Prelude.{◌≡◌, ◌≤◌, ◌<◌, ◌+◌, ◌==◌, length, position};
 ghost use Rattle.std.specs.List.{position_or_len};
 ghost use Rattle.vdr_ais.specs.Bits.{bits_of};
 ghost use Rattle.vdr_ais.specs.Reports.{character, letters, name_in, trimmed};
@@ -21,13 +21,14 @@ fn character(number: u32) -> u8
     }
 }
 
-fn letters(message: &Message) -> ArrayVec<u8, 20>
-    requires { 232 ≤ length (bits_of (message_of message.now)) }
-    ensures { result.items ≡ letters (bits_of (message_of message.now)) }
+fn letters(message: &Message, first: usize) -> ArrayVec<u8, 20>
+    requires small { first ≤ 143 }
+    requires within { first + 120 ≤ length (bits_of (message_of message.now)) }
+    ensures { result.items ≡ letters first (bits_of (message_of message.now)) }
 {
     let mut letters = ArrayVec::new();
     for k in 0..20 {
-        letters.push(character(field(message, 112 + 6 * k, 117 + 6 * k)));
+        letters.push(character(field(message, first + 6 * k, first + 6 * k + 5)));
     }
     letters
 }
@@ -58,12 +59,13 @@ fn trimmed_end(letters: &[u8]) -> usize
     end
 }
 
-/// The name in a message of 232 bits or more: it ends before the first `@`, and spaces at its end do not count.
-pub(crate) fn name_in(message: &Message) -> ArrayVec<u8, 20>
-    requires { 232 ≤ length (bits_of (message_of message.now)) }
-    ensures { result.items ≡ name_in (bits_of (message_of message.now)) }
+/// The name that begins with this bit of a message: it ends before the first `@`, and spaces at its end do not count.
+pub(crate) fn name_in(message: &Message, first: usize) -> ArrayVec<u8, 20>
+    requires small { first ≤ 143 }
+    requires within { first + 120 ≤ length (bits_of (message_of message.now)) }
+    ensures { result.items ≡ name_in first (bits_of (message_of message.now)) }
 {
-    let mut name = letters(message);
+    let mut name = letters(message, first);
     let end = name_end(name.as_slice());
     name.truncate(end);
     let end = trimmed_end(name.as_slice());

@@ -4,10 +4,10 @@ ghost use Rattle.std.specs.Fmt.{signed_decimal};
 ghost use Rattle.arrayvec.specs.ArrayVec.{array_vec_len};
 ghost use Rattle.vdr_terms.specs.Stamps.{IsStamp};
 ghost use Rattle.vdr_entry.specs.Utc.{utc_text};
-ghost use Rattle.vdr_ais.specs.Targets.{mmsi_of, mmsi_text, name_text, place_text, ship_text, told, unknown};
-ghost use Rattle.vdr_ais.specs.Views.{place_said, report_said};
+ghost use Rattle.vdr_ais.specs.Targets.{mmsi_text, name_text, number_text, place_text, ship_text, told, unknown};
+ghost use Rattle.vdr_ais.specs.Views.{position_said, report_said};
 
-use crate::report::Report;
+use crate::report::{Position, Report};
 use arrayvec::ArrayVec;
 use itoa::Buffer;
 use std::marker::Model;
@@ -20,16 +20,6 @@ pub(crate) const ROOM: usize = 120;
 /// How many digits an MMSI has, with the zeros before it.
 const MMSI_DIGITS: usize = 9;
 
-/// A position that was reported.
-#[derive(Clone, Copy, Drop)]
-struct Place {
-    latitude: i32,
-    longitude: i32,
-    speed: u16,
-    course: u16,
-    heading: u16,
-}
-
 /// What is known of a ship.
 #[derive(Drop)]
 pub(crate) struct Ship {
@@ -38,7 +28,7 @@ pub(crate) struct Ship {
     utc: i64,
     reports: u64,
     // The last that was reported.
-    place: Option<Place>,
+    place: Option<Position>,
     // The last that was reported, empty where none was.
     name: ArrayVec<u8, 20>,
 }
@@ -47,11 +37,11 @@ impl Model for Ship {
     ghost use Rattle.std.specs.Prelude.{ℕ, option_map};
     ghost use Rattle.vdr_terms.specs.Stamps.{IsStamp};
     ghost use Rattle.vdr_ais.specs.Targets.{Ship as AShip};
-    ghost use Rattle.vdr_ais.specs.Views.{place_said};
+    ghost use Rattle.vdr_ais.specs.Views.{position_said};
 
     ghost Value = { ℕ × AShip };
 
-    ghost view = { λ s. (s.mmsi, record { utc = s.utc; reports = s.reports; place = option_map place_said s.place; name = s.name.items }) };
+    ghost view = { λ s. (s.mmsi, record { utc = s.utc; reports = s.reports; place = option_map position_said s.place; name = s.name.items }) };
 
     ghost invariant = { λ s. IsStamp s.utc };
 }
@@ -64,15 +54,6 @@ fn name_of(bytes: &[u8]) -> ArrayVec<u8, 20>
     let mut name = ArrayVec::new();
     let _ = name.try_extend_from_slice(bytes);
     name
-}
-
-/// The MMSI of a report.
-pub(crate) fn mmsi_of(report: &Report) -> u32
-    ensures { result ≡ mmsi_of (report_said report.now) }
-{
-    match report {
-        Report::Position { mmsi, .. } | Report::Static { mmsi, .. } => *mmsi,
-    }
 }
 
 // Appends a text, for which there is room.
@@ -118,13 +99,16 @@ fn push_signed(line: &mut ArrayVec<u8, ROOM>, number: i32)
     push_text(line, b" ");
 }
 
-// A number of 16 bits and the space behind it.
-fn push_small(line: &mut ArrayVec<u8, ROOM>, number: u16)
+// A number of 16 bits, or `-`, and the space behind it.
+fn push_small(line: &mut ArrayVec<u8, ROOM>, number: Option<u16>)
     requires room { array_vec_len line.old + 6 ≤ 120 }
-    ensures text { line.new.items ≡ line.old.items ++ decimal number ++ codes " " }
+    ensures text { line.new.items ≡ line.old.items ++ number_text number ++ codes " " }
     ensures short { array_vec_len line.new ≤ array_vec_len line.old + 6 }
 {
-    push_text(line, Buffer::new().format(number).as_bytes());
+    match number {
+        Some(number) => push_text(line, Buffer::new().format(number).as_bytes()),
+        None => push_text(line, b"-"),
+    }
     push_text(line, b" ");
 }
 
@@ -144,9 +128,9 @@ fn push_mmsi(line: &mut ArrayVec<u8, ROOM>, mmsi: u32)
 }
 
 // The numbers of a position, each with the space behind it, or `-` for each.
-fn push_place(line: &mut ArrayVec<u8, ROOM>, place: &Option<Place>)
+fn push_place(line: &mut ArrayVec<u8, ROOM>, place: &Option<Position>)
     requires room { array_vec_len line.old + 42 ≤ 120 }
-    ensures text { line.new.items ≡ line.old.items ++ place_text (option_map place_said place.now) ++ codes " " }
+    ensures text { line.new.items ≡ line.old.items ++ place_text (option_map position_said place.now) ++ codes " " }
     ensures short { array_vec_len line.new ≤ array_vec_len line.old + 42 }
 {
     let Some(place) = place else {
@@ -195,24 +179,11 @@ impl Ship {
     {
         self.utc = utc;
         self.reports = self.reports.saturating_add(1);
-        match report {
-            Report::Position {
-                latitude,
-                longitude,
-                speed,
-                course,
-                heading,
-                ..
-            } => {
-                self.place = Some(Place {
-                    latitude: *latitude,
-                    longitude: *longitude,
-                    speed: *speed,
-                    course: *course,
-                    heading: *heading,
-                });
-            }
-            Report::Static { name, .. } => self.name = name_of(name.as_slice()),
+        if let Some(position) = &report.position {
+            self.place = Some(*position);
+        }
+        if let Some(name) = &report.name {
+            self.name = name_of(name.as_slice());
         }
     }
 

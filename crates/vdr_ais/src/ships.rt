@@ -8,7 +8,13 @@ ghost use Rattle.vdr_ais.specs.Targets.{with_report};
 ghost use Rattle.vdr_ais.specs.Views.{report_said};
 
 use crate::report::Report;
-use crate::ship::{Ship, mmsi_of};
+use crate::ship::Ship;
+
+fn mmsi_of(report: &Report) -> u32
+    ensures { result ≡ (report_said report.now).mmsi }
+{
+    report.mmsi
+}
 
 // Where the ship stands, or where it is to be put.
 fn place_of(ships: &[Ship], mmsi: u32) -> Result<usize, usize>

@@ -24,8 +24,8 @@ use vdr_outside::{Failed, Printable, Sink, write_all};
 
 /// The table of the ships that AIS messages report, one row for each MMSI, in order of number (this project's profile).
 ///
-/// The lines VDM and VDO of sentence datagrams carry messages (IEC 61162-1), of which positions of class A and static data report a ship
-/// (ITU-R M.1371, messages 1, 2, 3 and 5). A line whose TAG blocks name no source counts for the source `-`. It takes memory for its ships
+/// The lines VDM and VDO of sentence datagrams carry messages (IEC 61162-1), of which positions and names report a ship
+/// (ITU-R M.1371, messages 1 to 5, 9, 18, 19, 21, 24 and 27). A line whose TAG blocks name no source counts for the source `-`. It takes memory for its ships
 /// and for what the parts of messages have in common, and none for their lines.
 #[derive(Drop)]
 pub struct TargetTable {

@@ -1,7 +1,7 @@
 // AIS messages, joined from the lines that carry them.
 
 use crate::printing::number;
-use vdr_ais::{Joiner, Message, Report, read_message};
+use vdr_ais::{Joiner, Message, read_message};
 use vdr_memory::MemorySink;
 use vdr_sentence::read_sentence;
 use vdr_values::read_value;
@@ -10,11 +10,8 @@ use vdr_values::read_value;
 fn put_message(message: &Message, out: &mut MemorySink) {
     number(out, message.sixes.len() as u64);
     number(out, u64::from(message.fill));
-    match read_message(message) {
-        Some(Report::Position { mmsi, .. }) | Some(Report::Static { mmsi, .. }) => {
-            number(out, u64::from(mmsi));
-        }
-        None => {}
+    if let Some(report) = read_message(message) {
+        number(out, u64::from(report.mmsi));
     }
 }
 

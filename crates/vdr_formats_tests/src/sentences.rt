@@ -6,7 +6,7 @@ use vdr_datagram::lines;
 use vdr_memory::MemorySink;
 use vdr_sentence::{read_sentence, write_sentence};
 use vdr_tag::{Grouping, read_tags};
-use vdr_values::{Formatter, print_reading};
+use vdr_values::{formatter_of, print_reading};
 
 /// The address of a sentence and its number of fields. Nothing where it is refused, or is written otherwise than it
 /// was read.
@@ -33,10 +33,7 @@ pub(crate) fn field(index: u64, line: &[u8], out: &mut MemorySink) {
 /// The code of a sentence's formatter, and what its fields say. Nothing where it is refused.
 pub(crate) fn value(line: &[u8], out: &mut MemorySink) {
     if let Ok(sentence) = read_sentence(line) {
-        match Formatter::of(sentence.address) {
-            Some(formatter) => word(out, formatter.code()),
-            None => word(out, b"-"),
-        }
+        word(out, formatter_of(sentence.address).unwrap_or(b"-"));
         let mut text = ArrayVec::new();
         print_reading(&sentence, &mut text);
         word(out, text.as_slice());

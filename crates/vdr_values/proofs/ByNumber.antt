@@ -1,5 +1,5 @@
 -- Reading along the forms, by the numbers of the fields.
-use Rattle.std.proofs.Common.{◌≡◌, ◌≤◌, ◌<◌, ◌+◌, ◌-◌, ◌∙◌, ℕ, zero, suc, List, [], ◌∷◌, length, drop, get_or, slice_get, eqb, false, Option, Some, None, Result, Ok, Err, refl, sym, ap, subst, arith, add-one}
+use Rattle.std.proofs.Common.{◌≡◌, ◌<◌, ◌+◌, ◌-◌, ◌∙◌, ℕ, zero, suc, List, [], ◌∷◌, length, drop, get_or, slice_get, eqb, false, Option, Some, None, Result, Ok, Err, refl, sym, ap, subst, arith, add-one}
 use Rattle.std.proofs.lemmas.Bool.{ne_eqb}
 use Rattle.vdr_sentence.specs.Fields.{field, fields}
 use Rattle.vdr_values.specs.Values.{Value}

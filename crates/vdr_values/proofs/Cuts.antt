@@ -1,9 +1,10 @@
 -- The fields of a text that is cut at its commas.
-use Rattle.std.proofs.Common.{◌≡◌, ◌≤◌, ◌∙◌, ◌+◌, ℕ, suc, Bool, true, false, List, [], ◌∷◌, length, take, drop, refl, sym, ap, arith, eqb}
+use Rattle.std.proofs.Common.{◌≡◌, ◌≤◌, ◌∙◌, ◌+◌, ℕ, suc, Bool, true, false, List, [], ◌∷◌, length, length-drop, take, drop, refl, sym, ap, arith, eqb}
 use Rattle.std.specs.List.{onto_first, position_or_len}
-use Rattle.vdr_sentence.specs.Fields.{fields}
+use Rattle.std.proofs.lemmas.List.Splits.{length-slice_split}
+use Rattle.vdr_sentence.specs.Fields.{field_count, fields}
 use Rattle.vdr_sentence.proofs.Bodies.{take_one_more}
-use Rattle.vdr_values.specs.Readings.{fields_behind}
+use Rattle.vdr_values.specs.Readings.{fields_behind, fields_of}
 
 abbrev pub comma_place : List ℕ → ℕ
 comma_place text = position_or_len (λ b. eqb b 44) text
@@ -33,3 +34,7 @@ fields_behind-cut (comma ∷ text) behind before after place some is at front ba
 -- The fields of a content stand behind its address.
 pub fields-behind_address : (content : List ℕ) (place : ℕ) → place ≡ comma_place content → drop 1 (fields content) ≡ fields_behind (drop place content)
 fields-behind_address content place at = ap (drop 1) (fields-first content) ∙ ap (λ k. fields_behind (drop k content)) (sym at)
+
+-- There are as many as commas.
+pub length-fields_of : (content : List ℕ) → length (fields_of content) ≡ field_count content
+length-fields_of content = omega (arith, length-drop 1 (fields content), length-slice_split (λ b. eqb b 44) content)

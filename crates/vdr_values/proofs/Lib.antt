@@ -1,10 +1,12 @@
 pub mod Places
+pub mod Pieces
+pub mod Trims
 pub mod Cuts
 pub mod Along
+pub mod Digits
+pub mod Sizes
 pub mod Legal
-pub mod Kept
-pub mod Trims
-pub mod Pieces
-pub mod Lengths
-pub mod Short
 pub mod ByNumber
+pub mod Costs
+pub mod Lookups
+pub mod Short

@@ -2,9 +2,14 @@
 pub mod Values
 pub mod Spellings
 pub mod Forms
+pub mod Rows
+pub mod Navigation
+pub mod Machinery
+pub mod Alerts
+pub mod Traffic
 pub mod Table
 pub mod Readings
 pub mod Meanings
-pub mod Kinds
 pub mod Texts
+pub mod Legality
 pub mod Views

@@ -2,9 +2,10 @@
 ghost use Rattle.std.specs.Prelude.{◌≡◌, ◌≤◌, true, option_and_then, option_map};
 ghost use Rattle.vdr_values.specs.Forms.{form_value, is_sound};
 ghost use Rattle.vdr_values.specs.Forms as form;
-ghost use Rattle.vdr_values.specs.Views.{angle_value, digits_field, form_of, letter_field, number_value, value_of};
+ghost use Rattle.vdr_values.specs.Views.{form_of, number_value, value_of};
+ghost use Rattle.vdr_values.specs.Values as value;
 
-use crate::spelling::{MILLION, angle, signed_number, time_of_day};
+use crate::spelling::{MILLION, angle, date, signed_number, time_of_day};
 use crate::value::{Num, Value};
 use vdr_bytes::number;
 
@@ -19,10 +20,13 @@ pub(crate) enum Form {
     },
     /// `hhmmss` with an optional fraction.
     Time,
-    /// So many digits of degrees, up to the greatest, and two of minutes, with an optional fraction.
+    /// `ddmmyy`.
+    Date,
+    /// So many digits of degrees, up to the greatest, and two of minutes, with an optional fraction of so many places at most.
     Angle {
         digits: usize,
         greatest: u8,
+        places: usize,
     },
     /// One to `most` digits, which write a number from the least to the greatest.
     Digits {
@@ -48,7 +52,7 @@ fn whole(text: &[u8], greatest: u32) -> Option<Num>
 
 fn digits(text: &[u8], most: usize, least: u32, greatest: u32) -> Option<u32>
     requires { most ≤ 9 }
-    ensures { digits_field result ≡ form_value (form.Digits most least greatest) text.now }
+    ensures { option_map value.Digits result ≡ form_value (form.Digits most least greatest) text.now }
 {
     let n = number(text, most)?;
     let n = u32::try_from(n).ok()?;
@@ -59,7 +63,7 @@ fn digits(text: &[u8], most: usize, least: u32, greatest: u32) -> Option<u32>
 }
 
 fn letter(text: &[u8], letters: &[u8]) -> Option<u8>
-    ensures { letter_field result ≡ form_value (form.Letter letters.now) text.now }
+    ensures { option_map value.Letter result ≡ form_value (form.Letter letters.now) text.now }
 {
     match text {
         [letter] if letters.contains(letter) => Some(*letter),
@@ -77,7 +81,12 @@ impl Form {
             Form::Number => Some(Value::Number(signed_number(text)?)),
             Form::Whole { greatest } => Some(Value::Number(whole(text, greatest)?)),
             Form::Time => Some(Value::Time(time_of_day(text)?)),
-            Form::Angle { digits, greatest } => Some(Value::Angle(angle(text, digits, greatest)?)),
+            Form::Date => Some(Value::Date(date(text)?)),
+            Form::Angle {
+                digits,
+                greatest,
+                places,
+            } => Some(Value::Angle(angle(text, digits, greatest, places)?)),
             Form::Digits {
                 most,
                 least,

@@ -5,25 +5,21 @@
 
 mod bad;
 mod escape;
-mod fields;
 mod form;
-mod formatter;
-mod kinds;
 mod laws;
 mod place;
 mod print;
 mod read;
 mod reading;
+mod row;
 mod spelling;
 mod table;
 mod text;
 mod value;
-mod variants;
 
 pub use bad::BadField;
-pub use fields::Fields;
-pub use formatter::Formatter;
 pub use laws::law_of_reading;
 pub use print::{print_reading, print_value};
 pub use reading::{Reading, read_value};
-pub use value::{Angle, Num, Time};
+pub use row::formatter_of;
+pub use value::Num;

@@ -1,11 +1,11 @@
-// Numbers, times and angles as text.
-ghost use Rattle.std.specs.Prelude.{◌≡◌, ◌≤◌, ◌<◌, ◌+◌, ◌/◌, ◌%◌, ◌++◌, length, decimal, codes};
+// Numbers, times, dates and angles as text.
+ghost use Rattle.std.specs.Prelude.{◌≡◌, ◌≤◌, ◌<◌, ◌+◌, ◌/◌, ◌%◌, ◌++◌, ◌∷◌, length, decimal, codes};
 ghost use Rattle.arrayvec.specs.ArrayVec.{array_vec_len};
 ghost use Rattle.vdr_entry.specs.Utc.{last_digits};
-ghost use Rattle.vdr_values.specs.Texts.{fraction_text, millionths_text, trimmed, value_text};
-ghost use Rattle.vdr_values.specs.Views.{angle_value, number_value, time_value};
+ghost use Rattle.vdr_values.specs.Texts.{billionths_text, fraction_text, millionths_text, trimmed, value_text};
+ghost use Rattle.vdr_values.specs.Views.{angle_value, date_value, number_value, time_value};
 
-use crate::value::{Angle, Num, Time};
+use crate::value::{Angle, Date, Num, Time};
 use arrayvec::ArrayVec;
 use itoa::Buffer;
 
@@ -45,6 +45,22 @@ fn six_digits(n: u32) -> [u8; 6]
     ]
 }
 
+fn nine_digits(n: u32) -> [u8; 9]
+    ensures { result ≡ last_digits 9 n }
+{
+    [
+        digit(n / 10 / 10 / 10 / 10 / 10 / 10 / 10 / 10),
+        digit(n / 10 / 10 / 10 / 10 / 10 / 10 / 10),
+        digit(n / 10 / 10 / 10 / 10 / 10 / 10),
+        digit(n / 10 / 10 / 10 / 10 / 10),
+        digit(n / 10 / 10 / 10 / 10),
+        digit(n / 10 / 10 / 10),
+        digit(n / 10 / 10),
+        digit(n / 10),
+        digit(n),
+    ]
+}
+
 // The digits without the zeros at their end.
 fn trimmed(digits: &[u8]) -> &[u8]
     ensures { result.now ≡ trimmed digits.now }
@@ -59,25 +75,51 @@ fn trimmed(digits: &[u8]) -> &[u8]
     shown
 }
 
-#[tactic(auto, unfolding(crate::specs::Texts::fraction_text))]
-fn print_fraction(millionths: u32, out: &mut ArrayVec<u8, 512>)
-    requires { array_vec_len out.old + length (fraction_text millionths) ≤ 512 }
-    ensures { out.new.items ≡ out.old.items ++ fraction_text millionths }
+// The point and the digits of a fraction, without the zeros at their end.
+fn print_digits(digits: &[u8], out: &mut ArrayVec<u8, 512>)
+    requires { array_vec_len out.old + 1 + length (trimmed digits.now) ≤ 512 }
+    ensures { out.new.items ≡ out.old.items ++ 46 ∷ trimmed digits.now }
 {
-    if millionths == 0 {
-        return;
-    }
     out.push(b'.');
-    append(out, trimmed(&six_digits(millionths)));
+    append(out, trimmed(digits));
+}
+
+#[tactic(auto, unfolding(crate::specs::Texts::fraction_text))]
+fn print_millionths(millionths: u32, out: &mut ArrayVec<u8, 512>)
+    requires { array_vec_len out.old + length (fraction_text 6 millionths) ≤ 512 }
+    ensures { out.new.items ≡ out.old.items ++ fraction_text 6 millionths }
+{
+    if millionths != 0 {
+        print_digits(&six_digits(millionths), out);
+    }
+}
+
+#[tactic(auto, unfolding(crate::specs::Texts::fraction_text))]
+fn print_billionths(billionths: u32, out: &mut ArrayVec<u8, 512>)
+    requires { array_vec_len out.old + length (fraction_text 9 billionths) ≤ 512 }
+    ensures { out.new.items ≡ out.old.items ++ fraction_text 9 billionths }
+{
+    if billionths != 0 {
+        print_digits(&nine_digits(billionths), out);
+    }
 }
 
 #[tactic(auto, unfolding(crate::specs::Texts::millionths_text))]
-fn print_millionths(millionths: u64, out: &mut ArrayVec<u8, 512>)
+fn print_size(millionths: u64, out: &mut ArrayVec<u8, 512>)
     requires { array_vec_len out.old + length (millionths_text millionths) ≤ 512 }
     ensures { out.new.items ≡ out.old.items ++ millionths_text millionths }
 {
     print_decimal(millionths / 1_000_000, out);
-    print_fraction((millionths % 1_000_000) as u32, out);
+    print_millionths((millionths % 1_000_000) as u32, out);
+}
+
+#[tactic(auto, unfolding(crate::specs::Texts::billionths_text))]
+fn print_minutes(billionths: u64, out: &mut ArrayVec<u8, 512>)
+    requires { array_vec_len out.old + length (billionths_text billionths) ≤ 512 }
+    ensures { out.new.items ≡ out.old.items ++ billionths_text billionths }
+{
+    print_decimal(billionths / 1_000_000_000, out);
+    print_billionths((billionths % 1_000_000_000) as u32, out);
 }
 
 /// Appends a number, with its sign unless it is zero, and its fraction.
@@ -88,7 +130,7 @@ pub(crate) fn print_number(number: Num, out: &mut ArrayVec<u8, 512>)
     if number.negative && number.millionths != 0 {
         out.push(b'-');
     }
-    print_millionths(number.millionths, out);
+    print_size(number.millionths, out);
 }
 
 fn clock(time: Time) -> [u8; 8]
@@ -117,7 +159,37 @@ pub(crate) fn print_time(time: Time, out: &mut ArrayVec<u8, 512>)
     ensures { out.new.items ≡ out.old.items ++ value_text (time_value time) }
 {
     append(out, &clock(time));
-    print_fraction(time.millionths, out);
+    print_millionths(time.millionths, out);
+}
+
+fn calendar(date: Date) -> [u8; 10]
+    ensures { result ≡ value_text (date_value date) }
+{
+    let (year, month, day) = (
+        u32::from(date.year),
+        u32::from(date.month),
+        u32::from(date.day),
+    );
+    [
+        digit(year / 10 / 10 / 10),
+        digit(year / 10 / 10),
+        digit(year / 10),
+        digit(year),
+        b'-',
+        digit(month / 10),
+        digit(month),
+        b'-',
+        digit(day / 10),
+        digit(day),
+    ]
+}
+
+/// Appends a date as `yyyy-mm-dd`.
+pub(crate) fn print_date(date: Date, out: &mut ArrayVec<u8, 512>)
+    requires { array_vec_len out.old + length (value_text (date_value date)) ≤ 512 }
+    ensures { out.new.items ≡ out.old.items ++ value_text (date_value date) }
+{
+    append(out, &calendar(date));
 }
 
 /// Appends the degrees of an angle, a space, and its minutes.
@@ -127,5 +199,5 @@ pub(crate) fn print_angle(angle: Angle, out: &mut ArrayVec<u8, 512>)
 {
     print_decimal(u64::from(angle.degrees), out);
     out.push(b' ');
-    print_millionths(u64::from(angle.millionths), out);
+    print_minutes(angle.billionths, out);
 }

@@ -1,14 +1,12 @@
 -- What records show of the equipment on board: heartbeats and states of alarms (sentences HBT and ALR of IEC 61162-1), and where a run of the
 -- recorder begins.
-use Rattle.std.specs.Prelude.{ℕ, ◌||◌, ◌==◌, List, [], ◌∷◌, filter_map, Option, Some, None, Result, Ok, Err, if◌then◌else◌}
+use Rattle.std.specs.Prelude.{ℕ, Bool, ◌||◌, ◌==◌, List, [], ◌∷◌, filter_map, Option, Some, None, Result, Ok, Err, bytes_eq, codes, if◌then◌else◌}
 use Rattle.vdr_terms.specs.Records.{Content, Record}
 use Rattle.vdr_terms.specs.Records.Content.{Start, Datagram, Gap, Stop}
 use Rattle.vdr_datagram.specs.Verdicts.{LineReading, line_spans}
 use Rattle.vdr_datagram.specs.Verdicts.LineReading.{Good, Tag, Sentence}
-use Rattle.vdr_values.specs.declared.formatter.Formatter.{Formatter}
-use Rattle.vdr_values.specs.declared.formatter.Formatter.TheVariants.{Hbt, Alr}
 use Rattle.vdr_values.specs.Readings.{Reading, reading}
-use Rattle.vdr_values.specs.Values.{Value, value_at, digits_in, raw_in, Number, Digits, Letter}
+use Rattle.vdr_values.specs.Values.{Value, value_at, digits_in, letter_in, number_in, raw_in}
 use Rattle.vdr_durability.specs.Sources.{Source}
 use Rattle.vdr_sources.specs.Tables.{named}
 
@@ -31,30 +29,26 @@ pub data Sign : Type 0 where
   Beats : (beat : Heartbeat) → Sign
   Alarms : (alarm : Alarm) (text : Option (List ℕ)) → Sign
 
-abbrev pub letter_in : Option Value → Option ℕ
-letter_in (Some (Letter letter)) = Some letter
-letter_in _ = None
-
 -- An HBT sentence is a heartbeat where its interval is there and above 0.
-abbrev pub heartbeat_of : Source → (tick : ℕ) → (interval sequence : Option Value) → Option Sign
-heartbeat_of source tick (Some (Number negative millionths)) sequence =
-    if negative || millionths == 0 then None else Some (Beats (record { source = source; tick = tick; interval = millionths; sequence = digits_in sequence }))
-heartbeat_of source tick _ sequence = None
+abbrev pub heartbeat_of : Source → (tick : ℕ) → (interval : Option (Bool × ℕ)) → (sequence : Option ℕ) → Option Sign
+heartbeat_of source tick (Some (negative, millionths)) sequence =
+    if negative || millionths == 0 then None else Some (Beats (record { source = source; tick = tick; interval = millionths; sequence = sequence }))
+heartbeat_of source tick None sequence = None
 
 -- An ALR sentence is the state of an alarm where its number is there.
-abbrev pub alarm_of : Source → (number condition acknowledged text : Option Value) → Option Sign
-alarm_of source (Some (Digits number)) condition acknowledged text =
-    Some (Alarms (record { source = source; number = number; condition = letter_in condition; acknowledged = letter_in acknowledged }) (raw_in text))
-alarm_of source _ condition acknowledged text = None
+abbrev pub alarm_of : Source → (number condition acknowledged : Option ℕ) → (text : Option (List ℕ)) → Option Sign
+alarm_of source (Some number) condition acknowledged text = Some (Alarms (record { source = source; number = number; condition = condition; acknowledged = acknowledged }) text)
+alarm_of source None condition acknowledged text = None
 
-abbrev pub sign_told : Formatter → Source → (tick : ℕ) → List (Option Value) → Option Sign
-sign_told Hbt source tick values = heartbeat_of source tick (value_at values 0) (value_at values 2)
-sign_told Alr source tick values = alarm_of source (value_at values 1) (value_at values 2) (value_at values 3) (value_at values 4)
-sign_told _ source tick values = None
+abbrev pub sign_told : (formatter : List ℕ) → Source → (tick : ℕ) → List (Option Value) → Option Sign
+sign_told formatter source tick values =
+    if bytes_eq formatter (codes "HBT") then heartbeat_of source tick (number_in (value_at values 0)) (digits_in (value_at values 2))
+    else if bytes_eq formatter (codes "ALR") then alarm_of source (digits_in (value_at values 1)) (letter_in (value_at values 2)) (letter_in (value_at values 3)) (raw_in (value_at values 4))
+    else None
 
 -- A sentence with a refused field has no reading, and is no sign.
 abbrev pub sign_read : Source → (tick : ℕ) → Result (Option Reading) ℕ → Option Sign
-sign_read source tick (Ok (Some r)) = sign_told r.formatter source tick r.values
+sign_read source tick (Ok (Some r)) = sign_told r.row.formatter source tick r.values
 sign_read source tick (Ok None) = None
 sign_read source tick (Err bad) = None
 

@@ -1,8 +1,8 @@
 // What a line says that is watched.
-ghost use Rattle.std.specs.Prelude.{◌≡◌, ◌≤◌, length, option_map};
+ghost use Rattle.std.specs.Prelude.{◌≡◌, ◌≤◌, length, option_copied, option_map};
 ghost use Rattle.vdr_datagram.specs.Views.{verdict_of};
 ghost use Rattle.vdr_sources.specs.Tables.{named, reading_of};
-ghost use Rattle.vdr_values.specs.Views.{digits_field, letter_field, number_field, raw_field};
+ghost use Rattle.vdr_values.specs.Views.{sign_and_size};
 ghost use Rattle.vdr_watch.specs.SignViews.{sign_value};
 ghost use Rattle.vdr_watch.specs.Signs.{alarm_of, heartbeat_of, sign_in, sign_read, sign_told};
 
@@ -10,7 +10,12 @@ use crate::alarm::Alarm;
 use crate::heartbeat::Heartbeat;
 use arrayvec::ArrayVec;
 use vdr_datagram::LineVerdict;
-use vdr_values::{Fields, Num, Reading, read_value};
+use vdr_values::{Num, Reading, read_value};
+
+// The formatters that are watched.
+const HEARTBEAT: &[u8] = b"HBT";
+
+const ALARM: &[u8] = b"ALR";
 
 // The name of a source that names none.
 const NO_SOURCE: &[u8] = b"-";
@@ -42,7 +47,7 @@ fn heartbeat_of<'a>(
 ) -> Option<Sign<'a>>
     requires group { group ≤ 15 }
     requires short { length name.now ≤ 15 }
-    ensures { option_map sign_value result ≡ heartbeat_of (record { group = group; name = name.now }) tick (number_field interval) (digits_field sequence) }
+    ensures { option_map sign_value result ≡ heartbeat_of (record { group = group; name = name.now }) tick (option_map sign_and_size interval) sequence }
 {
     let interval = interval?;
     if interval.negative || interval.millionths == 0 {
@@ -69,7 +74,7 @@ fn alarm_of<'a>(
     requires group { group ≤ 15 }
     requires short { length name.now ≤ 15 }
     ensures { option_map sign_value result
-        ≡ alarm_of (record { group = group; name = name.now }) (digits_field number) (letter_field condition) (letter_field acknowledged) (raw_field text.entry) }
+        ≡ alarm_of (record { group = group; name = name.now }) number condition acknowledged (option_copied text.entry) }
 {
     let number = number?;
     let alarm = Alarm {
@@ -85,15 +90,24 @@ fn alarm_of<'a>(
 fn sign_told<'a>(group: u8, name: &[u8], tick: u64, reading: &Reading<'a>) -> Option<Sign<'a>>
     requires group { group ≤ 15 }
     requires short { length name.now ≤ 15 }
-    ensures { option_map sign_value result ≡ sign_told reading.now.formatter (record { group = group; name = name.now }) tick reading.now.values }
+    ensures { option_map sign_value result ≡ sign_told reading.now.row.formatter (record { group = group; name = name.now }) tick reading.now.values }
 {
-    match reading.fields() {
-        Fields::Hbt(interval, _, sequence) => heartbeat_of(group, name, tick, interval, sequence),
-        Fields::Alr(_, number, condition, acknowledged, text) => {
-            alarm_of(group, name, number, condition, acknowledged, text)
-        }
-        _ => None,
+    let formatter = reading.formatter();
+    if formatter == HEARTBEAT {
+        return heartbeat_of(group, name, tick, reading.number(0), reading.digits(2));
     }
+    if formatter == ALARM {
+        let (number, text) = (reading.digits(1), reading.raw(4));
+        return alarm_of(
+            group,
+            name,
+            number,
+            reading.letter(2),
+            reading.letter(3),
+            text,
+        );
+    }
+    None
 }
 
 /// The sign that a line is, recorded at this tick. None where it is no heartbeat and no state of an alarm.

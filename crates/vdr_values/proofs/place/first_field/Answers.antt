@@ -1,4 +1,3 @@
-use Rattle.std.proofs.Common.{◌∙◌}
 use Rattle.std.proofs.lemmas.List.{take_rest}
 use Rattle.vdr_values.proofs.Cuts.{fields_behind-cut}
 use Rattle.vdr_values.proofs.place.first_field.Goals as goal
