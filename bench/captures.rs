@@ -1,4 +1,4 @@
-// What `import` does of a pcap file of Ethernet, in plain Rust: buffers of 64 KiB, and each item written by itself or, with a word, gathered.
+// What `import` does of a pcap file of Ethernet, in plain Rust, with buffers of 64 KiB. With a word each item is written by itself.
 use std::fs::File;
 use std::io::{self, BufReader, Read, Write};
 use std::os::fd::FromRawFd;
@@ -87,7 +87,7 @@ fn item(feed: &mut Feed, group: u8, utc: u64, payload: &[u8]) {
 }
 
 fn main() -> io::Result<()> {
-    let gathers = std::env::args().nth(1).is_some();
+    let gathers = std::env::args().nth(1).is_none();
     let mut input = BufReader::with_capacity(65_536, unsafe { File::from_raw_fd(0) });
     let mut output = unsafe { File::from_raw_fd(1) };
     let mut head = [0; 24];

@@ -4,3 +4,7 @@ mod Parts
 mod Progress
 mod Legal
 mod Sums
+mod Relaying
+mod Gathering
+mod FileLemmas
+mod SectionLemmas

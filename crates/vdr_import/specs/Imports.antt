@@ -35,7 +35,7 @@ Imports left now taken taken' (Err Input) = IfReached left (λ parts. Appends ta
 Imports left now taken taken' (Err Output) = IfReached left (λ parts. AppendsFront taken taken' (imported parts))
 
 -- No count of faults falls, and an answer that names the source or the sink comes only where its own rose.
-pub record HasCauses (input input' output output' : ℕ) (result : Result ⊤ ImportRefused) : Type 0 where
+pub record HasCauses {T : Type 0} (input input' output output' : ℕ) (result : Result T ImportRefused) : Type 0 where
   pub later_input : input ≤ input'
   pub later_output : output ≤ output'
   pub input_rose : IsErrOf result Input → Rose input input'

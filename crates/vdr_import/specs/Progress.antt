@@ -1,9 +1,21 @@
 -- How far a reader has come in a capture.
-use Rattle.std.specs.Prelude.{◌≡◌, ◌≤◌, ℕ, true, false, List, Option, None}
-use Rattle.std.specs.Io.KnownBytes.{Consumes}
+use Rattle.std.specs.Prelude.{◌≡◌, ◌≤◌, ℕ, Bool, true, false, List, Option, None, Some, Result, Ok, Err, ⊤}
+use Rattle.std.specs.Io.KnownBytes.{Consumes, IsAtEnd}
+use Rattle.vdr_outside.specs.Writes.{AppendsFront}
 use Rattle.vdr_feed.specs.Feed.{longest_feed}
+use Rattle.vdr_pcap.specs.Seen.{IfKnown}
+use Rattle.vdr_feed.specs.declared.item.Item.{Item}
 use Rattle.vdr_pcap.specs.Capture.{AreParts, Part, course_after, is_begun, no_course, text}
-use Rattle.vdr_pcap.specs.Reader.{Reading}
+use Rattle.vdr_pcap.specs.Reader.{GivesItem, Reading}
+use Rattle.vdr_pcap.specs.Steps.{RefusesAt}
+use Rattle.vdr_pcap.specs.declared.fault.CaptureFault.{CaptureFault}
+use Rattle.vdr_pcap.specs.declared.fault.CaptureFault.TheVariants.{Fault, Refused as ReadRefused}
+use Rattle.vdr_import.specs.Imports.{IfCaptured, IfReached, IfRefusedBehind, imported}
+use Rattle.vdr_import.specs.Relayed.{Gathers}
+use Rattle.vdr_import.specs.declared.refused.ImportRefused.{ImportRefused}
+use Rattle.vdr_import.specs.declared.refused.ImportRefused.TheVariants.{Input, Output, Refused}
+use Rattle.vdr_import.specs.declared.side.Side.{Side}
+use Rattle.vdr_import.specs.declared.side.Side.TheVariants as side
 
 -- Of an input of which first so many bytes were left, it has read the header and these packets or blocks, in their order.
 pub record HasRead (first now : Option (List ℕ)) (r : Reading) (parts : List Part) : Type 0 where
@@ -15,3 +27,25 @@ pub record HasRead (first now : Option (List ℕ)) (r : Reading) (parts : List P
   pub few : r.course.account.items ≤ longest_feed
   pub begun : r.begun ≡ true
   pub going : r.stopped ≡ None
+
+-- What a reader gave through a relay of which a side failed, or none.
+abbrev pub next_as : Result Bool CaptureFault → Option Side → Result Bool ImportRefused
+next_as (Ok more) failed = Ok more
+next_as (Err (ReadRefused number offset)) failed = Err (Refused number offset)
+next_as (Err Fault) (Some side.Output) = Err Output
+next_as (Err Fault) (Some side.Input) = Err Input
+next_as (Err Fault) None = Err Input
+
+-- What was read next, by the answer.
+abbrev pub GivesNext : (left now : Option (List ℕ)) → (r r' : Reading) → Item → Result Bool ImportRefused → Type 0
+GivesNext left now r r' held (Ok more) = GivesItem left now r r' held more
+GivesNext left now r r' held (Err (Refused number offset)) = IfKnown left (λ bytes. RefusesAt r.limit r.course bytes number offset)
+GivesNext left now r r' held (Err Input) = ⊤
+GivesNext left now r r' held (Err Output) = ⊤
+
+-- What was written and what waits, by the answer.
+abbrev pub GathersFeed : (left now taken taken' : Option (List ℕ)) → (waiting : List ℕ) → Result ⊤ ImportRefused → Type 0
+GathersFeed left now taken taken' waiting (Ok x) = IsAtEnd now × IfCaptured left (λ parts. Gathers taken taken' (imported parts) waiting)
+GathersFeed left now taken taken' waiting (Err (Refused number offset)) = IfRefusedBehind left number offset (λ parts. Gathers taken taken' (imported parts) waiting)
+GathersFeed left now taken taken' waiting (Err Input) = IfReached left (λ parts. Gathers taken taken' (imported parts) waiting)
+GathersFeed left now taken taken' waiting (Err Output) = IfReached left (λ parts. AppendsFront taken taken' (imported parts))

@@ -1,23 +1,30 @@
 // The feed of a capture's items.
-ghost use Rattle.std.specs.Prelude.{◌≡◌, ◌≤◌};
+ghost use Rattle.std.specs.Prelude.{◌≡◌, [], true, false, Err, OnErr, OnOk};
 ghost use Rattle.vdr_feed.specs.Feed.{longest_feed};
 ghost use Rattle.vdr_pcap.specs.Reader.{new_reading};
-ghost use Rattle.vdr_import.specs.Imports.{Imports, HasCauses};
+ghost use Rattle.vdr_import.specs.Imports.{HasCauses, Imports};
+ghost use Rattle.vdr_import.specs.Progress.{GathersFeed};
+ghost use Rattle.vdr_import.specs.Relayed.{held_in};
+ghost use Rattle.vdr_import.specs.declared.refused.ImportRefused.TheVariants.{Output};
 
+use crate::buffers::Buffers;
+use crate::next::next_item;
 use crate::refused::ImportRefused;
-use arrayvec::ArrayVec;
-use vdr_feed::{Item, LONGEST_FEED, write_item};
-use vdr_outside::{Sink, Source, write_all};
+use vdr_feed::{Item, LONGEST_FEED};
+use vdr_outside::{Failed, Sink, Source};
 use vdr_pcap::{CaptureFault, CaptureReader};
 
-// Writes the feed of the items that a new reader gives.
-fn import_with<I: Source, O: Sink>(
+// Gathers the feed of the items that a new reader gives, and writes it as far as it was handed on.
+fn gather_feed<I: Source, O: Sink>(
     reader: &mut CaptureReader,
     input: &mut I,
     output: &mut O,
+    buffers: &mut Buffers,
 ) -> Result<(), ImportRefused>
-    requires { reader.old ≡ new_reading longest_feed }
-    ensures imports { Imports (I.left input.old) (I.left input.new) (O.taken output.old) (O.taken output.new) result }
+    requires reader { reader.old ≡ new_reading longest_feed }
+    requires ahead { held_in buffers.old.ahead ≡ [] }
+    requires waiting { held_in buffers.old.gathered ≡ [] }
+    ensures gathers { GathersFeed (I.left input.old) (I.left input.new) (O.taken output.old) (O.taken output.new) (held_in buffers.new.gathered) result }
     ensures causes { HasCauses (I.faults input.old) (I.faults input.new) (O.faults output.old) (O.faults output.new) result }
 {
     match reader.header(input) {
@@ -27,36 +34,74 @@ fn import_with<I: Source, O: Sink>(
             return Err(ImportRefused::Refused { number, offset });
         }
     }
-    match write_all(output, b"VDRFEED1") {
+    match buffers.gathered.push(output, b"VDRFEED1") {
         Ok(()) => {}
         Err(_) => return Err(ImportRefused::Output),
     }
     let mut item = Item::new();
-    let mut spelled = ArrayVec::new();
-    loop {
-        match reader.item(input, &mut item) {
+    'items: loop {
+        match next_item(reader, input, output, buffers, &mut item) {
             Ok(true) => {}
             Ok(false) => return Ok(()),
-            Err(CaptureFault::Fault) => return Err(ImportRefused::Input),
-            Err(CaptureFault::Refused { number, offset }) => {
-                return Err(ImportRefused::Refused { number, offset });
-            }
+            Err(refused) => return Err(refused),
         }
-        write_item(&item, &mut spelled);
-        match write_all(output, spelled.as_slice()) {
+        match buffers.gathered.push_item(output, &item) {
             Ok(()) => {}
             Err(_) => return Err(ImportRefused::Output),
         }
     }
 }
 
-/// Reads a capture to its end and writes the feed of its items: of the datagrams to the ports of the transmission groups, each as
-/// soon as it was read. Where the capture is refused, or the source fails, the feed of the items before was written, and nothing
-/// where there is no header before.
+// Whether the sink failed.
+fn failed_at_output(ended: &Result<(), ImportRefused>) -> bool
+    ensures told { result ≡ true → ended.now ≡ Err Output }
+    ensures none { result ≡ false → ended.now ≡ Err Output → ⊥ }
+{
+    matches!(ended, Err(ImportRefused::Output))
+}
+
+// How it ended, once what was gathered was written so.
+fn ended_by(
+    ended: Result<(), ImportRefused>,
+    written: Result<(), Failed>,
+) -> Result<(), ImportRefused>
+    ensures same { OnOk written (result ≡ ended) }
+    ensures blamed { OnErr written (result ≡ Err Output) }
+{
+    match written {
+        Ok(()) => ended,
+        Err(_) => Err(ImportRefused::Output),
+    }
+}
+
+// Writes the feed of the items that a new reader gives.
+fn import_with<I: Source, O: Sink>(
+    reader: &mut CaptureReader,
+    input: &mut I,
+    output: &mut O,
+    buffers: &mut Buffers,
+) -> Result<(), ImportRefused>
+    requires reader { reader.old ≡ new_reading longest_feed }
+    requires ahead { held_in buffers.old.ahead ≡ [] }
+    requires waiting { held_in buffers.old.gathered ≡ [] }
+    ensures imports { Imports (I.left input.old) (I.left input.new) (O.taken output.old) (O.taken output.new) result }
+    ensures causes { HasCauses (I.faults input.old) (I.faults input.new) (O.faults output.old) (O.faults output.new) result }
+{
+    let ended = gather_feed(reader, input, output, buffers);
+    if failed_at_output(&ended) {
+        return ended;
+    }
+    ended_by(ended, buffers.gathered.hand_on(output))
+}
+
+/// Reads a capture to its end and writes the feed of its items: of the datagrams to the ports of the transmission groups. It reads
+/// ahead and gathers, and before it reads on, which may wait, all that is gathered is written. Where the capture is refused, or the
+/// source fails, the feed of the items before was written, and nothing where there is no header before.
 pub fn import<I: Source, O: Sink>(input: &mut I, output: &mut O) -> Result<(), ImportRefused>
     ensures imports { Imports (I.left input.old) (I.left input.new) (O.taken output.old) (O.taken output.new) result }
     ensures causes { HasCauses (I.faults input.old) (I.faults input.new) (O.faults output.old) (O.faults output.new) result }
 {
     let mut reader = CaptureReader::new(LONGEST_FEED);
-    import_with(&mut reader, input, output)
+    let mut buffers = Buffers::new();
+    import_with(&mut reader, input, output, &mut buffers)
 }
