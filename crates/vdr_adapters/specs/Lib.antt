@@ -1,2 +1,4 @@
--- Its objects meet the definitions of vdr_outside.
-pub mod Answers
+-- Which calls on files are made.
+pub mod Files
+pub mod Opened
+pub mod Media

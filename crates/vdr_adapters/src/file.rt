@@ -1,40 +1,38 @@
-// One medium as a file.
+// One medium as a file, of which each call is one call on the file.
 //
 // The sync of a file that may only be read succeeds where its file system has no syncs, since nothing was written
-// that it could lose; of a file that may be written each failed sync is a fault.
-ghost use Rattle.std.specs.Prelude.{◌≡◌, ◌+◌, ◌-◌, ◌^◌, min, length};
+// that it could lose; of a file that may be written each failed sync is a fault. After a write or a sync that failed the
+// system may hold what its disk has not, as data that needs no sync: so a mark is left, which outlives the process.
+ghost use Rattle.std.specs.Prelude.{◌≡◌, ◌+◌, ◌-◌, ◌^◌, ℕ, List, [], ◌∷◌, min, length, is_ok, IfOk, OnOk, OnErr};
 ghost use Rattle.vdr_outside.specs.Causes.{HasCause};
+ghost use Rattle.vdr_adapters.specs.Files.{IsFile, IsPlaced, Makes, MakesAt, open_for, or_left};
+ghost use Rattle.vdr_adapters.specs.Files.Call.{Leave, Read, Sync, Write};
+ghost use Rattle.vdr_adapters.specs.Files.Place.{Missing, Shut};
+ghost use Rattle.vdr_adapters.specs.Media.{place_in};
 
 use crate::Trouble;
-use std::fs::{File, Files, OpenOptions, TryLockError};
-use std::io::{ErrorKind, Seek, SeekFrom};
-use std::os::unix::fs::FileExt;
-use std::{fs, io};
+use crate::folder::{Access, MediaFolder, MediumFile, Unopened};
+use std::alloc::AllocError;
+use std::io;
+use std::io::ErrorKind;
 use vdr_outside::Failed;
 
-/// What the file of a medium is opened for.
-#[derive(Clone, Copy, Drop)]
-pub(crate) enum Access {
-    /// For reading and writing, with an exclusive lock.
-    Full,
-    /// For reading alone, with a shared lock. A write fails.
-    Reading,
-}
-
-// What stands at the path of a medium.
-#[derive(Drop)]
-enum Place {
+// What stands at the name of a medium.
+#[derive(Clone, Copy, PartialEq, Drop)]
+enum State {
     Missing,
     // There is a file, and it can't be opened or is locked.
     Shut,
-    Open(File),
-    ReadOnly(File),
+    Open,
+    ReadOnly,
 }
 
 /// A medium over a file or a block device, whose length as it is opened is the medium's size for good.
 #[derive(Drop)]
-pub(crate) struct FileMedium {
-    place: Place,
+pub(crate) struct FileMedium<F: MediumFile + Drop> {
+    state: State,
+    // There is one where it is open.
+    file: Option<F>,
     // What stood in the way as it was opened, or at the last call that failed.
     trouble: Option<Trouble>,
     pub(crate) size: u64,
@@ -42,43 +40,13 @@ pub(crate) struct FileMedium {
     pub(crate) bytes_read: u64,
 }
 
-// The length of the file at a path, 0 where that can't be told.
-fn length_at<R: Files>(rt: &R, path: &str) -> u64 {
-    match fs::metadata(rt, path) {
-        Ok(metadata) => metadata.len(),
-        Err(_) => 0,
-    }
-}
-
-// The length of an open file. The metadata of a block device have none, and its end does.
-fn length_of(file: &File) -> io::Result<u64> {
-    let mut handle = file;
-    handle.seek(SeekFrom::End(0))
-}
-
-// Locks a file as its access asks it. The system drops the lock with the file.
-fn lock(file: &File, access: Access) -> Result<(), Trouble> {
-    let locked = match access {
-        Access::Full => file.try_lock(),
-        Access::Reading => file.try_lock_shared(),
-    };
-    match locked {
-        Ok(()) => Ok(()),
-        Err(TryLockError::WouldBlock) => Err(Trouble::InUse),
-        Err(TryLockError::Error(error)) => Err(Trouble::System(error)),
-    }
-}
-
-/// What says that the file at a path may only be read, None where it may be written or is missing. It is opened, and not locked.
-pub(crate) fn protection_of<R: Files<File = File>>(rt: &R, path: &str) -> Option<Trouble> {
-    match OpenOptions::new().write(true).open(rt, path) {
-        Ok(_) => None,
-        Err(error) => match error.kind() {
-            ErrorKind::PermissionDenied | ErrorKind::ReadOnlyFilesystem => {
-                Some(Trouble::System(error))
-            }
-            _ => None,
-        },
+// The state of a medium whose file is open for this access.
+fn state_of(access: Access) -> State
+    ensures { result ≡ open_for access }
+{
+    match access {
+        Access::Full => State::Open,
+        Access::Reading => State::ReadOnly,
     }
 }
 
@@ -90,7 +58,7 @@ fn has_nothing_to_sync(error: &io::Error) -> bool {
     )
 }
 
-// The outcome of a call on a file.
+// The outcome of a call on a file that leaves no mark.
 fn told(outcome: io::Result<()>) -> Result<(), Option<Trouble>> {
     match outcome {
         Ok(()) => Ok(()),
@@ -98,10 +66,56 @@ fn told(outcome: io::Result<()>) -> Result<(), Option<Trouble>> {
     }
 }
 
-impl FileMedium {
-    fn new(place: Place, size: u64, trouble: Option<Trouble>) -> FileMedium {
+// The outcome of a call on a file, of which the mark is left where it failed.
+fn or_mark<F: MediumFile>(file: &mut F, outcome: io::Result<()>) -> Result<(), Option<Trouble>>
+    ensures same { is_ok result ≡ is_ok outcome }
+    ensures kept { OnOk outcome (file.new ≡ file.old) }
+    ensures left { OnErr outcome (Makes (F.seen file.old) (F.seen file.new) (Leave ∷ [])) }
+{
+    match outcome {
+        Ok(()) => Ok(()),
+        Err(error) => {
+            file.leave_mark(&error);
+            Err(Some(Trouble::System(error)))
+        }
+    }
+}
+
+// Writes the bytes from `at` on.
+fn write_to<F: MediumFile>(file: &mut F, at: u64, bytes: &[u8]) -> Result<(), Option<Trouble>>
+    ensures calls { Makes (F.seen file.old) (F.seen file.new) (or_left (is_ok result) (Write at bytes.now)) }
+{
+    let outcome = file.write_all_at(bytes, at);
+    or_mark(file, outcome)
+}
+
+// Syncs the data of a file.
+fn sync_of<F: MediumFile>(file: &mut F) -> Result<(), Option<Trouble>>
+    ensures calls { Makes (F.seen file.old) (F.seen file.new) (or_left (is_ok result) Sync) }
+{
+    let outcome = file.sync_data();
+    or_mark(file, outcome)
+}
+
+// Syncs the data of a file that may only be read.
+fn sync_read<F: MediumFile>(file: &mut F) -> Result<(), Option<Trouble>>
+    ensures calls { Makes (F.seen file.old) (F.seen file.new) (Sync ∷ []) }
+{
+    match file.sync_data() {
+        Err(error) if has_nothing_to_sync(&error) => Ok(()),
+        synced => told(synced),
+    }
+}
+
+impl<F: MediumFile + Drop> FileMedium<F> {
+    fn new(state: State, file: Option<F>, size: u64, trouble: Option<Trouble>) -> FileMedium<F>
+        ensures state { result.state ≡ state }
+        ensures file { result.file ≡ file }
+        ensures size { result.size ≡ size }
+    {
         FileMedium {
-            place,
+            state,
+            file,
             trouble,
             size,
             faults: 0,
@@ -110,55 +124,75 @@ impl FileMedium {
     }
 
     /// A medium that nothing uses.
-    pub(crate) fn unused() -> FileMedium {
-        FileMedium::new(Place::Missing, 0, None)
+    pub(crate) fn unused() -> FileMedium<F>
+        ensures place { place_in result ≡ Missing }
+        ensures size { result.size ≡ 0 }
+    {
+        FileMedium::new(State::Missing, None, 0, None)
     }
 
-    /// A medium over the file at this path that is not opened: it has its size where that can be told, and each call fails.
-    pub(crate) fn closed<R: Files>(rt: &R, path: &str) -> FileMedium {
-        FileMedium::new(Place::Shut, length_at(rt, path), None)
+    /// A medium that is not opened: it has this size, and each call fails.
+    pub(crate) fn closed(size: u64) -> FileMedium<F>
+        ensures { place_in result ≡ Shut }
+    {
+        FileMedium::new(State::Shut, None, size, None)
     }
 
-    /// The medium over the file at this path. A file that is missing is a medium of size 0. One that can't be opened, or that
+    /// The medium over the file of this name. A file that is missing is a medium of size 0. One that can't be opened, or that
     /// is locked, has its size where that can be told, and each call on it fails.
-    pub(crate) fn open<R: Files<File = File>>(rt: &R, path: &str, access: Access) -> FileMedium {
-        let opened = OpenOptions::new()
-            .read(true)
-            .write(access == Access::Full)
-            .open(rt, path);
-        let file = match opened {
+    pub(crate) fn open<D: MediaFolder<File = F>>(
+        folder: &D,
+        name: &str,
+        mark: &str,
+        access: Access,
+    ) -> Result<FileMedium<F>, AllocError>
+        ensures { IfOk result (λ medium. IsPlaced F.seen (place_in medium) name.now mark.now access medium.size) }
+    {
+        let file = match folder.open(name, mark, access) {
             Ok(file) => file,
-            Err(error) if error.kind() == ErrorKind::NotFound => {
-                return FileMedium::new(Place::Missing, 0, Some(Trouble::System(error)));
+            Err(Unopened::Missing(trouble)) => {
+                return Ok(FileMedium::new(State::Missing, None, 0, Some(trouble)));
             }
-            Err(error) => {
-                let trouble = Some(Trouble::System(error));
-                return FileMedium::new(Place::Shut, length_at(rt, path), trouble);
+            Err(Unopened::Shut(trouble)) => {
+                let size = folder.length_of(name);
+                return Ok(FileMedium::new(State::Shut, None, size, Some(trouble)));
             }
+            Err(Unopened::NoMemory) => return Err(AllocError),
         };
-        let size = match length_of(&file) {
+        Ok(FileMedium::of(file, access))
+    }
+
+    // The medium over a file that was opened for this access. Its length is asked for, and then it is locked.
+    fn of(mut file: F, access: Access) -> FileMedium<F>
+        ensures { (name mark : List ℕ) → IsFile (F.seen file) (record { name = name; mark = mark; access = access; calls = [] })
+            → IsPlaced F.seen (place_in result) name mark access result.size }
+    {
+        let size = match file.length() {
             Ok(size) => size,
-            Err(error) => return FileMedium::new(Place::Shut, 0, Some(Trouble::System(error))),
+            Err(error) => {
+                return FileMedium::new(State::Shut, None, 0, Some(Trouble::System(error)));
+            }
         };
-        if let Err(trouble) = lock(&file, access) {
-            return FileMedium::new(Place::Shut, size, Some(trouble));
+        if let Err(trouble) = file.try_lock(access) {
+            return FileMedium::new(State::Shut, None, size, Some(trouble));
         }
-        let place = match access {
-            Access::Full => Place::Open(file),
-            Access::Reading => Place::ReadOnly(file),
-        };
-        FileMedium::new(place, size, None)
+        FileMedium::new(state_of(access), Some(file), size, None)
     }
 
     /// Closes the file, so that each call fails.
     pub(crate) fn shut(&mut self)
         ensures size { self.new.size ≡ self.old.size }
+        ensures place { place_in self.new ≡ Shut }
     {
-        self.place = Place::Shut;
+        self.state = State::Shut;
+        self.file = None;
     }
 
     /// The same medium, with what stands in the way of writing to it.
-    pub(crate) fn protected_by(self, protection: Option<Trouble>) -> FileMedium {
+    pub(crate) fn protected_by(self, protection: Option<Trouble>) -> FileMedium<F>
+        ensures place { place_in result ≡ place_in self }
+        ensures size { result.size ≡ self.size }
+    {
         FileMedium {
             trouble: self.trouble.or(protection),
             ..self
@@ -167,12 +201,12 @@ impl FileMedium {
 
     /// Whether there is no file.
     pub(crate) fn is_missing(&self) -> bool {
-        matches!(self.place, Place::Missing)
+        self.state == State::Missing
     }
 
     /// Whether there is a file, and it can't be opened.
     pub(crate) fn is_shut(&self) -> bool {
-        matches!(self.place, Place::Shut)
+        self.state == State::Shut
     }
 
     /// What stood in the way as it was opened, or at the last call that failed.
@@ -182,6 +216,8 @@ impl FileMedium {
 
     // What a call answers. Where it failed, it is counted, and what stood in the way is kept, if it wasn't before.
     fn answer(&mut self, outcome: Result<(), Option<Trouble>>) -> Result<(), Failed>
+        ensures same { is_ok result ≡ is_ok outcome }
+        ensures place { place_in self.new ≡ place_in self.old }
         ensures cause { HasCause self.old.faults self.new.faults result }
         ensures size { self.new.size ≡ self.old.size }
         ensures bytes_read { self.new.bytes_read ≡ self.old.bytes_read }
@@ -197,29 +233,31 @@ impl FileMedium {
 
     /// Reads the bytes from `at` on. All of them count as read.
     pub(crate) fn read(&mut self, at: u64, into: &mut [u8]) -> Result<(), Failed>
+        ensures calls { MakesAt F.seen (place_in self.old) (place_in self.new) (Read at (length into.old) ∷ []) (Read at (length into.old) ∷ []) }
         ensures cause { HasCause self.old.faults self.new.faults result }
         ensures size { self.new.size ≡ self.old.size }
         ensures bytes_read { self.new.bytes_read ≡ min (self.old.bytes_read + length into.old) (2 ^ 64 - 1) }
     {
         self.bytes_read = self.bytes_read.saturating_add(into.len() as u64);
-        let outcome = match &self.place {
-            Place::Missing => Ok(()),
-            Place::Shut => Err(None),
-            Place::Open(file) | Place::ReadOnly(file) => told(file.read_exact_at(into, at)),
+        let outcome = match (self.state, &mut self.file) {
+            (State::Missing, _) => Ok(()),
+            (State::Open | State::ReadOnly, Some(file)) => told(file.read_exact_at(into, at)),
+            _ => Err(None),
         };
         self.answer(outcome)
     }
 
     /// Writes the bytes from `at` on.
     pub(crate) fn write(&mut self, at: u64, bytes: &[u8]) -> Result<(), Failed>
+        ensures calls { MakesAt F.seen (place_in self.old) (place_in self.new) (or_left (is_ok result) (Write at bytes.now)) [] }
         ensures cause { HasCause self.old.faults self.new.faults result }
         ensures size { self.new.size ≡ self.old.size }
         ensures bytes_read { self.new.bytes_read ≡ self.old.bytes_read }
     {
-        let outcome = match &self.place {
-            Place::Missing => Ok(()),
-            Place::Shut | Place::ReadOnly(_) => Err(None),
-            Place::Open(file) => told(file.write_all_at(bytes, at)),
+        let outcome = match (self.state, &mut self.file) {
+            (State::Missing, _) => Ok(()),
+            (State::Open, Some(file)) => write_to(file, at, bytes),
+            _ => Err(None),
         };
         self.answer(outcome)
     }
@@ -227,18 +265,16 @@ impl FileMedium {
     /// Syncs the data of the file, as the operating system does it. Of a file that is missing there is nothing to sync, nor
     /// of one that may only be read where the file system has no syncs.
     pub(crate) fn sync(&mut self) -> Result<(), Failed>
+        ensures calls { MakesAt F.seen (place_in self.old) (place_in self.new) (or_left (is_ok result) Sync) (Sync ∷ []) }
         ensures cause { HasCause self.old.faults self.new.faults result }
         ensures size { self.new.size ≡ self.old.size }
         ensures bytes_read { self.new.bytes_read ≡ self.old.bytes_read }
     {
-        let outcome = match &self.place {
-            Place::Missing => Ok(()),
-            Place::Shut => Err(None),
-            Place::Open(file) => told(file.sync_data()),
-            Place::ReadOnly(file) => match file.sync_data() {
-                Err(error) if has_nothing_to_sync(&error) => Ok(()),
-                synced => told(synced),
-            },
+        let outcome = match (self.state, &mut self.file) {
+            (State::Missing, _) => Ok(()),
+            (State::Open, Some(file)) => sync_of(file),
+            (State::ReadOnly, Some(file)) => sync_read(file),
+            _ => Err(None),
         };
         self.answer(outcome)
     }

@@ -1,22 +1,21 @@
-//! The objects of the outside over the operating system: the standard streams, the media as files, the ports of the transmission groups
-//! over UDP, and the operator's link over TCP. They tell no content, and count their faults.
+//! The objects of the outside over the operating system: the standard streams, and the media as files. They tell no content, and count
+//! their faults.
+//!
+//! Which file a call on a medium reaches, and how, is proved over a folder and its files as traits (`folder`): those of the operating
+//! system (`system`) hand each call on.
 #![tactic(auto)]
 
-mod alarm;
-mod calls;
 mod file;
+mod folder;
 mod media;
-mod pending;
 mod standard;
 mod streams;
-mod tcp;
+mod system;
 mod trouble;
-mod udp;
 
-pub use alarm::Alarm;
+pub use folder::{Access, MediaFolder, MediumFile, Unopened};
 pub use media::FileMedia;
 pub use standard::StandardStreams;
 pub use streams::{StdIn, StdOut};
-pub use tcp::TcpLink;
+pub use system::{SystemFile, SystemFolder};
 pub use trouble::Trouble;
-pub use udp::UdpPort;

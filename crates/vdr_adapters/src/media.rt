@@ -2,40 +2,68 @@
 //
 // The capsule's lock is asked for first, so that of two processes at once one goes on. Where one file may only be
 // read both are opened so: else a command that fails half way would leave the capsule ahead.
-ghost use Rattle.std.specs.Prelude.{◌≡◌, [], ◌∷◌};
-ghost use Rattle.vdr_outside.specs.Untold.{sizes_alone};
+ghost use Rattle.std.specs.Prelude.{◌≡◌, ◌+◌, [], ◌∷◌, length, slice_range, is_ok, IfOk, OnOk, OnErr};
+ghost use Rattle.vdr_outside.specs.Causes.{HasCauseOn, counted};
+ghost use Rattle.vdr_outside.specs.Disk.{Durable, Elapses, InRange, Narrows, Overwritten, Rises, Tears, Unchanged, content, written};
+ghost use Rattle.vdr_adapters.specs.Files.{MakesAt, or_left};
+ghost use Rattle.vdr_adapters.specs.Files.Call.{Read, Sync, Write};
+ghost use Rattle.vdr_adapters.specs.Media.{OnOwn, disk_of, faults_of, place_in, read_of};
+ghost use Rattle.vdr_adapters.specs.Opened.{AreOpened, AreOpenedFor};
 
 use crate::Trouble;
-use crate::alarm::Alarm;
-use crate::file::{Access, FileMedium, protection_of};
+use crate::file::FileMedium;
+use crate::folder::{Access, MediaFolder, MediumFile};
+use crate::system::{SystemFile, SystemFolder};
 use std::alloc::AllocError;
-use std::fs;
 use std::fs::{File, Files};
 use vdr_outside::{Failed, Media};
+use vdr_sockets::Alarm;
 
-/// The names of the files in their folder.
+/// The names of the files in their folder, and of the marks beside them.
 const CAPSULE: &str = "capsule.vdr";
 
+const CAPSULE_MARK: &str = "capsule.left";
+
 const LONG_TERM: &str = "longterm.vdr";
+
+const LONG_TERM_MARK: &str = "longterm.left";
 
 /// The two media of a recorder as the files `capsule.vdr` and `longterm.vdr` of a folder. The files are made beforehand:
 /// the length of a file or of a block device is the size of its medium, and a file that is missing is a medium of size 0. They
 /// tell neither their contents nor what a stop may leave.
 ///
 /// The files are locked as long as they are open, so that nobody else records on them. Where a file is locked already, or can't
-/// be opened, neither is used, and each call fails. Where one of them may only be read, both are opened to be read.
+/// be opened, neither is used, and each call fails. Where one of them may only be read, both are opened to be read. So they are
+/// where a write or a sync of one of them failed before: that leaves a mark beside it, `capsule.left` or `longterm.left`, which
+/// a person takes away.
 #[derive(Drop)]
-pub struct FileMedia<'a> {
+pub struct FileMedia<'a, F: MediumFile + Drop> {
     alarm: Option<&'a Alarm>,
     // What stood in the way of the folder.
     folder: Option<Trouble>,
-    capsule: FileMedium,
-    long_term: FileMedium,
+    capsule: FileMedium<F>,
+    long_term: FileMedium<F>,
 }
 
-impl<'a> FileMedia<'a> {
+impl<'a, R: AllocGlobal + Files<File = File> + Eprint + Copy> FileMedia<'a, SystemFile<R>> {
+    /// The media in this folder. No file is made, and none is changed before the first write.
+    pub fn open(rt: R, folder: &str) -> Result<FileMedia<'a, SystemFile<R>>, AllocError> {
+        FileMedia::open_in(&SystemFolder::new(rt, folder))
+    }
+
+    /// Medium m of this folder alone, to be read.
+    pub fn open_alone(
+        rt: R,
+        folder: &str,
+        m: u8,
+    ) -> Result<FileMedia<'a, SystemFile<R>>, AllocError> {
+        FileMedia::open_alone_in(&SystemFolder::new(rt, folder), m)
+    }
+}
+
+impl<'a, F: MediumFile + Drop> FileMedia<'a, F> {
     /// Two media of size 0, for a command that uses none. No file is opened.
-    pub fn unused() -> FileMedia<'a> {
+    pub fn unused() -> FileMedia<'a, F> {
         FileMedia {
             alarm: None,
             folder: None,
@@ -45,37 +73,54 @@ impl<'a> FileMedia<'a> {
     }
 
     /// Two media of size 0 that are not opened, so that each call fails.
-    pub fn shut() -> FileMedia<'a> {
-        let mut media = FileMedia::unused();
-        media.capsule.shut();
-        media.long_term.shut();
-        media
+    pub fn shut() -> FileMedia<'a, F> {
+        FileMedia {
+            alarm: None,
+            folder: None,
+            capsule: FileMedium::closed(0),
+            long_term: FileMedium::closed(0),
+        }
     }
 
-    /// The media in this folder. No file is made, and none is changed before the first write.
-    pub fn open<R: AllocGlobal + Files<File = File>>(
-        rt: &R,
-        folder: &str,
-    ) -> Result<FileMedia<'a>, AllocError> {
-        let capsule = format!(in rt.alloc(); "{folder}/{CAPSULE}")?;
-        let long_term = format!(in rt.alloc(); "{folder}/{LONG_TERM}")?;
-        let folder = match fs::metadata(rt, folder) {
-            Ok(_) => None,
-            Err(error) => Some(Trouble::System(error)),
-        };
-        let (capsule, long_term) = open_both(rt, capsule.as_str(), long_term.as_str());
+    /// The media in this folder: each its own file, which was locked before any other call, both for the same access.
+    pub fn open_in<D: MediaFolder<File = F>>(folder: &D) -> Result<FileMedia<'a, F>, AllocError>
+        ensures { IfOk result (λ media. AreOpened F.seen (place_in media.capsule) media.capsule.size (place_in media.long_term) media.long_term.size) }
+    {
+        let trouble = folder.trouble();
+        let (capsule, long_term) = open_both(folder)?;
         Ok(FileMedia {
             alarm: None,
-            folder,
+            folder: trouble,
             capsule,
             long_term,
         })
     }
 
-    /// The same media, which raise the alarm where one of them can't be written or synced.
-    pub fn telling(mut self, alarm: &'a Alarm) -> FileMedia<'a> {
+    /// Medium m of this folder alone, to be read: its file is opened for reading, whatever may be done with it, and locked as others that
+    /// read lock it. The other medium has size 0, and its file is not opened.
+    pub fn open_alone_in<D: MediaFolder<File = F>>(
+        folder: &D,
+        m: u8,
+    ) -> Result<FileMedia<'a, F>, AllocError> {
+        let trouble = folder.trouble();
+        let (capsule, long_term) = if m == 0 {
+            let capsule = FileMedium::open(folder, CAPSULE, CAPSULE_MARK, Access::Reading)?;
+            (capsule, FileMedium::unused())
+        } else {
+            let long_term = FileMedium::open(folder, LONG_TERM, LONG_TERM_MARK, Access::Reading)?;
+            (FileMedium::unused(), long_term)
+        };
+        Ok(FileMedia {
+            alarm: None,
+            folder: trouble,
+            capsule,
+            long_term,
+        })
+    }
+
+    /// From now on the alarm is raised where one of the media can't be written or synced.
+    pub fn tell(&mut self, alarm: &'a Alarm) {
         self.alarm = Some(alarm);
-        self
     }
 
     // Raises the alarm where a write or a sync failed, and hands on what it answered.
@@ -116,52 +161,55 @@ impl<'a> FileMedia<'a> {
     }
 }
 
-// The media over the files at these paths. Where one of them may only be read, both are opened to be read.
-fn open_both<R: Files<File = File>>(
-    rt: &R,
-    capsule: &str,
-    long_term: &str,
-) -> (FileMedium, FileMedium) {
-    let protections = (protection_of(rt, capsule), protection_of(rt, long_term));
+// The media of a folder. Where one of them may only be read, both are opened to be read.
+fn open_both<F: MediumFile + Drop, D: MediaFolder<File = F>>(
+    folder: &D,
+) -> Result<(FileMedium<F>, FileMedium<F>), AllocError>
+    ensures { IfOk result (λ media. AreOpened F.seen (place_in media.0) media.0.size (place_in media.1) media.1.size) }
+{
+    let protections = (
+        folder.protection(CAPSULE, CAPSULE_MARK),
+        folder.protection(LONG_TERM, LONG_TERM_MARK),
+    );
     if protections.0.is_none() && protections.1.is_none() {
-        return open_pair(rt, capsule, long_term, Access::Full);
+        return open_pair(folder, Access::Full);
     }
-    let opened = open_pair(rt, capsule, long_term, Access::Reading);
-    (
-        opened.0.protected_by(protections.0),
-        opened.1.protected_by(protections.1),
-    )
+    let (capsule, long_term) = open_pair(folder, Access::Reading)?;
+    Ok((
+        capsule.protected_by(protections.0),
+        long_term.protected_by(protections.1),
+    ))
 }
 
 // The media as they are opened with this access. The capsule's lock is taken first, and where it can't be had the long-term
 // medium's is not asked for: so of two that open them at one time one has both.
-fn open_pair<R: Files<File = File>>(
-    rt: &R,
-    capsule: &str,
-    long_term: &str,
+fn open_pair<F: MediumFile + Drop, D: MediaFolder<File = F>>(
+    folder: &D,
     access: Access,
-) -> (FileMedium, FileMedium) {
-    let mut capsule = FileMedium::open(rt, capsule, access);
+) -> Result<(FileMedium<F>, FileMedium<F>), AllocError>
+    ensures { IfOk result (λ media. AreOpenedFor F.seen access (place_in media.0) media.0.size (place_in media.1) media.1.size) }
+{
+    let mut capsule = FileMedium::open(folder, CAPSULE, CAPSULE_MARK, access)?;
     if capsule.is_shut() {
-        return (capsule, FileMedium::closed(rt, long_term));
+        return Ok((capsule, FileMedium::closed(folder.length_of(LONG_TERM))));
     }
-    let long_term = FileMedium::open(rt, long_term, access);
+    let long_term = FileMedium::open(folder, LONG_TERM, LONG_TERM_MARK, access)?;
     if long_term.is_shut() {
         capsule.shut();
     }
-    (capsule, long_term)
+    Ok((capsule, long_term))
 }
 
-impl<'a> Media for FileMedia<'a> {
+impl<'a, F: MediumFile + Drop> Media for FileMedia<'a, F> {
     ghost tells = { ⊥ };
 
     ghost tells_images = { ⊥ };
 
-    ghost disk = { λ s. sizes_alone (s.capsule.size ∷ s.long_term.size ∷ []) };
+    ghost disk = { λ s. disk_of s };
 
-    ghost faults = { λ s. s.capsule.faults ∷ s.long_term.faults ∷ [] };
+    ghost faults = { λ s. faults_of s };
 
-    ghost bytes_read = { λ s. s.capsule.bytes_read ∷ s.long_term.bytes_read ∷ [] };
+    ghost bytes_read = { λ s. read_of s };
 
     fn count(&self) -> u8 {
         2
@@ -175,14 +223,32 @@ impl<'a> Media for FileMedia<'a> {
         }
     }
 
-    fn read(&mut self, m: u8, at: u64, into: &mut [u8]) -> Result<(), Failed> {
+    fn read(&mut self, m: u8, at: u64, into: &mut [u8]) -> Result<(), Failed>
+        requires range { InRange (disk_of self.old).sizes m at (length into.old) }
+        ensures own { OnOwn m self.old self.new (λ old new. MakesAt F.seen (place_in old) (place_in new) (Read at (length into.old) ∷ []) (Read at (length into.old) ∷ [])) }
+        ensures bytes { OnOk result (⊥ → into.new ≡ slice_range (content (disk_of self.old).reads m) at (at + length into.old)) }
+        ensures unchanged { Unchanged (disk_of self.old) (disk_of self.new) }
+        ensures counts { read_of self.new ≡ counted (read_of self.old) m (length into.old) }
+        ensures cause { HasCauseOn m (faults_of self.old) (faults_of self.new) result }
+    {
         match m {
             0 => self.capsule.read(at, into),
             _ => self.long_term.read(at, into),
         }
     }
 
-    fn write(&mut self, m: u8, at: u64, bytes: &[u8]) -> Result<(), Failed> {
+    fn write(&mut self, m: u8, at: u64, bytes: &[u8]) -> Result<(), Failed>
+        requires range { InRange (disk_of self.old).sizes m at (length bytes.now) }
+        ensures own { OnOwn m self.old self.new (λ old new. MakesAt F.seen (place_in old) (place_in new) (or_left (is_ok result) (Write at bytes.now)) []) }
+        ensures reads { OnOk result (⊥ → (disk_of self.new).reads ≡ written (disk_of self.old).reads m at bytes.now) }
+        ensures torn { OnErr result (⊥ → Overwritten m at (length bytes.now) (λ image. image ≡ (disk_of self.old).reads) (disk_of self.new).reads) }
+        ensures images { Tears m at (length bytes.now) (disk_of self.old) (disk_of self.new) }
+        ensures time { Elapses (disk_of self.old) (disk_of self.new) }
+        ensures rises { Rises (disk_of self.old) (disk_of self.new) }
+        ensures sizes { (disk_of self.new).sizes ≡ (disk_of self.old).sizes }
+        ensures counts { read_of self.new ≡ read_of self.old }
+        ensures cause { HasCauseOn m (faults_of self.old) (faults_of self.new) result }
+    {
         let outcome = match m {
             0 => self.capsule.write(at, bytes),
             _ => self.long_term.write(at, bytes),
@@ -190,7 +256,18 @@ impl<'a> Media for FileMedia<'a> {
         self.told(outcome)
     }
 
-    fn sync(&mut self, m: u8) -> Result<(), Failed> {
+    fn sync(&mut self, m: u8) -> Result<(), Failed>
+        requires range { InRange (disk_of self.old).sizes m 0 0 }
+        ensures own { OnOwn m self.old self.new (λ old new. MakesAt F.seen (place_in old) (place_in new) (or_left (is_ok result) Sync) (Sync ∷ [])) }
+        ensures durable { OnOk result (Durable m (disk_of self.new)) }
+        ensures reads { ⊥ → (disk_of self.new).reads ≡ (disk_of self.old).reads }
+        ensures images { Narrows (disk_of self.old) (disk_of self.new) }
+        ensures time { Elapses (disk_of self.old) (disk_of self.new) }
+        ensures rises { Rises (disk_of self.old) (disk_of self.new) }
+        ensures sizes { (disk_of self.new).sizes ≡ (disk_of self.old).sizes }
+        ensures counts { read_of self.new ≡ read_of self.old }
+        ensures cause { HasCauseOn m (faults_of self.old) (faults_of self.new) result }
+    {
         let outcome = match m {
             0 => self.capsule.sync(),
             _ => self.long_term.sync(),

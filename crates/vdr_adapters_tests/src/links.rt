@@ -1,12 +1,16 @@
 // Links in memory: they fail and wait as they are told.
+
+use crate::checks::check;
 use arrayvec::ArrayVec;
 use std::alloc::{AllocError, Global};
-use std::test::Fail;
+use std::io;
+use std::sync::Wait;
+use std::time::Clock;
 use vdr_memory::{Flag, GatedLink, LinkLine, LinkPlan, MemoryLink};
 use vdr_outside::{Failed, Heard, Link};
 
 // The lines of a link.
-fn lines(alloc: Global, texts: &[&[u8]]) -> Result<Vec<LinkLine>, AllocError> {
+fn lines_of(alloc: Global, texts: &[&[u8]]) -> Result<Vec<LinkLine>, AllocError> {
     let mut lines = Vec::new(alloc);
     for text in texts {
         let bytes = text.to_vec(alloc)?;
@@ -15,9 +19,8 @@ fn lines(alloc: Global, texts: &[&[u8]]) -> Result<Vec<LinkLine>, AllocError> {
     Ok(lines)
 }
 
-#[test]
-fn a_link_in_memory_does_as_it_is_told(rt: HostRuntime) -> Result<(), Fail> {
-    let alloc = rt.alloc();
+/// A link fails at the calls that are told, and is quiet at others.
+pub(crate) fn fail_as_they_are_told<R: Print>(rt: &R, alloc: Global) -> io::Result<()> {
     let long = [b'x'; 257];
     let plan = LinkPlan {
         failing: [1].to_vec(alloc)?,
@@ -25,7 +28,7 @@ fn a_link_in_memory_does_as_it_is_told(rt: HostRuntime) -> Result<(), Fail> {
         refusing: [1].to_vec(alloc)?,
     };
     let texts: [&[u8]; 4] = [b"STATUS\r", &long, &long[..256], b"\r"];
-    let mut link = MemoryLink::new(alloc, lines(alloc, &texts)?, plan);
+    let mut link = MemoryLink::new(alloc, lines_of(alloc, &texts)?, plan);
     let mut into = ArrayVec::new();
     for (heard, length) in [
         (Heard::Line, 6),
@@ -37,23 +40,30 @@ fn a_link_in_memory_does_as_it_is_told(rt: HostRuntime) -> Result<(), Fail> {
         (Heard::Ended, 0),
         (Heard::Ended, 0),
     ] {
-        assert_eq!(rt; link.line(&mut into), heard);
-        assert_eq!(rt; into.len(), length);
+        let is_heard = link.line(&mut into) == heard && into.len() == length;
+        check(rt, is_heard, "what a link in memory gives");
     }
-    assert!(rt; link.reply(b"OK") == Ok(()));
-    assert!(rt; link.reply(b" no") == Err(Failed));
-    assert!(rt; link.reply(b"\n") == Ok(()));
-    assert_eq!(rt; link.replied(), b"OK\n".as_slice());
-    assert_eq!(rt; (link.calls(), link.faults(), link.left().len()), (8, 2, 0));
+    check(rt, link.reply(b"OK") == Ok(()), "a first reply");
+    check(rt, link.reply(b" no") == Err(Failed), "a reply that fails");
+    check(rt, link.reply(b"\n") == Ok(()), "a reply behind it");
+    check(
+        rt,
+        link.replied() == b"OK\n".as_slice(),
+        "what was replied in memory",
+    );
+    let counts = (link.calls(), link.faults(), link.left().len());
+    check(rt, counts == (8, 2, 0), "what a link in memory counts");
     Ok(())
 }
 
-#[test]
-fn a_gated_link_waits_for_its_reply(rt: HostRuntime) -> Result<(), Fail> {
-    let alloc = rt.alloc();
+/// A gated link waits for its reply.
+pub(crate) fn wait_for_their_reply<R: Clock + Print + Wait>(
+    rt: &R,
+    alloc: Global,
+) -> io::Result<()> {
     let flag = Flag::new(alloc)?;
     let awaited = b"OK records 2 ".to_vec(alloc)?;
-    let mut link = GatedLink::new(&rt, awaited, flag.share()?);
+    let mut link = GatedLink::new(rt, awaited, flag.share()?);
     let mut into = ArrayVec::new();
     let replies: [&[u8]; 4] = [
         b"",
@@ -62,16 +72,15 @@ fn a_gated_link_waits_for_its_reply(rt: HostRuntime) -> Result<(), Fail> {
         b"OK records 2 tick 0",
     ];
     for reply in replies {
-        assert!(rt; link.line(&mut into) == Heard::Line);
-        assert!(rt; *into.as_slice() == *b"STATUS".as_slice());
-        assert!(rt; !flag.is_set());
+        let is_asked = link.line(&mut into) == Heard::Line
+            && *into.as_slice() == *b"STATUS".as_slice();
+        check(rt, is_asked && !flag.is_set(), "what a gated link asks");
         for byte in reply {
-            assert!(rt; link.reply(&[*byte]) == Ok(()));
+            check(rt, link.reply(&[*byte]) == Ok(()), "a byte of a reply");
         }
     }
-    assert!(rt; link.line(&mut into) == Heard::Ended);
-    assert!(rt; link.line(&mut into) == Heard::Ended);
-    assert!(rt; flag.is_set());
-    assert_eq!(rt; link.calls(), 6);
+    let ends = link.line(&mut into) == Heard::Ended && link.line(&mut into) == Heard::Ended;
+    check(rt, ends && flag.is_set(), "the end of a gated link");
+    check(rt, link.calls() == 6, "the calls of a gated link");
     Ok(())
 }

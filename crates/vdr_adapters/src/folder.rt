@@ -1,0 +1,81 @@
+// The folder of the media and their files, as traits: what is told of the calls that were made on a file.
+ghost use Rattle.std.specs.Prelude.{◌≡◌, [], ◌∷◌, length, IfOk, OnOk};
+ghost use Rattle.vdr_adapters.specs.Files.{IsFile, Makes};
+ghost use Rattle.vdr_adapters.specs.Files.Call.{Leave, Length, Lock, Read, Sync, Write};
+
+use crate::Trouble;
+use std::io;
+
+/// What the file of a medium is opened for.
+#[derive(Clone, Copy, Drop)]
+pub enum Access {
+    /// For reading and writing, with an exclusive lock.
+    Full,
+    /// For reading alone, with a shared lock.
+    Reading,
+}
+
+/// Why a file was not opened.
+#[derive(Drop)]
+pub enum Unopened {
+    /// There is none.
+    Missing(Trouble),
+    /// There is one, or that can't be told.
+    Shut(Trouble),
+    /// There was no memory for its path.
+    NoMemory,
+}
+
+/// The file of a medium. The length of a file or of a block device is the size of its medium.
+pub trait MediumFile {
+    ghost use Rattle.std.specs.Prelude.{Option};
+    ghost use Rattle.vdr_adapters.specs.Files.{FileSeen};
+
+    /// By which name it was opened, and what calls were made on it, where it tells that.
+    ghost seen: { Self → Option FileSeen };
+
+    /// Its length in bytes.
+    fn length(&mut self) -> io::Result<u64>
+        ensures call { IfOk result (λ n. Makes (seen self.old) (seen self.new) (Length n ∷ [])) };
+
+    /// Locks it for this access, if nobody else has a lock that excludes that.
+    fn try_lock(&mut self, access: Access) -> Result<(), Trouble>
+        ensures call { OnOk result (Makes (seen self.old) (seen self.new) (Lock access ∷ [])) };
+
+    /// Reads the bytes from `at` on.
+    fn read_exact_at(&mut self, into: &mut [u8], at: u64) -> io::Result<()>
+        ensures call { Makes (seen self.old) (seen self.new) (Read at (length into.old) ∷ []) };
+
+    /// Writes the bytes from `at` on.
+    fn write_all_at(&mut self, bytes: &[u8], at: u64) -> io::Result<()>
+        ensures call { Makes (seen self.old) (seen self.new) (Write at bytes.now ∷ []) };
+
+    /// Syncs its data.
+    fn sync_data(&mut self) -> io::Result<()>
+        ensures call { Makes (seen self.old) (seen self.new) (Sync ∷ []) };
+
+    /// Leaves its mark beside it, which says that it is not to be trusted, and syncs the folder. Where that fails, it is told
+    /// on the standard error.
+    fn leave_mark(&mut self, why: &io::Error)
+        ensures call { Makes (seen self.old) (seen self.new) (Leave ∷ []) };
+}
+
+/// The folder of the media.
+pub trait MediaFolder {
+    /// Its files.
+    type File: MediumFile;
+
+    /// What stands in the way of the folder itself.
+    fn trouble(&self) -> Option<Trouble>;
+
+    /// What says that the file of this name may only be read: the system, or the mark of this name beside it. None where it may be
+    /// written or is missing.
+    fn protection(&self, name: &str, mark: &str) -> Option<Trouble>;
+
+    /// The length of the file of this name, 0 where that can't be told. It is not opened.
+    fn length_of(&self, name: &str) -> u64;
+
+    /// Opens the file of this name, which would leave the mark of this name.
+    fn open(&self, name: &str, mark: &str, access: Access) -> Result<Self::File, Unopened>
+        ensures { IfOk result (λ file. IsFile (Self.File.seen file) (record { name = name.now; mark = mark.now; access = access; calls = [] })) };
+}

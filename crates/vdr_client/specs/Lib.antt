@@ -1,0 +1,2 @@
+-- What an operator's words ask of a recorder, and how its reply is told.
+pub mod Orders

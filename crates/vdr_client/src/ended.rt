@@ -1,0 +1,41 @@
+// How an order ended that was not done.
+use crate::Told;
+
+/// Why an order was not done, or its reply not told.
+#[derive(Clone, Copy, Drop)]
+pub enum Ended {
+    /// The words ask for no line: there is none, or one has the end of a line in it.
+    NoWords,
+    /// No recorder listens on this host, or it hung up before its reply was whole.
+    NoLink,
+    /// The output failed.
+    Output,
+    /// There was no memory.
+    NoMemory,
+    /// What the recorder told.
+    Told(Told),
+}
+
+impl Ended {
+    /// The exit status.
+    pub fn code(self) -> u8 {
+        match self {
+            Ended::NoWords => 2,
+            Ended::NoLink => 6,
+            Ended::Output => 8,
+            Ended::NoMemory => 9,
+            Ended::Told(told) => told.code(),
+        }
+    }
+
+    /// The status line, which ends the output.
+    pub fn line(self) -> &'static str {
+        match self {
+            Ended::NoWords => "status 2 words\n",
+            Ended::NoLink => "status 6 link 0\n",
+            Ended::Output => "",
+            Ended::NoMemory => "status 9 memory\n",
+            Ended::Told(told) => told.line(),
+        }
+    }
+}

@@ -1,0 +1,69 @@
+// The reply to a line, as a command tells it.
+use crate::{Ended, told_of};
+use std::alloc::Global;
+use std::io::{BufRead, Write};
+
+/// The orders whose reply is a text, ended by a line `.`.
+const WITH_TEXT: [&[u8]; 1] = [b"PLAY "];
+
+// Reads the next line, without its end.
+fn next_line<I: BufRead>(input: &mut I, line: &mut Vec<u8>) -> Result<(), Ended> {
+    line.clear();
+    match input.read_until(b'\n', line) {
+        Ok(_) => {}
+        Err(_) => return Err(Ended::NoLink),
+    }
+    if line.pop() == Some(b'\n') {
+        Ok(())
+    } else {
+        Err(Ended::NoLink)
+    }
+}
+
+// Prints a line with its end.
+fn print_line<W: Write>(output: &mut W, line: &[u8]) -> Result<(), Ended> {
+    if output.write_all(line).is_ok() && output.write_all(b"\n").is_ok() {
+        Ok(())
+    } else {
+        Err(Ended::Output)
+    }
+}
+
+// Prints the lines up to the one that ends them.
+fn print_text<I: BufRead, W: Write>(
+    input: &mut I,
+    output: &mut W,
+    line: &mut Vec<u8>,
+) -> Result<(), Ended> {
+    for _ in 0..u64::MAX {
+        next_line(input, line)?;
+        if *line.as_slice() == *b".".as_slice() {
+            return Ok(());
+        }
+        print_line(output, line.as_slice())?;
+    }
+    Err(Ended::NoLink)
+}
+
+/// Prints the reply to a line: what stands behind its `OK`, or the text of a play, without the line that ends it.
+pub fn print_reply<I: BufRead, W: Write>(
+    alloc: Global,
+    asked: &[u8],
+    input: &mut I,
+    output: &mut W,
+) -> Result<(), Ended> {
+    let mut line = Vec::new(alloc);
+    next_line(input, &mut line)?;
+    if let Some(told) = told_of(line.as_slice()) {
+        return Err(Ended::Told(told));
+    }
+    match line.as_slice() {
+        b"OK" => {}
+        [b'O', b'K', b' ', rest @ ..] => return print_line(output, rest),
+        _ => return Err(Ended::NoLink),
+    }
+    if WITH_TEXT.iter().any(|begin| asked.starts_with(begin)) {
+        return print_text(input, output, &mut line);
+    }
+    Ok(())
+}
