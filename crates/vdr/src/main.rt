@@ -22,7 +22,8 @@ fn main(rt: HostRuntime) -> ExitCode {
         return ExitCode::from(Status::NoMemory.code());
     };
     let mut desks = [tcp_desk(&rt, &alarm)];
-    let status = command_line(
+    let code = command_line(
+        &rt,
         &rt,
         words.as_slice(),
         rt.stdin(),
@@ -30,5 +31,5 @@ fn main(rt: HostRuntime) -> ExitCode {
         &mut desks,
         &alarm,
     );
-    ExitCode::from(status.code())
+    ExitCode::from(code)
 }

@@ -9,7 +9,7 @@ use Rattle.vdr_command.specs.declared.status.SaveCause.{SaveCause}
 use Rattle.vdr_command.specs.declared.status.SaveCause.TheVariants.{Label, Nothing, TableFull}
 use Rattle.vdr_command.specs.declared.status.Status.{Status}
 use Rattle.vdr_config.specs.declared.media.TooSmall.{TooSmall}
-use Rattle.vdr_command.specs.declared.status.Status.TheVariants.{Done, Words, Config, Small, Unformatted, Formatted, Damaged, MediaFault, PortFault, LinkFault, InputFault, OutputFault, NoMemory, Feed, NoChannel, NoIncident, SaveRefused, Place, Tick, ExportKind, ExportNothing, ExportMixed, ExportLong, ExportPart, Capture}
+use Rattle.vdr_command.specs.declared.status.Status.TheVariants.{Done, Words, Config, Small, Unformatted, Formatted, Damaged, MediaFault, PortFault, LinkFault, InputFault, OutputFault, NoMemory, Feed, NoChannel, NoIncident, SaveRefused, Place, Tick, ExportKind, ExportNothing, ExportMixed, ExportLong, ExportPart, Capture, Missing}
 
 -- The program's exit status.
 abbrev pub code_of : Status → ℕ
@@ -38,6 +38,7 @@ code_of (ExportMixed place) = 14
 code_of ExportLong = 14
 code_of (ExportPart number) = 14
 code_of (Capture number offset) = 16
+code_of (Missing place) = 4
 
 -- The names of the media in texts.
 abbrev pub medium_name : ℕ → List ℕ
@@ -48,6 +49,9 @@ small_line t = codes "status 3 small " ++ medium_name t.medium ++ codes " need "
 
 abbrev pub damaged_line : (medium offset : ℕ) → List ℕ
 damaged_line medium offset = codes "status 4 damaged " ++ decimal medium ++ codes " " ++ decimal offset ++ codes "\n"
+
+abbrev pub missing_line : (place : ℕ) → List ℕ
+missing_line place = codes "status 4 missing " ++ decimal place ++ codes "\n"
 
 -- The line of a transmission group whose port failed, by its name.
 abbrev pub port_line : (group : ℕ) → List ℕ
@@ -113,6 +117,7 @@ status_line (ExportMixed place) = mixed_line place
 status_line ExportLong = codes "status 14 long\n"
 status_line (ExportPart number) = part_line number
 status_line (Capture number offset) = capture_line number offset
+status_line (Missing place) = missing_line place
 
 -- The output grew by a front of the text, and by all of it unless the sink's count rose, which never falls.
 pub record Wrote (text : List ℕ) (old new : Option (List ℕ)) (before now : ℕ) : Type 0 where

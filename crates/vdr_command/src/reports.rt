@@ -3,7 +3,7 @@ ghost use Rattle.std.specs.Prelude.{◌≡◌, ◌≤◌, ◌+◌, ◌++◌, cod
 ghost use Rattle.arrayvec.specs.ArrayVec.{array_vec_len};
 ghost use Rattle.vdr_terms.specs.Groups.{group_name};
 ghost use Rattle.vdr_command.specs.Endings.{WritesLine};
-ghost use Rattle.vdr_command.specs.StatusLine.{damaged_line, incident_line, link_line, medium_name, mixed_line, part_line, port_line, save_line, small_line, status_line};
+ghost use Rattle.vdr_command.specs.StatusLine.{damaged_line, incident_line, link_line, medium_name, missing_line, mixed_line, part_line, port_line, save_line, small_line, status_line};
 
 use crate::{SaveCause, Status};
 use arrayvec::ArrayVec;
@@ -54,6 +54,16 @@ fn push_damaged(line: &mut ArrayVec<u8, ROOM>, medium: u8, offset: u64)
     push_text(line, Buffer::new().format(medium).as_bytes());
     push_text(line, b" ");
     push_text(line, Buffer::new().format(offset).as_bytes());
+    push_text(line, b"\n");
+}
+
+// From which place on records are missing.
+fn push_missing(line: &mut ArrayVec<u8, ROOM>, place: u64)
+    requires { array_vec_len line.old ≡ 0 }
+    ensures { line.new.items ≡ line.old.items ++ missing_line place }
+{
+    push_text(line, b"status 4 missing ");
+    push_text(line, Buffer::new().format(place).as_bytes());
     push_text(line, b"\n");
 }
 
@@ -177,6 +187,7 @@ fn line_of(status: Status) -> ArrayVec<u8, ROOM>
         Status::Capture { number, offset } => {
             push_refusal(&mut line, b"status 16 capture ", number, offset);
         }
+        Status::Missing(place) => push_missing(&mut line, place),
     }
     line
 }

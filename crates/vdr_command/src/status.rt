@@ -73,6 +73,8 @@ pub enum Status {
     ExportPart(u32),
     /// The capture is refused by this number, at the packet or block that begins at this offset.
     Capture { number: u8, offset: u64 },
+    /// One medium alone lacks records that it owes, from this place on. Nothing of it is damaged.
+    Missing(u64),
 }
 
 impl Status {
@@ -86,7 +88,8 @@ impl Status {
             Status::Done => 0,
             Status::Words => 2,
             Status::Config { .. } | Status::Small(_) => 3,
-            Status::Unformatted | Status::Formatted | Status::Damaged { .. } => 4,
+            Status::Unformatted | Status::Formatted | Status::Damaged { .. } | Status::Missing(_) =>
+                4,
             Status::MediaFault => 5,
             Status::PortFault(_) | Status::LinkFault(_) => 6,
             Status::InputFault => 7,

@@ -9,9 +9,9 @@ use Rattle.std.proofs.lemmas.List.{map-append}
 use Rattle.std.proofs.lemmas.List.Elements.{filter_map-append}
 use Rattle.vdr_terms.specs.Records.{Record}
 use Rattle.vdr_outside.specs.Writes.{AppendsFront}
-use Rattle.vdr_vault.specs.Visits.{AreVisited, HasMade}
-use Rattle.vdr_vault.specs.declared.visit_refused.VisitRefused.{VisitRefused}
-use Rattle.vdr_vault.specs.declared.visit_refused.VisitRefused.TheVariants as stops
+use Rattle.vdr_visit.specs.Visits.{AreVisited, HasMade}
+use Rattle.vdr_visit.specs.declared.visit_refused.VisitRefused.{VisitRefused}
+use Rattle.vdr_visit.specs.declared.visit_refused.VisitRefused.TheVariants as stops
 use Rattle.vdr_export.specs.Answers.{FileEnds, IsFailure, IsPictureRefusal, data_of, first_missing, joined, picture_of, unless_missing, unless_mixed, unless_part}
 use Rattle.vdr_export.specs.Collected.{IsCollected, StopsAt}
 use Rattle.vdr_export.specs.Numbers.{mixed_at}
@@ -113,7 +113,15 @@ module _ (block : Block) (records seen : List Record) (Has : Type 0) (line : Lis
 pub never_stops : (ps : List Shown) (e : ExportRefused) → ((place : ℕ) → e ≡ Mixed place → ⊥) → (e ≡ NoMemory → ⊥) → StopsAt ps e → ⊥
 never_stops ps e mixed memory stops = ⊎_elim (λ m. mixed m.0 m.1) (λ m. memory m) stops
 
--- A part that is missing is no damage.
+-- A part that is missing is no fault and no damage.
+pub missing_sound : (parts : List (Option (List ℕ))) → unless_missing parts ≡ Err Fault → ⊥
+missing_sound [] e = cc
+missing_sound (x ∷ xs) e = by (first_missing 1 (x ∷ xs)) e
+  where
+    by : (o : Option ℕ) → ◌≡◌ {A = Result ⊤ ExportRefused} (unless_part o (Ok tt)) (Err Fault) → ⊥
+    by None e = cc
+    by (Some number) e = cc
+
 pub missing_undamaged : (parts : List (Option (List ℕ))) (m offset : ℕ) → unless_missing parts ≡ Err (Damaged m offset) → ⊥
 missing_undamaged [] m offset e = cc
 missing_undamaged (x ∷ xs) m offset e = by (first_missing 1 (x ∷ xs)) e

@@ -9,7 +9,7 @@ pub mod Placing
 pub mod Parting
 pub mod Joining
 pub mod Ending
-pub mod Damages
+pub mod Ends
 pub mod Visited
 pub mod TwoPasses
 mod Rows

@@ -7,10 +7,10 @@ use Rattle.std.specs.Io.KnownBytes.{Appends}
 use Rattle.vdr_terms.specs.Records.{Record, last}
 use Rattle.vdr_outside.specs.Writes.{AppendsFront}
 use Rattle.vdr_pcm.specs.Frames.{Frame}
-use Rattle.vdr_vault.specs.Prints.{lines_behind, text_of, whole_text}
-use Rattle.vdr_vault.specs.Visits.{AreVisited, HasMade}
-use Rattle.vdr_vault.specs.declared.visit_refused.VisitRefused.{VisitRefused}
-use Rattle.vdr_vault.specs.declared.visit_refused.VisitRefused.TheVariants as stops
+use Rattle.vdr_visit.specs.Prints.{lines_behind, text_of, whole_text}
+use Rattle.vdr_visit.specs.Visits.{AreVisited, HasMade}
+use Rattle.vdr_visit.specs.declared.visit_refused.VisitRefused.{VisitRefused}
+use Rattle.vdr_visit.specs.declared.visit_refused.VisitRefused.TheVariants as stops
 use Rattle.vdr_export.specs.Answers.{AnswersOrFails, IsSizeRefusal, IsWriteRefusal, OkOrFails, size_of, unless_long, unless_mixed}
 use Rattle.vdr_export.specs.Heard.{IsMixed, added, added_by}
 use Rattle.vdr_export.specs.Numbers.{mixed_at}

@@ -1,18 +1,9 @@
 -- A sound in two passes.
-use Rattle.std.proofs.Common.{◌≡◌, inl, inr, ⊎_elim, ℕ, false, List, length, Option, Result, Ok, Err, sym, ap, ◌∙◌, subst}
+use Rattle.std.proofs.Common.{◌≡◌, inl, inr, ⊎_elim, ℕ, List, Option, Result, Ok, Err, sym, ap, ◌∙◌, subst}
 use Rattle.std.specs.Bool.{⊤}
 use Rattle.std.specs.Prelude.{OnOk}
 use Rattle.std.specs.Io.KnownBytes.{Appends}
-use Rattle.vdr_core.specs.Histories.{Incident}
 use Rattle.vdr_outside.specs.Writes.{AppendsFront}
-use Rattle.vdr_config.specs.Configuration.{Configuration}
-use Rattle.vdr_entry.specs.Queries.{asked}
-use Rattle.vdr_entry.specs.declared.query.Query.{Query}
-use Rattle.vdr_vault.specs.Plays.{ReadsOn}
-use Rattle.vdr_vault.specs.Vaults.{AreRings, VaultState}
-use Rattle.vdr_vault.specs.Refusals.{lacks_channel, lacks_incident}
-use Rattle.vdr_recorder.specs.Recordings.{RecorderState}
-use Rattle.vdr_export.specs.Asked.{MayBeAsked}
 use Rattle.vdr_export.specs.Answers.{AnswersOrFails, FileEnds, OkOrFails, size_of, wave_of, wave_with}
 use Rattle.vdr_export.specs.Sounds.{Heard, frames_of}
 use Rattle.vdr_export.specs.Waves.{wave_file}
@@ -20,7 +11,6 @@ use Rattle.vdr_export.specs.declared.refused.ExportRefused.{ExportRefused}
 use Rattle.vdr_export.specs.declared.refused.ExportRefused.TheVariants.{Fault}
 use Rattle.vdr_export.specs.declared.wave.WaveSize.{WaveSize}
 use Rattle.vdr_export.proofs.Ending.{failed_ends, never_both, one_file, refused_ends}
-use Rattle.vdr_export.proofs.Refusing.{same_refusal}
 
 size_is : (hs : List Heard) (size : WaveSize) (result : Result WaveSize ExportRefused) → AnswersOrFails (size_of hs) result → result ≡ Ok size → size_of hs ≡ Ok size
 size_is hs size result answers is = ⊎_elim (λ (same : result ≡ size_of hs). sym same ∙ is) (λ (failed : result ≡ Err Fault). let no : ⊥ = cc in absurd no) answers
@@ -45,18 +35,4 @@ the_wave hs size result a b out answers is written front ends =
       front = λ bytes f. subst (λ (l : List ℕ). AppendsFront a b l) (one_file (wave_of hs) (wave_file size (frames_of hs)) bytes file f) front;
       done = λ bytes f. ⊎_elim (λ ok. inl ok) (λ failed. inr (⊎_elim (λ fault. inl fault) (λ output. inr (inl output)) failed)) ends;
       refused = λ why f. absurd (never_both (wave_of hs) (wave_file size (frames_of hs)) why file f);
-    }
-
--- An error that was passed on.
-pub passed_on : (result : Result WaveSize ExportRefused) (why given e : ExportRefused) (out : Result ⊤ ExportRefused) → result ≡ Err why → given ≡ why → out ≡ Err given → out ≡ Err e → result ≡ Err e
-passed_on result why given e out was same is ends = was ∙ ap (λ (x : ExportRefused). Err x) (sym same ∙ same_refusal out given e is ends)
-
--- What was read changes neither configuration nor incidents, so the same may be asked after a look.
-pub asked_again : (query : Query) (m : ℕ) (old new : RecorderState) (before after : List ℕ) → ReadsOn m old.vault new.vault → AreRings new.vault after
-    → MayBeAsked query old before → MayBeAsked query new after
-asked_again query m old new before after reads rings may =
-    record {
-      rings = rings;
-      channel = subst (λ (config : Configuration). lacks_channel (length config.channels) query.channel ≡ false) (sym (ap (λ (s : VaultState). s.config) reads.vault)) may.channel;
-      incident = subst (λ (table : List (Option Incident)). lacks_incident table (asked query).medium ≡ false) (sym (ap (λ (s : VaultState). s.table) reads.vault)) may.incident;
     }

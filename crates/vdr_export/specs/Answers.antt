@@ -6,6 +6,8 @@ use Rattle.std.specs.Io.KnownBytes.{Appends}
 use Rattle.vdr_outside.specs.Writes.{AppendsFront}
 use Rattle.vdr_export.specs.Numbers.{mixed_at}
 use Rattle.vdr_terms.specs.Records.{Record}
+use Rattle.vdr_visit.specs.Visits.{ReadEnd}
+use Rattle.vdr_visit.specs.Visits.ReadEnd.{AllRead, CutOff, ReadDamaged, ReadFault}
 use Rattle.vdr_export.specs.Pictures.{Shown, bodies, greatest_of, shown}
 use Rattle.vdr_export.specs.Sounds.{Heard, frames_of, heard, rates_of, sound}
 use Rattle.vdr_export.specs.Waves.{most_bytes, wave_file}
@@ -144,3 +146,15 @@ IsFileRefusal (Picture block) why = IsPictureRefusal why
 abbrev pub MayBeBegun : File → ExportRefused → Type 0
 MayBeBegun (Sound microphone) why = IsWriteRefusal why
 MayBeBegun (Picture block) why = why ≡ Output
+
+-- How the reads of a file ended: a refusal that is none of the media cuts them off.
+abbrev pub file_end : {T : Type 0} → Result T ExportRefused → ReadEnd
+file_end (Ok done) = AllRead
+file_end (Err Nothing) = CutOff
+file_end (Err (Mixed place)) = CutOff
+file_end (Err Long) = CutOff
+file_end (Err (Part number)) = CutOff
+file_end (Err Fault) = ReadFault
+file_end (Err (Damaged m offset)) = ReadDamaged m offset
+file_end (Err Output) = CutOff
+file_end (Err NoMemory) = CutOff

@@ -1,7 +1,7 @@
 -- What is refused where a visit stops.
 use Rattle.std.specs.Prelude.{Option, Some, None}
-use Rattle.vdr_vault.specs.declared.visit_refused.VisitRefused.{VisitRefused}
-use Rattle.vdr_vault.specs.declared.visit_refused.VisitRefused.TheVariants as stops
+use Rattle.vdr_visit.specs.declared.visit_refused.VisitRefused.{VisitRefused}
+use Rattle.vdr_visit.specs.declared.visit_refused.VisitRefused.TheVariants as stops
 use Rattle.vdr_export.specs.declared.refused.ExportRefused.{ExportRefused}
 use Rattle.vdr_export.specs.declared.refused.ExportRefused.TheVariants.{Fault, Damaged, Output}
 

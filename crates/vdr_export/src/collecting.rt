@@ -12,7 +12,7 @@ use std::alloc::Global;
 use vdr_entry::{Content, Record};
 use vdr_image::{ImageHeader, read_image};
 use vdr_outside::Sink;
-use vdr_vault::{Visitor, VisitorRefused};
+use vdr_visit::{Visitor, VisitorRefused};
 
 fn header_in(item: &Record) -> Option<ImageHeader<'_>>
     ensures { option_map header_of result ≡ header_in item.now.content }

@@ -3,18 +3,13 @@
 // Parts are kept until the last was met, at most 65,535: to keep only where they are would need a pass for each. Of
 // a part that was recorded twice the first counts.
 ghost use Rattle.std.specs.Prelude.{◌≡◌, ◌⊎◌, ℕ, List, true, Ok, Err, IfErr, OnErr};
-ghost use Rattle.vdr_core.specs.Histories.{Event, Opening};
-ghost use Rattle.vdr_durability.specs.Playback.{selected};
+ghost use Rattle.vdr_terms.specs.Records.{Record};
 ghost use Rattle.vdr_entry.specs.Queries.{asked};
-ghost use Rattle.vdr_directory.specs.Sequence.{Placed};
-ghost use Rattle.vdr_vault.specs.Plays.{TellsDamageOf};
-ghost use Rattle.vdr_vault.specs.Vaults.{IsReadable};
-ghost use Rattle.vdr_vault.specs.Refusals.{HasOutputCause};
-ghost use Rattle.vdr_recorder.specs.Looks.{HasLooked};
+ghost use Rattle.vdr_visit.specs.Refusals.{HasOutputCause};
 ghost use Rattle.vdr_export.specs.Asked.{MayBeAsked};
-ghost use Rattle.vdr_export.specs.Answers.{FileEnds, IsPictureRefusal, picture_of};
+ghost use Rattle.vdr_export.specs.Answers.{FileEnds, IsPictureRefusal, file_end, picture_of};
 ghost use Rattle.vdr_export.specs.Pictures.{shown};
-ghost use Rattle.vdr_export.specs.declared.refused.ExportRefused.TheVariants.{Damaged, Fault as AFault, Output};
+ghost use Rattle.vdr_export.specs.declared.refused.ExportRefused.TheVariants.{Fault as AFault, Output};
 
 use crate::block::Block;
 use crate::collecting::Collecting;
@@ -23,7 +18,7 @@ use crate::refused::{ExportRefused, refusal_of};
 use std::alloc::Global;
 use vdr_entry::Query;
 use vdr_outside::{Media, Sink};
-use vdr_recorder::Recorder;
+use vdr_visit::Reader;
 
 /// Writes the image of a block that a query selects (IEC 61162-450 sends images in blocks; the header of a part is this project's
 /// profile): the data of the block's parts, in the order of their sequence numbers, of each the first that was recorded. Takes memory for the
@@ -31,26 +26,26 @@ use vdr_recorder::Recorder;
 ///
 /// `Nothing`, `Mixed` and `Part` come exactly in their cases, in this order, unless there is no memory. `Damaged` never comes of media that
 /// hold what was recorded. Where a write fails, a front of the image is written.
-pub fn write_picture<M: Media, O: Sink>(
+pub fn write_picture<R: Reader, M: Media, O: Sink>(
     alloc: Global,
-    recorder: &mut Recorder,
+    reader: &mut R,
     media: &mut M,
     query: &Query,
     block: &Block,
     out: &mut O,
 ) -> Result<(), ExportRefused>
-    requires asked { MayBeAsked query.now recorder.old (M.disk media.old).sizes }
-    ensures picture { (opening : Opening) (events : List Event) (placed : ℕ → List Placed) → M.tells → IsReadable opening events recorder.old.vault placed (M.disk media.old)
-        → FileEnds (picture_of (shown block.now (selected opening events (asked query.now)))) (O.taken out.old) (O.taken out.new) result }
+    requires asked { MayBeAsked R.Reader query.now reader.old (M.disk media.old).sizes }
+    ensures picture { (records : List Record) → R.tells _ M.Media reader.old media.old (asked query.now) records
+        → FileEnds (picture_of (shown block.now records)) (O.taken out.old) (O.taken out.new) result }
     ensures silent { OnErr result ((result ≡ Err Output) ⊎ (out.new ≡ out.old)) }
     ensures own { IfErr result IsPictureRefusal }
-    ensures damage { TellsDamageOf (asked query.now) recorder.old.vault (M.disk media.old) (λ m offset. result ≡ Err (Damaged m offset)) (result ≡ Ok tt) }
-    ensures failed { recorder.old.vault.failed ≡ true → (result ≡ Err AFault) × (recorder.new ≡ recorder.old) × (media.new ≡ media.old) × (out.new ≡ out.old) }
-    ensures looked { HasLooked (asked query.now) recorder.old recorder.new (M.disk media.old) (M.disk media.new) (M.bytes_read media.old) (M.bytes_read media.new) (M.faults media.old) (M.faults media.new) (result ≡ Err AFault) }
+    ensures failed { R.failed reader.old ≡ true → (result ≡ Err AFault) × (reader.new ≡ reader.old) × (media.new ≡ media.old) × (out.new ≡ out.old) }
+    ensures leaves { R.leaves _ M.Media (asked query.now) reader.old reader.new media.old media.new (file_end result) }
     ensures output { HasOutputCause (O.faults out.old) (O.faults out.new) (result ≡ Err Output) }
 {
+    R::law_of_visits::<M>();
     let mut collecting = Collecting::new(alloc, *block);
-    if let Err(stop) = recorder.visit(media, query, &mut collecting, &mut Nowhere) {
+    if let Err(stop) = reader.visit(media, query, &mut collecting, &mut Nowhere) {
         return Err(refusal_of(stop));
     }
     collecting.parts.complete()?;

@@ -1,9 +1,9 @@
 // Why no file is made of what a query selects.
 ghost use Rattle.std.specs.Prelude.{◌≡◌, ◌⊎◌, Some};
-ghost use Rattle.vdr_vault.specs.declared.visit_refused.VisitRefused.TheVariants.{NoChannel, NoIncident};
+ghost use Rattle.vdr_visit.specs.declared.visit_refused.VisitRefused.TheVariants.{NoChannel, NoIncident};
 ghost use Rattle.vdr_export.specs.Refusals.{refusal_by};
 
-use vdr_vault::VisitRefused;
+use vdr_visit::VisitRefused;
 
 /// Why no file is made of what a query selects.
 #[derive(Clone, Copy, Drop)]
@@ -18,7 +18,7 @@ pub enum ExportRefused {
     Part { number: u32 },
     /// A write had failed before, and nothing was called; or a read failed, and the count of faults of that medium rose.
     Fault,
-    /// A slot of this medium that was read is damaged. Where, in bytes, as `vdr_vault::VisitRefused` says.
+    /// A slot of this medium that was read is damaged. Where, in bytes, as `vdr_visit::VisitRefused` says.
     Damaged { medium: u8, offset: u64 },
     /// The output failed, and its count of faults rose. A front of the file is written.
     Output,

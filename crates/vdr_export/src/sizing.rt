@@ -14,7 +14,7 @@ use crate::wave::WaveSize;
 use vdr_entry::Record;
 use vdr_outside::Sink;
 use vdr_pcm::PcmFrame;
-use vdr_vault::{Visitor, VisitorRefused};
+use vdr_visit::{Visitor, VisitorRefused};
 
 /// The most bytes of sound that a file has.
 const MOST_BYTES: u64 = 4_294_967_258;

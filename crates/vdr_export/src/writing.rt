@@ -15,7 +15,7 @@ use crate::silence::write_silence;
 use vdr_entry::Record;
 use vdr_outside::{Failed, Sink, write_all};
 use vdr_pcm::PcmFrame;
-use vdr_vault::{Visitor, VisitorRefused};
+use vdr_visit::{Visitor, VisitorRefused};
 
 // Writes a frame's samples, and before them silence where samples are missing.
 fn write_frame<O: Sink>(

@@ -12,6 +12,7 @@ mod table;
 mod writing;
 
 pub use law::{law_of_beside, law_of_tables};
+pub use reading::read_save;
 pub use refused::{ReleaseRefused, TableRefused};
 pub use save::{Save, is_label};
 pub use table::Table;

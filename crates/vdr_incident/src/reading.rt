@@ -30,8 +30,11 @@ fn read_bytes<M: Media>(media: &mut M, slot: u8, into: &mut [u8; SLOT_SIZE]) -> 
     Ok(())
 }
 
-// What a slot holds.
-fn read_slot<M: Media>(media: &mut M, slot: u8) -> Result<Option<Save>, PartRefused>
+/// Reads one incident slot: its save, None where it is free. Slot i has the save of id i + 1. Takes no memory.
+///
+/// `Damaged { medium: 1, offset }`: the slot's gate is open and its bytes are no legal save; the offset is where it begins.
+/// `Fault`: the read failed, and the count of faults of medium 1 rose. `NoMemory` is never answered.
+pub fn read_save<M: Media>(media: &mut M, slot: u8) -> Result<Option<Save>, PartRefused>
     requires incidents { HasIncidents (M.disk media.old).sizes }
     requires within { slot < 32 }
     ensures found { IfOk result (λ saved. M.tells → IsIncidentSlot (part (content (M.disk media.old).reads 1) (place_of slot) 256) saved) }
@@ -72,7 +75,7 @@ pub(crate) fn read_slots<M: Media>(
 {
     let mut saves = ArrayVec::new();
     for slot in 0..slots {
-        let saved = read_slot(media, slot)?;
+        let saved = read_save(media, slot)?;
         saves.push(saved);
     }
     Ok(saves)

@@ -5,4 +5,7 @@ pub mod LinkLemmas
 pub mod Lives
 pub mod PortLemmas
 pub mod Words
+mod Chains
+mod GoingOn
 mod Numbered
+pub mod Lined

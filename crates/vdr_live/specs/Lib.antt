@@ -4,3 +4,5 @@ pub mod Links
 pub mod Headline
 pub mod Recordings
 pub mod Runs
+pub mod Chains
+pub mod Lines

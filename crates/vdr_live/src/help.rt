@@ -53,7 +53,11 @@ Commands:
             fails is told at the end, and the others go on.
             Meanwhile an operator's orders are answered on 127.0.0.1, TCP port 61450, line by line:
             `STATUS`, `SAVE LABEL`, `RELEASE ID` and `PLAY MEDIUM CHANNEL FROM TO`. This link is
-            asked for a line TURNS times at most, and waits as a port does.
+            asked for a line TURNS times at most, and waits as a port does. `STOP` ends the recording:
+            what waits is recorded, and the run is closed.
+  order WORDS
+            Sends such a line to the recorder of this host, with the first word in capitals, prints
+            what is replied behind its `OK`, and ends with the status of a refusal. FOLDER may be any.
   play MEDIUM CHANNEL FROM TO
             Prints what stands on the media, as `review` does, with the Start and Stop of
             each run. MEDIUM is `capsule` or `longterm`, of which the window is printed,
@@ -95,6 +99,14 @@ Commands:
   picture MEDIUM CHANNEL SOURCE BLOCK FROM TO
             Writes the image with this SOURCE (six bytes, such as EI0001) and BLOCK (a number), out of
             a channel of kind `image`, to standard output, once all its parts are there.
+  rescue COMMAND WORDS
+            Does what COMMAND does, which is `play`, `sources`, `watch`, `targets`, `wav` or
+            `picture`, on one medium alone: that of its WORDS, and for `incident-ID` the long-term
+            one. The medium may be whole, cut short or damaged, the other one may be lost; nothing
+            is written. Each record that legally stands there is given. Behind that stand, but for
+            `wav` and `picture`, `missing A B` for places that the medium owes and lacks,
+            `damaged OFFSET` for each part that is not legal, and `closed OFFSET` for a slot that a
+            stop may have closed, and so may a changed byte.
   save LABEL
             Saves an incident: keeps the records of the long-term medium, from the first one
             of the last `incident_seconds` of recorder time to the last one, until the
@@ -158,13 +170,16 @@ Exit status, with the line that ends the output:
   4   `status 4 unformatted`: the media are not formatted
   4   `status 4 damaged MEDIUM OFFSET`: a part of this medium, 0 the capsule or 1 the
       long-term medium, is not legal; it begins at OFFSET, in bytes
+  4   `status 4 missing PLACE`: by `rescue`: nothing is damaged, and records lack from PLACE on
   5   `status 5 media`: a medium is in use by another process, may not be opened or
       written, or could not be read, written or synced; what was recorded before stays.
-      `play`, `sources`, `targets` and `incidents` need no leave to write
+      `play`, `sources`, `targets` and `incidents` need no leave to write. Behind a write or a sync
+      that failed capsule.left or longterm.left stands in FOLDER, and nothing is written while
+      it does: see to the disk, start the host anew, and remove it
   6   `status 6 port GROUP`: the UDP port of this group could not be bound or read, the least
       group where several could not; the run is closed, and its summary stands above
   6   `status 6 link 0`: TCP port 61450 could not be listened on, and no port failed; the run is
-      closed, and its summary stands above
+      closed, and its summary stands above. Of `order`: no recorder listens, or it hung up
   7   `status 7 input`: the input could not be read
   8   the output could not be written
   9   `status 9 memory`: there was not enough memory

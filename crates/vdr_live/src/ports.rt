@@ -6,8 +6,8 @@ ghost use Rattle.std.specs.Prelude.{◌≡◌, ◌<◌, ℕ, length, get_or, IfO
 use std::alloc::{AllocError, Global};
 use std::net::Net;
 use std::time::{Clock, Duration};
-use vdr_adapters::{Alarm, UdpPort};
 use vdr_capture::Lane;
+use vdr_sockets::{Alarm, UdpPort};
 
 /// A lane for each transmission group, over its UDP port, which is bound when it is first asked, and ends once the alarm is raised. Where
 /// the clock can't be read, capture counts from the clock's own beginning.

@@ -1,19 +1,24 @@
-// Whether words ask for a command that uses the media.
-ghost use Rattle.std.specs.Prelude.{◌≡◌, ◌⊎◌, ℕ, true, false};
-ghost use Rattle.vdr_tool.specs.Commands.{Asked};
+// Which media the command uses that words ask for.
+ghost use Rattle.std.specs.Prelude.{◌≡◌, ◌⊎◌, ℕ};
+ghost use Rattle.vdr_readout.specs.Readings.{Reading, number_read};
+ghost use Rattle.vdr_tool.specs.Commands.{Asked, IsPlain};
+ghost use Rattle.vdr_tool.specs.Commands.Asked.{Rescue};
 ghost use Rattle.vdr_tool.specs.Runs.{Asks, page};
+ghost use Rattle.vdr_tool.specs.declared.using.Uses.TheVariants.{All, Alone, Nothing};
 ghost use Rattle.vdr_live.specs.Recordings.{AsksRecord};
 
 use crate::turns::turns_of;
+use vdr_tool::Uses;
 
-/// Whether the words ask for a command that reads or writes the media. Words that ask for no command use none.
-pub fn uses_media(words: &[String]) -> bool
-    ensures used { result ≡ true → ((turns : ℕ) × AsksRecord words.now turns) ⊎ ((command : Asked) × Asks words.now command × (page command).uses_media) }
-    ensures unrecorded { result ≡ false → (turns : ℕ) → AsksRecord words.now turns → ⊥ }
-    ensures unused { result ≡ false → (command : Asked) → Asks words.now command → (page command).uses_media → ⊥ }
+/// Which media the command reads or writes that the words ask for. Words that ask for no command use none.
+pub fn medium_use(words: &[String]) -> Uses
+    ensures all { result ≡ All → ((turns : ℕ) × AsksRecord words.now turns) ⊎ ((command : Asked) × Asks words.now command × IsPlain command × (page command).uses_media) }
+    ensures alone { (m : ℕ) → result ≡ Alone m → (reading : Reading) × Asks words.now (Rescue reading) × (m ≡ number_read reading) }
+    ensures unrecorded { result ≡ Nothing → (turns : ℕ) → AsksRecord words.now turns → ⊥ }
+    ensures nothing { result ≡ Nothing → (command : Asked) → Asks words.now command → (page command).uses_media → ⊥ }
 {
     match turns_of(words) {
-        Some(_) => true,
-        None => vdr_tool::uses_media(words),
+        Some(_) => Uses::All,
+        None => vdr_tool::medium_use(words),
     }
 }

@@ -1,12 +1,13 @@
 -- What the capsule and the long-term medium hold, by the parts of their bytes (this project's profile).
-use Rattle.std.specs.Prelude.{◌≡◌, ℕ, List, [], length, map, replicate, All, IfSome, Option, None}
+use Rattle.std.specs.Prelude.{◌≡◌, ℕ, List, [], length, map, replicate, All, IfSome, Option, None, Ok}
 use Rattle.vdr_core.specs.Histories.{Incident, Opening}
 use Rattle.vdr_durability.specs.Readings.{Reading}
 use Rattle.vdr_durability.specs.Shown.{opened}
 use Rattle.vdr_outside.specs.Disk.{Image, content}
 use Rattle.vdr_config.specs.Configuration.{Configuration}
+use Rattle.vdr_config.specs.Grammar.{configuration}
 use Rattle.vdr_terms.specs.Slots.{slot_count}
-use Rattle.vdr_media.specs.Medium.{IsSuperblock, HoldsConfiguration}
+use Rattle.vdr_media.specs.Medium.{IsSuperblock, HoldsConfiguration, HoldsText}
 pub use Rattle.vdr_media.specs.Formatted.{members}
 use Rattle.vdr_directory.specs.Sequence.{Placed, batches_in}
 use Rattle.vdr_directory.specs.Order.{AreInOrder}
@@ -22,6 +23,12 @@ use Rattle.vdr_opening.specs.Settings.{settings_of}
 pub record HasFront (m : ℕ) (c : Configuration) (text bytes : List ℕ) : Type 0 where
   pub superblock : IsSuperblock m c.segment bytes
   pub configured : HoldsConfiguration m c text bytes
+
+-- A medium holds the text of this configuration. Whether it goes with the medium is not asked.
+pub record HoldsConfigText (c : Configuration) (bytes : List ℕ) : Type 0 where
+  pub text : List ℕ
+  pub holds : HoldsText text bytes
+  pub reads : configuration text ≡ Ok c
 
 -- Its slots hold these segments, in a legal order.
 pub record HasSegments (c : Configuration) (placed : List Placed) (bytes : List ℕ) : Type 0 where

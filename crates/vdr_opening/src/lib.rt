@@ -22,3 +22,4 @@ pub use medium::MEMBERS;
 pub use opened::Opened;
 pub use reading::read_media;
 pub use refused::OpenRefused;
+pub use text::read_config_of;

@@ -13,7 +13,7 @@ ghost use Rattle.vdr_directory.specs.Costs.{ReadsAtMost};
 ghost use Rattle.vdr_directory.specs.Opening.{HasFaultCause};
 ghost use Rattle.vdr_media.specs.Layout.{text_from};
 ghost use Rattle.vdr_media.specs.Medium.{HoldsText, IsSuperblock};
-ghost use Rattle.vdr_opening.specs.Media.{HasFront};
+ghost use Rattle.vdr_opening.specs.Media.{HasFront, HoldsConfigText};
 ghost use Rattle.vdr_opening.specs.Refusals.{IsSameText, RefusesConfiguration};
 ghost use Rattle.vdr_opening.specs.Parts.{HasRoomBefore, text_of};
 
@@ -161,4 +161,22 @@ pub(crate) fn read_configuration<M: Media>(
         return Err(refused(m));
     }
     Ok(configured)
+}
+
+/// The configuration whose text medium m holds, whether or not it goes with the medium. Reads at most 16,384 bytes.
+///
+/// `Damaged { medium: m, offset: 12288 }`: it holds the text of none. `Fault`: a read failed, and the count of faults of this
+/// medium rose. `NoMemory`: there was none for the text or the configuration.
+pub fn read_config_of<M: Media>(alloc: Global, media: &mut M, m: u8) -> Result<Config, PartRefused>
+    requires room { HasRoomBefore m (M.disk media.old).sizes }
+    ensures config { IfOk result (λ c. M.tells → HoldsConfigText c (content (M.disk media.old).reads m)) }
+    ensures damaged { (k offset : ℕ) → result ≡ Err (Damaged k offset) → (k ≡ m) × (offset ≡ text_from)
+        × (M.tells → (c : Configuration) → HoldsConfigText c (content (M.disk media.old).reads m) → ⊥) }
+    ensures unchanged { Unchanged (M.disk media.old) (M.disk media.new) }
+    ensures counts { ReadsAtMost m 16384 (M.bytes_read media.old) (M.bytes_read media.new) }
+    ensures cause { HasFaultCause m (M.faults media.old) (M.faults media.new) result }
+{
+    let text = read_text(alloc, media, m)?;
+    let configured = configured_by(alloc, m, text, None)?;
+    Ok(configured.config)
 }

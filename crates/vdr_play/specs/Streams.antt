@@ -1,5 +1,5 @@
 -- The lines of image headers and PCM frames, and the tracks that tell how each follows the one before it (this project's profile).
-use Rattle.std.specs.Prelude.{ℕ, List, [], ◌∷◌, ◌++◌, length, codes, decimal, Option, Some, None, option_map}
+use Rattle.std.specs.Prelude.{ℕ, List, [], ◌∷◌, length, codes, decimal, Option, Some, None, option_map}
 use Rattle.vdr_terms.specs.Records.{Content}
 use Rattle.vdr_terms.specs.Records.Content.{Start, Datagram, Gap, Stop}
 use Rattle.vdr_image.specs.Headers.{Header}

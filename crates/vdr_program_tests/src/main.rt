@@ -7,6 +7,7 @@
 ghost use Rattle.std.specs.Prelude.{◌≡◌, ◌<◌, ◌^◌, ℕ, length, slice_index_or};
 
 use std::fs::{File, Files, OpenFile};
+use std::net::{Net, TcpStream};
 use std::sync::Wait;
 use std::thread::Threads;
 use std::{fs, io};
@@ -19,7 +20,7 @@ use vdr_session::{Desk, Mark};
 mod tests;
 
 /// The words of each command, and the file that is its input.
-const COMMANDS: [(&str, &str); 34] = [
+const COMMANDS: [(&str, &str); 37] = [
     ("--version", "/dev/null"),
     ("media check", "bench.json"),
     ("media format", "bench.json"),
@@ -40,6 +41,13 @@ const COMMANDS: [(&str, &str); 34] = [
     ("media play incident-1 all - -", "/dev/null"),
     ("media sail", "/dev/null"),
     ("nowhere play capsule all - -", "/dev/null"),
+    // One medium alone.
+    (
+        "media rescue play capsule heading 2024-05-14T06:31:29.000Z -",
+        "/dev/null",
+    ),
+    ("media rescue replay", "/dev/null"),
+    ("nowhere rescue play capsule all - -", "/dev/null"),
     // Captures: each becomes a feed, and its packets are counted.
     (". import", "heading.pcap"),
     (". packets", "heading.pcap"),
@@ -70,11 +78,19 @@ fn make<R: Files>(rt: &R, path: &str, length: u64) -> io::Result<()> {
 
 // Runs one command over these ports and links, and prints how it ended.
 fn ask<
-    R: AllocGlobal + Files<File = File> + Print + Eprint + Threads + Wait + Sync,
+    R: AllocGlobal
+        + Files<File = File>
+        + Net<Stream = TcpStream>
+        + Print
+        + Eprint
+        + Threads
+        + Wait
+        + Sync,
     P: Port + Send,
     L: Link + Send,
 >(
     rt: &R,
+    host: &HostRuntime,
     lanes: &mut [Lane<P>],
     desks: &mut [Desk<L, Mark>],
     alarm: &Alarm,
@@ -90,15 +106,15 @@ fn ask<
         words.push(word.to_string(rt.alloc())?)?;
     }
     println!(rt; "> {text}")?;
-    let status = command_line(
+    let code = command_line(
         rt,
+        host,
         words.as_slice(),
         File::open(rt, input)?,
         lanes,
         desks,
         alarm,
     );
-    let code = status.code();
     println!(rt; "< {code}")
 }
 
@@ -110,7 +126,15 @@ fn main(rt: HostRuntime) -> io::Result<()> {
         let alarm = Alarm::new();
         let mut lanes = udp_lanes(&rt, rt.alloc(), &alarm)?;
         let mut desks = [tcp_desk(&rt, &alarm)];
-        ask(&rt, lanes.as_mut_slice(), &mut desks, &alarm, text, input)?;
+        ask(
+            &rt,
+            &rt,
+            lanes.as_mut_slice(),
+            &mut desks,
+            &alarm,
+            text,
+            input,
+        )?;
     }
     Ok(())
 }

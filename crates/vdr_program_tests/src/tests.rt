@@ -16,7 +16,8 @@ fn the_program_tells_what_it_is(rt: HostRuntime) -> Result<(), Fail> {
         let alarm = Alarm::new();
         let mut lanes = udp_lanes(&rt, rt.alloc(), &alarm)?;
         let mut desks = [tcp_desk(&rt, &alarm)];
-        let status = command_line(
+        let code = command_line(
+            &rt,
             &rt,
             words.as_slice(),
             Cursor::new(b""),
@@ -24,7 +25,7 @@ fn the_program_tells_what_it_is(rt: HostRuntime) -> Result<(), Fail> {
             &mut desks,
             &alarm,
         );
-        assert_eq!(rt; status.code(), wanted.code());
+        assert_eq!(rt; code, wanted.code());
     }
     Ok(())
 }

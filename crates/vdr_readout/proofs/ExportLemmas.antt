@@ -20,14 +20,14 @@ use Rattle.vdr_recorder.specs.Recordings.{HasRecorded, RecorderState}
 use Rattle.vdr_vault.proofs.Playing.{stands_to_read}
 use Rattle.vdr_vault.specs.Openings.{IsToldBy, OpensAtEachMoment}
 use Rattle.vdr_vault.specs.Vaults.{IsReadable, VaultState, ShowsHistory}
-use Rattle.vdr_vault.specs.Refusals.{HasOutputCause, IsAccepted, lacks_channel, lacks_incident, unanswered}
-use Rattle.vdr_vault.specs.declared.visit_refused.VisitRefused.{VisitRefused}
-use Rattle.vdr_vault.specs.declared.visit_refused.VisitRefused.TheVariants as stops
+use Rattle.vdr_visit.specs.Refusals.{HasOutputCause, IsAccepted, lacks_channel, lacks_incident, unanswered}
+use Rattle.vdr_visit.specs.declared.visit_refused.VisitRefused.{VisitRefused}
+use Rattle.vdr_visit.specs.declared.visit_refused.VisitRefused.TheVariants as stops
 use Rattle.vdr_export.specs.Answers.{FileEnds, IsFileRefusal, MayBeBegun, file_of}
 use Rattle.vdr_export.specs.declared.file.File.{File}
 use Rattle.vdr_export.specs.declared.refused.ExportRefused.{ExportRefused}
 use Rattle.vdr_export.specs.declared.refused.ExportRefused.TheVariants as exports
-use Rattle.vdr_export.proofs.Refusing.{looked_as}
+use Rattle.vdr_recorder.proofs.Visits.{looked_as}
 use Rattle.vdr_command.specs.Opened.{AddsMissing, AreLooks, IfDamaged, IsOpenableWith, IsRefusedAt, MediaEnds, PrintsText, WasRecorded}
 use Rattle.vdr_command.specs.Outside.{MediaSeen, OutputSeen, Outside, PrintsFront, Writes}
 use Rattle.vdr_command.specs.StatusLine.{channel_line}

@@ -6,8 +6,8 @@ use Rattle.std.specs.List.{flat_map}
 use Rattle.vdr_terms.specs.Records.{Record}
 use Rattle.vdr_config.specs.Configuration.{Selection}
 use Rattle.vdr_config.specs.Configuration.Selection.{Sentence, Image as Images, Pcm, Opaque}
-use Rattle.vdr_vault.specs.declared.visit_refused.VisitRefused.{VisitRefused}
-use Rattle.vdr_vault.specs.declared.visit_refused.VisitRefused.TheVariants as stops
+use Rattle.vdr_visit.specs.declared.visit_refused.VisitRefused.{VisitRefused}
+use Rattle.vdr_visit.specs.declared.visit_refused.VisitRefused.TheVariants as stops
 use Rattle.vdr_export.specs.Answers.{FileEnds, IsFailure, IsFileRefusal, MayBeBegun, data_of, file_of, first_missing, joined, picture_of, size_of, unless_long, unless_mixed, unless_part, wave_of, wave_with}
 use Rattle.vdr_export.specs.Numbers.{mixed_at}
 use Rattle.vdr_export.specs.Pictures.{Shown, bodies, greatest_of, shown}

@@ -12,3 +12,6 @@ pub mod ExportLemmas
 pub mod ExportCompleteness
 pub mod WatchLemmas
 pub mod TableLemmas
+pub mod RescueLemmas
+pub mod RescuedFileLemmas
+pub mod ReadingLemmas

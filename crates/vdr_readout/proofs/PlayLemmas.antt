@@ -5,13 +5,13 @@ use Rattle.vdr_outside.specs.Disk.{Disk}
 use Rattle.vdr_opening.specs.Media.{Contents, HoldsContents}
 use Rattle.vdr_play.specs.Streams.{Seen, nothing_seen}
 use Rattle.vdr_play.specs.Texts.{records_text}
-use Rattle.vdr_vault.specs.Prints.{whole_text}
+use Rattle.vdr_visit.specs.Prints.{whole_text}
 use Rattle.vdr_command.specs.Endings.{IsWorkDone}
 use Rattle.vdr_command.specs.Opened.{OneAnswer, PrintsText}
 use Rattle.vdr_command.specs.Outside.{Outside, OutputFailed, OutputSeen, Prints, PrintsFront, Writes}
 use Rattle.vdr_command.specs.StatusLine.{IsNoChannel, channel_line}
 use Rattle.vdr_command.specs.declared.status.Status.{Status}
-use Rattle.vdr_command.specs.declared.status.Status.TheVariants.{Done, Words, Config, Small, Unformatted, Formatted, Damaged, MediaFault, PortFault, LinkFault, InputFault, OutputFault, NoMemory, Feed, NoChannel, NoIncident, SaveRefused, Place, Tick, ExportKind, ExportNothing, ExportMixed, ExportLong, ExportPart, Capture}
+use Rattle.vdr_command.specs.declared.status.Status.TheVariants.{Done, Words, Config, Small, Unformatted, Formatted, Damaged, MediaFault, PortFault, LinkFault, InputFault, OutputFault, NoMemory, Feed, NoChannel, NoIncident, SaveRefused, Place, Tick, ExportKind, ExportNothing, ExportMixed, ExportLong, ExportPart, Capture, Missing}
 use Rattle.vdr_recorder.proofs.Printing.{line_after, lines_are, whole_is}
 use Rattle.vdr_readout.specs.Plays.{IsCut, IsPlayStatus, Plays, play_text}
 use Rattle.vdr_readout.specs.Reads.{AreFirst, AskedPlay, CanBeRead, ReadsOut, ShowsReading, StoppedItself, records_asked}
@@ -56,6 +56,7 @@ module _ {tells tells_images R : Type 0} (asked : AskedPlay) (disk : Disk tells 
   play_status (ExportMixed place) shown = is_play (ExportMixed place) (of_memory (ExportMixed place) shown).0
   play_status ExportLong shown = is_play ExportLong (of_memory ExportLong shown).0
   play_status (ExportPart number) shown = is_play (ExportPart number) (of_memory (ExportPart number) shown).0
+  play_status (Missing place) shown = is_play (Missing place) (of_memory (Missing place) shown).0
   play_status (Capture number offset) shown = is_play (Capture number offset) (of_memory (Capture number offset) shown).0
 
   text_is : (x : Contents) (all : List Record) → all ≡ records_asked x asked → whole_text (line_after first) (λ all. []) all ≡ play_text x asked
@@ -86,6 +87,7 @@ module _ {tells tells_images R : Type 0} (asked : AskedPlay) (disk : Disk tells 
   play_printed (ExportMixed place) shown x t holds can = tt
   play_printed ExportLong shown x t holds can = tt
   play_printed (ExportPart number) shown x t holds can = tt
+  play_printed (Missing place) shown x t holds can = tt
   play_printed (Capture number offset) shown x t holds can = tt
 
   play_cut : (status : Status) → Shows status → IsCut status → (front : List Record) × Prints (records_text nothing_seen front) was next × AreFirst asked disk front
@@ -113,6 +115,7 @@ module _ {tells tells_images R : Type 0} (asked : AskedPlay) (disk : Disk tells 
   play_cut (ExportMixed place) shown cut = absurd cut
   play_cut ExportLong shown cut = absurd cut
   play_cut (ExportPart number) shown cut = absurd cut
+  play_cut (Missing place) shown cut = absurd cut
   play_cut (Capture number offset) shown cut = absurd cut
 
   play_output : (status : Status) → Shows status → status ≡ OutputFault → OutputFailed was next
@@ -146,6 +149,7 @@ module _ {tells tells_images R : Type 0} (asked : AskedPlay) (disk : Disk tells 
   play_silent (ExportMixed place) shown = inr (inr (inr (of_memory (ExportMixed place) shown).1))
   play_silent ExportLong shown = inr (inr (inr (of_memory ExportLong shown).1))
   play_silent (ExportPart number) shown = inr (inr (inr (of_memory (ExportPart number) shown).1))
+  play_silent (Missing place) shown = inr (inr (inr (of_memory (Missing place) shown).1))
   play_silent (Capture number offset) shown = inr (inr (inr (of_memory (Capture number offset) shown).1))
 
 -- What a player made of the media is what `play` owes.

@@ -29,11 +29,12 @@ use Rattle.vdr_vault.proofs.ShownHistory.{stands_silent, stands_still}
 use Rattle.vdr_vault.specs.Vaults.{IsReadable, VaultState, ShowsHistory, Stands}
 use Rattle.vdr_command.specs.Opened.{AreLooks, IsOpenableWith, KeepsContents, WasRecorded}
 use Rattle.vdr_command.specs.Outside.{MediaSeen, OutputFailed, OutputSeen, PrintsFront}
-use Rattle.vdr_vault.specs.Prints.{whole_text}
-use Rattle.vdr_vault.specs.Refusals.{IsAccepted, lacks_channel, lacks_incident}
-use Rattle.vdr_vault.specs.Visits.{AreVisited, HasMade, HasVisited}
-use Rattle.vdr_vault.specs.declared.visit_refused.VisitRefused.{VisitRefused}
-use Rattle.vdr_vault.specs.declared.visit_refused.VisitRefused.TheVariants as stops
+use Rattle.vdr_visit.specs.Prints.{whole_text}
+use Rattle.vdr_visit.specs.Refusals.{IsAccepted, lacks_channel, lacks_incident}
+use Rattle.vdr_visit.specs.Visits.{AreVisited, HasMade}
+use Rattle.vdr_vault.specs.Visits.{HasVisited}
+use Rattle.vdr_visit.specs.declared.visit_refused.VisitRefused.{VisitRefused}
+use Rattle.vdr_visit.specs.declared.visit_refused.VisitRefused.TheVariants as stops
 use Rattle.vdr_readout.specs.Reads.{AreIntactAsked, AskedPlay, CanBeRead, CanPlay, IfItself, IsMetDamage, IsOwnStatus, LacksChannel, LacksIncident, MetUnreadable, PlayEnds, ShowsReading, query_of, records_asked, status_by}
 use Rattle.vdr_command.specs.declared.status.Status.{Status}
 use Rattle.vdr_command.specs.declared.status.Status.TheVariants.{Done, Damaged, OutputFault, NoChannel, NoIncident}

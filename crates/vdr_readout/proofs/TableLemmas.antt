@@ -8,13 +8,13 @@ use Rattle.vdr_entry.specs.declared.query.Medium.{Medium}
 use Rattle.vdr_opening.specs.Media.{Contents, HoldsContents}
 use Rattle.vdr_sources.specs.Tables.{sources_of, sources_text, with_record}
 use Rattle.vdr_sources.proofs.Lines.{by_records}
-use Rattle.vdr_vault.specs.Prints.{text_of, whole_text}
+use Rattle.vdr_visit.specs.Prints.{text_of, whole_text}
 use Rattle.vdr_recorder.proofs.Printing.{no_lines}
 use Rattle.vdr_command.specs.Endings.{IsWorkDone}
 use Rattle.vdr_command.specs.Opened.{OneAnswer, PrintsText}
 use Rattle.vdr_command.specs.Outside.{Outside, OutputFailed, OutputSeen, Prints, PrintsFront}
 use Rattle.vdr_command.specs.declared.status.Status.{Status}
-use Rattle.vdr_command.specs.declared.status.Status.TheVariants.{Done, Words, Config, Small, Unformatted, Formatted, Damaged, MediaFault, PortFault, LinkFault, InputFault, OutputFault, NoMemory, Feed, NoChannel, NoIncident, SaveRefused, Place, Tick, ExportKind, ExportNothing, ExportMixed, ExportLong, ExportPart, Capture}
+use Rattle.vdr_command.specs.declared.status.Status.TheVariants.{Done, Words, Config, Small, Unformatted, Formatted, Damaged, MediaFault, PortFault, LinkFault, InputFault, OutputFault, NoMemory, Feed, NoChannel, NoIncident, SaveRefused, Place, Tick, ExportKind, ExportNothing, ExportMixed, ExportLong, ExportPart, Capture, Missing}
 use Rattle.vdr_readout.specs.Plays.{IsPlayStatus}
 use Rattle.vdr_readout.specs.Reads.{AskedPlay, CanBeRead, ReadsOut, ShowsReading, StoppedItself, all_records, records_asked}
 use Rattle.vdr_readout.specs.Tables.{TellsTable}
@@ -60,6 +60,7 @@ module _ {tells tells_images R : Type 0} (asked : AskedPlay) (plain : asked.chan
   table_status (ExportMixed place) shown = is_play (ExportMixed place) (of_memory (ExportMixed place) shown)
   table_status ExportLong shown = is_play ExportLong (of_memory ExportLong shown)
   table_status (ExportPart number) shown = is_play (ExportPart number) (of_memory (ExportPart number) shown)
+  table_status (Missing place) shown = is_play (Missing place) (of_memory (Missing place) shown)
   table_status (Capture number offset) shown = is_play (Capture number offset) (of_memory (Capture number offset) shown)
 
   table_channel : (status : Status) → Shows status → status ≡ NoChannel → ⊥
@@ -93,6 +94,7 @@ module _ {tells tells_images R : Type 0} (asked : AskedPlay) (plain : asked.chan
   table_printed (ExportMixed place) shown x t holds can = tt
   table_printed ExportLong shown x t holds can = tt
   table_printed (ExportPart number) shown x t holds can = tt
+  table_printed (Missing place) shown x t holds can = tt
   table_printed (Capture number offset) shown x t holds can = tt
 
   table_output : (status : Status) → Shows status → status ≡ OutputFault → OutputFailed was next
@@ -132,6 +134,7 @@ module _ {tells tells_images R : Type 0} (asked : AskedPlay) (plain : asked.chan
   table_silent (ExportMixed place) shown = inr (none_of (ExportMixed place) shown)
   table_silent ExportLong shown = inr (none_of ExportLong shown)
   table_silent (ExportPart number) shown = inr (none_of (ExportPart number) shown)
+  table_silent (Missing place) shown = inr (none_of (Missing place) shown)
   table_silent (Capture number offset) shown = inr (none_of (Capture number offset) shown)
 
 -- What a visitor made of the media that prints a table behind the last record is what the command owes.

@@ -5,7 +5,7 @@ use Rattle.vdr_terms.specs.Records.{Record}
 use Rattle.vdr_outside.specs.Disk.{Disk}
 use Rattle.vdr_entry.specs.declared.query.Medium.{Medium}
 use Rattle.vdr_opening.specs.Media.{Contents, HoldsContents}
-use Rattle.vdr_vault.specs.Prints.{lines_behind, text_of, whole_text}
+use Rattle.vdr_visit.specs.Prints.{lines_behind, text_of, whole_text}
 use Rattle.vdr_watch.specs.Signs.{Sign}
 use Rattle.vdr_watch.specs.Supervision.{met_in}
 use Rattle.vdr_watch.specs.Texts.{closing_text, record_text, records_text, watch_text}
@@ -14,7 +14,7 @@ use Rattle.vdr_command.specs.Endings.{IsWorkDone}
 use Rattle.vdr_command.specs.Opened.{OneAnswer, PrintsText}
 use Rattle.vdr_command.specs.Outside.{Outside, OutputFailed, OutputSeen, Prints, PrintsFront}
 use Rattle.vdr_command.specs.declared.status.Status.{Status}
-use Rattle.vdr_command.specs.declared.status.Status.TheVariants.{Done, Words, Config, Small, Unformatted, Formatted, Damaged, MediaFault, PortFault, LinkFault, InputFault, OutputFault, NoMemory, Feed, NoChannel, NoIncident, SaveRefused, Place, Tick, ExportKind, ExportNothing, ExportMixed, ExportLong, ExportPart, Capture}
+use Rattle.vdr_command.specs.declared.status.Status.TheVariants.{Done, Words, Config, Small, Unformatted, Formatted, Damaged, MediaFault, PortFault, LinkFault, InputFault, OutputFault, NoMemory, Feed, NoChannel, NoIncident, SaveRefused, Place, Tick, ExportKind, ExportNothing, ExportMixed, ExportLong, ExportPart, Capture, Missing}
 use Rattle.vdr_readout.specs.Plays.{IsPlayStatus}
 use Rattle.vdr_readout.specs.Reads.{AreFirst, CanBeRead, ReadsOut, ShowsReading, StoppedItself, records_asked}
 use Rattle.vdr_readout.specs.Sources.{whole_of}
@@ -129,6 +129,7 @@ module _ {tells tells_images R : Type 0} (medium : Medium) (disk : Disk tells te
   owes (ExportMixed place) shown = by_memory (ExportMixed place) shown
   owes ExportLong shown = by_memory ExportLong shown
   owes (ExportPart number) shown = by_memory (ExportPart number) shown
+  owes (Missing place) shown = by_memory (Missing place) shown
   owes (Capture number offset) shown = by_memory (Capture number offset) shown
 
   no_channel : (status : Status) → Shows status → status ≡ NoChannel → ⊥

@@ -7,3 +7,7 @@ pub mod Sources
 pub mod Exports
 pub mod Watches
 pub mod Targets
+pub mod Rescues
+pub mod Telling
+pub mod RescuedFiles
+pub mod Readings

@@ -24,15 +24,15 @@ use Rattle.vdr_ring.specs.Damage.{IsDamagedIn, IsIntact}
 use Rattle.vdr_vault.specs.Openings.{IsLeftAsRead}
 use Rattle.vdr_vault.specs.Plays.{MeetsWithin, span_among}
 use Rattle.vdr_vault.specs.Vaults.{IsDamagedOn}
-use Rattle.vdr_vault.specs.Prints.{text_of, whole_text}
-use Rattle.vdr_vault.specs.declared.visit_refused.VisitRefused.{VisitRefused}
-use Rattle.vdr_vault.specs.declared.visit_refused.VisitRefused.TheVariants as stops
+use Rattle.vdr_visit.specs.Prints.{text_of, whole_text}
+use Rattle.vdr_visit.specs.declared.visit_refused.VisitRefused.{VisitRefused}
+use Rattle.vdr_visit.specs.declared.visit_refused.VisitRefused.TheVariants as stops
 use Rattle.vdr_command.specs.Endings.{IsDone, IsWorkDone}
 use Rattle.vdr_command.specs.Opened.{AddsMissing, AreLooks, IfNoIncident, IsOpenableWith, MediaEnds, RefusesAll, WasRecorded}
 use Rattle.vdr_command.specs.Outside.{MediaSeen, OutputFailed, OutputSeen, Outside, Prints, PrintsFront, Writes}
 use Rattle.vdr_command.specs.StatusLine.{channel_line}
 use Rattle.vdr_command.specs.declared.status.Status.{Status}
-use Rattle.vdr_command.specs.declared.status.Status.TheVariants.{Done, Words, Unformatted, Damaged, MediaFault, OutputFault, NoMemory, NoChannel, NoIncident}
+use Rattle.vdr_command.specs.declared.status.Status.TheVariants.{Done, Words, Unformatted, Damaged, MediaFault, OutputFault, NoMemory, NoChannel, NoIncident, Missing}
 use Rattle.vdr_readout.specs.declared.reading.Wanted.{Wanted}
 
 -- What is asked for: the medium or the incident, the channel's name, and the first and the last stamp.
@@ -123,6 +123,7 @@ IsOwnStatus MediaFault = ⊥
 IsOwnStatus OutputFault = ⊥
 IsOwnStatus NoChannel = ⊥
 IsOwnStatus (NoIncident id) = ⊥
+IsOwnStatus (Missing place) = ⊥
 IsOwnStatus status = ⊤
 
 -- P holds of the visitor's own reason.

@@ -1,5 +1,5 @@
 // Files out of what was recorded: the sound of a channel, and the image of a block.
-ghost use Rattle.std.specs.Prelude.{◌≡◌, ◌≤◌, length};
+ghost use Rattle.std.specs.Prelude.{◌≡◌, ◌≤◌, length, Err};
 ghost use Rattle.vdr_command.specs.Endings.{ending};
 ghost use Rattle.vdr_command.specs.declared.status.Status.TheVariants.{Words};
 ghost use Rattle.vdr_readout.specs.Exports.{ExportEnds, Exports, kind_at, status_of_export, wished};
@@ -24,8 +24,8 @@ pub enum Wish {
     Picture(Block),
 }
 
-// The file that is to be made of a channel, None where its kind is another.
-fn file_of(config: &Config, channel: Option<u8>, wish: Wish) -> Option<File>
+/// The file that is to be made of a channel, None where its kind is another.
+pub(crate) fn file_of(config: &Config, channel: Option<u8>, wish: Wish) -> Option<File>
     ensures { result ≡ wished wish (kind_at config.now.channels channel) }
 {
     let Some(number) = channel else {
@@ -43,20 +43,29 @@ fn file_of(config: &Config, channel: Option<u8>, wish: Wish) -> Option<File>
     }
 }
 
+/// How a file that is refused ends the command.
+pub(crate) fn refused_as(refused: ExportRefused) -> Status
+    ensures { result ≡ status_of_export (Err refused) }
+{
+    match refused {
+        ExportRefused::Nothing => Status::ExportNothing,
+        ExportRefused::Mixed { place } => Status::ExportMixed(place),
+        ExportRefused::Long => Status::ExportLong,
+        ExportRefused::Part { number } => Status::ExportPart(number),
+        ExportRefused::Fault => Status::MediaFault,
+        ExportRefused::Damaged { medium, offset } => Status::Damaged { medium, offset },
+        ExportRefused::Output => Status::OutputFault,
+        ExportRefused::NoMemory => Status::NoMemory,
+    }
+}
+
 // How the writing of a file ends the command.
 fn exported(written: Result<(), ExportRefused>) -> Result<(), Status>
     ensures { ending result ≡ status_of_export written }
 {
     match written {
         Ok(()) => Ok(()),
-        Err(ExportRefused::Nothing) => Err(Status::ExportNothing),
-        Err(ExportRefused::Mixed { place }) => Err(Status::ExportMixed(place)),
-        Err(ExportRefused::Long) => Err(Status::ExportLong),
-        Err(ExportRefused::Part { number }) => Err(Status::ExportPart(number)),
-        Err(ExportRefused::Fault) => Err(Status::MediaFault),
-        Err(ExportRefused::Damaged { medium, offset }) => Err(Status::Damaged { medium, offset }),
-        Err(ExportRefused::Output) => Err(Status::OutputFault),
-        Err(ExportRefused::NoMemory) => Err(Status::NoMemory),
+        Err(refused) => Err(refused_as(refused)),
     }
 }
 

@@ -1,14 +1,18 @@
 //! The commands of the voyage data recorder that read recorded media and print what they hold.
 #![tactic(auto)]
 
+mod answering;
 mod exporting;
 mod listing;
 mod playing;
 mod reading;
+mod rescuing;
+mod rescuing_files;
 mod sourcing;
 mod targeting;
 mod watching;
 
+pub use answering::{Reading, answer_rescue};
 pub use exporting::{Wish, answer_export};
 pub use listing::answer_incidents;
 pub use playing::answer_play;

@@ -12,16 +12,16 @@ use vdr_command::{Outer, Status, World, law_of_openings};
 use vdr_entry::Record;
 use vdr_outside::{Media, Sink, Source};
 use vdr_recorder::Player;
-use vdr_vault::{Visitor, VisitorRefused};
+use vdr_visit::{Visitor, VisitorRefused};
 
 // A player as a command has it: with a reason to stop that has a status, though it never stops by itself.
 #[derive(Drop)]
-struct Printer {
+pub(crate) struct Printer {
     player: Player,
 }
 
 impl Printer {
-    fn new() -> Printer
+    pub(crate) fn new() -> Printer
         ensures { result.player.tracks ≡ nothing_seen }
     {
         Printer {

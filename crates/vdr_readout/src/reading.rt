@@ -2,7 +2,7 @@
 //
 // `read_out` opens, finds and reads for every command that makes something of records, and maps the ends to statuses
 // in one place.
-ghost use Rattle.std.specs.Prelude.{◌≡◌, ◌≤◌, ◌⊎◌, [], length, IfSome, IfNone};
+ghost use Rattle.std.specs.Prelude.{◌≡◌, ◌≤◌, ◌⊎◌, [], length, Err, IfSome, IfNone};
 ghost use Rattle.vdr_entry.specs.Queries.{asked};
 ghost use Rattle.vdr_command.specs.Endings.{ending};
 ghost use Rattle.vdr_command.specs.declared.status.Status.{Status as AStatus};
@@ -10,11 +10,13 @@ ghost use Rattle.vdr_readout.specs.Reads.{IfItself, IsOwnStatus, LacksChannel, R
 
 use std::alloc::{AllocError, Global};
 use vdr_command::{Outer, Status, World, report_channel};
+use vdr_config::Config;
 use vdr_entry::{Medium, Query};
 use vdr_opening::law_of_parts;
 use vdr_outside::{Media, Sink, Source};
 use vdr_recorder::Recorder;
-use vdr_vault::{VisitRefused, Visitor, law_of_budgets, law_of_meeting};
+use vdr_vault::{law_of_budgets, law_of_meeting};
+use vdr_visit::{VisitRefused, Visitor};
 
 /// The channel's name that stands for all records.
 pub(crate) const ALL: &[u8] = b"all";
@@ -65,7 +67,22 @@ pub(crate) fn id_of(medium: Medium) -> u32
     }
 }
 
-/// How a visit of this medium ends the command. Only an incident's id is asked for in vain.
+/// How a visit of this medium that was cut off ends the command. Only an incident's id is asked for in vain.
+pub(crate) fn stopped_as<R: EndsCommand>(stop: VisitRefused<R>, medium: Medium) -> Status
+    ensures is { result ≡ status_by R.ends_as (Err stop) medium }
+    ensures own { IfItself (Err stop) (λ reason. IsOwnStatus (R.ends_as reason)) }
+{
+    match stop {
+        VisitRefused::NoChannel => Status::NoChannel,
+        VisitRefused::NoIncident => Status::NoIncident(id_of(medium)),
+        VisitRefused::Fault => Status::MediaFault,
+        VisitRefused::Damaged { medium, offset } => Status::Damaged { medium, offset },
+        VisitRefused::Output => Status::OutputFault,
+        VisitRefused::Own(reason) => reason.status(),
+    }
+}
+
+/// How a visit of this medium ends the command.
 pub(crate) fn ended_by<R: EndsCommand>(
     ended: Result<(), VisitRefused<R>>,
     medium: Medium,
@@ -75,20 +92,15 @@ pub(crate) fn ended_by<R: EndsCommand>(
 {
     match ended {
         Ok(()) => Ok(()),
-        Err(VisitRefused::NoChannel) => Err(Status::NoChannel),
-        Err(VisitRefused::NoIncident) => Err(Status::NoIncident(id_of(medium))),
-        Err(VisitRefused::Fault) => Err(Status::MediaFault),
-        Err(VisitRefused::Damaged { medium, offset }) => Err(Status::Damaged { medium, offset }),
-        Err(VisitRefused::Output) => Err(Status::OutputFault),
-        Err(VisitRefused::Own(reason)) => Err(reason.status()),
+        Err(stop) => Err(stopped_as(stop, medium)),
     }
 }
 
 /// The query of what is wanted, None where no such channel is configured.
-pub(crate) fn query_of(recorder: &Recorder, wanted: Wanted<'_>) -> Option<Query>
-    ensures found { IfSome result (λ query. (asked query ≡ query_of recorder.now.vault.config wanted.entry.medium wanted.entry.channel.now wanted.entry.from wanted.entry.to)
-        × (LacksChannel recorder.now.vault.config wanted.entry.channel.now → ⊥)) }
-    ensures none { IfNone result (LacksChannel recorder.now.vault.config wanted.entry.channel.now) }
+pub(crate) fn query_in(config: &Config, wanted: Wanted<'_>) -> Option<Query>
+    ensures found { IfSome result (λ query. (asked query ≡ query_of config.now wanted.entry.medium wanted.entry.channel.now wanted.entry.from wanted.entry.to)
+        × (LacksChannel config.now wanted.entry.channel.now → ⊥)) }
+    ensures none { IfNone result (LacksChannel config.now wanted.entry.channel.now) }
 {
     let mut query = Query {
         medium: wanted.medium,
@@ -99,11 +111,20 @@ pub(crate) fn query_of(recorder: &Recorder, wanted: Wanted<'_>) -> Option<Query>
     if wanted.channel == ALL {
         return Some(query);
     }
-    let Some(number) = recorder.config().channel_of(wanted.channel) else {
+    let Some(number) = config.channel_of(wanted.channel) else {
         return None;
     };
     query.channel = Some(number);
     Some(query)
+}
+
+/// The same, of a recorder.
+pub(crate) fn query_of(recorder: &Recorder, wanted: Wanted<'_>) -> Option<Query>
+    ensures found { IfSome result (λ query. (asked query ≡ query_of recorder.now.vault.config wanted.entry.medium wanted.entry.channel.now wanted.entry.from wanted.entry.to)
+        × (LacksChannel recorder.now.vault.config wanted.entry.channel.now → ⊥)) }
+    ensures none { IfNone result (LacksChannel recorder.now.vault.config wanted.entry.channel.now) }
+{
+    query_in(recorder.config(), wanted)
 }
 
 /// Opens the media, finds what is wanted there, and hands its records to the visitor. What the visitor prints goes to the output. Only the

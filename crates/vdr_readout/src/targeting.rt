@@ -14,7 +14,7 @@ use vdr_ais::TargetTable;
 use vdr_command::{Outer, Status, World, law_of_openings};
 use vdr_entry::{Medium, Record};
 use vdr_outside::{Media, Printable, Sink, Source};
-use vdr_vault::{Visitor, VisitorRefused};
+use vdr_visit::{Visitor, VisitorRefused};
 
 /// Takes the AIS messages of records, and prints the table of the ships that they report behind the last.
 #[derive(Drop)]
@@ -24,7 +24,7 @@ pub struct Lookout {
 
 impl Lookout {
     /// No record was seen.
-    fn new(alloc: Global) -> Lookout
+    pub(crate) fn new(alloc: Global) -> Lookout
         ensures { Shows nothing result.table }
     {
         Lookout {

@@ -11,7 +11,7 @@ use vdr_command::{Outer, Status, World, law_of_openings};
 use vdr_entry::{Medium, Record};
 use vdr_outside::{Media, Sink, Source};
 use vdr_terms::LAST_STAMP;
-use vdr_vault::{Visitor, VisitorRefused};
+use vdr_visit::{Visitor, VisitorRefused};
 use vdr_watch::{Watch, WatchFault};
 
 /// Prints what records show of the equipment, and behind the last what their end shows.
@@ -22,7 +22,7 @@ pub(crate) struct Watcher {
 
 impl Watcher {
     /// A watcher of no record.
-    fn new(alloc: Global) -> Watcher
+    pub(crate) fn new(alloc: Global) -> Watcher
         ensures { result.watch ≡ kept_of [] }
     {
         Watcher {

@@ -5,6 +5,7 @@ pub mod Committing
 pub mod Running
 pub mod Starting
 pub mod Looking
+pub mod Visits
 pub mod QuietActs
 pub mod Opened
 pub mod Printing

@@ -15,11 +15,13 @@ use Rattle.vdr_play.specs.Streams.{Seen, nothing_seen, seen_after}
 use Rattle.vdr_play.specs.Texts.{record_text, records_text, seen_by}
 use Rattle.vdr_sources.specs.Tables.{sources_of, sources_text, with_record}
 use Rattle.vdr_sources.proofs.Lines.{by_records}
+use Rattle.vdr_vault.specs.Plays.{TellsDamageOf}
 use Rattle.vdr_vault.specs.Vaults.{IsReadable, VaultState}
-use Rattle.vdr_vault.specs.Prints.{lines_behind, text_of, whole_text}
-use Rattle.vdr_vault.specs.Visits.{AreVisited, HasMade, HasVisited}
-use Rattle.vdr_vault.specs.declared.visit_refused.VisitRefused.{VisitRefused}
-use Rattle.vdr_vault.specs.declared.visit_refused.VisitRefused.TheVariants.{NoChannel, NoIncident, Fault, Damaged, Output, Own}
+use Rattle.vdr_visit.specs.Prints.{lines_behind, text_of, whole_text}
+use Rattle.vdr_visit.specs.Visits.{AreVisited, HasMade}
+use Rattle.vdr_vault.specs.Visits.{HasVisited}
+use Rattle.vdr_visit.specs.declared.visit_refused.VisitRefused.{VisitRefused}
+use Rattle.vdr_visit.specs.declared.visit_refused.VisitRefused.TheVariants.{NoChannel, NoIncident, Fault, Damaged, Output, Own}
 use Rattle.vdr_recorder.specs.Playing.{HasLines, HasPlayed, HasTable, HasTold}
 
 -- What is printed of a record, from these tracks on.
@@ -49,11 +51,12 @@ whole_is first records new = append-nil (text_of (line_after first) records) ∙
 module _ {tells tells_images : Type 0} {R : Type 0} (query : Query) (vault : VaultState) (disk : Disk tells tells_images) (was now : Option (List ℕ)) (result : Result ⊤ (VisitRefused R)) where
   -- What a player was handed stands in the output as text.
   pub played : (first : Seen) (Has : List Record → Type 0) → first ≡ nothing_seen
+      → TellsDamageOf query vault disk (λ m offset. result ≡ Err (Damaged m offset)) (result ≡ Ok tt)
       → HasVisited query vault disk Has (λ seen reason. ⊥) (line_after first) (whole_text (line_after first) (λ all. [])) was now result → HasPlayed query vault disk was now result
-  played first Has new v = record {
+  played first Has new damage v = record {
     printed = v.seen;
     lines = lines result v.made;
-    damage = v.damage;
+    damage = damage;
     are = v.are;
     front = λ opening events placed told readable.
         subst (λ (l : List ℕ). AppendsFront was now l) (whole_is first (selected opening events query) new) (v.front opening events placed told readable);
@@ -96,11 +99,12 @@ table_is first records new =
 module _ {tells tells_images : Type 0} {R : Type 0} (query : Query) (vault : VaultState) (disk : Disk tells tells_images) (was now : Option (List ℕ)) (result : Result ⊤ (VisitRefused R)) where
   -- What a counter was handed stands in the output as a table, or nothing does.
   pub told : (first : List Row) (Has : List Record → Type 0) (Stops : List Record → R → Type 0) → first ≡ []
+      → TellsDamageOf query vault disk (λ m offset. result ≡ Err (Damaged m offset)) (result ≡ Ok tt)
       → HasVisited query vault disk Has Stops (λ before r. []) (whole_text (λ before r. []) (λ seen. sources_text (fold with_record first seen))) was now result → HasTold query vault disk was now result
-  told first Has Stops new v = record {
+  told first Has Stops new damage v = record {
     counted = v.seen;
     table = table result v.made;
-    damage = v.damage;
+    damage = damage;
     are = v.are;
     front = λ opening events placed known readable.
         subst (λ (l : List ℕ). AppendsFront was now l) (table_is first (selected opening events query) new) (v.front opening events placed known readable);

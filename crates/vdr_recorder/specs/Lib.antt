@@ -3,6 +3,7 @@ pub mod Making
 pub mod Recordings
 pub mod Refusals
 pub mod Looks
+pub mod Reads
 pub mod Playing
 pub mod Calls
 pub mod Headline

@@ -13,9 +13,9 @@ use Rattle.vdr_play.specs.Texts.{records_text}
 use Rattle.vdr_sources.specs.Tables.{sources_of, sources_text}
 use Rattle.vdr_vault.specs.Plays.{TellsDamageOf}
 use Rattle.vdr_vault.specs.Vaults.{IsReadable, VaultState}
-use Rattle.vdr_vault.specs.Visits.{AreVisited}
-use Rattle.vdr_vault.specs.declared.visit_refused.VisitRefused.{VisitRefused}
-use Rattle.vdr_vault.specs.declared.visit_refused.VisitRefused.TheVariants.{NoChannel, NoIncident, Fault, Damaged, Output, Own}
+use Rattle.vdr_visit.specs.Visits.{AreVisited}
+use Rattle.vdr_visit.specs.declared.visit_refused.VisitRefused.{VisitRefused}
+use Rattle.vdr_visit.specs.declared.visit_refused.VisitRefused.TheVariants.{NoChannel, NoIncident, Fault, Damaged, Output, Own}
 
 -- The text of these records stands in the output, and nothing behind it, unless the output failed. A player never stops by itself.
 abbrev pub HasLines : {R : Type 0} → List Record → (was now : Option (List ℕ)) → Result ⊤ (VisitRefused R) → Type 0

@@ -11,6 +11,7 @@ mod commit;
 mod law;
 mod making;
 mod play;
+mod reading;
 mod recorder;
 mod run;
 mod saving;

@@ -6,9 +6,9 @@ ghost use Rattle.std.specs.Prelude.{◌≡◌, ◌⊎◌, ℕ, length, true, Err
 ghost use Rattle.vdr_entry.specs.Queries.{asked};
 ghost use Rattle.vdr_play.specs.Streams.{nothing_seen};
 ghost use Rattle.vdr_vault.specs.Vaults.{AreRings};
-ghost use Rattle.vdr_vault.specs.Refusals.{HasOutputCause, IsAccepted, after_fault, lacks_channel, lacks_incident, unanswered};
+ghost use Rattle.vdr_visit.specs.Refusals.{HasOutputCause, IsAccepted, after_fault, lacks_channel, lacks_incident, unanswered};
 ghost use Rattle.vdr_vault.specs.Visits.{ReadsEachOnce};
-ghost use Rattle.vdr_vault.specs.declared.visit_refused.VisitRefused.TheVariants.{Fault as AFault, NoChannel, NoIncident, Output};
+ghost use Rattle.vdr_visit.specs.declared.visit_refused.VisitRefused.TheVariants.{Fault as AFault, NoChannel, NoIncident, Output};
 ghost use Rattle.vdr_recorder.specs.Looks.{HasLooked};
 ghost use Rattle.vdr_recorder.specs.Playing.{HasPlayed};
 
@@ -17,7 +17,7 @@ use std::convert::Infallible;
 use vdr_entry::{Query, Record};
 use vdr_outside::{Media, Sink};
 use vdr_play::{Tracks, print_record};
-use vdr_vault::{VisitRefused, Visitor, VisitorRefused};
+use vdr_visit::{VisitRefused, Visitor, VisitorRefused};
 
 /// Prints records, each as `vdr_play::print_record` does. It takes no memory.
 #[derive(Drop)]

@@ -4,9 +4,9 @@
 ghost use Rattle.std.specs.Prelude.{◌≡◌, ◌⊎◌, [], length, true, Err};
 ghost use Rattle.vdr_entry.specs.Queries.{asked};
 ghost use Rattle.vdr_vault.specs.Vaults.{AreRings};
-ghost use Rattle.vdr_vault.specs.Refusals.{HasOutputCause, IsAccepted, after_fault, lacks_channel, lacks_incident, unanswered};
+ghost use Rattle.vdr_visit.specs.Refusals.{HasOutputCause, IsAccepted, after_fault, lacks_channel, lacks_incident, unanswered};
 ghost use Rattle.vdr_vault.specs.Visits.{ReadsEachOnce};
-ghost use Rattle.vdr_vault.specs.declared.visit_refused.VisitRefused.TheVariants.{Fault as AFault, NoChannel, NoIncident, Output};
+ghost use Rattle.vdr_visit.specs.declared.visit_refused.VisitRefused.TheVariants.{Fault as AFault, NoChannel, NoIncident, Output};
 ghost use Rattle.vdr_recorder.specs.Looks.{HasLooked};
 ghost use Rattle.vdr_recorder.specs.Playing.{HasTold};
 
@@ -15,7 +15,7 @@ use std::alloc::{AllocError, Global};
 use vdr_entry::{Query, Record};
 use vdr_outside::{Media, Printable, Sink};
 use vdr_sources::SourceTable;
-use vdr_vault::{VisitRefused, Visitor, VisitorRefused};
+use vdr_visit::{VisitRefused, Visitor, VisitorRefused};
 
 /// Counts the lines of records, and prints the table of their sources behind the last.
 #[derive(Drop)]

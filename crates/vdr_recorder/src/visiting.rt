@@ -1,17 +1,19 @@
 // What was recorded, for whoever makes something of it.
-ghost use Rattle.std.specs.Prelude.{◌≡◌, ◌⊎◌, [], length, true, Err};
+ghost use Rattle.std.specs.Prelude.{◌≡◌, ◌⊎◌, [], length, true, Ok, Err};
 ghost use Rattle.vdr_entry.specs.Queries.{asked};
+ghost use Rattle.vdr_vault.specs.Plays.{TellsDamageOf};
 ghost use Rattle.vdr_vault.specs.Vaults.{AreRings};
-ghost use Rattle.vdr_vault.specs.Prints.{whole_text};
-ghost use Rattle.vdr_vault.specs.Refusals.{HasOutputCause, IsAccepted, after_fault, lacks_channel, lacks_incident, unanswered};
+ghost use Rattle.vdr_visit.specs.Prints.{whole_text};
+ghost use Rattle.vdr_visit.specs.Refusals.{HasOutputCause, IsAccepted, after_fault, lacks_channel, lacks_incident, unanswered};
 ghost use Rattle.vdr_vault.specs.Visits.{HasVisited, ReadsEachOnce};
-ghost use Rattle.vdr_vault.specs.declared.visit_refused.VisitRefused.TheVariants.{Fault as AFault, NoChannel, NoIncident, Output};
+ghost use Rattle.vdr_visit.specs.declared.visit_refused.VisitRefused.TheVariants.{Damaged, Fault as AFault, NoChannel, NoIncident, Output};
 ghost use Rattle.vdr_recorder.specs.Looks.{HasLooked};
 
 use crate::Recorder;
 use vdr_entry::Query;
 use vdr_outside::{Media, Sink};
-use vdr_vault::{VisitRefused, Visitor, accept, visit_selected};
+use vdr_vault::accept;
+use vdr_visit::{Reader, VisitRefused, Visitor, visit_buffered};
 
 impl Recorder {
     /// Whether a query asks for a channel that is configured and for an incident that is live, where it asks for one.
@@ -40,6 +42,7 @@ impl Recorder {
         ensures visited { (first : V) → V.has first [] visitor.old
             → HasVisited (asked query.now) self.old.vault (M.disk media.old) (λ seen. V.has first seen visitor.new) (V.stops first) (V.line first) (whole_text (V.line first) (V.last first))
             (O.taken out.old) (O.taken out.new) result }
+        ensures damage { TellsDamageOf (asked query.now) self.old.vault (M.disk media.old) (λ m offset. result ≡ Err (Damaged m offset)) (result ≡ Ok tt) }
         ensures unread { (result ≡ Err NoChannel) ⊎ (result ≡ Err NoIncident) → (self.new ≡ self.old) × (media.new ≡ media.old) × (visitor.new ≡ visitor.old) × (out.new ≡ out.old) }
         ensures failed { self.old.vault.failed ≡ true → (self.new ≡ self.old) × (media.new ≡ media.old) × (visitor.new ≡ visitor.old) × (out.new ≡ out.old)
             × (result ≡ after_fault (unanswered (lacks_channel (length self.old.vault.config.channels) query.now.channel) (lacks_incident self.old.vault.table (asked query.now).medium))) }
@@ -47,6 +50,7 @@ impl Recorder {
         ensures bound { ReadsEachOnce (asked query.now) self.old.vault (M.bytes_read media.old) (M.bytes_read media.new) }
         ensures output { HasOutputCause (O.faults out.old) (O.faults out.new) (result ≡ Err Output) }
     {
-        visit_selected(&mut self.vault, media, query, visitor, out)
+        Recorder::law_of_visits::<M>();
+        visit_buffered(self, media, query, visitor, out)
     }
 }

@@ -21,9 +21,9 @@ use Rattle.vdr_control.specs.Orders.{PlainOrder}
 use Rattle.vdr_control.specs.Orders.PlainOrder.{Play as PlayOrder}
 use Rattle.vdr_recorder.specs.Recordings.{HasDone, HasRecorded, RecorderState}
 use Rattle.vdr_vault.proofs.Channels.{has_number, number_if, position_within}
-use Rattle.vdr_vault.specs.Refusals.{lacks_channel, lacks_incident}
-use Rattle.vdr_vault.specs.declared.visit_refused.VisitRefused.{VisitRefused}
-use Rattle.vdr_vault.specs.declared.visit_refused.VisitRefused.TheVariants as plays
+use Rattle.vdr_visit.specs.Refusals.{lacks_channel, lacks_incident}
+use Rattle.vdr_visit.specs.declared.visit_refused.VisitRefused.{VisitRefused}
+use Rattle.vdr_visit.specs.declared.visit_refused.VisitRefused.TheVariants as plays
 use Rattle.vdr_reply.specs.Answers.{HasAnswered, Spells}
 use Rattle.vdr_reply.specs.Orders.{channel_in, is_every, is_named, order_of, query_of}
 use Rattle.vdr_reply.specs.Texts.{IsPlayed, done_line, memory_line, not_there_line, page_text, text_of}

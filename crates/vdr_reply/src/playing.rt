@@ -23,7 +23,7 @@ use vdr_desk::Reply;
 use vdr_entry::{Medium, Query};
 use vdr_outside::Media;
 use vdr_recorder::Recorder;
-use vdr_vault::VisitRefused;
+use vdr_visit::VisitRefused;
 
 /// The channel's name that stands for every record.
 const EVERY: &[u8] = b"all";

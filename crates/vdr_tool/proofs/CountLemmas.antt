@@ -25,10 +25,10 @@ use Rattle.vdr_vault.specs.Regularity.{AreSound}
 use Rattle.vdr_vault.specs.Vaults.{IsReadable, VaultState, ShowsHistory, Stands}
 use Rattle.vdr_vault.proofs.Playing.{stands_to_read}
 use Rattle.vdr_recorder.proofs.Resting.{stand_reads}
-use Rattle.vdr_vault.specs.Refusals.{IsAccepted, lacks_incident}
-use Rattle.vdr_vault.specs.Visits.{AreVisited}
-use Rattle.vdr_vault.specs.declared.visit_refused.VisitRefused.{VisitRefused}
-use Rattle.vdr_vault.specs.declared.visit_refused.VisitRefused.TheVariants as visits
+use Rattle.vdr_visit.specs.Refusals.{IsAccepted, lacks_incident}
+use Rattle.vdr_visit.specs.Visits.{AreVisited}
+use Rattle.vdr_visit.specs.declared.visit_refused.VisitRefused.{VisitRefused}
+use Rattle.vdr_visit.specs.declared.visit_refused.VisitRefused.TheVariants as visits
 use Rattle.vdr_recorder.specs.Looks.{HasLooked}
 use Rattle.vdr_recorder.specs.Recordings.{HasRecorded, RecorderState}
 use Rattle.vdr_command.specs.Opened.{OneAnswer}

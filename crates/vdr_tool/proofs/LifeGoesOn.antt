@@ -3,7 +3,7 @@ use Rattle.std.specs.Bool.{⊤}
 use Rattle.std.proofs.Common.{◌≡◌, ◌⊎◌, inl, inr, ⊎_elim, ℕ, List, Option, Result, refl, sym, subst}
 use Rattle.vdr_core.specs.Histories.{Event}
 use Rattle.vdr_durability.specs.Keeping.{ShowsPrefix}
-use Rattle.vdr_outside.specs.Disk.{Disk, Image}
+use Rattle.vdr_outside.specs.Disk.{Disk, Image, Unchanged}
 use Rattle.vdr_outside.proofs.Moments.{moments_none}
 use Rattle.vdr_config.specs.Configuration.{Configuration}
 use Rattle.vdr_opening.specs.Media.{members, Contents, HoldsContents, opening_of, reading_of}
@@ -18,8 +18,11 @@ use Rattle.vdr_replay.specs.Headline.{AccountsForFeed, LeavesHistory}
 use Rattle.vdr_replay.specs.Headline.RunEnd.{Broken}
 use Rattle.vdr_replay.specs.declared.ended.Replayed.{Replayed}
 use Rattle.vdr_replay.specs.declared.ended.ReplayRefused.{ReplayRefused}
+use Rattle.vdr_media.proofs.Unformatted.{unchanged_moments}
+use Rattle.vdr_readout.specs.Readings.{Reading, RescuesReading}
+use Rattle.vdr_readout.specs.Readings.{Reading as readings}
 use Rattle.vdr_tool.specs.Commands.{Asked}
-use Rattle.vdr_tool.specs.Commands.Asked.{Review, Check, Format, Replay, Play, Incidents, Save, Release, Sources, Watch, Targets, Wav, Picture, Trial, Import, Packets}
+use Rattle.vdr_tool.specs.Commands.Asked.{Review, Check, Format, Replay, Play, Incidents, Save, Release, Sources, Watch, Targets, Wav, Picture, Trial, Import, Packets, Rescue}
 use Rattle.vdr_tool.specs.Lives.{FormatsNothing}
 use Rattle.vdr_command.specs.Opened.{ContentsKept, IsUnopened, KeepsContents, MediaEnds}
 use Rattle.vdr_command.specs.Outside.{MediaSeen, Outside}
@@ -65,6 +68,15 @@ module _ {tells tells_images : Type 0} (c : Configuration) (text : List ℕ) (al
       by rose (inl leaves) = lives_still c text all image old.disk new.disk rest life leaves
       by rose (inr (feed, end, run)) = run_life old.disk new.disk l (AccountsForFeed l.contents new.disk feed end) ((end ≡ Broken) × rose) rest life run
 
+  -- Of one medium alone.
+  unwritten : (reading : Reading) (old new : Outside tells tells_images) (status : Status) → RescuesReading reading old new status → Unchanged old.media.disk new.media.disk
+  unwritten (readings.Play asked) old new status owed = owed.media.unchanged
+  unwritten (readings.Sources medium) old new status owed = owed.media.unchanged
+  unwritten (readings.Watch medium) old new status owed = owed.media.unchanged
+  unwritten (readings.Targets medium at) old new status owed = owed.media.unchanged
+  unwritten (readings.Wav asked) old new status owed = owed.media.unchanged
+  unwritten (readings.Picture asked block) old new status owed = owed.media.unchanged
+
   -- Of each command.
   pub life_of : (command : Asked) (old new : Outside tells tells_images) (status : Status) → (page command).owes old new status → (page command).uses_media → FormatsNothing command
       → tells → RestAs image old.media.disk → Life c text all image → LivesOn c text all old.media.disk new.media.disk
@@ -72,6 +84,7 @@ module _ {tells tells_images : Type 0} (c : Configuration) (text : List ℕ) (al
   life_of Check old new status owed uses none told rest life = absurd uses
   life_of Import old new status owed uses none told rest life = absurd uses
   life_of Packets old new status owed uses none told rest life = absurd uses
+  life_of (Rescue reading) old new status owed uses none told rest life = lives_still c text all image old.media.disk new.media.disk rest life (unchanged_moments old.media.disk new.media.disk (unwritten reading old new status owed))
   life_of (Format again) old new status owed uses none told rest life = absurd none
   life_of Replay old new status owed uses none told rest life = replay_life old.input.left new.input.left old.media new.media owed.answer owed.media told rest life
   life_of (Play asked) old new status owed uses none told rest life = media_life old.media new.media status owed.media.media told rest life

@@ -13,8 +13,9 @@ use Rattle.vdr_replay.specs.declared.ended.Replayed.{Replayed}
 use Rattle.vdr_replay.specs.declared.ended.ReplayRefused.{ReplayRefused}
 use Rattle.vdr_vault.specs.Ours.{AreOurs, IsOurs, StayOurs}
 use Rattle.vdr_vault.proofs.Ours.{ours_formatted, ours_opened, ours_unchanged}
+use Rattle.vdr_readout.specs.Readings.{Reading as readings}
 use Rattle.vdr_tool.specs.Commands.{Asked}
-use Rattle.vdr_tool.specs.Commands.Asked.{Review, Check, Format, Replay, Play, Incidents, Save, Release, Sources, Watch, Targets, Wav, Picture, Trial, Import, Packets}
+use Rattle.vdr_tool.specs.Commands.Asked.{Review, Check, Format, Replay, Play, Incidents, Save, Release, Sources, Watch, Targets, Wav, Picture, Trial, Import, Packets, Rescue}
 use Rattle.vdr_tool.specs.Formats.{FormatEnds, outcome_of}
 use Rattle.vdr_command.specs.Opened.{ContentsKept, IsUnopened, KeepsContents, MediaEnds}
 use Rattle.vdr_tool.specs.Lives.{StartsSynced}
@@ -94,6 +95,12 @@ module _ {tells tells_images : Type 0} where
   lives_of Check old new status owed uses told synced ours = absurd uses
   lives_of Import old new status owed uses told synced ours = absurd uses
   lives_of Packets old new status owed uses told synced ours = absurd uses
+  lives_of (Rescue (readings.Play asked)) old new status owed uses told synced ours = ours_unchanged old.media.disk new.media.disk owed.media.unchanged ours
+  lives_of (Rescue (readings.Sources medium)) old new status owed uses told synced ours = ours_unchanged old.media.disk new.media.disk owed.media.unchanged ours
+  lives_of (Rescue (readings.Watch medium)) old new status owed uses told synced ours = ours_unchanged old.media.disk new.media.disk owed.media.unchanged ours
+  lives_of (Rescue (readings.Targets medium at)) old new status owed uses told synced ours = ours_unchanged old.media.disk new.media.disk owed.media.unchanged ours
+  lives_of (Rescue (readings.Wav asked)) old new status owed uses told synced ours = ours_unchanged old.media.disk new.media.disk owed.media.unchanged ours
+  lives_of (Rescue (readings.Picture asked block)) old new status owed uses told synced ours = ours_unchanged old.media.disk new.media.disk owed.media.unchanged ours
   lives_of (Format again) old new status owed uses told synced ours = format_lives again old.input.left old.media new.media status owed.media synced ours
   lives_of Replay old new status owed uses told synced ours = replay_lives old.input.left new.input.left old.media new.media owed.answer owed.media told ours
   lives_of (Play asked) old new status owed uses told synced ours = media_lives old.media new.media status owed.media.media told ours

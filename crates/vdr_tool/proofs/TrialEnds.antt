@@ -26,7 +26,7 @@ use Rattle.vdr_command.specs.Opened.{PrintsText}
 use Rattle.vdr_command.specs.Outside.{MediaFailed, MediaSeen, OutputFailed, Outside}
 use Rattle.vdr_command.proofs.OpenedLemmas.{done_either}
 use Rattle.vdr_command.specs.declared.status.Status.{Status}
-use Rattle.vdr_command.specs.declared.status.Status.TheVariants.{Done, Words, Config, Small, Unformatted, Formatted, Damaged, MediaFault, PortFault, LinkFault, InputFault, OutputFault, NoMemory, Feed, NoChannel, NoIncident, SaveRefused, Place, Tick, ExportKind, ExportNothing, ExportMixed, ExportLong, ExportPart, Capture}
+use Rattle.vdr_command.specs.declared.status.Status.TheVariants.{Done, Words, Config, Small, Unformatted, Formatted, Damaged, MediaFault, PortFault, LinkFault, InputFault, OutputFault, NoMemory, Feed, NoChannel, NoIncident, SaveRefused, Place, Tick, ExportKind, ExportNothing, ExportMixed, ExportLong, ExportPart, Capture, Missing}
 use Rattle.vdr_tool.specs.Formats.{FormatEnds}
 use Rattle.vdr_tool.specs.TrialParts.{BreaksOff, CountsWindows, IfStatus, IsBenchStatus, IsOwnStatus, IsRunStatus, IsTally, IsPartStatus, RunsItems, as_u64}
 use Rattle.vdr_tool.specs.Trials.{ComesTo, IsAfterRun, IsOfOtherMedia, LeavesRun, TrialEnds, TrialLeaves, Trials, TriesAll, all_of, bench, bench_text, fresh, trial_items, trial_lines, trial_records, trial_text, window_count}
@@ -113,6 +113,7 @@ module _ {tells tells_images : Type 0} (seed count : ℕ) where
   refused_as old new (ExportMixed place) h ends = absurd h
   refused_as old new ExportLong h ends = absurd h
   refused_as old new (ExportPart part) h ends = absurd h
+  refused_as old new (Missing place) h ends = absurd h
   refused_as old new (Capture number offset) h ends = absurd h
 
   -- The media were formatted. What is left to say of the run is said where they tell.
@@ -182,6 +183,7 @@ module _ {tells tells_images : Type 0} (seed count : ℕ) where
       left_by (ExportMixed place) told runs = absurd runs
       left_by ExportLong told runs = absurd runs
       left_by (ExportPart part) told runs = absurd runs
+      left_by (Missing place) told runs = absurd runs
       left_by (Capture number offset) told runs = absurd runs
 
       not_other : (s : Status) → RunsItems seed count (Rose (sum mid.faults) (sum new.faults)) mid.disk new.disk (Err s) → IsOfOtherMedia s → ⊥
@@ -209,6 +211,7 @@ module _ {tells tells_images : Type 0} (seed count : ℕ) where
       not_other (ExportMixed place) runs other = absurd runs
       not_other ExportLong runs other = absurd runs
       not_other (ExportPart part) runs other = absurd runs
+      not_other (Missing place) runs other = absurd runs
       not_other (Capture number offset) runs other = absurd runs
 
       pub run_stops_as : (s : Status) → IsRunStatus s → (s ≡ MediaFault → Rose (sum mid.faults) (sum new.faults)) → (tells → SameElsewhere mid.disk.reads new.disk.reads)
@@ -332,6 +335,7 @@ module _ {tells tells_images : Type 0} (seed count : ℕ) (old new : MediaSeen t
   tries_all (ExportMixed place) output media ends = absurd ends.own
   tries_all ExportLong output media ends = absurd ends.own
   tries_all (ExportPart part) output media ends = absurd ends.own
+  tries_all (Missing place) output media ends = absurd ends.own
   tries_all (Capture number offset) output media ends = absurd ends.own
 
 -- The output failed where all else was done.

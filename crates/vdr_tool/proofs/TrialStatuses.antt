@@ -7,7 +7,7 @@ use Rattle.vdr_command.specs.Opened.{PrintsText}
 use Rattle.vdr_command.specs.Outside.{OutputSeen}
 use Rattle.vdr_command.specs.StatusLine.{IfSmall}
 use Rattle.vdr_command.specs.declared.status.Status.{Status}
-use Rattle.vdr_command.specs.declared.status.Status.TheVariants.{Done, Words, Config, Small, Unformatted, Formatted, Damaged, MediaFault, PortFault, LinkFault, InputFault, OutputFault, NoMemory, Feed, NoChannel, NoIncident, SaveRefused, Place, Tick, ExportKind, ExportNothing, ExportMixed, ExportLong, ExportPart, Capture}
+use Rattle.vdr_command.specs.declared.status.Status.TheVariants.{Done, Words, Config, Small, Unformatted, Formatted, Damaged, MediaFault, PortFault, LinkFault, InputFault, OutputFault, NoMemory, Feed, NoChannel, NoIncident, SaveRefused, Place, Tick, ExportKind, ExportNothing, ExportMixed, ExportLong, ExportPart, Capture, Missing}
 use Rattle.vdr_tool.specs.TrialParts.{IsBenchStatus, IsOwnStatus, IsPartStatus, IsRunStatus}
 use Rattle.vdr_tool.specs.Trials.{IsAfterRun, IsOfOtherMedia, IsTrialStatus}
 
@@ -36,6 +36,7 @@ bench_trial ExportNothing h = absurd h
 bench_trial (ExportMixed place) h = absurd h
 bench_trial ExportLong h = absurd h
 bench_trial (ExportPart part) h = absurd h
+bench_trial (Missing place) h = absurd h
 bench_trial (Capture number offset) h = absurd h
 
 pub run_trial : (s : Status) → IsRunStatus s → IsPartStatus s
@@ -63,6 +64,7 @@ run_trial ExportNothing h = absurd h
 run_trial (ExportMixed place) h = absurd h
 run_trial ExportLong h = absurd h
 run_trial (ExportPart part) h = absurd h
+run_trial (Missing place) h = absurd h
 run_trial (Capture number offset) h = absurd h
 
 pub stop_status : (s : Status) → IsPartStatus s → IsTrialStatus s
@@ -90,6 +92,7 @@ stop_status ExportNothing h = absurd h
 stop_status (ExportMixed place) h = absurd h
 stop_status ExportLong h = absurd h
 stop_status (ExportPart part) h = absurd h
+stop_status (Missing place) h = absurd h
 stop_status (Capture number offset) h = absurd h
 
 -- No work is done where a part of it stopped.
@@ -118,6 +121,7 @@ stop_undone ExportNothing h done = absurd h
 stop_undone (ExportMixed place) h done = absurd h
 stop_undone ExportLong h done = absurd h
 stop_undone (ExportPart part) h done = absurd h
+stop_undone (Missing place) h done = absurd h
 stop_undone (Capture number offset) h done = absurd h
 
 pub stop_prints : (text : List ℕ) (was next : OutputSeen) (s : Status) → IsPartStatus s → PrintsText text s was next
@@ -145,6 +149,7 @@ stop_prints text was next ExportNothing h = absurd h
 stop_prints text was next (ExportMixed place) h = absurd h
 stop_prints text was next ExportLong h = absurd h
 stop_prints text was next (ExportPart part) h = absurd h
+stop_prints text was next (Missing place) h = absurd h
 stop_prints text was next (Capture number offset) h = absurd h
 
 pub run_not_formatted : (s : Status) → IsRunStatus s → s ≡ Formatted → ⊥
@@ -172,6 +177,7 @@ run_not_formatted ExportNothing h is = absurd h
 run_not_formatted (ExportMixed place) h is = absurd h
 run_not_formatted ExportLong h is = absurd h
 run_not_formatted (ExportPart part) h is = absurd h
+run_not_formatted (Missing place) h is = absurd h
 run_not_formatted (Capture number offset) h is = absurd h
 
 pub run_not_small : (P : TooSmall → Type 0) (s : Status) → IsRunStatus s → IfSmall s P
@@ -199,6 +205,7 @@ run_not_small P ExportNothing h = absurd h
 run_not_small P (ExportMixed place) h = absurd h
 run_not_small P ExportLong h = absurd h
 run_not_small P (ExportPart part) h = absurd h
+run_not_small P (Missing place) h = absurd h
 run_not_small P (Capture number offset) h = absurd h
 
 pub own_after : (s : Status) → IsOwnStatus s → IsAfterRun s
@@ -226,6 +233,7 @@ own_after ExportNothing h = absurd h
 own_after (ExportMixed place) h = absurd h
 own_after ExportLong h = absurd h
 own_after (ExportPart part) h = absurd h
+own_after (Missing place) h = absurd h
 own_after (Capture number offset) h = absurd h
 
 pub own_not_other : (s : Status) → IsOwnStatus s → IsOfOtherMedia s → ⊥
@@ -253,4 +261,5 @@ own_not_other ExportNothing h other = absurd h
 own_not_other (ExportMixed place) h other = absurd h
 own_not_other ExportLong h other = absurd h
 own_not_other (ExportPart part) h other = absurd h
+own_not_other (Missing place) h other = absurd h
 own_not_other (Capture number offset) h other = absurd h

@@ -1,8 +1,10 @@
 -- The commands, each as contracts see it: with the bytes that it borrows.
-use Rattle.std.specs.Prelude.{ℕ, ℤ, Bool, List, Option}
+use Rattle.std.specs.Prelude.{ℕ, ℤ, Bool, List, Option, Some, None, ⊤}
 use Rattle.vdr_terms.specs.declared.rate.Rate.{Rate}
 use Rattle.vdr_entry.specs.declared.query.Medium.{Medium}
 use Rattle.vdr_export.specs.declared.block.Block.{Block}
+use Rattle.vdr_readout.specs.Readings.{Reading, plain_reading}
+use Rattle.vdr_readout.specs.Readings.{Reading as readings}
 use Rattle.vdr_readout.specs.Reads.{AskedPlay, plain_play}
 use Rattle.vdr_tool.specs.declared.words.Command.{Command}
 use Rattle.vdr_tool.specs.declared.words.Command.TheVariants as commands
@@ -24,6 +26,7 @@ pub data Asked : Type 0 where
   Targets : (medium : Medium) (at : ℤ) → Asked
   Import : Asked
   Packets : Asked
+  Rescue : (reading : Reading) → Asked
 
 abbrev pub plain : Command → Asked
 plain (commands.Review rate) = Review rate
@@ -42,3 +45,28 @@ plain (commands.Trial seed count) = Trial seed count
 plain (commands.Targets medium at) = Targets medium at
 plain commands.Import = Import
 plain commands.Packets = Packets
+plain (commands.Rescue reading) = Rescue (plain_reading reading)
+
+-- It is no rescue.
+abbrev pub IsPlain : Asked → Type 0
+IsPlain (Rescue reading) = ⊥
+IsPlain command = ⊤
+
+-- The reading of both media that the command asks for, None where it asks for something else.
+abbrev pub reading_in : Asked → Option Reading
+reading_in (Play asked) = Some (readings.Play asked)
+reading_in (Sources medium) = Some (readings.Sources medium)
+reading_in (Watch medium) = Some (readings.Watch medium)
+reading_in (Targets medium at) = Some (readings.Targets medium at)
+reading_in (Wav asked) = Some (readings.Wav asked)
+reading_in (Picture asked block) = Some (readings.Picture asked block)
+reading_in command = None
+
+-- The command that asks for it.
+abbrev pub command_for : Reading → Asked
+command_for (readings.Play asked) = Play asked
+command_for (readings.Sources medium) = Sources medium
+command_for (readings.Watch medium) = Watch medium
+command_for (readings.Targets medium at) = Targets medium at
+command_for (readings.Wav asked) = Wav asked
+command_for (readings.Picture asked block) = Picture asked block

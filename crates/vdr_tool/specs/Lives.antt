@@ -6,7 +6,7 @@ use Rattle.vdr_config.specs.Configuration.{Configuration}
 use Rattle.vdr_vault.specs.Lives.{Life, LivesOn}
 use Rattle.vdr_vault.specs.Ours.{AreOurs, RestAs, StayOurs}
 use Rattle.vdr_tool.specs.Commands.{Asked}
-use Rattle.vdr_tool.specs.Commands.Asked.{Review, Check, Format, Replay, Play, Incidents, Save, Release, Sources, Watch, Targets, Wav, Picture, Trial, Import, Packets}
+use Rattle.vdr_tool.specs.Commands.Asked.{Review, Check, Format, Replay, Play, Incidents, Save, Release, Sources, Watch, Targets, Wav, Picture, Trial, Import, Packets, Rescue}
 
 -- Nothing of the capsule is unsynced where the media are to be formatted: its gate is read before it is written. So it is after each
 -- start of the recorder, and after each command but one that a fault ended.
@@ -27,6 +27,7 @@ StartsSynced (Trial seed count) disk = Durable 0 disk
 StartsSynced (Targets medium at) disk = ⊤
 StartsSynced Import disk = ⊤
 StartsSynced Packets disk = ⊤
+StartsSynced (Rescue reading) disk = ⊤
 
 -- The command does not format the media.
 abbrev pub FormatsNothing : Asked → Type 0
@@ -46,6 +47,7 @@ FormatsNothing (Trial seed count) = ⊥
 FormatsNothing (Targets medium at) = ⊤
 FormatsNothing Import = ⊤
 FormatsNothing Packets = ⊤
+FormatsNothing (Rescue reading) = ⊤
 
 -- What is kept of the media's life, whichever command it is of these.
 pub record KeepsLife {tells tells_images : Type 0} (asked : Asked → Type 0) (old new : Disk tells tells_images) : Type 0 where

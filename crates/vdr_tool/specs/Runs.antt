@@ -3,7 +3,7 @@ use Rattle.std.specs.Prelude.{◌≡◌, ◌≤◌, ◌⊎◌, ℕ, List, String
 use Rattle.std.specs.declared.alloc.Global.{Global}
 use Rattle.vdr_tool.specs.Checks.{checking}
 use Rattle.vdr_tool.specs.Commands.{Asked}
-use Rattle.vdr_tool.specs.Commands.Asked.{Review, Check, Format, Replay, Play, Incidents, Save, Release, Sources, Watch, Targets, Wav, Picture, Trial, Import, Packets}
+use Rattle.vdr_tool.specs.Commands.Asked.{Review, Check, Format, Replay, Play, Incidents, Save, Release, Sources, Watch, Targets, Wav, Picture, Trial, Import, Packets, Rescue}
 use Rattle.vdr_command.specs.Endings.{WritesLine}
 use Rattle.vdr_tool.specs.Formats.{formatting}
 use Rattle.vdr_tool.specs.Imports.{importing}
@@ -11,6 +11,7 @@ use Rattle.vdr_tool.specs.Packets.{counting_packets}
 use Rattle.vdr_readout.specs.Incidents.{listing}
 use Rattle.vdr_command.specs.Outside.{OutputSeen, Outside}
 use Rattle.vdr_readout.specs.Plays.{playing}
+use Rattle.vdr_readout.specs.Readings.{rescuing}
 use Rattle.vdr_command.specs.Promises.{Promise}
 use Rattle.vdr_tool.specs.Releases.{releasing}
 use Rattle.vdr_tool.specs.Replays.{replaying}
@@ -41,6 +42,7 @@ page (Trial seed count) = trying seed count
 page (Targets medium at) = targeting medium at
 page Import = importing
 page Packets = counting_packets
+page (Rescue reading) = rescuing reading
 
 -- The texts are those of a command.
 pub record Spells (texts : List (List ℕ)) (command : Asked) : Type 0 where

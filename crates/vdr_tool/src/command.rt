@@ -20,8 +20,8 @@ use std::alloc::Global;
 use vdr_command::{Outer, Status, World, report};
 use vdr_outside::{Media, Sink, Source};
 use vdr_readout::{
-    Wish, answer_export, answer_incidents, answer_play, answer_sources, answer_targets,
-    answer_watch,
+    Wish, answer_export, answer_incidents, answer_play, answer_rescue, answer_sources,
+    answer_targets, answer_watch,
 };
 
 // Does what a command asks for, up to the line of its status.
@@ -59,6 +59,7 @@ fn answer<I: Source + Drop, O: Sink + Drop, M: Media + Drop>(
         Command::Targets { medium, at } => answer_targets(alloc, medium, at, world),
         Command::Import => answer_import(world),
         Command::Packets => answer_packets(world),
+        Command::Rescue(reading) => answer_rescue(alloc, reading, world),
     }
 }
 
@@ -97,6 +98,10 @@ fn answer<I: Source + Drop, O: Sink + Drop, M: Media + Drop>(
 ///   transmission groups, each as soon as it was read.
 /// - `packets` reads a capture so, and prints what became of its packets: `packets N`, of each group `GROUP whole N cut N`, of each cause
 ///   `left CAUSE N`, and `lost N` and `back N`.
+/// - `rescue COMMAND WORDS` reads no input. COMMAND is `play`, `sources`, `watch`, `targets`, `wav` or `picture`. It reads the medium that
+///   they ask for alone, for `incident-ID` the long-term one, whole, cut short or damaged, writes to none, and prints what they print of each
+///   record that legally stands there; then, but for `wav` and `picture`, `missing A B` for places that the medium owes and lacks, by place,
+///   `damaged OFFSET` by offset, and `closed OFFSET`. It ends with `Damaged` at the first such offset, or else with `Missing`.
 ///
 /// Any other words end with `Words`, and nothing is touched. A number is decimal digits without a sign and without a leading zero.
 ///

@@ -26,7 +26,7 @@ use vdr_entry::{Medium, Query, Record};
 use vdr_outside::{Failed, Media, Sink};
 use vdr_recorder::Recorder;
 use vdr_terms::LAST_STAMP;
-use vdr_vault::{VisitRefused, Visitor, VisitorRefused};
+use vdr_visit::{VisitRefused, Visitor, VisitorRefused};
 
 /// Counts the records that it is handed, and prints nothing. At the greatest u64 the count stands still.
 #[derive(Drop)]

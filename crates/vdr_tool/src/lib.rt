@@ -18,5 +18,5 @@ mod words;
 
 pub use command::run_alone;
 pub use summary::Summary;
-pub use using::uses_media;
+pub use using::{Uses, medium_use};
 pub use vdr_command::{Outer, SaveCause, Status, World, law_of_openings, report};

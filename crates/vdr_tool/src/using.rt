@@ -1,18 +1,34 @@
-// Whether words ask for a command that uses the media.
-ghost use Rattle.std.specs.Prelude.{◌≡◌, true, false};
-ghost use Rattle.vdr_tool.specs.Commands.{Asked};
+// Which media the command uses that words ask for.
+ghost use Rattle.std.specs.Prelude.{◌≡◌, ℕ};
+ghost use Rattle.vdr_readout.specs.Readings.{Reading, number_read};
+ghost use Rattle.vdr_tool.specs.Commands.{Asked, IsPlain};
+ghost use Rattle.vdr_tool.specs.Commands.Asked.{Rescue};
 ghost use Rattle.vdr_tool.specs.Runs.{Asks, page};
+ghost use Rattle.vdr_tool.specs.declared.using.Uses.TheVariants.{All, Alone, Nothing};
 
 use crate::words::{Command, command_of};
 
-/// Whether the words ask for a command that reads or writes the media. Words that ask for no command use none.
-pub fn uses_media(words: &[String]) -> bool
-    ensures used { result ≡ true → (command : Asked) × Asks words.now command × (page command).uses_media }
-    ensures unused { result ≡ false → (command : Asked) → Asks words.now command → (page command).uses_media → ⊥ }
+/// Which media a command uses.
+#[derive(Clone, Copy, Drop)]
+pub enum Uses {
+    /// None. Words that ask for no command use none.
+    Nothing,
+    /// Both.
+    All,
+    /// The one of this number alone, which it reads.
+    Alone(u8),
+}
+
+/// Which media the command reads or writes that the words ask for.
+pub fn medium_use(words: &[String]) -> Uses
+    ensures all { result ≡ All → (command : Asked) × Asks words.now command × IsPlain command × (page command).uses_media }
+    ensures alone { (m : ℕ) → result ≡ Alone m → (reading : Reading) × Asks words.now (Rescue reading) × (m ≡ number_read reading) }
+    ensures nothing { result ≡ Nothing → (command : Asked) → Asks words.now command → (page command).uses_media → ⊥ }
 {
     match command_of(words) {
         None | Some(Command::Review { .. } | Command::Check | Command::Import | Command::Packets) =>
-            false,
+            { Uses::Nothing }
+        Some(Command::Rescue(reading)) => Uses::Alone(reading.medium_number()),
         Some(
             Command::Format { .. }
             | Command::Replay
@@ -26,6 +42,6 @@ pub fn uses_media(words: &[String]) -> bool
             | Command::Wav(_)
             | Command::Picture(..)
             | Command::Trial { .. },
-        ) => true,
+        ) => Uses::All,
     }
 }

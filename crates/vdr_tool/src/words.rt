@@ -1,5 +1,5 @@
 // The words that ask for a command.
-ghost use Rattle.std.specs.Prelude.{◌≡◌, ◌≤◌, ◌&&◌, ◌∷◌, [], ℕ, ℤ, nat_le, pos, true, Some, IfSome, decimal, option_map};
+ghost use Rattle.std.specs.Prelude.{◌≡◌, ◌≤◌, ◌&&◌, ◌∷◌, [], ℕ, ℤ, nat_le, pos, true, Some, IfSome, decimal, map, option_map, string_bytes};
 ghost use Rattle.vdr_terms.specs.Stamps.{last_stamp};
 ghost use Rattle.vdr_terms.specs.declared.rate.Rate.{Rate as RateTold};
 ghost use Rattle.vdr_config.specs.Configuration.{IsRate};
@@ -10,7 +10,8 @@ ghost use Rattle.vdr_export.specs.declared.block.Block.{Block as ABlock};
 ghost use Rattle.vdr_readout.specs.Exports.{IsBlock};
 ghost use Rattle.vdr_readout.specs.Reads.{AskedPlay, plain_play};
 ghost use Rattle.vdr_entry.specs.declared.query.Medium.{Medium as AMedium};
-ghost use Rattle.vdr_tool.specs.Commands.{Asked, plain};
+ghost use Rattle.vdr_readout.specs.Readings.{Reading as AReading, plain_reading, reads};
+ghost use Rattle.vdr_tool.specs.Commands.{Asked, IsPlain, plain, reading_in};
 ghost use Rattle.vdr_tool.specs.Commands.Asked.{Trial};
 ghost use Rattle.vdr_tool.specs.Runs.{Asks, Spells, page};
 
@@ -19,7 +20,7 @@ use vdr_config::Rate;
 use vdr_control::{Order, law_of_plays, read_play};
 use vdr_entry::Medium;
 use vdr_export::Block;
-use vdr_readout::Wanted;
+use vdr_readout::{Reading, Wanted};
 use vdr_terms::are_graphic;
 
 /// What the words ask for.
@@ -57,6 +58,8 @@ pub(crate) enum Command<'a> {
     Import,
     /// What became of a capture's packets is told.
     Packets,
+    /// One medium alone is read.
+    Rescue(Reading<'a>),
 }
 
 // A number within these limits, in decimal digits without a sign and without a leading zero.
@@ -88,7 +91,7 @@ fn rate_of(datagrams: &str, bytes: &str) -> Option<Rate>
 
 // A word that asks for a command over media.
 fn media_word(word: &str) -> Option<Command<'static>>
-    ensures found { (command : Asked) → (page command).uses_media → Spells (word.now ∷ []) command → option_map plain result ≡ Some command }
+    ensures found { (command : Asked) → IsPlain command → (page command).uses_media → Spells (word.now ∷ []) command → option_map plain result ≡ Some command }
     ensures only { IfSome result (λ command. Spells (word.now ∷ []) (plain command)) }
 {
     if word == "format" {
@@ -108,7 +111,7 @@ fn media_word(word: &str) -> Option<Command<'static>>
 }
 
 fn one_word(word: &str) -> Option<Command<'static>>
-    ensures found { (command : Asked) → Spells (word.now ∷ []) command → option_map plain result ≡ Some command }
+    ensures found { (command : Asked) → IsPlain command → Spells (word.now ∷ []) command → option_map plain result ≡ Some command }
     ensures only { IfSome result (λ command. Spells (word.now ∷ []) (plain command)) }
 {
     if word == "review" {
@@ -139,7 +142,7 @@ fn medium_of(word: &str) -> Option<Medium>
 }
 
 fn two_words<'a>(word: &str, text: &'a str) -> Option<Command<'a>>
-    ensures found { (command : Asked) → Spells (word.now ∷ text.now ∷ []) command → option_map plain result ≡ Some command }
+    ensures found { (command : Asked) → IsPlain command → Spells (word.now ∷ text.now ∷ []) command → option_map plain result ≡ Some command }
     ensures only { IfSome result (λ command. Spells (word.now ∷ text.now ∷ []) (plain command)) }
 {
     if word == "save" {
@@ -188,7 +191,7 @@ fn last_of(name: &str, bound: &str) -> Option<(Medium, i64)>
 }
 
 fn three_words(word: &str, first: &str, second: &str) -> Option<Command<'static>>
-    ensures found { (command : Asked) → Spells (word.now ∷ first.now ∷ second.now ∷ []) command → option_map plain result ≡ Some command }
+    ensures found { (command : Asked) → IsPlain command → Spells (word.now ∷ first.now ∷ second.now ∷ []) command → option_map plain result ≡ Some command }
     ensures only { IfSome result (λ command. Spells (word.now ∷ first.now ∷ second.now ∷ []) (plain command)) }
 {
     if word == "targets" {
@@ -240,7 +243,7 @@ fn five_words<'a>(
     from: &str,
     to: &str,
 ) -> Option<Command<'a>>
-    ensures found { (command : Asked) → Spells (word.now ∷ medium.now ∷ channel.now ∷ from.now ∷ to.now ∷ []) command → option_map plain result ≡ Some command }
+    ensures found { (command : Asked) → IsPlain command → Spells (word.now ∷ medium.now ∷ channel.now ∷ from.now ∷ to.now ∷ []) command → option_map plain result ≡ Some command }
     ensures only { IfSome result (λ command. Spells (word.now ∷ medium.now ∷ channel.now ∷ from.now ∷ to.now ∷ []) (plain command)) }
 {
     if word == "play" {
@@ -290,7 +293,7 @@ fn seven_words<'a>(
     from: &str,
     to: &str,
 ) -> Option<Command<'a>>
-    ensures found { (command : Asked) → Spells (word.now ∷ medium.now ∷ channel.now ∷ source.now ∷ number.now ∷ from.now ∷ to.now ∷ []) command → option_map plain result ≡ Some command }
+    ensures found { (command : Asked) → IsPlain command → Spells (word.now ∷ medium.now ∷ channel.now ∷ source.now ∷ number.now ∷ from.now ∷ to.now ∷ []) command → option_map plain result ≡ Some command }
     ensures only { IfSome result (λ command. Spells (word.now ∷ medium.now ∷ channel.now ∷ source.now ∷ number.now ∷ from.now ∷ to.now ∷ []) (plain command)) }
 {
     if word != "picture" {
@@ -301,9 +304,9 @@ fn seven_words<'a>(
     Some(Command::Picture(wanted, block))
 }
 
-/// The command that these words ask for, None where they ask for none.
-pub(crate) fn command_of(words: &[String]) -> Option<Command<'_>>
-    ensures found { (command : Asked) → Asks words.now command → option_map plain result ≡ Some command }
+// The command that these words ask for, of all but a rescue.
+fn plain_command_of(words: &[String]) -> Option<Command<'_>>
+    ensures found { (command : Asked) → IsPlain command → Asks words.now command → option_map plain result ≡ Some command }
     ensures only { IfSome result (λ command. Asks words.now (plain command)) }
 {
     match words {
@@ -328,4 +331,43 @@ pub(crate) fn command_of(words: &[String]) -> Option<Command<'_>>
         ),
         _ => None,
     }
+}
+
+// What a command reads out of both media, None where it does something else.
+fn reading_of(command: Command<'_>) -> Option<Reading<'_>>
+    ensures { option_map plain_reading result ≡ reading_in (plain command.entry) }
+{
+    match command {
+        Command::Play(wanted) => Some(Reading::Play(wanted)),
+        Command::Sources { medium } => Some(Reading::Sources { medium }),
+        Command::Watch { medium } => Some(Reading::Watch { medium }),
+        Command::Targets { medium, at } => Some(Reading::Targets { medium, at }),
+        Command::Wav(wanted) => Some(Reading::Wav(wanted)),
+        Command::Picture(wanted, block) => Some(Reading::Picture(wanted, block)),
+        _ => None,
+    }
+}
+
+// The reading behind `rescue`.
+fn rescued(words: &[String]) -> Option<Reading<'_>>
+    ensures found { (reading : AReading) → (reads reading).legal → (reads reading).words (map string_bytes words.now) → option_map plain_reading result ≡ Some reading }
+    ensures only { IfSome result (λ reading. (reads (plain_reading reading)).legal × (reads (plain_reading reading)).words (map string_bytes words.now)) }
+{
+    let command = plain_command_of(words)?;
+    reading_of(command)
+}
+
+/// The command that these words ask for, None where they ask for none.
+pub(crate) fn command_of(words: &[String]) -> Option<Command<'_>>
+    ensures found { (command : Asked) → Asks words.now command → option_map plain result ≡ Some command }
+    ensures only { IfSome result (λ command. Asks words.now (plain command)) }
+{
+    let Some((word, rest)) = words.split_first() else {
+        return None;
+    };
+    if word.as_str() == "rescue" {
+        let reading = rescued(rest)?;
+        return Some(Command::Rescue(reading));
+    }
+    plain_command_of(words)
 }

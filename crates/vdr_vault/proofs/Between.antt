@@ -7,10 +7,10 @@ use Rattle.vdr_terms.specs.Records.{Record}
 use Rattle.vdr_ring.specs.declared.refused.ReadRefused.{ReadRefused}
 use Rattle.vdr_ring.specs.declared.refused.ReadRefused.TheVariants as reads
 use Rattle.vdr_ring.specs.Walks.{GivesNext}
-use Rattle.vdr_vault.specs.Prints.{text_of}
+use Rattle.vdr_visit.specs.Prints.{text_of}
 use Rattle.vdr_vault.specs.Refusals.{stop_by}
-use Rattle.vdr_vault.specs.Visits.{AreVisited, HasMade}
-use Rattle.vdr_vault.specs.declared.visit_refused.VisitRefused.{VisitRefused}
+use Rattle.vdr_visit.specs.Visits.{AreVisited, HasMade}
+use Rattle.vdr_visit.specs.declared.visit_refused.VisitRefused.{VisitRefused}
 
 -- The first of the records are visited, and the cursor stands at the next one, if there is one.
 pub record IsBetween (records seen : List Record) (found : Bool) (item : Option Record) (ToCome : List Record → Type 0) : Type 0 where

@@ -4,7 +4,7 @@ use Rattle.std.specs.Prelude.{if◌then◌else◌, nat_le, position}
 use Rattle.std.proofs.lemmas.Bool.{false_from_ne_true, leb-true}
 use Rattle.std.proofs.lemmas.List.Quantifiers.{position-Some}
 use Rattle.vdr_config.specs.Configuration.{Selector}
-use Rattle.vdr_vault.specs.Refusals.{lacks_channel}
+use Rattle.vdr_visit.specs.Refusals.{lacks_channel}
 
 pub has_number : (count : ℕ) (number : Option ℕ) → ((k : ℕ) → number ≡ Some k → k < count) → lacks_channel count number ≡ false
 has_number count None within = refl

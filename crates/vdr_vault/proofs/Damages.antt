@@ -16,8 +16,8 @@ use Rattle.vdr_vault.specs.Plays.{AreIntactFor, ArePassedFor, ReadsOn, StandsFor
 use Rattle.vdr_vault.specs.Vaults.{AreJudged, VaultState}
 use Rattle.vdr_vault.proofs.Stepping.{intact_over, met_over, same_index}
 use Rattle.vdr_vault.specs.Refusals.{stop_by}
-use Rattle.vdr_vault.specs.declared.visit_refused.VisitRefused.{VisitRefused}
-use Rattle.vdr_vault.specs.declared.visit_refused.VisitRefused.TheVariants.{Damaged}
+use Rattle.vdr_visit.specs.declared.visit_refused.VisitRefused.{VisitRefused}
+use Rattle.vdr_visit.specs.declared.visit_refused.VisitRefused.TheVariants.{Damaged}
 use Rattle.vdr_vault.proofs.Reading.{damaged_before}
 use Rattle.vdr_vault.proofs.Stopping.{damage_of_read, not_at_end}
 

@@ -6,11 +6,12 @@ use Rattle.vdr_outside.proofs.Counts.{none_falls_join, rose_after, sum_not_less}
 use Rattle.vdr_ring.specs.declared.refused.ReadRefused.{ReadRefused}
 use Rattle.vdr_ring.specs.declared.refused.ReadRefused.TheVariants as reads
 use Rattle.vdr_vault.specs.Plays.{HasReadCause}
-use Rattle.vdr_vault.specs.Refusals.{HasOutputCause, HasVisitCause, stop_by, stop_of}
-use Rattle.vdr_vault.specs.declared.visit_refused.VisitRefused.{VisitRefused}
-use Rattle.vdr_vault.specs.declared.visit_refused.VisitRefused.TheVariants.{Damaged, Fault, Output, Own}
-use Rattle.vdr_vault.specs.declared.visit_refused.VisitorRefused.{VisitorRefused}
-use Rattle.vdr_vault.specs.declared.visit_refused.VisitorRefused.TheVariants as visitors
+use Rattle.vdr_visit.specs.Refusals.{HasOutputCause, stop_of}
+use Rattle.vdr_vault.specs.Refusals.{HasVisitCause, stop_by}
+use Rattle.vdr_visit.specs.declared.visit_refused.VisitRefused.{VisitRefused}
+use Rattle.vdr_visit.specs.declared.visit_refused.VisitRefused.TheVariants.{Damaged, Fault, Output, Own}
+use Rattle.vdr_visit.specs.declared.visit_refused.VisitorRefused.{VisitorRefused}
+use Rattle.vdr_visit.specs.declared.visit_refused.VisitorRefused.TheVariants as visitors
 
 -- A visit that ends with a fault of a read met a fault.
 fault_of_read : {R : Type 0} (read : ReadRefused) (out : Result ⊤ (VisitRefused R)) → out ≡ Err (stop_by read) → out ≡ Err Fault → read ≡ reads.Fault
@@ -20,10 +21,7 @@ fault_of_read {R} (reads.Damaged m offset) out is fault = absurd (clash m offset
     clash : (m offset : ℕ) (out : Result ⊤ (VisitRefused R)) → out ≡ Err (Damaged m offset) → out ≡ Err Fault → ⊥
     clash m offset out is fault = cc
 
--- What was answered, by the read's own refusal.
-pub answered : {R : Type 0} (read : ReadRefused) (stop : VisitRefused R) (out : Result ⊤ (VisitRefused R)) → out ≡ Err stop → stop ≡ stop_by read → out ≡ Err (stop_by read)
-answered {R} read stop out is from = is ∙ ap (λ (s : VisitRefused R). Err s) from
-
+-- What was answered, by the visitor's own reason.
 pub stopped : {R : Type 0} (own : VisitorRefused R) (stop : VisitRefused R) (out : Result ⊤ (VisitRefused R)) → out ≡ Err stop → stop ≡ stop_of own → out ≡ Err (stop_of own)
 stopped {R} own stop out is from = is ∙ ap (λ (s : VisitRefused R). Err s) from
 

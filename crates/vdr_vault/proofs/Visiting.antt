@@ -11,7 +11,7 @@ use Rattle.vdr_directory.specs.Sequence.{Placed}
 use Rattle.vdr_vault.specs.Vaults.{AreJudged, AreRings, IsReadable, VaultState, Stands}
 use Rattle.vdr_ring.specs.Walks.{CursorState, MayStep}
 use Rattle.vdr_vault.specs.Plays.{AreToCome, ReadsNoOther, ReadsOn, budget_for, ring_for, whole_budget}
-use Rattle.vdr_vault.specs.Prints.{text_of}
+use Rattle.vdr_visit.specs.Prints.{text_of}
 use Rattle.vdr_vault.proofs.Between.{IsBetween}
 use Rattle.vdr_vault.proofs.Damages.{AreWhole, IsPassing}
 

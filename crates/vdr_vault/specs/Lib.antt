@@ -9,7 +9,6 @@ pub mod Keeps
 pub mod Passes
 pub mod Bringing
 pub mod Refusals
-pub mod Prints
 pub mod Visits
 pub mod Ours
 pub mod Lives

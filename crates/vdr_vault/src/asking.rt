@@ -1,11 +1,12 @@
 // What a query asks for, and whether it is there.
 ghost use Rattle.std.specs.Prelude.{◌≡◌, length};
 ghost use Rattle.vdr_entry.specs.Queries.{asked, asked_medium};
-ghost use Rattle.vdr_vault.specs.Refusals.{lacks_channel, lacks_incident, unanswered};
+ghost use Rattle.vdr_visit.specs.Refusals.{lacks_channel, lacks_incident, unanswered};
 
-use crate::{Vault, VisitRefused};
+use crate::Vault;
 use vdr_config::Config;
 use vdr_entry::{Medium, Query};
+use vdr_visit::VisitRefused;
 
 // Whether a channel is asked for that is not configured.
 fn lacks_channel(config: &Config, channel: Option<u8>) -> bool

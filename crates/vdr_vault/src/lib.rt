@@ -5,7 +5,7 @@
 //!
 //! - The [`Vault`] is opened, commits batches, saves and releases incidents, and gives the records that a query
 //!   selects.
-//! - A visit hands these records to a [`Visitor`], which makes something of them, such as their text.
+//! - A visit hands these records to a visitor, which makes something of them, such as their text.
 //! - The laws of a life say what media hold that were formatted once and then used, run after run.
 //!
 //! docs/MEDIA.md, "How the media are opened" and "How a batch goes to both media". Tests: vdr_script_tests, scripts
@@ -15,7 +15,6 @@
 mod appending;
 mod asking;
 mod bringing;
-mod buffered;
 mod commit;
 mod each;
 mod law;
@@ -28,8 +27,6 @@ mod refused;
 mod saving;
 mod vault;
 mod visit;
-mod visit_refused;
-mod visitor;
 
 pub use asking::accept;
 pub use law::{law_of_meeting, law_of_sound_media, law_of_vaults};
@@ -38,5 +35,3 @@ pub use play::law_of_budgets;
 pub use refused::SaveRefused;
 pub use vault::Vault;
 pub use visit::visit_selected;
-pub use visit_refused::{VisitRefused, VisitorRefused};
-pub use visitor::Visitor;

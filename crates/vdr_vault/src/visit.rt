@@ -1,23 +1,24 @@
-// Handing the records that a query selects to a visitor, in few writes.
-ghost use Rattle.std.specs.Prelude.{◌≡◌, ◌⊎◌, [], length, true, Err};
+// Handing the records that a query selects to a visitor.
+ghost use Rattle.std.specs.Prelude.{◌≡◌, ◌⊎◌, [], length, true, Ok, Err};
 ghost use Rattle.vdr_durability.specs.Playback.{medium_of};
 ghost use Rattle.vdr_entry.specs.Queries.{asked};
+ghost use Rattle.vdr_vault.specs.Plays.{TellsDamageOf};
 ghost use Rattle.vdr_vault.specs.Vaults.{AreRings};
-ghost use Rattle.vdr_vault.specs.Prints.{whole_text};
-ghost use Rattle.vdr_vault.specs.Refusals.{HasOutputCause, HasVisitCause, IsAccepted, after_fault, lacks_channel, lacks_incident, unanswered};
+ghost use Rattle.vdr_visit.specs.Prints.{whole_text};
+ghost use Rattle.vdr_visit.specs.Refusals.{HasOutputCause, IsAccepted, after_fault, lacks_channel, lacks_incident, unanswered};
+ghost use Rattle.vdr_vault.specs.Refusals.{HasVisitCause};
 ghost use Rattle.vdr_vault.specs.Visits.{HasOnlyRead, HasVisited, ReadsEachOnce};
-ghost use Rattle.vdr_vault.specs.declared.visit_refused.VisitRefused.TheVariants.{Fault as AFault, NoChannel, NoIncident, Output};
+ghost use Rattle.vdr_visit.specs.declared.visit_refused.VisitRefused.TheVariants.{Damaged, Fault as AFault, NoChannel, NoIncident, Output};
 
+use crate::Vault;
 use crate::asking::accept;
-use crate::buffered::visit_lent;
-use crate::{Vault, VisitRefused, Visitor};
-use std::marker::Brand;
+use crate::each::visit_all;
 use vdr_entry::Query;
-use vdr_outside::{Lent, Media, Sink};
+use vdr_outside::{Media, Sink};
+use vdr_visit::{VisitRefused, Visitor};
 
-/// Hands the records that a query selects to the visitor, in order of place, each once, and then their end. What it prints goes to the
-/// output in few writes, through a buffer of 8,192 bytes. Reads the query's medium alone, and of it at most a
-/// segment for each that meets the query, each once (`bound`). Takes no memory of its own.
+/// Hands the records that a query selects to the visitor, in order of place, each once, and then their end. Reads the query's medium
+/// alone, and of it at most a segment for each that meets the query, each once (`bound`). Takes no memory of its own.
 ///
 /// `NoChannel` comes before `NoIncident`, and both before `Fault` of a write that had failed. After `Fault` and `Damaged` the text of just
 /// the records that were handed on stands in the output. On media that hold what was recorded, regular or not, `Damaged` never comes.
@@ -36,6 +37,7 @@ pub fn visit_selected<M: Media, V: Visitor, O: Sink>(
     ensures unread { (result ≡ Err NoChannel) ⊎ (result ≡ Err NoIncident) → (vault.new ≡ vault.old) × (media.new ≡ media.old) × (visitor.new ≡ visitor.old) × (out.new ≡ out.old) }
     ensures failed { vault.old.failed ≡ true → (vault.new ≡ vault.old) × (media.new ≡ media.old) × (visitor.new ≡ visitor.old) × (out.new ≡ out.old)
         × (result ≡ after_fault (unanswered (lacks_channel (length vault.old.config.channels) query.now.channel) (lacks_incident vault.old.table (asked query.now).medium))) }
+    ensures damage { TellsDamageOf (asked query.now) vault.old (M.disk media.old) (λ m offset. result ≡ Err (Damaged m offset)) (result ≡ Ok tt) }
     ensures read { HasOnlyRead (asked query.now) vault.old vault.new (M.disk media.old) (M.disk media.new) (M.bytes_read media.old) (M.bytes_read media.new) }
     ensures bound { ReadsEachOnce (asked query.now) vault.old (M.bytes_read media.old) (M.bytes_read media.new) }
     ensures cause { HasVisitCause (medium_of (asked query.now).medium) vault.old.failed (M.faults media.old) (M.faults media.new) (result ≡ Err AFault) }
@@ -45,8 +47,5 @@ pub fn visit_selected<M: Media, V: Visitor, O: Sink>(
     if vault.failed() {
         return Err(VisitRefused::Fault);
     }
-    let (lent, result) = visit_lent::<M, V, O, Brand>(vault, media, query, visitor, Lent::new(out));
-    let Lent { sink } = lent;
-    let _ = &*sink;
-    result
+    visit_all(vault, media, query, visitor, out)
 }

@@ -2,7 +2,7 @@ use Rattle.std.proofs.Common.{ℕ, subst}
 use Rattle.std.specs.Io.KnownBytes.{Appends}
 use Rattle.vdr_outside.specs.Writes.{AppendsFront}
 use Rattle.vdr_export.specs.Sounds.{silence}
-use Rattle.vdr_vault.proofs.Printing.{front_of_whole}
+use Rattle.vdr_visit.proofs.Printing.{front_of_whole}
 use Rattle.vdr_export.proofs.Fronts.{front_second}
 use Rattle.vdr_export.proofs.writing.write_frame.Goals as goal
 

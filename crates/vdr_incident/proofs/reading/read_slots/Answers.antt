@@ -23,14 +23,14 @@ returns-in_err-saved-clause-damaged g c =
     ))
 
 pub returns-in_err-saved-clause-counts : goal.returns-in_err-saved-clause-counts
-returns-in_err-saved-clause-counts g c = reads_more c.args.slots c.loop-slot.slot _ _ _ (omega arith) c.loop-slot.invariant.counts c.read_slot.ensures.counts
+returns-in_err-saved-clause-counts g c = reads_more c.args.slots c.loop-slot.slot _ _ _ (omega arith) c.loop-slot.invariant.counts c.read_save.ensures.counts
 
 pub loop-slot-preserved : goal.loop-slot-preserved
 loop-slot-preserved g c = record {
-  unchanged = unchanged_join _ _ _ c.loop-slot.invariant.unchanged c.read_slot.ensures.unchanged;
-  later = none_falls_join _ _ _ c.loop-slot.invariant.later c.read_slot.ensures.cause.later;
+  unchanged = unchanged_join _ _ _ c.loop-slot.invariant.unchanged c.read_save.ensures.unchanged;
+  later = none_falls_join _ _ _ c.loop-slot.invariant.later c.read_save.ensures.cause.later;
   size = omega (arith, ap length c.push.ensures.items, length_push c.loop-slot.saves.items c.in_ok-saved.saved, c.loop-slot.invariant.size);
-  counts = counted_more _ _ _ c.loop-slot.slot c.loop-slot.invariant.counts c.read_slot.ensures.counts;
+  counts = counted_more _ _ _ c.loop-slot.slot c.loop-slot.invariant.counts c.read_save.ensures.counts;
   told = λ told. slot_read (g.M.Media.disk c.args.media.now) c.requires.incidents told c.loop-slot.slot _ _ _ (omega arith) c.push.ensures.items (c.loop-slot.invariant.told told)
       (subst (λ (image : Image). IsIncidentSlot (part (content image 1) (place_of c.loop-slot.slot) 256) c.in_ok-saved.saved) (c.loop-slot.invariant.unchanged.reads told) (c.in_ok-saved.ensures.found told));
 }

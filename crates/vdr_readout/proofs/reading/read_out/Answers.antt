@@ -5,7 +5,7 @@ use Rattle.vdr_command.specs.Opened.{AreLooks}
 use Rattle.vdr_command.specs.Outside.{Outside}
 use Rattle.vdr_command.proofs.OpenedLemmas.{missing_looked, no_looks, refused_ends}
 use Rattle.vdr_readout.specs.Reads.{AskedPlay, plain_play}
-use Rattle.vdr_vault.specs.declared.visit_refused.VisitRefused.TheVariants.{Damaged}
+use Rattle.vdr_visit.specs.declared.visit_refused.VisitRefused.TheVariants.{Damaged}
 use Rattle.vdr_readout.proofs.CostLemmas.{reads_few}
 use Rattle.vdr_readout.proofs.DamageLemmas.{told_so}
 use Rattle.vdr_readout.proofs.ReadLemmas.{never_damaged, read_ends, read_shows, to_read, wanted_so}
@@ -54,7 +54,7 @@ returns-clause-reads g c first had =
     let undamaged = never_damaged visited in
     let damage =
     told_so wanted old.media.disk mid.media.disk new.media.disk c.in_ok-recorder.recorder.vault (asked c.in-Some.query) (λ m offset. c.visit-ended.result ≡ Err (Damaged m offset)) (c.visit-ended.result ≡ Ok tt)
-    wants.is told.opened.known told.opened.judged told.opened.rings c.law_of_meeting.ensures visit.looked.read.unchanged visited.damage in
+    wants.is told.opened.known told.opened.judged told.opened.rings c.law_of_meeting.ensures visit.looked.read.unchanged visit.damage in
     rw c.ended_by.ensures.is
     (record {
       shown =

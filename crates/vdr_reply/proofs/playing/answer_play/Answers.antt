@@ -7,9 +7,9 @@ use Rattle.vdr_durability.specs.Playback.{selected}
 use Rattle.vdr_play.specs.Streams.{nothing_seen}
 use Rattle.vdr_play.specs.Texts.{records_text}
 use Rattle.vdr_vault.proofs.Reading.{reads_keep_failed}
-use Rattle.vdr_vault.specs.Refusals.{lacks_channel, lacks_incident}
-use Rattle.vdr_vault.specs.declared.visit_refused.VisitRefused.{VisitRefused}
-use Rattle.vdr_vault.specs.declared.visit_refused.VisitRefused.TheVariants as plays
+use Rattle.vdr_visit.specs.Refusals.{lacks_channel, lacks_incident}
+use Rattle.vdr_visit.specs.declared.visit_refused.VisitRefused.{VisitRefused}
+use Rattle.vdr_visit.specs.declared.visit_refused.VisitRefused.TheVariants as plays
 use Rattle.vdr_recorder.proofs.Printing.{played_all, played_undamaged}
 use Rattle.vdr_recorder.proofs.Answering.{in_this_call}
 use Rattle.vdr_vault.proofs.Playing.{stands_to_read}

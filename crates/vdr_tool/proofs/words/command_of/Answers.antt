@@ -1,34 +1,41 @@
-use Rattle.std.proofs.Common.{◌≡◌, ◌≤◌, ◌<◌, arith, length, map, ℕ, true, false, subst}
-use Rattle.std.specs.Prelude.{nat_lt, string_bytes}
-use Rattle.std.proofs.lemmas.Bool.{ltb-false, ltb-true}
-use Rattle.std.proofs.lemmas.List.{length-map}
-use Rattle.vdr_tool.proofs.WordLemmas.{IsCount, no_count, words_counted}
-use Rattle.vdr_tool.proofs.words.command_of.Goals.{in_default-via-then-words-lt1, in_default-via-else-words-lt1+else-words-lt2+else-words-lt3+else-words-lt4+then-words-lt5, in_default-via-else-words-lt1+else-words-lt2+else-words-lt3+else-words-lt4+else-words-lt5+else-words-lt6+then-words-lt7, in_default-via-else-words-lt1+else-words-lt2+else-words-lt3+else-words-lt4+else-words-lt5+else-words-lt6+else-words-lt7+else-words-lt8}
+use Rattle.std.proofs.Common.{◌≡◌, ◌≢◌, ◌∙◌, ℕ, List, [], ◌∷◌, Some, codes, map, sym, ap, subst, rules}
+use Rattle.std.specs.Prelude.{string_bytes}
+use Rattle.vdr_tool.specs.Commands.{Asked}
+use Rattle.vdr_tool.specs.Runs.{Spells}
+use Rattle.vdr_tool.proofs.WordLemmas.{no_words, none_read, nothing_in, plain_words, rescue_words, some_rescue}
 use Rattle.vdr_tool.proofs.words.command_of.Goals as goal
-
-below : (n k : ℕ) → nat_lt n k ≡ true → n < k
-below n k is = ltb-true n k is
-
-from : (n k : ℕ) → nat_lt n k ≡ false → k ≤ n
-from n k is = ltb-false n k is
 
 pub returns-in_default-clause-found : goal.returns-in_default-clause-found
 returns-in_default-clause-found c = λ command asks.
-    let n : ℕ = length c.args.words.now in
-    let count : IsCount n = subst IsCount (length-map c.args.words.now string_bytes) (words_counted (map string_bytes c.args.words.now) command asks) in
-    absurd (elim c.in_default.branch [
-      | in_default-via-then-words-lt1 w ↦
-          let b : n < 1 = below n 1 w.if-words-lt1-1.true in
-          no_count n count (λ e. omega (arith, e, b)) (λ e. omega (arith, e, b)) (λ e. omega (arith, e, b)) (λ e. omega (arith, e, b)) (λ e. omega (arith, e, b))
-      | in_default-via-else-words-lt1+else-words-lt2+else-words-lt3+else-words-lt4+then-words-lt5 w ↦
-          let a : 4 ≤ n = from n 4 w.if-words-lt4-1.false in
-          let b : n < 5 = below n 5 w.if-words-lt5-1.true in
-          no_count n count (λ e. omega (arith, e, a, b)) (λ e. omega (arith, e, a, b)) (λ e. omega (arith, e, a, b)) (λ e. omega (arith, e, a, b)) (λ e. omega (arith, e, a, b))
-      | in_default-via-else-words-lt1+else-words-lt2+else-words-lt3+else-words-lt4+else-words-lt5+else-words-lt6+then-words-lt7 w ↦
-          let a : 6 ≤ n = from n 6 w.if-words-lt6-1.false in
-          let b : n < 7 = below n 7 w.if-words-lt7-1.true in
-          no_count n count (λ e. omega (arith, e, a, b)) (λ e. omega (arith, e, a, b)) (λ e. omega (arith, e, a, b)) (λ e. omega (arith, e, a, b)) (λ e. omega (arith, e, a, b))
-      | in_default-via-else-words-lt1+else-words-lt2+else-words-lt3+else-words-lt4+else-words-lt5+else-words-lt6+else-words-lt7+else-words-lt8 w ↦
-          let a : 8 ≤ n = from n 8 w.if-words-lt8-1.false in
-          no_count n count (λ e. omega (arith, e, a)) (λ e. omega (arith, e, a)) (λ e. omega (arith, e, a)) (λ e. omega (arith, e, a)) (λ e. omega (arith, e, a))
-    ])
+    absurd (no_words command (subst (λ words. Spells (map string_bytes words) command) (nothing_in c.args.words.now c.in_default.ensures.cases) asks))
+
+pub returns-in_err-reading-clause-found : goal.returns-in_err-reading-clause-found
+returns-in_err-reading-clause-found c = λ command asks.
+    let word : string_bytes c.in-Some.word.now ≡ codes "rescue" = search rules in
+    let h = rescue_words (string_bytes c.in-Some.word.now) (map string_bytes c.in-Some.rest.now) command word (subst (λ words. Spells (map string_bytes words) command) c.in-Some.ensures.cases.0 asks) in
+    none_read c.rescued.result h.reading c.in_err-reading.was (c.rescued.ensures.found h.reading h.legal h.spelled)
+
+pub returns-then-eq-clause-found : goal.returns-then-eq-clause-found
+returns-then-eq-clause-found c = λ command asks.
+    let word : string_bytes c.in-Some.word.now ≡ codes "rescue" = search rules in
+    let h = rescue_words (string_bytes c.in-Some.word.now) (map string_bytes c.in-Some.rest.now) command word (subst (λ words. Spells (map string_bytes words) command) c.in-Some.ensures.cases.0 asks) in
+    some_rescue c.rescued.result c.in_ok-reading.reading h.reading c.in_ok-reading.was (c.rescued.ensures.found h.reading h.legal h.spelled) ∙ ap (λ (a : Asked). Some a) (sym h.is)
+
+pub returns-then-eq-clause-only : goal.returns-then-eq-clause-only
+returns-then-eq-clause-only c =
+    let word : string_bytes c.in-Some.word.now ≡ codes "rescue" = search rules in
+    let told = c.in_ok-reading.ensures.only in
+    record {
+      words = record {
+        rest = map string_bytes c.in-Some.rest.now;
+        words = ap (λ words. map string_bytes words) c.in-Some.ensures.cases.0 ∙ ap (λ (w : List ℕ). w ∷ map string_bytes c.in-Some.rest.now) word;
+        spelled = told.1;
+      };
+      legal = told.0;
+    }
+
+pub returns-clause-found : goal.returns-clause-found
+returns-clause-found c = λ command asks.
+    let other : string_bytes c.in-Some.word.now ≢ codes "rescue" = search rules in
+    c.plain_command_of.ensures.found command (plain_words (string_bytes c.in-Some.word.now) (map string_bytes c.in-Some.rest.now) command other
+    (subst (λ words. Spells (map string_bytes words) command) c.in-Some.ensures.cases.0 asks)) asks

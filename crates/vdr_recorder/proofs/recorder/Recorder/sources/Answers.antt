@@ -5,5 +5,5 @@ use Rattle.vdr_recorder.proofs.recorder.Recorder.sources.Goals as goal
 
 pub returns-clause-told : goal.returns-clause-told
 returns-clause-told g c =
-    told (asked c.args.query.now) c.args.self.now.vault (g.M.Media.disk c.args.media.now) (g.O.Sink.taken c.args.out.now) (g.O.Sink.taken c.visit.new.out) c.visit.result c.new.result.table _ _ c.new.ensures
+    told (asked c.args.query.now) c.args.self.now.vault (g.M.Media.disk c.args.media.now) (g.O.Sink.taken c.args.out.now) (g.O.Sink.taken c.visit.new.out) c.visit.result c.new.result.table _ _ c.new.ensures c.visit.ensures.damage
     (c.visit.ensures.visited c.new.result refl)

@@ -1,0 +1,27 @@
+use Rattle.std.proofs.Common.{refl}
+use Rattle.vdr_readout.proofs.ReadingLemmas.{file_known, play_rescued, rescue_known, same_rescued, sources_rescued}
+use Rattle.vdr_readout.proofs.answering.answer_rescue.Goals as goal
+
+pub returns-in-Play-clause-owed : goal.returns-in-Play-clause-owed
+returns-in-Play-clause-owed g c = rw c.in-Play.is (play_rescued _ _ _ _ c.new.result.player.tracks c.new.ensures (c.rescue_out.ensures.rescues c.new.result refl))
+
+pub returns-in-Sources-clause-owed : goal.returns-in-Sources-clause-owed
+returns-in-Sources-clause-owed g c = rw c.in-Sources.is (sources_rescued _ _ _ _ _ c.up_to-wanted.ensures c.new-in-Sources.result.table c.new-in-Sources.ensures (c.rescue_out-in-Sources.ensures.rescues c.new-in-Sources.result refl))
+
+pub returns-in-Watch-clause-owed : goal.returns-in-Watch-clause-owed
+returns-in-Watch-clause-owed g c = rw c.in-Watch.is (same_rescued _ _ _ _ _ c.up_to-wanted-in-Watch.ensures _ _ (c.rescue_out-in-Watch.ensures.rescues c.new-in-Watch.result c.new-in-Watch.ensures))
+
+pub returns-in-Play-clause-known : goal.returns-in-Play-clause-known
+returns-in-Play-clause-known g c = rescue_known _ _ _ _ _ _ (c.rescue_out.ensures.rescues c.new.result refl)
+
+pub returns-in-Sources-clause-known : goal.returns-in-Sources-clause-known
+returns-in-Sources-clause-known g c = rescue_known _ _ _ _ _ _ (c.rescue_out-in-Sources.ensures.rescues c.new-in-Sources.result refl)
+
+pub returns-in-Watch-clause-known : goal.returns-in-Watch-clause-known
+returns-in-Watch-clause-known g c = rescue_known _ _ _ _ _ _ (c.rescue_out-in-Watch.ensures.rescues c.new-in-Watch.result c.new-in-Watch.ensures)
+
+pub returns-in-Wav-clause-known : goal.returns-in-Wav-clause-known
+returns-in-Wav-clause-known g c = file_known _ _ _ _ _ c.rescue_file.ensures.rescues
+
+pub returns-in-Picture-clause-known : goal.returns-in-Picture-clause-known
+returns-in-Picture-clause-known g c = file_known _ _ _ _ _ c.rescue_file-in-Picture.ensures.rescues

@@ -1,0 +1,120 @@
+// What may be read out, of recorded media or of one medium alone.
+ghost use Rattle.std.specs.Prelude.{◌≡◌, ◌<◌, ◌≤◌, length};
+ghost use Rattle.vdr_command.specs.Endings.{ending};
+ghost use Rattle.vdr_command.specs.declared.status.Status.TheVariants.{Words};
+ghost use Rattle.vdr_readout.specs.Readings.{RescuesReading, number_read, plain_reading};
+ghost use Rattle.vdr_readout.specs.Readings.Reading.{Targets};
+ghost use Rattle.vdr_readout.specs.Reads.{plain_play};
+ghost use Rattle.vdr_readout.specs.Targets.{up_to};
+
+use crate::exporting::Wish;
+use crate::playing::Printer;
+use crate::reading::{ALL, Wanted};
+use crate::rescuing::{number_of, rescue_out};
+use crate::rescuing_files::rescue_file;
+use crate::targeting::Lookout;
+use crate::watching::Watcher;
+use std::alloc::Global;
+use vdr_command::{Outer, Status, World};
+use vdr_entry::Medium;
+use vdr_export::Block;
+use vdr_outside::{Media, Sink, Source};
+use vdr_recorder::SourceCounter;
+use vdr_terms::LAST_STAMP;
+
+/// What is read out, and how it is told.
+#[derive(Clone, Copy, Drop)]
+pub enum Reading<'a> {
+    /// The records themselves.
+    Play(Wanted<'a>),
+    /// The table of their sources.
+    Sources { medium: Medium },
+    /// What heartbeats and alarms show.
+    Watch { medium: Medium },
+    /// The table of ships, of what was recorded up to this stamp.
+    Targets { medium: Medium, at: i64 },
+    /// The sound of a channel, as a WAVE file.
+    Wav(Wanted<'a>),
+    /// The image of this block, out of a channel of images.
+    Picture(Wanted<'a>, Block),
+}
+
+impl Reading<'_> {
+    /// The number of the medium on which its records stand.
+    pub fn medium_number(&self) -> u8
+        ensures number { result ≡ number_read (plain_reading self.now) }
+        ensures few { result < 2 }
+    {
+        let medium = match self {
+            Reading::Play(wanted) | Reading::Wav(wanted) | Reading::Picture(wanted, _) => {
+                wanted.medium
+            }
+            Reading::Sources { medium }
+            | Reading::Watch { medium }
+            | Reading::Targets { medium, .. } => *medium,
+        };
+        number_of(medium)
+    }
+}
+
+// All records of a medium up to this stamp.
+fn up_to(medium: Medium, at: i64) -> Wanted<'static>
+    ensures { plain_play result ≡ up_to medium at }
+{
+    Wanted {
+        medium,
+        channel: ALL,
+        from: 0,
+        to: at,
+    }
+}
+
+// The table of ships that one medium alone gives, up to this stamp.
+fn rescue_targets<I: Source + Drop, O: Sink + Drop, M: Media + Drop>(
+    alloc: Global,
+    medium: Medium,
+    at: i64,
+    world: &mut World<I, O, M>,
+) -> Result<(), Status>
+    requires two { 2 ≤ length (M.disk world.old.media).sizes }
+    ensures owed { let outside = ⟦<World<I, O, M> as Outer>⟧.outside in RescuesReading (Targets medium at) (outside world.old) (outside world.new) (ending result) }
+    ensures known { ending result ≡ Words → ⊥ }
+    ensures later { O.faults world.old.output ≤ O.faults world.new.output }
+    ensures sizes { (M.disk world.new.media).sizes ≡ (M.disk world.old.media).sizes }
+    ensures unread { world.new.input ≡ world.old.input }
+{
+    let wanted = up_to(medium, at);
+    rescue_out(alloc, wanted, &mut Lookout::new(alloc), world)
+}
+
+/// Reads out one medium alone: that of the reading, or for an incident the long-term one. What it gives is told as on recorded media;
+/// behind that stand, but for files, the lines of what was found: what is missing, damaged or closed.
+pub fn answer_rescue<I: Source + Drop, O: Sink + Drop, M: Media + Drop>(
+    alloc: Global,
+    reading: Reading<'_>,
+    world: &mut World<I, O, M>,
+) -> Result<(), Status>
+    requires two { 2 ≤ length (M.disk world.old.media).sizes }
+    ensures owed { let at = ⟦<World<I, O, M> as Outer>⟧.outside in RescuesReading (plain_reading reading.entry) (at world.old) (at world.new) (ending result) }
+    ensures known { ending result ≡ Words → ⊥ }
+    ensures later { O.faults world.old.output ≤ O.faults world.new.output }
+    ensures sizes { (M.disk world.new.media).sizes ≡ (M.disk world.old.media).sizes }
+    ensures unread { world.new.input ≡ world.old.input }
+{
+    match reading {
+        Reading::Play(wanted) => rescue_out(alloc, wanted, &mut Printer::new(), world),
+        Reading::Sources { medium } => {
+            let wanted = up_to(medium, LAST_STAMP);
+            rescue_out(alloc, wanted, &mut SourceCounter::new(alloc), world)
+        }
+        Reading::Watch { medium } => {
+            let wanted = up_to(medium, LAST_STAMP);
+            rescue_out(alloc, wanted, &mut Watcher::new(alloc), world)
+        }
+        Reading::Targets { medium, at } => rescue_targets(alloc, medium, at, world),
+        Reading::Wav(wanted) => rescue_file(alloc, wanted, Wish::Sound, world),
+        Reading::Picture(wanted, block) => {
+            rescue_file(alloc, wanted, Wish::Picture(block), world)
+        }
+    }
+}

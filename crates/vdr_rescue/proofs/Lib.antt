@@ -1,0 +1,16 @@
+mod GivenLemmas
+mod FrontLemmas
+mod AboveLemmas
+mod JudgeLemmas
+mod CursorLemmas
+mod SaveLemmas
+mod VisitLemmas
+mod LackLemmas
+mod HandLemmas
+mod AloneLemmas
+mod ReadLemmas
+mod FindLemmas
+mod SortLemmas
+mod OneAnswer
+mod AloneAnswer
+mod LineLemmas
