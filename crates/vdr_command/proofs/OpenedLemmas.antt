@@ -16,6 +16,7 @@ use Rattle.vdr_opening.specs.Refusals.{IsRefused}
 use Rattle.vdr_opening.specs.declared.refused.OpenRefused.{OpenRefused}
 use Rattle.vdr_opening.specs.declared.refused.OpenRefused.TheVariants as openings
 use Rattle.vdr_recorder.specs.Recordings.{HasDone, RecorderState}
+use Rattle.vdr_recorder.specs.Watched.{nothing_told}
 use Rattle.vdr_vault.specs.Openings.{EndsWithin, GoesOnSynced, IsToldBy, LeavesAll, OpensAtEachMoment}
 use Rattle.vdr_vault.proofs.OpenMoments.{never_both}
 use Rattle.vdr_vault.specs.Vaults.{VaultState, ShowsHistory}
@@ -216,6 +217,6 @@ module _ {tells tells_images : Type 0} where
       → (IsWorkDone status → tells → ShowsHistory (opening_of x) (done.event ∷ []) new.reads) → MayBe (done.event ∷ []) → KeepsContents x MayBe status old new
   kept_by_call x reads sound MayBe status old mid new result act none r after t0 moments from upto done rests may =
       let silent : recorded (done.event ∷ []) ≡ [] = ap (λ (a : Act). records_of_act a ++ []) done.act_is ∙ ap (λ (rs : List Record). rs ++ []) none in
-      after_opening x reads (ContentsKept x MayBe status new) ⊤ old t0 mid new (passes_opened (opening_of x) old mid result moments) from upto (done.event ∷ []) (order_quiet x sound (done.event ∷ []) silent)
+      after_opening x reads (ContentsKept x MayBe status new) ⊤ old ⊥ nothing_told t0 mid new (passes_opened (opening_of x) old mid result moments) from upto (done.event ∷ []) (order_quiet x sound (done.event ∷ []) silent)
       done.has.history done.has.kept done.passes (inr tt)
-      (record { may_be = may; reads = λ worked t. plays x reads (done.event ∷ []) (order_quiet x sound (done.event ∷ []) silent) new.reads (rests worked t) })
+      (record { may_be = may; reads = λ worked t. plays x reads (done.event ∷ []) (order_quiet x sound (done.event ∷ []) silent) new.reads (rests worked t) }) (λ none. absurd none)

@@ -27,7 +27,7 @@ kept_event : (o : Option ℕ) (e : Event) (later events : List Event) → o ≢ 
 kept_event None e later events some same = absurd (some refl)
 kept_event (Some m) e later events some same = ap (λ (es : List Event). e ∷ es) same
 
-done_whole : (events : List Event) → IsWhole events → done events ≡ events
+pub done_whole : (events : List Event) → IsWhole events → done events ≡ events
 done_whole [] whole = refl
 done_whole (e ∷ es) whole =
     kept_event e.moment e (done es) es (All-head (λ (e : Event). e.moment ≢ None) e es whole) (done_whole es (All-tail (λ (e : Event). e.moment ≢ None) e es whole))

@@ -21,7 +21,8 @@ use Rattle.vdr_vault.specs.Vaults.{HoldsHistory, ShowsHistory, ring_of}
 use Rattle.vdr_ring.proofs.Continuing.{one_end}
 use Rattle.vdr_recorder.specs.Recordings.{HasRecorded, Passes, RecorderState}
 use Rattle.vdr_recorder.proofs.Opened.{keeps_synced}
-use Rattle.vdr_recorder.specs.Headline.{Headline, PlaysBack, RecordingHeadline}
+use Rattle.vdr_recorder.specs.Headline.{Headline, IsHeard, PlaysBack, RecordingHeadline, ToldHeadline}
+use Rattle.vdr_recorder.specs.Watched.{Watched, nothing_told}
 use Rattle.vdr_recorder.proofs.Ordering.{all_in_order, front_in_order}
 use Rattle.vdr_recorder.proofs.Passing.{passes_first, passes_join, passes_synced}
 use Rattle.vdr_recorder.proofs.Playing.{plays}
@@ -43,11 +44,11 @@ module _ (shows others : List Event → Image → Type 0) (events : List Event)
 
 -- A headline, where what shows its events shows them otherwise too
 abbrev pub told_as : {tells tells_images : Type 0} (opening : Opening) (shows others : List Event → Image → Type 0) (Told Tells : List Event → Type 0)
-    (pends may_pend : Type 0) (before after : Disk tells tells_images)
-    → (h : Headline opening shows Told pends before after)
+    (pends may_pend : Type 0) (before after : Disk tells tells_images) (hears hears' : Type 0) (w w' : Watched)
+    → (h : Headline opening shows Told pends before after hears w)
     → ((first rest : List Event) → h.events ≡ first ++ rest → (image : Image) → shows first image → others first image)
-    → (Told h.events → Tells h.events) → (pends → may_pend) → Headline opening others Tells may_pend before after
-told_as opening shows others Told Tells pends may_pend before after h to told pend = record {
+    → (Told h.events → Tells h.events) → (pends → may_pend) → (hears' → IsHeard opening h.events h.synced before w') → Headline opening others Tells may_pend before after hears' w'
+told_as opening shows others Told Tells pends may_pend before after hears hears' w w' h to told pend heard = record {
   events = h.events;
   history = h.history;
   order = h.order;
@@ -60,6 +61,7 @@ told_as opening shows others Told Tells pends may_pend before after h to told pe
   after_entry = h.after_entry;
   before_exit = h.before_exit;
   kept = keeps_told shows others h.events to h.synced after h.kept;
+  heard = heard;
 }
 
 -- The order of what the media were given
@@ -118,14 +120,15 @@ module _ (x : Contents) (reads : configuration x.text ≡ Ok x.config) where
       → (image : Image) → ShowsHistory (opening_of x) first image → PlaysBack (opening_of x) first image
   back events order first rest split image h = plays x reads first (λ m there. front_in_order (opening_of x) m first rest events split (order m there)) image h
 
-  module _ {tells tells_images : Type 0} (Told : List Event → Type 0) (may_pend : Type 0) (old : Disk tells tells_images) where
+  module _ {tells tells_images : Type 0} (Told : List Event → Type 0) (may_pend : Type 0) (old : Disk tells tells_images) (hears : Type 0) (w : Watched) where
     -- These events came after an opening.
     pub after_opening : (t0 : ℕ) (mid new : Disk tells tells_images) → Passes (opening_of x) [] old mid → old.clock ≤ t0 → t0 ≤ mid.clock
         → (events : List Event) → ((m : ℕ) → Contains members m → AreInOrder (all_records (opening_of x) m events)) → IsHistory (opening_of x) events
         → Keeps (ShowsHistory (opening_of x)) events t0 new
-        → Passes (opening_of x) events mid new → IsWhole events ⊎ may_pend → Told events → RecordingHeadline x Told may_pend old new
-    after_opening t0 mid new passes entry exit events order history kept then pending told =
-        told_as (opening_of x) (ShowsHistory (opening_of x)) (PlaysBack (opening_of x)) Told Told may_pend may_pend old new
+        → Passes (opening_of x) events mid new → IsWhole events ⊎ may_pend → Told events → (hears → IsHeard (opening_of x) events t0 old w)
+        → ToldHeadline x Told may_pend old new hears w
+    after_opening t0 mid new passes entry exit events order history kept then pending told heard =
+        told_as (opening_of x) (ShowsHistory (opening_of x)) (PlaysBack (opening_of x)) Told Told may_pend may_pend old new hears hears w w
         (record {
           events = events;
           history = history;
@@ -137,13 +140,15 @@ module _ (x : Contents) (reads : configuration x.text ≡ Ok x.config) where
           after_entry = entry;
           before_exit = omega (arith, exit, then.later);
           kept = kept;
+          heard = heard;
         })
-        (back events order) (λ t. t) (λ p. p)
+        (back events order) (λ t. t) (λ p. p) heard
 
-    -- Nothing came after it.
+  -- Nothing came after it, and nothing is said of who was told.
+  module _ {tells tells_images : Type 0} (Told : List Event → Type 0) (may_pend : Type 0) (old : Disk tells tells_images) where
     pub only_opened : AreSound x → (new : Disk tells tells_images) → GoesOnSynced old new (ShowsHistory (opening_of x) []) → Told []
         → RecordingHeadline x Told may_pend old new
     only_opened sound new goes told =
-        after_opening goes.synced new new (passes_synced (opening_of x) old new goes) goes.after_entry goes.before_exit []
+        after_opening Told may_pend old ⊥ nothing_told goes.synced new new (passes_synced (opening_of x) old new goes) goes.after_entry goes.before_exit []
         (order_quiet x sound [] refl) (no_event_history (opening_of x))
-        (keeps_synced (ShowsHistory (opening_of x)) goes.synced new goes.before_exit goes.since) (passes_first (opening_of x) [] new) (inl no_event_whole) told
+        (keeps_synced (ShowsHistory (opening_of x)) goes.synced new goes.before_exit goes.since) (passes_first (opening_of x) [] new) (inl no_event_whole) told (λ none. absurd none)

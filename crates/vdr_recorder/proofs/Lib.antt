@@ -17,3 +17,8 @@ pub mod Playing
 pub mod Resting
 pub mod Passing
 pub mod Headlines
+pub mod Coming
+pub mod Telling
+pub mod Watching
+pub mod Chains
+pub mod GoingOn

@@ -13,6 +13,7 @@ use Rattle.vdr_outside.specs.Disk.{Disk, Image}
 use Rattle.vdr_outside.specs.Moments.{AtEachMoment}
 use Rattle.vdr_opening.specs.Media.{members, Contents, HoldsContents, opening_of, reading_of}
 use Rattle.vdr_vault.specs.Regularity.{AreSound}
+use Rattle.vdr_recorder.specs.Watched.{AreTold, Watched, nothing_told}
 
 -- The query's medium, or its incident, is there after these events.
 abbrev pub IsThere : Opening → List Event → Medium → Type 0
@@ -28,10 +29,17 @@ pub record PlaysBack (opening : Opening) (events : List Event) (image : Image) :
   pub shown : Shows members opening events (reading_of contents)
   pub played : (query : Query) → IsThere opening events query.medium → selected (opening_of contents) [] query ≡ selected opening events query
 
+-- An object outside was told of these events: of the media as they were at entry, of their opening at that clock, and of each event that was
+-- done, at its moment.
+pub record IsHeard {tells tells_images : Type 0} (opening : Opening) (events : List Event) (synced : ℕ) (before : Disk tells tells_images) (w : Watched) : Type 0 where
+  pub found : w.found ≡ before.reads
+  pub opened : w.synced ≡ synced
+  pub told : AreTold opening events w.turns
+
 -- The media at entry and at the return, what they held at entry, and which images show which events. `Told`: what is said of the events, as
--- what their records account for. `may_pend`: where the last commit may be pending.
+-- what their records account for. `may_pend`: where the last commit may be pending. `w`: what an object outside was told, where it `hears`.
 pub record Headline {tells tells_images : Type 0} (opening : Opening) (shows : List Event → Image → Type 0) (Told : List Event → Type 0) (may_pend : Type 0)
-    (before after : Disk tells tells_images) : Type 0 where
+    (before after : Disk tells tells_images) (hears : Type 0) (w : Watched) : Type 0 where
   pub events : List Event
   pub history : IsHistory opening events
   pub order : (m : ℕ) → Contains members m → AreInOrder (all_records opening m events)
@@ -44,8 +52,15 @@ pub record Headline {tells tells_images : Type 0} (opening : Opening) (shows : L
   pub after_entry : before.clock ≤ synced
   pub before_exit : synced ≤ after.clock
   pub kept : Keeps shows events synced after
+  -- this clock and the events that were done are those that an object outside was told
+  pub heard : hears → IsHeard opening events synced before w
 
--- The headline of a recording over these contents, which the media play back.
+-- The headline of a recording over these contents, which the media play back, and of which an object outside was told.
+abbrev pub ToldHeadline : {tells tells_images : Type 0} → Contents → (Told : List Event → Type 0) → (may_pend : Type 0)
+    → (before after : Disk tells tells_images) → (hears : Type 0) → Watched → Type 0
+ToldHeadline x Told may_pend before after hears w = Headline (opening_of x) (PlaysBack (opening_of x)) Told may_pend before after hears w
+
+-- The same where nobody was told.
 abbrev pub RecordingHeadline : {tells tells_images : Type 0} → Contents → (Told : List Event → Type 0) → (may_pend : Type 0)
     → (before after : Disk tells tells_images) → Type 0
-RecordingHeadline x Told may_pend before after = Headline (opening_of x) (PlaysBack (opening_of x)) Told may_pend before after
+RecordingHeadline x Told may_pend before after = ToldHeadline x Told may_pend before after ⊥ nothing_told

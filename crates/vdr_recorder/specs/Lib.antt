@@ -6,4 +6,6 @@ pub mod Looks
 pub mod Reads
 pub mod Playing
 pub mod Calls
+pub mod Watched
 pub mod Headline
+pub mod Chains

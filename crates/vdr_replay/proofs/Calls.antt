@@ -21,6 +21,7 @@ use Rattle.vdr_durability.proofs.Whole.{whole_has_not_failed}
 use Rattle.vdr_outside.specs.Disk.{Disk}
 use Rattle.vdr_run.specs.Making.{CountsItems}
 use Rattle.vdr_recorder.specs.Recordings.{HasDone, HasRecorded, RecorderState, start_of_opening}
+use Rattle.vdr_recorder.specs.Watched.{DoneAndTold, Watched}
 use Rattle.vdr_recorder.proofs.Continuing.{has_moment, left_with}
 use Rattle.vdr_run.proofs.Given.{taken_one_more}
 use Rattle.vdr_replay.specs.Taking.{BreaksOff, Closes, HasTaken, TakesOn}
@@ -32,7 +33,7 @@ same_start s records taken begins = cond-false (begin_run records) (next_start s
 more_popped : (s : RunState) (records : List Record) (taken : List Captured) → begin_run records ≡ false → (after_commit s records taken).popped ≡ s.popped ++ taken
 more_popped s records taken begins = cond-false (begin_run records) taken (s.popped ++ taken) begins
 
-module _ {tells tells_images : Type 0} (opening : Opening) (events : List Event) (t0 : ℕ) (r after : RecorderState) (old new : Disk tells tells_images) where
+module _ {tells tells_images : Type 0} (opening : Opening) (events : List Event) (t0 : ℕ) (r after : RecorderState) (old new : Disk tells tells_images) (hears : Type 0) (was is : Watched) where
   abbrev Left : RunState
   Left = state_left opening events
 
@@ -52,14 +53,17 @@ module _ {tells tells_images : Type 0} (opening : Opening) (events : List Event)
   -- A batch
   module _ (feed : List FeedItem) (batch : List Captured) (records : List Record) (h : HasTaken opening feed batch events t0 r old) (works : r.vault.failed ≡ false)
       (made : (recorder_after Left.start (Left.popped ++ batch)).made ≡ (recorder_in Left).made ++ records)
-      (d : HasDone opening events t0 (Commit records batch) after old new) where
+      (done : DoneAndTold hears opening events t0 (Commit records batch) after old new was is) where
+    abbrev d : HasDone opening events t0 (Commit records batch) after old new
+    d = done.done
+
     batch_made : recorded (events ++ d.event ∷ []) ≡ (recorder_after Left.start (Left.popped ++ batch)).made
     batch_made = recorded_now records batch d ∙ ap (λ (rs : List Record). rs ++ records) h.made ∙ sym made
 
     begins_none : begin_run records ≡ false
     begins_none = inside_begins_none records (further_items Left.start Left.popped batch records made).1
 
-    pub batch_taken : after.vault.failed ≡ false → TakesOn opening feed [] events t0 after old new
+    pub batch_taken : after.vault.failed ≡ false → TakesOn opening feed [] events t0 after old new hears was is
     batch_taken goes = record {
       more = d.event ∷ [];
       taken = record {
@@ -69,6 +73,7 @@ module _ {tells tells_images : Type 0} (opening : Opening) (events : List Event)
         order = h.order ∙ sym popped ∙ sym (append-nil (state_left opening (events ++ d.event ∷ [])).popped);
       };
       passes = d.passes;
+      heard = done.told;
     }
       where
         left : state_left opening (events ++ d.event ∷ []) ≡ after_commit Left records batch
@@ -80,77 +85,86 @@ module _ {tells tells_images : Type 0} (opening : Opening) (events : List Event)
         popped : (state_left opening (events ++ d.event ∷ [])).popped ≡ Left.popped ++ batch
         popped = ap (λ (s : RunState). s.popped) left ∙ more_popped Left records batch begins_none
 
-    pub batch_breaks : BreaksOff opening feed events t0 after old new
+    pub batch_breaks : BreaksOff opening feed events t0 after old new hears was is
     batch_breaks = record {
       more = d.event ∷ [];
       has = d.has;
       cut = inl (Left.popped ++ batch, [], h.order ∙ sym (append-nil (Left.popped ++ batch)), batch_made ∙ ap (λ (s : RunStart). (recorder_after s (Left.popped ++ batch)).made) h.begun);
       passes = d.passes;
+      heard = done.told;
     }
 
   -- The same of what a call answers, by items that are the batch's.
   abbrev Batch : List Captured → Type 0
   Batch items = (records : List Record) × ((recorder_after Left.start (Left.popped ++ items)).made ≡ (recorder_in Left).made ++ records)
-      × HasDone opening events t0 (Commit records items) after old new
+      × DoneAndTold hears opening events t0 (Commit records items) after old new was is
 
   module _ (feed : List FeedItem) (batch items : List Captured) (same : items ≡ batch) (h : HasTaken opening feed batch events t0 r old) (works : r.vault.failed ≡ false) (b : Batch items) where
     is_batch : Batch batch
     is_batch = subst Batch same b
 
-    pub takes_batch : after.vault.failed ≡ false → TakesOn opening feed [] events t0 after old new
+    pub takes_batch : after.vault.failed ≡ false → TakesOn opening feed [] events t0 after old new hears was is
     takes_batch goes = batch_taken feed batch is_batch.0 h works is_batch.1 is_batch.2 goes
 
-    pub breaks_batch : BreaksOff opening feed events t0 after old new
+    pub breaks_batch : BreaksOff opening feed events t0 after old new hears was is
     breaks_batch = batch_breaks feed batch is_batch.0 h works is_batch.1 is_batch.2
 
   -- The close
   module _ (feed : List FeedItem) (rest : ℕ → Counts) (h : HasTaken opening feed [] events t0 r old) (rest_is : rest ≡ rest_after feed)
-      (d : HasDone opening events t0 (Commit (closing Left.start (recorder_in Left) rest) []) after old new) where
+      (done : DoneAndTold hears opening events t0 (Commit (closing Left.start (recorder_in Left) rest) []) after old new was is) where
+    abbrev d' : HasDone opening events t0 (Commit (closing Left.start (recorder_in Left) rest) []) after old new
+    d' = done.done
+
     all_popped : Left.popped ≡ taken_of [] feed
     all_popped = sym (append-nil Left.popped) ∙ sym h.order
 
-    close_made : recorded (events ++ d.event ∷ []) ≡ feed_records (start_of_opening opening) feed
+    close_made : recorded (events ++ d'.event ∷ []) ≡ feed_records (start_of_opening opening) feed
     close_made =
-        recorded_now (closing Left.start (recorder_in Left) rest) [] d
+        recorded_now (closing Left.start (recorder_in Left) rest) [] d'
         ∙ ap (λ (rs : List Record). rs ++ closing Left.start (recorder_in Left) rest) h.made
         ∙ (λ i. closed_run (h.begun i) (all_popped i) (rest_is i))
         ∙ sym (is_replay (start_of_opening opening) feed)
 
-    pub close_breaks : BreaksOff opening feed events t0 after old new
-    close_breaks = record { more = d.event ∷ []; has = d.has; cut = inr close_made; passes = d.passes }
+    pub close_breaks : BreaksOff opening feed events t0 after old new hears was is
+    close_breaks = record { more = d'.event ∷ []; has = d'.has; cut = inr close_made; passes = d'.passes; heard = done.told }
 
-    pub closed_now : CountsItems Left.start Left.popped after.maker → Closes opening feed events t0 after old new
+    pub closed_now : CountsItems Left.start Left.popped after.maker → Closes opening feed events t0 after old new hears was is
     closed_now counts = record {
-      more = d.event ∷ [];
-      has = d.has;
+      more = d'.event ∷ [];
+      has = d'.has;
       made = close_made;
       counts = subst (λ (x : RunStart × List Captured). CountsItems x.0 x.1 after.maker) (λ i. (h.begun i, all_popped i)) counts;
-      passes = d.passes;
+      passes = d'.passes;
+      heard = done.told;
     }
 
 -- The Start
-module _ {tells tells_images : Type 0} (opening : Opening) (t0 : ℕ) (r after : RecorderState) (old new : Disk tells tells_images) (h : HasRecorded opening [] t0 r old) (works : r.vault.failed ≡ false)
-    (d : HasDone opening [] t0 (Commit (begun (next_start (state_left opening []))).made []) after old new) where
-  start_made : recorded (d.event ∷ []) ≡ (begun (start_of_opening opening)).made
-  start_made = recorded_now opening [] t0 r after old new (begun (next_start (state_left opening []))).made [] d
+module _ {tells tells_images : Type 0} (opening : Opening) (t0 : ℕ) (r after : RecorderState) (old new : Disk tells tells_images) (hears : Type 0) (was is : Watched) (h : HasRecorded opening [] t0 r old)
+    (works : r.vault.failed ≡ false) (done : DoneAndTold hears opening [] t0 (Commit (begun (next_start (state_left opening []))).made []) after old new was is) where
+  abbrev start_done : HasDone opening [] t0 (Commit (begun (next_start (state_left opening []))).made []) after old new
+  start_done = done.done
 
-  pub run_begins : after.vault.failed ≡ false → TakesOn opening [] [] [] t0 after old new
+  start_made : recorded (start_done.event ∷ []) ≡ (begun (start_of_opening opening)).made
+  start_made = recorded_now opening [] t0 r after old new hears was is (begun (next_start (state_left opening []))).made [] start_done
+
+  pub run_begins : after.vault.failed ≡ false → TakesOn opening [] [] [] t0 after old new hears was is
   run_begins goes = record {
-    more = d.event ∷ [];
+    more = start_done.event ∷ [];
     taken = record {
-      has = d.has;
+      has = start_done.has;
       begun = ap (λ (s : RunState). s.start) left;
       made = start_made ∙ (λ i. (recorder_after (sym (ap (λ (s : RunState). s.start) left) i) (sym (ap (λ (s : RunState). s.popped) left) i)).made);
-      order = sym (append-nil (state_left opening (d.event ∷ [])).popped ∙ ap (λ (s : RunState). s.popped) left);
+      order = sym (append-nil (state_left opening (start_done.event ∷ [])).popped ∙ ap (λ (s : RunState). s.popped) left);
     };
-    passes = d.passes;
+    passes = start_done.passes;
+    heard = done.told;
   }
     where
-      left : state_left opening (d.event ∷ []) ≡ after_commit (state_left opening []) (begun (start_of_opening opening)).made []
-      left = left_now opening [] t0 r after old new (Commit (begun (next_start (state_left opening []))).made []) h works d goes
+      left : state_left opening (start_done.event ∷ []) ≡ after_commit (state_left opening []) (begun (start_of_opening opening)).made []
+      left = left_now opening [] t0 r after old new hears was is (Commit (begun (next_start (state_left opening []))).made []) h works start_done goes
 
-  pub start_breaks : BreaksOff opening [] [] t0 after old new
-  start_breaks = record { more = d.event ∷ []; has = d.has; cut = inl ([], [], refl, start_made); passes = d.passes }
+  pub start_breaks : BreaksOff opening [] [] t0 after old new hears was is
+  start_breaks = record { more = start_done.event ∷ []; has = start_done.has; cut = inl ([], [], refl, start_made); passes = start_done.passes; heard = done.told }
 
 -- One more item waits.
 pub taken_more : {tells tells_images : Type 0} (opening : Opening) (feed : List FeedItem) (x : FeedItem) (batch more : List Captured) (events : List Event) (t0 : ℕ) (r : RecorderState) (disk : Disk tells tells_images)
@@ -166,9 +180,10 @@ taken_more opening feed x batch more events t0 r disk h is = record {
 }
 
 pub takes_more : {tells tells_images : Type 0} (opening : Opening) (feed : List FeedItem) (x : FeedItem) (batch more : List Captured) (events : List Event) (t0 : ℕ) (r : RecorderState) (old new : Disk tells tells_images)
-    → TakesOn opening feed batch events t0 r old new → more ≡ batch ++ captured_if (is_yes (verdict x.item.bytes)) feed x → TakesOn opening (feed ++ x ∷ []) more events t0 r old new
-takes_more opening feed x batch more events t0 r old new t is = record {
+    (hears : Type 0) (was now : Watched) → TakesOn opening feed batch events t0 r old new hears was now → more ≡ batch ++ captured_if (is_yes (verdict x.item.bytes)) feed x → TakesOn opening (feed ++ x ∷ []) more events t0 r old new hears was now
+takes_more opening feed x batch more events t0 r old new hears was now t is = record {
   more = t.more;
   taken = taken_more opening feed x batch more (events ++ t.more) t0 r new t.taken is;
   passes = t.passes;
+  heard = t.heard;
 }

@@ -13,7 +13,9 @@ use Rattle.vdr_opening.specs.declared.refused.OpenRefused.{OpenRefused}
 use Rattle.vdr_vault.specs.Openings.{OpensAtEachMoment}
 use Rattle.vdr_vault.specs.Regularity.{AreSound}
 use Rattle.vdr_vault.specs.Vaults.{ShowsHistory}
+use Rattle.vdr_recorder.specs.Headline.{IsHeard}
 use Rattle.vdr_recorder.specs.Recordings.{HasRecorded, Passes, RecorderState, start_of_opening}
+use Rattle.vdr_recorder.specs.Watched.{Tells, Watched, nothing_told as nothing_heard}
 use Rattle.vdr_recorder.proofs.Headlines.{after_opening, no_event_whole, only_opened, order_after, order_quiet}
 use Rattle.vdr_recorder.proofs.Playing.{plays}
 use Rattle.vdr_recorder.proofs.Resting.{stand_reads}
@@ -36,10 +38,6 @@ module _ {tells tells_images : Type 0} (x : Contents) where
   nothing_told after = record { records = refl; accounts = λ g. tt; reads = λ told is. let none : ⊥ = cc in absurd none }
 
   module _ (rose : Type 0) (old new : Disk tells tells_images) where
-    pub nothing_leaves : NothingIsRecorded x rose old new → LeavesHistory x rose old new
-    nothing_leaves (inl leaves) = inl leaves
-    nothing_leaves (inr h) = inr ([], NotStarted, h)
-
     -- What opening leaves, whatever it answers.
     pub opened_nothing : {T : Type 0} (reads : configuration x.text ≡ Ok x.config) → AreSound x → (result : Result T OpenRefused)
         → OpensAtEachMoment old new result (ShowsHistory (opening_of x) []) → NothingIsRecorded x rose old new
@@ -55,39 +53,40 @@ module _ {tells tells_images : Type 0} (x : Contents) (bytes : List ℕ) (now : 
     (entry : old.clock ≤ t0) (exit : t0 ≤ mid.clock) where
   pub begun_nothing : HasRecorded (opening_of x) [] t0 after new → Passes (opening_of x) [] mid new → NothingIsRecorded x rose old new
   begun_nothing has then =
-      inr (after_opening x reads (AccountsForFeed x new [] NotStarted) ((NotStarted ≡ Broken) × rose) old t0 mid new passes entry exit [] (order_quiet x sound [] refl)
-      has.history has.kept then (inl no_event_whole) (nothing_told x new))
+      inr (after_opening x reads (AccountsForFeed x new [] NotStarted) ((NotStarted ≡ Broken) × rose) old ⊥ nothing_heard t0 mid new passes entry exit [] (order_quiet x sound [] refl)
+      has.history has.kept then (inl no_event_whole) (nothing_told x new) (λ none. absurd none))
 
-  -- The events of a recorder
-  ran : (feed : List FeedItem) (end : RunEnd) (events : List Event) → HasRecorded (opening_of x) events t0 after new → Passes (opening_of x) events mid new
-      → IsWhole events ⊎ ((end ≡ Broken) × rose) → AccountsForFeed x new feed end events → ReplayHeadline x rose old new feed end
-  ran feed end events has then pending told = after_opening x reads (AccountsForFeed x new feed end) ((end ≡ Broken) × rose) old t0 mid new passes entry exit events
-      (order_after x sound t0 r mid opened events has.made) has.history has.kept then pending told
+  module _ (hears : Type 0) (was is_seen : Watched) (heard : hears → IsHeard (opening_of x) [] t0 old was) (left : Option (List ℕ)) (reader : Reading) (admits : Admits (limits_in x.config.groups)) where
+    -- The events of a recorder
+    ran : (feed : List FeedItem) (end : RunEnd) (events : List Event) → HasRecorded (opening_of x) events t0 after new → Passes (opening_of x) events mid new
+        → IsWhole events ⊎ ((end ≡ Broken) × rose) → AccountsForFeed x new feed end events → Tells hears (opening_of x) [] events was is_seen → ReplayHeadline x rose old new hears is_seen feed end
+    ran feed end events has then pending told tells = after_opening x reads (AccountsForFeed x new feed end) ((end ≡ Broken) × rose) old hears is_seen t0 mid new passes entry exit events
+        (order_after x sound t0 r mid opened events has.made) has.history has.kept then pending told
+        (λ hearing. let h = heard hearing in record { found = tells.found hearing ∙ h.found; opened = tells.synced hearing ∙ h.opened; told = tells.told hearing h.told })
 
-  module _ (left : Option (List ℕ)) (reader : Reading) (admits : Admits (limits_in x.config.groups)) where
-    closed : (r : Replayed) (h : HasRun (opening_of x) t0 left reader now x.config.groups after mid new r) → ReplayHeadline x rose old new h.feed Closed
+    closed : (r : Replayed) (h : HasRun (opening_of x) t0 left reader now x.config.groups after mid new hears was is_seen r) → ReplayHeadline x rose old new hears is_seen h.feed Closed
     closed r h = ran h.feed Closed h.closes.more h.closes.has h.closes.passes (inl ((whole_has_not_failed h.closes.more).1 (sym h.closes.has.failed ∙ h.works))) (record {
       records = h.closes.made;
       accounts = closed_accounts (start_of_opening (opening_of x)) h.feed (recorded h.closes.more) admits h.low h.closes.made;
       reads = λ told is.
           let w = (h.closes.has.works h.works).standing in
           plays x reads h.closes.more (order_after x sound t0 _ mid opened h.closes.more h.closes.has.made) new.reads (stand_reads (opening_of x) h.closes.more after.vault w.placed new w.stands told);
-    })
+    }) h.closes.heard
 
-    broken : rose → (h : HasBroken (opening_of x) t0 left reader now x.config.groups after mid new) → ReplayHeadline x rose old new h.feed Broken
+    broken : rose → (h : HasBroken (opening_of x) t0 left reader now x.config.groups after mid new hears was is_seen) → ReplayHeadline x rose old new hears is_seen h.feed Broken
     broken risen h = ran h.feed Broken h.breaks.more h.breaks.has h.breaks.passes (inr (refl, risen)) (record {
       records = cut_records (start_of_opening (opening_of x)) h.feed (recorded h.breaks.more) h.breaks.cut;
       accounts = cut_accounts (start_of_opening (opening_of x)) h.feed (recorded h.breaks.more) admits h.low h.breaks.cut;
       reads = λ told is. let none : ⊥ = cc in absurd none;
-    })
+    }) h.breaks.heard
 
     -- Whatever is known of the input.
     pub leaves : (result : Result Replayed ReplayRefused) → (result ≡ Err Media → rose)
-        → Runs (opening_of x) t0 left reader now x.config.groups after mid new result → LeavesHistory x rose old new
+        → Runs (opening_of x) t0 left reader now x.config.groups after mid new hears was is_seen result → LeavesHistory x rose old new hears is_seen
     leaves (Ok r) risen h = inr (h.feed, Closed, closed r h)
     leaves (Err Media) risen h = inr (h.feed, Broken, broken (risen refl) h)
-    leaves (Err Place) risen h = nothing_leaves x rose old new (begun_nothing h.1.has h.1.passes)
-    leaves (Err Tick) risen h = nothing_leaves x rose old new (begun_nothing h.2.has h.2.passes)
+    leaves (Err Place) risen h = inl (begun_nothing h.1.has h.1.passes)
+    leaves (Err Tick) risen h = inl (begun_nothing h.2.has h.2.passes)
     leaves (Err NoMemory) risen h = absurd h
     leaves (Err Input) risen h = absurd h
     leaves (Err (Refused number offset)) risen h = absurd h
@@ -96,7 +95,7 @@ module _ {tells tells_images : Type 0} (x : Contents) (bytes : List ℕ) (now : 
 
     -- Where it is known.
     pub answers : HasRead (Some bytes) left reader [] → (result : Result Replayed ReplayRefused) → (result ≡ Err Media → rose)
-        → Runs (opening_of x) t0 left reader now x.config.groups after mid new result → Answers x bytes now rose old new result
+        → Runs (opening_of x) t0 left reader now x.config.groups after mid new hears was is_seen result → Answers x bytes now rose old new hears is_seen result
     answers read (Ok r) risen h = record {
       feed = h.feed;
       read = h.read (Some bytes) read;

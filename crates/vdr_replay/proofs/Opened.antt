@@ -10,6 +10,7 @@ use Rattle.vdr_opening.specs.declared.refused.OpenRefused.TheVariants as refusal
 use Rattle.vdr_vault.specs.Openings.{LeavesAll, OpensAtEachMoment, WritesMissing}
 use Rattle.vdr_vault.specs.Regularity.{AreSound}
 use Rattle.vdr_vault.specs.Vaults.{ShowsHistory}
+use Rattle.vdr_recorder.specs.Watched.{Watched}
 use Rattle.vdr_feed.specs.Feed.{feed_header}
 use Rattle.vdr_feed.specs.Reader.{IfKnown}
 use Rattle.vdr_feed.specs.declared.fault.FeedFault.{FeedFault}
@@ -23,13 +24,13 @@ use Rattle.vdr_replay.specs.declared.ended.ReplayRefused.TheVariants.{NoMemory, 
 use Rattle.vdr_replay.proofs.Headlines.{opened_nothing}
 
 -- Opening was refused, or failed.
-pub open_stops : {tells tells_images T : Type 0} (x : Contents) (bytes : List ℕ) (now : Option (List ℕ)) (rose : Type 0) → configuration x.text ≡ Ok x.config → AreSound x → (old new : Disk tells tells_images) (result : Result T OpenRefused) (e : OpenRefused) → result ≡ Err e
+pub open_stops : {tells tells_images T : Type 0} (x : Contents) (bytes : List ℕ) (now : Option (List ℕ)) (rose : Type 0) → configuration x.text ≡ Ok x.config → AreSound x → (old new : Disk tells tells_images) (hears : Type 0) (w : Watched) (result : Result T OpenRefused) (e : OpenRefused) → result ≡ Err e
     → ((result ≡ Err refusals.NotFormatted) ⊎ ((m : ℕ) × (offset : ℕ) × (result ≡ Err (refusals.Damaged m offset))) → LeavesAll old new)
-    → (EndsMeet members (reading_of x) → OpensAtEachMoment old new result (ShowsHistory (opening_of x) [])) → Answers x bytes now rose old new (Err (refused_by_opening e))
-open_stops x bytes now rose reads sound old new result refusals.NoMemory is untouched moments = λ meet. opened_nothing x rose old new reads sound result (moments meet)
-open_stops x bytes now rose reads sound old new result refusals.NotFormatted is untouched moments = inl (untouched (inl is))
-open_stops x bytes now rose reads sound old new result (refusals.Damaged m offset) is untouched moments = inl (untouched (inr (m, offset, is)))
-open_stops x bytes now rose reads sound old new result refusals.Fault is untouched moments = λ meet. inl (opened_nothing x rose old new reads sound result (moments meet))
+    → (EndsMeet members (reading_of x) → OpensAtEachMoment old new result (ShowsHistory (opening_of x) [])) → Answers x bytes now rose old new hears w (Err (refused_by_opening e))
+open_stops x bytes now rose reads sound old new hears w result refusals.NoMemory is untouched moments = λ meet. opened_nothing x rose old new reads sound result (moments meet)
+open_stops x bytes now rose reads sound old new hears w result refusals.NotFormatted is untouched moments = inl (untouched (inl is))
+open_stops x bytes now rose reads sound old new hears w result (refusals.Damaged m offset) is untouched moments = inl (untouched (inr (m, offset, is)))
+open_stops x bytes now rose reads sound old new hears w result refusals.Fault is untouched moments = λ meet. inl (opened_nothing x rose old new reads sound result (moments meet))
 
 -- Damage is what opening names.
 pub damaged_by : (e : OpenRefused) (m offset : ℕ) → ◌≡◌ {A = Result Replayed ReplayRefused} (Err (refused_by_opening e)) (Err (Damaged m offset)) → e ≡ refusals.Damaged m offset

@@ -1,5 +1,6 @@
 -- How a run begins, or is refused, and what it comes to.
 use Rattle.std.proofs.Common.{◌≡◌, ◌⊎◌, ◌↔◌, inl, inr, ◌-◌, ◌<◌, ◌≤◌, ◌^◌, ℕ, ℤ, List, [], length, false, Option, option_map, Result, Ok, Err, ⊎_elim, sym, ap, ◌∙◌, subst, arith}
+use Rattle.std.specs.Prelude.{OnErr}
 use Rattle.std.proofs.lemmas.Bool.{cases_lt}
 use Rattle.std.proofs.lemmas.List.Elements.{All-nil}
 use Rattle.vdr_terms.specs.declared.rate.Rate.{Rate}
@@ -14,7 +15,7 @@ use Rattle.vdr_durability.proofs.Whole.{whole_has_not_failed}
 use Rattle.vdr_outside.specs.Disk.{Disk}
 use Rattle.vdr_feed.specs.Reader.{Reading}
 use Rattle.vdr_vault.specs.Vaults.{of_stamp}
-use Rattle.vdr_recorder.specs.Recordings.{HasDone, HasRecorded, Passes, RecorderState, start_of_opening}
+use Rattle.vdr_recorder.specs.Recordings.{HasRecorded, Passes, RecorderState, start_of_opening}
 use Rattle.vdr_run.specs.Starts.{stamp_of}
 use Rattle.vdr_recorder.specs.declared.run.StartRefused.{StartRefused}
 use Rattle.vdr_recorder.specs.declared.run.StartRefused.TheVariants as refusals
@@ -34,7 +35,9 @@ use Rattle.vdr_replay.specs.declared.ended.ReplayRefused.TheVariants as stops
 use Rattle.vdr_replay.specs.Refusals.{refused_by_start}
 use Rattle.vdr_replay.specs.Taking.{Closes}
 use Rattle.vdr_replay.proofs.Calls.{start_breaks}
+use Rattle.vdr_recorder.specs.Watched.{DoneAndTold, Watched}
 use Rattle.vdr_recorder.proofs.Passing.{passes_first}
+use Rattle.vdr_recorder.proofs.Telling.{tells_none}
 use Rattle.vdr_replay.proofs.Reading.{reached}
 
 abbrev pub Started : Type 0
@@ -71,10 +74,10 @@ module _ {tells tells_images : Type 0} (opening : Opening) (t0 : ℕ) (r : Recor
       }
 
   -- A refusal, or a fault of the Start
-  module _ (left : Option (List ℕ)) (reader : Reading) (now : Option (List ℕ)) (rates : List (Option Rate)) (after : RecorderState) (new : Disk tells tells_images) (works : r.vault.failed ≡ false) where
-    pub start_stops : (e : StartRefused) → start ≡ Err e → ((start ≡ Err refusals.Place) ⊎ (start ≡ Err refusals.Tick) → HasNotBegun opening t0 left reader now rates after old new)
-        → ((start ≡ Err refusals.Place → ⊥) → (start ≡ Err refusals.Tick → ⊥) → HasDone opening [] t0 (Commit (begun (next_start (state_left opening []))).made []) after old new)
-        → Runs opening t0 left reader now rates after old new (Err (refused_by_start e))
+  module _ (left : Option (List ℕ)) (reader : Reading) (now : Option (List ℕ)) (rates : List (Option Rate)) (after : RecorderState) (new : Disk tells tells_images) (hears : Type 0) (was is_seen : Watched) (works : r.vault.failed ≡ false) where
+    pub start_stops : (e : StartRefused) → start ≡ Err e → ((start ≡ Err refusals.Place) ⊎ (start ≡ Err refusals.Tick) → HasNotBegun opening t0 left reader now rates after old new hears was is_seen)
+        → ((start ≡ Err refusals.Place → ⊥) → (start ≡ Err refusals.Tick → ⊥) → DoneAndTold hears opening [] t0 (Commit (begun (next_start (state_left opening []))).made []) after old new was is_seen)
+        → Runs opening t0 left reader now rates after old new hears was is_seen (Err (refused_by_start e))
     start_stops refusals.Place is not_begun done = (subst (λ (n : ℕ). 2 ^ 62 ≤ n) place_is (place.0 is), not_begun (inl is))
     start_stops refusals.Tick is not_begun done =
         let late = tick.0 is in (
@@ -88,7 +91,7 @@ module _ {tells tells_images : Type 0} (opening : Opening) (t0 : ℕ) (r : Recor
       known = All-nil (λ (i : FeedItem). HasRate rates i.group);
       low = All-nil (λ (i : FeedItem). i.group < 16);
       may = may_begin (fault_is_no_place start is) (fault_is_no_tick start is);
-      breaks = start_breaks opening t0 r after old new h works (done (fault_is_no_place start is) (fault_is_no_tick start is));
+      breaks = start_breaks opening t0 r after old new hears was is_seen h works (done (fault_is_no_place start is) (fault_is_no_tick start is));
     }
 
 -- What the start decides by the recorder alone
@@ -137,19 +140,24 @@ decides_as x place newest config first left now reader place_is newest_is config
     go (Err (stops.Damaged m offset)) h = tt
     go (Err stops.Media) h = tt
 
+-- What holds after an error.
+pub untold_by : {P : Type 0} (start : Started) (e : StartRefused) → start ≡ Err e → OnErr start P → P
+untold_by {P} start e is h = subst (λ (r : Started). OnErr r P) is h
+
 -- Where nothing was called the run was not begun.
 pub not_begun : {tells tells_images : Type 0} (opening : Opening) (t0 : ℕ) (left : Option (List ℕ)) (reader : Reading) (now : Option (List ℕ)) (rates : List (Option Rate)) (r after : RecorderState) (old new : Disk tells tells_images)
-    → HasRecorded opening [] t0 r old → after ≡ r → new ≡ old → HasNotBegun opening t0 left reader now rates after old new
-not_begun {tells} {tells_images} opening t0 left reader now rates r after old new h same still = record {
+    (hears : Type 0) (was is : Watched) → HasRecorded opening [] t0 r old → after ≡ r → new ≡ old → (hears → is ≡ was) → HasNotBegun opening t0 left reader now rates after old new hears was is
+not_begun {tells} {tells_images} opening t0 left reader now rates r after old new hears was is h same still untold = record {
   has = subst (λ (d : Disk tells tells_images). HasRecorded opening [] t0 after d) (sym still) (subst (λ (s : RecorderState). HasRecorded opening [] t0 s old) (sym same) h);
   passes = subst (λ (d : Disk tells tells_images). Passes opening [] old d) (sym still) (passes_first opening [] old);
+  heard = tells_none untold;
 }
 
 -- So many records has a run that was closed.
-pub run_total : {tells tells_images : Type 0} (opening : Opening) (feed : List FeedItem) (t0 : ℕ) (r after : RecorderState) (old mid new : Disk tells tells_images) → HasRecorded opening [] t0 r old → after.vault.failed ≡ false
-    → (closes : Closes opening feed [] t0 after mid new) → (first last total : ℕ) → first ≡ r.vault.next_place → last ≡ after.vault.next_place → total ≡ last - first
+pub run_total : {tells tells_images : Type 0} (opening : Opening) (feed : List FeedItem) (t0 : ℕ) (r after : RecorderState) (old mid new : Disk tells tells_images) (hears : Type 0) (was is_seen : Watched) → HasRecorded opening [] t0 r old → after.vault.failed ≡ false
+    → (closes : Closes opening feed [] t0 after mid new hears was is_seen) → (first last total : ℕ) → first ≡ r.vault.next_place → last ≡ after.vault.next_place → total ≡ last - first
     → total ≡ length (feed_records (start_of_opening opening) feed)
-run_total opening feed t0 r after old mid new h works closes first last total begins ends is =
+run_total opening feed t0 r after old mid new hears was is_seen h works closes first last total begins ends is =
     let a = h.told.place in
     let b = closes.has.told.place in
     let c = left_place opening closes.more ((whole_has_not_failed closes.more).1 (sym closes.has.failed ∙ works)) in

@@ -13,6 +13,7 @@ use Rattle.vdr_media.specs.Formatted.{IsFormatted}
 use Rattle.vdr_opening.specs.Media.{members, Contents, HoldsParts, opening_of, reading_of}
 use Rattle.vdr_recorder.specs.Recordings.{start_of_opening}
 use Rattle.vdr_recorder.specs.Refusals.{MayBegin}
+use Rattle.vdr_recorder.specs.Watched.{Watched}
 use Rattle.vdr_replay.specs.declared.ended.Replayed.{Replayed}
 use Rattle.vdr_replay.specs.declared.ended.ReplayRefused.{ReplayRefused}
 use Rattle.vdr_replay.specs.declared.ended.ReplayRefused.TheVariants.{NoMemory, Input, Refused, NotFormatted, Damaged, Place, Tick, Media}
@@ -21,14 +22,14 @@ use Rattle.vdr_replay.specs.Headline.{NothingIsRecorded, ReplayHeadline}
 use Rattle.vdr_replay.specs.Headline.RunEnd.{Closed, Broken}
 use Rattle.vdr_replay.specs.Summary.{AreSums}
 
-module _ {tells tells_images : Type 0} (x : Contents) (bytes : List ℕ) (now : Option (List ℕ)) (rose : Type 0) (before after : Disk tells tells_images) where
+module _ {tells tells_images : Type 0} (x : Contents) (bytes : List ℕ) (now : Option (List ℕ)) (rose : Type 0) (before after : Disk tells tells_images) (hears : Type 0) (w : Watched) where
   -- The feed up to its end, or to what was refused or failed, is recorded as one run that was closed.
   pub record IsRecorded (r : Replayed) : Type 0 where
     pub feed : List FeedItem
     pub read : ReadsFeed x.config.groups bytes now r.end feed
     pub configured : AreConfigured x.config.groups feed
     pub may : MayBegin (opening_of x)
-    pub left : ReplayHeadline x rose before after feed Closed
+    pub left : ReplayHeadline x rose before after hears w feed Closed
     pub sums : AreSums x.config.groups (λ g. items_of g feed) (feed_records (start_of_opening (opening_of x)) feed) r.groups
     pub total : r.records ≡ length (feed_records (start_of_opening (opening_of x)) feed)
 
@@ -39,7 +40,7 @@ module _ {tells tells_images : Type 0} (x : Contents) (bytes : List ℕ) (now : 
     pub read : Reaches longest_feed bytes feed rest
     pub configured : AreConfigured x.config.groups feed
     pub may : MayBegin (opening_of x)
-    pub left : ReplayHeadline x rose before after feed Broken
+    pub left : ReplayHeadline x rose before after hears w feed Broken
 
   -- Of media whose ends don't meet nothing is said where opening them failed or had no memory.
   abbrev pub Answers : Result Replayed ReplayRefused → Type 0

@@ -11,7 +11,8 @@ use Rattle.vdr_outside.specs.Disk.{Disk}
 use Rattle.vdr_opening.specs.Media.{Contents, opening_of}
 use Rattle.vdr_vault.specs.Openings.{LeavesAll}
 use Rattle.vdr_recorder.specs.Recordings.{start_of_opening}
-use Rattle.vdr_recorder.specs.Headline.{PlaysBack, RecordingHeadline}
+use Rattle.vdr_recorder.specs.Headline.{PlaysBack, RecordingHeadline, ToldHeadline}
+use Rattle.vdr_recorder.specs.Watched.{Watched}
 
 -- How far the run came.
 pub data RunEnd : Type 0 where
@@ -39,16 +40,16 @@ pub record AccountsForFeed {tells tells_images : Type 0} (x : Contents) (after :
   -- what the media read as at the return plays back all of a run that was closed
   pub reads : tells → end ≡ Closed → PlaysBack (opening_of x) events after.reads
 
-module _ {tells tells_images : Type 0} (x : Contents) (rose : Type 0) (before after : Disk tells tells_images) where
-  -- The media at entry, which held these contents, and at the return; what was read of the feed; and how the run ended. `rose`: the media's
-  -- count of faults rose in the call.
-  abbrev pub ReplayHeadline : List FeedItem → RunEnd → Type 0
-  ReplayHeadline feed end = RecordingHeadline x (AccountsForFeed x after feed end) ((end ≡ Broken) × rose) before after
+-- Nothing was recorded: a stop leaves what it might have left at entry, or the media were opened.
+abbrev pub NothingIsRecorded : {tells tells_images : Type 0} → Contents → (rose : Type 0) → (before after : Disk tells tells_images) → Type 0
+NothingIsRecorded x rose before after = LeavesAll before after ⊎ RecordingHeadline x (AccountsForFeed x after [] NotStarted) ((NotStarted ≡ Broken) × rose) before after
 
-  -- Nothing was recorded: a stop leaves what it might have left at entry, or the media were opened.
-  abbrev pub NothingIsRecorded : Type 0
-  NothingIsRecorded = LeavesAll before after ⊎ ReplayHeadline [] NotStarted
+module _ {tells tells_images : Type 0} (x : Contents) (rose : Type 0) (before after : Disk tells tells_images) (hears : Type 0) (w : Watched) where
+  -- The media at entry, which held these contents, and at the return; what was read of the feed; and how the run ended. `rose`: the media's
+  -- count of faults rose in the call. `w`: what an object outside was told, where it `hears`.
+  abbrev pub ReplayHeadline : List FeedItem → RunEnd → Type 0
+  ReplayHeadline feed end = ToldHeadline x (AccountsForFeed x after feed end) ((end ≡ Broken) × rose) before after hears w
 
   -- Whatever is known of the input: the call wrote nothing, or what it left is one history of some feed.
   abbrev pub LeavesHistory : Type 0
-  LeavesHistory = LeavesAll before after ⊎ ((feed : List FeedItem) × (end : RunEnd) × ReplayHeadline feed end)
+  LeavesHistory = NothingIsRecorded x rose before after ⊎ ((feed : List FeedItem) × (end : RunEnd) × ReplayHeadline feed end)

@@ -10,6 +10,7 @@ use Rattle.vdr_feed.specs.Feed.{Reaches, longest_feed}
 use Rattle.vdr_feed.specs.Reader.{IfKnown, Reading}
 use Rattle.vdr_recorder.specs.Recordings.{HasRecorded, Passes, RecorderState, start_of_opening}
 use Rattle.vdr_recorder.specs.Refusals.{MayBegin}
+use Rattle.vdr_recorder.specs.Watched.{Tells, Watched}
 use Rattle.vdr_run.specs.Starts.{stamp_of}
 use Rattle.vdr_replay.specs.Feeding.{AreConfigured, ReadsFeed}
 use Rattle.vdr_feed.specs.Progress.{HasRead}
@@ -20,7 +21,7 @@ use Rattle.vdr_replay.specs.declared.ended.ReplayRefused.{ReplayRefused}
 use Rattle.vdr_replay.specs.declared.ended.ReplayRefused.TheVariants.{NoMemory, Input, Refused, NotFormatted, Damaged, Place, Tick, Media}
 
 module _ {tells tells_images : Type 0} (opening : Opening) (t0 : ℕ) (left : Option (List ℕ)) (reader : Reading) (now : Option (List ℕ)) (rates : List (Option Rate))
-    (after : RecorderState) (old new : Disk tells tells_images) where
+    (after : RecorderState) (old new : Disk tells tells_images) (hears : Type 0) (was is : Watched) where
   -- The run was closed.
   pub record HasRun (r : Replayed) : Type 0 where
     pub feed : List FeedItem
@@ -29,7 +30,7 @@ module _ {tells tells_images : Type 0} (opening : Opening) (t0 : ℕ) (left : Op
     pub low : All (λ i. i.group < 16) feed
     pub may : MayBegin opening
     pub works : after.vault.failed ≡ false
-    pub closes : Closes opening feed [] t0 after old new
+    pub closes : Closes opening feed [] t0 after old new hears was is
     pub sums : AreSums rates (λ g. items_of g feed) (feed_records (start_of_opening opening) feed) r.groups
     pub total : r.records ≡ length (feed_records (start_of_opening opening) feed)
 
@@ -40,12 +41,13 @@ module _ {tells tells_images : Type 0} (opening : Opening) (t0 : ℕ) (left : Op
     pub known : AreConfigured rates feed
     pub low : All (λ i. i.group < 16) feed
     pub may : MayBegin opening
-    pub breaks : BreaksOff opening feed [] t0 after old new
+    pub breaks : BreaksOff opening feed [] t0 after old new hears was is
 
   -- The run was not begun.
   pub record HasNotBegun : Type 0 where
     pub has : HasRecorded opening [] t0 after new
     pub passes : Passes opening [] old new
+    pub heard : Tells hears opening [] [] was is
 
   abbrev pub Runs : Result Replayed ReplayRefused → Type 0
   Runs (Ok r) = HasRun r

@@ -12,6 +12,7 @@ use Rattle.vdr_opening.specs.Refusals.{IsRefused}
 use Rattle.vdr_vault.specs.Calls.{SameElsewhere}
 use Rattle.vdr_vault.specs.Openings.{LeavesAll, WritesMissing}
 use Rattle.vdr_vault.specs.Regularity.{AreSound}
+use Rattle.vdr_recorder.specs.Watched.{Watched}
 use Rattle.vdr_replay.specs.Answers.{Answers, Decides, EndsAtHeader, HasReplayCause, IfOpened, IsOpenable, RefusesMedia, RefusesRun, TellsHeader}
 use Rattle.vdr_replay.specs.Headline.{LeavesHistory}
 use Rattle.vdr_replay.specs.declared.ended.FeedEnd.TheVariants.{Whole, Input as InputEnds}
@@ -19,17 +20,18 @@ use Rattle.vdr_replay.specs.declared.ended.Replayed.{Replayed}
 use Rattle.vdr_replay.specs.declared.ended.ReplayRefused.{ReplayRefused}
 use Rattle.vdr_replay.specs.declared.ended.ReplayRefused.TheVariants.{Damaged, Input, NotFormatted}
 
--- The media were `old` and the input `before` at entry, and they are `new` and `after` at the return.
+-- The media were `old` and the input `before` at entry, and they are `new` and `after` at the return. `w`: what an object outside was told, where
+-- it `hears`.
 pub record ReplaysFeed {M I : Type 0} (media : MediaTells M) (source : SourceTells I) (old new : M) (before after : I)
-    (result : Result Replayed ReplayRefused) : Type 0 where
+    (hears : Type 0) (w : Watched) (result : Result Replayed ReplayRefused) : Type 0 where
   -- What is recorded, and what a stop leaves.
 
   -- of a feed that is known, one history of it, whole and at every moment
   pub replayed : (x : Contents) (bytes : List ℕ) → media.tells → HoldsContents (media.disk old).reads x → AreSound x → source.left before ≡ Some bytes
-      → Answers x bytes (source.left after) (Rose (sum (media.faults old)) (sum (media.faults new))) (media.disk old) (media.disk new) result
+      → Answers x bytes (source.left after) (Rose (sum (media.faults old)) (sum (media.faults new))) (media.disk old) (media.disk new) hears w result
   -- of any feed, one history of some feed
   pub left : (x : Contents) → media.tells → HoldsContents (media.disk old).reads x → EndsMeet members (reading_of x) → AreSound x
-      → LeavesHistory x (Rose (sum (media.faults old)) (sum (media.faults new))) (media.disk old) (media.disk new)
+      → LeavesHistory x (Rose (sum (media.faults old)) (sum (media.faults new))) (media.disk old) (media.disk new) hears w
   -- of media that are not formatted, what it might have left before
   pub blank : media.tells → IsUnformatted (media.disk old).reads → LeavesAll (media.disk old) (media.disk new)
   -- What each answer says of the feed and of the media at entry.

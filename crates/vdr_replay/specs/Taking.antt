@@ -13,6 +13,7 @@ use Rattle.vdr_feed.specs.Feed.{Reaches, longest_feed}
 use Rattle.vdr_feed.specs.Reader.{IfKnown, Reading}
 use Rattle.vdr_run.specs.Making.{CountsItems}
 use Rattle.vdr_recorder.specs.Recordings.{HasRecorded, Passes, RecorderState, start_of_opening}
+use Rattle.vdr_recorder.specs.Watched.{Tells, Watched}
 use Rattle.vdr_replay.specs.declared.ended.FeedEnd.{FeedEnd}
 use Rattle.vdr_replay.specs.declared.lanes.Lanes.{Lanes}
 use Rattle.vdr_replay.specs.Feeding.{AreConfigured, ReadsFeed}
@@ -37,53 +38,56 @@ module _ {tells tells_images : Type 0} where
 
   -- After a call it has so much of the feed, by further events.
   pub record TakesOn (opening : Opening) (feed : List FeedItem) (batch : List Captured) (before : List Event) (t0 : ℕ)
-      (r : RecorderState) (old new : Disk tells tells_images) : Type 0 where
+      (r : RecorderState) (old new : Disk tells tells_images) (hears : Type 0) (was is : Watched) : Type 0 where
     pub more : List Event
     pub taken : HasTaken opening feed batch (before ++ more) t0 r new
     pub passes : Passes opening (before ++ more) old new
+    pub heard : Tells hears opening before (before ++ more) was is
 
   -- The media failed in the call. Of this part of a feed the first records were made.
   pub record BreaksOff (opening : Opening) (feed : List FeedItem) (before : List Event) (t0 : ℕ)
-      (r : RecorderState) (old new : Disk tells tells_images) : Type 0 where
+      (r : RecorderState) (old new : Disk tells tells_images) (hears : Type 0) (was is : Watched) : Type 0 where
     pub more : List Event
     pub has : HasRecorded opening (before ++ more) t0 r new
     pub cut : IsCut (start_of_opening opening) feed (recorded (before ++ more))
     pub passes : Passes opening (before ++ more) old new
+    pub heard : Tells hears opening before (before ++ more) was is
 
   -- The run over the feed was closed in the call.
   pub record Closes (opening : Opening) (feed : List FeedItem) (before : List Event) (t0 : ℕ)
-      (r : RecorderState) (old new : Disk tells tells_images) : Type 0 where
+      (r : RecorderState) (old new : Disk tells tells_images) (hears : Type 0) (was is : Watched) : Type 0 where
     pub more : List Event
     pub has : HasRecorded opening (before ++ more) t0 r new
     pub made : recorded (before ++ more) ≡ feed_records (start_of_opening opening) feed
     pub counts : CountsItems (start_of_opening opening) (taken_of [] feed) r.maker
     pub passes : Passes opening (before ++ more) old new
+    pub heard : Tells hears opening before (before ++ more) was is
 
   -- The feed was read up to its end, or to what was refused or failed, and taken.
   pub record TakesFeed (left : Option (List ℕ)) (reader : Reading) (now : Option (List ℕ)) (end : FeedEnd) (lanes : Lanes) (before after : RecorderState)
-      (old new : Disk tells tells_images) : Type 0 where
+      (old new : Disk tells tells_images) (hears : Type 0) (was is : Watched) : Type 0 where
     pub feed : List FeedItem
     pub read : (first : Option (List ℕ)) → HasRead first left reader [] → IfKnown first (λ bytes. ReadsFeed before.vault.config.groups bytes now end feed)
     pub held : HoldsFeed after.vault.config feed lanes after.maker
     pub told : (opening : Opening) (events : List Event) (t0 : ℕ) → tells → HasTaken opening [] [] events t0 before old
-        → TakesOn opening feed lanes.batch.items events t0 after old new
+        → TakesOn opening feed lanes.batch.items events t0 after old new hears was is
 
   -- The same, and the run was closed.
   pub record RecordsFeed (left : Option (List ℕ)) (reader : Reading) (now : Option (List ℕ)) (end : FeedEnd) (lanes : Lanes) (before after : RecorderState)
-      (old new : Disk tells tells_images) : Type 0 where
+      (old new : Disk tells tells_images) (hears : Type 0) (was is : Watched) : Type 0 where
     pub feed : List FeedItem
     pub read : (first : Option (List ℕ)) → HasRead first left reader [] → IfKnown first (λ bytes. ReadsFeed before.vault.config.groups bytes now end feed)
     pub counts : CountsFeed feed lanes.ports
     pub known : AreConfigured before.vault.config.groups feed
     pub low : All (λ i. i.group < 16) feed
     pub told : (opening : Opening) (events : List Event) (t0 : ℕ) → tells → HasTaken opening [] [] events t0 before old
-        → Closes opening feed events t0 after old new
+        → Closes opening feed events t0 after old new hears was is
 
   -- The media failed while the feed was read and recorded.
-  pub record BreaksFeed (left : Option (List ℕ)) (reader : Reading) (before after : RecorderState) (old new : Disk tells tells_images) : Type 0 where
+  pub record BreaksFeed (left : Option (List ℕ)) (reader : Reading) (before after : RecorderState) (old new : Disk tells tells_images) (hears : Type 0) (was is : Watched) : Type 0 where
     pub feed : List FeedItem
     pub read : (first : Option (List ℕ)) → HasRead first left reader [] → IfKnown first (λ bytes. (rest : List ℕ) × Reaches longest_feed bytes feed rest)
     pub known : AreConfigured before.vault.config.groups feed
     pub low : All (λ i. i.group < 16) feed
     pub told : (opening : Opening) (events : List Event) (t0 : ℕ) → tells → HasTaken opening [] [] events t0 before old
-        → BreaksOff opening feed events t0 after old new
+        → BreaksOff opening feed events t0 after old new hears was is

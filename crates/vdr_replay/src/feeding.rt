@@ -17,6 +17,7 @@ ghost use Rattle.vdr_feed.specs.Feed.{longest_feed};
 ghost use Rattle.vdr_replay.specs.Feeding.{HasRate, ReadsFeed};
 ghost use Rattle.vdr_replay.specs.Given.{HoldsFeed};
 ghost use Rattle.vdr_feed.specs.Progress.{HasRead};
+ghost use Rattle.vdr_recorder.specs.Watched.{IsWatched};
 ghost use Rattle.vdr_replay.specs.Taking.{BreaksFeed, BreaksOff, HasTaken, TakesFeed, TakesOn};
 ghost use Rattle.vdr_replay.specs.declared.ended.FeedEnd.TheVariants.{Whole, Input};
 
@@ -25,7 +26,7 @@ use crate::lanes::Lanes;
 use vdr_config::Config;
 use vdr_feed::{FeedFault, FeedReader, Item};
 use vdr_outside::{Fault, Media, Source};
-use vdr_recorder::Recorder;
+use vdr_recorder::{Recorder, Watch};
 
 // The number by which an item of a strange group is refused.
 const STRANGE_GROUP: u8 = 4;
@@ -66,22 +67,24 @@ fn read_next<I: Source>(
 }
 
 // Records the batch, where it has no room for the item.
-fn make_room<M: Media>(
+fn make_room<M: Media, W: Watch<M>>(
     recorder: &mut Recorder,
     media: &mut M,
+    watch: &mut W,
     lanes: &mut Lanes,
     item: &Item,
 ) -> Result<(), Fault>
     requires rings { AreRings recorder.old.vault (M.disk media.old).sizes }
     requires open { recorder.old.is_open ≡ true }
     requires works { recorder.old.vault.failed ≡ false }
+    requires watched { IsWatched W.hears (W.seen watch.old) recorder.old (M.disk media.old) }
     requires held { (feed : List FeedItem) × HoldsFeed recorder.old.vault.config feed lanes.old recorder.old.maker }
     ensures taken { (opening : Opening) (feed : List FeedItem) (events : List Event) (t0 : ℕ) → M.tells
         → HasTaken opening feed lanes.old.batch.items events t0 recorder.old (M.disk media.old)
-        → OnOk result (TakesOn opening feed lanes.new.batch.items events t0 recorder.new (M.disk media.old) (M.disk media.new)) }
+        → OnOk result (TakesOn opening feed lanes.new.batch.items events t0 recorder.new (M.disk media.old) (M.disk media.new) W.hears (W.seen watch.old) (W.seen watch.new)) }
     ensures broken { (opening : Opening) (feed : List FeedItem) (events : List Event) (t0 : ℕ) → M.tells
         → HasTaken opening feed lanes.old.batch.items events t0 recorder.old (M.disk media.old)
-        → OnErr result (BreaksOff opening feed events t0 recorder.new (M.disk media.old) (M.disk media.new)) }
+        → OnErr result (BreaksOff opening feed events t0 recorder.new (M.disk media.old) (M.disk media.new) W.hears (W.seen watch.old) (W.seen watch.new)) }
     ensures held { OnOk result ((feed : List FeedItem) → HoldsFeed recorder.old.vault.config feed lanes.old recorder.old.maker
         → HoldsFeed recorder.new.vault.config feed lanes.new recorder.new.maker) }
     ensures room { OnOk result (lanes.new.size + item_bytes item.now ≤ lanes.new.room) }
@@ -92,33 +95,36 @@ fn make_room<M: Media>(
     ensures others { M.tells → SameElsewhere (M.disk media.old).reads (M.disk media.new).reads }
     ensures sizes { (M.disk media.new).sizes ≡ (M.disk media.old).sizes }
     ensures cause { HasCauseOnBoth (M.faults media.old) (M.faults media.new) result }
+    ensures watched { IsWatched W.hears (W.seen watch.new) recorder.new (M.disk media.new) }
 {
     if lanes.has_room(item) {
         return Ok(());
     }
-    lanes.record(recorder, media)
+    lanes.record(recorder, media, watch)
 }
 
 // Takes an item of a configured group, once the batch has room for it.
-fn take_item<M: Media>(
+fn take_item<M: Media, W: Watch<M>>(
     recorder: &mut Recorder,
     media: &mut M,
+    watch: &mut W,
     lanes: &mut Lanes,
     item: &Item,
 ) -> Result<(), Fault>
     requires rings { AreRings recorder.old.vault (M.disk media.old).sizes }
     requires open { recorder.old.is_open ≡ true }
     requires works { recorder.old.vault.failed ≡ false }
+    requires watched { IsWatched W.hears (W.seen watch.old) recorder.old (M.disk media.old) }
     requires legal { IsLegalItem item.now }
     requires configured { HasRate recorder.old.vault.config.groups item.now.group }
     requires held { (feed : List FeedItem) × HoldsFeed recorder.old.vault.config feed lanes.old recorder.old.maker × (length feed < longest_feed) }
     ensures taken { (opening : Opening) (feed : List FeedItem) (x : FeedItem) (events : List Event) (t0 : ℕ) → M.tells → Holds item.now x
         → HoldsFeed recorder.old.vault.config feed lanes.old recorder.old.maker
         → HasTaken opening feed lanes.old.batch.items events t0 recorder.old (M.disk media.old)
-        → OnOk result (TakesOn opening (feed ++ x ∷ []) lanes.new.batch.items events t0 recorder.new (M.disk media.old) (M.disk media.new)) }
+        → OnOk result (TakesOn opening (feed ++ x ∷ []) lanes.new.batch.items events t0 recorder.new (M.disk media.old) (M.disk media.new) W.hears (W.seen watch.old) (W.seen watch.new)) }
     ensures broken { (opening : Opening) (feed : List FeedItem) (events : List Event) (t0 : ℕ) → M.tells
         → HasTaken opening feed lanes.old.batch.items events t0 recorder.old (M.disk media.old)
-        → OnErr result (BreaksOff opening feed events t0 recorder.new (M.disk media.old) (M.disk media.new)) }
+        → OnErr result (BreaksOff opening feed events t0 recorder.new (M.disk media.old) (M.disk media.new) W.hears (W.seen watch.old) (W.seen watch.new)) }
     ensures held { OnOk result ((feed : List FeedItem) (x : FeedItem) → HoldsFeed recorder.old.vault.config feed lanes.old recorder.old.maker
         → length feed < longest_feed → Holds item.now x → HoldsFeed recorder.new.vault.config (feed ++ x ∷ []) lanes.new recorder.new.maker) }
     ensures works { OnOk result (recorder.new.vault.failed ≡ false) }
@@ -128,16 +134,18 @@ fn take_item<M: Media>(
     ensures others { M.tells → SameElsewhere (M.disk media.old).reads (M.disk media.new).reads }
     ensures sizes { (M.disk media.new).sizes ≡ (M.disk media.old).sizes }
     ensures cause { HasCauseOnBoth (M.faults media.old) (M.faults media.new) result }
+    ensures watched { IsWatched W.hears (W.seen watch.new) recorder.new (M.disk media.new) }
 {
-    make_room(recorder, media, lanes, item)?;
+    make_room(recorder, media, watch, lanes, item)?;
     lanes.take(item);
     Ok(())
 }
 
 /// Takes the items of the feed, up to its end, or to what is refused or fails.
-pub(crate) fn take_all<I: Source, M: Media>(
+pub(crate) fn take_all<I: Source, M: Media, W: Watch<M>>(
     recorder: &mut Recorder,
     media: &mut M,
+    watch: &mut W,
     lanes: &mut Lanes,
     reader: &mut FeedReader,
     input: &mut I,
@@ -145,11 +153,12 @@ pub(crate) fn take_all<I: Source, M: Media>(
     requires rings { AreRings recorder.old.vault (M.disk media.old).sizes }
     requires open { recorder.old.is_open ≡ true }
     requires works { recorder.old.vault.failed ≡ false }
+    requires watched { IsWatched W.hears (W.seen watch.old) recorder.old (M.disk media.old) }
     requires read { (first : Option (List ℕ)) × HasRead first (I.left input.old) reader.old [] }
     requires held { HoldsFeed recorder.old.vault.config [] lanes.old recorder.old.maker }
     requires empty { lanes.old.batch.items ≡ [] }
-    ensures taken { IfOk result (λ end. TakesFeed (I.left input.old) reader.old (I.left input.new) end lanes.new recorder.old recorder.new (M.disk media.old) (M.disk media.new)) }
-    ensures broken { OnErr result (BreaksFeed (I.left input.old) reader.old recorder.old recorder.new (M.disk media.old) (M.disk media.new)) }
+    ensures taken { IfOk result (λ end. TakesFeed (I.left input.old) reader.old (I.left input.new) end lanes.new recorder.old recorder.new (M.disk media.old) (M.disk media.new) W.hears (W.seen watch.old) (W.seen watch.new)) }
+    ensures broken { OnErr result (BreaksFeed (I.left input.old) reader.old recorder.old recorder.new (M.disk media.old) (M.disk media.new) W.hears (W.seen watch.old) (W.seen watch.new)) }
     ensures whole { IfOk result (λ end. end ≡ Whole → IsAtEnd (I.left input.new)) }
     ensures failed { IfOk result (λ end. end ≡ Input → Rose (I.faults input.old) (I.faults input.new)) }
     ensures later { I.faults input.old ≤ I.faults input.new }
@@ -160,12 +169,13 @@ pub(crate) fn take_all<I: Source, M: Media>(
     ensures others { M.tells → SameElsewhere (M.disk media.old).reads (M.disk media.new).reads }
     ensures sizes { (M.disk media.new).sizes ≡ (M.disk media.old).sizes }
     ensures cause { HasCauseOnBoth (M.faults media.old) (M.faults media.new) result }
+    ensures watched { IsWatched W.hears (W.seen watch.new) recorder.new (M.disk media.new) }
 {
     let mut item = Item::new();
     loop {
         if let Some(end) = read_next(recorder.config(), reader, input, &mut item) {
             return Ok(end);
         }
-        take_item(recorder, media, lanes, &item)?;
+        take_item(recorder, media, watch, lanes, &item)?;
     }
 }

@@ -21,7 +21,7 @@ use vdr_config::Config;
 use vdr_feed::Item;
 use vdr_intake::CapturedBuffer;
 use vdr_outside::{Fault, Media};
-use vdr_recorder::{LEAST_ITEM, Recorder};
+use vdr_recorder::{LEAST_ITEM, Recorder, Watch};
 use vdr_run::Ports;
 
 /// The counts of each group's port, and the items that the next batch takes.
@@ -44,6 +44,7 @@ fn item_size(item: &Item) -> usize
 impl Lanes {
     ghost use Rattle.vdr_run.specs.Given.{CountsFeed};
     ghost use Rattle.vdr_replay.specs.Given.{HasBatch, HoldsFeed, IsSized};
+    ghost use Rattle.vdr_recorder.specs.Watched.{IsWatched};
     ghost use Rattle.vdr_replay.specs.Taking.{BreaksOff, HasTaken, TakesOn};
 
     /// Nothing was given. Memory for one batch is taken here, and none later.
@@ -98,21 +99,23 @@ impl Lanes {
     }
 
     /// Records what is in the batch, which is empty then.
-    pub(crate) fn record<M: Media>(
+    pub(crate) fn record<M: Media, W: Watch<M>>(
         &mut self,
         recorder: &mut Recorder,
         media: &mut M,
+        watch: &mut W,
     ) -> Result<(), Fault>
         requires rings { AreRings recorder.old.vault (M.disk media.old).sizes }
         requires open { recorder.old.is_open ≡ true }
         requires works { recorder.old.vault.failed ≡ false }
         requires held { (feed : List FeedItem) × HoldsFeed recorder.old.vault.config feed self.old recorder.old.maker }
+        requires watched { IsWatched W.hears (W.seen watch.old) recorder.old (M.disk media.old) }
         ensures taken { (opening : Opening) (feed : List FeedItem) (events : List Event) (t0 : ℕ) → M.tells
             → HasTaken opening feed self.old.batch.items events t0 recorder.old (M.disk media.old)
-            → OnOk result (TakesOn opening feed [] events t0 recorder.new (M.disk media.old) (M.disk media.new)) }
+            → OnOk result (TakesOn opening feed [] events t0 recorder.new (M.disk media.old) (M.disk media.new) W.hears (W.seen watch.old) (W.seen watch.new)) }
         ensures broken { (opening : Opening) (feed : List FeedItem) (events : List Event) (t0 : ℕ) → M.tells
             → HasTaken opening feed self.old.batch.items events t0 recorder.old (M.disk media.old)
-            → OnErr result (BreaksOff opening feed events t0 recorder.new (M.disk media.old) (M.disk media.new)) }
+            → OnErr result (BreaksOff opening feed events t0 recorder.new (M.disk media.old) (M.disk media.new) W.hears (W.seen watch.old) (W.seen watch.new)) }
         ensures held { OnOk result ((feed : List FeedItem) → HoldsFeed recorder.old.vault.config feed self.old recorder.old.maker
             → HoldsFeed recorder.new.vault.config feed self.new recorder.new.maker) }
         ensures empty { OnOk result (self.new.batch.items ≡ []) }
@@ -125,8 +128,9 @@ impl Lanes {
         ensures others { M.tells → SameElsewhere (M.disk media.old).reads (M.disk media.new).reads }
         ensures sizes { (M.disk media.new).sizes ≡ (M.disk media.old).sizes }
         ensures cause { HasCauseOnBoth (M.faults media.old) (M.faults media.new) result }
+        ensures watched { IsWatched W.hears (W.seen watch.new) recorder.new (M.disk media.new) }
     {
-        recorder.take_batch(media, self.batch.as_slice())?;
+        recorder.take_batch_watched(media, watch, self.batch.as_slice())?;
         self.batch.clear();
         self.size = 0;
         Ok(())

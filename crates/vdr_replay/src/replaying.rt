@@ -25,20 +25,21 @@ use crate::{ReplayRefused, Replayed};
 use std::alloc::Global;
 use vdr_feed::{FeedReader, LONGEST_FEED};
 use vdr_outside::{Media, Source};
-use vdr_recorder::Recorder;
+use vdr_recorder::{Recorder, Watch};
 
 // Records the feed as `replay` does. Each clause is proved on each way out, and is a member of `ReplaysFeed` by its name.
-fn record_feed<I: Source, M: Media>(
+fn record_feed<I: Source, M: Media, W: Watch<M>>(
     alloc: Global,
     media: &mut M,
+    watch: &mut W,
     input: &mut I,
 ) -> Result<Replayed, ReplayRefused>
     requires two { 2 ≤ length (M.disk media.old).sizes }
     requires three { length (M.disk media.old).sizes ≤ 3 }
     ensures replayed { (x : Contents) (bytes : List ℕ) → M.tells → HoldsContents (M.disk media.old).reads x → AreSound x → I.left input.old ≡ Some bytes
-        → Answers x bytes (I.left input.new) (Rose (sum (M.faults media.old)) (sum (M.faults media.new))) (M.disk media.old) (M.disk media.new) result }
+        → Answers x bytes (I.left input.new) (Rose (sum (M.faults media.old)) (sum (M.faults media.new))) (M.disk media.old) (M.disk media.new) W.hears (W.seen watch.new) result }
     ensures left { (x : Contents) → M.tells → HoldsContents (M.disk media.old).reads x → EndsMeet members (reading_of x) → AreSound x
-        → LeavesHistory x (Rose (sum (M.faults media.old)) (sum (M.faults media.new))) (M.disk media.old) (M.disk media.new) }
+        → LeavesHistory x (Rose (sum (M.faults media.old)) (sum (M.faults media.new))) (M.disk media.old) (M.disk media.new) W.hears (W.seen watch.new) }
     ensures blank { M.tells → IsUnformatted (M.disk media.old).reads → LeavesAll (M.disk media.old) (M.disk media.new) }
     ensures header { TellsHeader (I.left input.old) (I.left input.new) result }
     ensures unopened { EndsAtHeader result → media.new ≡ media.old }
@@ -58,9 +59,9 @@ fn record_feed<I: Source, M: Media>(
 {
     let mut reader = FeedReader::new(LONGEST_FEED);
     reader.header(input)?;
-    let mut recorder = Recorder::open(alloc, media)?;
+    let mut recorder = Recorder::open_watched(alloc, media, watch)?;
     let mut lanes = Lanes::new(alloc, recorder.config())?;
-    record_run(&mut recorder, media, &mut lanes, &mut reader, input)
+    record_run(&mut recorder, media, watch, &mut lanes, &mut reader, input)
 }
 
 /// Records the feed of the input on the media, in the feed's order, as one run (this project's profile): its header is read; the
@@ -75,14 +76,18 @@ fn record_feed<I: Source, M: Media>(
 ///
 /// At every moment a stop leaves the media as before opening, or as media that play back the first of the run's events on what was
 /// recorded before, all that were acknowledged among them.
-pub fn replay<I: Source, M: Media>(
+///
+/// The watch is told of the opening, of the Start, of each batch and of the close, each behind its syncs: what it was told is on the media
+/// at each moment from then on, whether the call returns or not.
+pub fn replay<I: Source, M: Media, W: Watch<M>>(
     alloc: Global,
     media: &mut M,
+    watch: &mut W,
     input: &mut I,
 ) -> Result<Replayed, ReplayRefused>
     requires two { 2 ≤ length (M.disk media.old).sizes }
     requires three { length (M.disk media.old).sizes ≤ 3 }
-    ensures replays { ReplaysFeed M.Media I.Source media.old media.new input.old input.new result }
+    ensures replays { ReplaysFeed M.Media I.Source media.old media.new input.old input.new W.hears (W.seen watch.new) result }
 {
-    record_feed(alloc, media, input)
+    record_feed(alloc, media, watch, input)
 }

@@ -1,8 +1,8 @@
 -- What the recorder's answers come to as replies of its history.
-use Rattle.std.proofs.Common.{◌≡◌, ◌⊎◌, inl, inr, ◌++◌, ◌∷◌, ◌&&◌, not, ℕ, Bool, true, false, true≢false, List, [], Option, Some, None, Result, Ok, Err, cond, refl, sym, ap, ◌∙◌, subst}
+use Rattle.std.proofs.Common.{◌≡◌, ◌⊎◌, inl, inr, ◌&&◌, not, ℕ, Bool, true, false, List, Option, Some, None, Result, Ok, Err, cond, refl, sym, ap, ◌∙◌, subst}
 use Rattle.std.specs.Prelude.{IfOk, count_by, is_none, is_some, option_map, position, suc, ⊤}
 use Rattle.std.proofs.lemmas.Bool.{cond-false, cond-true}
-use Rattle.vdr_core.specs.Histories.{Act, Event, Incident, MayCome, Opening, incidents, last_stamp, live, next_place}
+use Rattle.vdr_core.specs.Histories.{Act, Event, Incident, MayCome, Opening, incidents, last_stamp, live}
 use Rattle.vdr_core.specs.Histories.Act.{Look, Release, Save}
 use Rattle.vdr_core.specs.Runs.{Stamp, last_tick}
 use Rattle.vdr_durability.specs.Keeping.{moment_of}
@@ -21,14 +21,17 @@ use Rattle.vdr_vault.specs.declared.refused.SaveRefused.{SaveRefused}
 use Rattle.vdr_vault.specs.declared.refused.SaveRefused.TheVariants as saves
 use Rattle.vdr_control.specs.Orders.{PlainOrder}
 use Rattle.vdr_control.specs.Orders.PlainOrder.{Status as StatusOrder, Save as SaveOrder, Release as ReleaseOrder, Play as PlayOrder}
-use Rattle.vdr_recorder.specs.Recordings.{HasDone, HasRecorded, RecorderState}
+use Rattle.vdr_recorder.specs.Recordings.{HasRecorded, RecorderState}
+use Rattle.vdr_recorder.specs.Watched.{DoneAndTold, Watched, id_or_0}
+use Rattle.vdr_recorder.specs.Watched.PlainTurn.{Look as ALook}
 use Rattle.vdr_run.specs.Starts.{stamp_of}
 use Rattle.vdr_recorder.proofs.Answering.{same_disk}
 use Rattle.vdr_recorder.proofs.Looking.{look_done}
 use Rattle.vdr_reply.specs.Answers.{HasAnswered, Spells}
-use Rattle.vdr_reply.specs.Orders.{changes, granted_act, id_or_0, is_granted, order_of}
+use Rattle.vdr_reply.specs.Orders.{changes, granted_act, is_granted, order_of}
 use Rattle.vdr_reply.specs.Texts.{fault_line, id_line, release_line, save_line, state_line, text_of}
-use Rattle.vdr_reply.proofs.Coming.{come_last, same_some, save_is}
+use Rattle.vdr_recorder.proofs.Coming.{come_last, same_some, save_is}
+use Rattle.vdr_recorder.proofs.Telling.{done_told}
 
 -- a reply, as the media work or have failed by then
 pub said_working : (failed : Bool) (clock : ℕ) (answer : Reply) → failed ≡ false → answer_before (moment_of failed clock) answer ≡ answer
@@ -61,13 +64,13 @@ granted_so true (Some s) None id e is = let none : ⊥ = cc in absurd none
 granted_so true (Some s) (Some slot) id e is = ap Saved (same_some (suc slot) id is)
 
 module _ {tells tells_images : Type 0} (opening : Opening) (events : List Event) (t0 : ℕ) (r : RecorderState) (old : Disk tells tells_images) (h : HasRecorded opening events t0 r old)
-    (channels : List Selector) (met_fault : Type 0) (text : List ℕ) where
+    (channels : List Selector) (met_fault : Type 0) (text : List ℕ) (hears : Type 0) (was heard : Watched) where
   -- an order that is a look
-  pub looked_answer : (order : PlainOrder) (after : RecorderState) (new : Disk tells tells_images) → changes order r.vault ≡ false → HasDone opening events t0 Look after old new
+  pub looked_answer : (order : PlainOrder) (after : RecorderState) (new : Disk tells tells_images) → changes order r.vault ≡ false → DoneAndTold hears opening events t0 Look after old new was heard
       → (act_of opening events (order_of channels order) (reply members opening events (order_of channels order)) ≡ Look) ⊎ (after.vault.failed ≡ true)
       → Spells met_fault order (answer_before (moment_of after.vault.failed new.clock) (reply members opening events (order_of channels order))) text
-      → HasAnswered channels met_fault opening events t0 order text r after old new
-  looked_answer order after new none d act is = record { done = subst (λ (act : Act). HasDone opening events t0 act after old new) (sym looks) d; answer = record { act_is = acts act; text_is = is } }
+      → HasAnswered channels met_fault opening events t0 order text r after old new hears was heard
+  looked_answer order after new none d act is = record { done = subst (λ (act : Act). DoneAndTold hears opening events t0 act after old new was heard) (sym looks) d; answer = record { act_is = acts act; text_is = is } }
     where
       looks : cond (changes order r.vault) (granted_act opening events order) Look ≡ Look
       looks = cond-false (changes order r.vault) (granted_act opening events order) Look none
@@ -78,19 +81,17 @@ module _ {tells tells_images : Type 0} (opening : Opening) (events : List Event)
       acts (inl a) = inl (looks ∙ sym a)
       acts (inr fails) = inr (looks, no_moment after.vault.failed new.clock fails)
 
-  untouched : HasDone opening events t0 Look r old old
-  untouched = look_done opening events t0 r old old h r.vault (same_disk old) refl refl refl refl refl (λ placed stands. stands)
-
   -- an order that was answered with nothing called
-  pub still_answer : (order : PlainOrder) → changes order r.vault ≡ false
+  pub still_answer : (order : PlainOrder) → DoneAndTold hears opening events t0 Look r old old was heard → changes order r.vault ≡ false
       → (act_of opening events (order_of channels order) (reply members opening events (order_of channels order)) ≡ Look) ⊎ (r.vault.failed ≡ true)
       → Spells met_fault order (answer_before (moment_of r.vault.failed old.clock) (reply members opening events (order_of channels order))) text
-      → HasAnswered channels met_fault opening events t0 order text r r old old
-  still_answer order none act is = looked_answer order r old none untouched act is
+      → HasAnswered channels met_fault opening events t0 order text r r old old hears was heard
+  still_answer order d none act is = looked_answer order r old none d act is
 
   -- each order after a fault
-  pub failed_answer : (order : PlainOrder) → r.vault.failed ≡ true → text ≡ fault_line → HasAnswered channels met_fault opening events t0 order text r r old old
-  failed_answer order fails is = still_answer order (ap (λ (b : Bool). not b && is_granted order r.vault) fails) (inr fails) (spelled order (said_failed r.vault.failed old.clock (reply members opening events (order_of channels order)) fails))
+  pub failed_answer : (order : PlainOrder) → r.vault.failed ≡ true → text ≡ fault_line → (hears → heard ≡ was) → HasAnswered channels met_fault opening events t0 order text r r old old hears was heard
+  failed_answer order fails is untold = still_answer order (done_told opening events t0 Look r old old
+      (look_done opening events t0 r old old h r.vault (same_disk old) refl refl refl refl refl (λ placed stands. stands)) {hears = hears} ALook was heard false (ap not fails) (λ works. refl) untold) (ap (λ (b : Bool). not b && is_granted order r.vault) fails) (inr fails) (spelled order (said_failed r.vault.failed old.clock (reply members opening events (order_of channels order)) fails))
     where
       spelled : (order : PlainOrder) → answer_before (moment_of r.vault.failed old.clock) (reply members opening events (order_of channels order)) ≡ Failed
           → Spells met_fault order (answer_before (moment_of r.vault.failed old.clock) (reply members opening events (order_of channels order))) text
@@ -109,9 +110,9 @@ module _ {tells tells_images : Type 0} (opening : Opening) (events : List Event)
     changed : (order : PlainOrder) → is_granted order r.vault ≡ true → changes order r.vault ≡ true
     changed order some = ap (λ (b : Bool). not b && is_granted order r.vault) works ∙ some
 
-    pub status_answer : text ≡ state_line r.vault.next_place (last_tick (option_map stamp_of r.vault.last)) (count_by is_some r.vault.table)
-        → HasAnswered channels met_fault opening events t0 StatusOrder text r r old old
-    status_answer is = still_answer StatusOrder (unchanged StatusOrder refl) (inl refl) (is ∙ told ∙ ap text_of (sym (said_working r.vault.failed old.clock (reply members opening events replies.Order.Status) works)))
+    pub status_answer : DoneAndTold hears opening events t0 Look r old old was heard → text ≡ state_line r.vault.next_place (last_tick (option_map stamp_of r.vault.last)) (count_by is_some r.vault.table)
+        → HasAnswered channels met_fault opening events t0 StatusOrder text r r old old hears was heard
+    status_answer d is = still_answer StatusOrder d (unchanged StatusOrder refl) (inl refl) (is ∙ told ∙ ap text_of (sym (said_working r.vault.failed old.clock (reply members opening events replies.Order.Status) works)))
       where
         tick : last_tick (option_map stamp_of r.vault.last) ≡ last_tick (last_stamp opening events)
         tick = ap (λ (o : Option (ℕ × _)). last_tick (option_map stamp_of o)) stands.newest ∙ tick_is (last_stamp opening events)
@@ -122,13 +123,13 @@ module _ {tells tells_images : Type 0} (opening : Opening) (events : List Event)
     module _ (after : RecorderState) (new : Disk tells tells_images) where
       pub save_answer : (label : List ℕ) (saved : Result ℕ SaveRefused) → text ≡ save_line saved
           → (save_refusal label r.vault ≡ None → ((m offset : ℕ) → saved ≡ Err (saves.Damaged m offset) → ⊥)
-          → (id : ℕ) × (a : ℕ) × (b : ℕ) × IfOk saved (λ told. told ≡ id) × HasDone opening events t0 (Save id label a b) after old new)
-          → ((refused : SaveRefused) → save_refusal label r.vault ≡ Some refused → HasDone opening events t0 Look after old new)
+          → (id : ℕ) × (a : ℕ) × (b : ℕ) × IfOk saved (λ told. told ≡ id) × DoneAndTold hears opening events t0 (Save id label a b) after old new was heard)
+          → ((refused : SaveRefused) → save_refusal label r.vault ≡ Some refused → DoneAndTold hears opening events t0 Look after old new was heard)
           → ((refused : SaveRefused) → save_refusal label r.vault ≡ Some refused → (saved ≡ Err refused) × (after ≡ r))
           → ((refused : SaveRefused) → saved ≡ Err refused → (refused ≡ saves.Label) ⊎ ((refused ≡ saves.Nothing) ⊎ (refused ≡ saves.TableFull)) → save_refusal label r.vault ≡ Some refused)
           → ((m offset : ℕ) → saved ≡ Err (saves.Damaged m offset) → ⊥)
           → (saved ≡ Err saves.Fault → after.vault.failed ≡ true) → ((saved ≡ Err saves.Fault → ⊥) → after.vault.failed ≡ false)
-          → HasAnswered channels met_fault opening events t0 (SaveOrder label) text r after old new
+          → HasAnswered channels met_fault opening events t0 (SaveOrder label) text r after old new hears was heard
       save_answer label saved is keeps looked refused reason undamaged fails goes = by_refusal (save_refusal label r.vault) refl
         where
           order : PlainOrder
@@ -149,7 +150,7 @@ module _ {tells tells_images : Type 0} (opening : Opening) (events : List Event)
           text_by (Err saves.Fault) e none id answer same =
               is ∙ ap save_line e ∙ ap text_of (sym (said_failed after.vault.failed new.clock (reply members opening events (replies.Order.Save label)) (fails e)))
 
-          by_refusal : (o : Option SaveRefused) → save_refusal label r.vault ≡ o → HasAnswered channels met_fault opening events t0 order text r after old new
+          by_refusal : (o : Option SaveRefused) → save_refusal label r.vault ≡ o → HasAnswered channels met_fault opening events t0 order text r after old new hears was heard
           by_refusal (Some x) e =
               let so = refused_so (is_label label) (last_stamp opening events) (position is_none (incidents opening events)) x (sym judged ∙ e) in
               let same = refused x e in
@@ -159,11 +160,11 @@ module _ {tells tells_images : Type 0} (opening : Opening) (events : List Event)
           by_refusal None e =
               let s = keeps e undamaged in
               let d = s.4 in
-              let may : MayCome opening events (Save s.0 label s.1 s.2) = subst (λ (act : Act). MayCome opening events act) d.act_is (come_last opening events d.event d.has.history.follow) in
+              let may : MayCome opening events (Save s.0 label s.1 s.2) = subst (λ (act : Act). MayCome opening events act) d.done.act_is (come_last opening events d.done.event d.done.has.history.follow) in
               let answer = granted_so (is_label label) (last_stamp opening events) (position is_none (incidents opening events)) s.0 (sym judged ∙ e) may.0 in
               let act : cond (changes order r.vault) (granted_act opening events order) Look ≡ granted_act opening events order = cond-true (changes order r.vault) (granted_act opening events order) Look (changed order (ap is_none e)) in
               record {
-                done = subst (λ (act : Act). HasDone opening events t0 act after old new) (save_is opening events label s.0 s.1 s.2 may ∙ sym act) d;
+                done = subst (λ (act : Act). DoneAndTold hears opening events t0 act after old new was heard) (save_is opening events label s.0 s.1 s.2 may ∙ sym act) d;
                 answer = record {
                   act_is = inl (act ∙ ap (save_of opening events label) (ap id_or_0 may.0) ∙ ap (act_of opening events (replies.Order.Save label)) (sym answer));
                   text_is = text_by saved refl e s.0 answer s.3;
@@ -171,12 +172,12 @@ module _ {tells tells_images : Type 0} (opening : Opening) (events : List Event)
               }
 
       pub release_answer : (id : ℕ) (released : Result ⊤ ReleaseRefused) → text ≡ release_line released
-          → ((saved : Incident) → live r.vault.table id ≡ Some saved → HasDone opening events t0 (Release id) after old new)
-          → (live r.vault.table id ≡ None → HasDone opening events t0 Look after old new)
+          → ((saved : Incident) → live r.vault.table id ≡ Some saved → DoneAndTold hears opening events t0 (Release id) after old new was heard)
+          → (live r.vault.table id ≡ None → DoneAndTold hears opening events t0 Look after old new was heard)
           → (live r.vault.table id ≡ None → (released ≡ Err releases.NoSuch) × (after ≡ r))
           → (released ≡ Err releases.NoSuch → live r.vault.table id ≡ None)
           → (released ≡ Err releases.Fault → after.vault.failed ≡ true) → ((released ≡ Err releases.Fault → ⊥) → after.vault.failed ≡ false)
-          → HasAnswered channels met_fault opening events t0 (ReleaseOrder id) text r after old new
+          → HasAnswered channels met_fault opening events t0 (ReleaseOrder id) text r after old new hears was heard
       release_answer id released is keeps looked refused reason fails goes = by_live (live r.vault.table id) refl
         where
           order : PlainOrder
@@ -194,7 +195,7 @@ module _ {tells tells_images : Type 0} (opening : Opening) (events : List Event)
           text_by (Err releases.Fault) e saved some =
               is ∙ ap release_line e ∙ ap text_of (sym (said_failed after.vault.failed new.clock (reply members opening events (replies.Order.Release id)) (fails e)))
 
-          by_live : (o : Option Incident) → live r.vault.table id ≡ o → HasAnswered channels met_fault opening events t0 order text r after old new
+          by_live : (o : Option Incident) → live r.vault.table id ≡ o → HasAnswered channels met_fault opening events t0 order text r after old new hears was heard
           by_live None e =
               let same = refused e in
               let good : after.vault.failed ≡ false = ap (λ (s : RecorderState). s.vault.failed) same.1 ∙ works in
@@ -203,7 +204,7 @@ module _ {tells tells_images : Type 0} (opening : Opening) (events : List Event)
           by_live (Some saved) e =
               let act : cond (changes order r.vault) (granted_act opening events order) Look ≡ granted_act opening events order = cond-true (changes order r.vault) (granted_act opening events order) Look (changed order (ap is_some e)) in
               record {
-                done = subst (λ (act : Act). HasDone opening events t0 act after old new) (sym act) (keeps saved e);
+                done = subst (λ (act : Act). DoneAndTold hears opening events t0 act after old new was heard) (sym act) (keeps saved e);
                 answer = record {
                   act_is = inl (act ∙ ap (act_of opening events (replies.Order.Release id)) (sym (answer_by (Some saved) e)));
                   text_is = text_by released refl saved e;

@@ -8,7 +8,7 @@ use Rattle.vdr_core.specs.Histories.Act.{Look}
 use Rattle.vdr_durability.specs.Keeping.{moment_of}
 use Rattle.vdr_durability.specs.Playback.{selected}
 use Rattle.vdr_durability.specs.Replies.{Reply, answer_before, is_there, play_reply, refusal_of, reply}
-use Rattle.vdr_durability.specs.Replies.Reply.{NoChannel, NoIncident}
+use Rattle.vdr_durability.specs.Replies.Reply.{NoIncident}
 use Rattle.vdr_play.specs.Streams.{nothing_seen}
 use Rattle.vdr_play.specs.Texts.{records_text}
 use Rattle.vdr_outside.specs.Disk.{Disk}
@@ -19,7 +19,8 @@ use Rattle.vdr_entry.specs.declared.query.Medium.TheVariants.{Capsule, LongTerm,
 use Rattle.vdr_opening.specs.Media.{members}
 use Rattle.vdr_control.specs.Orders.{PlainOrder}
 use Rattle.vdr_control.specs.Orders.PlainOrder.{Play as PlayOrder}
-use Rattle.vdr_recorder.specs.Recordings.{HasDone, HasRecorded, RecorderState}
+use Rattle.vdr_recorder.specs.Recordings.{HasRecorded, RecorderState}
+use Rattle.vdr_recorder.specs.Watched.{DoneAndTold, Watched}
 use Rattle.vdr_vault.proofs.Channels.{has_number, number_if, position_within}
 use Rattle.vdr_visit.specs.Refusals.{lacks_channel, lacks_incident}
 use Rattle.vdr_visit.specs.declared.visit_refused.VisitRefused.{VisitRefused}
@@ -67,7 +68,7 @@ lacks_not opening events table (AnIncident id) e lacks there = clash (live table
     clash (Some x) n s = true≢false (sym n)
 
 module _ {tells tells_images : Type 0} (opening : Opening) (events : List Event) (t0 : ℕ) (r : RecorderState) (old : Disk tells tells_images) (h : HasRecorded opening events t0 r old)
-    (met_fault : Type 0) (text : List ℕ) (works : r.vault.failed ≡ false) (medium : Medium) (name : List ℕ) (from to : ℤ) where
+    (met_fault : Type 0) (text : List ℕ) (hears : Type 0) (was heard : Watched) (works : r.vault.failed ≡ false) (medium : Medium) (name : List ℕ) (from to : ℤ) where
   abbrev channels : List Selector
   channels = r.vault.config.channels
 
@@ -81,23 +82,24 @@ module _ {tells tells_images : Type 0} (opening : Opening) (events : List Event)
   query = query_of channels medium name from to
 
   -- no channel of that name is configured
-  pub unnamed_answer : is_named channels name ≡ false → text ≡ not_there_line → HasAnswered channels met_fault opening events t0 order text r r old old
-  unnamed_answer none is = still_answer opening events t0 r old h channels met_fault text order (and_false r.vault.failed) (inl refl)
+  pub unnamed_answer : DoneAndTold hears opening events t0 Look r old old was heard → is_named channels name ≡ false → text ≡ not_there_line
+      → HasAnswered channels met_fault opening events t0 order text r r old old hears was heard
+  unnamed_answer d none is = still_answer opening events t0 r old h channels met_fault text hears was heard order d (and_false r.vault.failed) (inl refl)
       (inl (is ∙ ap text_of (sym (said_working r.vault.failed old.clock answer works ∙ ap (λ (b : Bool). play_reply b (is_there members opening events query.medium) (refusal_of query.medium) (selected opening events query)) none))))
 
-  pub no_memory_answer : text ≡ memory_line → HasAnswered channels met_fault opening events t0 order text r r old old
-  no_memory_answer is = still_answer opening events t0 r old h channels met_fault text order (and_false r.vault.failed) (inl refl) (inr (inr is))
+  pub no_memory_answer : DoneAndTold hears opening events t0 Look r old old was heard → text ≡ memory_line → HasAnswered channels met_fault opening events t0 order text r r old old hears was heard
+  no_memory_answer d is = still_answer opening events t0 r old h channels met_fault text hears was heard order d (and_false r.vault.failed) (inl refl) (inr (inr is))
 
   pub played_answer : {R : Type 0} (after : RecorderState) (new : Disk tells tells_images) (played : Result ⊤ (VisitRefused R)) (page : List ℕ) → IsPlayed played page text
-      → HasDone opening events t0 Look after old new → after.vault.failed ≡ false → is_named channels name ≡ true
+      → DoneAndTold hears opening events t0 Look after old new was heard → after.vault.failed ≡ false → is_named channels name ≡ true
       → (played ≡ Err plays.NoChannel → lacks_channel (length channels) query.channel ≡ true)
       → ((played ≡ Err plays.NoIncident) ↔ ((lacks_channel (length channels) query.channel ≡ false) × (lacks_incident r.vault.table query.medium ≡ true)))
       → OnOk played (page ≡ done_line ++ records_text nothing_seen (selected opening events query))
       → ((m offset : ℕ) → played ≡ Err (plays.Damaged m offset) → ⊥)
       → (played ≡ Err plays.Fault → met_fault)
-      → HasAnswered channels met_fault opening events t0 order text r after old new
+      → HasAnswered channels met_fault opening events t0 order text r after old new hears was heard
   played_answer {R = R} after new played page is d goes named channel incident printed undamaged fault =
-      looked_answer opening events t0 r old h channels met_fault text order after new (and_false r.vault.failed) d (inl refl)
+      looked_answer opening events t0 r old h channels met_fault text hears was heard order after new (and_false r.vault.failed) d (inl refl)
       (spelled played refl is printed)
     where
       table_is : r.vault.table ≡ incidents opening events

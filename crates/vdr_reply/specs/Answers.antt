@@ -9,7 +9,8 @@ use Rattle.vdr_config.specs.Configuration.{Selector}
 use Rattle.vdr_opening.specs.Media.{members}
 use Rattle.vdr_control.specs.Orders.{PlainOrder}
 use Rattle.vdr_control.specs.Orders.PlainOrder.{Status, Save, Release, Play}
-use Rattle.vdr_recorder.specs.Recordings.{HasDone, RecorderState}
+use Rattle.vdr_recorder.specs.Recordings.{RecorderState}
+use Rattle.vdr_recorder.specs.Watched.{DoneAndTold, Watched}
 use Rattle.vdr_reply.specs.Orders.{changes, granted_act, order_of}
 use Rattle.vdr_reply.specs.Texts.{fault_line, memory_line, text_of}
 
@@ -26,10 +27,10 @@ pub record IsAnswer (channels : List Selector) (met_fault : Type 0) (opening : O
   pub text_is : Spells met_fault order (reply_with members opening before own (order_of channels order)) text
 
 module _ {tells tells_images : Type 0} where
-  -- The order was one event after these, and was answered so.
+  -- The order was one event after these, was told where it was done, and was answered so.
   pub record HasAnswered (channels : List Selector) (met_fault : Type 0) (opening : Opening) (events : List Event) (t0 : ℕ) (order : PlainOrder) (text : List ℕ)
-      (before after : RecorderState) (old new : Disk tells tells_images) : Type 0 where
-    pub done : HasDone opening events t0 (cond (changes order before.vault) (granted_act opening events order) Act.Look) after old new
+      (before after : RecorderState) (old new : Disk tells tells_images) (hears : Type 0) (was is : Watched) : Type 0 where
+    pub done : DoneAndTold hears opening events t0 (cond (changes order before.vault) (granted_act opening events order) Act.Look) after old new was is
     pub answer : IsAnswer channels met_fault opening events (record { act = cond (changes order before.vault) (granted_act opening events order) Act.Look; moment = moment_of after.vault.failed new.clock }) order text
 
 -- What an order leaves as it was.

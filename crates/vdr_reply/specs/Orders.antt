@@ -1,5 +1,5 @@
 -- The orders of lines as the history knows them, and what they change (this project's profile).
-use Rattle.std.specs.Prelude.{ℕ, ℤ, List, Bool, false, ◌&&◌, ◌||◌, not, is_some, is_none, position, bytes_eq, codes, if◌then◌else◌, Option, Some, None}
+use Rattle.std.specs.Prelude.{ℕ, ℤ, List, Bool, false, ◌&&◌, ◌||◌, not, is_some, is_none, position, bytes_eq, codes, if◌then◌else◌, Option, None}
 use Rattle.vdr_terms.specs.Queries.{Query}
 use Rattle.vdr_core.specs.Histories.{Act, Event, Opening, live}
 use Rattle.vdr_durability.specs.Replies as replies
@@ -9,6 +9,7 @@ use Rattle.vdr_entry.specs.Queries.{asked_medium}
 use Rattle.vdr_entry.specs.declared.query.Medium.{Medium}
 use Rattle.vdr_control.specs.Orders.{PlainOrder}
 use Rattle.vdr_control.specs.Orders.PlainOrder.{Status, Save, Release, Play}
+use Rattle.vdr_recorder.specs.Watched.{id_or_0}
 use Rattle.vdr_vault.specs.Vaults.{VaultState}
 use Rattle.vdr_vault.specs.Saves.{save_refusal}
 
@@ -43,10 +44,6 @@ is_granted (Play medium name from to) vault = false
 
 abbrev pub changes : PlainOrder → VaultState → Bool
 changes order vault = not vault.failed && is_granted order vault
-
-abbrev pub id_or_0 : Option ℕ → ℕ
-id_or_0 None = 0
-id_or_0 (Some id) = id
 
 -- The act of an order that is granted.
 abbrev pub granted_act : Opening → List Event → PlainOrder → Act

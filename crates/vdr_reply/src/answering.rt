@@ -11,6 +11,7 @@ ghost use Rattle.vdr_control.specs.Lines.{AsksFor};
 ghost use Rattle.vdr_control.specs.Orders.{plain};
 ghost use Rattle.vdr_control.specs.Orders.PlainOrder.{Release as ReleaseOrder, Save as SaveOrder, Status as StatusOrder};
 ghost use Rattle.vdr_recorder.specs.Recordings.{HasRecorded};
+ghost use Rattle.vdr_recorder.specs.Watched.{IsWatched};
 ghost use Rattle.vdr_reply.specs.Answers.{HasAnswered, HasOrderCause, LeavesRest};
 
 use crate::lines::{FAULT, of_release, of_save, of_state};
@@ -19,73 +20,93 @@ use std::alloc::Global;
 use vdr_control::Order;
 use vdr_desk::Reply;
 use vdr_outside::Media;
-use vdr_recorder::Recorder;
+use vdr_recorder::{Recorder, Watch};
 
-// How far the recording is. The media are there for the proof alone.
-fn answer_status<M: Media>(recorder: &Recorder, _media: &M) -> Reply
+// How far the recording is.
+fn answer_status<M: Media, W: Watch<M>>(recorder: &Recorder, media: &M, watch: &mut W) -> Reply
     requires works { recorder.now.vault.failed ≡ false }
-    ensures answered { (opening : Opening) (events : List Event) (t0 : ℕ) → HasRecorded opening events t0 recorder.now (M.disk _media.now)
-        → HasAnswered recorder.now.vault.config.channels (Rose (sum (M.faults _media.now)) (sum (M.faults _media.now))) opening events t0 StatusOrder result recorder.now recorder.now (M.disk _media.now) (M.disk _media.now) }
+    requires watched { IsWatched W.hears (W.seen watch.old) recorder.now (M.disk media.now) }
+    ensures answered { (opening : Opening) (events : List Event) (t0 : ℕ) → HasRecorded opening events t0 recorder.now (M.disk media.now)
+        → HasAnswered recorder.now.vault.config.channels (Rose (sum (M.faults media.now)) (sum (M.faults media.now))) opening events t0 StatusOrder result recorder.now recorder.now (M.disk media.now) (M.disk media.now) W.hears (W.seen watch.old) (W.seen watch.new) }
+    ensures watched { IsWatched W.hears (W.seen watch.new) recorder.now (M.disk media.now) }
 {
+    recorder.look_watched(media, watch);
     of_state(&recorder.status())
 }
 
-fn answer_save<M: Media>(recorder: &mut Recorder, media: &mut M, label: &[u8]) -> Reply
+fn answer_save<M: Media, W: Watch<M>>(
+    recorder: &mut Recorder,
+    media: &mut M,
+    watch: &mut W,
+    label: &[u8],
+) -> Reply
     requires rings { AreRings recorder.old.vault (M.disk media.old).sizes }
     requires works { recorder.old.vault.failed ≡ false }
+    requires watched { IsWatched W.hears (W.seen watch.old) recorder.old (M.disk media.old) }
     ensures answered { (opening : Opening) (events : List Event) (t0 : ℕ) → M.tells → HasRecorded opening events t0 recorder.old (M.disk media.old)
-        → HasAnswered recorder.old.vault.config.channels (Rose (sum (M.faults media.old)) (sum (M.faults media.new))) opening events t0 (SaveOrder label.now) result recorder.old recorder.new (M.disk media.old) (M.disk media.new) }
+        → HasAnswered recorder.old.vault.config.channels (Rose (sum (M.faults media.old)) (sum (M.faults media.new))) opening events t0 (SaveOrder label.now) result recorder.old recorder.new (M.disk media.old) (M.disk media.new) W.hears (W.seen watch.old) (W.seen watch.new) }
     ensures rest { LeavesRest recorder.old recorder.new }
     ensures rings { AreRings recorder.new.vault (M.disk media.new).sizes }
     ensures others { M.tells → SameElsewhere (M.disk media.old).reads (M.disk media.new).reads }
     ensures sizes { (M.disk media.new).sizes ≡ (M.disk media.old).sizes }
+    ensures watched { IsWatched W.hears (W.seen watch.new) recorder.new (M.disk media.new) }
     ensures cause { HasOrderCause recorder.old.vault.failed recorder.new.vault.failed (M.faults media.old) (M.faults media.new) }
 {
-    of_save(recorder.save(media, label))
+    of_save(recorder.save_watched(media, watch, label))
 }
 
-fn answer_release<M: Media>(recorder: &mut Recorder, media: &mut M, id: u32) -> Reply
+fn answer_release<M: Media, W: Watch<M>>(
+    recorder: &mut Recorder,
+    media: &mut M,
+    watch: &mut W,
+    id: u32,
+) -> Reply
     requires rings { AreRings recorder.old.vault (M.disk media.old).sizes }
     requires works { recorder.old.vault.failed ≡ false }
+    requires watched { IsWatched W.hears (W.seen watch.old) recorder.old (M.disk media.old) }
     ensures answered { (opening : Opening) (events : List Event) (t0 : ℕ) → M.tells → HasRecorded opening events t0 recorder.old (M.disk media.old)
-        → HasAnswered recorder.old.vault.config.channels (Rose (sum (M.faults media.old)) (sum (M.faults media.new))) opening events t0 (ReleaseOrder id) result recorder.old recorder.new (M.disk media.old) (M.disk media.new) }
+        → HasAnswered recorder.old.vault.config.channels (Rose (sum (M.faults media.old)) (sum (M.faults media.new))) opening events t0 (ReleaseOrder id) result recorder.old recorder.new (M.disk media.old) (M.disk media.new) W.hears (W.seen watch.old) (W.seen watch.new) }
     ensures rest { LeavesRest recorder.old recorder.new }
     ensures rings { AreRings recorder.new.vault (M.disk media.new).sizes }
     ensures others { M.tells → SameElsewhere (M.disk media.old).reads (M.disk media.new).reads }
     ensures sizes { (M.disk media.new).sizes ≡ (M.disk media.old).sizes }
+    ensures watched { IsWatched W.hears (W.seen watch.new) recorder.new (M.disk media.new) }
     ensures cause { HasOrderCause recorder.old.vault.failed recorder.new.vault.failed (M.faults media.old) (M.faults media.new) }
 {
-    of_release(recorder.release(media, id))
+    of_release(recorder.release_watched(media, watch, id))
 }
 
 /// Answers an order. It is one event of the recorder's history: a save or a release that is granted, and else a look. The reply is a function
-/// of the history before that event.
+/// of the history before that event. The watch is told of it before the reply is made, unless it met a fault.
 ///
 /// Once the media have failed each order is answered `FAULT 5`, as is the one that met the fault. A play reads its page into memory: it is
 /// answered `FAULT 5` too where a read fails, and `FAULT 9` where there is no memory for the page.
-pub fn answer<M: Media>(
+pub fn answer<M: Media, W: Watch<M>>(
     alloc: Global,
     recorder: &mut Recorder,
     media: &mut M,
+    watch: &mut W,
     order: Order<'_>,
 ) -> Reply
     requires rings { AreRings recorder.old.vault (M.disk media.old).sizes }
+    requires watched { IsWatched W.hears (W.seen watch.old) recorder.old (M.disk media.old) }
     requires asked { (line : List ℕ) × AsksFor line (plain order) }
     ensures answered { (opening : Opening) (events : List Event) (t0 : ℕ) → M.tells → HasRecorded opening events t0 recorder.old (M.disk media.old)
-        → HasAnswered recorder.old.vault.config.channels (Rose (sum (M.faults media.old)) (sum (M.faults media.new))) opening events t0 (plain order.entry) result recorder.old recorder.new (M.disk media.old) (M.disk media.new) }
+        → HasAnswered recorder.old.vault.config.channels (Rose (sum (M.faults media.old)) (sum (M.faults media.new))) opening events t0 (plain order.entry) result recorder.old recorder.new (M.disk media.old) (M.disk media.new) W.hears (W.seen watch.old) (W.seen watch.new) }
     ensures rest { LeavesRest recorder.old recorder.new }
     ensures rings { AreRings recorder.new.vault (M.disk media.new).sizes }
     ensures others { M.tells → SameElsewhere (M.disk media.old).reads (M.disk media.new).reads }
     ensures sizes { (M.disk media.new).sizes ≡ (M.disk media.old).sizes }
+    ensures watched { IsWatched W.hears (W.seen watch.new) recorder.new (M.disk media.new) }
     ensures cause { HasOrderCause recorder.old.vault.failed recorder.new.vault.failed (M.faults media.old) (M.faults media.new) }
 {
     if recorder.failed() {
         return Reply::of_line(FAULT);
     }
     match order {
-        Order::Status => answer_status(recorder, media),
-        Order::Save(label) => answer_save(recorder, media, label),
-        Order::Release(id) => answer_release(recorder, media, id),
+        Order::Status => answer_status(recorder, media, watch),
+        Order::Save(label) => answer_save(recorder, media, watch, label),
+        Order::Release(id) => answer_release(recorder, media, watch, id),
         Order::Play {
             medium,
             channel,
@@ -98,7 +119,7 @@ pub fn answer<M: Media>(
                 from,
                 to,
             };
-            answer_play(alloc, recorder, media, wanted)
+            answer_play(alloc, recorder, media, watch, wanted)
         }
     }
 }

@@ -11,6 +11,7 @@ ghost use Rattle.vdr_vault.specs.Calls.{SameElsewhere};
 ghost use Rattle.vdr_vault.specs.Vaults.{AreRings};
 ghost use Rattle.vdr_control.specs.Orders.PlainOrder.{Play as PlayOrder};
 ghost use Rattle.vdr_recorder.specs.Recordings.{HasRecorded};
+ghost use Rattle.vdr_recorder.specs.Watched.{IsWatched};
 ghost use Rattle.vdr_reply.specs.Answers.{HasAnswered, HasOrderCause, LeavesRest};
 ghost use Rattle.vdr_reply.specs.Orders.{is_named, query_of};
 ghost use Rattle.vdr_reply.specs.Texts.{IsPlayed};
@@ -22,7 +23,7 @@ use std::convert::Infallible;
 use vdr_desk::Reply;
 use vdr_entry::{Medium, Query};
 use vdr_outside::Media;
-use vdr_recorder::Recorder;
+use vdr_recorder::{Recorder, Watch};
 use vdr_visit::VisitRefused;
 
 /// The channel's name that stands for every record.
@@ -79,29 +80,34 @@ fn of_played(played: Result<(), VisitRefused<Infallible>>, page: Page) -> Reply
 }
 
 /// Answers a play, on media that have not failed. The page is made in memory, so that the recorder is free again before it is sent.
-pub(crate) fn answer_play<M: Media>(
+pub(crate) fn answer_play<M: Media, W: Watch<M>>(
     alloc: Global,
     recorder: &mut Recorder,
     media: &mut M,
+    watch: &mut W,
     wanted: Wanted<'_>,
 ) -> Reply
     requires rings { AreRings recorder.old.vault (M.disk media.old).sizes }
     requires works { recorder.old.vault.failed ≡ false }
+    requires watched { IsWatched W.hears (W.seen watch.old) recorder.old (M.disk media.old) }
     ensures answered { (opening : Opening) (events : List Event) (t0 : ℕ) → M.tells → HasRecorded opening events t0 recorder.old (M.disk media.old)
         → HasAnswered recorder.old.vault.config.channels (Rose (sum (M.faults media.old)) (sum (M.faults media.new))) opening events t0
-        (PlayOrder wanted.entry.medium wanted.entry.name.now wanted.entry.from wanted.entry.to) result recorder.old recorder.new (M.disk media.old) (M.disk media.new) }
+        (PlayOrder wanted.entry.medium wanted.entry.name.now wanted.entry.from wanted.entry.to) result recorder.old recorder.new (M.disk media.old) (M.disk media.new) W.hears (W.seen watch.old) (W.seen watch.new) }
     ensures rest { LeavesRest recorder.old recorder.new }
     ensures rings { AreRings recorder.new.vault (M.disk media.new).sizes }
     ensures others { M.tells → SameElsewhere (M.disk media.old).reads (M.disk media.new).reads }
     ensures sizes { (M.disk media.new).sizes ≡ (M.disk media.old).sizes }
+    ensures watched { IsWatched W.hears (W.seen watch.new) recorder.new (M.disk media.new) }
     ensures cause { HasOrderCause recorder.old.vault.failed recorder.new.vault.failed (M.faults media.old) (M.faults media.new) }
 {
     let Some(query) = query_of(recorder, wanted) else {
+        recorder.look_watched(media, watch);
         return Reply::of_line(NOT_THERE);
     };
     let Ok(mut page) = Page::begin(alloc) else {
+        recorder.look_watched(media, watch);
         return Reply::of_line(NO_MEMORY);
     };
-    let played = recorder.play(media, &query, &mut page);
+    let played = recorder.play_watched(media, watch, &query, &mut page);
     of_played(played, page)
 }

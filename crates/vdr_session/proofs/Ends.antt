@@ -33,7 +33,9 @@ use Rattle.vdr_capture.specs.declared.sums.Outcome.TheVariants.{Done, MediaFault
 use Rattle.vdr_capture.specs.Gives.{EndsBy}
 use Rattle.vdr_vault.specs.Calls.{SameElsewhere}
 use Rattle.vdr_run.specs.Making.{CountsItems, counted_of}
-use Rattle.vdr_recorder.specs.Recordings.{HasDone, HasRecorded, RecorderState, start_of_opening}
+use Rattle.vdr_recorder.specs.Recordings.{HasRecorded, RecorderState, start_of_opening}
+use Rattle.vdr_recorder.specs.Watched.{DoneAndTold, Watched}
+use Rattle.vdr_recorder.proofs.Telling.{tells_join, tells_none}
 use Rattle.vdr_recorder.proofs.Batches.{numbers_append}
 use Rattle.vdr_session.specs.declared.mark.Mark.{Mark}
 use Rattle.vdr_session.specs.declared.records.Began.{Began}
@@ -107,8 +109,8 @@ quiet_rest configured g (Some queue) None lane rest met is none = absurd met
 quiet_rest configured g (Some queue) (Some taker) lane rest met is none = absurd (true≢false (sym met.known ∙ none))
 
 module _ {P : Type 0} (port_tells : PortTells P) {tells tells_images : Type 0} (turns : ℕ) (queues : List (Option QueueId)) (first last : List (Option Taking)) (old new : List (Lane P)) (before : Before) (opened : Opening → ℕ → Type 0)
-    (rates : List (Option Rate)) (room : ℕ) (sizes faults : List ℕ) (marks : List Mark) (began : Began) (r : RecorderState) (disk : Disk tells tells_images) (now : List ℕ)
-    (k : IsKept before opened rates room sizes faults marks r disk now) (h : HasClosed port_tells turns (λ g. is_configured (limits_in rates g)) queues first last old new began marks)
+    (rates : List (Option Rate)) (room : ℕ) (sizes faults : List ℕ) (marks : List Mark) (began : Began) (w : Watched) (r : RecorderState) (disk : Disk tells tells_images) (now : List ℕ)
+    (k : IsKept before opened rates room sizes faults marks w r disk now) (h : HasClosed port_tells turns (λ g. is_configured (limits_in rates g)) queues first last old new began marks)
     (means : tells → (opening : Opening) (t0 : ℕ) → opened opening t0 → StartMeans opening began) (beside : Began → List Mark → Type 0) (besides : beside began marks) where
   failed_by : has_fault marks ≡ true → r.vault.failed ≡ true
   failed_by fault = by (cases_Bool r.vault.failed)
@@ -117,11 +119,11 @@ module _ {P : Type 0} (port_tells : PortTells P) {tells tells_images : Type 0} (
       by (inl fails) = fails
       by (inr works) = absurd (true≢false (sym fault ∙ no_fault marks (k.stage.whole works)))
 
-  session_ends : (outcome : Outcome) (opening : Opening) (t0 : ℕ) (rest : ℕ → Counts) (after : RecorderState) (end : Disk tells tells_images) → after ≡ r → end ≡ disk → HasSession before opening marks t0 r disk → (outcome ≡ Done → ⊥) → (has_fault marks ≡ false) ⊎ (outcome ≡ MediaFault)
-      → EndsRun before opening marks t0 rest outcome after end
-  session_ends outcome opening t0 rest after end same still s never pending =
-      subst (λ (x : RecorderState × Disk tells tells_images). EndsRun before opening marks t0 rest outcome x.0 x.1) (λ i. (sym same i, sym still i))
-      (record { events = events_of opening marks; behind = []; front = sym (append-nil (events_of opening marks)); has = s.has; passes = s.passes; pending = whole_or pending; records = inl s.made; closed = λ e. absurd (never e) })
+  session_ends : (outcome : Outcome) (opening : Opening) (t0 : ℕ) (rest : ℕ → Counts) (after : RecorderState) (end : Disk tells tells_images) (w' : Watched) → after ≡ r → end ≡ disk → (before.hears → w' ≡ w) → HasSession before opening marks t0 r disk w → (outcome ≡ Done → ⊥) → (has_fault marks ≡ false) ⊎ (outcome ≡ MediaFault)
+      → EndsRun before opening marks t0 rest outcome after end w'
+  session_ends outcome opening t0 rest after end w' same still untold s never pending =
+      subst (λ (x : RecorderState × Disk tells tells_images). EndsRun before opening marks t0 rest outcome x.0 x.1 w') (λ i. (sym same i, sym still i))
+      (record { events = events_of opening marks; behind = []; front = sym (append-nil (events_of opening marks)); has = s.has; passes = s.passes; heard = tells_join s.heard (tells_none untold); pending = whole_or pending; records = inl s.made; closed = λ e. absurd (never e) })
     where
       whole_or : (has_fault marks ≡ false) ⊎ (outcome ≡ MediaFault) → IsWhole (events_of opening marks) ⊎ (outcome ≡ MediaFault)
       whole_or (inl none) = inl (whole_along opening [] [] marks (All-nil (λ (e : Event). e.moment ≢ None)) (all_there marks none))
@@ -129,7 +131,7 @@ module _ {P : Type 0} (port_tells : PortTells P) {tells tells_images : Type 0} (
 
   -- The run was not begun.
   pub not_begun_ends : (outcome : Outcome) → (began ≡ Begun → ⊥) → IsToldAs began outcome
-      → HasEnded port_tells turns (λ g. is_configured (limits_in rates g)) queues first last old new before opened sizes faults beside outcome r disk now
+      → HasEnded port_tells turns (λ g. is_configured (limits_in rates g)) queues first last old new before opened sizes faults beside outcome r disk now w
   not_begun_ends outcome ne told_as = record {
     marks = marks;
     began = began;
@@ -145,7 +147,7 @@ module _ {P : Type 0} (port_tells : PortTells P) {tells tells_images : Type 0} (
     rose = λ e. k.rose (failed_by ((h.refused ne).fails (a_fault began outcome ne told_as e)));
     sizes_are = k.sizes_are;
     elsewhere = k.elsewhere;
-    told = λ told opening t0 b. (session_ends outcome opening t0 (λ _. none_missed) r disk refl refl (k.told told opening t0 b) (not_done began outcome ne told_as) (refused_or_fault began outcome ne told_as (λ either. ((h.refused ne).idle either).1)), means told opening t0 b);
+    told = λ told opening t0 b. (session_ends outcome opening t0 (λ _. none_missed) r disk w refl refl (λ heard. refl) (k.told told opening t0 b) (not_done began outcome ne told_as) (refused_or_fault began outcome ne told_as (λ either. ((h.refused ne).idle either).1)), means told opening t0 b);
   }
 
   module _ (is : began ≡ Begun) (rest : ℕ → Counts) (missed : AreMissed queues new rest) (sixteen : length new ≡ 16) (turns_few : turns ≤ most_items) where
@@ -192,13 +194,13 @@ module _ {P : Type 0} (port_tells : PortTells P) {tells tells_images : Type 0} (
     works_here works = no_fault marks (k.stage.whole works)
 
     -- What a stop leaves.
-    module _ (after : RecorderState) (end : Disk tells tells_images) (later : List ℕ) (still : end.sizes ≡ disk.sizes) (elsewhere : tells → SameElsewhere disk.reads end.reads) (falls : NoneFalls now later)
+    module _ (w' : Watched) (after : RecorderState) (end : Disk tells tells_images) (later : List ℕ) (still : end.sizes ≡ disk.sizes) (elsewhere : tells → SameElsewhere disk.reads end.reads) (falls : NoneFalls now later)
         (stopped : (opening : Opening) (events : List Event) (t0 : ℕ) → tells → r.vault.failed ≡ false → HasRecorded opening events t0 r disk
-        → HasDone opening events t0 (Commit (closing (state_left opening events).start (recorder_in (state_left opening events)) rest) []) after disk end)
+        → DoneAndTold before.hears opening events t0 (Commit (closing (state_left opening events).start (recorder_in (state_left opening events)) rest) []) after disk end w w')
         (counted : (start : RunStart) (popped : List Captured) → CountsItems start popped r.maker → CountsItems start popped after.maker) where
-      closes : (outcome : Outcome) → (after.vault.failed ≡ false) ⊎ (outcome ≡ MediaFault) → r.vault.failed ≡ false → (opening : Opening) (t0 : ℕ) → tells → HasSession before opening marks t0 r disk → EndsRun before opening marks t0 rest outcome after end
+      closes : (outcome : Outcome) → (after.vault.failed ≡ false) ⊎ (outcome ≡ MediaFault) → r.vault.failed ≡ false → (opening : Opening) (t0 : ℕ) → tells → HasSession before opening marks t0 r disk w → EndsRun before opening marks t0 rest outcome after end w'
       closes outcome goes works opening t0 told s =
-          let run = closes_session before opening marks t0 rest r after disk end s works ran.begun (sym (begun_whole marks (k.stage.whole works)) ∙ ran.begun) (stopped opening (events_of opening marks) t0 told works s.has) in
+          let run = closes_session before opening marks t0 rest r after disk end w w' s works ran.begun (sym (begun_whole marks (k.stage.whole works)) ∙ ran.begun) (stopped opening (events_of opening marks) t0 told works s.has) in
           let at_ = s.begun works ran.begun in
           let makes = ((s.has.works works).makes stage.0).makes in
           record {
@@ -207,14 +209,15 @@ module _ {P : Type 0} (port_tells : PortTells P) {tells tells_images : Type 0} (
             front = refl;
             has = run.has;
             passes = run.passes;
+            heard = run.heard;
             pending = ⊎_elim (λ (on : after.vault.failed ≡ false). inl ((whole_has_not_failed (events_of opening marks ++ run.event ∷ [])).1 (sym run.has.failed ∙ on))) (λ (e : outcome ≡ MediaFault). inr e) goes;
             records = inr (run.made, ran.begun, works_here works);
             closed = λ _. (run.made, counted (start_of_opening opening) (taken_in marks) (subst (λ (x : RunStart × List Captured). CountsItems x.0 x.1 r.maker) (λ i. (at_.0 i, at_.1 i)) makes.counts));
           }
 
       ends_as : (outcome : Outcome) → (outcome ≡ Done) ⊎ (outcome ≡ MediaFault) → (outcome ≡ Done → (r.vault.failed ≡ false) × (after.vault.failed ≡ false)) → (outcome ≡ MediaFault → (r.vault.failed ≡ true) ⊎ Rose (sum now) (sum later))
-          → (tells → (opening : Opening) (t0 : ℕ) → HasSession before opening marks t0 r disk → EndsRun before opening marks t0 rest outcome after end)
-          → HasEnded port_tells turns (λ g. is_configured (limits_in rates g)) queues first last old new before opened sizes faults beside outcome after end later
+          → (tells → (opening : Opening) (t0 : ℕ) → HasSession before opening marks t0 r disk w → EndsRun before opening marks t0 rest outcome after end w')
+          → HasEnded port_tells turns (λ g. is_configured (limits_in rates g)) queues first last old new before opened sizes faults beside outcome after end later w'
       ends_as outcome told_as works cause run = record {
         marks = marks;
         began = began;
@@ -238,14 +241,14 @@ module _ {P : Type 0} (port_tells : PortTells P) {tells tells_images : Type 0} (
 
       -- The run was closed.
       pub done_ends : r.vault.failed ≡ false → after.vault.failed ≡ false
-          → HasEnded port_tells turns (λ g. is_configured (limits_in rates g)) queues first last old new before opened sizes faults beside Done after end later
+          → HasEnded port_tells turns (λ g. is_configured (limits_in rates g)) queues first last old new before opened sizes faults beside Done after end later w'
       done_ends works goes = ends_as Done (inl refl) (λ _. (works, goes)) (λ e. absurd (done_is_no_fault e)) (λ told opening t0 s. closes Done (inl goes) works opening t0 told s)
 
       -- The media failed, before or in the close.
-      pub fault_ends : (r.vault.failed ≡ true → (after ≡ r) × (end ≡ disk)) → (r.vault.failed ≡ true) ⊎ Rose (sum now) (sum later)
-          → HasEnded port_tells turns (λ g. is_configured (limits_in rates g)) queues first last old new before opened sizes faults beside MediaFault after end later
-      fault_ends same cause = ends_as MediaFault (inr refl) (λ e. absurd (fault_is_not_done e)) (λ _. cause)
+      pub fault_ends : (r.vault.failed ≡ true → (after ≡ r) × (end ≡ disk)) → (before.hears → w' ≡ w) → (r.vault.failed ≡ true) ⊎ Rose (sum now) (sum later)
+          → HasEnded port_tells turns (λ g. is_configured (limits_in rates g)) queues first last old new before opened sizes faults beside MediaFault after end later w'
+      fault_ends same untold cause = ends_as MediaFault (inr refl) (λ e. absurd (fault_is_not_done e)) (λ _. cause)
           (λ told opening t0 s. ⊎_elim
-          (λ (fails : r.vault.failed ≡ true). session_ends MediaFault opening t0 rest after end (same fails).0 (same fails).1 s fault_is_not_done (inr refl))
+          (λ (fails : r.vault.failed ≡ true). session_ends MediaFault opening t0 rest after end w' (same fails).0 (same fails).1 untold s fault_is_not_done (inr refl))
           (λ (works : r.vault.failed ≡ false). closes MediaFault (inr refl) works opening t0 told s)
           (cases_Bool r.vault.failed))

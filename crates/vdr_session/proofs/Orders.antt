@@ -18,7 +18,8 @@ use Rattle.vdr_vault.specs.Vaults.{VaultState}
 use Rattle.vdr_run.specs.declared.maker.Maker.{Maker}
 use Rattle.vdr_run.specs.Making.{counted_of}
 use Rattle.vdr_recorder.specs.Making.{numbers_of}
-use Rattle.vdr_recorder.specs.Recordings.{HasDone, HasRecorded, RecorderState}
+use Rattle.vdr_recorder.specs.Recordings.{HasRecorded, RecorderState}
+use Rattle.vdr_recorder.specs.Watched.{DoneAndTold, IsWatched, Watched}
 use Rattle.vdr_recorder.proofs.Continuing.{has_moment}
 use Rattle.vdr_reply.specs.Answers.{HasAnswered, IsAnswer, LeavesRest, Spells}
 use Rattle.vdr_reply.specs.Orders.{changes, granted_act}
@@ -103,10 +104,10 @@ spelled_so A B (Play medium name from to) vault reply text so (inl h) = inl h
 spelled_so A B (Play medium name from to) vault reply text so (inr (inl h)) = inr (inl (h.0, so (and_false vault.failed) h.1))
 spelled_so A B (Play medium name from to) vault reply text so (inr (inr h)) = inr (inr h)
 
-module _ {tells tells_images : Type 0} (before : Before) (began : Opening → ℕ → Type 0) (rates : List (Option Rate)) (room : ℕ) (sizes faults : List ℕ) (marks : List Mark) (r : RecorderState)
-    (old : Disk tells tells_images) (was : List ℕ) (k : IsKept before began rates room sizes faults marks r old was) (order : PlainOrder) (text : List ℕ) (after : RecorderState) (new : Disk tells tells_images) (now : List ℕ)
-    (home : StaysHome r old was after new now) (rest : LeavesRest r after) (stays : r.vault.failed ≡ true → after.vault.failed ≡ true)
-    (answered : (opening : Opening) (events : List Event) (t0 : ℕ) → tells → HasRecorded opening events t0 r old → HasAnswered r.vault.config.channels (Rose (sum was) (sum now)) opening events t0 order text r after old new) where
+module _ {tells tells_images : Type 0} (before : Before) (began : Opening → ℕ → Type 0) (rates : List (Option Rate)) (room : ℕ) (sizes faults : List ℕ) (marks : List Mark) (w w' : Watched) (r : RecorderState)
+    (old : Disk tells tells_images) (was : List ℕ) (k : IsKept before began rates room sizes faults marks w r old was) (order : PlainOrder) (text : List ℕ) (after : RecorderState) (new : Disk tells tells_images) (now : List ℕ)
+    (watched : IsWatched before.hears w' after new) (home : StaysHome r old was after new now) (rest : LeavesRest r after) (stays : r.vault.failed ≡ true → after.vault.failed ≡ true)
+    (answered : (opening : Opening) (events : List Event) (t0 : ℕ) → tells → HasRecorded opening events t0 r old → HasAnswered r.vault.config.channels (Rose (sum was) (sum now)) opening events t0 order text r after old new before.hears w w') where
   abbrev mark : Mark
   mark = order_mark order r.vault after.vault.failed new.clock (sum was) (sum now)
 
@@ -126,8 +127,8 @@ module _ {tells tells_images : Type 0} (before : Before) (began : Opening → �
   taken : taken_in (marks ++ mark ∷ []) ≡ taken_in marks
   taken = taken_same_by marks mark (takes_none granted rose order)
 
-  pub order_kept : IsKept before began rates room sizes faults (marks ++ mark ∷ []) after new now
-  order_kept = kept_by before began rates room sizes faults marks r old was k mark after new now home
+  pub order_kept : IsKept before began rates room sizes faults (marks ++ mark ∷ []) w' after new now
+  order_kept = kept_by before began rates room sizes faults marks w r old was k mark w' after new now watched home
       (λ e. leb-true (min (sum was + 1) (2 ^ 64 - 1)) (sum now) (misses_so granted rose order e))
       (record {
         open_is = λ is. let o = k.stage.open_is (sym (begun_none marks mark (ap (λ (b : Bool). b && is_some mark.moment) (begins_none granted rose order))) ∙ is) in (
@@ -144,8 +145,8 @@ module _ {tells tells_images : Type 0} (before : Before) (began : Opening → �
       let s = k.told told opening t0 b in
       let a = answered opening (events_of opening marks) t0 told s.has in
       let act = act_is opening (taken_in marks) (events_of opening marks) granted rose order in
-      still_session before opening marks t0 r old s mark after new
-      (subst (λ (act : Act). HasDone opening (events_of opening marks) t0 act after old new) (sym act) a.done)
+      still_session before opening marks t0 r old w w' s mark after new
+      (subst (λ (act : Act). DoneAndTold before.hears opening (events_of opening marks) t0 act after old new w w') (sym act) a.done)
       refl lasts (begins_none granted rose order) (takes_none granted rose order)
       (ap records_of_act act ∙ records_none opening (events_of opening marks) granted order)
       (λ t. ap (after_act t) act ∙ leaves_state opening (events_of opening marks) granted order t))

@@ -13,6 +13,7 @@ use Rattle.vdr_capture.specs.declared.sums.Outcome.{Outcome}
 use Rattle.vdr_control.specs.Orders.{PlainOrder}
 use Rattle.vdr_control.specs.Orders.PlainOrder.{Status, Save, Release, Play}
 use Rattle.vdr_recorder.specs.Recordings.{RecorderState}
+use Rattle.vdr_recorder.specs.Watched.{Watched}
 use Rattle.vdr_desk.specs.declared.desk.Desk.{Desk}
 use Rattle.vdr_desk.specs.Exchanges.{AreExchanged, Exchange}
 use Rattle.vdr_desk.specs.Links.{Converses}
@@ -123,9 +124,9 @@ module _ {L : Type 0} (tells : LinkTells L) (turns : ℕ) (media_tells : Type 0)
     each = λ i d low. let s = spoken i d low in (s.0, s.1);
   }
 
-  pub desks_replied : {images : Type 0} (met_fault : Type 0) (missed : has_missed marks ≡ true → met_fault) (before : Before) (t0 : ℕ) (rest : ℕ → Counts) (r : RecorderState) (disk : Disk media_tells images)
-      → media_tells → (opening : Opening) → opened opening t0 → (run : EndsRun before opening marks t0 rest outcome r disk) → DesksReplied tells turns channels met_fault end orig new opening run.events
-  desks_replied met_fault missed before t0 rest r disk told opening opens run i d low =
+  pub desks_replied : {images : Type 0} (met_fault : Type 0) (missed : has_missed marks ≡ true → met_fault) (before : Before) (t0 : ℕ) (rest : ℕ → Counts) (r : RecorderState) (disk : Disk media_tells images) (w : Watched)
+      → media_tells → (opening : Opening) → opened opening t0 → (run : EndsRun before opening marks t0 rest outcome r disk w) → DesksReplied tells turns channels met_fault end orig new opening run.events
+  desks_replied met_fault missed before t0 rest r disk w told opening opens run i d low =
       let s = spoken i d low in
       let long : length marks ≤ length run.events = (let a = ap length run.front in let b = length-append (events_of opening marks) run.behind in let c = as_long opening marks in omega (arith, a, b, c)) in
       record {

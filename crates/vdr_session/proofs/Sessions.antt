@@ -25,6 +25,7 @@ use Rattle.vdr_capture.specs.declared.sums.Outcome.TheVariants.{Done, NoMemory, 
 use Rattle.vdr_capture.specs.Sums.{sums_of}
 use Rattle.vdr_run.specs.Making.{CountsItems}
 use Rattle.vdr_recorder.specs.Recordings.{HasRecorded, RecorderState, start_of_opening}
+use Rattle.vdr_recorder.specs.Watched.{Watched}
 use Rattle.vdr_recorder.proofs.Continuing.{left_place}
 use Rattle.vdr_desk.proofs.Lists.{no_default}
 use Rattle.vdr_session.specs.declared.mark.Mark.{Mark}
@@ -70,11 +71,11 @@ some_rate None = refl
 some_rate (Some rate) = refl
 
 module _ {P : Type 0} (port_tells : PortTells P) {tells tells_images : Type 0} (turns capacity : ℕ) (rates : List (Option Rate)) (configured : List Bool) (queues : List (Option QueueId)) (first last : List (Option Taking))
-    (orig old new : List (Lane P)) (recorder : RecorderState) (at_first : Disk tells tells_images) (sizes faults : List ℕ) (beside : Began → List Mark → Type 0) (outcome : Outcome) (r : RecorderState) (disk : Disk tells tells_images) (now : List ℕ) (end : SessionEnd)
+    (orig old new : List (Lane P)) (recorder : RecorderState) (at_first : Disk tells tells_images) (sizes faults : List ℕ) (beside : Began → List Mark → Type 0) (outcome : Outcome) (r : RecorderState) (disk : Disk tells tells_images) (now : List ℕ) (hears : Type 0) (heard w : Watched) (end : SessionEnd)
     (conf : (g : ℕ) → g < 16 → get_or configured g false ≡ is_configured (limits_in rates g)) (lengths : (length orig ≡ 16) × (length old ≡ 16) × (length new ≡ 16))
     (set : (g : ℕ) (d : Lane P) → g < 16 → IsSetUp (get_or configured g false) g capacity (get_or queues g None) (get_or first g None) (get_or orig g d) (get_or old g d))
-    (e : HasEnded port_tells turns (λ g. is_configured (limits_in rates g)) queues first last old new (record { clock = at_first.clock; now = at_first.now; since = at_first.since; reads = at_first.reads; channels = recorder.vault.config.channels })
-    (λ opening t0. HasRecorded opening [] t0 recorder at_first) sizes faults beside outcome r disk now)
+    (e : HasEnded port_tells turns (λ g. is_configured (limits_in rates g)) queues first last old new (record { clock = at_first.clock; now = at_first.now; since = at_first.since; reads = at_first.reads; channels = recorder.vault.config.channels; hears = hears; heard = heard })
+    (λ opening t0. HasRecorded opening [] t0 recorder at_first) sizes faults beside outcome r disk now w)
     (ports : IsWithFailures outcome end.outcome)
     (sums : (start : RunStart) (popped : List Captured) → CountsItems start popped r.maker → (g : ℕ) (d : Lane P) → g < 16 → is_some (get_or queues g None) ≡ true
     → get_or end.groups g None ≡ Some (summed start popped (get_or new g d).tally g))
@@ -96,7 +97,7 @@ module _ {P : Type 0} (port_tells : PortTells P) {tells tells_images : Type 0} (
       (closes : e.began ≡ starts.Begun → has_fault e.marks ≡ false → (g : ℕ) (d : Lane P) → g < 16
       → LaneGave port_tells turns g (get_or queues g None) (get_or last g None) (get_or old g d) (get_or new g d) (given g) (e.rest g) × (of_group g items ≡ popped_by (get_or last g None)) × IsDrained (get_or last g None)) where
     module _ (opening : Opening) (t0 : ℕ) (told : tells) (h : HasRecorded opening [] t0 recorder at_first) where
-      run : EndsRun (record { clock = at_first.clock; now = at_first.now; since = at_first.since; reads = at_first.reads; channels = recorder.vault.config.channels }) opening e.marks t0 e.rest outcome r disk
+      run : EndsRun (record { clock = at_first.clock; now = at_first.now; since = at_first.since; reads = at_first.reads; channels = recorder.vault.config.channels; hears = hears; heard = heard }) opening e.marks t0 e.rest outcome r disk w
       run = (e.told told opening t0 h).0
 
       abbrev records : List Record

@@ -10,13 +10,14 @@ use Rattle.vdr_run.specs.Starts.{stamp_of}
 use Rattle.vdr_recorder.specs.declared.run.StartRefused.{StartRefused}
 use Rattle.vdr_recorder.specs.declared.run.StartRefused.TheVariants.{Place, Tick}
 use Rattle.vdr_recorder.specs.Refusals.{MayBegin}
+use Rattle.vdr_recorder.specs.Watched.{Watched}
 use Rattle.vdr_recorder.proofs.Starting.{same_stamp}
 use Rattle.vdr_session.specs.declared.mark.Mark.{Mark}
 use Rattle.vdr_session.specs.Events.{events_of, is_started}
 use Rattle.vdr_session.specs.Standing.{Before, HasSession}
 
-module _ {tells tells_images : Type 0} {before : Before} {opening : Opening} {marks : List Mark} {t0 : ℕ} {r : RecorderState} {disk : Disk tells tells_images}
-    (s : HasSession before opening marks t0 r disk) (works : r.vault.failed ≡ false) (idle : is_started marks ≡ false) where
+module _ {tells tells_images : Type 0} {before : Before} {opening : Opening} {marks : List Mark} {t0 : ℕ} {r : RecorderState} {disk : Disk tells tells_images} {w : Watched}
+    (s : HasSession before opening marks t0 r disk w) (works : r.vault.failed ≡ false) (idle : is_started marks ≡ false) where
   place_is : r.vault.next_place ≡ opening.next_place
   place_is = s.has.told.place ∙ ap (λ (start : RunStart). start.place) (s.next works idle)
 

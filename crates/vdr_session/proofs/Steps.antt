@@ -1,5 +1,5 @@
 -- A recorder under the latch after one more mark.
-use Rattle.std.proofs.Common.{◌≡◌, ◌≢◌, ◌⊎◌, inl, inr, ◌<◌, ◌≤◌, ◌+◌, ◌*◌, ◌^◌, ◌++◌, ◌&&◌, ◌||◌, ℕ, Bool, true, false, true≢false, List, [], ◌∷◌, Option, None, length, filter, is_some, if◌then◌else◌, ⊎_elim, refl, sym, ap, ◌∙◌, subst, arith, append-nil}
+use Rattle.std.proofs.Common.{◌≡◌, ◌≢◌, ◌⊎◌, inl, inr, ◌<◌, ◌≤◌, ◌+◌, ◌*◌, ◌^◌, ◌++◌, ◌&&◌, ◌||◌, ℕ, Bool, true, false, true≢false, List, [], ◌∷◌, Option, None, length, filter, is_some, not, if◌then◌else◌, ⊎_elim, refl, sym, ap, ◌∙◌, subst, arith, append-nil}
 use Rattle.std.specs.Prelude.{sum}
 use Rattle.std.proofs.lemmas.Bool.{cases_Bool, cond-false, cond-true}
 use Rattle.std.proofs.lemmas.Grind.{flat_map-append}
@@ -9,7 +9,7 @@ use Rattle.vdr_terms.specs.Counting.{next_number}
 use Rattle.vdr_terms.specs.Records.{Record}
 use Rattle.vdr_terms.specs.declared.rate.Rate.{Rate}
 use Rattle.vdr_core.specs.Histories.{Event, Opening, recorded, records_of_act}
-use Rattle.vdr_core.specs.Histories.Act.{Commit}
+use Rattle.vdr_core.specs.Histories.Act.{Commit, Look as ALook}
 use Rattle.vdr_core.specs.Recorder.{begun, recorder_after}
 use Rattle.vdr_core.specs.Runs.{RunStart}
 use Rattle.vdr_core.specs.RunStates.{RunState, after_act, begin_run, next_start, recorder_in, state_left}
@@ -27,6 +27,9 @@ use Rattle.vdr_vault.specs.Vaults.{AreRings, ShowsHistory}
 use Rattle.vdr_run.specs.Making.{counted_of}
 use Rattle.vdr_recorder.specs.Making.{numbers_of}
 use Rattle.vdr_recorder.specs.Recordings.{HasDone, HasRecorded, Passes, RecorderState, start_of_opening}
+use Rattle.vdr_recorder.specs.Watched.{DoneAndTold, IsWatched, Tells, Watched}
+use Rattle.vdr_recorder.specs.Watched.{PlainTurn as turns}
+use Rattle.vdr_recorder.proofs.Telling.{done_told, tells_join, tells_none}
 use Rattle.vdr_recorder.proofs.Answering.{same_disk}
 use Rattle.vdr_recorder.proofs.Continuing.{has_moment, left_with}
 use Rattle.vdr_recorder.proofs.Looking.{look_done}
@@ -64,11 +67,14 @@ module _ {tells tells_images : Type 0} (before : Before) (opening : Opening) whe
       in_call : (i : Image) → (old.now i ⊎ ShowsPrefix (ShowsHistory opening) (events ++ e ∷ []) 0 i) → Possible before opening (events ++ e ∷ []) i
       in_call i h = ⊎_elim (λ (now : old.now i). weaker i (p.each i (old.counts_now before.clock i p.later now))) (λ (shown : ShowsPrefix (ShowsHistory opening) (events ++ e ∷ []) 0 i). inr shown) h
 
-  module _ (marks : List Mark) (t0 : ℕ) (r : RecorderState) (old : Disk tells tells_images) (s : HasSession before opening marks t0 r old) (m : Mark) (after : RecorderState) (new : Disk tells tells_images)
-      (d : HasDone opening (events_of opening marks) t0 (act_of opening (taken_in marks) (events_of opening marks) m.did) after old new) (moment_is : m.moment ≡ moment_of after.vault.failed new.clock)
+  module _ (marks : List Mark) (t0 : ℕ) (r : RecorderState) (old : Disk tells tells_images) (w w' : Watched) (s : HasSession before opening marks t0 r old w) (m : Mark) (after : RecorderState) (new : Disk tells tells_images)
+      (done : DoneAndTold before.hears opening (events_of opening marks) t0 (act_of opening (taken_in marks) (events_of opening marks) m.did) after old new w w') (moment_is : m.moment ≡ moment_of after.vault.failed new.clock)
       (lasts : after.vault.failed ≡ false → r.vault.failed ≡ false) where
     abbrev events : List Event
     events = events_of opening marks
+
+    abbrev d : HasDone opening (events_of opening marks) t0 (act_of opening (taken_in marks) (events_of opening marks) m.did) after old new
+    d = done.done
 
     abbrev own : Event
     own = event_of opening (taken_in marks) events m
@@ -81,6 +87,9 @@ module _ {tells tells_images : Type 0} (before : Before) (opening : Opening) whe
 
     has_more : HasRecorded opening (events_of opening (marks ++ m ∷ [])) t0 after new
     has_more = subst (λ (es : List Event). HasRecorded opening es t0 after new) events_are d.has
+
+    heard_more : Tells before.hears opening [] (events_of opening (marks ++ m ∷ [])) before.heard w'
+    heard_more = subst (λ (es : List Event). Tells before.hears opening [] es before.heard w') events_are (tells_join s.heard done.told)
 
     since_more : PassesSince before opening (events_of opening (marks ++ m ∷ [])) new
     since_more = subst (λ (es : List Event). PassesSince before opening es new) events_are (passes_more events d.event old new s.passes d.passes)
@@ -98,7 +107,7 @@ module _ {tells tells_images : Type 0} (before : Before) (opening : Opening) whe
 
     -- the mark begins nothing, takes nothing and records nothing
     pub still_session : begins m.did ≡ false → taken_by m.did ≡ [] → records_of_act (act_of opening (taken_in marks) events m.did) ≡ []
-        → ((t : RunState) → after_act t (act_of opening (taken_in marks) events m.did) ≡ t) → HasSession before opening (marks ++ m ∷ []) t0 after new
+        → ((t : RunState) → after_act t (act_of opening (taken_in marks) events m.did) ≡ t) → HasSession before opening (marks ++ m ∷ []) t0 after new w'
     still_session begins_none takes_none records_none leaves = record {
       has = has_more;
       made = recorded_more
@@ -111,10 +120,11 @@ module _ {tells tells_images : Type 0} (before : Before) (opening : Opening) whe
           (ap (λ (t : RunState). t.start) left ∙ was.0, ap (λ (t : RunState). t.popped) left ∙ was.1 ∙ sym (taken_same_by marks m takes_none));
       next = λ goes idle. ap next_start (left_more goes ∙ leaves (state_left opening events)) ∙ s.next (lasts goes) (sym (started_same marks m begins_none) ∙ idle);
       passes = since_more;
+      heard = heard_more;
     }
 
     -- the mark began the run
-    pub begun_session : m.did ≡ Begin → r.vault.failed ≡ false → is_started marks ≡ false → taken_in marks ≡ [] → HasSession before opening (marks ++ m ∷ []) t0 after new
+    pub begun_session : m.did ≡ Begin → r.vault.failed ≡ false → is_started marks ≡ false → taken_in marks ≡ [] → HasSession before opening (marks ++ m ∷ []) t0 after new w'
     begun_session did_is works idle none =
         let act_is : act_of opening (taken_in marks) events m.did ≡ Commit (begun (start_of_opening opening)).made [] = ap (act_of opening (taken_in marks) events) did_is in
         let begins_is : begins m.did ≡ true = ap begins did_is in
@@ -131,12 +141,13 @@ module _ {tells tells_images : Type 0} (before : Before) (opening : Opening) whe
               (ap (λ (t : RunState). t.start) left ∙ s.next works idle, ap (λ (t : RunState). t.popped) left ∙ sym taken);
           next = λ goes none_started. absurd (true≢false (sym started ∙ none_started));
           passes = since_more;
+          heard = heard_more;
         }
 
     -- the mark took items
     pub taken_session : (items : List Captured) → m.did ≡ Take items → is_started marks ≡ true
         → (recorder_after (start_of_opening opening) (taken_in marks ++ items)).made ≡ (recorder_after (start_of_opening opening) (taken_in marks)).made ++ added_records (start_of_opening opening) (taken_in marks) items
-        → (after.vault.failed ≡ false → is_begun marks ≡ true) → HasSession before opening (marks ++ m ∷ []) t0 after new
+        → (after.vault.failed ≡ false → is_begun marks ≡ true) → HasSession before opening (marks ++ m ∷ []) t0 after new w'
     taken_session items did_is started made was_begun =
         let act_is : act_of opening (taken_in marks) events m.did ≡ Commit (added_records (start_of_opening opening) (taken_in marks) items) items = ap (act_of opening (taken_in marks) events) did_is in
         let begins_none : begins m.did ≡ false = ap begins did_is in
@@ -163,7 +174,17 @@ module _ {tells tells_images : Type 0} (before : Before) (opening : Opening) whe
               );
           next = λ goes none_started. absurd (true≢false (sym still ∙ none_started));
           passes = since_more;
+          heard = heard_more;
         }
+
+-- A look was told, whatever was recorded before it.
+abbrev pub LooksTold : {tells tells_images : Type 0} → (hears : Type 0) → RecorderState → Disk tells tells_images → (was now : Watched) → Type 0
+LooksTold hears r disk was now = (opening : Opening) (events : List Event) (t0 : ℕ) → HasRecorded opening events t0 r disk → DoneAndTold hears opening events t0 ALook r disk disk was now
+
+-- One behind a fault is not told.
+pub untold_look : {tells tells_images hears : Type 0} (r : RecorderState) (disk : Disk tells tells_images) (was now : Watched) → r.vault.failed ≡ true → (hears → now ≡ was) → LooksTold hears r disk was now
+untold_look r disk was now fails untold opening events t0 h =
+    done_told opening events t0 ALook r disk disk (look_done opening events t0 r disk disk h r.vault (same_disk disk) refl refl refl refl refl (λ placed stands. stands)) turns.Look was now false (ap not fails) (λ works. refl) untold
 
 -- What a call leaves at home.
 pub record StaysHome {tells tells_images : Type 0} (r : RecorderState) (old : Disk tells tells_images) (was : List ℕ) (after : RecorderState) (new : Disk tells tells_images) (now : List ℕ) : Type 0 where
@@ -174,12 +195,12 @@ pub record StaysHome {tells tells_images : Type 0} (r : RecorderState) (old : Di
   pub rose : after.vault.failed ≡ true → (r.vault.failed ≡ true) ⊎ Rose (sum was) (sum now)
   pub elsewhere : tells → SameElsewhere old.reads new.reads
 
-module _ {tells tells_images : Type 0} (before : Before) (began : Opening → ℕ → Type 0) (rates : List (Option Rate)) (room : ℕ) (sizes faults : List ℕ) (marks : List Mark) (r : RecorderState)
-    (old : Disk tells tells_images) (was : List ℕ) (k : IsKept before began rates room sizes faults marks r old was) where
+module _ {tells tells_images : Type 0} (before : Before) (began : Opening → ℕ → Type 0) (rates : List (Option Rate)) (room : ℕ) (sizes faults : List ℕ) (marks : List Mark) (w : Watched) (r : RecorderState)
+    (old : Disk tells tells_images) (was : List ℕ) (k : IsKept before began rates room sizes faults marks w r old was) where
   -- with what holds at home, the rest is the stage and the history
-  pub kept_by : (m : Mark) (after : RecorderState) (new : Disk tells tells_images) (now : List ℕ) → StaysHome r old was after new now → (misses m.did ≡ true → Rose (sum was) (sum now)) → IsAt (marks ++ m ∷ []) after
-      → (tells → (opening : Opening) (t0 : ℕ) → began opening t0 → HasSession before opening (marks ++ m ∷ []) t0 after new) → IsKept before began rates room sizes faults (marks ++ m ∷ []) after new now
-  kept_by m after new now home fell stage told = record {
+  pub kept_by : (m : Mark) (w' : Watched) (after : RecorderState) (new : Disk tells tells_images) (now : List ℕ) → IsWatched before.hears w' after new → StaysHome r old was after new now → (misses m.did ≡ true → Rose (sum was) (sum now)) → IsAt (marks ++ m ∷ []) after
+      → (tells → (opening : Opening) (t0 : ℕ) → began opening t0 → HasSession before opening (marks ++ m ∷ []) t0 after new w') → IsKept before began rates room sizes faults (marks ++ m ∷ []) w' after new now
+  kept_by m w' after new now watched home fell stage told = record {
     rates_are = ap (λ (c : Configuration). c.groups) home.config ∙ k.rates_are;
     sixteen = k.sixteen;
     room_is = ap (λ (c : Configuration). c.batch) home.config ∙ k.room_is;
@@ -195,6 +216,7 @@ module _ {tells tells_images : Type 0} (before : Before) (began : Opening → �
     channels_are = ap (λ (c : Configuration). c.channels) home.config ∙ k.channels_are;
     missed = λ is. missed_by (cases_Bool (has_missed marks)) is;
     told = told;
+    watched = watched;
   }
     where
       on_since : Rose (sum was) (sum now) → Rose (sum faults) (sum now)
@@ -211,8 +233,8 @@ module _ {tells tells_images : Type 0} (before : Before) (began : Opening → �
   look_mark = record { did = Look; moment = moment_of r.vault.failed old.clock }
 
   -- a call that touched nothing
-  pub look_kept : IsKept before began rates room sizes faults (marks ++ look_mark ∷ []) r old was
-  look_kept = kept_by look_mark r old was home_same (λ e. absurd (true≢false (sym e)))
+  pub look_kept : (w' : Watched) → IsWatched before.hears w' r old → LooksTold before.hears r old w w' → IsKept before began rates room sizes faults (marks ++ look_mark ∷ []) w' r old was
+  look_kept w' watched looked = kept_by look_mark w' r old was watched home_same (λ e. absurd (true≢false (sym e)))
       (record {
         open_is = λ is. let o = k.stage.open_is (sym (begun_none marks look_mark refl) ∙ is) in (
           o.0,
@@ -226,26 +248,28 @@ module _ {tells tells_images : Type 0} (before : Before) (began : Opening → �
       })
       (λ told opening t0 b.
       let s = k.told told opening t0 b in
-      still_session before opening marks t0 r old s look_mark r old
-      (look_done opening (events_of opening marks) t0 r old old s.has r.vault (same_disk old) refl refl refl refl refl (λ placed stands. stands))
+      still_session before opening marks t0 r old w w' s look_mark r old
+      (looked opening (events_of opening marks) t0 s.has)
       refl (λ goes. goes) refl refl refl (λ t. refl))
 
   -- a start and a batch that touched nothing
-  pub start_look_kept : r.is_open ≡ false → (after : RecorderState) (new : Disk tells tells_images) (now : List ℕ) → after ≡ r → new ≡ old → now ≡ was
-      → IsKept before began rates room sizes faults (marks ++ start_mark r after new.clock ∷ []) after new now
-  start_look_kept closed after new now same same_disk_ same_now =
-      subst (λ (x : RecorderState × Disk tells tells_images × List ℕ). IsKept before began rates room sizes faults (marks ++ start_mark r x.0 x.1.clock ∷ []) x.0 x.1 x.2)
+  pub start_look_kept : r.is_open ≡ false → (w' : Watched) (after : RecorderState) (new : Disk tells tells_images) (now : List ℕ) → after ≡ r → new ≡ old → now ≡ was
+      → IsWatched before.hears w' after new → LooksTold before.hears after new w w' → IsKept before began rates room sizes faults (marks ++ start_mark r after new.clock ∷ []) w' after new now
+  start_look_kept closed w' after new now same same_disk_ same_now =
+      subst (λ (x : RecorderState × Disk tells tells_images × List ℕ). IsWatched before.hears w' x.0 x.1 → LooksTold before.hears x.0 x.1 w w'
+      → IsKept before began rates room sizes faults (marks ++ start_mark r x.0 x.1.clock ∷ []) w' x.0 x.1 x.2)
       (λ i. (sym same i, sym same_disk_ i, sym same_now i))
-      (subst (λ (did : Did). IsKept before began rates room sizes faults (marks ++ record { did = did; moment = moment_of r.vault.failed old.clock } ∷ []) r old was)
-      (sym (look_told r closed (cases_Bool r.vault.failed))) look_kept)
+      (λ watched looked. subst (λ (did : Did). IsKept before began rates room sizes faults (marks ++ record { did = did; moment = moment_of r.vault.failed old.clock } ∷ []) w' r old was)
+      (sym (look_told r closed (cases_Bool r.vault.failed))) (look_kept w' watched looked))
 
-  pub batch_look_kept : (items : List Captured) → r.vault.failed ≡ true → (after : RecorderState) (new : Disk tells tells_images) (now : List ℕ) → after ≡ r → new ≡ old → now ≡ was
-      → IsKept before began rates room sizes faults (marks ++ batch_mark r.vault.failed items after.vault.failed new.clock ∷ []) after new now
-  batch_look_kept items fails after new now same same_disk_ same_now =
-      subst (λ (x : RecorderState × Disk tells tells_images × List ℕ). IsKept before began rates room sizes faults (marks ++ batch_mark r.vault.failed items x.0.vault.failed x.1.clock ∷ []) x.0 x.1 x.2)
+  pub batch_look_kept : (items : List Captured) → r.vault.failed ≡ true → (w' : Watched) (after : RecorderState) (new : Disk tells tells_images) (now : List ℕ) → after ≡ r → new ≡ old → now ≡ was
+      → IsWatched before.hears w' after new → LooksTold before.hears after new w w' → IsKept before began rates room sizes faults (marks ++ batch_mark r.vault.failed items after.vault.failed new.clock ∷ []) w' after new now
+  batch_look_kept items fails w' after new now same same_disk_ same_now =
+      subst (λ (x : RecorderState × Disk tells tells_images × List ℕ). IsWatched before.hears w' x.0 x.1 → LooksTold before.hears x.0 x.1 w w'
+      → IsKept before began rates room sizes faults (marks ++ batch_mark r.vault.failed items x.0.vault.failed x.1.clock ∷ []) w' x.0 x.1 x.2)
       (λ i. (sym same i, sym same_disk_ i, sym same_now i))
-      (subst (λ (did : Did). IsKept before began rates room sizes faults (marks ++ record { did = did; moment = moment_of r.vault.failed old.clock } ∷ []) r old was)
-      (sym (cond-true r.vault.failed Look (Take items) fails)) look_kept)
+      (λ watched looked. subst (λ (did : Did). IsKept before began rates room sizes faults (marks ++ record { did = did; moment = moment_of r.vault.failed old.clock } ∷ []) w' r old was)
+      (sym (cond-true r.vault.failed Look (Take items) fails)) (look_kept w' watched looked))
 
   -- no run was begun where none is open
   pub none_started : r.is_open ≡ false → r.vault.failed ≡ false → (is_begun marks ≡ false) × (is_started marks ≡ false)
@@ -263,20 +287,20 @@ module _ {tells tells_images : Type 0} (before : Before) (began : Opening → �
       on (inl is) = is
       on (inr none) = absurd (true≢false (sym opened ∙ (k.stage.idle none).0))
 
-  module _ (after : RecorderState) (new : Disk tells tells_images) (now : List ℕ) (home : StaysHome r old was after new now) (works : r.vault.failed ≡ false) where
+  module _ (w' : Watched) (after : RecorderState) (new : Disk tells tells_images) (now : List ℕ) (watched : IsWatched before.hears w' after new) (home : StaysHome r old was after new now) (works : r.vault.failed ≡ false) where
     abbrev begin_mark : Mark
     begin_mark = record { did = Begin; moment = moment_of after.vault.failed new.clock }
 
     -- a start that called the media
     pub begin_kept : r.is_open ≡ false
         → (after.vault.failed ≡ false → (after.is_open ≡ true) × (after.maker.place ≤ 2 ^ 62) × ((g : ℕ) → g < 16 → next_number (counted_of after.maker g).pending ≡ 0))
-        → ((opening : Opening) (events : List Event) (t0 : ℕ) → tells → HasRecorded opening events t0 r old → HasDone opening events t0 (Commit (begun (next_start (state_left opening events))).made []) after old new)
-        → IsKept before began rates room sizes faults (marks ++ begin_mark ∷ []) after new now
+        → ((opening : Opening) (events : List Event) (t0 : ℕ) → tells → HasRecorded opening events t0 r old → DoneAndTold before.hears opening events t0 (Commit (begun (next_start (state_left opening events))).made []) after old new w w')
+        → IsKept before began rates room sizes faults (marks ++ begin_mark ∷ []) w' after new now
     begin_kept closed opens done =
         let none = none_started closed works in
         let idle = k.stage.idle none.1 in
         let started : is_started (marks ++ begin_mark ∷ []) ≡ true = started_more marks begin_mark ∙ ap (λ (b : Bool). b || true) none.1 in
-        kept_by begin_mark after new now home (λ e. absurd (true≢false (sym e)))
+        kept_by begin_mark w' after new now watched home (λ e. absurd (true≢false (sym e)))
         (record {
           open_is = λ is. opened (none.0) is (cases_Bool after.vault.failed);
           idle = λ is. absurd (true≢false (sym started ∙ is));
@@ -284,8 +308,8 @@ module _ {tells tells_images : Type 0} (before : Before) (began : Opening → �
         })
         (λ told opening t0 b.
         let s = k.told told opening t0 b in
-        begun_session before opening marks t0 r old s begin_mark after new
-        (subst (λ (start : RunStart). HasDone opening (events_of opening marks) t0 (Commit (begun start).made []) after old new) (s.next works none.1) (done opening (events_of opening marks) t0 told s.has))
+        begun_session before opening marks t0 r old w w' s begin_mark after new
+        (subst (λ (start : RunStart). DoneAndTold before.hears opening (events_of opening marks) t0 (Commit (begun start).made []) after old new w w') (s.next works none.1) (done opening (events_of opening marks) t0 told s.has))
         refl (λ goes. works) refl works none.1 idle.1)
       where
         opened : is_begun marks ≡ false → is_begun (marks ++ begin_mark ∷ []) ≡ true → (after.vault.failed ≡ true) ⊎ (after.vault.failed ≡ false) → (after.is_open ≡ true) × AreFew (marks ++ begin_mark ∷ []) after
@@ -294,10 +318,10 @@ module _ {tells tells_images : Type 0} (before : Before) (began : Opening → �
 
     pub start_kept : r.is_open ≡ false → (after.is_open ≡ true) ⊎ (after.vault.failed ≡ true)
         → (after.vault.failed ≡ false → (after.is_open ≡ true) × (after.maker.place ≤ 2 ^ 62) × ((g : ℕ) → g < 16 → next_number (counted_of after.maker g).pending ≡ 0))
-        → ((opening : Opening) (events : List Event) (t0 : ℕ) → tells → HasRecorded opening events t0 r old → HasDone opening events t0 (Commit (begun (next_start (state_left opening events))).made []) after old new)
-        → IsKept before began rates room sizes faults (marks ++ start_mark r after new.clock ∷ []) after new now
+        → ((opening : Opening) (events : List Event) (t0 : ℕ) → tells → HasRecorded opening events t0 r old → DoneAndTold before.hears opening events t0 (Commit (begun (next_start (state_left opening events))).made []) after old new w w')
+        → IsKept before began rates room sizes faults (marks ++ start_mark r after new.clock ∷ []) w' after new now
     start_kept closed how opens done =
-        subst (λ (did : Did). IsKept before began rates room sizes faults (marks ++ record { did = did; moment = moment_of after.vault.failed new.clock } ∷ []) after new now)
+        subst (λ (did : Did). IsKept before began rates room sizes faults (marks ++ record { did = did; moment = moment_of after.vault.failed new.clock } ∷ []) w' after new now)
         (sym (begin_told r after works how)) (begin_kept closed opens done)
 
     module _ (items : List Captured) where
@@ -310,14 +334,14 @@ module _ {tells tells_images : Type 0} (before : Before) (began : Opening → �
           → ((opening : Opening) (events : List Event) (t0 : ℕ) → tells → HasRecorded opening events t0 r old
           → (records : List Record)
           × ((recorder_after (state_left opening events).start ((state_left opening events).popped ++ items)).made ≡ (recorder_in (state_left opening events)).made ++ records)
-          × HasDone opening events t0 (Commit records items) after old new)
-          → IsKept before began rates room sizes faults (marks ++ take_mark ∷ []) after new now
+          × DoneAndTold before.hears opening events t0 (Commit records items) after old new w w')
+          → IsKept before began rates room sizes faults (marks ++ take_mark ∷ []) w' after new now
       take_kept open_was open_is place numbers done =
           let started : is_started marks ≡ true = is_on open_was in
           let is_begun_now : is_begun marks ≡ true = begun_whole marks (k.stage.whole works) ∙ started in
           let few = (k.stage.open_is is_begun_now).1 in
           let taken : taken_in (marks ++ take_mark ∷ []) ≡ taken_in marks ++ items = taken_more marks take_mark in
-          kept_by take_mark after new now home (λ e. absurd (true≢false (sym e)))
+          kept_by take_mark w' after new now watched home (λ e. absurd (true≢false (sym e)))
           (record {
             open_is = λ is. (
               open_is,
@@ -336,8 +360,8 @@ module _ {tells tells_images : Type 0} (before : Before) (began : Opening → �
           let made : (recorder_after (start_of_opening opening) (taken_in marks ++ items)).made ≡ (recorder_after (start_of_opening opening) (taken_in marks)).made ++ d.0 =
           subst (λ (x : RunStart × List Captured). (recorder_after x.0 (x.1 ++ items)).made ≡ (recorder_after x.0 x.1).made ++ d.0) (λ i. (at_.0 i, at_.1 i)) d.1 in
           let same : added_records (start_of_opening opening) (taken_in marks) items ≡ d.0 = added (start_of_opening opening) (taken_in marks) items d.0 made in
-          taken_session before opening marks t0 r old s take_mark after new
-          (subst (λ (rs : List Record). HasDone opening (events_of opening marks) t0 (Commit rs items) after old new) (sym same) d.2)
+          taken_session before opening marks t0 r old w w' s take_mark after new
+          (subst (λ (rs : List Record). DoneAndTold before.hears opening (events_of opening marks) t0 (Commit rs items) after old new w w') (sym same) d.2)
           refl (λ goes. works) items refl started
           (made ∙ ap (λ (rs : List Record). (recorder_after (start_of_opening opening) (taken_in marks)).made ++ rs) (sym same))
           (λ goes. is_begun_now))
@@ -347,28 +371,30 @@ module _ {tells tells_images : Type 0} (before : Before) (began : Opening → �
           → ((opening : Opening) (events : List Event) (t0 : ℕ) → tells → HasRecorded opening events t0 r old
           → (records : List Record)
           × ((recorder_after (state_left opening events).start ((state_left opening events).popped ++ items)).made ≡ (recorder_in (state_left opening events)).made ++ records)
-          × HasDone opening events t0 (Commit records items) after old new)
-          → IsKept before began rates room sizes faults (marks ++ batch_mark r.vault.failed items after.vault.failed new.clock ∷ []) after new now
+          × DoneAndTold before.hears opening events t0 (Commit records items) after old new w w')
+          → IsKept before began rates room sizes faults (marks ++ batch_mark r.vault.failed items after.vault.failed new.clock ∷ []) w' after new now
       batch_kept open_was open_is place numbers done =
-          subst (λ (did : Did). IsKept before began rates room sizes faults (marks ++ record { did = did; moment = moment_of after.vault.failed new.clock } ∷ []) after new now)
+          subst (λ (did : Did). IsKept before began rates room sizes faults (marks ++ record { did = did; moment = moment_of after.vault.failed new.clock } ∷ []) w' after new now)
           (sym (cond-false r.vault.failed Look (Take items) works)) (take_kept open_was open_is place numbers done)
 
 module _ {tells tells_images : Type 0} (before : Before) (began : Opening → ℕ → Type 0) (rates : List (Option Rate)) (room : ℕ) (sizes faults : List ℕ) where
-  pub fresh_kept : (marks : List Mark) (r : RecorderState) (disk : Disk tells tells_images) (now : List ℕ) → IsKept before began rates room sizes faults marks r disk now → filter is_leading marks ≡ [] → IsFresh r disk
-  fresh_kept marks r disk now k e = record { rings = k.rings; closed = (k.stage.idle (none_leads is_leading (λ m. refl) marks e)).0 }
+  pub fresh_kept : (marks : List Mark) (w : Watched) (r : RecorderState) (disk : Disk tells tells_images) (now : List ℕ) → IsKept before began rates room sizes faults marks w r disk now → filter is_leading marks ≡ []
+      → IsFresh before.hears w r disk
+  fresh_kept marks w r disk now k e = record { watched = k.watched; rings = k.rings; closed = (k.stage.idle (none_leads is_leading (λ m. refl) marks e)).0 }
 
-  pub taking_kept : (marks : List Mark) (r : RecorderState) (disk : Disk tells tells_images) (now : List ℕ) → IsKept before began rates room sizes faults marks r disk now → is_begun marks ≡ true
-      → IsTaking rates room (taken_in marks) r disk
-  taking_kept marks r disk now k is =
+  pub taking_kept : (marks : List Mark) (w : Watched) (r : RecorderState) (disk : Disk tells tells_images) (now : List ℕ) → IsKept before began rates room sizes faults marks w r disk now → is_begun marks ≡ true
+      → IsTaking rates room (taken_in marks) before.hears w r disk
+  taking_kept marks w r disk now k is =
       let o = k.stage.open_is is in
-      record { rings = k.rings; open_is = o.0; rates_are = k.rates_are; sixteen = k.sixteen; room_is = k.room_is; place = o.1.place; numbers = o.1.numbers }
+      record { watched = k.watched; rings = k.rings; open_is = o.0; rates_are = k.rates_are; sixteen = k.sixteen; room_is = k.room_is; place = o.1.place; numbers = o.1.numbers }
 
   -- before any turn
   pub first_kept : (r : RecorderState) (disk : Disk tells tells_images) (now : List ℕ) → (r.vault.config.groups ≡ rates) × (r.vault.config.batch ≡ room) × (length rates ≡ 16)
       → r.vault.config.channels ≡ before.channels → AreRings r.vault disk.sizes → (r.is_open ≡ false) × (r.vault.failed ≡ false) → disk.sizes ≡ sizes → now ≡ faults
       → (before.clock ≡ disk.clock) × ((i : Image) → disk.now i → before.now i) × ((t : ℕ) (i : Image) → disk.since t i → before.since t i) × (disk.reads ≡ before.reads)
-      → ((opening : Opening) (t0 : ℕ) → began opening t0 → HasRecorded opening [] t0 r disk) → IsKept before began rates room sizes faults [] r disk now
-  first_kept r disk now config channels rings new sizes_are faults_are was has = record {
+      → ((opening : Opening) (t0 : ℕ) → began opening t0 → HasRecorded opening [] t0 r disk) → IsWatched before.hears before.heard r disk → IsKept before began rates room sizes faults [] before.heard r disk now
+  first_kept r disk now config channels rings new sizes_are faults_are was has watched = record {
+    watched = watched;
     rates_are = config.0;
     sixteen = config.2;
     room_is = config.1;
@@ -390,5 +416,6 @@ module _ {tells tells_images : Type 0} (before : Before) (began : Opening → �
         each = λ i since. inl (was.1 i (disk.only_now i (subst (λ (t : ℕ). disk.since t i) was.0 since)));
         earlier = λ t i early since. inl (was.2 t i since);
       };
+      heard = tells_none (λ heard. refl);
     };
   }

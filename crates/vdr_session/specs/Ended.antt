@@ -1,5 +1,5 @@
 -- What a session leaves under its media, by the marks of its turns and what came after them.
-use Rattle.std.specs.Prelude.{◌≡◌, ◌⊎◌, ◌++◌, ℕ, Bool, true, false, List, sum, Option}
+use Rattle.std.specs.Prelude.{◌≡◌, ◌⊎◌, ◌++◌, ℕ, Bool, true, false, List, [], sum, Option}
 use Rattle.vdr_terms.specs.declared.counts.Counts.{Counts}
 use Rattle.vdr_terms.specs.Records.{none_missed}
 use Rattle.vdr_core.specs.Histories.{Event, Opening, recorded}
@@ -15,6 +15,7 @@ use Rattle.vdr_capture.specs.declared.sums.Outcome.{Outcome}
 use Rattle.vdr_capture.specs.declared.sums.Outcome.TheVariants as outcomes
 use Rattle.vdr_run.specs.Making.{CountsItems}
 use Rattle.vdr_recorder.specs.Recordings.{HasRecorded, RecorderState, start_of_opening}
+use Rattle.vdr_recorder.specs.Watched.{Tells, Watched}
 use Rattle.vdr_session.specs.declared.mark.Mark.{Mark}
 use Rattle.vdr_session.specs.declared.records.Began.{Began}
 use Rattle.vdr_session.specs.declared.records.Began.TheVariants.{Begun, Place, Tick, Fault}
@@ -37,12 +38,13 @@ IsWithFailures outcome end = (end ≡ outcome) ⊎ ((outcome ≡ outcomes.Done) 
 
 module _ {tells tells_images : Type 0} where
   -- The history that the marks tell, or that history and the close of its run.
-  pub record EndsRun (before : Before) (opening : Opening) (marks : List Mark) (t0 : ℕ) (rest : ℕ → Counts) (outcome : Outcome) (r : RecorderState) (disk : Disk tells tells_images) : Type 0 where
+  pub record EndsRun (before : Before) (opening : Opening) (marks : List Mark) (t0 : ℕ) (rest : ℕ → Counts) (outcome : Outcome) (r : RecorderState) (disk : Disk tells tells_images) (w : Watched) : Type 0 where
     pub events : List Event
     pub behind : List Event
     pub front : events ≡ events_of opening marks ++ behind
     pub has : HasRecorded opening events t0 r disk
     pub passes : PassesSince before opening events disk
+    pub heard : Tells before.hears opening [] events before.heard w
     pub pending : IsWhole events ⊎ (outcome ≡ outcomes.MediaFault)
     pub records : (recorded events ≡ run_records opening marks)
         ⊎ ((recorded events ≡ closed_run (start_of_opening opening) (taken_in marks) rest) × (is_begun marks ≡ true) × (has_fault marks ≡ false))
@@ -50,7 +52,7 @@ module _ {tells tells_images : Type 0} where
 
   -- The session ended so.
   pub record HasEnded {P : Type 0} (port_tells : PortTells P) (turns : ℕ) (configured : ℕ → Bool) (queues : List (Option QueueId)) (takers_before takers_after : List (Option Taking)) (old new : List (Lane P))
-      (before : Before) (opened : Opening → ℕ → Type 0) (sizes faults : List ℕ) (beside : Began → List Mark → Type 0) (outcome : Outcome) (r : RecorderState) (disk : Disk tells tells_images) (now : List ℕ) : Type 0 where
+      (before : Before) (opened : Opening → ℕ → Type 0) (sizes faults : List ℕ) (beside : Began → List Mark → Type 0) (outcome : Outcome) (r : RecorderState) (disk : Disk tells tells_images) (now : List ℕ) (w : Watched) : Type 0 where
     pub marks : List Mark
     pub began : Began
     pub besides : beside began marks
@@ -65,4 +67,4 @@ module _ {tells tells_images : Type 0} where
     pub rose : outcome ≡ outcomes.MediaFault → Rose (sum faults) (sum now)
     pub sizes_are : disk.sizes ≡ sizes
     pub elsewhere : tells → SameElsewhere before.reads disk.reads
-    pub told : tells → (opening : Opening) (t0 : ℕ) → opened opening t0 → EndsRun before opening marks t0 rest outcome r disk × StartMeans opening began
+    pub told : tells → (opening : Opening) (t0 : ℕ) → opened opening t0 → EndsRun before opening marks t0 rest outcome r disk w × StartMeans opening began

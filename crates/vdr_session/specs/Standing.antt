@@ -16,6 +16,7 @@ use Rattle.vdr_run.specs.Making.{counted_of}
 use Rattle.vdr_recorder.specs.Making.{numbers_of}
 use Rattle.vdr_recorder.specs.Recordings.{HasRecorded, RecorderState, start_of_opening}
 use Rattle.vdr_recorder.specs.Refusals.{MayBegin}
+use Rattle.vdr_recorder.specs.Watched.{IsWatched, Tells, Watched}
 use Rattle.vdr_session.specs.declared.mark.Mark.{Mark}
 use Rattle.vdr_session.specs.declared.mark.Did.TheVariants.{Begin, Take, Look}
 use Rattle.vdr_session.specs.declared.records.Began.{Began}
@@ -41,6 +42,8 @@ pub record Before : Type 1 where
   pub since : ℕ → Image → Type 0
   pub reads : Image  -- what the media read as, where that is told
   pub channels : List Selector  -- of the configuration
+  pub hears : Type 0  -- an object outside hears of the session
+  pub heard : Watched  -- what it had been told then
 
 -- What it means that a start was answered so.
 abbrev pub StartMeans : Opening → Began → Type 0
@@ -57,16 +60,17 @@ module _ {tells tells_images : Type 0} where
     pub earlier : (t : ℕ) (i : Image) → t ≤ before.clock → disk.since t i → before.since t i ⊎ (before.now i ⊎ ShowsPrefix (ShowsHistory opening) events 0 i)
 
   -- The recorder has made the history that the marks tell: its records are those of the one run.
-  pub record HasSession (before : Before) (opening : Opening) (marks : List Mark) (t0 : ℕ) (r : RecorderState) (disk : Disk tells tells_images) : Type 0 where
+  pub record HasSession (before : Before) (opening : Opening) (marks : List Mark) (t0 : ℕ) (r : RecorderState) (disk : Disk tells tells_images) (w : Watched) : Type 0 where
     pub has : HasRecorded opening (events_of opening marks) t0 r disk
     pub made : recorded (events_of opening marks) ≡ run_records opening marks
     pub begun : r.vault.failed ≡ false → is_begun marks ≡ true
         → ((state_left opening (events_of opening marks)).start ≡ start_of_opening opening) × ((state_left opening (events_of opening marks)).popped ≡ taken_in marks)
     pub next : r.vault.failed ≡ false → is_started marks ≡ false → next_start (state_left opening (events_of opening marks)) ≡ start_of_opening opening
     pub passes : PassesSince before opening (events_of opening marks) disk
+    pub heard : Tells before.hears opening [] (events_of opening marks) before.heard w
 
-  -- What holds of it and its media at home.
-  pub record IsKept (before : Before) (began : Opening → ℕ → Type 0) (rates : List (Option Rate)) (room : ℕ) (sizes faults : List ℕ) (marks : List Mark) (r : RecorderState) (disk : Disk tells tells_images) (now : List ℕ) : Type 0 where
+  -- What holds of it and its media at home, where the object outside was told so much.
+  pub record IsKept (before : Before) (began : Opening → ℕ → Type 0) (rates : List (Option Rate)) (room : ℕ) (sizes faults : List ℕ) (marks : List Mark) (w : Watched) (r : RecorderState) (disk : Disk tells tells_images) (now : List ℕ) : Type 0 where
     pub rates_are : r.vault.config.groups ≡ rates
     pub sixteen : length rates ≡ 16
     pub room_is : r.vault.config.batch ≡ room
@@ -78,10 +82,12 @@ module _ {tells tells_images : Type 0} where
     pub stage : IsAt marks r
     pub channels_are : r.vault.config.channels ≡ before.channels
     pub missed : has_missed marks ≡ true → Rose (sum faults) (sum now)
-    pub told : tells → (opening : Opening) (t0 : ℕ) → began opening t0 → HasSession before opening marks t0 r disk
+    pub told : tells → (opening : Opening) (t0 : ℕ) → began opening t0 → HasSession before opening marks t0 r disk w
+    pub watched : IsWatched before.hears w r disk
 
   -- A run is open in which these items were taken, and its numbers are small.
-  pub record IsTaking (rates : List (Option Rate)) (room : ℕ) (popped : List Captured) (r : RecorderState) (disk : Disk tells tells_images) : Type 0 where
+  pub record IsTaking (rates : List (Option Rate)) (room : ℕ) (popped : List Captured) (hears : Type 0) (w : Watched) (r : RecorderState) (disk : Disk tells tells_images) : Type 0 where
+    pub watched : IsWatched hears w r disk
     pub rings : AreRings r.vault disk.sizes
     pub open_is : r.is_open ≡ true
     pub rates_are : r.vault.config.groups ≡ rates
@@ -90,7 +96,8 @@ module _ {tells tells_images : Type 0} where
     pub place : r.maker.place ≤ 2 ^ 62 + 2 * length popped
     pub numbers : (g : ℕ) → g < 16 → next_number (counted_of r.maker g).pending ≤ numbers_of g popped
 
-  pub record IsFresh (r : RecorderState) (disk : Disk tells tells_images) : Type 0 where
+  pub record IsFresh (hears : Type 0) (w : Watched) (r : RecorderState) (disk : Disk tells tells_images) : Type 0 where
+    pub watched : IsWatched hears w r disk
     pub rings : AreRings r.vault disk.sizes
     pub closed : r.is_open ≡ false
 

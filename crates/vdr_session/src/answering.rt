@@ -4,9 +4,10 @@ use std::alloc::Global;
 use vdr_control::Order;
 use vdr_desk::{Answers, Reply};
 use vdr_outside::Media;
+use vdr_recorder::Watch;
 use vdr_reply::answer;
 
-impl<'a, M: Media, O: Lent> Answers for Kept<'a, M, O> {
+impl<'a, 'b, M: Media, W: Watch<M>, O: Lent> Answers for Kept<'a, 'b, M, W, O> {
     ghost use Rattle.std.specs.Prelude.{sum};
     ghost use Rattle.vdr_session.specs.Answering.{AnswersMark, order_mark};
 
@@ -15,6 +16,6 @@ impl<'a, M: Media, O: Lent> Answers for Kept<'a, M, O> {
     ghost answers = { λ history own order text. AnswersMark M.tells O.began O.channels history own order text };
 
     fn answer(&mut self, alloc: Global, order: Order<'_>) -> Reply {
-        answer(alloc, &mut self.recorder, self.media, order)
+        answer(alloc, &mut self.recorder, self.media, self.watch, order)
     }
 }

@@ -8,6 +8,7 @@ ghost use Rattle.vdr_config.specs.Sizes.{limits_in};
 ghost use Rattle.vdr_core.specs.Histories.{Opening};
 ghost use Rattle.vdr_vault.specs.Vaults.{AreRings};
 ghost use Rattle.vdr_recorder.specs.Recordings.{HasRecorded};
+ghost use Rattle.vdr_recorder.specs.Watched.{IsWatched};
 ghost use Rattle.vdr_outside.specs.Disk.{Image};
 ghost use Rattle.vdr_durability.specs.Commits.{largest_item, least_item};
 ghost use Rattle.vdr_intake.specs.Items.{most_items};
@@ -29,7 +30,7 @@ use std::thread::Threads;
 use vdr_capture::{Lane, Outcome};
 use vdr_desk::Desk;
 use vdr_outside::{Link, Media, Port};
-use vdr_recorder::Recorder;
+use vdr_recorder::{Recorder, Watch};
 
 /// The recorder after a session, and how the session ended, but for its ports.
 #[derive(Drop)]
@@ -54,7 +55,9 @@ fn refused(began: Began) -> Outcome
 /// latch: nothing was called then.
 pub(crate) fn run_lent<
     'a,
+    'b,
     M: Media + Send,
+    W: Watch<M> + Send,
     P: Port + Send,
     L: Link + Send,
     O: Lent + Send + Sync,
@@ -64,13 +67,17 @@ pub(crate) fn run_lent<
     alloc: Global,
     recorder: Recorder,
     media: &'a mut M,
+    watch: &'b mut W,
     lanes: &mut [Lane<P>],
     desks: &mut [Desk<L, Mark>],
     turns: u64,
     memory: &mut Memory,
     room: usize,
-) -> (&'a mut M, Option<Ended>)
+) -> (&'a mut M, &'b mut W, Option<Ended>)
     requires name { O.name ≡ media.ghost_name }
+    requires watch_name { O.watch_name ≡ watch.ghost_name }
+    requires heard { W.seen watch.old ≡ O.heard }
+    requires watched { IsWatched W.hears (W.seen watch.old) recorder (M.disk media.old) }
     requires began { (opening : Opening) (t0 : ℕ) → O.began opening t0 → HasRecorded opening [] t0 recorder (M.disk media.old) }
     requires before { (O.clock ≡ (M.disk media.old).clock) × ((i : Image) → (M.disk media.old).now i → O.now i) × ((t : ℕ) (i : Image) → (M.disk media.old).since t i → O.since t i) × ((M.disk media.old).reads ≡ O.reads) }
     requires config { (recorder.vault.config.groups ≡ O.rates) × (recorder.vault.config.batch ≡ O.room) × (length O.rates ≡ 16) }
@@ -86,16 +93,18 @@ pub(crate) fn run_lent<
     requires room { (largest_item ≤ room) × (room ≤ O.room) × (room / least_item ≤ memory.old.batch.items.capacity) }
     requires empty { memory.old.batch.items.items ≡ [] }
     ensures same { result.0.ghost_name ≡ media.entry.ghost_name }
-    ensures ended { IfSome result.1 (λ e. HasEnded P.Port turns (λ g. is_configured (limits_in O.rates g)) memory.old.queues memory.old.takers memory.new.takers lanes.old lanes.new
-        (record { clock = O.clock; now = O.now; since = O.since; reads = O.reads; channels = O.channels }) O.began O.sizes O.faults (λ began marks. DesksRan L.Link (AnswersMark M.tells O.began O.channels) turns desks.old desks.new began marks) e.outcome e.recorder (M.disk result.0.now) (M.faults result.0.now)) }
+    ensures same_watch { result.1.ghost_name ≡ watch.entry.ghost_name }
+    ensures ended { IfSome result.2 (λ e. HasEnded P.Port turns (λ g. is_configured (limits_in O.rates g)) memory.old.queues memory.old.takers memory.new.takers lanes.old lanes.new
+        (record { clock = O.clock; now = O.now; since = O.since; reads = O.reads; channels = O.channels; hears = W.hears; heard = O.heard }) O.began O.sizes O.faults (λ began marks. DesksRan L.Link (AnswersMark M.tells O.began O.channels) turns desks.old desks.new began marks) e.outcome e.recorder (M.disk result.0.now) (M.faults result.0.now) (W.seen result.1.now)) }
     ensures queues { memory.new.queues ≡ memory.old.queues }
-    ensures refused { result.1 ≡ None → (result.0.now ≡ media.entry.now) × (lanes.new ≡ lanes.old) × (desks.new ≡ desks.old) }
+    ensures refused { result.2 ≡ None → (result.0.now ≡ media.entry.now) × (lanes.new ≡ lanes.old) × (desks.new ≡ desks.old) × (result.1.now ≡ watch.entry.now) }
 {
-    let (media, recorded) = record_lent::<M, P, L, O, R>(
+    let (media, watch, recorded) = record_lent::<M, W, P, L, O, R>(
         rt,
         alloc,
         recorder,
         media,
+        watch,
         lanes,
         desks,
         turns,
@@ -111,15 +120,15 @@ pub(crate) fn run_lent<
         },
     ) = recorded
     else {
-        return (media, None);
+        return (media, watch, None);
     };
     let Began::Begun = began else {
         let outcome = refused(began);
-        return (media, Some(Ended { recorder, outcome }));
+        return (media, watch, Some(Ended { recorder, outcome }));
     };
-    let outcome = match recorder.stop(media, &rest_of(lanes, &memory.queues)) {
+    let outcome = match recorder.stop_watched(media, watch, &rest_of(lanes, &memory.queues)) {
         Ok(()) => Outcome::Done,
         Err(_) => Outcome::MediaFault,
     };
-    (media, Some(Ended { recorder, outcome }))
+    (media, watch, Some(Ended { recorder, outcome }))
 }

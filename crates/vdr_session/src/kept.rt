@@ -5,7 +5,7 @@ use std::marker::{Brand, PhantomData};
 use vdr_intake::Captured;
 use vdr_latch::Stepped;
 use vdr_outside::Media;
-use vdr_recorder::{Recorder, StartRefused};
+use vdr_recorder::{Recorder, StartRefused, Watch};
 
 /// The recorder and the media as the session began. The one call that makes it picks them.
 pub(crate) trait Lent {
@@ -15,9 +15,13 @@ pub(crate) trait Lent {
     ghost use Rattle.vdr_core.specs.Histories.{Opening};
     ghost use Rattle.vdr_outside.specs.Disk.{Image};
     ghost use Rattle.vdr_config.specs.Configuration.{Selector};
+    ghost use Rattle.vdr_recorder.specs.Watched.{Watched};
 
     /// The reference to the media.
     ghost name: { ℕ };
+
+    /// The reference to who is told.
+    ghost watch_name: { ℕ };
 
     /// It was a recorder over this opening, whose media keep the empty history since then.
     ghost began: { Opening → ℕ → Type 0 };
@@ -31,6 +35,9 @@ pub(crate) trait Lent {
 
     /// What the media read as then, where that is told.
     ghost reads: { Image };
+
+    /// What was told of the media by then.
+    ghost heard: { Watched };
 
     /// The configured channels.
     ghost channels: { List Selector };
@@ -48,8 +55,11 @@ pub(crate) trait Lent {
 
 impl Lent for Brand {
     ghost use Rattle.std.specs.Prelude.{[]};
+    ghost use Rattle.vdr_recorder.specs.Watched.{nothing_told};
 
     ghost name = { 0 };
+
+    ghost watch_name = { 0 };
 
     ghost began = { λ _ _. Unit {0} };
 
@@ -60,6 +70,8 @@ impl Lent for Brand {
     ghost since = { λ _ _. Unit {0} };
 
     ghost reads = { [] };
+
+    ghost heard = { nothing_told };
 
     ghost channels = { [] };
 
@@ -72,27 +84,28 @@ impl Lent for Brand {
     ghost faults = { [] };
 }
 
-/// A recorder with its media. The reference is the one that it was made with.
+/// A recorder with its media, and who is told of it. The reference to the media is the one that it was made with.
 #[derive(Drop)]
-pub(crate) struct Kept<'a, M: Media, O: Lent> {
+pub(crate) struct Kept<'a, 'b, M: Media, W: Watch<M>, O: Lent> {
     pub recorder: Recorder,
     pub media: &'a mut M,
+    pub watch: &'b mut W,
     pub of: PhantomData<O>,
 }
 
-impl<'a, M: Media, O: Lent> Stepped for Kept<'a, M, O> {
+impl<'a, 'b, M: Media, W: Watch<M>, O: Lent> Stepped for Kept<'a, 'b, M, W, O> {
     ghost use Rattle.std.specs.Prelude.{◌≡◌};
     ghost use Rattle.vdr_session.specs.Marks.{is_leading};
     ghost use Rattle.vdr_session.specs.Standing.{IsKept};
 
     type Event = Mark;
 
-    ghost leaves = { λ marks k. IsKept (record { clock = O.clock; now = O.now; since = O.since; reads = O.reads; channels = O.channels }) O.began O.rates O.room O.sizes O.faults marks k.recorder (M.disk k.media.now) (M.faults k.media.now) × (k.media.ghost_name ≡ O.name) };
+    ghost leaves = { λ marks k. IsKept (record { clock = O.clock; now = O.now; since = O.since; reads = O.reads; channels = O.channels; hears = W.hears; heard = O.heard }) O.began O.rates O.room O.sizes O.faults marks (W.seen k.watch.now) k.recorder (M.disk k.media.now) (M.faults k.media.now) × (k.media.ghost_name ≡ O.name) × (k.watch.ghost_name ≡ O.watch_name) };
 
     ghost leading = { is_leading };
 }
 
-impl<'a, M: Media, O: Lent> Records for Kept<'a, M, O> {
+impl<'a, 'b, M: Media, W: Watch<M>, O: Lent> Records for Kept<'a, 'b, M, W, O> {
     ghost use Rattle.vdr_terms.specs.Rates.{is_configured};
     ghost use Rattle.vdr_config.specs.Sizes.{limits_in};
     ghost use Rattle.vdr_session.specs.Standing.{IsFresh, IsTaking, StartMeans, batch_mark, start_mark};
@@ -103,26 +116,34 @@ impl<'a, M: Media, O: Lent> Records for Kept<'a, M, O> {
 
     ghost configured = { λ g. is_configured (limits_in O.rates g) };
 
-    ghost takes = { λ popped k. IsTaking O.rates O.room popped k.recorder (M.disk k.media.now) };
+    ghost takes = { λ popped k. IsTaking O.rates O.room popped W.hears (W.seen k.watch.now) k.recorder (M.disk k.media.now) };
 
     ghost batch = { λ k items l. batch_mark k.recorder.vault.failed items l.recorder.vault.failed (M.disk l.media.now).clock };
 
-    ghost fresh = { λ k. IsFresh k.recorder (M.disk k.media.now) };
+    ghost fresh = { λ k. IsFresh W.hears (W.seen k.watch.now) k.recorder (M.disk k.media.now) };
 
     ghost means = { λ began. M.tells → (opening : Opening) (t0 : ℕ) → O.began opening t0 → StartMeans opening began };
 
     ghost start = { λ k l. start_mark k.recorder l.recorder (M.disk l.media.now).clock };
 
     fn begin(&mut self) -> Began {
-        match self.recorder.start(self.media) {
+        match self.recorder.start_watched(self.media, self.watch) {
             Ok(()) => Began::Begun,
-            Err(StartRefused::Place) => Began::Place,
-            Err(StartRefused::Tick) => Began::Tick,
+            Err(StartRefused::Place) => {
+                self.recorder.look_watched(&*self.media, self.watch);
+                Began::Place
+            }
+            Err(StartRefused::Tick) => {
+                self.recorder.look_watched(&*self.media, self.watch);
+                Began::Tick
+            }
             Err(StartRefused::Fault) => Began::Fault,
         }
     }
 
     fn take_batch(&mut self, items: &[Captured]) -> bool {
-        self.recorder.take_batch(self.media, items).is_ok()
+        self.recorder
+            .take_batch_watched(self.media, self.watch, items)
+            .is_ok()
     }
 }

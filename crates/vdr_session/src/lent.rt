@@ -5,6 +5,7 @@ ghost use Rattle.vdr_config.specs.Sizes.{limits_in};
 ghost use Rattle.vdr_core.specs.Histories.{Opening};
 ghost use Rattle.vdr_vault.specs.Vaults.{AreRings};
 ghost use Rattle.vdr_recorder.specs.Recordings.{HasRecorded};
+ghost use Rattle.vdr_recorder.specs.Watched.{IsWatched};
 ghost use Rattle.vdr_outside.specs.Disk.{Image};
 ghost use Rattle.vdr_durability.specs.Commits.{largest_item, least_item};
 ghost use Rattle.vdr_intake.specs.Items.{most_items};
@@ -27,7 +28,7 @@ use vdr_capture::Lane;
 use vdr_desk::Desk;
 use vdr_intake::{Intake, Taker};
 use vdr_outside::{Link, Media, Port};
-use vdr_recorder::Recorder;
+use vdr_recorder::{Recorder, Watch};
 
 /// The recorder after a session, and how its run began.
 #[derive(Drop)]
@@ -39,7 +40,9 @@ pub(crate) struct Recorded {
 /// The session with this recorder, on media that come back. None where there is no memory for the latch: nothing was called then.
 pub(crate) fn record_lent<
     'a,
+    'b,
     M: Media + Send,
+    W: Watch<M> + Send,
     P: Port + Send,
     L: Link + Send,
     O: Lent + Send + Sync,
@@ -49,6 +52,7 @@ pub(crate) fn record_lent<
     alloc: Global,
     recorder: Recorder,
     media: &'a mut M,
+    watch: &'b mut W,
     lanes: &mut [Lane<P>],
     desks: &mut [Desk<L, Mark>],
     turns: u64,
@@ -56,8 +60,11 @@ pub(crate) fn record_lent<
     takers: &mut [Option<Taker>; 16],
     batch: &mut Batch,
     room: usize,
-) -> (&'a mut M, Option<Recorded>)
+) -> (&'a mut M, &'b mut W, Option<Recorded>)
     requires name { O.name ≡ media.ghost_name }
+    requires watch_name { O.watch_name ≡ watch.ghost_name }
+    requires heard { W.seen watch.old ≡ O.heard }
+    requires watched { IsWatched W.hears (W.seen watch.old) recorder (M.disk media.old) }
     requires began { (opening : Opening) (t0 : ℕ) → O.began opening t0 → HasRecorded opening [] t0 recorder (M.disk media.old) }
     requires before { (O.clock ≡ (M.disk media.old).clock) × ((i : Image) → (M.disk media.old).now i → O.now i) × ((t : ℕ) (i : Image) → (M.disk media.old).since t i → O.since t i) × ((M.disk media.old).reads ≡ O.reads) }
     requires config { (recorder.vault.config.groups ≡ O.rates) × (recorder.vault.config.batch ≡ O.room) × (length O.rates ≡ 16) }
@@ -73,16 +80,18 @@ pub(crate) fn record_lent<
     requires room { (largest_item ≤ room) × (room ≤ O.room) × (room / least_item ≤ batch.old.items.capacity) }
     requires empty { batch.old.items.items ≡ [] }
     ensures same { result.0.ghost_name ≡ media.entry.ghost_name }
-    ensures closed { IfSome result.1 (λ r. (marks : List Marked)
-        × IsKept (record { clock = O.clock; now = O.now; since = O.since; reads = O.reads; channels = O.channels }) O.began O.rates O.room O.sizes O.faults marks r.recorder (M.disk result.0.now) (M.faults result.0.now)
+    ensures same_watch { result.1.ghost_name ≡ watch.entry.ghost_name }
+    ensures closed { IfSome result.2 (λ r. (marks : List Marked)
+        × IsKept (record { clock = O.clock; now = O.now; since = O.since; reads = O.reads; channels = O.channels; hears = W.hears; heard = O.heard }) O.began O.rates O.room O.sizes O.faults marks (W.seen result.1.now) r.recorder (M.disk result.0.now) (M.faults result.0.now)
         × HasClosed P.Port turns (λ g. is_configured (limits_in O.rates g)) queues.now takers.old takers.new lanes.old lanes.new r.began marks
         × DesksRan L.Link (AnswersMark M.tells O.began O.channels) turns desks.old desks.new r.began marks
         × (M.tells → (opening : Opening) (t0 : ℕ) → O.began opening t0 → StartMeans opening r.began)) }
-    ensures refused { result.1 ≡ None → (result.0.now ≡ media.entry.now) × (lanes.new ≡ lanes.old) × (desks.new ≡ desks.old) × (takers.new ≡ takers.old) }
+    ensures refused { result.2 ≡ None → (result.0.now ≡ media.entry.now) × (lanes.new ≡ lanes.old) × (desks.new ≡ desks.old) × (takers.new ≡ takers.old) × (result.1.now ≡ watch.entry.now) }
 {
-    let kept = Kept::<M, O> {
+    let kept = Kept::<M, W, O> {
         recorder,
         media,
+        watch,
         of: PhantomData,
     };
     match under_latch(
@@ -92,17 +101,19 @@ pub(crate) fn record_lent<
             let Kept {
                 recorder,
                 media,
+                watch,
                 of: _,
             } = value;
-            (media, Some(Recorded { recorder, began }))
+            (media, watch, Some(Recorded { recorder, began }))
         }
         Err(refused) => {
             let Kept {
                 recorder: _,
                 media,
+                watch,
                 of: _,
             } = refused.value;
-            (media, None)
+            (media, watch, None)
         }
     }
 }

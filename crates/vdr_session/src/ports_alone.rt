@@ -14,7 +14,7 @@ use std::thread::Threads;
 use vdr_capture::Lane;
 use vdr_desk::Desk;
 use vdr_outside::{Failed, Heard, LONGEST_LINE, Link, Media, Port};
-use vdr_recorder::Recorder;
+use vdr_recorder::{Nobody, Recorder};
 
 /// A link with no line. There is none in a session over ports alone.
 #[derive(Drop)]
@@ -62,5 +62,14 @@ pub fn record<M: Media + Send, P: Port + Send, R: Threads + Wait + Sync>(
     ensures ends { EndsSession M.Media recorder.vault.config.groups lanes.old lanes.new media.old media.new result }
 {
     let mut none: [Desk<NoLine, Mark>; 0] = [];
-    record_at_desks(rt, alloc, recorder, media, lanes, &mut none, turns)
+    record_at_desks(
+        rt,
+        alloc,
+        recorder,
+        media,
+        &mut Nobody {},
+        lanes,
+        &mut none,
+        turns,
+    )
 }

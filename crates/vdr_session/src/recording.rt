@@ -1,10 +1,11 @@
 // A recording session over ports, with desks.
-ghost use Rattle.std.specs.Prelude.{◌≡◌, ◌≤◌, ◌<◌, ◌^◌, ℕ, None, false, length, replicate, slice_index_or, sum};
+ghost use Rattle.std.specs.Prelude.{◌≡◌, ◌≤◌, ◌<◌, ◌^◌, ℕ, [], None, false, length, replicate, slice_index_or, sum};
 ghost use Rattle.vdr_intake.specs.Items.{most_items};
 ghost use Rattle.vdr_outside.specs.Causes.{Rose};
 ghost use Rattle.vdr_vault.specs.Calls.{SameElsewhere};
 ghost use Rattle.vdr_vault.specs.Vaults.{AreRings};
 ghost use Rattle.vdr_capture.specs.declared.sums.Outcome.TheVariants.{NoMemory};
+ghost use Rattle.vdr_recorder.specs.Watched.{IsWatched, Tells};
 ghost use Rattle.vdr_session.specs.declared.records.Began.{Began as HowBegun};
 ghost use Rattle.vdr_session.specs.Calls.{AreByGroup, EndsSession, MayRecord};
 ghost use Rattle.vdr_session.specs.Desks.{DesksReplied, DesksTold, FailureTold};
@@ -24,7 +25,7 @@ use std::thread::Threads;
 use vdr_capture::{Lane, Outcome};
 use vdr_desk::{Desk, failed_link};
 use vdr_outside::{Link, Media, Port};
-use vdr_recorder::Recorder;
+use vdr_recorder::{Recorder, Watch};
 
 // There was no memory, and nothing was recorded.
 fn without_memory() -> SessionEnd
@@ -70,11 +71,18 @@ fn reset<L>(desks: &mut [Desk<L, Mark>])
 }
 
 // Records as `record_at_desks` does. Each clause is proved on each way out.
-fn record_and_reply<M: Media + Send, P: Port + Send, L: Link + Send, R: Threads + Wait + Sync>(
+fn record_and_reply<
+    M: Media + Send,
+    W: Watch<M> + Send,
+    P: Port + Send,
+    L: Link + Send,
+    R: Threads + Wait + Sync,
+>(
     rt: &R,
     alloc: Global,
     recorder: Recorder,
     media: &mut M,
+    watch: &mut W,
     lanes: &mut [Lane<P>],
     desks: &mut [Desk<L, Mark>],
     turns: u64,
@@ -84,9 +92,11 @@ fn record_and_reply<M: Media + Send, P: Port + Send, L: Link + Send, R: Threads 
     requires lanes { length lanes.old ≡ 16 }
     requires groups { (g : ℕ) (d : _) → g < 16 → (slice_index_or lanes.old g d).group ≡ g }
     requires desks { length desks.old < 2 ^ 32 }
+    requires watched { IsWatched W.hears (W.seen watch.old) recorder (M.disk media.old) }
     requires turns { turns ≤ most_items }
     ensures session { SessionWith P.Port turns recorder.vault.config.queue recorder.vault.config.groups lanes.old lanes.new recorder (M.disk media.old) (M.disk media.new) result
-        (DesksReplied L.Link turns recorder.vault.config.channels (Rose (sum (M.faults media.old)) (sum (M.faults media.new))) result.outcome desks.old desks.new) }
+        (λ opening events. DesksReplied L.Link turns recorder.vault.config.channels (Rose (sum (M.faults media.old)) (sum (M.faults media.new))) result.outcome desks.old desks.new opening events
+        × Tells W.hears opening [] events (W.seen watch.old) (W.seen watch.new)) }
     ensures desks { DesksTold L.Link turns result.outcome desks.old desks.new }
     ensures failures { FailureTold result.outcome lanes.new desks.new }
     ensures groups { HasGroups recorder.vault.config.groups result }
@@ -101,11 +111,12 @@ fn record_and_reply<M: Media + Send, P: Port + Send, L: Link + Send, R: Threads 
     let Ok(mut memory) = Memory::new(alloc, &plan, lanes) else {
         return without_memory();
     };
-    let (media, ended) = run_lent::<M, P, L, Brand, R>(
+    let (media, watch, ended) = run_lent::<M, W, P, L, Brand, R>(
         rt,
         alloc,
         recorder,
         media,
+        watch,
         lanes,
         desks,
         turns,
@@ -113,6 +124,7 @@ fn record_and_reply<M: Media + Send, P: Port + Send, L: Link + Send, R: Threads 
         plan.room,
     );
     let _ = &*media;
+    let _ = &*watch;
     let Some(Ended { recorder, outcome }) = ended else {
         return without_memory();
     };
@@ -130,18 +142,25 @@ fn record_and_reply<M: Media + Send, P: Port + Send, L: Link + Send, R: Threads 
 /// It takes all its memory, sets lanes and desks anew, and begins the run. Each lane of a configured group is captured in a thread of its own,
 /// and each desk is served in one, beside the loop that takes what is queued into the run, in batches that are committed one by one. An
 /// order of a desk takes a turn between two batches: it is one event of the history, and its reply is a function of the history before
-/// that. A play takes memory for its page, and is answered `FAULT 9` where there is none. Once all captures and desks have ended and all
+/// that. The watch is told of each turn at its end, before its reply. A play takes memory for its page, and is answered `FAULT 9` where there is none. Once all captures and desks have ended and all
 /// queues are empty the run is closed by its closing Gaps and Stop.
 ///
 /// `NoMemory`: nothing was called. `Place`, `Tick`: the next place, or the tick of the Start, is at least 2^62, and nothing is recorded. `MediaFault`: the
 /// count of faults of a medium rose; the recording ends there, the captures and the desks go on to their ends, and what was recorded before
 /// stays. `PortFault`: the run was closed, and the port of this group failed, the least where several did. `LinkFault`: the run was closed, no
 /// port failed, and the link of this desk did, the least where several did.
-pub fn record_at_desks<M: Media + Send, P: Port + Send, L: Link + Send, R: Threads + Wait + Sync>(
+pub fn record_at_desks<
+    M: Media + Send,
+    W: Watch<M> + Send,
+    P: Port + Send,
+    L: Link + Send,
+    R: Threads + Wait + Sync,
+>(
     rt: &R,
     alloc: Global,
     recorder: Recorder,
     media: &mut M,
+    watch: &mut W,
     lanes: &mut [Lane<P>],
     desks: &mut [Desk<L, Mark>],
     turns: u64,
@@ -149,12 +168,14 @@ pub fn record_at_desks<M: Media + Send, P: Port + Send, L: Link + Send, R: Threa
     requires recorder { MayRecord recorder (M.disk media.old).sizes }
     requires lanes { AreByGroup lanes.old }
     requires desks { length desks.old < 2 ^ 32 }
+    requires watched { IsWatched W.hears (W.seen watch.old) recorder (M.disk media.old) }
     requires turns { turns ≤ most_items }
     ensures session { SessionWith P.Port turns recorder.vault.config.queue recorder.vault.config.groups lanes.old lanes.new recorder (M.disk media.old) (M.disk media.new) result
-        (DesksReplied L.Link turns recorder.vault.config.channels (Rose (sum (M.faults media.old)) (sum (M.faults media.new))) result.outcome desks.old desks.new) }
+        (λ opening events. DesksReplied L.Link turns recorder.vault.config.channels (Rose (sum (M.faults media.old)) (sum (M.faults media.new))) result.outcome desks.old desks.new opening events
+        × Tells W.hears opening [] events (W.seen watch.old) (W.seen watch.new)) }
     ensures desks { DesksTold L.Link turns result.outcome desks.old desks.new }
     ensures failures { FailureTold result.outcome lanes.new desks.new }
     ensures ends { EndsSession M.Media recorder.vault.config.groups lanes.old lanes.new media.old media.new result }
 {
-    record_and_reply(rt, alloc, recorder, media, lanes, desks, turns)
+    record_and_reply(rt, alloc, recorder, media, watch, lanes, desks, turns)
 }

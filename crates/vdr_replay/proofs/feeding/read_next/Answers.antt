@@ -1,4 +1,4 @@
-use Rattle.std.proofs.Common.{◌≡◌, ◌<◌, ℕ, length, Bool, Result, Err, refl, ap, arith}
+use Rattle.std.proofs.Common.{◌≡◌, ◌<◌, length, Bool, Result, Err, refl, ap, arith}
 use Rattle.vdr_config.specs.Configuration.{Configuration}
 use Rattle.vdr_feed.specs.declared.fault.FeedFault.{FeedFault}
 use Rattle.vdr_run.proofs.Given.{gave_true}

@@ -17,10 +17,11 @@ loop-end-init g c = record {
     [],
     λ first h. h,
     c.requires.held,
-    λ opening events t0 told h. takes_none opening [] _ events t0 _ _
+    λ opening events t0 told h. takes_none opening [] _ events t0 _ _ g.W.Watch.hears _
         (subst (λ (batch : List Captured). HasTaken opening [] batch events t0 c.args.recorder.now (g.M.Media.disk c.args.media.now)) (sym c.requires.empty) h),
   );
   works = c.requires.works;
+  watched = c.requires.watched;
   opened = c.requires.open;
   config = refl;
   rings = c.requires.rings;
@@ -45,10 +46,11 @@ loop-end-preserved g c =
             (c.in_ok-take_item.ensures.held w.0 gave.0 held few gave.1.holds),
         λ opening events t0 told h.
             let t = w.3 opening events t0 told h in
-            takes_join opening events t0 _ _ _ (g.M.Media.disk c.loop-end.media) _ w.0 _ t (w.0 ++ gave.0 ∷ []) _
+            takes_join opening events t0 _ _ _ (g.M.Media.disk c.loop-end.media) _ w.0 _ g.W.Watch.hears _ (g.W.Watch.seen c.loop-end.watch) _ t (w.0 ++ gave.0 ∷ []) _
             (c.in_ok-take_item.ensures.taken opening w.0 gave.0 (events ++ t.more) t0 told gave.1.holds held t.taken),
       );
       works = c.in_ok-take_item.ensures.works;
+      watched = c.take_item.ensures.watched;
       opened = c.take_item.ensures.open;
       config = c.take_item.ensures.config ∙ c.loop-end.invariant.config;
       rings = c.take_item.ensures.rings;
@@ -68,7 +70,7 @@ returns-in_err-take_item-clause-broken g c =
       low = w.2.low;
       told = λ opening events t0 told h.
           let t = w.3 opening events t0 told h in
-          takes_break opening events t0 _ _ _ (g.M.Media.disk c.loop-end.media) _ w.0 _ t w.0
+          takes_break opening events t0 _ _ _ (g.M.Media.disk c.loop-end.media) _ w.0 _ g.W.Watch.hears _ (g.W.Watch.seen c.loop-end.watch) _ t w.0
           (c.in_err-take_item.ensures.broken opening w.0 (events ++ t.more) t0 told t.taken);
     })
 

@@ -13,7 +13,7 @@ take-requires-clause-counted g c = let held = c.requires.held in (held.0, (c.in_
 
 pub returns-clause-taken : goal.returns-clause-taken
 returns-clause-taken g c = λ opening feed x events t0 told holds held h.
-    takes_more opening feed x c.make_room.new.lanes.batch.items _ events t0 _ _ _ (c.in_ok-make_room.ensures.taken opening feed events t0 told h)
+    takes_more opening feed x c.make_room.new.lanes.batch.items _ events t0 _ _ _ g.W.Watch.hears _ _ (c.in_ok-make_room.ensures.taken opening feed events t0 told h)
     (c.take.ensures.batch feed x (c.in_ok-make_room.ensures.held feed held).counts holds)
 
 pub returns-clause-held : goal.returns-clause-held

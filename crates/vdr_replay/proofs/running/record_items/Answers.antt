@@ -25,14 +25,14 @@ returns-in_err-record-clause-broken g c =
       low = t.held.low;
       told = λ opening events t0 told h.
           let a = t.told opening events t0 told h in
-          takes_break opening events t0 _ _ _ (g.M.Media.disk c.take_all.new.media) _ t.feed _ a t.feed (c.in_err-record.ensures.broken opening t.feed (events ++ a.more) t0 told a.taken);
+          takes_break opening events t0 _ _ _ (g.M.Media.disk c.take_all.new.media) _ t.feed _ g.W.Watch.hears _ (g.W.Watch.seen c.take_all.new.watch) _ a t.feed (c.in_err-record.ensures.broken opening t.feed (events ++ a.more) t0 told a.taken);
     })
 
 pub returns-in_err-record-clause-cause : goal.returns-in_err-record-clause-cause
 returns-in_err-record-clause-cause g c = cause_joined _ _ _ _ c.from_residual-in_err-record.result c.take_all.ensures.cause.later c.in_err-record.ensures.cause
 
-pub stop-requires-clause-fits : goal.stop-requires-clause-fits
-stop-requires-clause-fits g c =
+pub stop_watched-requires-clause-fits : goal.stop_watched-requires-clause-fits
+stop_watched-requires-clause-fits g c =
     let t = c.in_ok-end.ensures.taken in
     let held = c.in_ok-record.ensures.held t.feed t.held in
     let same = rests t.feed c.record.new.self.ports c.rest.result held.counts held.low c.rest.ensures.sixteen c.rest.ensures.each in
@@ -45,12 +45,12 @@ stop-requires-clause-fits g c =
           omega (arith, missed, fits);
     }
 
-pub returns-in_err-stop-clause-broken : goal.returns-in_err-stop-clause-broken
-returns-in_err-stop-clause-broken g c =
+pub returns-in_err-stop_watched-clause-broken : goal.returns-in_err-stop_watched-clause-broken
+returns-in_err-stop_watched-clause-broken g c =
     let t = c.in_ok-end.ensures.taken in
     let held = c.in_ok-record.ensures.held t.feed t.held in
     let same = rests t.feed c.record.new.self.ports c.rest.result held.counts held.low c.rest.ensures.sixteen c.rest.ensures.each in
-    on_err c.from_residual-in_err-stop.result (record {
+    on_err c.from_residual-in_err-stop_watched.result (record {
       feed = t.feed;
       read = λ first h. known_reach c.args.recorder.now.vault.config.groups first _ c.in_ok-end.end t.feed (t.read first h);
       known = subst (λ (config : Configuration). AreConfigured config.groups t.feed) c.take_all.ensures.config t.held.known;
@@ -58,15 +58,15 @@ returns-in_err-stop-clause-broken g c =
       told = λ opening events t0 told h.
           let a = t.told opening events t0 told h in
           let b = c.in_ok-record.ensures.taken opening t.feed (events ++ a.more) t0 told a.taken in
-          let ab = takes_join opening events t0 _ _ _ (g.M.Media.disk c.take_all.new.media) _ t.feed _ a t.feed [] b in
-          let done = c.stop.ensures.stopped opening (events ++ ab.more) t0 told c.in_ok-record.ensures.works ab.taken.has in
-          takes_break opening events t0 _ _ _ (g.M.Media.disk c.record.new.media) _ t.feed [] ab t.feed
-          (close_breaks opening (events ++ ab.more) t0 c.record.new.recorder c.stop.new.self _ _ t.feed (rest_of c.rest.result) ab.taken same done);
+          let ab = takes_join opening events t0 _ _ _ (g.M.Media.disk c.take_all.new.media) _ t.feed _ g.W.Watch.hears _ (g.W.Watch.seen c.take_all.new.watch) (g.W.Watch.seen c.record.new.watch) a t.feed [] b in
+          let done = c.stop_watched.ensures.stopped opening (events ++ ab.more) t0 told c.in_ok-record.ensures.works ab.taken.has in
+          takes_break opening events t0 _ _ _ (g.M.Media.disk c.record.new.media) _ t.feed [] g.W.Watch.hears _ (g.W.Watch.seen c.record.new.watch) _ ab t.feed
+          (close_breaks opening (events ++ ab.more) t0 c.record.new.recorder c.stop_watched.new.self _ _ g.W.Watch.hears (g.W.Watch.seen c.record.new.watch) (g.W.Watch.seen c.stop_watched.new.watch) t.feed (rest_of c.rest.result) ab.taken same done);
     })
 
-pub returns-in_err-stop-clause-cause : goal.returns-in_err-stop-clause-cause
-returns-in_err-stop-clause-cause g c =
-    vault_joined _ _ _ _ _ c.from_residual-in_err-stop.result c.in_ok-record.ensures.works (none_falls_join _ _ _ c.take_all.ensures.cause.later c.record.ensures.cause.later) c.in_err-stop.ensures.writes.cause
+pub returns-in_err-stop_watched-clause-cause : goal.returns-in_err-stop_watched-clause-cause
+returns-in_err-stop_watched-clause-cause g c =
+    vault_joined _ _ _ _ _ c.from_residual-in_err-stop_watched.result c.in_ok-record.ensures.works (none_falls_join _ _ _ c.take_all.ensures.cause.later c.record.ensures.cause.later) c.in_err-stop_watched.ensures.writes.cause
 
 pub returns-clause-recorded : goal.returns-clause-recorded
 returns-clause-recorded g c =
@@ -82,10 +82,10 @@ returns-clause-recorded g c =
       told = λ opening events t0 told h.
           let a = t.told opening events t0 told h in
           let b = c.in_ok-record.ensures.taken opening t.feed (events ++ a.more) t0 told a.taken in
-          let ab = takes_join opening events t0 _ _ _ (g.M.Media.disk c.take_all.new.media) _ t.feed _ a t.feed [] b in
-          let done = c.stop.ensures.stopped opening (events ++ ab.more) t0 told c.in_ok-record.ensures.works ab.taken.has in
+          let ab = takes_join opening events t0 _ _ _ (g.M.Media.disk c.take_all.new.media) _ t.feed _ g.W.Watch.hears _ (g.W.Watch.seen c.take_all.new.watch) (g.W.Watch.seen c.record.new.watch) a t.feed [] b in
+          let done = c.stop_watched.ensures.stopped opening (events ++ ab.more) t0 told c.in_ok-record.ensures.works ab.taken.has in
           let left = state_left opening (events ++ ab.more) in
-          let counted = c.stop.ensures.counted left.start left.popped ((ab.taken.has.works c.in_ok-record.ensures.works).makes c.record.ensures.open).makes.counts in
-          takes_close opening events t0 _ _ _ (g.M.Media.disk c.record.new.media) _ t.feed [] ab t.feed
-          (closed_now opening (events ++ ab.more) t0 c.record.new.recorder c.stop.new.self _ _ t.feed (rest_of c.rest.result) ab.taken same done counted);
+          let counted = c.stop_watched.ensures.counted left.start left.popped ((ab.taken.has.works c.in_ok-record.ensures.works).makes c.record.ensures.open).makes.counts in
+          takes_close opening events t0 _ _ _ (g.M.Media.disk c.record.new.media) _ t.feed [] g.W.Watch.hears _ (g.W.Watch.seen c.record.new.watch) _ ab t.feed
+          (closed_now opening (events ++ ab.more) t0 c.record.new.recorder c.stop_watched.new.self _ _ g.W.Watch.hears (g.W.Watch.seen c.record.new.watch) (g.W.Watch.seen c.stop_watched.new.watch) t.feed (rest_of c.rest.result) ab.taken same done counted);
     }

@@ -1,4 +1,4 @@
-use Rattle.std.proofs.Common.{rules, ◌≡◌, inl, inr, ℕ, ℤ, List, pos, ap, sym, subst, ◌∙◌, arith, to_z, of_z, w64}
+use Rattle.std.proofs.Common.{rules, ◌≡◌, inl, inr, ℕ, ℤ, List, pos, refl, ap, sym, subst, ◌∙◌, arith, to_z, of_z, w64}
 use Rattle.std.proofs.lemmas.Int.{ints}
 use Rattle.std.specs.Prelude.{sum}
 use Rattle.vdr_terms.specs.Stamps.{IsStamp, last_stamp}
@@ -14,24 +14,24 @@ use Rattle.vdr_reply.proofs.answering.answer.Goals as goal
 
 pub returns-then-failed-clause-answered : goal.returns-then-failed-clause-answered
 returns-then-failed-clause-answered g c = λ opening events t0 told h.
-    failed_answer opening events t0 c.args.recorder.now (g.M.Media.disk c.args.media.now) h c.args.recorder.now.vault.config.channels _ c.of_line.result (plain c.args.order) (search rules) c.of_line.ensures
+    failed_answer opening events t0 c.args.recorder.now (g.M.Media.disk c.args.media.now) h c.args.recorder.now.vault.config.channels _ c.of_line.result g.W.Watch.hears (g.W.Watch.seen c.args.watch.now) _ (plain c.args.order) (search rules) c.of_line.ensures (λ heard. refl)
 
 pub returns-in-Status-clause-answered : goal.returns-in-Status-clause-answered
 returns-in-Status-clause-answered g c = λ opening events t0 told h.
     subst (λ (order : PlainOrder). HasAnswered c.args.recorder.now.vault.config.channels (Rose (sum (g.M.Media.faults c.args.media.now)) (sum (g.M.Media.faults c.args.media.now))) opening events t0 order
-    c.answer_status.result c.args.recorder.now c.args.recorder.now (g.M.Media.disk c.args.media.now) (g.M.Media.disk c.args.media.now))
+    c.answer_status.result c.args.recorder.now c.args.recorder.now (g.M.Media.disk c.args.media.now) (g.M.Media.disk c.args.media.now) g.W.Watch.hears (g.W.Watch.seen c.args.watch.now) (g.W.Watch.seen c.answer_status.new.watch))
     (sym (ap plain c.in-Status.is)) (c.answer_status.ensures.answered opening events t0 h)
 
 pub returns-in-Save-clause-answered : goal.returns-in-Save-clause-answered
 returns-in-Save-clause-answered g c = λ opening events t0 told h.
     subst (λ (order : PlainOrder). HasAnswered c.args.recorder.now.vault.config.channels (Rose (sum (g.M.Media.faults c.args.media.now)) (sum (g.M.Media.faults c.answer_save.new.media))) opening events t0 order
-    c.answer_save.result c.args.recorder.now c.answer_save.new.recorder (g.M.Media.disk c.args.media.now) (g.M.Media.disk c.answer_save.new.media))
+    c.answer_save.result c.args.recorder.now c.answer_save.new.recorder (g.M.Media.disk c.args.media.now) (g.M.Media.disk c.answer_save.new.media) g.W.Watch.hears (g.W.Watch.seen c.args.watch.now) (g.W.Watch.seen c.answer_save.new.watch))
     (sym (ap plain c.in-Save.is)) (c.answer_save.ensures.answered opening events t0 told h)
 
 pub returns-in-Release-clause-answered : goal.returns-in-Release-clause-answered
 returns-in-Release-clause-answered g c = λ opening events t0 told h.
     subst (λ (order : PlainOrder). HasAnswered c.args.recorder.now.vault.config.channels (Rose (sum (g.M.Media.faults c.args.media.now)) (sum (g.M.Media.faults c.answer_release.new.media))) opening events t0 order
-    c.answer_release.result c.args.recorder.now c.answer_release.new.recorder (g.M.Media.disk c.args.media.now) (g.M.Media.disk c.answer_release.new.media))
+    c.answer_release.result c.args.recorder.now c.answer_release.new.recorder (g.M.Media.disk c.args.media.now) (g.M.Media.disk c.answer_release.new.media) g.W.Watch.hears (g.W.Watch.seen c.args.watch.now) (g.W.Watch.seen c.answer_release.new.watch))
     (sym (ap plain c.in-Release.is)) (c.answer_release.ensures.answered opening events t0 told h)
 
 bound_kept : (unbounded : ℤ) (word : List ℕ) (utc : ℤ) → IsStamp unbounded → SpellsBound unbounded word utc → to_z w64 (of_z w64 utc) ≡ utc
@@ -50,5 +50,5 @@ returns-in-Play-clause-answered g c = λ opening events t0 told h.
     let from : to_z w64 (of_z w64 c.in-Play.from) ≡ c.in-Play.from = bound_kept (pos 0) asked.from c.in-Play.from first_is asked.spelled.2 in
     let to : to_z w64 (of_z w64 c.in-Play.to) ≡ c.in-Play.to = bound_kept (pos last_stamp) asked.to c.in-Play.to last_is asked.spelled.3 in
     subst (λ (order : PlainOrder). HasAnswered c.args.recorder.now.vault.config.channels (Rose (sum (g.M.Media.faults c.args.media.now)) (sum (g.M.Media.faults c.answer_play.new.media))) opening events t0 order
-    c.answer_play.result c.args.recorder.now c.answer_play.new.recorder (g.M.Media.disk c.args.media.now) (g.M.Media.disk c.answer_play.new.media))
+    c.answer_play.result c.args.recorder.now c.answer_play.new.recorder (g.M.Media.disk c.args.media.now) (g.M.Media.disk c.answer_play.new.media) g.W.Watch.hears (g.W.Watch.seen c.args.watch.now) (g.W.Watch.seen c.answer_play.new.watch))
     ((λ i. PlayOrder c.in-Play.medium c.in-Play.channel.now (from i) (to i)) ∙ sym (ap plain c.in-Play.is)) (c.answer_play.ensures.answered opening events t0 told h)

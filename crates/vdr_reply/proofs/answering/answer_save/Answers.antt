@@ -1,13 +1,13 @@
-use Rattle.std.proofs.Common.{◌≡◌, inr}
+use Rattle.std.proofs.Common.{inr}
 use Rattle.vdr_reply.proofs.Answered.{save_answer}
 use Rattle.vdr_reply.proofs.answering.answer_save.Goals as goal
 
 pub returns-clause-answered : goal.returns-clause-answered
 returns-clause-answered g c = λ opening events t0 told h.
-    let e = c.save.ensures in
+    let e = c.save_watched.ensures in
     let works = c.requires.works in
-    save_answer opening events t0 c.args.recorder.now (g.M.Media.disk c.args.media.now) h c.args.recorder.now.vault.config.channels _ c.of_save.result works c.save.new.self (g.M.Media.disk c.save.new.media)
-    c.args.label.now c.save.result c.of_save.ensures
+    save_answer opening events t0 c.args.recorder.now (g.M.Media.disk c.args.media.now) h c.args.recorder.now.vault.config.channels _ c.of_save.result g.W.Watch.hears (g.W.Watch.seen c.args.watch.now) _ works c.save_watched.new.self (g.M.Media.disk c.save_watched.new.media)
+    c.args.label.now c.save_watched.result c.of_save.ensures
     (λ none undamaged. e.event.saved opening events t0 told works none undamaged h)
     (λ refused some. e.event.looked opening events t0 refused (inr some) h)
     (λ refused some. let same = e.refuses.refused refused works some in (same.0, same.1))

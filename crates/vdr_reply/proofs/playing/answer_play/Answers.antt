@@ -1,4 +1,4 @@
-use Rattle.std.proofs.Common.{◌≡◌, ◌⊎◌, ◌++◌, ◌↔◌, ℕ, true, false, true≢false, List, Some, Result, Ok, Err, length, sym, ap, ◌∙◌, subst}
+use Rattle.std.proofs.Common.{◌≡◌, ◌++◌, ◌↔◌, ℕ, true, false, List, Some, Result, Ok, Err, length, sym, ap, ◌∙◌, subst}
 use Rattle.std.specs.Prelude.{OnOk, sum, ⊤}
 use Rattle.std.specs.Io.KnownBytes.{Appends}
 use Rattle.vdr_terms.specs.Queries.{Query}
@@ -24,30 +24,30 @@ page_after (Err x) begun page text more is = tt
 
 pub returns-in_default-clause-answered : goal.returns-in_default-clause-answered
 returns-in_default-clause-answered g c = λ opening events t0 told h.
-    unnamed_answer opening events t0 c.args.recorder.now (g.M.Media.disk c.args.media.now) h _ c.of_line.result c.requires.works c.args.wanted.medium c.args.wanted.name.now c.args.wanted.from c.args.wanted.to
-    c.in_default.ensures.none c.of_line.ensures
+    unnamed_answer opening events t0 c.args.recorder.now (g.M.Media.disk c.args.media.now) h _ c.of_line.result g.W.Watch.hears (g.W.Watch.seen c.args.watch.now) _ c.requires.works c.args.wanted.medium c.args.wanted.name.now c.args.wanted.from c.args.wanted.to
+    (c.look_watched.ensures.told opening events t0 h) c.in_default.ensures.none c.of_line.ensures
 
 pub returns-in_default-begin-clause-answered : goal.returns-in_default-begin-clause-answered
 returns-in_default-begin-clause-answered g c = λ opening events t0 told h.
-    no_memory_answer opening events t0 c.args.recorder.now (g.M.Media.disk c.args.media.now) h _ c.of_line-in_default-begin.result c.requires.works c.args.wanted.medium c.args.wanted.name.now c.args.wanted.from c.args.wanted.to
-    c.of_line-in_default-begin.ensures
+    no_memory_answer opening events t0 c.args.recorder.now (g.M.Media.disk c.args.media.now) h _ c.of_line-in_default-begin.result g.W.Watch.hears (g.W.Watch.seen c.args.watch.now) _ c.requires.works c.args.wanted.medium c.args.wanted.name.now c.args.wanted.from c.args.wanted.to
+    (c.look_watched-in_default-begin.ensures.told opening events t0 h) c.of_line-in_default-begin.ensures
 
 pub returns-clause-answered : goal.returns-clause-answered
 returns-clause-answered g c = λ opening events t0 told h.
-    let e = c.play-played.ensures in
+    let e = c.play_watched-played.ensures in
     let works = c.requires.works in
     let channels = c.args.recorder.now.vault.config.channels in
     let found = c.in-Some.ensures.found in
     let is = found.0 in
     let readable = stands_to_read opening events c.args.recorder.now.vault (h.works works).standing.placed (g.M.Media.disk c.args.media.now) (h.works works).standing.stands in
-    played_answer opening events t0 c.args.recorder.now (g.M.Media.disk c.args.media.now) h (Rose (sum (g.M.Media.faults c.args.media.now)) (sum (g.M.Media.faults c.play-played.new.media))) c.of_played.result works c.args.wanted.medium c.args.wanted.name.now c.args.wanted.from c.args.wanted.to
-    c.play-played.new.self (g.M.Media.disk c.play-played.new.media) c.play-played.result c.play-played.new.out.bytes.items c.of_played.ensures
-    (e.looked.done opening events t0 h)
-    (reads_keep_failed _ c.args.recorder.now.vault c.play-played.new.self.vault e.looked.read.vault ∙ works)
+    played_answer opening events t0 c.args.recorder.now (g.M.Media.disk c.args.media.now) h (Rose (sum (g.M.Media.faults c.args.media.now)) (sum (g.M.Media.faults c.play_watched-played.new.media))) c.of_played.result g.W.Watch.hears (g.W.Watch.seen c.args.watch.now) _ works c.args.wanted.medium c.args.wanted.name.now c.args.wanted.from c.args.wanted.to
+    c.play_watched-played.new.self (g.M.Media.disk c.play_watched-played.new.media) c.play_watched-played.result c.play_watched-played.new.out.bytes.items c.of_played.ensures
+    (e.told opening events t0 h)
+    (reads_keep_failed _ c.args.recorder.now.vault c.play_watched-played.new.self.vault e.looked.read.vault ∙ works)
     found.1
     (λ refused. ap (λ (q : Query). lacks_channel (length channels) q.channel) (sym is) ∙ e.accepted.channel.0 refused)
-    (subst (λ (q : Query). (c.play-played.result ≡ Err plays.NoIncident) ↔ ((lacks_channel (length channels) q.channel ≡ false) × (lacks_incident c.args.recorder.now.vault.table q.medium ≡ true))) is e.accepted.incident)
-    (subst (λ (q : Query). OnOk c.play-played.result (c.play-played.new.out.bytes.items ≡ done_line ++ records_text nothing_seen (selected opening events q))) is
-    (page_after c.play-played.result c.in-Ok.page.bytes.items c.play-played.new.out.bytes.items _ (played_all opening events (h.works works).standing.placed told readable e.played) c.in-Ok.ensures.text))
+    (subst (λ (q : Query). (c.play_watched-played.result ≡ Err plays.NoIncident) ↔ ((lacks_channel (length channels) q.channel ≡ false) × (lacks_incident c.args.recorder.now.vault.table q.medium ≡ true))) is e.accepted.incident)
+    (subst (λ (q : Query). OnOk c.play_watched-played.result (c.play_watched-played.new.out.bytes.items ≡ done_line ++ records_text nothing_seen (selected opening events q))) is
+    (page_after c.play_watched-played.result c.in-Ok.page.bytes.items c.play_watched-played.new.out.bytes.items _ (played_all opening events (h.works works).standing.placed told readable e.played) c.in-Ok.ensures.text))
     (λ m offset. played_undamaged opening events (h.works works).standing.placed told readable e.played m offset)
     (λ fault. in_this_call c.args.recorder.now.vault.failed _ works (e.looked.cause.in_all fault))

@@ -24,13 +24,14 @@ beside_of tells answers turns old new began marks = DesksRan tells answers turns
 
 pub returns-in_default-began : goal.returns-in_default-began
 returns-in_default-began g c =
-    let p = if_some _ c.record_lent-media.result.1 c.in-Some.field-0 c.in-Some.is c.record_lent-media.ensures.closed in
+    let p = if_some _ c.record_lent-media.result.2 c.in-Some.field-0 c.in-Some.is c.record_lent-media.ensures.closed in
     record {
       same = c.record_lent-media.ensures.same;
+      same_watch = c.record_lent-media.ensures.same_watch;
       ended = not_begun_ends g.P.Port c.args.turns c.args.memory.now.queues c.args.memory.now.takers c.record_lent-media.new.takers c.args.lanes.now
           c.record_lent-media.new.lanes
-          (record { clock = g.O.Lent.clock; now = g.O.Lent.now; since = g.O.Lent.since; reads = g.O.Lent.reads; channels = g.O.Lent.channels }) g.O.Lent.began
-          g.O.Lent.rates g.O.Lent.room g.O.Lent.sizes g.O.Lent.faults p.0 c.in-Some.field-0.began c.in-Some.field-0.recorder
+          (record { clock = g.O.Lent.clock; now = g.O.Lent.now; since = g.O.Lent.since; reads = g.O.Lent.reads; channels = g.O.Lent.channels; hears = g.W.Watch.hears; heard = g.O.Lent.heard }) g.O.Lent.began
+          g.O.Lent.rates g.O.Lent.room g.O.Lent.sizes g.O.Lent.faults p.0 c.in-Some.field-0.began (g.W.Watch.seen c.record_lent-media.result.1.now) c.in-Some.field-0.recorder
           (g.M.Media.disk c.record_lent-media.result.0.now) (g.M.Media.faults c.record_lent-media.result.0.now) p.1 p.2 p.4
           (beside_of g.L.Link (AnswersMark g.M.Media.tells g.O.Lent.began g.O.Lent.channels) c.args.turns c.args.desks.now c.record_lent-media.new.desks)
           p.3
@@ -42,9 +43,9 @@ returns-in_default-began g c =
     never : {T : Type 0} {x : T} → Some x ≡ None → ⊥
     never e = cc
 
-pub stop-requires-clause-fits : goal.stop-requires-clause-fits
-stop-requires-clause-fits g c =
-    let p = if_some _ c.record_lent-media.result.1 c.in-Some.field-0 c.in-Some.is c.record_lent-media.ensures.closed in
+pub stop_watched-requires-clause-fits : goal.stop_watched-requires-clause-fits
+stop_watched-requires-clause-fits g c =
+    let p = if_some _ c.record_lent-media.result.2 c.in-Some.field-0 c.in-Some.is c.record_lent-media.ensures.closed in
     let is : c.in-Some.field-0.began ≡ starts.Begun = c.in-Begun.is in
     let sixteen : length c.record_lent-media.new.lanes ≡ 16 = search rules in
     let beside = beside_of g.L.Link (AnswersMark g.M.Media.tells g.O.Lent.began g.O.Lent.channels) c.args.turns c.args.desks.now c.record_lent-media.new.desks
@@ -52,46 +53,46 @@ stop-requires-clause-fits g c =
     record {
       quiet = stop_quiet g.P.Port c.args.turns c.args.memory.now.queues c.args.memory.now.takers c.record_lent-media.new.takers c.args.lanes.now
           c.record_lent-media.new.lanes
-          (record { clock = g.O.Lent.clock; now = g.O.Lent.now; since = g.O.Lent.since; reads = g.O.Lent.reads; channels = g.O.Lent.channels })
-          g.O.Lent.began g.O.Lent.rates g.O.Lent.room g.O.Lent.sizes g.O.Lent.faults p.0 c.in-Some.field-0.began c.in-Some.field-0.recorder
+          (record { clock = g.O.Lent.clock; now = g.O.Lent.now; since = g.O.Lent.since; reads = g.O.Lent.reads; channels = g.O.Lent.channels; hears = g.W.Watch.hears; heard = g.O.Lent.heard })
+          g.O.Lent.began g.O.Lent.rates g.O.Lent.room g.O.Lent.sizes g.O.Lent.faults p.0 c.in-Some.field-0.began (g.W.Watch.seen c.record_lent-media.result.1.now) c.in-Some.field-0.recorder
           (g.M.Media.disk c.record_lent-media.result.0.now) (g.M.Media.faults c.record_lent-media.result.0.now) p.1 p.2 p.4
           beside p.3 is (rest_of c.rest_of.result) c.rest_of.ensures sixteen c.requires.turns;
       place = stop_place g.P.Port c.args.turns c.args.memory.now.queues c.args.memory.now.takers c.record_lent-media.new.takers c.args.lanes.now
           c.record_lent-media.new.lanes
-          (record { clock = g.O.Lent.clock; now = g.O.Lent.now; since = g.O.Lent.since; reads = g.O.Lent.reads; channels = g.O.Lent.channels })
-          g.O.Lent.began g.O.Lent.rates g.O.Lent.room g.O.Lent.sizes g.O.Lent.faults p.0 c.in-Some.field-0.began c.in-Some.field-0.recorder
+          (record { clock = g.O.Lent.clock; now = g.O.Lent.now; since = g.O.Lent.since; reads = g.O.Lent.reads; channels = g.O.Lent.channels; hears = g.W.Watch.hears; heard = g.O.Lent.heard })
+          g.O.Lent.began g.O.Lent.rates g.O.Lent.room g.O.Lent.sizes g.O.Lent.faults p.0 c.in-Some.field-0.began (g.W.Watch.seen c.record_lent-media.result.1.now) c.in-Some.field-0.recorder
           (g.M.Media.disk c.record_lent-media.result.0.now) (g.M.Media.faults c.record_lent-media.result.0.now) p.1 p.2 p.4
           beside p.3 is (rest_of c.rest_of.result) c.rest_of.ensures sixteen c.requires.turns;
       numbers = stop_numbers g.P.Port c.args.turns c.args.memory.now.queues c.args.memory.now.takers c.record_lent-media.new.takers c.args.lanes.now
           c.record_lent-media.new.lanes
-          (record { clock = g.O.Lent.clock; now = g.O.Lent.now; since = g.O.Lent.since; reads = g.O.Lent.reads; channels = g.O.Lent.channels })
-          g.O.Lent.began g.O.Lent.rates g.O.Lent.room g.O.Lent.sizes g.O.Lent.faults p.0 c.in-Some.field-0.began c.in-Some.field-0.recorder
+          (record { clock = g.O.Lent.clock; now = g.O.Lent.now; since = g.O.Lent.since; reads = g.O.Lent.reads; channels = g.O.Lent.channels; hears = g.W.Watch.hears; heard = g.O.Lent.heard })
+          g.O.Lent.began g.O.Lent.rates g.O.Lent.room g.O.Lent.sizes g.O.Lent.faults p.0 c.in-Some.field-0.began (g.W.Watch.seen c.record_lent-media.result.1.now) c.in-Some.field-0.recorder
           (g.M.Media.disk c.record_lent-media.result.0.now) (g.M.Media.faults c.record_lent-media.result.0.now) p.1 p.2 p.4
           beside p.3 is (rest_of c.rest_of.result) c.rest_of.ensures sixteen c.requires.turns;
     }
 
 pub returns-clause-ended : goal.returns-clause-ended
 returns-clause-ended g c =
-    let p = if_some _ c.record_lent-media.result.1 c.in-Some.field-0 c.in-Some.is c.record_lent-media.ensures.closed in
+    let p = if_some _ c.record_lent-media.result.2 c.in-Some.field-0 c.in-Some.is c.record_lent-media.ensures.closed in
     let is : c.in-Some.field-0.began ≡ starts.Begun = c.in-Begun.is in
     let sixteen : length c.record_lent-media.new.lanes ≡ 16 = search rules in
     let ends : Outcome → Type 0 = λ outcome. HasEnded g.P.Port c.args.turns (λ n. is_configured (limits_in g.O.Lent.rates n)) c.args.memory.now.queues
     c.args.memory.now.takers c.record_lent-media.new.takers c.args.lanes.now c.record_lent-media.new.lanes
-    (record { clock = g.O.Lent.clock; now = g.O.Lent.now; since = g.O.Lent.since; reads = g.O.Lent.reads; channels = g.O.Lent.channels }) g.O.Lent.began
+    (record { clock = g.O.Lent.clock; now = g.O.Lent.now; since = g.O.Lent.since; reads = g.O.Lent.reads; channels = g.O.Lent.channels; hears = g.W.Watch.hears; heard = g.O.Lent.heard }) g.O.Lent.began
     g.O.Lent.sizes g.O.Lent.faults (beside_of g.L.Link (AnswersMark g.M.Media.tells g.O.Lent.began g.O.Lent.channels) c.args.turns c.args.desks.now
-    c.record_lent-media.new.desks) outcome c.stop.new.self (g.M.Media.disk c.stop.new.media) (g.M.Media.faults c.stop.new.media) in
-    elim c.match-stop.branch [
+    c.record_lent-media.new.desks) outcome c.stop_watched.new.self (g.M.Media.disk c.stop_watched.new.media) (g.M.Media.faults c.stop_watched.new.media) (g.W.Watch.seen c.stop_watched.new.watch) in
+    elim c.match-stop_watched.branch [
       | in-Ok w ↦
           (let e = w.in-Ok.ensures in
           subst ends (sym w.outcome-is)
           (done_ends g.P.Port c.args.turns c.args.memory.now.queues c.args.memory.now.takers c.record_lent-media.new.takers c.args.lanes.now
           c.record_lent-media.new.lanes
-          (record { clock = g.O.Lent.clock; now = g.O.Lent.now; since = g.O.Lent.since; reads = g.O.Lent.reads; channels = g.O.Lent.channels }) g.O.Lent.began
-          g.O.Lent.rates g.O.Lent.room g.O.Lent.sizes g.O.Lent.faults p.0 c.in-Some.field-0.began c.in-Some.field-0.recorder
+          (record { clock = g.O.Lent.clock; now = g.O.Lent.now; since = g.O.Lent.since; reads = g.O.Lent.reads; channels = g.O.Lent.channels; hears = g.W.Watch.hears; heard = g.O.Lent.heard }) g.O.Lent.began
+          g.O.Lent.rates g.O.Lent.room g.O.Lent.sizes g.O.Lent.faults p.0 c.in-Some.field-0.began (g.W.Watch.seen c.record_lent-media.result.1.now) c.in-Some.field-0.recorder
           (g.M.Media.disk c.record_lent-media.result.0.now) (g.M.Media.faults c.record_lent-media.result.0.now) p.1 p.2 p.4
           (beside_of g.L.Link (AnswersMark g.M.Media.tells g.O.Lent.began g.O.Lent.channels) c.args.turns c.args.desks.now c.record_lent-media.new.desks)
-          p.3 is (rest_of c.rest_of.result) c.rest_of.ensures sixteen c.requires.turns c.stop.new.self (g.M.Media.disk c.stop.new.media)
-          (g.M.Media.faults c.stop.new.media) e.writes.sizes e.writes.others e.writes.cause.later e.stopped e.counted
+          p.3 is (rest_of c.rest_of.result) c.rest_of.ensures sixteen c.requires.turns (g.W.Watch.seen c.stop_watched.new.watch) c.stop_watched.new.self (g.M.Media.disk c.stop_watched.new.media)
+          (g.M.Media.faults c.stop_watched.new.media) e.writes.sizes e.writes.others e.writes.cause.later e.stopped e.counted
           (⊎_elim (λ (fails : c.in-Some.field-0.recorder.vault.failed ≡ true). absurd (true≢false (sym (e.failing.failed fails).0)))
           (λ (works : c.in-Some.field-0.recorder.vault.failed ≡ false). works) (cases_Bool c.in-Some.field-0.recorder.vault.failed)) e.failing.works))
       | in-Err w ↦
@@ -99,11 +100,11 @@ returns-clause-ended g c =
           subst ends (sym w.outcome-is)
           (fault_ends g.P.Port c.args.turns c.args.memory.now.queues c.args.memory.now.takers c.record_lent-media.new.takers c.args.lanes.now
           c.record_lent-media.new.lanes
-          (record { clock = g.O.Lent.clock; now = g.O.Lent.now; since = g.O.Lent.since; reads = g.O.Lent.reads; channels = g.O.Lent.channels }) g.O.Lent.began
-          g.O.Lent.rates g.O.Lent.room g.O.Lent.sizes g.O.Lent.faults p.0 c.in-Some.field-0.began c.in-Some.field-0.recorder
+          (record { clock = g.O.Lent.clock; now = g.O.Lent.now; since = g.O.Lent.since; reads = g.O.Lent.reads; channels = g.O.Lent.channels; hears = g.W.Watch.hears; heard = g.O.Lent.heard }) g.O.Lent.began
+          g.O.Lent.rates g.O.Lent.room g.O.Lent.sizes g.O.Lent.faults p.0 c.in-Some.field-0.began (g.W.Watch.seen c.record_lent-media.result.1.now) c.in-Some.field-0.recorder
           (g.M.Media.disk c.record_lent-media.result.0.now) (g.M.Media.faults c.record_lent-media.result.0.now) p.1 p.2 p.4
           (beside_of g.L.Link (AnswersMark g.M.Media.tells g.O.Lent.began g.O.Lent.channels) c.args.turns c.args.desks.now c.record_lent-media.new.desks)
-          p.3 is (rest_of c.rest_of.result) c.rest_of.ensures sixteen c.requires.turns c.stop.new.self (g.M.Media.disk c.stop.new.media)
-          (g.M.Media.faults c.stop.new.media) e.writes.sizes e.writes.others e.writes.cause.later e.stopped e.counted
-          (λ fails. let q = e.failing.failed fails in (q.1, ap g.M.Media.disk q.2)) e.writes.cause.in_all))
+          p.3 is (rest_of c.rest_of.result) c.rest_of.ensures sixteen c.requires.turns (g.W.Watch.seen c.stop_watched.new.watch) c.stop_watched.new.self (g.M.Media.disk c.stop_watched.new.media)
+          (g.M.Media.faults c.stop_watched.new.media) e.writes.sizes e.writes.others e.writes.cause.later e.stopped e.counted
+          (λ fails. let q = e.failing.failed fails in (q.1, ap g.M.Media.disk q.2)) e.untold e.writes.cause.in_all))
     ]

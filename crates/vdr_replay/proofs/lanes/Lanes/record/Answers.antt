@@ -6,8 +6,8 @@ use Rattle.vdr_replay.proofs.Calls.{breaks_batch, takes_batch}
 use Rattle.vdr_replay.proofs.Fitting.{numbers_fit}
 use Rattle.vdr_replay.proofs.lanes.Lanes.record.Goals as goal
 
-pub take_batch-requires-clause-fits : goal.take_batch-requires-clause-fits
-take_batch-requires-clause-fits g c =
+pub take_batch_watched-requires-clause-fits : goal.take_batch_watched-requires-clause-fits
+take_batch_watched-requires-clause-fits g c =
     let feed = c.requires.held.0 in
     let held = c.requires.held.1 in
     subst (λ (items : List Captured). FitBatch items c.args.recorder.now) (sym c.as_slice.ensures) (record {
@@ -17,12 +17,12 @@ take_batch-requires-clause-fits g c =
       numbers = λ n low. let fit = numbers_fit feed c.args.self.now.batch.items c.args.recorder.now.maker held.fits held.few n low in omega (arith, fit);
     })
 
-pub returns-in_err-take_batch-clause-broken : goal.returns-in_err-take_batch-clause-broken
-returns-in_err-take_batch-clause-broken g c = λ opening feed events t0 told h.
-    on_err c.from_residual.result (breaks_batch opening events t0 _ _ _ _ feed c.args.self.now.batch.items _ c.as_slice.ensures h c.requires.works
-    (c.take_batch.ensures.taken opening events t0 told c.requires.works h.has))
+pub returns-in_err-take_batch_watched-clause-broken : goal.returns-in_err-take_batch_watched-clause-broken
+returns-in_err-take_batch_watched-clause-broken g c = λ opening feed events t0 told h.
+    on_err c.from_residual.result (breaks_batch opening events t0 _ _ _ _ g.W.Watch.hears _ _ feed c.args.self.now.batch.items _ c.as_slice.ensures h c.requires.works
+    (c.take_batch_watched.ensures.taken opening events t0 told c.requires.works h.has))
 
 pub returns-clause-taken : goal.returns-clause-taken
 returns-clause-taken g c = λ opening feed events t0 told h.
-    takes_batch opening events t0 _ _ _ _ feed c.args.self.now.batch.items _ c.as_slice.ensures h c.requires.works
-    (c.take_batch.ensures.taken opening events t0 told c.requires.works h.has) c.in_ok-take_batch.ensures.failing.works
+    takes_batch opening events t0 _ _ _ _ g.W.Watch.hears _ _ feed c.args.self.now.batch.items _ c.as_slice.ensures h c.requires.works
+    (c.take_batch_watched.ensures.taken opening events t0 told c.requires.works h.has) c.in_ok-take_batch_watched.ensures.failing.works

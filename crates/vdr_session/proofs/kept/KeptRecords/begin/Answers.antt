@@ -13,7 +13,9 @@ use Rattle.vdr_session.specs.Marks.{has_fault}
 use Rattle.vdr_session.proofs.Faults.{no_fault}
 use Rattle.vdr_session.proofs.Starts.{may_begin, no_place, no_tick}
 use Rattle.vdr_session.specs.declared.mark.Mark.{Mark}
-use Rattle.vdr_session.proofs.Steps.{start_kept, start_look_kept}
+use Rattle.vdr_recorder.specs.Recordings.{RecorderState}
+use Rattle.vdr_recorder.proofs.Telling.{look_from}
+use Rattle.vdr_session.proofs.Steps.{start_kept, start_look_kept, untold_look}
 use Rattle.vdr_session.proofs.kept.KeptRecords.begin.Goals as goal
 
 ok_no_fault : {T : Type 0} (x : T) (e : StartRefused) → Ok x ≡ Err e → ⊥
@@ -32,18 +34,18 @@ not_tick : Fault ≡ Tick → ⊥
 not_tick e = cc
 
 pub returns-in-Ok-clause-leaves : goal.returns-in-Ok-clause-leaves
-returns-in-Ok-clause-leaves g c = λ history h. (by_failed history h.0 (cases_Bool c.args.self.now.recorder.vault.failed), h.1)
+returns-in-Ok-clause-leaves g c = λ history h. (by_failed history h.0 (cases_Bool c.args.self.now.recorder.vault.failed), h.1, h.2)
   where
-    by_failed : (history : List Mark) → IsKept (record { clock = g.O.Lent.clock; now = g.O.Lent.now; since = g.O.Lent.since; reads = g.O.Lent.reads; channels = g.O.Lent.channels }) g.O.Lent.began g.O.Lent.rates g.O.Lent.room g.O.Lent.sizes g.O.Lent.faults history
+    by_failed : (history : List Mark) → IsKept (record { clock = g.O.Lent.clock; now = g.O.Lent.now; since = g.O.Lent.since; reads = g.O.Lent.reads; channels = g.O.Lent.channels; hears = g.W.Watch.hears; heard = g.O.Lent.heard }) g.O.Lent.began g.O.Lent.rates g.O.Lent.room g.O.Lent.sizes g.O.Lent.faults history (g.W.Watch.seen c.args.self.now.watch.now)
         c.args.self.now.recorder (g.M.Media.disk c.args.self.now.media.now) (g.M.Media.faults c.args.self.now.media.now)
         → (c.args.self.now.recorder.vault.failed ≡ true) ⊎ (c.args.self.now.recorder.vault.failed ≡ false)
-        → IsKept (record { clock = g.O.Lent.clock; now = g.O.Lent.now; since = g.O.Lent.since; reads = g.O.Lent.reads; channels = g.O.Lent.channels }) g.O.Lent.began g.O.Lent.rates g.O.Lent.room g.O.Lent.sizes g.O.Lent.faults (history ++ start_mark c.args.self.now.recorder c.start.new.self (g.M.Media.disk c.start.new.media).clock ∷ [])
-        c.start.new.self (g.M.Media.disk c.start.new.media) (g.M.Media.faults c.start.new.media)
+        → IsKept (record { clock = g.O.Lent.clock; now = g.O.Lent.now; since = g.O.Lent.since; reads = g.O.Lent.reads; channels = g.O.Lent.channels; hears = g.W.Watch.hears; heard = g.O.Lent.heard }) g.O.Lent.began g.O.Lent.rates g.O.Lent.room g.O.Lent.sizes g.O.Lent.faults (history ++ start_mark c.args.self.now.recorder c.start_watched.new.self (g.M.Media.disk c.start_watched.new.media).clock ∷ []) (g.W.Watch.seen c.start_watched.new.watch)
+        c.start_watched.new.self (g.M.Media.disk c.start_watched.new.media) (g.M.Media.faults c.start_watched.new.media)
     by_failed history k (inl fails) = absurd (ok_no_fault c.in-Ok.field-0 Fault (c.in-Ok.ensures.refuses.failed fails).0)
     by_failed history k (inr works) =
-        start_kept (record { clock = g.O.Lent.clock; now = g.O.Lent.now; since = g.O.Lent.since; reads = g.O.Lent.reads; channels = g.O.Lent.channels }) g.O.Lent.began g.O.Lent.rates g.O.Lent.room g.O.Lent.sizes g.O.Lent.faults history
-        c.args.self.now.recorder (g.M.Media.disk c.args.self.now.media.now) (g.M.Media.faults c.args.self.now.media.now) k
-        c.start.new.self (g.M.Media.disk c.start.new.media) (g.M.Media.faults c.start.new.media)
+        start_kept (record { clock = g.O.Lent.clock; now = g.O.Lent.now; since = g.O.Lent.since; reads = g.O.Lent.reads; channels = g.O.Lent.channels; hears = g.W.Watch.hears; heard = g.O.Lent.heard }) g.O.Lent.began g.O.Lent.rates g.O.Lent.room g.O.Lent.sizes g.O.Lent.faults history
+        (g.W.Watch.seen c.args.self.now.watch.now) c.args.self.now.recorder (g.M.Media.disk c.args.self.now.media.now) (g.M.Media.faults c.args.self.now.media.now) k
+        (g.W.Watch.seen c.start_watched.new.watch) c.start_watched.new.self (g.M.Media.disk c.start_watched.new.media) (g.M.Media.faults c.start_watched.new.media) c.in-Ok.ensures.watched
         (record {
           config = c.in-Ok.ensures.begins.config;
           rings = c.in-Ok.ensures.begins.rings;
@@ -58,43 +60,48 @@ returns-in-Ok-clause-leaves g c = λ history h. (by_failed history h.0 (cases_Bo
 pub returns-in-Err-Place-clause-leaves : goal.returns-in-Err-Place-clause-leaves
 returns-in-Err-Place-clause-leaves g c = λ history h.
     let same = c.in-Err-Place.ensures.refuses.refused (inl (ap Err c.in-Err-Place.field-0-is)) in (
-      start_look_kept (record { clock = g.O.Lent.clock; now = g.O.Lent.now; since = g.O.Lent.since; reads = g.O.Lent.reads; channels = g.O.Lent.channels }) g.O.Lent.began g.O.Lent.rates g.O.Lent.room g.O.Lent.sizes g.O.Lent.faults history
-          c.args.self.now.recorder (g.M.Media.disk c.args.self.now.media.now) (g.M.Media.faults c.args.self.now.media.now) h.0
-          c.requires.closed c.start.new.self (g.M.Media.disk c.start.new.media) (g.M.Media.faults c.start.new.media)
-          same.0 (ap g.M.Media.disk same.1) (ap g.M.Media.faults same.1),
+      start_look_kept (record { clock = g.O.Lent.clock; now = g.O.Lent.now; since = g.O.Lent.since; reads = g.O.Lent.reads; channels = g.O.Lent.channels; hears = g.W.Watch.hears; heard = g.O.Lent.heard }) g.O.Lent.began g.O.Lent.rates g.O.Lent.room g.O.Lent.sizes g.O.Lent.faults history
+          (g.W.Watch.seen c.args.self.now.watch.now) c.args.self.now.recorder (g.M.Media.disk c.args.self.now.media.now) (g.M.Media.faults c.args.self.now.media.now) h.0
+          c.requires.closed (g.W.Watch.seen c.look_watched.new.watch) c.start_watched.new.self (g.M.Media.disk c.start_watched.new.media) (g.M.Media.faults c.start_watched.new.media)
+          same.0 (ap g.M.Media.disk same.1) (ap g.M.Media.faults same.1) c.look_watched.ensures.watched
+          (λ opening events t0 h. look_from (c.in-Err-Place.ensures.untold) (c.look_watched.ensures.told opening events t0 h)),
       h.1,
+      h.2,
     )
 
 pub returns-in-Err-Tick-clause-leaves : goal.returns-in-Err-Tick-clause-leaves
 returns-in-Err-Tick-clause-leaves g c = λ history h.
     let same = c.in-Err-Tick.ensures.refuses.refused (inr (ap Err c.in-Err-Tick.field-0-is)) in (
-      start_look_kept (record { clock = g.O.Lent.clock; now = g.O.Lent.now; since = g.O.Lent.since; reads = g.O.Lent.reads; channels = g.O.Lent.channels }) g.O.Lent.began g.O.Lent.rates g.O.Lent.room g.O.Lent.sizes g.O.Lent.faults history
-          c.args.self.now.recorder (g.M.Media.disk c.args.self.now.media.now) (g.M.Media.faults c.args.self.now.media.now) h.0
-          c.requires.closed c.start.new.self (g.M.Media.disk c.start.new.media) (g.M.Media.faults c.start.new.media)
-          same.0 (ap g.M.Media.disk same.1) (ap g.M.Media.faults same.1),
+      start_look_kept (record { clock = g.O.Lent.clock; now = g.O.Lent.now; since = g.O.Lent.since; reads = g.O.Lent.reads; channels = g.O.Lent.channels; hears = g.W.Watch.hears; heard = g.O.Lent.heard }) g.O.Lent.began g.O.Lent.rates g.O.Lent.room g.O.Lent.sizes g.O.Lent.faults history
+          (g.W.Watch.seen c.args.self.now.watch.now) c.args.self.now.recorder (g.M.Media.disk c.args.self.now.media.now) (g.M.Media.faults c.args.self.now.media.now) h.0
+          c.requires.closed (g.W.Watch.seen c.look_watched-in-Err-Tick.new.watch) c.start_watched.new.self (g.M.Media.disk c.start_watched.new.media) (g.M.Media.faults c.start_watched.new.media)
+          same.0 (ap g.M.Media.disk same.1) (ap g.M.Media.faults same.1) c.look_watched-in-Err-Tick.ensures.watched
+          (λ opening events t0 h. look_from (c.in-Err-Tick.ensures.untold) (c.look_watched-in-Err-Tick.ensures.told opening events t0 h)),
       h.1,
+      h.2,
     )
 
 pub returns-in-Err-Fault-clause-leaves : goal.returns-in-Err-Fault-clause-leaves
-returns-in-Err-Fault-clause-leaves g c = λ history h. (by_failed history h.0 (cases_Bool c.args.self.now.recorder.vault.failed), h.1)
+returns-in-Err-Fault-clause-leaves g c = λ history h. (by_failed history h.0 (cases_Bool c.args.self.now.recorder.vault.failed), h.1, h.2)
   where
-    by_failed : (history : List Mark) → IsKept (record { clock = g.O.Lent.clock; now = g.O.Lent.now; since = g.O.Lent.since; reads = g.O.Lent.reads; channels = g.O.Lent.channels }) g.O.Lent.began g.O.Lent.rates g.O.Lent.room g.O.Lent.sizes g.O.Lent.faults history
+    by_failed : (history : List Mark) → IsKept (record { clock = g.O.Lent.clock; now = g.O.Lent.now; since = g.O.Lent.since; reads = g.O.Lent.reads; channels = g.O.Lent.channels; hears = g.W.Watch.hears; heard = g.O.Lent.heard }) g.O.Lent.began g.O.Lent.rates g.O.Lent.room g.O.Lent.sizes g.O.Lent.faults history (g.W.Watch.seen c.args.self.now.watch.now)
         c.args.self.now.recorder (g.M.Media.disk c.args.self.now.media.now) (g.M.Media.faults c.args.self.now.media.now)
         → (c.args.self.now.recorder.vault.failed ≡ true) ⊎ (c.args.self.now.recorder.vault.failed ≡ false)
-        → IsKept (record { clock = g.O.Lent.clock; now = g.O.Lent.now; since = g.O.Lent.since; reads = g.O.Lent.reads; channels = g.O.Lent.channels }) g.O.Lent.began g.O.Lent.rates g.O.Lent.room g.O.Lent.sizes g.O.Lent.faults (history ++ start_mark c.args.self.now.recorder c.start.new.self (g.M.Media.disk c.start.new.media).clock ∷ [])
-        c.start.new.self (g.M.Media.disk c.start.new.media) (g.M.Media.faults c.start.new.media)
+        → IsKept (record { clock = g.O.Lent.clock; now = g.O.Lent.now; since = g.O.Lent.since; reads = g.O.Lent.reads; channels = g.O.Lent.channels; hears = g.W.Watch.hears; heard = g.O.Lent.heard }) g.O.Lent.began g.O.Lent.rates g.O.Lent.room g.O.Lent.sizes g.O.Lent.faults (history ++ start_mark c.args.self.now.recorder c.start_watched.new.self (g.M.Media.disk c.start_watched.new.media).clock ∷ []) (g.W.Watch.seen c.start_watched.new.watch)
+        c.start_watched.new.self (g.M.Media.disk c.start_watched.new.media) (g.M.Media.faults c.start_watched.new.media)
     by_failed history k (inl fails) =
         let same = c.in-Err-Fault.ensures.refuses.failed fails in
-        start_look_kept (record { clock = g.O.Lent.clock; now = g.O.Lent.now; since = g.O.Lent.since; reads = g.O.Lent.reads; channels = g.O.Lent.channels }) g.O.Lent.began g.O.Lent.rates g.O.Lent.room g.O.Lent.sizes g.O.Lent.faults history
-        c.args.self.now.recorder (g.M.Media.disk c.args.self.now.media.now) (g.M.Media.faults c.args.self.now.media.now) k
-        c.requires.closed c.start.new.self (g.M.Media.disk c.start.new.media) (g.M.Media.faults c.start.new.media)
-        same.1 (ap g.M.Media.disk same.2) (ap g.M.Media.faults same.2)
+        start_look_kept (record { clock = g.O.Lent.clock; now = g.O.Lent.now; since = g.O.Lent.since; reads = g.O.Lent.reads; channels = g.O.Lent.channels; hears = g.W.Watch.hears; heard = g.O.Lent.heard }) g.O.Lent.began g.O.Lent.rates g.O.Lent.room g.O.Lent.sizes g.O.Lent.faults history
+        (g.W.Watch.seen c.args.self.now.watch.now) c.args.self.now.recorder (g.M.Media.disk c.args.self.now.media.now) (g.M.Media.faults c.args.self.now.media.now) k
+        c.requires.closed (g.W.Watch.seen c.start_watched.new.watch) c.start_watched.new.self (g.M.Media.disk c.start_watched.new.media) (g.M.Media.faults c.start_watched.new.media)
+        same.1 (ap g.M.Media.disk same.2) (ap g.M.Media.faults same.2) c.in-Err-Fault.ensures.watched
+        (untold_look _ _ _ _ (ap (λ (r : RecorderState). r.vault.failed) same.1 ∙ fails) c.in-Err-Fault.ensures.untold)
     by_failed history k (inr works) =
         let is : Err c.in-Err-Fault.field-0 ≡ Err Fault = ap Err c.in-Err-Fault.field-0-is in
         let fails = c.in-Err-Fault.ensures.begins.fails is in
-        start_kept (record { clock = g.O.Lent.clock; now = g.O.Lent.now; since = g.O.Lent.since; reads = g.O.Lent.reads; channels = g.O.Lent.channels }) g.O.Lent.began g.O.Lent.rates g.O.Lent.room g.O.Lent.sizes g.O.Lent.faults history
-        c.args.self.now.recorder (g.M.Media.disk c.args.self.now.media.now) (g.M.Media.faults c.args.self.now.media.now) k
-        c.start.new.self (g.M.Media.disk c.start.new.media) (g.M.Media.faults c.start.new.media)
+        start_kept (record { clock = g.O.Lent.clock; now = g.O.Lent.now; since = g.O.Lent.since; reads = g.O.Lent.reads; channels = g.O.Lent.channels; hears = g.W.Watch.hears; heard = g.O.Lent.heard }) g.O.Lent.began g.O.Lent.rates g.O.Lent.room g.O.Lent.sizes g.O.Lent.faults history
+        (g.W.Watch.seen c.args.self.now.watch.now) c.args.self.now.recorder (g.M.Media.disk c.args.self.now.media.now) (g.M.Media.faults c.args.self.now.media.now) k
+        (g.W.Watch.seen c.start_watched.new.watch) c.start_watched.new.self (g.M.Media.disk c.start_watched.new.media) (g.M.Media.faults c.start_watched.new.media) c.in-Err-Fault.ensures.watched
         (record {
           config = c.in-Err-Fault.ensures.begins.config;
           rings = c.in-Err-Fault.ensures.begins.rings;
@@ -128,7 +135,7 @@ returns-in-Ok-clause-means g c = λ history h idle. (
   (λ either. absurd (begun_is_no_refusal either)),
 )
   where
-    by_failed : {history : List Mark} {before : Before} {opening : Opening} {t0 : ℕ} → HasSession before opening history t0 c.args.self.now.recorder (g.M.Media.disk c.args.self.now.media.now) → is_started history ≡ false
+    by_failed : {history : List Mark} {before : Before} {opening : Opening} {t0 : ℕ} → HasSession before opening history t0 c.args.self.now.recorder (g.M.Media.disk c.args.self.now.media.now) (g.W.Watch.seen c.args.self.now.watch.now) → is_started history ≡ false
         → (c.args.self.now.recorder.vault.failed ≡ true) ⊎ (c.args.self.now.recorder.vault.failed ≡ false) → MayBegin opening
     by_failed s idle (inl fails) = absurd (ok_no_fault c.in-Ok.field-0 Fault (c.in-Ok.ensures.refuses.failed fails).0)
     by_failed s idle (inr works) = may_begin s works idle (c.in-Ok.ensures.limits.place works) (c.in-Ok.ensures.limits.tick works) (ok_no_fault c.in-Ok.field-0 Place) (ok_no_fault c.in-Ok.field-0 Tick)

@@ -1,4 +1,4 @@
-use Rattle.std.proofs.Common.{◌≡◌, ◌⊎◌, inl, inr, ◌++◌, true, false, List, [], ◌∷◌, Option, All, sym, ap, subst, arith}
+use Rattle.std.proofs.Common.{◌≡◌, ◌⊎◌, inl, inr, ◌++◌, true, false, List, [], ◌∷◌, ◌∙◌, Option, All, sym, ap, subst, arith}
 use Rattle.std.proofs.lemmas.Bool.{cases_Bool}
 use Rattle.std.proofs.lemmas.List.{length-append}
 use Rattle.vdr_terms.specs.declared.rate.Rate.{Rate}
@@ -13,11 +13,13 @@ use Rattle.vdr_session.proofs.Numbered.{items_few, numbers_small}
 use Rattle.vdr_session.specs.Standing.{IsKept, batch_mark}
 use Rattle.vdr_session.specs.declared.mark.Mark.{Mark}
 use Rattle.vdr_session.proofs.MarkLemmas.{mark_is, rose_of}
-use Rattle.vdr_session.proofs.Steps.{batch_kept, batch_look_kept}
+use Rattle.vdr_recorder.specs.Recordings.{RecorderState}
+use Rattle.vdr_recorder.proofs.Telling.{untold_err}
+use Rattle.vdr_session.proofs.Steps.{batch_kept, batch_look_kept, untold_look}
 use Rattle.vdr_session.proofs.kept.KeptRecords.take_batch.Goals as goal
 
-pub take_batch-requires-clause-fits : goal.take_batch-requires-clause-fits
-take_batch-requires-clause-fits g c =
+pub take_batch_watched-requires-clause-fits : goal.take_batch_watched-requires-clause-fits
+take_batch_watched-requires-clause-fits g c =
     let popped = c.requires.0 in
     record {
       short = let short = c.requires.2.short in let room = c.requires.1.room_is in omega (arith, short, room);
@@ -36,37 +38,38 @@ take_batch-requires-clause-fits g c =
     }
 
 pub returns-clause-leaves : goal.returns-clause-leaves
-returns-clause-leaves g c = λ history h. (by_failed history h.0 (cases_Bool c.args.self.now.recorder.vault.failed), h.1)
+returns-clause-leaves g c = λ history h. (by_failed history h.0 (cases_Bool c.args.self.now.recorder.vault.failed), h.1, h.2)
   where
-    by_failed : (history : List Mark) → (k : IsKept (record { clock = g.O.Lent.clock; now = g.O.Lent.now; since = g.O.Lent.since; reads = g.O.Lent.reads; channels = g.O.Lent.channels }) g.O.Lent.began g.O.Lent.rates g.O.Lent.room g.O.Lent.sizes g.O.Lent.faults history c.args.self.now.recorder
+    by_failed : (history : List Mark) → (k : IsKept (record { clock = g.O.Lent.clock; now = g.O.Lent.now; since = g.O.Lent.since; reads = g.O.Lent.reads; channels = g.O.Lent.channels; hears = g.W.Watch.hears; heard = g.O.Lent.heard }) g.O.Lent.began g.O.Lent.rates g.O.Lent.room g.O.Lent.sizes g.O.Lent.faults history (g.W.Watch.seen c.args.self.now.watch.now) c.args.self.now.recorder
         (g.M.Media.disk c.args.self.now.media.now) (g.M.Media.faults c.args.self.now.media.now))
         → (c.args.self.now.recorder.vault.failed ≡ true) ⊎ (c.args.self.now.recorder.vault.failed ≡ false)
-        → IsKept (record { clock = g.O.Lent.clock; now = g.O.Lent.now; since = g.O.Lent.since; reads = g.O.Lent.reads; channels = g.O.Lent.channels }) g.O.Lent.began g.O.Lent.rates g.O.Lent.room g.O.Lent.sizes g.O.Lent.faults
-        (history ++ batch_mark c.args.self.now.recorder.vault.failed c.args.items.now c.take_batch.new.self.vault.failed (g.M.Media.disk c.take_batch.new.media).clock ∷ []) c.take_batch.new.self
-        (g.M.Media.disk c.take_batch.new.media) (g.M.Media.faults c.take_batch.new.media)
+        → IsKept (record { clock = g.O.Lent.clock; now = g.O.Lent.now; since = g.O.Lent.since; reads = g.O.Lent.reads; channels = g.O.Lent.channels; hears = g.W.Watch.hears; heard = g.O.Lent.heard }) g.O.Lent.began g.O.Lent.rates g.O.Lent.room g.O.Lent.sizes g.O.Lent.faults
+        (history ++ batch_mark c.args.self.now.recorder.vault.failed c.args.items.now c.take_batch_watched.new.self.vault.failed (g.M.Media.disk c.take_batch_watched.new.media).clock ∷ []) (g.W.Watch.seen c.take_batch_watched.new.watch) c.take_batch_watched.new.self
+        (g.M.Media.disk c.take_batch_watched.new.media) (g.M.Media.faults c.take_batch_watched.new.media)
     by_failed history k (inl fails) =
-        let same = c.take_batch.ensures.failing.failed fails in
-        batch_look_kept (record { clock = g.O.Lent.clock; now = g.O.Lent.now; since = g.O.Lent.since; reads = g.O.Lent.reads; channels = g.O.Lent.channels }) g.O.Lent.began g.O.Lent.rates g.O.Lent.room g.O.Lent.sizes g.O.Lent.faults history c.args.self.now.recorder
-        (g.M.Media.disk c.args.self.now.media.now) (g.M.Media.faults c.args.self.now.media.now) k c.args.items.now fails c.take_batch.new.self
-        (g.M.Media.disk c.take_batch.new.media) (g.M.Media.faults c.take_batch.new.media)
-        same.1 (ap g.M.Media.disk same.2) (ap g.M.Media.faults same.2)
+        let same = c.take_batch_watched.ensures.failing.failed fails in
+        batch_look_kept (record { clock = g.O.Lent.clock; now = g.O.Lent.now; since = g.O.Lent.since; reads = g.O.Lent.reads; channels = g.O.Lent.channels; hears = g.W.Watch.hears; heard = g.O.Lent.heard }) g.O.Lent.began g.O.Lent.rates g.O.Lent.room g.O.Lent.sizes g.O.Lent.faults history (g.W.Watch.seen c.args.self.now.watch.now) c.args.self.now.recorder
+        (g.M.Media.disk c.args.self.now.media.now) (g.M.Media.faults c.args.self.now.media.now) k c.args.items.now fails (g.W.Watch.seen c.take_batch_watched.new.watch) c.take_batch_watched.new.self
+        (g.M.Media.disk c.take_batch_watched.new.media) (g.M.Media.faults c.take_batch_watched.new.media)
+        same.1 (ap g.M.Media.disk same.2) (ap g.M.Media.faults same.2) c.take_batch_watched.ensures.watched
+        (untold_look _ _ _ _ (ap (λ (r : RecorderState). r.vault.failed) same.1 ∙ fails) (untold_err c.take_batch_watched.result same.0 c.take_batch_watched.ensures.untold))
     by_failed history k (inr works) =
-        let e = c.take_batch.ensures in
-        batch_kept (record { clock = g.O.Lent.clock; now = g.O.Lent.now; since = g.O.Lent.since; reads = g.O.Lent.reads; channels = g.O.Lent.channels }) g.O.Lent.began g.O.Lent.rates g.O.Lent.room g.O.Lent.sizes g.O.Lent.faults history c.args.self.now.recorder
-        (g.M.Media.disk c.args.self.now.media.now) (g.M.Media.faults c.args.self.now.media.now) k c.take_batch.new.self
-        (g.M.Media.disk c.take_batch.new.media) (g.M.Media.faults c.take_batch.new.media)
+        let e = c.take_batch_watched.ensures in
+        batch_kept (record { clock = g.O.Lent.clock; now = g.O.Lent.now; since = g.O.Lent.since; reads = g.O.Lent.reads; channels = g.O.Lent.channels; hears = g.W.Watch.hears; heard = g.O.Lent.heard }) g.O.Lent.began g.O.Lent.rates g.O.Lent.room g.O.Lent.sizes g.O.Lent.faults history (g.W.Watch.seen c.args.self.now.watch.now) c.args.self.now.recorder
+        (g.M.Media.disk c.args.self.now.media.now) (g.M.Media.faults c.args.self.now.media.now) k (g.W.Watch.seen c.take_batch_watched.new.watch) c.take_batch_watched.new.self
+        (g.M.Media.disk c.take_batch_watched.new.media) (g.M.Media.faults c.take_batch_watched.new.media) e.watched
         (record {
           config = e.goes_on.config;
           rings = e.goes_on.rings;
           sizes = e.writes.sizes;
           later = e.writes.cause.later;
-          rose = λ fails. rose_of c.take_batch.result c.take_batch.new.self.vault.failed
-              ((c.args.self.now.recorder.vault.failed ≡ true) ⊎ Rose (sum (g.M.Media.faults c.args.self.now.media.now)) (sum (g.M.Media.faults c.take_batch.new.media)))
+          rose = λ fails. rose_of c.take_batch_watched.result c.take_batch_watched.new.self.vault.failed
+              ((c.args.self.now.recorder.vault.failed ≡ true) ⊎ Rose (sum (g.M.Media.faults c.args.self.now.media.now)) (sum (g.M.Media.faults c.take_batch_watched.new.media)))
               e.failing.works e.writes.cause.in_all fails;
           elsewhere = e.writes.others;
         })
         works c.args.items.now c.requires.1.open_is e.goes_on.stays_open e.goes_on.places e.goes_on.numbers (λ opening events t0 told has. e.taken opening events t0 told works has)
 
 pub returns-clause-mark : goal.returns-clause-mark
-returns-clause-mark g c = mark_is c.args.items.now c.args.self.now.recorder.vault.failed c.take_batch.new.self.vault.failed (g.M.Media.disk c.take_batch.new.media).clock c.take_batch.result c.is_ok.result
-    c.is_ok.ensures.value (λ fails. (c.take_batch.ensures.failing.failed fails).0) c.take_batch.ensures.failing.works c.take_batch.ensures.failing.fails
+returns-clause-mark g c = mark_is c.args.items.now c.args.self.now.recorder.vault.failed c.take_batch_watched.new.self.vault.failed (g.M.Media.disk c.take_batch_watched.new.media).clock c.take_batch_watched.result c.is_ok.result
+    c.is_ok.ensures.value (λ fails. (c.take_batch_watched.ensures.failing.failed fails).0) c.take_batch_watched.ensures.failing.works c.take_batch_watched.ensures.failing.fails

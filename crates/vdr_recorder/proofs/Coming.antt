@@ -1,11 +1,11 @@
 -- What a save that came after these events keeps.
-use Rattle.std.proofs.Common.{◌≡◌, ℕ, List, [], ◌∷◌, ◌++◌, Option, Some, None, sym, ap, ◌∙◌, subst, append-nil, append_assoc}
+use Rattle.std.proofs.Common.{◌≡◌, ℕ, List, [], ◌∷◌, ◌++◌, Option, Some, None, sym, ap, subst, append-nil, append_assoc}
 use Rattle.std.specs.Prelude.{option_map, slice_get}
 use Rattle.vdr_terms.specs.Records.{Record, last}
 use Rattle.vdr_terms.specs.Windows.{window}
 use Rattle.vdr_core.specs.Histories.{Act, Event, MayCome, MayFollow, Opening, all_records}
 use Rattle.vdr_durability.specs.Replies.{free_id, place_or_0, save_of}
-use Rattle.vdr_reply.specs.Orders.{id_or_0}
+use Rattle.vdr_recorder.specs.Watched.{id_or_0}
 
 pub same_some : {A : Type 0} (a b : A) → Some a ≡ Some b → a ≡ b
 same_some a b e = cc
