@@ -13,7 +13,7 @@ use Rattle.vdr_rescue.specs.Given.{AreLegalFrom, GivenBy, Gives, GivesAbove, abo
 
 -- One record more, which is above the floor or below it
 
-above_here : (floor : ℕ) (r : Record) (rs : List Record) → nat_le floor r.place ≡ true → above floor (r ∷ rs) ≡ r ∷ above floor rs
+pub above_here : (floor : ℕ) (r : Record) (rs : List Record) → nat_le floor r.place ≡ true → above floor (r ∷ rs) ≡ r ∷ above floor rs
 above_here floor r rs here = ap (λ (b : Bool). if b then r ∷ above floor rs else above floor rs) here
 
 above_low : (floor : ℕ) (r : Record) (rs : List Record) → nat_le floor r.place ≡ false → above floor (r ∷ rs) ≡ above floor rs

@@ -14,3 +14,11 @@ mod SortLemmas
 mod OneAnswer
 mod AloneAnswer
 mod LineLemmas
+mod LegalFronts
+mod LegalReading
+mod LegalRuns
+mod LegalLacks
+mod LegalSaves
+mod Legible
+mod OfLives
+mod KeptPlaces

@@ -43,7 +43,7 @@ one_configuration c d b h k =
 some_byte : (m n : ℕ) → ◌≡◌ {A = Option ℕ} (Some m) (Some n) → m ≡ n
 some_byte m n e = cc
 
-open_closed : (bytes : List ℕ) → slice_get bytes 0 ≡ Some 0 → IsOpenAt bytes 0 → ⊥
+pub open_closed : (bytes : List ℕ) → slice_get bytes 0 ≡ Some 0 → IsOpenAt bytes 0 → ⊥
 open_closed bytes x y = let e = some_byte 0 165 (sym x ∙ y) in omega (arith, e)
 
 segment_path : (s t f e : ℕ) → s ≡ t → f ≡ e → ◌≡◌ {A = Front} (Segment s f) (Segment t e)
@@ -77,7 +77,7 @@ one_fronts segment bytes (suc n) f g x y =
 
 -- Incident slots
 
-saved_once : (bytes : List ℕ) (a b : Option (Option Incident)) → ShowsSave bytes a → ShowsSave bytes b → a ≡ b
+pub saved_once : (bytes : List ℕ) (a b : Option (Option Incident)) → ShowsSave bytes a → ShowsSave bytes b → a ≡ b
 saved_once bytes None None x y = refl
 saved_once bytes None (Some t) x y = absurd (x t y)
 saved_once bytes (Some s) None x y = absurd (y s x)

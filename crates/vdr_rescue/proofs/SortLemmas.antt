@@ -13,14 +13,14 @@ use Rattle.vdr_rescue.specs.declared.fronts.Head.{Head}
 use Rattle.vdr_rescue.specs.Alones.{IsReadingOrder, is_before}
 
 -- The same elements, by any sum over them.
-abbrev SameSums : {X : Type 0} → List X → List X → Type 0
+abbrev pub SameSums : {X : Type 0} → List X → List X → Type 0
 SameSums {X} xs ys = (f : X → ℕ) → sum_by f xs ≡ sum_by f ys
 
 same_moved : {X : Type 0} (zs xs ys : List X) → IsPermutation zs xs → IsPermutation zs ys → SameSums xs ys
 same_moved zs xs ys p q = λ f. sum_by-IsPermutation f zs xs p ∙ sym (sum_by-IsPermutation f zs ys q)
 
 module _ {X : Type 0} (lt : X → X → Bool) where
-  abbrev Rising : List X → Type 0
+  abbrev pub Rising : List X → Type 0
   Rising [] = ⊤
   Rising (x ∷ xs) = All (λ z. lt z x ≡ false) xs × Rising xs
 
@@ -45,7 +45,7 @@ module _ {X : Type 0} (lt : X → X → Bool) where
           absurd (omega (arith, one, all))
 
 module _ {X : Type 0} (lt : X → X → Bool) (irr : (a : X) → lt a a ≡ false) (anti : (a b : X) → lt a b ≡ false → lt b a ≡ false → a ≡ b) where
-  one_rising : (xs ys : List X) → Rising lt xs → Rising lt ys → SameSums xs ys → xs ≡ ys
+  pub one_rising : (xs ys : List X) → Rising lt xs → Rising lt ys → SameSums xs ys → xs ≡ ys
   one_rising [] [] r s same = refl
   one_rising [] (y ∷ ys) r s same =
       let e : 0 ≡ 1 + sum_by (λ (z : X). 1) ys = same (λ z. 1) ∙ sum_by-cons (λ (z : X). 1) y ys in absurd (omega (arith, e))
@@ -72,14 +72,14 @@ order_total = then_total (then_total (on_total (λ (h : Head). h.first) nat_cmp_
 weak : IsStrictWeakOrder is_before
 weak = ranks_by order_total (λ (h : Head). h)
 
-rising_heads : (hs : List Head) → IsSortedBy is_before hs → Rising is_before hs
+pub rising_heads : (hs : List Head) → IsSortedBy is_before hs → Rising is_before hs
 rising_heads [] up = tt
 rising_heads (h ∷ hs) up = (
   λ k d within. sorted_far is_before weak (h ∷ hs) up 0 (suc k) d (omega arith) (omega (arith, within)),
   rising_heads hs (λ k d low within. sorted_far is_before weak (h ∷ hs) up (suc k) (suc (k + 1)) d (omega arith) (omega (arith, within))),
 )
 
-never_itself : (h : Head) → is_before h h ≡ false
+pub never_itself : (h : Head) → is_before h h ≡ false
 never_itself h = go (is_before h h) refl
   where
     go : (b : Bool) → is_before h h ≡ b → is_before h h ≡ false
@@ -109,7 +109,7 @@ number_eq a b = by_tests (nat_lt a b) (a == b) (λ less. let l = ltb-true a b le
 head_path : (a b c d e f : ℕ) → a ≡ d → b ≡ e → c ≡ f → ◌≡◌ {A = Head} (record { slot = a; seq = b; first = c }) (record { slot = d; seq = e; first = f })
 head_path a b c d e f p q r = λ i. record { slot = p i; seq = q i; first = r i }
 
-one_head : (g h : Head) → is_before g h ≡ false → is_before h g ≡ false → g ≡ h
+pub one_head : (g h : Head) → is_before g h ≡ false → is_before h g ≡ false → g ≡ h
 one_head g h a b =
     let same : is_eq (order g h) ≡ true = equal_by (order g h) (order h g) (order_total.antisymm g h) a b in
     let tests : is_eq (order g h) ≡ (nat_eq g.first h.first && nat_eq g.seq h.seq) && nat_eq g.slot h.slot =

@@ -11,3 +11,5 @@ pub mod Saves
 pub mod Visiting
 pub mod Findings
 pub mod Alones
+pub mod Legible
+pub mod Lives

@@ -5,6 +5,7 @@
 //!
 //! - The fronts of the slots say which hold a segment; segments are read by rising first place.
 //! - Of a segment the records are given that stand in legal batches, each at its place. It is judged as it is read.
+//! - Media that this product left give all that stands on them (`law_of_rescue`).
 //!
 //! docs/MEDIA.md, "One medium alone". Tests: vdr_script_tests, script rescue.
 #![tactic(auto)]
@@ -33,5 +34,7 @@ pub use front::Front;
 pub use fronts::{Fronts, Head, read_fronts};
 pub use given::{Stand, next_given};
 pub use lacking::Places;
-pub use law::{law_of_alone, law_of_given, law_of_rescued};
+pub use law::{
+    law_of_alone, law_of_given, law_of_legible, law_of_places, law_of_rescue, law_of_rescued,
+};
 pub use told::{Run, Told};
