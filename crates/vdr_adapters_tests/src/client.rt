@@ -1,55 +1,37 @@
 // Replies of a recorder, as the client tells them.
-
-use crate::checks::check;
+use crate::words::{first_word, small_number, unescaped};
+use anyhow::{Context, Result, ensure};
 use std::alloc::Global;
 use std::io::Cursor;
 use vdr_client::print_reply;
 
-/// What was asked, what was replied, the exit status, and what is printed.
-const REPLIES: [(&str, &str, u8, &str); 10] = [
-    (
-        "STATUS",
-        "OK records 1 tick 0 incidents 0\n",
-        0,
-        "records 1 tick 0 incidents 0\n",
-    ),
-    ("SAVE dock", "OK 1\n", 0, "1\n"),
-    ("SAVE dock", "REFUSED 12 full\n", 12, "status 12 full\n"),
-    ("RELEASE 1", "OK\n", 0, ""),
-    ("RELEASE 1", "REFUSED 11\n", 11, "status 11\n"),
-    (
-        "PLAY capsule all - -",
-        "OK\n0 - start\n.\n",
-        0,
-        "0 - start\n",
-    ),
-    (
-        "PLAY capsule all - -",
-        "OK\n0 - start\n",
-        6,
-        "0 - start\nstatus 6 link 0\n",
-    ),
-    ("SAVE dock", "FAULT 5\n", 5, "status 5 media\n"),
-    ("STATUS", "", 6, "status 6 link 0\n"),
-    ("STATUS", "220 mail\n", 6, "status 6 link 0\n"),
-];
-
-/// Each reply is told by its text, or by the line and the number of its status.
-pub(crate) fn tells_replies<R: Print>(rt: &R, alloc: Global) {
-    for (asked, reply, code, printed) in REPLIES {
-        let mut output = Vec::new(alloc);
-        let mut input = Cursor::new(reply.as_bytes());
-        let ended = print_reply(alloc, asked.as_bytes(), &mut input, &mut output);
-        let (told, line) = match ended {
-            Ok(()) => (0, ""),
-            Err(ended) => (ended.code(), ended.line()),
-        };
-        check(rt, told == code, asked);
-        check(
-            rt,
-            output.extend_from_slice(line.as_bytes()).is_ok(),
-            "room for a line",
-        );
-        check(rt, output.as_slice() == printed.as_bytes(), reply);
+// What is printed of a reply to what was asked, with the line of its status behind it; and the number of that.
+fn told(alloc: Global, asked: &[u8], reply: &[u8]) -> Result<(u8, Vec<u8>)> {
+    let mut output = Vec::new(alloc);
+    let mut input = Cursor::new(reply);
+    match print_reply(alloc, asked, &mut input, &mut output) {
+        Ok(()) => Ok((0, output)),
+        Err(ended) => {
+            output.extend_from_slice(ended.line().as_bytes())?;
+            Ok((ended.code(), output))
+        }
     }
+}
+
+// That a reply is told with this number and this text.
+fn is_told(alloc: Global, code: u8, asked: &str, reply: &str, printed: &str) -> Result<()> {
+    let reply = unescaped(alloc, reply)?;
+    let printed = unescaped(alloc, printed)?;
+    let (found, text) = told(alloc, asked.as_bytes(), reply.as_bytes())?;
+    ensure!(found == code, "it ends with {found}");
+    ensure!(text.as_slice() == printed.as_bytes(), "another text");
+    Ok(())
+}
+
+/// That a reply is told as a line says: `CODE ASKED|REPLY|PRINTED`.
+pub(crate) fn tells(alloc: Global, line: &str) -> Result<()> {
+    let (code, rest) = first_word(line)?;
+    let (asked, rest) = rest.split_once('|').context("no reply")?;
+    let (reply, printed) = rest.split_once('|').context("nothing printed")?;
+    is_told(alloc, small_number(code)?, asked, reply, printed)
 }

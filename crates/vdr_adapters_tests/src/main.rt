@@ -1,50 +1,162 @@
-//! Runs the objects of the outside over the operating system, and prints what is not as it should be: that bytes reach a file
-//! and come back, when a file is not used, what is left where a disk failed, and what comes and goes over sockets; and links in
-//! memory, which fail and wait as they are told.
+//! Runs the objects of the outside over the operating system: files as media, ports and links over sockets, what a client tells of
+//! replies; and standard streams. Each word is the name of a script of data/, which says what is done and what is expected. A line
+//! that is not met is told with its number, and the lines of each script are counted. docs/SCRIPTS.md says what stands in a script.
 #![tactic(auto)]
 
-mod checks;
 mod client;
-mod files;
-mod lines;
-mod links;
-mod marks;
+mod devices;
+mod hosts;
+mod media;
+mod paths;
 mod peers;
-mod ports;
-mod refused;
+mod shelf;
+mod sockets;
 mod streams;
+mod wires;
+mod words;
 
-use std::io;
+use anyhow::{Context, Error, Result, ensure};
+use shelf::Shelf;
+use std::fs::{File, Files};
+use std::net::{Net, TcpListener, TcpStream};
+use std::os::unix::net::UnixListener;
+use std::time::{Clock, Duration};
+use std::{env, fs};
+use vdr_adapters::SystemFile;
+use vdr_outside::{Link, Port};
+use vdr_sockets::{Alarm, TcpLink, UdpPort};
+use wires::Wires;
+use words::{first_word, port_number};
 
-fn main(rt: HostRuntime) -> io::Result<()> {
-    files::have_their_length(&rt)?;
-    files::take_large_writes(&rt)?;
-    refused::in_use(&rt)?;
-    refused::under_two_names(&rt)?;
-    refused::only_read(&rt)?;
-    refused::devices_and_folders(&rt)?;
-    marks::are_left_beside_a_medium(&rt)?;
-    marks::keep_others_from_writing(&rt)?;
-    println!(rt; "media: done")?;
-    streams::hand_bytes_on(&rt, rt.alloc());
-    streams::tell_why_they_fail(&rt)?;
-    streams::are_filled(&rt)?;
+// A value that may go to another thread.
+fn sendable<T: Send>(value: T) -> T {
+    value
+}
+
+// The numbers of the link's and of the port's port, which the first line of a script tells.
+fn numbers(script: &str) -> Result<(u16, u16)> {
+    let first = script.lines().next().context("an empty script")?;
+    let (verb, rest) = first_word(first)?;
+    ensure!(verb == "on", "no ports");
+    let (link, port) = first_word(rest)?;
+    Ok((port_number(link)?, port_number(port)?))
+}
+
+// Makes a socket of the file system. It stays there once it is closed.
+fn make_socket<R: Files<File = File> + Net>(rt: &R, path: &str) -> Result<()> {
+    drop(UnixListener::bind(rt, path)?);
+    Ok(())
+}
+
+// Follows a line of a script.
+fn follow<
+    'a,
+    R: AllocGlobal
+        + Files<File = File>
+        + Net<Listener = TcpListener, Stream = TcpStream>
+        + Clock
+        + Eprint,
+    L: Link + Drop,
+    P: Port + Drop,
+>(
+    rt: &'a R,
+    alarm: &'a Alarm,
+    shelf: &mut Shelf<'a, SystemFile<&'a R>>,
+    wires: &mut Wires<L, P>,
+    line: &str,
+) -> Result<()> {
+    let (verb, rest) = line.split_once(' ').unwrap_or((line, ""));
+    match verb {
+        "client" => return client::tells(rt.alloc(), rest),
+        "socket" => return make_socket(rt, rest),
+        _ => {}
+    }
+    let is_known = shelf::follow(rt, alarm, shelf, verb, rest)?
+        || wires.follow(rt, verb, rest)?
+        || paths::follow(rt, verb, rest)?;
+    ensure!(is_known, "no such line");
+    Ok(())
+}
+
+// Tells a line that is not met.
+fn tell<R: Print>(rt: &R, name: &str, index: usize, line: &str, unmet: &Error) {
+    let number = index.saturating_add(1);
+    let _ = println!(rt; "{name}:{number}: {line}: {unmet}");
+}
+
+// Follows the lines of a script, and tells those that are not met. Gives how many there are.
+fn follow_all<
+    'a,
+    R: AllocGlobal
+        + Files<File = File>
+        + Net<Listener = TcpListener, Stream = TcpStream>
+        + Clock
+        + Print
+        + Eprint,
+    L: Link + Drop,
+    P: Port + Drop,
+>(rt: &'a R, alarm: &'a Alarm, wires: &mut Wires<L, P>, name: &str, script: &str) -> u64 {
+    let mut shelf = Shelf::new();
+    let mut count = 0u64;
+    for (index, line) in script.lines().enumerate() {
+        if index > 0 && !line.is_empty() && !line.starts_with('#') {
+            count = count.saturating_add(1);
+            if let Err(unmet) = follow(rt, alarm, &mut shelf, wires, line) {
+                tell(rt, name, index, line, &unmet);
+            }
+        }
+    }
+    count
+}
+
+// Follows the lines of a script over a link and a port of these numbers.
+fn follow_over<
+    R: AllocGlobal
+        + Files<File = File>
+        + Net<Listener = TcpListener, Stream = TcpStream>
+        + Clock
+        + Print
+        + Eprint
+        + Sync,
+>(rt: &R, (link, port): (u16, u16), began: Duration, name: &str, script: &str) -> u64 {
+    let alarm = Alarm::new();
+    let tcp = sendable(TcpLink::with_number(rt, link)).until(&alarm);
+    let udp = sendable(UdpPort::with_number(rt, port, began)).until(&alarm);
+    let mut wires = Wires::new(rt.alloc(), link, tcp, udp);
+    follow_all(rt, &alarm, &mut wires, name, script)
+}
+
+// Runs a script.
+fn run<
+    R: AllocGlobal
+        + Files<File = File>
+        + Net<Listener = TcpListener, Stream = TcpStream>
+        + Clock
+        + Print
+        + Eprint
+        + Sync,
+>(rt: &R, name: &str) -> Result<()> {
+    let script = fs::read_to_string(rt, name)?;
+    let numbers = numbers(script.as_str())?;
+    let count = follow_over(rt, numbers, rt.monotonic()?, name, script.as_str());
+    println!(rt; "{name}: {count} lines")?;
+    Ok(())
+}
+
+// What is read and written over streams.
+fn run_streams<R: AllocGlobal + Files<File = File>>(rt: &R) -> Result<()> {
+    streams::are_read()?;
+    streams::are_written(rt.alloc())?;
+    streams::read_no_folder(rt)?;
+    streams::fill_no_device(rt)?;
+    streams::are_filled(rt)
+}
+
+fn main(rt: HostRuntime) -> Result<()> {
+    for name in env::args(&rt)?.skip(1) {
+        run(&rt, name.as_str())?;
+    }
+    run_streams(&rt)?;
     println!(rt; "streams: done")?;
-    ports::have_the_numbers_of_their_groups(&rt)?;
-    ports::give_what_comes(&rt)?;
-    ports::end_with_a_medium(&rt)?;
-    println!(rt; "ports: done")?;
-    lines::of_one_peer_after_another(&rt)?;
-    lines::that_are_too_long(&rt)?;
-    lines::of_a_deaf_peer(&rt)?;
-    peers::get_their_own_replies(&rt)?;
-    peers::block_nobody(&rt)?;
-    peers::are_hung_up_on(&rt)?;
-    peers::end_the_recording(&rt)?;
-    println!(rt; "links: done")?;
-    links::fail_as_they_are_told(&rt, rt.alloc())?;
-    links::wait_for_their_reply(&rt, rt.alloc())?;
-    println!(rt; "links in memory: done")?;
-    client::tells_replies(&rt, rt.alloc());
-    println!(rt; "client: done")
+    Ok(())
 }

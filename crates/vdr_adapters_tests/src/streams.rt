@@ -1,67 +1,87 @@
 // Standard streams.
-
-use crate::checks::check;
+use anyhow::{Result, ensure};
 use std::alloc::Global;
 use std::fs::{File, Files, OpenOptions};
 use std::io::Cursor;
 use std::{fs, io};
-use vdr_adapters::{StandardStreams, StdIn, StdOut};
+use vdr_adapters::{StandardStreams, StdIn, StdOut, Trouble};
 use vdr_outside::{Sink, Source};
 
-/// Bytes are handed on in both directions.
-pub(crate) fn hand_bytes_on<R: Print>(rt: &R, alloc: Global) {
-    let mut input = StdIn::new(Cursor::new(b"feed"));
-    let mut piece = [0; 3];
-    check(rt, matches!(input.read(&mut piece), Ok(3)), "three bytes");
-    check(rt, piece == *b"fee", "which bytes");
-    check(rt, matches!(input.read(&mut piece), Ok(1)), "one byte");
-    check(rt, matches!(input.read(&mut piece), Ok(0)), "no byte");
-    check(rt, input.trouble().is_none(), "an input's trouble");
-    let mut output = StdOut::new(Vec::new(alloc));
-    check(rt, matches!(output.write(b"gap"), Ok(3)), "three written");
-    check(rt, matches!(output.write(b""), Ok(0)), "none written");
-    check(rt, output.trouble().is_none(), "an output's trouble");
-}
-
-/// A folder can't be read, and a full device takes nothing.
-pub(crate) fn tell_why_they_fail<R: AllocGlobal + Files<File = File> + Print>(
-    rt: &R,
-) -> io::Result<()> {
-    let mut input = StdIn::new(File::open(rt, ".")?);
-    check(
-        rt,
-        input.read(&mut [0; 3]).is_err(),
-        "a folder that is read",
-    );
-    let full = OpenOptions::new().write(true).open(rt, "/dev/full")?;
-    let mut output = StdOut::new(full);
-    check(rt, output.write(b"gap").is_err(), "a full device");
-    if let (Some(read), Some(written)) = (input.trouble(), output.trouble()) {
-        let text = format!(in rt.alloc(); "{read}")?;
-        check(
-            rt,
-            text.as_str().starts_with("Is a directory"),
-            "a folder's trouble",
-        );
-        let text = format!(in rt.alloc(); "{written}")?;
-        let told = text.as_str().starts_with("No space left on device");
-        check(rt, told, "a device's trouble");
-    } else {
-        check(rt, false, "both troubles");
+// That a source gives so many bytes.
+fn gives<S: Source>(source: &mut S, into: &mut [u8], count: usize) -> Result<()> {
+    match source.read(into) {
+        Ok(given) => ensure!(given == count, "it gives {given}"),
+        Err(_) => ensure!(false, "it fails"),
     }
     Ok(())
 }
 
-/// A file that is opened beside filled streams is none of them.
-pub(crate) fn are_filled<R: AllocGlobal + Files<File = File> + Print>(rt: &R) -> io::Result<()> {
-    let filled = StandardStreams::fill(rt)?;
+// That a sink takes all of these bytes.
+fn takes<S: Sink>(sink: &mut S, bytes: &[u8]) -> Result<()> {
+    match sink.write(bytes) {
+        Ok(taken) => ensure!(taken == bytes.len(), "it takes {taken}"),
+        Err(_) => ensure!(false, "it fails"),
+    }
+    Ok(())
+}
+
+// That what stood in the way begins with these words.
+fn is_told(alloc: Global, trouble: Option<&Trouble>, words: &str) -> Result<()> {
+    let text = match trouble {
+        Some(trouble) => format!(in alloc; "{trouble}")?,
+        None => String::new(alloc),
+    };
+    ensure!(text.as_str().starts_with(words), "it tells otherwise");
+    Ok(())
+}
+
+/// Bytes of a reader are handed on.
+pub(crate) fn are_read() -> Result<()> {
+    let mut input = StdIn::new(Cursor::new(b"feed"));
+    let mut piece = [0; 3];
+    gives(&mut input, &mut piece, 3)?;
+    ensure!(piece == *b"fee", "other bytes");
+    gives(&mut input, &mut piece, 1)?;
+    gives(&mut input, &mut piece, 0)?;
+    ensure!(input.trouble().is_none(), "a trouble");
+    Ok(())
+}
+
+/// Bytes are handed on to a writer.
+pub(crate) fn are_written(alloc: Global) -> Result<()> {
+    let mut output = StdOut::new(Vec::new(alloc));
+    takes(&mut output, b"gap")?;
+    takes(&mut output, b"")?;
+    ensure!(output.trouble().is_none(), "a trouble");
+    Ok(())
+}
+
+/// A folder can't be read.
+pub(crate) fn read_no_folder<R: AllocGlobal + Files<File = File>>(rt: &R) -> Result<()> {
+    let mut input = StdIn::new(File::open(rt, ".")?);
+    ensure!(input.read(&mut [0; 3]).is_err(), "a folder that is read");
+    is_told(rt.alloc(), input.trouble(), "Is a directory")
+}
+
+/// A full device takes nothing.
+pub(crate) fn fill_no_device<R: AllocGlobal + Files<File = File>>(rt: &R) -> Result<()> {
+    let mut output = StdOut::new(OpenOptions::new().write(true).open(rt, "/dev/full")?);
+    ensure!(output.write(b"gap").is_err(), "a full device");
+    is_told(rt.alloc(), output.trouble(), "No space left on device")
+}
+
+// A file and what stands in it.
+fn is_kept<R: AllocGlobal + Files<File = File>>(rt: &R) -> io::Result<bool> {
     fs::write(rt, "beside", b"medium")?;
     let bytes = fs::read(rt, "beside")?;
-    check(
-        rt,
-        bytes.as_slice() == b"medium".as_slice(),
-        "a file beside the streams",
-    );
+    Ok(bytes.as_slice() == b"medium".as_slice())
+}
+
+/// A file that is opened beside filled streams is none of them.
+pub(crate) fn are_filled<R: AllocGlobal + Files<File = File>>(rt: &R) -> Result<()> {
+    let filled = StandardStreams::fill(rt)?;
+    let is_kept = is_kept(rt);
     drop(filled);
+    ensure!(is_kept?, "other bytes");
     Ok(())
 }

@@ -1,0 +1,106 @@
+// What is done on this host beside the port and the link of a script.
+use crate::sockets::{hear_of, take, take_of};
+use crate::words::{first_word, number, port_number, run_of, small_number};
+use anyhow::{Result, ensure};
+use std::net::{Ipv4Addr, Net, SocketAddr, TcpListener, TcpStream, UdpSocket};
+use std::time::{Clock, Duration};
+use vdr_outside::Port;
+use vdr_sockets::{TcpLink, UdpPort};
+
+// A port of this host.
+fn at(number: u16) -> SocketAddr {
+    SocketAddr::from((Ipv4Addr::LOCALHOST, number))
+}
+
+// Sends a datagram.
+fn send<R: Net>(rt: &R, number: u16, bytes: &[u8]) -> Result<()> {
+    UdpSocket::bind(rt, at(0))?.send_to(bytes, at(number))?;
+    Ok(())
+}
+
+// Sends a datagram of so many bytes, each the first of a text.
+fn send_run<R: AllocGlobal + Net>(rt: &R, word: &str, rest: &str) -> Result<()> {
+    let (count, text) = first_word(rest)?;
+    let bytes = run_of(rt.alloc(), number(count)?, text)?;
+    send(rt, port_number(word)?, bytes.as_slice())
+}
+
+// That a port gives what is sent to this number.
+fn gives<R: Net, P: Port>(rt: &R, port: &mut P, number: u16) -> Result<()> {
+    take_of(port, "quiet")?;
+    send(rt, number, b"GGGGGGG")?;
+    take(port, &mut 0, "7 G")
+}
+
+// That what is sent to 60,001 + g comes to the port of group g.
+fn is_group<R: Net + Clock + Eprint>(rt: &R, word: &str) -> Result<()> {
+    let group = small_number(word)?;
+    ensure!(group < 16, "no group");
+    let now = rt.monotonic()?;
+    let number = 60_001 + u16::from(group);
+    gives(rt, &mut UdpPort::new(rt, group, now), number)
+}
+
+// That a link on a port which another one has can't listen.
+fn link_fails<R: AllocGlobal + Net<Listener = TcpListener, Stream = TcpStream> + Clock + Eprint>(
+    rt: &R,
+    number: u16,
+) -> Result<()> {
+    hear_of(&mut TcpLink::with_number(rt, number), "failed")
+}
+
+// That a port which another one has can't be bound.
+fn port_fails<R: Net + Clock + Eprint>(rt: &R, word: &str) -> Result<()> {
+    let number = port_number(word)?;
+    let now = rt.monotonic()?;
+    take_of(&mut UdpPort::with_number(rt, number, now), "failed")
+}
+
+/// Follows a line of a script that is about this host. False where there is no such line.
+pub(crate) fn follow<
+    R: AllocGlobal + Net<Listener = TcpListener, Stream = TcpStream> + Clock + Eprint,
+>(rt: &R, link: u16, verb: &str, rest: &str) -> Result<bool> {
+    match verb {
+        "group" => is_group(rt, rest)?,
+        "link-beside" => link_fails(rt, link)?,
+        "port-beside" => port_fails(rt, rest)?,
+        "closed" => ensure!(TcpStream::connect(rt, rest).is_err(), "it listens"),
+        "send" => {
+            let (word, rest) = first_word(rest)?;
+            send_run(rt, word, rest)?
+        }
+        _ => return Ok(false),
+    }
+    Ok(true)
+}
+
+/// A further peer of a link.
+pub(crate) fn connect<R: Net<Listener = TcpListener, Stream = TcpStream>>(
+    rt: &R,
+    link: u16,
+    peers: &mut Vec<TcpStream>,
+) -> Result<()> {
+    peers.push(TcpStream::connect(rt, at(link))?)?;
+    Ok(())
+}
+
+/// Follows a line of a script that is about time. False where there is no such line.
+pub(crate) fn follow_time<R: Clock>(
+    rt: &R,
+    began: &mut Duration,
+    verb: &str,
+    rest: &str,
+) -> Result<bool> {
+    match verb {
+        "begin" => *began = rt.monotonic()?,
+        "within" => {
+            let taken = rt.monotonic()?.saturating_sub(*began);
+            ensure!(
+                taken.as_millis() < u128::from(number(rest)?),
+                "it took longer"
+            );
+        }
+        _ => return Ok(false),
+    }
+    Ok(true)
+}

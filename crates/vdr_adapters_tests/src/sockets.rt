@@ -1,0 +1,149 @@
+// What is heard over a link, and taken of a port.
+use crate::words::{count_of, first_word, number, run_of, unescaped};
+use anyhow::{Result, bail, ensure};
+use arrayvec::ArrayVec;
+use std::alloc::Global;
+use vdr_outside::{Heard, LONGEST_LINE, LONGEST_TAKEN, Link, Port, Taken};
+
+/// How often a line of a script looks for what is to come.
+const LOOKS: u32 = 40;
+
+// The next answer of a link that isn't quiet.
+fn next_heard<L: Link>(link: &mut L, into: &mut ArrayVec<u8, LONGEST_LINE>) -> Heard {
+    for _ in 0..LOOKS {
+        let heard = link.line(into);
+        if heard != Heard::Quiet {
+            return heard;
+        }
+    }
+    Heard::Quiet
+}
+
+// That the next line of a link is this one.
+fn hear<L: Link>(link: &mut L, line: &[u8]) -> Result<()> {
+    let mut into = ArrayVec::new();
+    let heard = next_heard(link, &mut into);
+    ensure!(
+        heard == Heard::Line && into.as_slice() == line,
+        "another line"
+    );
+    Ok(())
+}
+
+// That the next line of a link is so many x.
+fn hear_x<L: Link>(alloc: Global, link: &mut L, count: &str) -> Result<()> {
+    let line = run_of(alloc, number(count)?, "x")?;
+    hear(link, line.as_slice())
+}
+
+// What a script calls an answer.
+fn name_of(heard: Heard) -> &'static str {
+    match heard {
+        Heard::Line => "line",
+        Heard::Long => "long",
+        Heard::Quiet => "quiet",
+        Heard::Ended => "ended",
+        Heard::Failed => "failed",
+    }
+}
+
+/// That the next answer of a link is the one of this name.
+pub(crate) fn hear_of<L: Link>(link: &mut L, name: &str) -> Result<()> {
+    let mut into = ArrayVec::new();
+    let found = name_of(next_heard(link, &mut into));
+    ensure!(found == name, "it answers {found}");
+    Ok(())
+}
+
+// Whether a link stays quiet for so many looks.
+fn is_quiet<L: Link>(link: &mut L, looks: u64) -> bool {
+    let mut into = ArrayVec::new();
+    for _ in 0..looks {
+        if link.line(&mut into) != Heard::Quiet {
+            return false;
+        }
+    }
+    true
+}
+
+// Replies these bytes.
+fn reply<L: Link>(alloc: Global, link: &mut L, text: &str) -> Result<()> {
+    let bytes = unescaped(alloc, text)?;
+    ensure!(link.reply(bytes.as_bytes()).is_ok(), "a reply failed");
+    Ok(())
+}
+
+// Replies pieces of 65,536 bytes, so many.
+fn reply_pieces<L: Link>(alloc: Global, link: &mut L, count: &str) -> Result<()> {
+    let piece = run_of(alloc, 65_536, ".")?;
+    for _ in 0..number(count)? {
+        ensure!(link.reply(piece.as_slice()).is_ok(), "a reply failed");
+    }
+    Ok(())
+}
+
+/// Follows a line of a script that is about a link. False where there is no such line.
+pub(crate) fn follow_link<L: Link>(
+    alloc: Global,
+    link: &mut L,
+    verb: &str,
+    rest: &str,
+) -> Result<bool> {
+    match verb {
+        "hear" => hear(link, rest.as_bytes())?,
+        "hear-x" => hear_x(alloc, link, rest)?,
+        "link-is" => hear_of(link, rest)?,
+        "quiet" => ensure!(is_quiet(link, number(rest)?), "it isn't quiet"),
+        "reply" => reply(alloc, link, rest)?,
+        "reply-pieces" => reply_pieces(alloc, link, rest)?,
+        _ => return Ok(false),
+    }
+    Ok(true)
+}
+
+// The next answer of a port that isn't quiet.
+fn next_taken<P: Port>(port: &mut P, into: &mut ArrayVec<u8, LONGEST_TAKEN>) -> Taken {
+    for _ in 0..LOOKS {
+        let taken = port.take(into);
+        if taken != Taken::Quiet {
+            return taken;
+        }
+    }
+    Taken::Quiet
+}
+
+// When the next datagram came, which has so many bytes, each the first of a text, and a stamp of this century.
+fn taken<P: Port>(port: &mut P, length: u64, text: &str) -> Result<u64> {
+    let mut into = ArrayVec::new();
+    let Taken::Datagram { received, utc } = next_taken(port, &mut into) else {
+        bail!("no datagram");
+    };
+    let bytes = into.as_slice();
+    ensure!(bytes.len() as u64 == length, "another length");
+    ensure!(count_of(bytes, text) == length, "other bytes");
+    ensure!(utc > 1_700_000_000_000, "another stamp");
+    Ok(received)
+}
+
+/// That the next datagram of a port is so many bytes, each the first of a text, and came in the first minute and not before the last
+/// one.
+pub(crate) fn take<P: Port>(port: &mut P, last: &mut u64, rest: &str) -> Result<()> {
+    let (length, text) = first_word(rest)?;
+    let received = taken(port, number(length)?, text)?;
+    ensure!(*last <= received && received < 60_000, "another time");
+    *last = received;
+    Ok(())
+}
+
+/// That the very next answer of a port is the one of this name.
+pub(crate) fn take_of<P: Port>(port: &mut P, name: &str) -> Result<()> {
+    let mut into = ArrayVec::new();
+    let found = match port.take(&mut into) {
+        Taken::Datagram { .. } => "datagram",
+        Taken::Quiet => "quiet",
+        Taken::Ended => "ended",
+        Taken::Failed => "failed",
+    };
+    ensure!(found == name, "it answers {found}");
+    Ok(())
+}
