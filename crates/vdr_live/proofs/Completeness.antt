@@ -22,6 +22,7 @@ use Rattle.vdr_command.specs.declared.status.Status.{Status}
 use Rattle.vdr_command.specs.declared.status.Status.TheVariants.{Done, MediaFault, PortFault, LinkFault, OutputFault, NoMemory, Place, Tick}
 use Rattle.vdr_vault.proofs.OpenMoments.{never_both}
 use Rattle.vdr_command.proofs.OpenedCompleteness.{damaged_alike}
+use Rattle.vdr_recorder.specs.Watched.{Watched}
 use Rattle.vdr_live.specs.Links.{AsksLinks, LinkSeen, NoLinkFailed, WasAnswered}
 use Rattle.vdr_live.specs.Ports.{AsksPorts, NoPortFailed, PortIn, PortSeen}
 use Rattle.vdr_live.specs.Recordings.{IfLinkFault, IfPortFault, IsNotOpened, IsRecorded, PrintsSession, RecordingEnds, Records, RecordsAll, Surroundings, TellsSession}
@@ -43,14 +44,14 @@ links_rose turns old new cause exchanges failed h = h.2.fails (same h.0 (sym h.1
     same : (c : Cause) → Some c ≡ Some Failed → c ≡ Failed
     same c e = cc
 
-module _ {tells tells_images : Type 0} (turns : ℕ) (ports_old ports_new : List PortSeen) (links_old links_new : List LinkSeen) (old new : MediaSeen tells tells_images) (was next : OutputSeen) where
+module _ {tells tells_images : Type 0} (turns : ℕ) (ports_old ports_new : List PortSeen) (links_old links_new : List LinkSeen) (old new : MediaSeen tells tells_images) (hears : Type 0) (w : Watched) (was next : OutputSeen) where
   abbrev PortRose : ℕ → Type 0
   PortRose g = (g < 16) × ((d : PortSeen) → Rose (get_or ports_old g d).faults (get_or ports_new g d).faults)
 
   abbrev LinkRose : ℕ → Type 0
   LinkRose i = (i < length links_old) × ((d : LinkSeen) → Rose (get_or links_old i d).faults (get_or links_new i d).faults)
 
-  module _ (end : SessionEnd) (ends : IsRecorded turns ports_old ports_new links_old links_new old new end) where
+  module _ (end : SessionEnd) (ends : IsRecorded turns ports_old ports_new links_old links_new old new hears w end) where
     -- The ports were asked.
     asked : (o : Outcome) → end.outcome ≡ o → o ≢ outcomes.NoMemory → AsksPorts turns ends.began ends.rates ports_old ports_new o ends.given
     asked o is memory = subst (λ (o : Outcome). AsksPorts turns ends.began ends.rates ports_old ports_new o ends.given) is (ends.ports (λ none. memory (sym is ∙ none)))
@@ -141,7 +142,7 @@ module _ {tells tells_images : Type 0} (turns : ℕ) (ports_old ports_new : List
       all_of (outcomes.LinkFault i) summary status is p = let r = link_rose i is in absurd (links i r.0 r.1)
 
   -- Where opening was refused, or failed.
-  refused_all : tells → OneAnswer old.disk.reads → (MediaFailed old new → ⊥) → (refused : OpenRefused) → IsNotOpened turns ports_old ports_new links_old links_new old new refused → RecordsAll old.disk.reads (status_of_opening refused)
+  refused_all : tells → OneAnswer old.disk.reads → (MediaFailed old new → ⊥) → (refused : OpenRefused) → IsNotOpened turns ports_old ports_new links_old links_new old new hears w refused → RecordsAll old.disk.reads (status_of_opening refused)
   refused_all told law media openings.NoMemory ends = record {
     unformatted = λ un. inr refl;
     damaged = λ f m offset r. inr refl;
@@ -172,7 +173,7 @@ module _ {tells tells_images : Type 0} (turns : ℕ) (ports_old ports_new : List
   refused_all told law media openings.Fault ends = absurd (media (ends.media.fault refl))
 
   -- By the answer
-  fault_by : (answer : Result SessionEnd OpenRefused) (status : Status) → TellsSession answer status was next → RecordingEnds turns ports_old ports_new links_old links_new old new answer → status ≡ MediaFault → MediaFailed old new
+  fault_by : (answer : Result SessionEnd OpenRefused) (status : Status) → TellsSession answer status was next → RecordingEnds turns ports_old ports_new links_old links_new old new hears w answer → status ≡ MediaFault → MediaFailed old new
   fault_by (Ok end) status told ends is = fault_of end ends end.outcome (summary_text end.groups end.records) status refl told is
   fault_by (Err refused) status told ends is = ends.media.fault (sym told.0 ∙ is)
 
@@ -188,32 +189,32 @@ module _ {tells tells_images : Type 0} (turns : ℕ) (ports_old ports_new : List
   no_link (openings.Damaged m offset) = tt
   no_link openings.Fault = tt
 
-  port_by : (answer : Result SessionEnd OpenRefused) (status : Status) → TellsSession answer status was next → RecordingEnds turns ports_old ports_new links_old links_new old new answer → IfPortFault status PortRose
+  port_by : (answer : Result SessionEnd OpenRefused) (status : Status) → TellsSession answer status was next → RecordingEnds turns ports_old ports_new links_old links_new old new hears w answer → IfPortFault status PortRose
   port_by (Ok end) status told ends = port_of end ends end.outcome (summary_text end.groups end.records) status refl told
   port_by (Err refused) status told ends = subst (λ (s : Status). IfPortFault s PortRose) (sym told.0) (no_port refused)
 
-  link_by : (answer : Result SessionEnd OpenRefused) (status : Status) → TellsSession answer status was next → RecordingEnds turns ports_old ports_new links_old links_new old new answer → IfLinkFault status LinkRose
+  link_by : (answer : Result SessionEnd OpenRefused) (status : Status) → TellsSession answer status was next → RecordingEnds turns ports_old ports_new links_old links_new old new hears w answer → IfLinkFault status LinkRose
   link_by (Ok end) status told ends = link_of end ends end.outcome (summary_text end.groups end.records) status refl told
   link_by (Err refused) status told ends = subst (λ (s : Status). IfLinkFault s LinkRose) (sym told.0) (no_link refused)
 
   all_by : tells → OneAnswer old.disk.reads → (OutputFailed was next → ⊥) → (MediaFailed old new → ⊥) → NoPortFailed ports_old ports_new → NoLinkFailed links_old links_new → (answer : Result SessionEnd OpenRefused) (status : Status)
-      → TellsSession answer status was next → RecordingEnds turns ports_old ports_new links_old links_new old new answer → RecordsAll old.disk.reads status
+      → TellsSession answer status was next → RecordingEnds turns ports_old ports_new links_old links_new old new hears w answer → RecordsAll old.disk.reads status
   all_by t law output media ports links (Ok end) status told ends = all_of end ends t law output media ports links end.outcome (summary_text end.groups end.records) status refl told
   all_by t law output media ports links (Err refused) status told ends = subst (λ (s : Status). RecordsAll old.disk.reads s) (sym told.0) (refused_all t law media refused ends)
 
 -- What the command owes.
-pub records_so : {tells tells_images : Type 0} (turns : ℕ) (old new : Surroundings tells tells_images) (status : Status) (answer : Result SessionEnd OpenRefused) → OneAnswer old.alone.media.disk.reads
-    → TellsSession answer status old.alone.output new.alone.output → RecordingEnds turns old.ports new.ports old.links new.links old.alone.media new.alone.media answer
-    → (status ≡ OutputFault → OutputFailed old.alone.output new.alone.output) → Records turns old new status
-records_so turns old new status answer law told ends output = record {
+pub records_so : {tells tells_images : Type 0} (turns : ℕ) (old new : Surroundings tells tells_images) (hears : Type 0) (w : Watched) (status : Status) (answer : Result SessionEnd OpenRefused) → OneAnswer old.alone.media.disk.reads
+    → TellsSession answer status old.alone.output new.alone.output → RecordingEnds turns old.ports new.ports old.links new.links old.alone.media new.alone.media hears w answer
+    → (status ≡ OutputFault → OutputFailed old.alone.output new.alone.output) → Records turns old new hears w status
+records_so turns old new hears w status answer law told ends output = record {
   answer = answer;
   told = told;
   ends = ends;
   output = output;
-  media = fault_by turns old.ports new.ports old.links new.links old.alone.media new.alone.media old.alone.output new.alone.output answer status told ends;
-  port = port_by turns old.ports new.ports old.links new.links old.alone.media new.alone.media old.alone.output new.alone.output answer status told ends;
-  link = link_by turns old.ports new.ports old.links new.links old.alone.media new.alone.media old.alone.output new.alone.output answer status told ends;
-  complete = λ none ports links t. all_by turns old.ports new.ports old.links new.links old.alone.media new.alone.media old.alone.output new.alone.output t law none.output none.media ports links answer status told ends;
+  media = fault_by turns old.ports new.ports old.links new.links old.alone.media new.alone.media hears w old.alone.output new.alone.output answer status told ends;
+  port = port_by turns old.ports new.ports old.links new.links old.alone.media new.alone.media hears w old.alone.output new.alone.output answer status told ends;
+  link = link_by turns old.ports new.ports old.links new.links old.alone.media new.alone.media hears w old.alone.output new.alone.output answer status told ends;
+  complete = λ none ports links t. all_by turns old.ports new.ports old.links new.links old.alone.media new.alone.media hears w old.alone.output new.alone.output t law none.output none.media ports links answer status told ends;
 }
 
 -- The status of a session

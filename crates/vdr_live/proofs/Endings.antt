@@ -1,7 +1,7 @@
 -- What `record` leaves, from what opening the media and the session ensure.
-use Rattle.std.proofs.Common.{◌≡◌, ◌≤◌, ◌<◌, ℕ, List, [], length, get_or, Ok, sym, ap, ◌∙◌, subst}
+use Rattle.std.proofs.Common.{◌≡◌, ◌≤◌, ◌<◌, ℕ, List, [], length, get_or, Ok, sym, ap, ◌∙◌, subst, arith}
 use Rattle.std.specs.Prelude.{sum}
-use Rattle.vdr_core.specs.Histories.{recorded}
+use Rattle.vdr_core.specs.Histories.{Opening, recorded}
 use Rattle.vdr_durability.specs.Readings.{EndsMeet}
 use Rattle.vdr_outside.specs.Causes.{NoneFalls, Rose}
 use Rattle.vdr_outside.specs.Disk.{Image}
@@ -12,6 +12,8 @@ use Rattle.vdr_opening.specs.Media.{members, Contents, HoldsContents, opening_of
 use Rattle.vdr_vault.specs.Calls.{SameElsewhere}
 use Rattle.vdr_vault.specs.Openings.{OpensAtEachMoment}
 use Rattle.vdr_vault.specs.Vaults.{ShowsHistory}
+use Rattle.vdr_recorder.specs.Headline.{IsHeard}
+use Rattle.vdr_recorder.specs.Watched.{Tells, Watched}
 use Rattle.vdr_recorder.specs.Recordings.{HasRecorded, RecorderState, start_of_opening}
 use Rattle.vdr_capture.specs.declared.lane.Lane.{Lane}
 use Rattle.vdr_capture.specs.declared.sums.Outcome.TheVariants.{MediaFault, NoMemory}
@@ -41,18 +43,20 @@ module _ {P L tells tells_images : Type 0} (port_tells : PortTells P) (link_tell
     (olds : length lanes_old ≡ 16) (news : length lanes_new ≡ 16)
     (parts : OpenedOn old.disk r.vault) (contents : TellsOn old.disk r.vault)
     (opened : (x : Contents) → tells → HoldsContents old.disk.reads x → WasRecorded x → (t0 : ℕ) × (old.disk.clock ≤ t0) × (t0 ≤ mid.disk.clock) × HasRecorded (opening_of x) [] t0 r mid.disk)
+    (since_now : (x : Contents) → tells → HoldsContents old.disk.reads x → WasRecorded x → HasRecorded (opening_of x) [] mid.disk.clock r mid.disk)
+    (hears : Type 0) (was w : Watched) (heard : (opening : Opening) → hears → IsHeard opening [] mid.disk.clock old.disk was)
     (moments : (x : Contents) → tells → HoldsContents old.disk.reads x → EndsMeet members (reading_of x) → WasRecorded x
     → OpensAtEachMoment {T = RecorderState} old.disk mid.disk (Ok r) (ShowsHistory (opening_of x) []))
     (first_others : tells → SameElsewhere old.disk.reads mid.disk.reads) (first_later : NoneFalls old.faults mid.faults)
     (session : SessionWith port_tells turns r.vault.config.queue r.vault.config.groups lanes_old lanes_new r mid.disk new.disk end
-    (DesksReplied link_tells turns r.vault.config.channels (Rose (sum mid.faults) (sum new.faults)) end.outcome desks_old desks_new))
+    (λ opening events. DesksReplied link_tells turns r.vault.config.channels (Rose (sum mid.faults) (sum new.faults)) end.outcome desks_old desks_new opening events × Tells hears opening [] events was w))
     (desks : DesksTold link_tells turns end.outcome desks_old desks_new) (told : FailureTold end.outcome lanes_new desks_new) (groups : HasGroups r.vault.config.groups end)
     (memory : end.outcome ≡ NoMemory → (g : ℕ) (d : Lane P) → g < 16 → (get_or lanes_new g d).port ≡ (get_or lanes_old g d).port)
     (others : tells → SameElsewhere mid.disk.reads new.disk.reads) (cause : HasSessionCause mid.faults new.faults end.outcome) where
   abbrev rose : Type 0
   rose = Rose (sum old.faults) (sum new.faults)
 
-  pub recorded_ends : IsRecorded turns (seen_ports port_tells lanes_old) (seen_ports port_tells lanes_new) (seen_links link_tells desks_old) (seen_links link_tells desks_new) old new end
+  pub recorded_ends : IsRecorded turns (seen_ports port_tells lanes_old) (seen_ports port_tells lanes_new) (seen_links link_tells desks_old) (seen_links link_tells desks_new) old new hears w end
   recorded_ends = record {
     rates = r.vault.config.groups;
     began = session.began;
@@ -68,15 +72,19 @@ module _ {P L tells tells_images : Type 0} (port_tells : PortTells P) (link_tell
         let meet = was.0 in
         let begun = opened x t holds sound in
         let reads = config_read old.disk.reads x holds in
-        let made = session.told t (opening_of x) begun.0 begun.3 in
-        headline x reads sound rose begun.0 r old.disk mid.disk new.disk begun.3
-        (passes_opened (opening_of x) old.disk mid.disk (Ok r) (moments x t holds meet sound)) begun.1 begun.2
+        let now = since_now x t holds sound in
+        let first = begun.1 in
+        let then = begun.2 in
+        let made = session.told t (opening_of x) mid.disk.clock now in
+        headline x reads sound rose mid.disk.clock r old.disk mid.disk new.disk now
+        (passes_opened (opening_of x) old.disk mid.disk (Ok r) (moments x t holds meet sound)) (omega (arith, first, then)) (omega arith) hears w
         session.given session.rest session.items session.lost session.feed end made.0 made.1
         (subst (λ (c : Configuration). RecordsSession (start_of_opening (opening_of x)) c.groups c.queue session.given session.rest session.items session.lost end (recorded made.0)) same made.2)
         (subst (λ (c : Configuration). HasGroups c.groups end) same groups) risen
         turns (seen_links link_tells desks_old) (seen_links link_tells desks_new)
         (subst (λ (c : Configuration). AreReplied turns c.channels rose end.outcome (opening_of x) made.0 (seen_links link_tells desks_old) (seen_links link_tells desks_new)) same
-        (are_replied link_tells turns r.vault.config.channels (Rose (sum mid.faults) (sum new.faults)) rose end.outcome (opening_of x) made.0 desks_old desks_new desks.as_many since made.3));
+        (are_replied link_tells turns r.vault.config.channels (Rose (sum mid.faults) (sum new.faults)) rose end.outcome (opening_of x) made.0 desks_old desks_new desks.as_many since made.3.0))
+        (λ hearing. let h = heard (opening_of x) hearing in let k = made.3.1 in record { found = k.found hearing ∙ h.found; opened = k.synced hearing ∙ h.opened; told = k.told hearing h.told });
     openable = opened_so (λ x. x.config.groups ≡ r.vault.config.groups) old.disk r.vault parts (λ x read. ap (λ (c : Configuration). c.groups) (sym read.config));
     others = λ t. same_twice old.disk.reads mid.disk.reads new.disk.reads (first_others t) (others t);
     fault = risen;

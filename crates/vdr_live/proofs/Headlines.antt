@@ -17,6 +17,8 @@ use Rattle.vdr_capture.specs.declared.sums.Outcome.{Outcome}
 use Rattle.vdr_capture.specs.declared.sums.Outcome.TheVariants.{Done, NoMemory, Place, Tick, MediaFault, PortFault, LinkFault}
 use Rattle.vdr_session.specs.Sessions.{HasGroups, KeepsSession, RecordsSession, has_groups, is_closed}
 use Rattle.vdr_session.specs.declared.session.SessionEnd.{SessionEnd}
+use Rattle.vdr_recorder.specs.Headline.{IsHeard}
+use Rattle.vdr_recorder.specs.Watched.{Watched}
 use Rattle.vdr_recorder.proofs.Headlines.{after_opening, order_after}
 use Rattle.vdr_live.specs.Headline.{AccountsForSession, SessionHeadline}
 use Rattle.vdr_live.specs.Links.{AreReplied, LinkSeen}
@@ -44,14 +46,15 @@ full_held start rates capacity given rest items lost end run s groups closed g s
         f.held (subst (λ (n : ℕ). 0 < n) f.full some)
 
 module _ {tells tells_images : Type 0} (x : Contents) (reads : configuration x.text ≡ Ok x.config) (sound : AreSound x) (rose : Type 0) (t0 : ℕ) (r : RecorderState)
-    (old mid new : Disk tells tells_images) (opened : HasRecorded (opening_of x) [] t0 r mid) (passes : Passes (opening_of x) [] old mid) (entry : old.clock ≤ t0) (exit : t0 ≤ mid.clock) where
+    (old mid new : Disk tells tells_images) (opened : HasRecorded (opening_of x) [] t0 r mid) (passes : Passes (opening_of x) [] old mid) (entry : old.clock ≤ t0) (exit : t0 ≤ mid.clock)
+    (hears : Type 0) (w : Watched) where
   pub headline : (given : ℕ → List Item) (rest : ℕ → Counts) (items lost : List Captured) → AllFeed (items ++ lost) rest given → (end : SessionEnd) (events : List Event)
       → KeepsSession (opening_of x) t0 end.outcome mid new events
       → RecordsSession (start_of_opening (opening_of x)) x.config.groups x.config.queue given rest items lost end (recorded events) → HasGroups x.config.groups end
       → (end.outcome ≡ MediaFault → rose) → (turns : ℕ) (links_old links_new : List LinkSeen) → AreReplied turns x.config.channels rose end.outcome (opening_of x) events links_old links_new
-      → SessionHeadline x rose given turns links_old links_new end old new
-  headline given rest items lost feed end events k s groups risen turns links_old links_new replies =
-      after_opening x reads (AccountsForSession x rose given turns links_old links_new end) ((end.outcome ≡ MediaFault) × rose) old t0 mid new passes entry exit events
+      → (hears → IsHeard (opening_of x) events t0 old w) → SessionHeadline x rose given turns links_old links_new end old new hears w
+  headline given rest items lost feed end events k s groups risen turns links_old links_new replies heard =
+      after_opening x reads (AccountsForSession x rose given turns links_old links_new end) ((end.outcome ≡ MediaFault) × rose) old hears w t0 mid new passes entry exit events
       (order_after x sound t0 r mid opened events k.made) k.history k.kept k.passes (⊎_elim (λ whole. inl whole) (λ is. inr (is, risen is)) k.pending)
       (record {
         means = k.means;
@@ -62,4 +65,4 @@ module _ {tells tells_images : Type 0} (x : Contents) (reads : configuration x.t
         records = s;
         full = full_held (start_of_opening (opening_of x)) x.config.groups x.config.queue given rest items lost end (recorded events) s groups;
         replies = replies;
-      })
+      }) heard

@@ -5,7 +5,5 @@ pub mod LinkLemmas
 pub mod Lives
 pub mod PortLemmas
 pub mod Words
-mod Chains
-mod GoingOn
 mod Numbered
 pub mod Lined

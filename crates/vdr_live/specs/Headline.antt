@@ -11,7 +11,8 @@ use Rattle.vdr_core.specs.Taken.{AllFeed, Captured}
 use Rattle.vdr_outside.specs.Disk.{Disk}
 use Rattle.vdr_opening.specs.Media.{Contents, opening_of}
 use Rattle.vdr_recorder.specs.Recordings.{start_of_opening}
-use Rattle.vdr_recorder.specs.Headline.{RecordingHeadline}
+use Rattle.vdr_recorder.specs.Headline.{ToldHeadline}
+use Rattle.vdr_recorder.specs.Watched.{Watched}
 use Rattle.vdr_capture.specs.declared.sums.Outcome.TheVariants.{MediaFault}
 use Rattle.vdr_session.specs.Sessions.{OutcomeMeans, RecordsSession, is_closed}
 use Rattle.vdr_session.specs.declared.session.SessionEnd.{SessionEnd}
@@ -36,5 +37,6 @@ module _ (x : Contents) (rose : Type 0) (given : ℕ → List Item) (turns : ℕ
     -- each order of a link is one event, and its reply is a function of the events before that
     pub replies : AreReplied turns x.config.channels rose end.outcome (opening_of x) events links_old links_new
 
-  abbrev pub SessionHeadline : {tells tells_images : Type 0} → (before after : Disk tells tells_images) → Type 0
-  SessionHeadline before after = RecordingHeadline x AccountsForSession ((end.outcome ≡ MediaFault) × rose) before after
+  -- `w`: what an object outside was told of it, where it `hears`.
+  abbrev pub SessionHeadline : {tells tells_images : Type 0} → (before after : Disk tells tells_images) → (hears : Type 0) → Watched → Type 0
+  SessionHeadline before after hears w = ToldHeadline x AccountsForSession ((end.outcome ≡ MediaFault) × rose) before after hears w

@@ -4,5 +4,4 @@ pub mod Links
 pub mod Headline
 pub mod Recordings
 pub mod Runs
-pub mod Chains
 pub mod Lines

@@ -24,6 +24,7 @@ use Rattle.vdr_tool.specs.Summaries.{summary_text}
 use Rattle.vdr_command.specs.declared.status.Status.{Status}
 use Rattle.vdr_command.specs.declared.status.Status.TheVariants.{Done, Unformatted, Damaged, MediaFault, PortFault, LinkFault, OutputFault, NoMemory, Place, Tick}
 use Rattle.vdr_recorder.specs.Refusals.{MayBegin}
+use Rattle.vdr_recorder.specs.Watched.{Watched}
 use Rattle.vdr_live.specs.Headline.{SessionHeadline}
 use Rattle.vdr_live.specs.Links.{AsksLinks, LinkSeen, NoLinkFailed}
 use Rattle.vdr_live.specs.Ports.{AsksPorts, NoPortFailed, PortSeen}
@@ -65,7 +66,7 @@ abbrev pub TellsSession : Result SessionEnd OpenRefused → Status → (old new 
 TellsSession (Ok end) status old new = PrintsSession end.outcome (summary_text end.groups end.records) status old new
 TellsSession (Err refused) status old new = (status ≡ status_of_opening refused) × (new ≡ old)
 
-module _ {tells tells_images : Type 0} (turns : ℕ) (ports_old ports_new : List PortSeen) (links_old links_new : List LinkSeen) (old new : MediaSeen tells tells_images) where
+module _ {tells tells_images : Type 0} (turns : ℕ) (ports_old ports_new : List PortSeen) (links_old links_new : List LinkSeen) (old new : MediaSeen tells tells_images) (hears : Type 0) (w : Watched) where
   -- The media were opened, and a session recorded what the ports gave and answered what the links asked for.
   pub record IsRecorded (end : SessionEnd) : Type 0 where
     pub rates : List (Option Rate)
@@ -80,7 +81,7 @@ module _ {tells tells_images : Type 0} (turns : ℕ) (ports_old ports_new : List
     pub links : AsksLinks turns links_old links_new end.outcome
     -- one history of what the ports gave, whole and at every moment, and in it the orders of the links
     pub recorded : (x : Contents) → tells → HoldsContents old.disk.reads x → WasRecorded x
-        → SessionHeadline x (MediaFailed old new) given turns links_old links_new end old.disk new.disk
+        → SessionHeadline x (MediaFailed old new) given turns links_old links_new end old.disk new.disk hears w
     pub openable : tells → IsOpenableWith old.disk.reads (λ x. x.config.groups ≡ rates)
     pub others : tells → SameElsewhere old.disk.reads new.disk.reads
     pub fault : end.outcome ≡ outcomes.MediaFault → MediaFailed old new
@@ -115,13 +116,13 @@ abbrev pub IfLinkFault : Status → (ℕ → Type 0) → Type 0
 IfLinkFault (LinkFault i) P = P i
 IfLinkFault status P = ⊤
 
--- What `record TURNS` owes.
-pub record Records {tells tells_images : Type 0} (turns : ℕ) (old new : Surroundings tells tells_images) (status : Status) : Type 0 where
+-- What `record TURNS` owes. `w`: what an object was told meanwhile, where it `hears` anything.
+pub record Records {tells tells_images : Type 0} (turns : ℕ) (old new : Surroundings tells tells_images) (hears : Type 0) (w : Watched) (status : Status) : Type 0 where
   -- how the recording ended, as status and output tell it
   pub answer : Result SessionEnd OpenRefused
   pub told : TellsSession answer status old.alone.output new.alone.output
   -- the ports, the links and the media, and what is said of them
-  pub ends : RecordingEnds turns old.ports new.ports old.links new.links old.alone.media new.alone.media answer
+  pub ends : RecordingEnds turns old.ports new.ports old.links new.links old.alone.media new.alone.media hears w answer
   -- each failure comes only with its cause
   pub output : status ≡ OutputFault → OutputFailed old.alone.output new.alone.output
   pub media : status ≡ MediaFault → MediaFailed old.alone.media new.alone.media

@@ -1,5 +1,6 @@
 // A command behind its words, `record` among them.
 ghost use Rattle.std.specs.Prelude.{◌≤◌, ◌<◌, ◌^◌, length};
+ghost use Rattle.vdr_recorder.specs.Watched.{nothing_told};
 ghost use Rattle.vdr_session.specs.Calls.{AreByGroup};
 ghost use Rattle.vdr_tool.specs.Lives.{KeepsLife};
 ghost use Rattle.vdr_tool.specs.Runs.{Asks, TouchesAsked};
@@ -14,8 +15,9 @@ use std::sync::Wait;
 use std::thread::Threads;
 use vdr_capture::Lane;
 use vdr_outside::{Link, Media, Port, Sink, Source};
+use vdr_recorder::{Nobody, Watch};
 use vdr_session::{Desk, Mark};
-use vdr_tool::{Outer, Status, World, report, run_alone};
+use vdr_tool::{Outer, Status, World, report, run_alone_watched};
 
 /// Does what the words ask for, and tells how it ended.
 ///
@@ -29,6 +31,53 @@ use vdr_tool::{Outer, Status, World, report, run_alone};
 /// fails the others go on, and the run is closed and its summary printed before `PortFault`, which tells the least group whose port failed,
 /// or, where no port failed, `LinkFault`, which tells the least link that did. A fault of the media wins over both; then no summary is
 /// printed, and the media have to be opened again. For each status but `Done` and `OutputFault` the output ends with a status line.
+///
+/// The watch is told while media are recorded on: of their opening, and of each turn of the recorder that met no fault, behind it and before
+/// anybody is answered. What it was told is on the media by then, whether the call returns or not.
+pub fn run_watched<
+    I: Source + Drop,
+    O: Sink + Drop,
+    M: Media + Send + Drop,
+    W: Watch<M> + Send,
+    P: Port + Send,
+    L: Link + Send,
+    R: Threads + Wait + Sync,
+>(
+    rt: &R,
+    alloc: Global,
+    words: &[String],
+    world: &mut World<I, O, M>,
+    watch: &mut W,
+    lanes: &mut [Lane<P>],
+    desks: &mut [Desk<L, Mark>],
+) -> Status
+    requires two { 2 ≤ length (M.disk world.old.media).sizes }
+    requires three { length (M.disk world.old.media).sizes ≤ 3 }
+    requires lanes { AreByGroup lanes.old }
+    requires desks { length desks.old < 2 ^ 32 }
+
+    // `record` does what its page in `specs/` says, and then the line of its status is written; all other words are those of `run_alone`.
+    ensures runs { let at = ⟦<World<I, O, M> as Outer>⟧.outside in RunsAll words.now (record { alone = at world.old; ports = seen_ports P.Port lanes.old; links = seen_links L.Link desks.old })
+        (record { alone = at world.new; ports = seen_ports P.Port lanes.new; links = seen_links L.Link desks.new }) W.hears (W.seen watch.new) result }
+
+    // Only a command that reads it touches the input, only one that uses them the media, and only `record` the ports and the links.
+    ensures touches { TouchesAsked words.now world.old.input world.new.input world.old.media world.new.media result }
+    ensures alone { RecordsAlone words.now world.old.input world.new.input lanes.old lanes.new desks.old desks.new result }
+
+    // Media of this product stay so at every moment, and where nothing is formatted their life goes on.
+    ensures lives { KeepsLife (Asks words.now) (M.disk world.old.media) (M.disk world.new.media) }
+{
+    let Some(turns) = turns_of(words) else {
+        return run_alone_watched(alloc, words, world, watch);
+    };
+    let Err(status) = answer_record(rt, alloc, turns, world, watch, lanes, desks) else {
+        return Status::Done;
+    };
+    report(status, &mut world.output);
+    status
+}
+
+/// Does what the words ask for as `run_watched` does, and tells nobody.
 pub fn run<
     I: Source + Drop,
     O: Sink + Drop,
@@ -48,24 +97,11 @@ pub fn run<
     requires three { length (M.disk world.old.media).sizes ≤ 3 }
     requires lanes { AreByGroup lanes.old }
     requires desks { length desks.old < 2 ^ 32 }
-
-    // `record` does what its page in `specs/` says, and then the line of its status is written; all other words are those of `run_alone`.
     ensures runs { let at = ⟦<World<I, O, M> as Outer>⟧.outside in RunsAll words.now (record { alone = at world.old; ports = seen_ports P.Port lanes.old; links = seen_links L.Link desks.old })
-        (record { alone = at world.new; ports = seen_ports P.Port lanes.new; links = seen_links L.Link desks.new }) result }
-
-    // Only a command that reads it touches the input, only one that uses them the media, and only `record` the ports and the links.
+        (record { alone = at world.new; ports = seen_ports P.Port lanes.new; links = seen_links L.Link desks.new }) ⊥ nothing_told result }
     ensures touches { TouchesAsked words.now world.old.input world.new.input world.old.media world.new.media result }
     ensures alone { RecordsAlone words.now world.old.input world.new.input lanes.old lanes.new desks.old desks.new result }
-
-    // Media of this product stay so at every moment, and where nothing is formatted their life goes on.
     ensures lives { KeepsLife (Asks words.now) (M.disk world.old.media) (M.disk world.new.media) }
 {
-    let Some(turns) = turns_of(words) else {
-        return run_alone(alloc, words, world);
-    };
-    let Err(status) = answer_record(rt, alloc, turns, world, lanes, desks) else {
-        return Status::Done;
-    };
-    report(status, &mut world.output);
-    status
+    run_watched(rt, alloc, words, world, &mut Nobody {}, lanes, desks)
 }

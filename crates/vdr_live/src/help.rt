@@ -78,6 +78,20 @@ Commands:
             last record; `PLACE UTC jump GROUP SOURCE OLD NEW` where its sequence number is not
             the next one; `PLACE UTC alarm GROUP SOURCE NUMBER CONDITION ACKNOWLEDGED TEXT` at an
             alarm's first state and at each change of it.
+  runs MEDIUM
+            Prints when the recorder ran, by the records of a window or an incident, MEDIUM as for
+            `play`: for each run a line `A B FROM TO STATE TICK`, and below it what it missed,
+            `full N rate N bad N large N`. A and B are the places of its first and last record
+            there, FROM and TO the stamps of its first and last datagram, `-` without one, TICK the
+            recorder time of its last record in milliseconds. STATE is `closed` where it has its
+            Stop, `cut` where the next run begins without one, and `open` where it goes on behind
+            the last record. From one run's TO to the next one's FROM nothing was recorded.
+  digest MEDIUM
+            Prints the digest of a window or an incident, MEDIUM as for `play`: for each hour of
+            recorder time a line `HOUR A B RECORDS HEX`, with the places of its first and last
+            record, how many there are, and the SHA-256 of their bytes; then the same with `all`
+            for HOUR, of all records, where HEX is the SHA-256 of the lines above. Who has written
+            it down knows later whether a record was changed, left out or added.
   trial SEED COUNT
             Tries media that hold nothing yet: formats them with the bench configuration (files of
             122,880 and 712,704 bytes), records COUNT generated items (0 to 1,000,000) from SEED
@@ -100,10 +114,10 @@ Commands:
             Writes the image with this SOURCE (six bytes, such as EI0001) and BLOCK (a number), out of
             a channel of kind `image`, to standard output, once all its parts are there.
   rescue COMMAND WORDS
-            Does what COMMAND does, which is `play`, `sources`, `watch`, `targets`, `wav` or
-            `picture`, on one medium alone: that of its WORDS, and for `incident-ID` the long-term
-            one. The medium may be whole, cut short or damaged, the other one may be lost; nothing
-            is written. Each record that legally stands there is given. Behind that stand, but for
+            Does what COMMAND does, which is `play`, `sources`, `watch`, `runs`, `digest`, `targets`,
+            `wav` or `picture`, on one medium alone: that of its WORDS, and for `incident-ID` the
+            long-term one. The medium may be whole, cut short or damaged, the other one may be lost;
+            nothing is written. Each record that legally stands there is given. Behind that stand, but for
             `wav` and `picture`, `missing A B` for places that the medium owes and lacks,
             `damaged OFFSET` for each part that is not legal, and `closed OFFSET` for a slot that a
             stop may have closed, and so may a changed byte.

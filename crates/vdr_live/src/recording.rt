@@ -14,6 +14,7 @@ use std::sync::Wait;
 use std::thread::Threads;
 use vdr_capture::{Lane, Outcome};
 use vdr_outside::{Link, Media, Port, Sink, Source, print_buffered};
+use vdr_recorder::Watch;
 use vdr_session::{Desk, Mark, SessionEnd};
 use vdr_tool::{Outer, Status, Summary, World, law_of_openings};
 
@@ -57,6 +58,7 @@ pub(crate) fn answer_record<
     I: Source + Drop,
     O: Sink + Drop,
     M: Media + Send + Drop,
+    W: Watch<M> + Send,
     P: Port + Send,
     L: Link + Send,
     R: Threads + Wait + Sync,
@@ -65,6 +67,7 @@ pub(crate) fn answer_record<
     alloc: Global,
     turns: u64,
     world: &mut World<I, O, M>,
+    watch: &mut W,
     lanes: &mut [Lane<P>],
     desks: &mut [Desk<L, Mark>],
 ) -> Result<(), Status>
@@ -74,13 +77,13 @@ pub(crate) fn answer_record<
     requires desks { length desks.old < 2 ^ 32 }
     requires turns { turns ≤ most_turns }
     ensures owed { let at = ⟦<World<I, O, M> as Outer>⟧.outside in Records turns (record { alone = at world.old; ports = seen_ports P.Port lanes.old; links = seen_links L.Link desks.old })
-        (record { alone = at world.new; ports = seen_ports P.Port lanes.new; links = seen_links L.Link desks.new }) (ending result) }
+        (record { alone = at world.new; ports = seen_ports P.Port lanes.new; links = seen_links L.Link desks.new }) W.hears (W.seen watch.new) (ending result) }
     ensures known { ending result ≡ Words → ⊥ }
     ensures later { O.faults world.old.output ≤ O.faults world.new.output }
     ensures sizes { (M.disk world.new.media).sizes ≡ (M.disk world.old.media).sizes }
     ensures unread { world.new.input ≡ world.old.input }
 {
     law_of_openings();
-    let end = record_ports(rt, alloc, &mut world.media, lanes, desks, turns)?;
+    let end = record_ports(rt, alloc, &mut world.media, watch, lanes, desks, turns)?;
     print_session(end, &mut world.output)
 }

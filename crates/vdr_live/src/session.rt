@@ -13,13 +13,14 @@ use std::thread::Threads;
 use vdr_capture::Lane;
 use vdr_opening::OpenRefused;
 use vdr_outside::{Link, Media, Port};
-use vdr_recorder::Recorder;
+use vdr_recorder::{Recorder, Watch};
 use vdr_session::{Desk, Mark, SessionEnd, record_at_desks};
 
 /// Opens the media, and records what the ports of the lanes give as one run, with at most so many takes of each. The orders of the desks are
 /// answered, with at most so many calls of each link for a line.
 pub(crate) fn record_ports<
     M: Media + Send,
+    W: Watch<M> + Send,
     P: Port + Send,
     L: Link + Send,
     R: Threads + Wait + Sync,
@@ -27,6 +28,7 @@ pub(crate) fn record_ports<
     rt: &R,
     alloc: Global,
     media: &mut M,
+    watch: &mut W,
     lanes: &mut [Lane<P>],
     desks: &mut [Desk<L, Mark>],
     turns: u64,
@@ -38,9 +40,9 @@ pub(crate) fn record_ports<
     requires turns { turns ≤ most_turns }
     ensures ends { RecordingEnds turns (seen_ports P.Port lanes.old) (seen_ports P.Port lanes.new) (seen_links L.Link desks.old) (seen_links L.Link desks.new)
         (record { disk = M.disk media.old; faults = M.faults media.old; bytes_read = M.bytes_read media.old })
-        (record { disk = M.disk media.new; faults = M.faults media.new; bytes_read = M.bytes_read media.new }) result }
+        (record { disk = M.disk media.new; faults = M.faults media.new; bytes_read = M.bytes_read media.new }) W.hears (W.seen watch.new) result }
     ensures sizes { (M.disk media.new).sizes ≡ (M.disk media.old).sizes }
 {
-    let recorder = Recorder::open(alloc, media)?;
-    Ok(record_at_desks(rt, alloc, recorder, media, lanes, desks, turns))
+    let recorder = Recorder::open_watched(alloc, media, watch)?;
+    Ok(record_at_desks(rt, alloc, recorder, media, watch, lanes, desks, turns))
 }

@@ -7,7 +7,7 @@ struct Usage {
     words: &'static [Form],
 }
 
-const USAGES: [Usage; 19] = [
+const USAGES: [Usage; 21] = [
     Usage {
         command: "review",
         words: &[],
@@ -54,6 +54,14 @@ const USAGES: [Usage; 19] = [
     },
     Usage {
         command: "watch",
+        words: &[Form::Medium],
+    },
+    Usage {
+        command: "runs",
+        words: &[Form::Medium],
+    },
+    Usage {
+        command: "digest",
         words: &[Form::Medium],
     },
     Usage {

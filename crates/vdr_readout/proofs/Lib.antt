@@ -10,6 +10,7 @@ pub mod PlayLemmas
 pub mod FileLemmas
 pub mod ExportLemmas
 pub mod ExportCompleteness
+pub mod LineLemmas
 pub mod WatchLemmas
 pub mod TableLemmas
 pub mod RescueLemmas

@@ -9,9 +9,11 @@ use Rattle.vdr_entry.specs.declared.query.Medium.{Medium}
 use Rattle.vdr_command.specs.Outside.{Outside}
 use Rattle.vdr_command.specs.declared.status.Status.{Status}
 use Rattle.vdr_command.specs.declared.status.Status.TheVariants.{Words}
-use Rattle.vdr_outside.specs.Disk.{content}
+use Rattle.vdr_outside.specs.Disk.{Unchanged, content}
 use Rattle.vdr_readout.specs.declared.exporting.Wish.{Wish}
-use Rattle.vdr_readout.specs.Reads.{AskedPlay, number_asked}
+use Rattle.vdr_readout.specs.Readings.{OwesReading, Reading, RescuesReading, asked_in}
+use Rattle.vdr_readout.specs.Readings.Reading.{Play, Sources, Watch, Runs, Digest, Targets, Wav, Picture}
+use Rattle.vdr_readout.specs.Reads.{AskedPlay, PlayEnds, number_asked}
 use Rattle.vdr_readout.specs.Rescues.{Rescues, ShowsRescue}
 use Rattle.vdr_readout.specs.RescuedFiles.{RescuesFile, ShowsFile}
 use Rattle.vdr_readout.specs.Sources.{whole_of}
@@ -40,3 +42,25 @@ module _ {tells tells_images : Type 0} (old new : Outside tells tells_images) (s
 
   pub file_known : (wish : Wish) (asked : AskedPlay) → RescuesFile wish asked old new status → status ≡ Words → ⊥
   file_known wish asked h is = subst (λ (s : Status). ShowsFile tells wish asked (content old.media.disk.reads (number_asked asked)) old.output new.output s) is h.shown
+
+  -- Whatever is read out leaves the media as a play of the same records does.
+  pub reading_plays : (reading : Reading) → OwesReading reading old new status → PlayEnds (asked_in reading) old.media new.media status
+  reading_plays (Play asked) owed = owed.media
+  reading_plays (Sources medium) owed = owed.media
+  reading_plays (Watch medium) owed = owed.media
+  reading_plays (Runs medium) owed = owed.media
+  reading_plays (Digest medium) owed = owed.media
+  reading_plays (Targets medium at) owed = owed.media
+  reading_plays (Wav asked) owed = owed.ends.media
+  reading_plays (Picture asked block) owed = owed.ends.media
+
+  -- And one medium alone is left as it is.
+  pub rescue_unchanged : (reading : Reading) → RescuesReading reading old new status → Unchanged old.media.disk new.media.disk
+  rescue_unchanged (Play asked) owed = owed.media.unchanged
+  rescue_unchanged (Sources medium) owed = owed.media.unchanged
+  rescue_unchanged (Watch medium) owed = owed.media.unchanged
+  rescue_unchanged (Runs medium) owed = owed.media.unchanged
+  rescue_unchanged (Digest medium) owed = owed.media.unchanged
+  rescue_unchanged (Targets medium at) owed = owed.media.unchanged
+  rescue_unchanged (Wav asked) owed = owed.media.unchanged
+  rescue_unchanged (Picture asked block) owed = owed.media.unchanged

@@ -1,29 +1,26 @@
--- What `watch` owes, from what reading out ensures.
-use Rattle.std.proofs.Common.{◌≡◌, ◌⊎◌, inl, inr, ⊎_elim, ◌++◌, ◌∷◌, ℕ, List, [], refl, sym, ap, subst, ◌∙◌, append_assoc}
-use Rattle.std.proofs.KnownBytes.{Appends-nil}
+-- What `watch` owes, from what its lines are.
+use Rattle.std.proofs.Common.{◌≡◌, ◌∙◌, ◌++◌, ◌∷◌, ℕ, List, [], refl, ap, subst}
 use Rattle.vdr_terms.specs.Records.{Record}
-use Rattle.vdr_outside.specs.Disk.{Disk}
 use Rattle.vdr_entry.specs.declared.query.Medium.{Medium}
-use Rattle.vdr_opening.specs.Media.{Contents, HoldsContents}
 use Rattle.vdr_visit.specs.Prints.{lines_behind, text_of, whole_text}
 use Rattle.vdr_watch.specs.Signs.{Sign}
 use Rattle.vdr_watch.specs.Supervision.{met_in}
 use Rattle.vdr_watch.specs.Texts.{closing_text, record_text, records_text, watch_text}
 use Rattle.vdr_watch.proofs.Records.{met_with}
-use Rattle.vdr_command.specs.Endings.{IsWorkDone}
-use Rattle.vdr_command.specs.Opened.{OneAnswer, PrintsText}
-use Rattle.vdr_command.specs.Outside.{Outside, OutputFailed, OutputSeen, Prints, PrintsFront}
+use Rattle.vdr_command.specs.Opened.{PrintsText}
+use Rattle.vdr_command.specs.Outside.{Outside, Prints}
 use Rattle.vdr_command.specs.declared.status.Status.{Status}
-use Rattle.vdr_command.specs.declared.status.Status.TheVariants.{Done, Words, Config, Small, Unformatted, Formatted, Damaged, MediaFault, PortFault, LinkFault, InputFault, OutputFault, NoMemory, Feed, NoChannel, NoIncident, SaveRefused, Place, Tick, ExportKind, ExportNothing, ExportMixed, ExportLong, ExportPart, Capture, Missing}
-use Rattle.vdr_readout.specs.Plays.{IsPlayStatus}
-use Rattle.vdr_readout.specs.Reads.{AreFirst, CanBeRead, ReadsOut, ShowsReading, StoppedItself, records_asked}
+use Rattle.vdr_readout.specs.Lines.{TellsLines}
+use Rattle.vdr_readout.specs.Reads.{records_asked}
 use Rattle.vdr_readout.specs.Sources.{whole_of}
-use Rattle.vdr_readout.specs.Watches.{IsCutShort, TellsWatch, shown_text}
-use Rattle.vdr_readout.proofs.PlayCompleteness.{plays_all}
+use Rattle.vdr_readout.specs.Watches.{TellsWatch}
 
 -- What a watcher prints of a record.
 abbrev pub shown : List Record → Record → List ℕ
 shown seen r = record_text (met_in seen) r
+
+abbrev pub closing : List Record → List ℕ
+closing seen = closing_text seen
 
 behind : (seen records : List Record) → lines_behind shown seen records ≡ records_text (met_in seen) records
 behind seen [] = refl
@@ -32,128 +29,21 @@ behind seen (r ∷ rs) = ap (λ (text : List ℕ). shown seen r ++ text) (behind
 lines_shown : (records : List Record) → text_of shown records ≡ records_text [] records
 lines_shown records = behind [] records
 
-all_shown : (records : List Record) → whole_text shown closing_text records ≡ watch_text records
+all_shown : (records : List Record) → whole_text shown closing records ≡ watch_text records
 unfolding watch_text
-all_shown records = ap (λ (text : List ℕ). text ++ closing_text records) (lines_shown records)
+all_shown records = ap (λ (text : List ℕ). text ++ closing records) (lines_shown records)
 
-module _ {tells tells_images R : Type 0} (medium : Medium) (disk : Disk tells tells_images) (Has : List Record → Type 0) (Stops : List Record → R → Type 0) (was next : OutputSeen) where
-  abbrev Stopped : Status → Type 0
-  Stopped status = StoppedItself (whole_of medium) disk Stops (λ reason. NoMemory) shown was next status
-
-  abbrev Shows : Status → Type 0
-  Shows status = ShowsReading (whole_of medium) disk Has Stops (λ reason. NoMemory) shown closing_text was next status
-
-  -- What is owed of the output.
-  record Owes (status : Status) : Type 0 where
-    own : IsPlayStatus status
-    printed : (x : Contents) → tells → HoldsContents disk.reads x → CanBeRead x → PrintsText (shown_text x medium) status was next
-    cut : IsCutShort status → (first : List Record) × Prints (records_text [] first) was next × AreFirst (whole_of medium) disk first
-    output : status ≡ OutputFault → OutputFailed was next
-    silent : IsWorkDone status ⊎ (IsCutShort status ⊎ Prints [] was next)
-
-  still : next ≡ was → Prints [] was next
-  still same = subst (λ (o : OutputSeen). Prints [] was o) (sym same) (Appends-nil was.taken)
-
-  text_is : (x : Contents) (all : List Record) → all ≡ records_asked x (whole_of medium) → whole_text shown closing_text all ≡ shown_text x medium
-  text_is x all is = all_shown all ∙ ap watch_text is
-
-  -- The first records were told, and no more.
-  cut_off : (status : Status) → IsPlayStatus status → IsCutShort status → ((text : List ℕ) → PrintsText text status was next) → (status ≡ OutputFault → ⊥)
-      → (first : List Record) → Prints (text_of shown first) was next → AreFirst (whole_of medium) disk first → Owes status
-  cut_off status own cut printed never first told are = record {
-    own = own;
-    printed = λ x t holds can. printed (shown_text x medium);
-    cut = λ short. (first, subst (λ (l : List ℕ). Prints l was next) (lines_shown first) told, are);
-    output = λ is. absurd (never is);
-    silent = inr (inl cut);
-  }
-
-  -- Nothing was read.
-  unread : (status : Status) → IsPlayStatus status → (IsCutShort status → ⊥) → ((text : List ℕ) → PrintsText text status was next) → (status ≡ OutputFault → ⊥) → next ≡ was → Owes status
-  unread status own never printed no_output same = record {
-    own = own;
-    printed = λ x t holds can. printed (shown_text x medium);
-    cut = λ short. absurd (never short);
-    output = λ is. absurd (no_output is);
-    silent = inr (inr (still same));
-  }
-
-  -- There was no memory, at opening or for a source or an alarm.
-  memory : ((NoMemory ≡ NoMemory) × (next ≡ was)) ⊎ Stopped NoMemory → Owes NoMemory
-  memory shown = ⊎_elim
-      (λ (m : (NoMemory ≡ NoMemory) × (next ≡ was)). cut_off NoMemory tt tt (λ text. tt) (λ is. let none : ⊥ = cc in none) [] (still m.1) (λ x t holds can. (records_asked x (whole_of medium), refl)))
-      (λ (s : Stopped NoMemory). cut_off NoMemory tt tt (λ text. tt) (λ is. let none : ⊥ = cc in none) s.printed.0 s.printed.3
-      (λ x t holds can. let a = s.first x t holds can in
-      (s.printed.1 ++ a.0, a.1 ∙ ap (λ (l : List Record). l ++ a.0) s.printed.2 ∙ append_assoc s.printed.0 s.printed.1 a.0)))
-      shown
-
-  by_memory : (status : Status) → ((status ≡ NoMemory) × (next ≡ was)) ⊎ Stopped status → Owes status
-  by_memory status shown =
-      let is : status ≡ NoMemory = ⊎_elim (λ (m : (status ≡ NoMemory) × (next ≡ was)). m.0) (λ (s : Stopped status). sym s.is) shown in
-      subst Owes (sym is) (memory (subst (λ (s : Status). ((s ≡ NoMemory) × (next ≡ was)) ⊎ Stopped s) is shown))
-
-  owes : (status : Status) → Shows status → Owes status
-  owes Done shown = record {
-    own = tt;
-    printed = λ x t holds can. subst (λ (l : List ℕ). Prints l was next) (text_is x shown.0 (shown.3 x t holds can)) shown.2;
-    cut = λ short. absurd short;
-    output = λ is. let none : ⊥ = cc in absurd none;
-    silent = inl tt;
-  }
-  owes OutputFault shown = record {
-    own = tt;
-    printed = λ x t holds can. subst (λ (l : List ℕ). PrintsFront l was next) (text_is x (records_asked x (whole_of medium)) refl) (shown.1 x t holds can);
-    cut = λ short. absurd short;
-    output = λ is. shown.0;
-    silent = inl tt;
-  }
-  owes MediaFault shown = cut_off MediaFault tt tt (λ text. tt) (λ is. let none : ⊥ = cc in none) shown.0 shown.1 shown.2
-  owes (Damaged k at) shown = cut_off (Damaged k at) tt tt (λ text. tt) (λ is. let none : ⊥ = cc in none) shown.0 shown.1 shown.2
-  owes Unformatted shown = unread Unformatted tt (λ short. short) (λ text. tt) (λ is. let none : ⊥ = cc in none) shown
-  owes (NoIncident id) shown = unread (NoIncident id) tt (λ short. short) (λ text. tt) (λ is. let none : ⊥ = cc in none) shown
-  owes NoChannel shown = absurd (shown.1 refl)
-  owes NoMemory shown = memory shown
-  owes Words shown = by_memory Words shown
-  owes (Config n) shown = by_memory (Config n) shown
-  owes (Small small) shown = by_memory (Small small) shown
-  owes Formatted shown = by_memory Formatted shown
-  owes (PortFault group) shown = by_memory (PortFault group) shown
-  owes (LinkFault link) shown = by_memory (LinkFault link) shown
-  owes InputFault shown = by_memory InputFault shown
-  owes (Feed n at) shown = by_memory (Feed n at) shown
-  owes (SaveRefused cause) shown = by_memory (SaveRefused cause) shown
-  owes Place shown = by_memory Place shown
-  owes Tick shown = by_memory Tick shown
-  owes ExportKind shown = by_memory ExportKind shown
-  owes ExportNothing shown = by_memory ExportNothing shown
-  owes (ExportMixed place) shown = by_memory (ExportMixed place) shown
-  owes ExportLong shown = by_memory ExportLong shown
-  owes (ExportPart number) shown = by_memory (ExportPart number) shown
-  owes (Missing place) shown = by_memory (Missing place) shown
-  owes (Capture number offset) shown = by_memory (Capture number offset) shown
-
-  no_channel : (status : Status) → Shows status → status ≡ NoChannel → ⊥
-  no_channel status shown is = (subst Shows is shown).1 refl
-
--- What a watcher made of the media is what `watch` owes.
-module _ {tells tells_images R : Type 0} {medium : Medium} {Has : List Record → Type 0} {Stops : List Record → R → Type 0} {old new : Outside tells tells_images} {status : Status}
-    (told : ReadsOut (whole_of medium) Has Stops (λ reason. NoMemory) shown closing_text old new status) where
-  owed : Owes medium old.media.disk Has Stops old.output new.output status
-  owed = owes medium old.media.disk Has Stops old.output new.output status told.shown
-
-  pub watch_owed : OneAnswer old.media.disk.reads → TellsWatch medium old new status
-  watch_owed law = record {
-    own = owed.own;
-    no_channel = no_channel medium old.media.disk Has Stops old.output new.output status told.shown;
-    printed = owed.printed;
-    cut = owed.cut;
-    output = owed.output;
-    silent = owed.silent;
-    media = told.media;
-    missing = told.missing;
-    bytes = told.bytes;
-    complete = λ none t. plays_all (whole_of medium) old.media new.media t law status (λ is. none.output (owed.output is)) (λ is. none.media (told.media.media.fault is)) owed.own told.media;
-  }
-
-  pub watch_known : status ≡ Words → ⊥
-  watch_known is = subst IsPlayStatus is owed.own
+-- Its lines are its text.
+pub watch_owed : {tells tells_images : Type 0} {medium : Medium} {old new : Outside tells tells_images} {status : Status} → TellsLines shown closing medium old new status → TellsWatch medium old new status
+watch_owed {medium = medium} {old = old} {new = new} {status = status} h = record {
+  own = h.own;
+  no_channel = h.no_channel;
+  printed = λ x t holds can. subst (λ (l : List ℕ). PrintsText l status old.output new.output) (all_shown (records_asked x (whole_of medium))) (h.printed x t holds can);
+  cut = λ short. let c = h.cut short in (c.0, subst (λ (l : List ℕ). Prints l old.output new.output) (lines_shown c.0) c.1, c.2);
+  output = h.output;
+  silent = h.silent;
+  media = h.media;
+  missing = h.missing;
+  bytes = h.bytes;
+  complete = h.complete;
+}

@@ -186,7 +186,7 @@ sounding asked = record {
   legal = ⊤;
   reads_input = ⊥;
   uses_media = ⊤;
-  owes = λ old new status. Exports Sound asked old new status;
+  owes = λ old new hears w status. Exports Sound asked old new status;
 }
 
 -- `picture`, and its words: those of a play, with the source of the image and the number of its block behind the channel.
@@ -209,5 +209,5 @@ picturing asked block = record {
   legal = IsBlock block;
   reads_input = ⊥;
   uses_media = ⊤;
-  owes = λ old new status. Exports (Picture block) asked old new status;
+  owes = λ old new hears w status. Exports (Picture block) asked old new status;
 }

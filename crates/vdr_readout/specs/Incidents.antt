@@ -89,5 +89,5 @@ listing = record {
   legal = ⊤;
   reads_input = ⊥;
   uses_media = ⊤;
-  owes = λ old new status. Lists old new status;
+  owes = λ old new hears w status. Lists old new status;
 }

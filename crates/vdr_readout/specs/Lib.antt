@@ -6,6 +6,7 @@ pub mod Tables
 pub mod Sources
 pub mod Exports
 pub mod Watches
+pub mod Lines
 pub mod Targets
 pub mod Rescues
 pub mod Telling

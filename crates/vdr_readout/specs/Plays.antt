@@ -72,5 +72,5 @@ playing asked = record {
   legal = ⊤;
   reads_input = ⊥;
   uses_media = ⊤;
-  owes = λ old new status. Plays asked old new status;
+  owes = λ old new hears w status. Plays asked old new status;
 }

@@ -24,5 +24,5 @@ sourcing medium = record {
   legal = IsMedium medium;
   reads_input = ⊥;
   uses_media = ⊤;
-  owes = λ old new status. TellsSources medium old new status;
+  owes = λ old new hears w status. TellsSources medium old new status;
 }

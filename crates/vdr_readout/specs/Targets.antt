@@ -30,5 +30,5 @@ targeting medium at = record {
   legal = IsMedium medium;
   reads_input = ⊥;
   uses_media = ⊤;
-  owes = λ old new status. TellsTargets medium at old new status;
+  owes = λ old new hears w status. TellsTargets medium at old new status;
 }

@@ -52,5 +52,5 @@ watching medium = record {
   legal = IsMedium medium;
   reads_input = ⊥;
   uses_media = ⊤;
-  owes = λ old new status. TellsWatch medium old new status;
+  owes = λ old new hears w status. TellsWatch medium old new status;
 }

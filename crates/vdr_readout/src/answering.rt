@@ -2,24 +2,28 @@
 ghost use Rattle.std.specs.Prelude.{◌≡◌, ◌<◌, ◌≤◌, length};
 ghost use Rattle.vdr_command.specs.Endings.{ending};
 ghost use Rattle.vdr_command.specs.declared.status.Status.TheVariants.{Words};
-ghost use Rattle.vdr_readout.specs.Readings.{RescuesReading, number_read, plain_reading};
+ghost use Rattle.vdr_readout.specs.Readings.{OwesReading, RescuesReading, number_read, plain_reading};
 ghost use Rattle.vdr_readout.specs.Readings.Reading.{Targets};
 ghost use Rattle.vdr_readout.specs.Reads.{plain_play};
 ghost use Rattle.vdr_readout.specs.Targets.{up_to};
 
-use crate::exporting::Wish;
-use crate::playing::Printer;
+use crate::exporting::{Wish, answer_export};
+use crate::playing::{Printer, answer_play};
 use crate::reading::{ALL, Wanted};
 use crate::rescuing::{number_of, rescue_out};
 use crate::rescuing_files::rescue_file;
-use crate::targeting::Lookout;
-use crate::watching::Watcher;
+use crate::sourcing::answer_sources;
+use crate::targeting::{Lookout, answer_targets};
+use crate::telling::{answer_digest, answer_runs};
+use crate::watching::{Watcher, answer_watch};
 use std::alloc::Global;
 use vdr_command::{Outer, Status, World};
+use vdr_digest::Digester;
 use vdr_entry::Medium;
 use vdr_export::Block;
 use vdr_outside::{Media, Sink, Source};
 use vdr_recorder::SourceCounter;
+use vdr_runs::Runs;
 use vdr_terms::LAST_STAMP;
 
 /// What is read out, and how it is told.
@@ -31,6 +35,10 @@ pub enum Reading<'a> {
     Sources { medium: Medium },
     /// What heartbeats and alarms show.
     Watch { medium: Medium },
+    /// When the recorder ran.
+    Runs { medium: Medium },
+    /// Their digest.
+    Digest { medium: Medium },
     /// The table of ships, of what was recorded up to this stamp.
     Targets { medium: Medium, at: i64 },
     /// The sound of a channel, as a WAVE file.
@@ -51,6 +59,8 @@ impl Reading<'_> {
             }
             Reading::Sources { medium }
             | Reading::Watch { medium }
+            | Reading::Runs { medium }
+            | Reading::Digest { medium }
             | Reading::Targets { medium, .. } => *medium,
         };
         number_of(medium)
@@ -87,6 +97,34 @@ fn rescue_targets<I: Source + Drop, O: Sink + Drop, M: Media + Drop>(
     rescue_out(alloc, wanted, &mut Lookout::new(alloc), world)
 }
 
+/// Reads out both media: opens them, finds what is asked for, and prints it or writes the file that it makes.
+pub fn answer_reading<I: Source + Drop, O: Sink + Drop, M: Media + Drop>(
+    alloc: Global,
+    reading: Reading<'_>,
+    world: &mut World<I, O, M>,
+) -> Result<(), Status>
+    requires two { 2 ≤ length (M.disk world.old.media).sizes }
+    requires three { length (M.disk world.old.media).sizes ≤ 3 }
+    ensures owed { let at = ⟦<World<I, O, M> as Outer>⟧.outside in OwesReading (plain_reading reading.entry) (at world.old) (at world.new) (ending result) }
+    ensures known { ending result ≡ Words → ⊥ }
+    ensures later { O.faults world.old.output ≤ O.faults world.new.output }
+    ensures sizes { (M.disk world.new.media).sizes ≡ (M.disk world.old.media).sizes }
+    ensures unread { world.new.input ≡ world.old.input }
+{
+    match reading {
+        Reading::Play(wanted) => answer_play(alloc, wanted, world),
+        Reading::Sources { medium } => answer_sources(alloc, medium, world),
+        Reading::Watch { medium } => answer_watch(alloc, medium, world),
+        Reading::Runs { medium } => answer_runs(alloc, medium, world),
+        Reading::Digest { medium } => answer_digest(alloc, medium, world),
+        Reading::Targets { medium, at } => answer_targets(alloc, medium, at, world),
+        Reading::Wav(wanted) => answer_export(alloc, wanted, Wish::Sound, world),
+        Reading::Picture(wanted, block) => {
+            answer_export(alloc, wanted, Wish::Picture(block), world)
+        }
+    }
+}
+
 /// Reads out one medium alone: that of the reading, or for an incident the long-term one. What it gives is told as on recorded media;
 /// behind that stand, but for files, the lines of what was found: what is missing, damaged or closed.
 pub fn answer_rescue<I: Source + Drop, O: Sink + Drop, M: Media + Drop>(
@@ -110,6 +148,14 @@ pub fn answer_rescue<I: Source + Drop, O: Sink + Drop, M: Media + Drop>(
         Reading::Watch { medium } => {
             let wanted = up_to(medium, LAST_STAMP);
             rescue_out(alloc, wanted, &mut Watcher::new(alloc), world)
+        }
+        Reading::Runs { medium } => {
+            let wanted = up_to(medium, LAST_STAMP);
+            rescue_out(alloc, wanted, &mut Runs::new(), world)
+        }
+        Reading::Digest { medium } => {
+            let wanted = up_to(medium, LAST_STAMP);
+            rescue_out(alloc, wanted, &mut Digester::new(), world)
         }
         Reading::Targets { medium, at } => rescue_targets(alloc, medium, at, world),
         Reading::Wav(wanted) => rescue_file(alloc, wanted, Wish::Sound, world),

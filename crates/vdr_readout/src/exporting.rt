@@ -108,7 +108,7 @@ fn export<I: Source + Drop, O: Sink + Drop, M: Media + Drop>(
 }
 
 /// Writes the file that is asked for to the output. Memory is taken to open the media, and for the parts of a picture.
-pub fn answer_export<I: Source + Drop, O: Sink + Drop, M: Media + Drop>(
+pub(crate) fn answer_export<I: Source + Drop, O: Sink + Drop, M: Media + Drop>(
     alloc: Global,
     wanted: Wanted<'_>,
     wish: Wish,

@@ -62,7 +62,7 @@ impl Visitor for Printer {
 }
 
 /// Plays what is wanted, and prints each record as it is read. Memory is taken to open the media, and none after that.
-pub fn answer_play<I: Source + Drop, O: Sink + Drop, M: Media + Drop>(
+pub(crate) fn answer_play<I: Source + Drop, O: Sink + Drop, M: Media + Drop>(
     alloc: Global,
     wanted: Wanted<'_>,
     world: &mut World<I, O, M>,

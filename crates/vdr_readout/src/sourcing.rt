@@ -13,7 +13,7 @@ use vdr_recorder::SourceCounter;
 use vdr_terms::LAST_STAMP;
 
 /// Prints the table of sources of a medium's window, or of an incident, behind the last record.
-pub fn answer_sources<I: Source + Drop, O: Sink + Drop, M: Media + Drop>(
+pub(crate) fn answer_sources<I: Source + Drop, O: Sink + Drop, M: Media + Drop>(
     alloc: Global,
     medium: Medium,
     world: &mut World<I, O, M>,

@@ -69,7 +69,7 @@ impl Visitor for Lookout {
 }
 
 /// Prints the table of the ships that the records of a medium's window, or of an incident, report up to this stamp, behind the last record.
-pub fn answer_targets<I: Source + Drop, O: Sink + Drop, M: Media + Drop>(
+pub(crate) fn answer_targets<I: Source + Drop, O: Sink + Drop, M: Media + Drop>(
     alloc: Global,
     medium: Medium,
     at: i64,

@@ -69,7 +69,7 @@ impl Visitor for Watcher {
 }
 
 /// Prints what heartbeats and alarms show of the equipment in the window of a medium, or in an incident.
-pub fn answer_watch<I: Source + Drop, O: Sink + Drop, M: Media + Drop>(
+pub(crate) fn answer_watch<I: Source + Drop, O: Sink + Drop, M: Media + Drop>(
     alloc: Global,
     medium: Medium,
     world: &mut World<I, O, M>,

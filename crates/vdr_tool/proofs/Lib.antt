@@ -16,3 +16,4 @@ pub mod TrialStatuses
 pub mod TrialLemmas
 pub mod TrialRuns
 pub mod WordLemmas
+pub mod Heard

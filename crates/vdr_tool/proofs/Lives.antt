@@ -1,21 +1,22 @@
 -- Media of this product stay so over each command.
 use Rattle.std.specs.Bool.{⊤}
-use Rattle.std.proofs.Common.{◌≡◌, ◌≤◌, ◌⊎◌, inl, inr, ⊎_elim, ℕ, Bool, List, Option, Result, Err, arith}
+use Rattle.std.proofs.Common.{◌≡◌, ◌≤◌, ◌⊎◌, inl, inr, ⊎_elim, ℕ, Bool, List, [], Option, Result, Err, arith}
 use Rattle.vdr_core.specs.Histories.{Event}
 use Rattle.vdr_durability.specs.Keeping.{ShowsPrefix}
 use Rattle.vdr_outside.specs.Disk.{Disk, Durable, Image, Unchanged}
 use Rattle.vdr_opening.specs.Media.{Contents, opening_of}
 use Rattle.vdr_vault.specs.Openings.{LeavesAll}
-use Rattle.vdr_recorder.specs.Headline.{PlaysBack, RecordingHeadline}
+use Rattle.vdr_recorder.specs.Headline.{PlaysBack, ToldHeadline}
+use Rattle.vdr_recorder.specs.Watched.{Watched, nothing_told}
 use Rattle.vdr_replay.specs.Headline.{AccountsForFeed, LeavesHistory, RunEnd}
-use Rattle.vdr_replay.specs.Headline.RunEnd.{Broken}
+use Rattle.vdr_replay.specs.Headline.RunEnd.{Broken, NotStarted}
 use Rattle.vdr_replay.specs.declared.ended.Replayed.{Replayed}
 use Rattle.vdr_replay.specs.declared.ended.ReplayRefused.{ReplayRefused}
 use Rattle.vdr_vault.specs.Ours.{AreOurs, IsOurs, StayOurs}
 use Rattle.vdr_vault.proofs.Ours.{ours_formatted, ours_opened, ours_unchanged}
-use Rattle.vdr_readout.specs.Readings.{Reading as readings}
+use Rattle.vdr_readout.proofs.ReadingLemmas.{reading_plays, rescue_unchanged}
 use Rattle.vdr_tool.specs.Commands.{Asked}
-use Rattle.vdr_tool.specs.Commands.Asked.{Review, Check, Format, Replay, Play, Incidents, Save, Release, Sources, Watch, Targets, Wav, Picture, Trial, Import, Packets, Rescue}
+use Rattle.vdr_tool.specs.Commands.Asked.{Review, Check, Format, Replay, Read, Incidents, Save, Release, Trial, Import, Packets, Rescue}
 use Rattle.vdr_tool.specs.Formats.{FormatEnds, outcome_of}
 use Rattle.vdr_command.specs.Opened.{ContentsKept, IsUnopened, KeepsContents, MediaEnds}
 use Rattle.vdr_tool.specs.Lives.{StartsSynced}
@@ -37,27 +38,28 @@ module _ {tells tells_images : Type 0} where
   Left old new = LeavesAll old new ⊎ ((old.clock ≤ new.clock) × ((image : Image) → new.since old.clock image → old.now image ⊎ IsOurs image))
 
   -- What recorded contents are left as.
-  pub headline_ours : (x : Contents) (Told : List Event → Type 0) (may_pend : Type 0) (old new : Disk tells tells_images) → RecordingHeadline x Told may_pend old new → Left old new
-  headline_ours x Told may_pend old new h = inr (
+  pub headline_ours : (x : Contents) (Told : List Event → Type 0) (may_pend : Type 0) (old new : Disk tells tells_images) (hears : Type 0) (w : Watched) → ToldHeadline x Told may_pend old new hears w → Left old new
+  headline_ours x Told may_pend old new hears w h = inr (
     (let first = h.after_entry in let then = h.before_exit in omega (arith, first, then)),
     λ image left. ⊎_elim (λ now. inl now) (λ (shown : ShowsPrefix (PlaysBack (opening_of x)) h.events 0 image). inr (played_ours x shown.first image shown.shown)) (h.moments.each image left),
   )
 
   kept_ours : (x : Contents) (MayBe : List Event → Type 0) (status : Status) (old new : Disk tells tells_images) → (IsUnopened status × LeavesAll old new) ⊎ KeepsContents x MayBe status old new → Left old new
   kept_ours x MayBe status old new (inl unopened) = inl unopened.1
-  kept_ours x MayBe status old new (inr kept) = headline_ours x (ContentsKept x MayBe status new) ⊤ old new kept
+  kept_ours x MayBe status old new (inr kept) = headline_ours x (ContentsKept x MayBe status new) ⊤ old new ⊥ nothing_told kept
 
-  left_ours : (x : Contents) (rose : Type 0) (old new : Disk tells tells_images) → LeavesHistory x rose old new → Left old new
-  left_ours x rose old new (inl leaves) = inl leaves
-  left_ours x rose old new (inr (feed, end, h)) = headline_ours x (AccountsForFeed x new feed end) ((end ≡ Broken) × rose) old new h
+  left_ours : (x : Contents) (rose : Type 0) (old new : Disk tells tells_images) (hears : Type 0) (w : Watched) → LeavesHistory x rose old new hears w → Left old new
+  left_ours x rose old new hears w (inl (inl leaves)) = inl leaves
+  left_ours x rose old new hears w (inl (inr h)) = headline_ours x (AccountsForFeed x new [] NotStarted) ((NotStarted ≡ Broken) × rose) old new ⊥ nothing_told h
+  left_ours x rose old new hears w (inr (feed, end, h)) = headline_ours x (AccountsForFeed x new feed end) ((end ≡ Broken) × rose) old new hears w h
 
   pub media_lives : {Can : Contents → Type 0} {Met : (m offset : ℕ) → Type 0} {MayBe : List Event → Type 0} (old new : MediaSeen tells tells_images) (status : Status) → MediaEnds Can Met MayBe old new status
       → tells_images → AreOurs old.disk → StayOurs old.disk new.disk
   media_lives {MayBe = MayBe} old new status h told ours = ours_opened old.disk new.disk told ours h.blank
       (λ x t holds meet sound. kept_ours x MayBe status old.disk new.disk (h.kept x t holds meet sound))
 
-  pub replay_lives : (left now : Option (List ℕ)) (old new : MediaSeen tells tells_images) (answer : Result Replayed ReplayRefused) → ReplayEnds left now old new answer → tells_images → AreOurs old.disk → StayOurs old.disk new.disk
-  replay_lives left now old new answer h told ours = ours_opened old.disk new.disk told ours h.blank (λ x t holds meet sound. left_ours x _ old.disk new.disk (h.left x t holds meet sound))
+  pub replay_lives : (left now : Option (List ℕ)) (old new : MediaSeen tells tells_images) (hears : Type 0) (w : Watched) (answer : Result Replayed ReplayRefused) → ReplayEnds left now old new hears w answer → tells_images → AreOurs old.disk → StayOurs old.disk new.disk
+  replay_lives left now old new hears w answer h told ours = ours_opened old.disk new.disk told ours h.blank (λ x t holds meet sound. left_ours x _ old.disk new.disk hears w (h.left x t holds meet sound))
 
   pub format_lives : (again : Bool) (left : Option (List ℕ)) (old new : MediaSeen tells tells_images) (status : Status) → FormatEnds again left old new status → Durable 0 old.disk → AreOurs old.disk → StayOurs old.disk new.disk
   format_lives again left old new status h synced ours = by h.untouched
@@ -89,30 +91,20 @@ module _ {tells tells_images : Type 0} where
       by (inr (inr ran)) = let k = ran.2 told in ran_ours (MediaFailed old new) old.disk new.disk k.1 k.0 status k.3 synced ours
 
   -- What each command that uses the media leaves of them.
-  pub lives_of : (command : Asked) (old new : Outside tells tells_images) (status : Status) → (page command).owes old new status → (page command).uses_media
+  pub lives_of : (command : Asked) (old new : Outside tells tells_images) (hears : Type 0) (w : Watched) (status : Status) → (page command).owes old new hears w status → (page command).uses_media
       → tells_images → StartsSynced command old.media.disk → AreOurs old.media.disk → StayOurs old.media.disk new.media.disk
-  lives_of (Review rate) old new status owed uses told synced ours = absurd uses
-  lives_of Check old new status owed uses told synced ours = absurd uses
-  lives_of Import old new status owed uses told synced ours = absurd uses
-  lives_of Packets old new status owed uses told synced ours = absurd uses
-  lives_of (Rescue (readings.Play asked)) old new status owed uses told synced ours = ours_unchanged old.media.disk new.media.disk owed.media.unchanged ours
-  lives_of (Rescue (readings.Sources medium)) old new status owed uses told synced ours = ours_unchanged old.media.disk new.media.disk owed.media.unchanged ours
-  lives_of (Rescue (readings.Watch medium)) old new status owed uses told synced ours = ours_unchanged old.media.disk new.media.disk owed.media.unchanged ours
-  lives_of (Rescue (readings.Targets medium at)) old new status owed uses told synced ours = ours_unchanged old.media.disk new.media.disk owed.media.unchanged ours
-  lives_of (Rescue (readings.Wav asked)) old new status owed uses told synced ours = ours_unchanged old.media.disk new.media.disk owed.media.unchanged ours
-  lives_of (Rescue (readings.Picture asked block)) old new status owed uses told synced ours = ours_unchanged old.media.disk new.media.disk owed.media.unchanged ours
-  lives_of (Format again) old new status owed uses told synced ours = format_lives again old.input.left old.media new.media status owed.media synced ours
-  lives_of Replay old new status owed uses told synced ours = replay_lives old.input.left new.input.left old.media new.media owed.answer owed.media told ours
-  lives_of (Play asked) old new status owed uses told synced ours = media_lives old.media new.media status owed.media.media told ours
-  lives_of Incidents old new status owed uses told synced ours = media_lives old.media new.media status owed.media told ours
-  lives_of (Save label) old new status owed uses told synced ours = media_lives old.media new.media status owed.media told ours
-  lives_of (Release id) old new status owed uses told synced ours = media_lives old.media new.media status owed.media told ours
-  lives_of (Sources medium) old new status owed uses told synced ours = media_lives old.media new.media status owed.media.media told ours
-  lives_of (Trial seed count) old new status owed uses told synced ours = trial_lives seed count old.media new.media status owed.media (old.media.disk.shown told).0 synced ours
-  lives_of (Watch medium) old new status owed uses told synced ours = media_lives old.media new.media status owed.media.media told ours
-  lives_of (Wav asked) old new status owed uses told synced ours = media_lives old.media new.media status owed.ends.media.media told ours
-  lives_of (Picture asked block) old new status owed uses told synced ours = media_lives old.media new.media status owed.ends.media.media told ours
-  lives_of (Targets medium at) old new status owed uses told synced ours = media_lives old.media new.media status owed.media.media told ours
+  lives_of (Review rate) old new hears w status owed uses told synced ours = absurd uses
+  lives_of Check old new hears w status owed uses told synced ours = absurd uses
+  lives_of Import old new hears w status owed uses told synced ours = absurd uses
+  lives_of Packets old new hears w status owed uses told synced ours = absurd uses
+  lives_of (Rescue reading) old new hears w status owed uses told synced ours = ours_unchanged old.media.disk new.media.disk (rescue_unchanged old new status reading owed) ours
+  lives_of (Format again) old new hears w status owed uses told synced ours = format_lives again old.input.left old.media new.media status owed.media synced ours
+  lives_of Replay old new hears w status owed uses told synced ours = replay_lives old.input.left new.input.left old.media new.media hears w owed.answer owed.media told ours
+  lives_of (Read reading) old new hears w status owed uses told synced ours = media_lives old.media new.media status (reading_plays old new status reading owed).media told ours
+  lives_of Incidents old new hears w status owed uses told synced ours = media_lives old.media new.media status owed.media told ours
+  lives_of (Save label) old new hears w status owed uses told synced ours = media_lives old.media new.media status owed.media told ours
+  lives_of (Release id) old new hears w status owed uses told synced ours = media_lives old.media new.media status owed.media told ours
+  lives_of (Trial seed count) old new hears w status owed uses told synced ours = trial_lives seed count old.media new.media status owed.media (old.media.disk.shown told).0 synced ours
 
   -- Media that no call was made on.
   pub ours_still : (disk : Disk tells tells_images) → AreOurs disk → StayOurs disk disk

@@ -3,6 +3,7 @@ use Rattle.std.specs.Io.KnownBytes.{IsAtEnd}
 use Rattle.std.proofs.Common.{◌≡◌, inl, inr, ℕ, List, Result, Ok, Err, refl, sym, subst, ◌∙◌}
 use Rattle.vdr_outside.specs.declared.media.Media.{Ghosts as MediaTells}
 use Rattle.vdr_outside.specs.declared.source.Source.{Ghosts as SourceTells}
+use Rattle.vdr_recorder.specs.Watched.{Watched}
 use Rattle.vdr_replay.specs.Replays.{ReplaysFeed}
 use Rattle.vdr_replay.specs.declared.ended.FeedEnd.{FeedEnd}
 use Rattle.vdr_replay.specs.declared.ended.FeedEnd.TheVariants as ends
@@ -91,9 +92,9 @@ abbrev pub seen_media : {M : Type 0} (media : MediaTells M) → M → MediaSeen 
 seen_media media m = record { disk = media.disk m; faults = media.faults m; bytes_read = media.bytes_read m }
 
 -- What the recording ensures is what is owed of the media.
-pub replay_ends : {M I : Type 0} (media : MediaTells M) (source : SourceTells I) (old new : M) (before after : I) (answer : Result Replayed ReplayRefused)
-    → ReplaysFeed media source old new before after answer → ReplayEnds (source.left before) (source.left after) (seen_media media old) (seen_media media new) answer
-replay_ends media source old new before after answer told = record {
+pub replay_ends : {M I : Type 0} (media : MediaTells M) (source : SourceTells I) (old new : M) (before after : I) (hears : Type 0) (w : Watched) (answer : Result Replayed ReplayRefused)
+    → ReplaysFeed media source old new before after hears w answer → ReplayEnds (source.left before) (source.left after) (seen_media media old) (seen_media media new) hears w answer
+replay_ends media source old new before after hears w answer told = record {
   recorded = told.replayed;
   left = told.left;
   blank = told.blank;
@@ -109,16 +110,16 @@ replay_ends media source old new before after answer told = record {
   cause = told.cause;
 }
 
-pub replays_so : {tells tells_images : Type 0} (old new : Outside tells tells_images) (status : Status) (answer : Result Replayed ReplayRefused) → OneAnswer old.media.disk.reads
+pub replays_so : {tells tells_images : Type 0} (old new : Outside tells tells_images) (hears : Type 0) (w : Watched) (status : Status) (answer : Result Replayed ReplayRefused) → OneAnswer old.media.disk.reads
     → (status ≡ Done → IsAtEnd new.input.left) → TellsRun answer status old.output new.output → (status ≡ InputFault → InputFailed old.input new.input)
-    → (status ≡ OutputFault → OutputFailed old.output new.output) → ReplayEnds old.input.left new.input.left old.media new.media answer → Replays old new status
-replays_so old new status answer law done told input output media = record {
+    → (status ≡ OutputFault → OutputFailed old.output new.output) → ReplayEnds old.input.left new.input.left old.media new.media hears w answer → Replays old new hears w status
+replays_so old new hears w status answer law done told input output media = record {
   done = done;
   answer = answer;
   told = told;
   input = input;
   output = output;
   media = media;
-  complete = λ none. replays_known old.input.left new.input.left old.media new.media old.output new.output law status answer (λ is. none.input (input is)) (λ is. none.output (output is))
-      (λ is. none.media (replay_fault old.input.left new.input.left old.media new.media old.output new.output status answer told media is)) told media;
+  complete = λ none. replays_known old.input.left new.input.left old.media new.media hears w old.output new.output law status answer (λ is. none.input (input is)) (λ is. none.output (output is))
+      (λ is. none.media (replay_fault old.input.left new.input.left old.media new.media hears w old.output new.output status answer told media is)) told media;
 }

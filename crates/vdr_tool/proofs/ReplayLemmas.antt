@@ -28,6 +28,7 @@ use Rattle.vdr_command.specs.Outside.{MediaFailed, MediaSeen, OutputSeen}
 use Rattle.vdr_command.specs.StatusLine.{Wrote}
 use Rattle.vdr_recorder.specs.Refusals.{MayBegin}
 use Rattle.vdr_tool.specs.Summaries.{summary_text}
+use Rattle.vdr_recorder.specs.Watched.{Watched}
 use Rattle.vdr_tool.specs.Replays.{PrintsRun, ReplayEnds, ReplaysAll, TellsRun}
 use Rattle.vdr_command.specs.Statuses.{status_of_replay}
 use Rattle.vdr_command.specs.declared.status.Status.{Status}
@@ -195,9 +196,9 @@ module _ {tells tells_images : Type 0} (bytes : List ℕ) (now : Option (List �
       subst (λ (s : Status). ReplaysAll bytes old.disk.reads s) (sym prints.0)
       (stopped stop (λ is. input (prints.0 ∙ is)) (λ is. media (prints.0 ∙ is)) header opened unformatted damaged)
 
-  pub replays_all : (status : Status) (answer : Result Replayed ReplayRefused) → (status ≡ InputFault → ⊥) → (status ≡ OutputFault → ⊥) → (status ≡ MediaFault → ⊥)
-      → TellsRun answer status was next → ReplayEnds (Some bytes) now old new answer → ReplaysAll bytes old.disk.reads status
-  replays_all status answer input output media tells_it ends =
+  pub replays_all : (hears : Type 0) (w : Watched) (status : Status) (answer : Result Replayed ReplayRefused) → (status ≡ InputFault → ⊥) → (status ≡ OutputFault → ⊥) → (status ≡ MediaFault → ⊥)
+      → TellsRun answer status was next → ReplayEnds (Some bytes) now old new hears w answer → ReplaysAll bytes old.disk.reads status
+  replays_all hears w status answer input output media tells_it ends =
       by_answer status answer input output media tells_it ends.header (ends.openable told) ends.unformatted ends.damaged
 
 -- The media's fault has its cause.
@@ -221,9 +222,9 @@ fault_of_answer : (was next : OutputSeen) (answer : Result Replayed ReplayRefuse
 fault_of_answer was next (Ok run) status prints is = absurd (no_media_fault was next run.end (summary_text run.groups run.records) status prints is)
 fault_of_answer was next (Err stop) status prints is = stop_at_fault stop (sym prints.0 ∙ is)
 
-pub replay_fault : {tells tells_images : Type 0} (left now : Option (List ℕ)) (old new : MediaSeen tells tells_images) (was next : OutputSeen) (status : Status) (answer : Result Replayed ReplayRefused)
-    → TellsRun answer status was next → ReplayEnds left now old new answer → status ≡ MediaFault → MediaFailed old new
-replay_fault left now old new was next status answer told ends is = ends.cause.in_all (fault_of_answer was next answer status told is)
+pub replay_fault : {tells tells_images : Type 0} (left now : Option (List ℕ)) (old new : MediaSeen tells tells_images) (hears : Type 0) (w : Watched) (was next : OutputSeen) (status : Status) (answer : Result Replayed ReplayRefused)
+    → TellsRun answer status was next → ReplayEnds left now old new hears w answer → status ≡ MediaFault → MediaFailed old new
+replay_fault left now old new hears w was next status answer told ends is = ends.cause.in_all (fault_of_answer was next answer status told is)
 
 -- What a print has written.
 pub wrote_of : {T E : Type 0} (r : Result T E) (text : List ℕ) (old new : Option (List ℕ)) (before now : ℕ) → OnOk r (Appends old new text) → AppendsFront old new text → HasCause before now r
@@ -231,8 +232,8 @@ pub wrote_of : {T E : Type 0} (r : Result T E) (text : List ℕ) (old new : Opti
 wrote_of (Ok x) text old new before now all front cause = record { front = front; all = inl all; later = cause.later }
 wrote_of (Err e) text old new before now all front cause = record { front = front; all = inr cause.failed; later = cause.later }
 
-pub replays_known : {tells tells_images : Type 0} (left now : Option (List ℕ)) (old new : MediaSeen tells tells_images) (was next : OutputSeen) → OneAnswer old.disk.reads → (status : Status) (answer : Result Replayed ReplayRefused)
-    → (status ≡ InputFault → ⊥) → (status ≡ OutputFault → ⊥) → (status ≡ MediaFault → ⊥) → TellsRun answer status was next → ReplayEnds left now old new answer
+pub replays_known : {tells tells_images : Type 0} (left now : Option (List ℕ)) (old new : MediaSeen tells tells_images) (hears : Type 0) (w : Watched) (was next : OutputSeen) → OneAnswer old.disk.reads → (status : Status) (answer : Result Replayed ReplayRefused)
+    → (status ≡ InputFault → ⊥) → (status ≡ OutputFault → ⊥) → (status ≡ MediaFault → ⊥) → TellsRun answer status was next → ReplayEnds left now old new hears w answer
     → IfKnown left (λ bytes. tells → ReplaysAll bytes old.disk.reads status)
-replays_known None now old new was next law status answer input output media told_it ends = tt
-replays_known (Some bytes) now old new was next law status answer input output media told_it ends = λ told. replays_all bytes now old new was next told law status answer input output media told_it ends
+replays_known None now old new hears w was next law status answer input output media told_it ends = tt
+replays_known (Some bytes) now old new hears w was next law status answer input output media told_it ends = λ told. replays_all bytes now old new was next told law hears w status answer input output media told_it ends

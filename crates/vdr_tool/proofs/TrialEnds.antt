@@ -1,6 +1,7 @@
 -- How a trial ends, by how its parts did.
 use Rattle.std.specs.Prelude.{◌<◌, ◌^◌, Bool, filter, IfOk, sum}
 use Rattle.std.proofs.Common.{◌≡◌, ◌≤◌, ◌⊎◌, inl, inr, ⊎_elim, ℕ, false, List, [], ◌∷◌, length, Some, Result, Ok, Err, refl, sym, ap, subst, ◌∙◌, Contains, Option, None, arith}
+use Rattle.vdr_recorder.specs.Watched.{nothing_told}
 use Rattle.vdr_terms.specs.Records.{FeedItem, Record, last, second}
 use Rattle.std.proofs.lemmas.List.Sums.{count_by-le-length, length-filter}
 use Rattle.vdr_terms.specs.Queries.{matches}
@@ -220,20 +221,20 @@ module _ {tells tells_images : Type 0} (seed count : ℕ) where
 
   -- The run was closed, and the media were opened again.
   module _ (old mid late new : MediaSeen tells tells_images) (ends : FormatEnds false (Some bench_text) old mid Done) (rose : Type 0) where
-    closed_so : tells → ReplayHeadline fresh rose mid.disk late.disk (trial_items seed count) Closed → RanOn rose mid.disk late.disk (trial_items seed count) Closed
+    closed_so : tells → ReplayHeadline fresh rose mid.disk late.disk ⊥ nothing_told (trial_items seed count) Closed → RanOn rose mid.disk late.disk (trial_items seed count) Closed
     closed_so told h = ran_on rose mid.disk late.disk (trial_items seed count) Closed (empty_read old mid ends told) h
 
-    life_so : (told : tells) (h : ReplayHeadline fresh rose mid.disk late.disk (trial_items seed count) Closed) → Lives (closed_so told h).events late.disk.reads
+    life_so : (told : tells) (h : ReplayHeadline fresh rose mid.disk late.disk ⊥ nothing_told (trial_items seed count) Closed) → Lives (closed_so told h).events late.disk.reads
     unfolding closed_so
     life_so told h = lived_all rose mid.disk late.disk (trial_items seed count) (empty_read old mid ends told) h told
 
-    holds_so : (told : tells) (h : ReplayHeadline fresh rose mid.disk late.disk (trial_items seed count) Closed) → LifeHolds bench bench_text late.disk.reads
+    holds_so : (told : tells) (h : ReplayHeadline fresh rose mid.disk late.disk ⊥ nothing_told (trial_items seed count) Closed) → LifeHolds bench bench_text late.disk.reads
     holds_so told h = life_holds bench bench_text (closed_so told h).events late.disk.reads (life_so told h)
 
     abbrev pub Counts : Result Windows Status → Type 0
     Counts result = (x : Contents) → tells → HoldsContents late.disk.reads x → EndsMeet members (reading_of x) → AreSound x → CountsWindows x late.disk new.disk result
 
-    left_closed : (result : Result Windows Status) (s : Status) (told : tells) (h : ReplayHeadline fresh rose mid.disk late.disk (trial_items seed count) Closed) → IsAfterRun s
+    left_closed : (result : Result Windows Status) (s : Status) (told : tells) (h : ReplayHeadline fresh rose mid.disk late.disk ⊥ nothing_told (trial_items seed count) Closed) → IsAfterRun s
         → (c : CountsWindows (holds_so told h).contents late.disk new.disk result) → (IsWorkDone s → ShowsHistory (opening_of (holds_so told h).contents) [] new.disk.reads)
         → (end : RunEnd) × (items : List FeedItem) × ComesTo seed count end items s × LeavesRun (MediaFailed old new) old.disk new.disk items end s
     left_closed result s told h after c shows =
@@ -244,16 +245,16 @@ module _ {tells tells_images : Type 0} (seed count : ℕ) where
       where
         joined_closed : (r : RanOn rose mid.disk new.disk (trial_items seed count) Closed) → (IsWorkDone s → Lives r.events new.disk.reads) → LeavesRun (MediaFailed old new) old.disk new.disk (trial_items seed count) Closed s
         joined_closed r reads = joined old mid ends ⊥ (MediaFailed old new) new.disk (trial_items seed count) Closed s (λ none. absurd none)
-            (told_as (opening_of fresh) Lives Lives (RecordsItems (trial_items seed count) Closed) (RecordsItems (trial_items seed count) Closed) ((Closed ≡ Broken) × rose) ((Closed ≡ Broken) × ⊥) mid.disk new.disk r
-            (λ first rest split image shown. shown) (λ told. told) (λ (b : (Closed ≡ Broken) × rose). let clash = b.0 in let none : ⊥ = cc in absurd none))
+            (told_as (opening_of fresh) Lives Lives (RecordsItems (trial_items seed count) Closed) (RecordsItems (trial_items seed count) Closed) ((Closed ≡ Broken) × rose) ((Closed ≡ Broken) × ⊥) mid.disk new.disk ⊥ ⊥ nothing_told nothing_told r
+            (λ first rest split image shown. shown) (λ told. told) (λ (b : (Closed ≡ Broken) × rose). let clash = b.0 in let none : ⊥ = cc in absurd none) (λ none. absurd none))
             reads
 
-    counted_at : (result : Result Windows Status) → Counts result → (told : tells) (h : ReplayHeadline fresh rose mid.disk late.disk (trial_items seed count) Closed) → CountsWindows (holds_so told h).contents late.disk new.disk result
+    counted_at : (result : Result Windows Status) → Counts result → (told : tells) (h : ReplayHeadline fresh rose mid.disk late.disk ⊥ nothing_told (trial_items seed count) Closed) → CountsWindows (holds_so told h).contents late.disk new.disk result
     counted_at result counts told h = let l = holds_so told h in counts l.contents told l.holds l.meet l.sound
 
     -- Opening them, or counting, stopped.
     pub count_stops_as : (result : Result Windows Status) (s : Status) → result ≡ Err s → IsRunStatus s → (s ≡ MediaFault → MediaFailed old new) → (tells → SameElsewhere mid.disk.reads new.disk.reads)
-        → (tells → ReplayHeadline fresh rose mid.disk late.disk (trial_items seed count) Closed) → Counts result → TrialEnds seed count old new s
+        → (tells → ReplayHeadline fresh rose mid.disk late.disk ⊥ nothing_told (trial_items seed count) Closed) → Counts result → TrialEnds seed count old new s
     count_stops_as result s is stop fault same run counts = stopped_as old mid new ends s stop fault
         (λ other told. own_not_other s (own told) other) same
         (λ told. left_closed result s told (run told) (own_after s (own told)) (counted_at result counts told (run told)) (λ done. stop_undone s (run_trial s stop) done))
@@ -263,11 +264,11 @@ module _ {tells tells_images : Type 0} (seed count : ℕ) where
 
     -- All was counted.
     pub counts_as : (result : Result Windows Status) (n : Windows) → result ≡ Ok n → (tells → SameElsewhere mid.disk.reads new.disk.reads)
-        → (tells → ReplayHeadline fresh rose mid.disk late.disk (trial_items seed count) Closed) → Counts result → TrialEnds seed count old new Done
+        → (tells → ReplayHeadline fresh rose mid.disk late.disk ⊥ nothing_told (trial_items seed count) Closed) → Counts result → TrialEnds seed count old new Done
     counts_as result n is same run counts = done_as old mid new ends same
         (λ told. left_closed result Done told (run told) tt (counted_at result counts told (run told)) (λ done. (counted result n is counts told (run told)).0))
       where
-        counted : (result : Result Windows Status) (n : Windows) → result ≡ Ok n → (counts : Counts result) (told : tells) (h : ReplayHeadline fresh rose mid.disk late.disk (trial_items seed count) Closed)
+        counted : (result : Result Windows Status) (n : Windows) → result ≡ Ok n → (counts : Counts result) (told : tells) (h : ReplayHeadline fresh rose mid.disk late.disk ⊥ nothing_told (trial_items seed count) Closed)
             → ShowsHistory (opening_of (holds_so told h).contents) [] new.disk.reads
             × (n.capsule ≡ as_u64 (window_count 0 (window_of (holds_so told h).contents.config 0) ((opening_of (holds_so told h).contents).records 0)))
             × (n.long_term ≡ as_u64 (window_count 1 (window_of (holds_so told h).contents.config 1) ((opening_of (holds_so told h).contents).records 1)))

@@ -4,6 +4,7 @@ use Rattle.std.proofs.Common.{◌≡◌, ◌≢◌, ◌≤◌, ◌⊎◌, inl, i
 use Rattle.std.specs.Str.{is_utf8, chars}
 use Rattle.std.proofs.lemmas.List.Elements.{All-head, All-tail}
 use Rattle.serde_json.proofs.OnLiterals.{serde_json_on_literals}
+use Rattle.vdr_recorder.specs.Watched.{nothing_told}
 use Rattle.vdr_terms.specs.Records.{FeedItem}
 use Rattle.vdr_core.specs.Histories.{Event, recorded}
 use Rattle.vdr_durability.specs.Keeping.{IsWhole, ShowsOn, ShowsPrefix}
@@ -44,7 +45,7 @@ use Rattle.vdr_tool.specs.Formats.{FormatEnds, status_of}
 use Rattle.vdr_tool.specs.TrialParts.{IsBenchStatus}
 use Rattle.vdr_tool.specs.Trials.{LeavesRun, bench, bench_text, first_run, fresh}
 use Rattle.vdr_tool.proofs.FormatLemmas.{one_configuration}
-use Rattle.vdr_tool.proofs.LifeGoesOn.{played_so}
+use Rattle.vdr_recorder.proofs.GoingOn.{played_so}
 
 -- The text is that configuration.
 pub bench_reads : configuration bench_text ≡ Ok bench
@@ -119,20 +120,20 @@ module _ {tells tells_images : Type 0} where
 
   -- A run on media that were just formatted, from the moment at which it began.
   abbrev pub RanOn : (rose : Type 0) → (mid late : Disk tells tells_images) → List FeedItem → RunEnd → Type 0
-  RanOn rose mid late items end = Headline (opening_of fresh) Lives (RecordsItems items end) ((end ≡ Broken) × rose) mid late
+  RanOn rose mid late items end = Headline (opening_of fresh) Lives (RecordsItems items end) ((end ≡ Broken) × rose) mid late ⊥ nothing_told
 
-  pub lived : (rose : Type 0) (mid late : Disk tells tells_images) (items : List FeedItem) (end : RunEnd) → IsEmpty mid.reads → (h : ReplayHeadline fresh rose mid late items end)
+  pub lived : (rose : Type 0) (mid late : Disk tells tells_images) (items : List FeedItem) (end : RunEnd) → IsEmpty mid.reads → (h : ReplayHeadline fresh rose mid late ⊥ nothing_told items end)
       → (first rest : List Event) → h.events ≡ first ++ rest → (image : Image) → PlaysBack (opening_of fresh) first image → Lives first image
   lived rose mid late items end empty h first rest split image p =
       ran [] mid.reads image fresh first (formatted mid.reads empty) (empty_holds mid.reads bench bench_text empty)
       (run_front fresh first rest h.events split (run_in_order fresh h.events h.history.follow h.order)) (played_so fresh first image p)
 
-  pub ran_on : (rose : Type 0) (mid late : Disk tells tells_images) (items : List FeedItem) (end : RunEnd) → IsEmpty mid.reads → ReplayHeadline fresh rose mid late items end → RanOn rose mid late items end
+  pub ran_on : (rose : Type 0) (mid late : Disk tells tells_images) (items : List FeedItem) (end : RunEnd) → IsEmpty mid.reads → ReplayHeadline fresh rose mid late ⊥ nothing_told items end → RanOn rose mid late items end
   ran_on rose mid late items end empty h =
-      told_as (opening_of fresh) (PlaysBack (opening_of fresh)) Lives (AccountsForFeed fresh late items end) (RecordsItems items end) ((end ≡ Broken) × rose) ((end ≡ Broken) × rose) mid late h
-      (lived rose mid late items end empty h) (λ told. record { records = told.records; accounts = told.accounts }) (λ p. p)
+      told_as (opening_of fresh) (PlaysBack (opening_of fresh)) Lives (AccountsForFeed fresh late items end) (RecordsItems items end) ((end ≡ Broken) × rose) ((end ≡ Broken) × rose) mid late ⊥ ⊥ nothing_told nothing_told h
+      (lived rose mid late items end empty h) (λ told. record { records = told.records; accounts = told.accounts }) (λ p. p) (λ none. absurd none)
 
-  pub lived_all : (rose : Type 0) (mid late : Disk tells tells_images) (items : List FeedItem) (empty : IsEmpty mid.reads) → (h : ReplayHeadline fresh rose mid late items Closed) → tells
+  pub lived_all : (rose : Type 0) (mid late : Disk tells tells_images) (items : List FeedItem) (empty : IsEmpty mid.reads) → (h : ReplayHeadline fresh rose mid late ⊥ nothing_told items Closed) → tells
       → Lives (ran_on rose mid late items Closed empty h).events late.reads
   unfolding ran_on
   lived_all rose mid late items empty h told = lived rose mid late items Closed empty h h.events [] (sym (append-nil h.events)) late.reads (h.told.reads told refl)
@@ -155,6 +156,7 @@ module _ {tells tells_images : Type 0} where
       prefixes = λ t image start end left. record { first = []; rest = []; split = refl; enough = omega arith; shown = formatted image (empty image (leaves.each image (late.earlier mid.clock t image start left))) };
       now = λ whole image now. formatted image (empty image (now_after mid late (λ image. mid.now image) leaves image now));
     };
+    heard = λ none. absurd none;
   }
 
   pub nothing_ran : (rose : Type 0) (mid late : Disk tells tells_images) → IsEmpty mid.reads → ((image : Image) → mid.now image → IsEmpty image) → NothingIsRecorded fresh rose mid late → RanOn rose mid late [] NotStarted
@@ -192,6 +194,7 @@ module _ {tells tells_images : Type 0} where
       after_entry = r.after_entry;
       before_exit = let exit = r.before_exit in let later = moments.later in omega (arith, exit, later);
       kept = keeps_on Lives r.events r.synced late new all_whole goes_on r.kept;
+      heard = λ none. absurd none;
     }
 
   pub reopened_shows : (rose : Type 0) (mid late new : Disk tells tells_images) (items : List FeedItem) (r : RanOn rose mid late items Closed) (x : Contents) (life : Lives r.events late.reads)

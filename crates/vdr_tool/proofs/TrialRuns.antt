@@ -2,6 +2,7 @@
 use Rattle.std.proofs.Common.{◌≡◌, ◌+◌, inl, inr, ⊎_elim, ℕ, zero, suc, List, [], length, Option, Some, None, Result, Err, refl, ap, subst, ◌∙◌, arith}
 use Rattle.std.specs.Prelude.{slice_index_or}
 use Rattle.std.proofs.lemmas.List.Elements.{All-cons, All-nil}
+use Rattle.vdr_recorder.specs.Watched.{nothing_told}
 use Rattle.vdr_terms.specs.Records.{FeedItem}
 use Rattle.vdr_core.specs.Feed.{feed_records, items_of}
 use Rattle.vdr_core.specs.Runs.{base_after}
@@ -41,7 +42,7 @@ configured (suc n) state index =
 module _ {tells tells_images : Type 0} (seed count : ℕ) (rose : Type 0) (old new : Disk tells tells_images) (whole : IsFeed longest_feed (generated_feed seed count) (trial_items seed count)) where
   -- The run was not closed.
   pub run_stopped : OneAnswer old.reads → HoldsContents old.reads fresh → (now : Option (List ℕ)) (stop : ReplayRefused)
-      → Answers fresh (generated_feed seed count) now rose old new (Err stop) → TellsHeader (Some (generated_feed seed count)) now (Err stop)
+      → Answers fresh (generated_feed seed count) now rose old new ⊥ nothing_told (Err stop) → TellsHeader (Some (generated_feed seed count)) now (Err stop)
       → (◌≡◌ {A = Result Replayed ReplayRefused} (Err stop) (Err stops.Input) → ⊥)
       → (◌≡◌ {A = Result Replayed ReplayRefused} (Err stop) (Err stops.NotFormatted) → IsUnformatted old.reads)
       → ((m offset : ℕ) → ◌≡◌ {A = Result Replayed ReplayRefused} (Err stop) (Err (stops.Damaged m offset)) → IsFormatted old.reads × IsRefused old.reads m offset)
@@ -61,20 +62,20 @@ module _ {tells tells_images : Type 0} (seed count : ℕ) (rose : Type 0) (old n
       (answers (empty_meet bench bench_text))
 
   -- The run was closed over all items.
-  pub run_whole : OneFeed → (now : Option (List ℕ)) (r : Replayed) → IsRecorded fresh (generated_feed seed count) now rose old new r → r.end ≡ ends.Whole
+  pub run_whole : OneFeed → (now : Option (List ℕ)) (r : Replayed) → IsRecorded fresh (generated_feed seed count) now rose old new ⊥ nothing_told r → r.end ≡ ends.Whole
       → (sums : GroupSums) → ((told : GroupSums) → slice_index_or r.groups 3 None ≡ Some told → sums ≡ told)
-      → (sums ≡ trial_sums seed count) × (r.records ≡ length (trial_records seed count)) × ReplayHeadline fresh rose old new (trial_items seed count) Closed
+      → (sums ≡ trial_sums seed count) × (r.records ≡ length (trial_records seed count)) × ReplayHeadline fresh rose old new ⊥ nothing_told (trial_items seed count) Closed
   unfolding trial_sums trial_records
   run_whole one now r h is sums given =
       let read : IsFeed longest_feed (generated_feed seed count) h.feed = subst (λ (e : FeedEnd). ReadsFeed bench.groups (generated_feed seed count) now e h.feed) is h.read in
       let same : h.feed ≡ trial_items seed count = one longest_feed (generated_feed seed count) h.feed (trial_items seed count) read whole in (
         given (sums_of 3 (items_of 3 h.feed) (feed_records first_run h.feed)) (h.sums.each 3 (omega arith)) ∙ ap (λ (f : List FeedItem). sums_of 3 (items_of 3 f) (feed_records first_run f)) same,
         h.total ∙ ap (λ (f : List FeedItem). length (feed_records first_run f)) same,
-        subst (λ (f : List FeedItem). ReplayHeadline fresh rose old new f Closed) same h.left,
+        subst (λ (f : List FeedItem). ReplayHeadline fresh rose old new ⊥ nothing_told f Closed) same h.left,
       )
 
   -- It is not refused.
-  pub run_refused : (now : Option (List ℕ)) (r : Replayed) → IsRecorded fresh (generated_feed seed count) now rose old new r → (number offset : ℕ) → r.end ≡ ends.Refused number offset → ⊥
+  pub run_refused : (now : Option (List ℕ)) (r : Replayed) → IsRecorded fresh (generated_feed seed count) now rose old new ⊥ nothing_told r → (number offset : ℕ) → r.end ≡ ends.Refused number offset → ⊥
   run_refused now r h number offset is =
       not_refused bench.groups (generated_feed seed count) number offset (trial_items seed count) h.feed (configured count seed 0) h.configured whole
       (subst (λ (e : FeedEnd). ReadsFeed bench.groups (generated_feed seed count) now e h.feed) is h.read)

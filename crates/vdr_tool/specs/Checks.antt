@@ -49,5 +49,5 @@ checking = record {
   legal = ⊤;
   reads_input = ⊤;
   uses_media = ⊥;
-  owes = λ old new status. Checks old new status;
+  owes = λ old new hears w status. Checks old new status;
 }

@@ -113,5 +113,5 @@ formatting again = record {
   legal = ⊤;
   reads_input = ⊤;
   uses_media = ⊤;
-  owes = λ old new status. Formats again old new status;
+  owes = λ old new hears w status. Formats again old new status;
 }

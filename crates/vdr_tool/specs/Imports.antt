@@ -28,5 +28,5 @@ importing = record {
   legal = ⊤;
   reads_input = ⊤;
   uses_media = ⊥;
-  owes = λ old new status. Imports old new status;
+  owes = λ old new hears w status. Imports old new status;
 }

@@ -34,5 +34,5 @@ counting_packets = record {
   legal = ⊤;
   reads_input = ⊤;
   uses_media = ⊥;
-  owes = λ old new status. CountsPackets old new status;
+  owes = λ old new hears w status. CountsPackets old new status;
 }

@@ -7,7 +7,9 @@ use Rattle.vdr_outside.specs.Disk.{Image}
 use Rattle.vdr_incident.specs.declared.refused.ReleaseRefused.{ReleaseRefused}
 use Rattle.vdr_incident.specs.declared.refused.ReleaseRefused.TheVariants as releases
 use Rattle.vdr_opening.specs.Media.{members, Contents, HoldsContents, reading_of}
-use Rattle.vdr_command.specs.Endings.{IsDone}
+use Rattle.vdr_recorder.specs.Watched.{IsToldOnce, Watched}
+use Rattle.vdr_recorder.specs.Watched.PlainTurn.{Release as ARelease}
+use Rattle.vdr_command.specs.Endings.{IsDone, IsWorkDone}
 use Rattle.vdr_command.specs.Opened.{AddsMissing, IfNoIncident, IsOpenableWith, IsUnbegun, MayLeave, MediaEnds, RefusesAll}
 use Rattle.vdr_command.specs.Outside.{NothingFailed, Outside}
 use Rattle.vdr_command.specs.Promises.{Promise}
@@ -45,8 +47,8 @@ pub record ReleasesAll (id : ℕ) (image : Image) (status : Status) : Type 0 whe
       → (status ≡ NoIncident id) ⊎ (status ≡ NoMemory)
   pub done : (x : Contents) → HoldsContents image x → EndsMeet members (reading_of x) → CanRelease id x → IsDone status
 
--- What `release` owes. It prints nothing.
-pub record Releases {tells tells_images : Type 0} (id : ℕ) (old new : Outside tells tells_images) (status : Status) : Type 0 where
+-- What `release` owes. It prints nothing. `w`: what an object was told meanwhile, where it `hears` anything.
+pub record Releases {tells tells_images : Type 0} (id : ℕ) (old new : Outside tells tells_images) (hears : Type 0) (w : Watched) (status : Status) : Type 0 where
   pub own : IsReleaseStatus status
   -- the refusal comes only with its cause
   pub no_incident : IfNoIncident status (λ told. (told ≡ id) × (tells → IsOpenableWith old.media.disk.reads (λ x. live x.table id ≡ None)))
@@ -54,6 +56,8 @@ pub record Releases {tells tells_images : Type 0} (id : ℕ) (old new : Outside 
   -- the media, and what is said of them
   pub media : MediaEnds (CanRelease id) (λ m offset. ⊥) (MayLeave (ReleasesId id) new.media.disk.clock status) old.media new.media status
   pub missing : IsUnbegun status → AddsMissing old.media.disk new.media.disk
+  -- where the work was done, an object outside was told of the release once all images showed it
+  pub heard : IsWorkDone status → hears → IsToldOnce old.media.disk new.media.disk (ARelease id) w
   -- nothing else comes in the place of the release, or of a refusal, but want of memory
   pub complete : NothingFailed old new → tells → ReleasesAll id old.media.disk.reads status
 
@@ -63,5 +67,5 @@ releasing id = record {
   legal = (1 ≤ id) × (id ≤ 32);
   reads_input = ⊥;
   uses_media = ⊤;
-  owes = λ old new status. Releases id old new status;
+  owes = λ old new hears w status. Releases id old new hears w status;
 }

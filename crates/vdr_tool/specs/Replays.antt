@@ -25,6 +25,7 @@ use Rattle.vdr_command.specs.Opened.{AddsMissing, IsOpenableWith, IsUntouched, W
 use Rattle.vdr_command.specs.Outside.{AreLeftAlone, InputFailed, MediaFailed, MediaSeen, NothingFailed, OutputFailed, OutputSeen, Outside, Prints, PrintsFront, Writes}
 use Rattle.vdr_command.specs.Promises.{Promise}
 use Rattle.vdr_recorder.specs.Refusals.{MayBegin}
+use Rattle.vdr_recorder.specs.Watched.{Watched}
 use Rattle.vdr_tool.specs.Summaries.{summary_text}
 use Rattle.vdr_command.specs.Statuses.{status_of_replay}
 use Rattle.vdr_command.specs.declared.status.Status.{Status}
@@ -44,12 +45,12 @@ TellsRun (Ok run) status old new = PrintsRun run.end (summary_text run.groups ru
 TellsRun (Err stop) status old new = (status ≡ status_of_replay stop) × (new ≡ old)
 
 -- What the answer says of the input and of the media at entry, and what the input and the media are afterwards.
-pub record ReplayEnds {tells tells_images : Type 0} (input now : Option (List ℕ)) (old new : MediaSeen tells tells_images) (answer : Result Replayed ReplayRefused) : Type 0 where
+pub record ReplayEnds {tells tells_images : Type 0} (input now : Option (List ℕ)) (old new : MediaSeen tells tells_images) (hears : Type 0) (w : Watched) (answer : Result Replayed ReplayRefused) : Type 0 where
   -- one history of the feed, whole and at every moment
   pub recorded : (x : Contents) (bytes : List ℕ) → tells → HoldsContents old.disk.reads x → WasRecorded x → input ≡ Some bytes
-      → Answers x bytes now (MediaFailed old new) old.disk new.disk answer
+      → Answers x bytes now (MediaFailed old new) old.disk new.disk hears w answer
   -- and whatever is known of the input, one history of some feed
-  pub left : (x : Contents) → tells → HoldsContents old.disk.reads x → EndsMeet members (reading_of x) → WasRecorded x → LeavesHistory x (MediaFailed old new) old.disk new.disk
+  pub left : (x : Contents) → tells → HoldsContents old.disk.reads x → EndsMeet members (reading_of x) → WasRecorded x → LeavesHistory x (MediaFailed old new) old.disk new.disk hears w
   pub blank : tells → IsUnformatted old.disk.reads → LeavesAll old.disk new.disk
   -- a header that is refused, or can't be read, leaves the media alone, and media that are refused are not written
   pub unopened : EndsAtHeader answer → AreLeftAlone old new
@@ -79,8 +80,8 @@ pub record ReplaysAll (bytes : List ℕ) (image : Image) (status : Status) : Typ
   pub done : (x : Contents) (feed : List FeedItem) → HoldsContents image x → EndsMeet members (reading_of x) → MayBegin (opening_of x)
       → IsFeed longest_feed bytes feed → AreConfigured x.config.groups feed → IsDone status
 
--- What `replay` owes.
-pub record Replays {tells tells_images : Type 0} (old new : Outside tells tells_images) (status : Status) : Type 0 where
+-- What `replay` owes. `w`: what an object was told meanwhile, where it `hears` anything.
+pub record Replays {tells tells_images : Type 0} (old new : Outside tells tells_images) (hears : Type 0) (w : Watched) (status : Status) : Type 0 where
   -- all was done: the input was read to its end
   pub done : status ≡ Done → IsAtEnd new.input.left
   -- how the recording ended, as status and output tell it
@@ -90,7 +91,7 @@ pub record Replays {tells tells_images : Type 0} (old new : Outside tells tells_
   pub input : status ≡ InputFault → InputFailed old.input new.input
   pub output : status ≡ OutputFault → OutputFailed old.output new.output
   -- the media, and what is said of them
-  pub media : ReplayEnds old.input.left new.input.left old.media new.media answer
+  pub media : ReplayEnds old.input.left new.input.left old.media new.media hears w answer
   -- nothing else comes in the place of the recording, or of a refusal, but want of memory
   pub complete : NothingFailed old new → IfKnown old.input.left (λ bytes. tells → ReplaysAll bytes old.media.disk.reads status)
 
@@ -100,5 +101,5 @@ replaying = record {
   legal = ⊤;
   reads_input = ⊤;
   uses_media = ⊤;
-  owes = λ old new status. Replays old new status;
+  owes = λ old new hears w status. Replays old new hears w status;
 }

@@ -55,5 +55,5 @@ reviewing rate = record {
   legal = IfSome rate IsRate;
   reads_input = ⊤;
   uses_media = ⊥;
-  owes = λ old new status. Reviews rate old new status;
+  owes = λ old new hears w status. Reviews rate old new status;
 }

@@ -3,25 +3,21 @@ use Rattle.std.specs.Prelude.{◌≡◌, ◌≤◌, ◌⊎◌, ℕ, List, String
 use Rattle.std.specs.declared.alloc.Global.{Global}
 use Rattle.vdr_tool.specs.Checks.{checking}
 use Rattle.vdr_tool.specs.Commands.{Asked}
-use Rattle.vdr_tool.specs.Commands.Asked.{Review, Check, Format, Replay, Play, Incidents, Save, Release, Sources, Watch, Targets, Wav, Picture, Trial, Import, Packets, Rescue}
+use Rattle.vdr_tool.specs.Commands.Asked.{Review, Check, Format, Replay, Read, Incidents, Save, Release, Trial, Import, Packets, Rescue}
 use Rattle.vdr_command.specs.Endings.{WritesLine}
 use Rattle.vdr_tool.specs.Formats.{formatting}
 use Rattle.vdr_tool.specs.Imports.{importing}
 use Rattle.vdr_tool.specs.Packets.{counting_packets}
 use Rattle.vdr_readout.specs.Incidents.{listing}
 use Rattle.vdr_command.specs.Outside.{OutputSeen, Outside}
-use Rattle.vdr_readout.specs.Plays.{playing}
-use Rattle.vdr_readout.specs.Readings.{rescuing}
+use Rattle.vdr_readout.specs.Readings.{reading_out, rescuing}
 use Rattle.vdr_command.specs.Promises.{Promise}
+use Rattle.vdr_recorder.specs.Watched.{Watched}
 use Rattle.vdr_tool.specs.Releases.{releasing}
 use Rattle.vdr_tool.specs.Replays.{replaying}
 use Rattle.vdr_tool.specs.Reviews.{reviewing}
 use Rattle.vdr_tool.specs.Saves.{saving}
-use Rattle.vdr_readout.specs.Sources.{sourcing}
-use Rattle.vdr_readout.specs.Watches.{watching}
-use Rattle.vdr_readout.specs.Exports.{picturing, sounding}
 use Rattle.vdr_tool.specs.Trials.{trying}
-use Rattle.vdr_readout.specs.Targets.{targeting}
 use Rattle.vdr_command.specs.declared.status.Status.{Status}
 use Rattle.vdr_command.specs.declared.status.Status.TheVariants.{Words}
 
@@ -30,16 +26,11 @@ page (Review rate) = reviewing rate
 page Check = checking
 page (Format again) = formatting again
 page Replay = replaying
-page (Play asked) = playing asked
+page (Read reading) = reading_out reading
 page Incidents = listing
 page (Save label) = saving label
 page (Release id) = releasing id
-page (Sources medium) = sourcing medium
-page (Watch medium) = watching medium
-page (Wav asked) = sounding asked
-page (Picture asked block) = picturing asked block
 page (Trial seed count) = trying seed count
-page (Targets medium at) = targeting medium at
 page Import = importing
 page Packets = counting_packets
 page (Rescue reading) = rescuing reading
@@ -63,16 +54,16 @@ pub record TouchesAsked {I M : Type 0} (words : List (String Global)) (input now
 
 module _ {tells tells_images : Type 0} where
   -- The command did what it owes, and then the line of its status was written.
-  pub record Ends (command : Asked) (old new : Outside tells tells_images) (status : Status) : Type 0 where
+  pub record Ends (command : Asked) (old new : Outside tells tells_images) (hears : Type 0) (w : Watched) (status : Status) : Type 0 where
     pub between : OutputSeen
-    pub owed : (page command).owes old (record { input = new.input; output = between; media = new.media }) status
+    pub owed : (page command).owes old (record { input = new.input; output = between; media = new.media }) hears w status
     pub line : WritesLine status between new.output
     pub later : (old.output.faults ≤ between.faults) × (between.faults ≤ new.output.faults)
 
-  -- What the program owes for its words.
-  pub record Runs (words : List (String Global)) (old new : Outside tells tells_images) (status : Status) : Type 0 where
+  -- What the program owes for its words. `w`: what an object was told meanwhile, where it `hears` anything.
+  pub record Runs (words : List (String Global)) (old new : Outside tells tells_images) (hears : Type 0) (w : Watched) (status : Status) : Type 0 where
     -- what they ask for is done; where they ask for nothing, that is told, and the line stands alone
-    pub done : (command : Asked) → Asks words command → Ends command old new status
+    pub done : (command : Asked) → Asks words command → Ends command old new hears w status
     pub refused : ((command : Asked) → Asks words command → ⊥) → (status ≡ Words) × WritesLine Words old.output new.output
     pub words_only : status ≡ Words → (command : Asked) → Asks words command → ⊥
     -- no size changes

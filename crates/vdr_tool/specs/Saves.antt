@@ -10,6 +10,8 @@ use Rattle.vdr_opening.specs.Media.{members, Contents, HoldsContents, reading_of
 use Rattle.vdr_vault.specs.Saves.{refusal_from}
 use Rattle.vdr_vault.specs.declared.refused.SaveRefused.{SaveRefused as Refused}
 use Rattle.vdr_vault.specs.declared.refused.SaveRefused.TheVariants as saves
+use Rattle.vdr_recorder.specs.Watched.{IsToldOnce, Watched}
+use Rattle.vdr_recorder.specs.Watched.PlainTurn.{Save as ASave}
 use Rattle.vdr_command.specs.Endings.{IsDone, IsWorkDone}
 use Rattle.vdr_command.specs.Opened.{AddsMissing, IsOpenableWith, IsUnbegun, MayLeave, MediaEnds, MetUnsound, PrintsText, RefusesAll, WasRecorded, newest_of}
 use Rattle.vdr_command.specs.Outside.{NothingFailed, OutputFailed, Outside}
@@ -79,8 +81,8 @@ pub record SavesAll (label : List ℕ) (image : Image) (status : Status) : Type 
       → (status ≡ SaveRefused cause) ⊎ (status ≡ NoMemory)
   pub done : (x : Contents) → HoldsContents image x → EndsMeet members (reading_of x) → WasRecorded x → CanSave label x → IsDone status
 
--- What `save` owes.
-pub record Saves {tells tells_images : Type 0} (label : List ℕ) (old new : Outside tells tells_images) (status : Status) : Type 0 where
+-- What `save` owes. `w`: what an object was told meanwhile, where it `hears` anything.
+pub record Saves {tells tells_images : Type 0} (label : List ℕ) (old new : Outside tells tells_images) (hears : Type 0) (w : Watched) (status : Status) : Type 0 where
   pub own : IsSaveStatus status
   -- the id is printed
   pub printed : (x : Contents) → tells → HoldsContents old.media.disk.reads x → PrintsText (save_text x.table) status old.output new.output
@@ -91,6 +93,8 @@ pub record Saves {tells tells_images : Type 0} (label : List ℕ) (old new : Out
   -- the media, and what is said of them
   pub media : MediaEnds (CanSave label) (MetUnsound old.media.disk new.media.disk (CanSave label)) (MayLeave (SavesAs label) new.media.disk.clock status) old.media new.media status
   pub missing : IsUnbegun status → AddsMissing old.media.disk new.media.disk
+  -- where the work was done, an object outside was told of the save once all images showed it
+  pub heard : IsWorkDone status → hears → IsToldOnce old.media.disk new.media.disk (ASave label) w
   -- nothing else comes in the place of the save, or of a refusal, but want of memory
   pub complete : NothingFailed old new → tells → SavesAll label old.media.disk.reads status
 
@@ -101,5 +105,5 @@ saving label = record {
   legal = ⊤;
   reads_input = ⊥;
   uses_media = ⊤;
-  owes = λ old new status. Saves label old new status;
+  owes = λ old new hears w status. Saves label old new hears w status;
 }

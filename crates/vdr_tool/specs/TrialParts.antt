@@ -1,5 +1,6 @@
 -- The parts of a trial: the run over the generator's items, and the count of what stands in the windows.
 use Rattle.std.specs.Prelude.{◌≡◌, ◌⊎◌, ℕ, pos, List, [], None, length, min, ◌^◌, ◌-◌, Result, Ok, Err, IfOk, ⊤}
+use Rattle.vdr_recorder.specs.Watched.{nothing_told}
 use Rattle.vdr_terms.specs.Queries.{Query}
 use Rattle.vdr_terms.specs.Records.{FeedItem, Record}
 use Rattle.vdr_terms.specs.Stamps.{last_stamp}
@@ -104,10 +105,10 @@ module _ {tells tells_images : Type 0} where
   -- A run over the generator's items, on media that were just formatted, by how it ended. `rose`: the media's count of faults rose.
   module _ (seed count : ℕ) (rose : Type 0) (before after : Disk tells tells_images) where
     abbrev pub BreaksOff : Type 0
-    BreaksOff = (items : List FeedItem) × ((rest : List ℕ) × Reaches longest_feed (generated_feed seed count) items rest) × ReplayHeadline fresh rose before after items Broken
+    BreaksOff = (items : List FeedItem) × ((rest : List ℕ) × Reaches longest_feed (generated_feed seed count) items rest) × ReplayHeadline fresh rose before after ⊥ nothing_told items Broken
 
     abbrev pub RunsItems : Result Ran Status → Type 0
-    RunsItems (Ok ran) = (ran.sums ≡ trial_sums seed count) × (ran.records ≡ length (trial_records seed count)) × ReplayHeadline fresh rose before after (trial_items seed count) Closed
+    RunsItems (Ok ran) = (ran.sums ≡ trial_sums seed count) × (ran.records ≡ length (trial_records seed count)) × ReplayHeadline fresh rose before after ⊥ nothing_told (trial_items seed count) Closed
     RunsItems (Err MediaFault) = NothingIsRecorded fresh rose before after ⊎ BreaksOff
     RunsItems (Err NoMemory) = NothingIsRecorded fresh rose before after
     RunsItems (Err status) = ⊥

@@ -218,5 +218,5 @@ trying seed count = record {
   legal = (seed ≤ 2_147_483_647) × (count ≤ 1_000_000);
   reads_input = ⊥;
   uses_media = ⊤;
-  owes = λ old new status. Trials seed count old new status;
+  owes = λ old new hears w status. Trials seed count old new status;
 }

@@ -2,6 +2,7 @@
 ghost use Rattle.std.specs.Prelude.{◌≡◌, ◌≤◌, ◌⊎◌, length};
 ghost use Rattle.vdr_tool.specs.Commands.{plain};
 ghost use Rattle.vdr_command.specs.Endings.{ending};
+ghost use Rattle.vdr_recorder.specs.Watched.{nothing_told};
 ghost use Rattle.vdr_tool.specs.Lives.{KeepsLife};
 ghost use Rattle.vdr_tool.specs.Runs.{Asks, Runs, TouchesAsked, page};
 ghost use Rattle.vdr_command.specs.declared.status.Status.TheVariants.{Words};
@@ -19,21 +20,20 @@ use crate::words::{Command, command_of};
 use std::alloc::Global;
 use vdr_command::{Outer, Status, World, report};
 use vdr_outside::{Media, Sink, Source};
-use vdr_readout::{
-    Wish, answer_export, answer_incidents, answer_play, answer_rescue, answer_sources,
-    answer_targets, answer_watch,
-};
+use vdr_readout::{answer_incidents, answer_reading, answer_rescue};
+use vdr_recorder::{Nobody, Watch};
 
 // Does what a command asks for, up to the line of its status.
-fn answer<I: Source + Drop, O: Sink + Drop, M: Media + Drop>(
+fn answer<I: Source + Drop, O: Sink + Drop, M: Media + Drop, W: Watch<M>>(
     alloc: Global,
     command: Command<'_>,
     world: &mut World<I, O, M>,
+    watch: &mut W,
 ) -> Result<(), Status>
     requires legal { (page (plain command)).legal }
     requires two { 2 ≤ length (M.disk world.old.media).sizes }
     requires three { length (M.disk world.old.media).sizes ≤ 3 }
-    ensures owed { let at = ⟦<World<I, O, M> as Outer>⟧.outside in (page (plain command.entry)).owes (at world.old) (at world.new) (ending result) }
+    ensures owed { let at = ⟦<World<I, O, M> as Outer>⟧.outside in (page (plain command.entry)).owes (at world.old) (at world.new) W.hears (W.seen watch.new) (ending result) }
     ensures known { ending result ≡ Words → ⊥ }
     ensures later { O.faults world.old.output ≤ O.faults world.new.output }
     ensures sizes { (M.disk world.new.media).sizes ≡ (M.disk world.old.media).sizes }
@@ -44,19 +44,12 @@ fn answer<I: Source + Drop, O: Sink + Drop, M: Media + Drop>(
         Command::Review { rate } => answer_review(alloc, rate, world),
         Command::Check => answer_check(alloc, world),
         Command::Format { again } => answer_format(alloc, again, world),
-        Command::Replay => answer_replay(alloc, world),
-        Command::Play(wanted) => answer_play(alloc, wanted, world),
+        Command::Replay => answer_replay(alloc, world, watch),
+        Command::Read(reading) => answer_reading(alloc, reading, world),
         Command::Incidents => answer_incidents(alloc, world),
-        Command::Save { label } => answer_save(alloc, label, world),
-        Command::Release { id } => answer_release(alloc, id, world),
-        Command::Sources { medium } => answer_sources(alloc, medium, world),
-        Command::Watch { medium } => answer_watch(alloc, medium, world),
-        Command::Wav(wanted) => answer_export(alloc, wanted, Wish::Sound, world),
-        Command::Picture(wanted, block) => {
-            answer_export(alloc, wanted, Wish::Picture(block), world)
-        }
+        Command::Save { label } => answer_save(alloc, label, world, watch),
+        Command::Release { id } => answer_release(alloc, id, world, watch),
         Command::Trial { seed, count } => answer_trial(alloc, seed, count, world),
-        Command::Targets { medium, at } => answer_targets(alloc, medium, at, world),
         Command::Import => answer_import(world),
         Command::Packets => answer_packets(world),
         Command::Rescue(reading) => answer_rescue(alloc, reading, world),
@@ -87,6 +80,10 @@ fn answer<I: Source + Drop, O: Sink + Drop, M: Media + Drop>(
 ///   order.
 /// - `watch MEDIUM` reads no input. It prints what heartbeats and alarms show of the equipment in the window or the incident, as
 ///   `vdr_watch::Watch` does, in order of place.
+/// - `runs MEDIUM` reads no input. It prints when the recorder ran, by the records of the window or the incident, as `vdr_runs::Runs` does:
+///   for each run a line `A B FROM TO STATE TICK` and below it what the run missed, by cause.
+/// - `digest MEDIUM` reads no input. It prints the digest of the records of the window or the incident, as `vdr_digest::Digester` does: for
+///   each hour of recording time a line `HOUR A B RECORDS HEX`, and the same of all lines above.
 /// - `trial SEED COUNT` reads no input. It formats the media with the bench configuration, unless they are formatted already, records the
 ///   first COUNT items of the generated feed from SEED on (`vdr_feed::GeneratedFeed`; SEED is 0 to 2,147,483,647, COUNT 0 to 1,000,000)
 ///   as `replay` does, opens the media again, and prints `taken N recorded N rate N`, `records N`, `capsule N` and `longterm N`: the sums
@@ -98,7 +95,8 @@ fn answer<I: Source + Drop, O: Sink + Drop, M: Media + Drop>(
 ///   transmission groups, each as soon as it was read.
 /// - `packets` reads a capture so, and prints what became of its packets: `packets N`, of each group `GROUP whole N cut N`, of each cause
 ///   `left CAUSE N`, and `lost N` and `back N`.
-/// - `rescue COMMAND WORDS` reads no input. COMMAND is `play`, `sources`, `watch`, `targets`, `wav` or `picture`. It reads the medium that
+/// - `rescue COMMAND WORDS` reads no input. COMMAND is `play`, `sources`, `watch`, `runs`, `digest`, `targets`, `wav`
+///   or `picture`. It reads the medium that
 ///   they ask for alone, for `incident-ID` the long-term one, whole, cut short or damaged, writes to none, and prints what they print of each
 ///   record that legally stands there; then, but for `wav` and `picture`, `missing A B` for places that the medium owes and lacks, by place,
 ///   `damaged OFFSET` by offset, and `closed OFFSET`. It ends with `Damaged` at the first such offset, or else with `Missing`.
@@ -107,16 +105,20 @@ fn answer<I: Source + Drop, O: Sink + Drop, M: Media + Drop>(
 ///
 /// For each status but `Done` and `OutputFault` the output ends with a status line. It has nothing else, but where a run was closed by
 /// `replay` as the feed was refused or could not be read further: then the summary stands before it. So does the feed of `import`.
-pub fn run_alone<I: Source + Drop, O: Sink + Drop, M: Media + Drop>(
+///
+/// The watch is told while media are recorded on, before anybody is answered: by `replay`, `save` and `release`, each as their calls are of
+/// the recorder. What it was told is on the media by then.
+pub fn run_alone_watched<I: Source + Drop, O: Sink + Drop, M: Media + Drop, W: Watch<M>>(
     alloc: Global,
     words: &[String],
     world: &mut World<I, O, M>,
+    watch: &mut W,
 ) -> Status
     requires two { 2 ≤ length (M.disk world.old.media).sizes }
     requires three { length (M.disk world.old.media).sizes ≤ 3 }
 
     // Each command does what its page in `specs/` says, and then the line of its status is written.
-    ensures runs { let at = ⟦<World<I, O, M> as Outer>⟧.outside in Runs words.now (at world.old) (at world.new) result }
+    ensures runs { let at = ⟦<World<I, O, M> as Outer>⟧.outside in Runs words.now (at world.old) (at world.new) W.hears (W.seen watch.new) result }
 
     // Only a command that reads it touches the input, and only one that uses them the media.
     ensures touches { TouchesAsked words.now world.old.input world.new.input world.old.media world.new.media result }
@@ -128,9 +130,24 @@ pub fn run_alone<I: Source + Drop, O: Sink + Drop, M: Media + Drop>(
         report(Status::Words, &mut world.output);
         return Status::Words;
     };
-    let Err(status) = answer(alloc, command, world) else {
+    let Err(status) = answer(alloc, command, world, watch) else {
         return Status::Done;
     };
     report(status, &mut world.output);
     status
+}
+
+/// Does what the words ask for as `run_alone_watched` does, and tells nobody.
+pub fn run_alone<I: Source + Drop, O: Sink + Drop, M: Media + Drop>(
+    alloc: Global,
+    words: &[String],
+    world: &mut World<I, O, M>,
+) -> Status
+    requires two { 2 ≤ length (M.disk world.old.media).sizes }
+    requires three { length (M.disk world.old.media).sizes ≤ 3 }
+    ensures runs { let at = ⟦<World<I, O, M> as Outer>⟧.outside in Runs words.now (at world.old) (at world.new) ⊥ nothing_told result }
+    ensures touches { TouchesAsked words.now world.old.input world.new.input world.old.media world.new.media result }
+    ensures lives { KeepsLife (Asks words.now) (M.disk world.old.media) (M.disk world.new.media) }
+{
+    run_alone_watched(alloc, words, world, &mut Nobody {})
 }

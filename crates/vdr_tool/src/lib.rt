@@ -7,6 +7,8 @@ mod counting;
 mod counting_packets;
 mod formatting;
 mod importing;
+mod numbers;
+mod readings;
 mod releasing;
 mod replaying;
 mod reviewing;
@@ -16,7 +18,7 @@ mod trying;
 mod using;
 mod words;
 
-pub use command::run_alone;
+pub use command::{run_alone, run_alone_watched};
 pub use summary::Summary;
 pub use using::{Uses, medium_use};
 pub use vdr_command::{Outer, SaveCause, Status, World, law_of_openings, report};

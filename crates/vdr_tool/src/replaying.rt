@@ -12,6 +12,7 @@ use crate::summary::Summary;
 use std::alloc::Global;
 use vdr_command::{Outer, Status, World, law_of_openings};
 use vdr_outside::{Media, Sink, Source, print_buffered};
+use vdr_recorder::Watch;
 use vdr_replay::{FeedEnd, Replayed, replay};
 
 // Prints the summary of a run that was closed. A status that is already decided stands where the output fails.
@@ -37,18 +38,19 @@ fn print_run<O: Sink>(run: Replayed, output: &mut O) -> Result<(), Status>
 }
 
 /// Records the feed that the input is on the media, and prints the summary of the run.
-pub(crate) fn answer_replay<I: Source + Drop, O: Sink + Drop, M: Media + Drop>(
+pub(crate) fn answer_replay<I: Source + Drop, O: Sink + Drop, M: Media + Drop, W: Watch<M>>(
     alloc: Global,
     world: &mut World<I, O, M>,
+    watch: &mut W,
 ) -> Result<(), Status>
     requires two { 2 ≤ length (M.disk world.old.media).sizes }
     requires three { length (M.disk world.old.media).sizes ≤ 3 }
-    ensures owed { let at = ⟦<World<I, O, M> as Outer>⟧.outside in Replays (at world.old) (at world.new) (ending result) }
+    ensures owed { let at = ⟦<World<I, O, M> as Outer>⟧.outside in Replays (at world.old) (at world.new) W.hears (W.seen watch.new) (ending result) }
     ensures known { ending result ≡ Words → ⊥ }
     ensures later { O.faults world.old.output ≤ O.faults world.new.output }
     ensures sizes { (M.disk world.new.media).sizes ≡ (M.disk world.old.media).sizes }
 {
     law_of_openings();
-    let run = replay(alloc, &mut world.media, &mut world.input)?;
+    let run = replay(alloc, &mut world.media, watch, &mut world.input)?;
     print_run(run, &mut world.output)
 }

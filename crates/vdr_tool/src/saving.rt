@@ -4,6 +4,8 @@
 ghost use Rattle.std.specs.Prelude.{◌≡◌, ◌≤◌, ◌⊎◌, ◌++◌, codes, decimal, length, Some};
 ghost use Rattle.vdr_outside.specs.Causes.{Rose};
 ghost use Rattle.vdr_opening.specs.Media.{Contents, HoldsContents};
+ghost use Rattle.vdr_recorder.specs.Watched.{IsToldOnce};
+ghost use Rattle.vdr_recorder.specs.Watched.PlainTurn.{Save as Saving};
 ghost use Rattle.vdr_command.specs.Endings.{IsWorkDone, ending};
 ghost use Rattle.vdr_command.specs.Opened.{AddsMissing, IsOpenableWith, IsUnbegun, MayLeave, MediaEnds, MetUnsound, PrintsText};
 ghost use Rattle.vdr_tool.specs.Saves.{CanSave, IfSaveRefused, IsJudged, IsSaveStatus, Saves, SavesAs, id_line, save_text};
@@ -14,7 +16,7 @@ use itoa::Buffer;
 use std::alloc::Global;
 use vdr_command::{Outer, ROOM, Status, World, law_of_openings, push_text};
 use vdr_outside::{Media, Sink, Source, write_all};
-use vdr_recorder::Recorder;
+use vdr_recorder::{Recorder, Watch};
 
 // The line of an id.
 fn line_of(id: u32) -> ArrayVec<u8, ROOM>
@@ -41,10 +43,11 @@ fn print_id<O: Sink>(id: u32, output: &mut O) -> Result<(), Status>
 }
 
 // Opens the media, saves an incident and prints its id.
-fn save<I: Source + Drop, O: Sink + Drop, M: Media + Drop>(
+fn save<I: Source + Drop, O: Sink + Drop, M: Media + Drop, W: Watch<M>>(
     alloc: Global,
     label: &[u8],
     world: &mut World<I, O, M>,
+    watch: &mut W,
 ) -> Result<(), Status>
     requires two { 2 ≤ length (M.disk world.old.media).sizes }
     requires three { length (M.disk world.old.media).sizes ≤ 3 }
@@ -60,26 +63,28 @@ fn save<I: Source + Drop, O: Sink + Drop, M: Media + Drop>(
     ensures later { O.faults world.old.output ≤ O.faults world.new.output }
     ensures sizes { (M.disk world.new.media).sizes ≡ (M.disk world.old.media).sizes }
     ensures unread { world.new.input ≡ world.old.input }
+    ensures heard { IsWorkDone (ending result) → W.hears → IsToldOnce (M.disk world.old.media) (M.disk world.new.media) (Saving label.now) (W.seen watch.new) }
 {
-    let mut recorder = Recorder::open(alloc, &mut world.media)?;
-    let id = recorder.save(&mut world.media, label)?;
+    let mut recorder = Recorder::open_watched(alloc, &mut world.media, watch)?;
+    let id = recorder.save_watched(&mut world.media, watch, label)?;
     print_id(id, &mut world.output)
 }
 
 /// Saves an incident under this label, and prints its id.
-pub(crate) fn answer_save<I: Source + Drop, O: Sink + Drop, M: Media + Drop>(
+pub(crate) fn answer_save<I: Source + Drop, O: Sink + Drop, M: Media + Drop, W: Watch<M>>(
     alloc: Global,
     label: &[u8],
     world: &mut World<I, O, M>,
+    watch: &mut W,
 ) -> Result<(), Status>
     requires two { 2 ≤ length (M.disk world.old.media).sizes }
     requires three { length (M.disk world.old.media).sizes ≤ 3 }
-    ensures owed { let at = ⟦<World<I, O, M> as Outer>⟧.outside in Saves label.now (at world.old) (at world.new) (ending result) }
+    ensures owed { let at = ⟦<World<I, O, M> as Outer>⟧.outside in Saves label.now (at world.old) (at world.new) W.hears (W.seen watch.new) (ending result) }
     ensures known { ending result ≡ Words → ⊥ }
     ensures later { O.faults world.old.output ≤ O.faults world.new.output }
     ensures sizes { (M.disk world.new.media).sizes ≡ (M.disk world.old.media).sizes }
     ensures unread { world.new.input ≡ world.old.input }
 {
     law_of_openings();
-    save(alloc, label, world)
+    save(alloc, label, world, watch)
 }

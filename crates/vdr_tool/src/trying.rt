@@ -21,6 +21,7 @@ use vdr_command::{Outer, ROOM, Status, World, law_of_openings, number_of, push_t
 use vdr_feed::{GeneratedFeed, law_of_feeds, law_of_generated_feeds};
 use vdr_media::{FormatRefused, format};
 use vdr_outside::{Media, Sink, Source, write_all};
+use vdr_recorder::Nobody;
 use vdr_replay::{FeedEnd, GroupSums, Replayed, replay};
 use vdr_terms::Counts;
 
@@ -127,7 +128,7 @@ fn record_items<M: Media>(
     law_of_feeds();
     law_of_generated_feeds();
     let mut feed = GeneratedFeed::new(seed, count);
-    let run = replay(alloc, media, &mut feed)?;
+    let run = replay(alloc, media, &mut Nobody {}, &mut feed)?;
     match run.end {
         FeedEnd::Whole => Ok(Ran {
             sums: sums_of(&run),

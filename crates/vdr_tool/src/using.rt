@@ -32,15 +32,10 @@ pub fn medium_use(words: &[String]) -> Uses
         Some(
             Command::Format { .. }
             | Command::Replay
-            | Command::Play(_)
+            | Command::Read(_)
             | Command::Incidents
             | Command::Save { .. }
             | Command::Release { .. }
-            | Command::Sources { .. }
-            | Command::Watch { .. }
-            | Command::Targets { .. }
-            | Command::Wav(_)
-            | Command::Picture(..)
             | Command::Trial { .. },
         ) => Uses::All,
     }

@@ -11,6 +11,12 @@ returns-in-Sources-clause-owed g c = rw c.in-Sources.is (sources_rescued _ _ _ _
 pub returns-in-Watch-clause-owed : goal.returns-in-Watch-clause-owed
 returns-in-Watch-clause-owed g c = rw c.in-Watch.is (same_rescued _ _ _ _ _ c.up_to-wanted-in-Watch.ensures _ _ (c.rescue_out-in-Watch.ensures.rescues c.new-in-Watch.result c.new-in-Watch.ensures))
 
+pub returns-in-Runs-clause-owed : goal.returns-in-Runs-clause-owed
+returns-in-Runs-clause-owed g c = rw c.in-Runs.is (same_rescued _ _ _ _ _ c.up_to-wanted-in-Runs.ensures _ _ (c.rescue_out-in-Runs.ensures.rescues c.new-in-Runs.result (c.new-in-Runs.ensures, c.new-in-Runs.ensures)))
+
+pub returns-in-Digest-clause-owed : goal.returns-in-Digest-clause-owed
+returns-in-Digest-clause-owed g c = rw c.in-Digest.is (same_rescued _ _ _ _ _ c.up_to-wanted-in-Digest.ensures _ _ (c.rescue_out-in-Digest.ensures.rescues c.new-in-Digest.result (c.new-in-Digest.ensures, c.new-in-Digest.ensures)))
+
 pub returns-in-Play-clause-known : goal.returns-in-Play-clause-known
 returns-in-Play-clause-known g c = rescue_known _ _ _ _ _ _ (c.rescue_out.ensures.rescues c.new.result refl)
 
@@ -19,6 +25,12 @@ returns-in-Sources-clause-known g c = rescue_known _ _ _ _ _ _ (c.rescue_out-in-
 
 pub returns-in-Watch-clause-known : goal.returns-in-Watch-clause-known
 returns-in-Watch-clause-known g c = rescue_known _ _ _ _ _ _ (c.rescue_out-in-Watch.ensures.rescues c.new-in-Watch.result c.new-in-Watch.ensures)
+
+pub returns-in-Runs-clause-known : goal.returns-in-Runs-clause-known
+returns-in-Runs-clause-known g c = rescue_known _ _ _ _ _ _ (c.rescue_out-in-Runs.ensures.rescues c.new-in-Runs.result (c.new-in-Runs.ensures, c.new-in-Runs.ensures))
+
+pub returns-in-Digest-clause-known : goal.returns-in-Digest-clause-known
+returns-in-Digest-clause-known g c = rescue_known _ _ _ _ _ _ (c.rescue_out-in-Digest.ensures.rescues c.new-in-Digest.result (c.new-in-Digest.ensures, c.new-in-Digest.ensures))
 
 pub returns-in-Wav-clause-known : goal.returns-in-Wav-clause-known
 returns-in-Wav-clause-known g c = file_known _ _ _ _ _ c.rescue_file.ensures.rescues

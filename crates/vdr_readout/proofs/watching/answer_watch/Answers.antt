@@ -1,8 +1,9 @@
-use Rattle.vdr_readout.proofs.WatchLemmas.{watch_known, watch_owed}
+use Rattle.vdr_readout.proofs.LineLemmas.{lines_known, lines_owed}
+use Rattle.vdr_readout.proofs.WatchLemmas.{watch_owed}
 use Rattle.vdr_readout.proofs.watching.answer_watch.Goals as goal
 
 pub returns-clause-owed : goal.returns-clause-owed
-returns-clause-owed g c = watch_owed (c.read_out.ensures.reads c.new.result c.new.ensures) (c.law_of_openings.ensures (g.M.Media.disk c.args.world.now.media).reads)
+returns-clause-owed g c = watch_owed (lines_owed (c.read_out.ensures.reads c.new.result c.new.ensures) (c.law_of_openings.ensures (g.M.Media.disk c.args.world.now.media).reads))
 
 pub returns-clause-known : goal.returns-clause-known
-returns-clause-known g c = watch_known (c.read_out.ensures.reads c.new.result c.new.ensures)
+returns-clause-known g c = lines_known (c.read_out.ensures.reads c.new.result c.new.ensures)

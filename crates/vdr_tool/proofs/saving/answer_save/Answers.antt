@@ -13,5 +13,6 @@ returns-clause-owed g c =
       silent = ⊎_elim (λ own. inl own) (λ same. inr (λ i. record { taken = g.O.Sink.taken (same i); faults = g.O.Sink.faults (same i) })) told.silent;
       media = told.media;
       missing = told.missing;
+      heard = told.heard;
       complete = λ none t. saves_all _ _ t (c.law_of_openings.ensures (g.M.Media.disk c.args.world.now.media).reads) _ c.args.label.now _ (λ is. none.output (told.output is)) (λ is. none.media (told.media.fault is)) told.statuses told.media told.refused;
     }

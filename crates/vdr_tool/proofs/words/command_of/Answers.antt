@@ -1,4 +1,4 @@
-use Rattle.std.proofs.Common.{◌≡◌, ◌≢◌, ◌∙◌, ℕ, List, [], ◌∷◌, Some, codes, map, sym, ap, subst, rules}
+use Rattle.std.proofs.Common.{◌≡◌, ◌≢◌, ◌∙◌, ℕ, List, ◌∷◌, Some, codes, map, sym, ap, subst, rules}
 use Rattle.std.specs.Prelude.{string_bytes}
 use Rattle.vdr_tool.specs.Commands.{Asked}
 use Rattle.vdr_tool.specs.Runs.{Spells}
@@ -13,13 +13,13 @@ pub returns-in_err-reading-clause-found : goal.returns-in_err-reading-clause-fou
 returns-in_err-reading-clause-found c = λ command asks.
     let word : string_bytes c.in-Some.word.now ≡ codes "rescue" = search rules in
     let h = rescue_words (string_bytes c.in-Some.word.now) (map string_bytes c.in-Some.rest.now) command word (subst (λ words. Spells (map string_bytes words) command) c.in-Some.ensures.cases.0 asks) in
-    none_read c.rescued.result h.reading c.in_err-reading.was (c.rescued.ensures.found h.reading h.legal h.spelled)
+    none_read c.reading_of.result h.reading c.in_err-reading.was (c.reading_of.ensures.found h.reading h.spelled)
 
 pub returns-then-eq-clause-found : goal.returns-then-eq-clause-found
 returns-then-eq-clause-found c = λ command asks.
     let word : string_bytes c.in-Some.word.now ≡ codes "rescue" = search rules in
     let h = rescue_words (string_bytes c.in-Some.word.now) (map string_bytes c.in-Some.rest.now) command word (subst (λ words. Spells (map string_bytes words) command) c.in-Some.ensures.cases.0 asks) in
-    some_rescue c.rescued.result c.in_ok-reading.reading h.reading c.in_ok-reading.was (c.rescued.ensures.found h.reading h.legal h.spelled) ∙ ap (λ (a : Asked). Some a) (sym h.is)
+    some_rescue c.reading_of.result c.in_ok-reading.reading h.reading c.in_ok-reading.was (c.reading_of.ensures.found h.reading h.spelled) ∙ ap (λ (a : Asked). Some a) (sym h.is)
 
 pub returns-then-eq-clause-only : goal.returns-then-eq-clause-only
 returns-then-eq-clause-only c =
@@ -29,9 +29,9 @@ returns-then-eq-clause-only c =
       words = record {
         rest = map string_bytes c.in-Some.rest.now;
         words = ap (λ words. map string_bytes words) c.in-Some.ensures.cases.0 ∙ ap (λ (w : List ℕ). w ∷ map string_bytes c.in-Some.rest.now) word;
-        spelled = told.1;
+        spelled = told.words;
       };
-      legal = told.0;
+      legal = told.legal;
     }
 
 pub returns-clause-found : goal.returns-clause-found

@@ -1,0 +1,5 @@
+-- The digest of records.
+pub mod Spans
+pub mod Digests
+pub mod Held
+pub mod Laws

@@ -1,5 +1,0 @@
-use Rattle.vdr_live.proofs.Chains.{all_live}
-use Rattle.vdr_live.proofs.law.law_of_chains.Goals as goal
-
-pub returns : goal.returns
-returns g c = record { lives = λ config text runs told lived. all_live g.M.Media.disk config text runs c.args.media.now told lived }

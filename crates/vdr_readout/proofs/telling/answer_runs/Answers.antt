@@ -1,0 +1,8 @@
+use Rattle.vdr_readout.proofs.LineLemmas.{lines_known, lines_owed}
+use Rattle.vdr_readout.proofs.telling.answer_runs.Goals as goal
+
+pub returns-clause-owed : goal.returns-clause-owed
+returns-clause-owed g c = lines_owed (c.read_out.ensures.reads c.new.result (c.new.ensures, c.new.ensures)) (c.law_of_openings.ensures (g.M.Media.disk c.args.world.now.media).reads)
+
+pub returns-clause-known : goal.returns-clause-known
+returns-clause-known g c = lines_known (c.read_out.ensures.reads c.new.result (c.new.ensures, c.new.ensures))

@@ -1,0 +1,37 @@
+use Rattle.std.proofs.Common.{inl, inr, sym, subst}
+use Rattle.vdr_recorder.specs.Chains.{LivesOn}
+use Rattle.vdr_vault.specs.Ours.{StayOurs}
+use Rattle.vdr_tool.specs.Commands.{plain}
+use Rattle.vdr_tool.proofs.LifeGoesOn.{life_of, life_still}
+use Rattle.vdr_tool.proofs.Lives.{lives_of, ours_still}
+use Rattle.vdr_tool.proofs.command.run_alone_watched.Goals as goal
+
+pub returns-in_default-clause-lives : goal.returns-in_default-clause-lives
+returns-in_default-clause-lives g c = record {
+  ours = λ told synced ours. ours_still (g.M.Media.disk c.args.world.now.media) ours;
+  life = λ config text runs told nothing live. life_still config text runs (g.M.Media.disk c.args.world.now.media);
+}
+
+pub returns-in_default-answer-clause-lives : goal.returns-in_default-answer-clause-lives
+returns-in_default-answer-clause-lives g c = record {
+  ours = λ told synced ours. elim c.answer.ensures.untouched [
+    | inl uses ↦ lives_of (plain c.in-Some.command) _ _ g.W.Watch.hears _ _ c.answer.ensures.owed uses told (synced _ c.in-Some.ensures.only) ours
+    | inr same ↦ subst (λ m. StayOurs (g.M.Media.disk c.args.world.now.media) (g.M.Media.disk m)) (sym same) (ours_still (g.M.Media.disk c.args.world.now.media) ours)
+  ];
+  life = λ config text runs told nothing live. elim c.answer.ensures.untouched [
+    | inl uses ↦ life_of config text runs (plain c.in-Some.command) _ _ g.W.Watch.hears _ _ c.answer.ensures.owed uses (nothing _ c.in-Some.ensures.only) told live
+    | inr same ↦ subst (λ m. LivesOn config text runs (g.M.Media.disk c.args.world.now.media) (g.M.Media.disk m)) (sym same) (life_still config text runs (g.M.Media.disk c.args.world.now.media))
+  ];
+}
+
+pub returns-clause-lives : goal.returns-clause-lives
+returns-clause-lives g c = record {
+  ours = λ told synced ours. elim c.answer.ensures.untouched [
+    | inl uses ↦ lives_of (plain c.in-Some.command) _ _ g.W.Watch.hears _ _ c.answer.ensures.owed uses told (synced _ c.in-Some.ensures.only) ours
+    | inr same ↦ subst (λ m. StayOurs (g.M.Media.disk c.args.world.now.media) (g.M.Media.disk m)) (sym same) (ours_still (g.M.Media.disk c.args.world.now.media) ours)
+  ];
+  life = λ config text runs told nothing live. elim c.answer.ensures.untouched [
+    | inl uses ↦ life_of config text runs (plain c.in-Some.command) _ _ g.W.Watch.hears _ _ c.answer.ensures.owed uses (nothing _ c.in-Some.ensures.only) told live
+    | inr same ↦ subst (λ m. LivesOn config text runs (g.M.Media.disk c.args.world.now.media) (g.M.Media.disk m)) (sym same) (life_still config text runs (g.M.Media.disk c.args.world.now.media))
+  ];
+}
