@@ -19,7 +19,8 @@ use Rattle.vdr_media.specs.Layout.{text_from}
 use Rattle.vdr_media.specs.Medium.{HoldsText, IsSuperblock}
 use Rattle.vdr_media.specs.Formatted.{IsUnformatted}
 use Rattle.vdr_media.proofs.Rooms.{text_fits}
-use Rattle.vdr_opening.specs.Media.{members, HasFront, HasSegments, IsMedium, Contents, HoldsContents, AreThereBy}
+use Rattle.vdr_ring.specs.Whole.{is_filled}
+use Rattle.vdr_opening.specs.Media.{members, HasFront, HasSegments, IsMedium, Contents, HoldsContents, AreThereBy, slots_on}
 use Rattle.std.specs.Prelude.{option_and_then}
 use Rattle.std.proofs.lemmas.List.{take-append-drop, length-take-le, get_or-take}
 use Rattle.std.proofs.lemmas.Option.{slice_get-get_or}
@@ -97,6 +98,16 @@ module _ {image : Image} {c d : Configuration} {s t : List ℕ} {ps qs : ℕ →
 
 pub are_legal : {image : Image} {x : Contents} → HoldsContents image x → AreMedia image x.config x.text x.placed
 are_legal h = record { each = h.media }
+
+-- and whether each medium is filled.
+pub one_filled : {image : Image} {x y : Contents} → HoldsContents image x → HoldsContents image y → (x.filled 0 ≡ y.filled 0) × (x.filled 1 ≡ y.filled 1)
+one_filled {image} {x} {y} h k =
+    let config = one_config (are_legal h) (are_legal k) in
+    let first = one_capsule (are_legal h) (are_legal k) in
+    let second = one_long_term (are_legal h) (are_legal k) in (
+      h.filled 0 0 (omega arith) ∙ (λ i. is_filled (slots_on (config i) image 0) (first i)) ∙ sym (k.filled 0 0 (omega arith)),
+      h.filled 1 0 (omega arith) ∙ (λ i. is_filled (slots_on (config i) image 1) (second i)) ∙ sym (k.filled 1 0 (omega arith)),
+    )
 
 -- A medium with a superblock is formatted, and so are media that hold contents.
 pub never_unformatted : (m segment : ℕ) (image : Image) → IsSuperblock m segment (content image 0) → IsUnformatted image → ⊥

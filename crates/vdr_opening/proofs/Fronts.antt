@@ -2,6 +2,7 @@
 use Rattle.std.proofs.Common.{◌≡◌, ℕ, Bool, true, false, List, sym, ◌∙◌, ap, ◌-◌, ◌≤◌, [], ◌∷◌, ◌++◌, length, get_or, take, drop, slice_get, Some, refl, arith, append_assoc, ◌+◌, ◌<◌, ◌^◌, subst, ◌↔◌, Option, Ok, Err, Result, IsTrue, ◌*◌, inl, zero, suc, replicate, None}
 use Rattle.std.specs.Prelude.{bytes_eq, not, IfSome}
 use Rattle.std.proofs.lemmas.Slice.Eq.{bytes_eq-Decides}
+use Rattle.std.proofs.lemmas.Bool.{lt-leb}
 use Rattle.std.proofs.lemmas.List.{drop-drop, take_rest, append-nil, drop_all, get_or-replicate, length-replicate}
 use Rattle.std.proofs.lemmas.Option.{get_or_from_slice_get, slice_get-get_or, slice_get_within}
 use Rattle.vdr_bytes.specs.Numbers.{le_u32, le_u64, u32_at}
@@ -22,7 +23,8 @@ use Rattle.vdr_config.specs.Configuration.{Configuration}
 use Rattle.vdr_config.specs.Grammar.{configuration}
 use Rattle.vdr_config.specs.Sizes.{sizes_of}
 use Rattle.vdr_media.proofs.Rooms.{text_fits, slots_fit, some_slot}
-use Rattle.vdr_opening.specs.Media.{HasFront, members, AreThere, HoldsContents, IsMedium, nothing_on, reading_of}
+use Rattle.vdr_ring.specs.Whole.{is_filled}
+use Rattle.vdr_opening.specs.Media.{HasFront, members, AreThere, HoldsContents, IsMedium, nothing_on, reading_of, slots_on}
 use Rattle.std.proofs.lemmas.List.Elements.{All-nil}
 use Rattle.vdr_core.specs.Histories.{Incident}
 use Rattle.vdr_durability.specs.Readings.{EndsMeet}
@@ -261,6 +263,10 @@ module _ (m : ℕ) (c : Configuration) (text bytes : List ℕ) (h : IsEmptyMediu
   pub empty_is_medium : IsMedium m c text [] bytes
   empty_is_medium = record { front = record { superblock = h.superblock; configured = h.holds }; segments = record { holds = no_segment; order = tt } }
 
+  -- Most of its slots are not open.
+  pub none_filled : false ≡ is_filled (slot_count c.segment (length bytes)) []
+  none_filled = let enough = h.holds.fits in sym (lt-leb (slot_count c.segment (length bytes)) 1 (omega (arith, enough)))
+
   no_incident : (j : ℕ) (d : Option Incident) → j < length (replicate {A = Option Incident} c.incident_slots None) → IsIncidentSlot (part bytes (4096 + j * 256) 256) (get_or (replicate c.incident_slots None) j d)
   no_incident j d lt =
       let size = length-replicate {A = Option Incident} c.incident_slots None in
@@ -289,6 +295,7 @@ empty_holds image c text h = record {
   media = all_two (λ m. IsMedium m c text [] (content image m)) (empty_is_medium 0 c text (content image 0) (h.each 0 0 (omega arith))) (empty_is_medium 1 c text (content image 1) (h.each 1 1 (omega arith)));
   table = empty_table 1 c text (content image 1) (h.each 1 1 (omega arith));
   there = none_missing c.incident_slots [];
+  filled = all_two (λ m. false ≡ is_filled (slots_on c image m) []) (none_filled 0 c text (content image 0) (h.each 0 0 (omega arith))) (none_filled 1 c text (content image 1) (h.each 1 1 (omega arith)));
 }
 
 pub empty_meet : (c : Configuration) (text : List ℕ) → EndsMeet members (reading_of (nothing_on c text))

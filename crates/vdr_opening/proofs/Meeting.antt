@@ -111,7 +111,7 @@ not_same a b x y same tested differ a_is b_is is =
 -- read.
 
 abbrev pub contents_of : Configuration → (text : List ℕ) → (ℕ → List Placed) → List (Option Incident) → Contents
-contents_of c text known table = record { config = c; text = text; placed = known; table = table }
+contents_of c text known table = record { config = c; text = text; placed = known; table = table; filled = λ m. false }
 
 module _ {tells tells_images : Type 0} (start one : Disk tells tells_images) (same : Unchanged start one) (told : tells) (c : Configuration) (text : List ℕ) (known : ℕ → List Placed) (on : List RingState)
     (each : All (λ m. KnowsMedium m c text (known m) (ring_at on m) one) members) (long_term : RingState) (long_term_is : long_term ≡ ring_at on 1) where

@@ -1,5 +1,5 @@
 -- What the capsule and the long-term medium hold, by the parts of their bytes (this project's profile).
-use Rattle.std.specs.Prelude.{◌≡◌, ℕ, List, [], length, map, replicate, All, IfSome, Option, None, Ok}
+use Rattle.std.specs.Prelude.{◌≡◌, ℕ, Bool, false, List, [], length, map, replicate, All, IfSome, Option, None, Ok}
 use Rattle.vdr_core.specs.Histories.{Incident, Opening}
 use Rattle.vdr_durability.specs.Readings.{Reading}
 use Rattle.vdr_durability.specs.Shown.{opened}
@@ -16,6 +16,7 @@ use Rattle.vdr_directory.specs.Lookup.{HoldAll}
 use Rattle.vdr_directory.specs.Knowns.{AreInOrderBy, known_of}
 use Rattle.vdr_directory.specs.Opening.{AreKnown}
 use Rattle.vdr_directory.specs.Telling.{HoldAllBy}
+use Rattle.vdr_ring.specs.Whole.{is_filled}
 use Rattle.vdr_incident.specs.Tables.{HoldsTable}
 use Rattle.vdr_opening.specs.Settings.{settings_of}
 
@@ -44,22 +45,29 @@ pub record IsMedium (m : ℕ) (c : Configuration) (text : List ℕ) (placed : Li
 abbrev pub AreThere : List (Option Incident) → List Placed → Type 0
 AreThere table placed = All (λ slot. IfSome slot (λ incident. HoldAll incident.a incident.b placed)) table
 
--- What legible media hold: the configuration with its text, the segments of each medium by its number, and the incidents.
+-- What legible media hold: the configuration with its text, the segments of each medium by its number, the incidents, and whether at most
+-- one slot of each medium is not open.
 pub record Contents : Type 0 where
   pub config : Configuration
   pub text : List ℕ
   pub placed : ℕ → List Placed
   pub table : List (Option Incident)
+  pub filled : ℕ → Bool
 
 -- The contents of media that were just formatted.
 abbrev pub nothing_on : Configuration → (text : List ℕ) → Contents
-nothing_on c text = record { config = c; text = text; placed = λ m. []; table = replicate c.incident_slots None }
+nothing_on c text = record { config = c; text = text; placed = λ m. []; table = replicate c.incident_slots None; filled = λ m. false }
+
+-- How many slots medium m of an image has.
+abbrev pub slots_on : Configuration → Image → ℕ → ℕ
+slots_on c image m = slot_count c.segment (length (content image m))
 
 -- The image holds these contents.
 pub record HoldsContents (image : Image) (x : Contents) : Type 0 where
   pub media : All (λ m. IsMedium m x.config x.text (x.placed m) (content image m)) members
   pub table : HoldsTable x.config.incident_slots x.table (content image 1)
   pub there : AreThere x.table (x.placed 1)
+  pub filled : All (λ m. x.filled m ≡ is_filled (slots_on x.config image m) (x.placed m)) members
 
 -- What opening reads of media's contents: all, but for the batches of segments whose header has a summary.
 abbrev pub parts_of : Contents → Contents

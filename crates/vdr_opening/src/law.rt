@@ -7,12 +7,13 @@ ghost use Rattle.vdr_media.specs.Formatted.{IsEmptyHistory, IsUnformatted};
 ghost use Rattle.vdr_opening.specs.Media.{Contents, HoldsContents, HoldsParts, members, nothing_on, opening_of, parts_of, reading_of};
 ghost use Rattle.vdr_opening.specs.Refusals.{IsRefused};
 
-/// An image holds one list of contents at most: the configuration, its text, the segments of each medium and the
-/// incidents.
+/// An image holds one list of contents at most: the configuration, its text, the segments of each medium, the incidents,
+/// and whether each medium is filled.
 pub fn law_of_contents()
     ensures config { (image : Image) (x y : Contents) → HoldsContents image x → HoldsContents image y → (x.config ≡ y.config) × (x.text ≡ y.text) }
     ensures placed { (image : Image) (x y : Contents) → HoldsContents image x → HoldsContents image y → (x.placed 0 ≡ y.placed 0) × (x.placed 1 ≡ y.placed 1) }
     ensures table { (image : Image) (x y : Contents) → HoldsContents image x → HoldsContents image y → x.table ≡ y.table }
+    ensures filled { (image : Image) (x y : Contents) → HoldsContents image x → HoldsContents image y → (x.filled 0 ≡ y.filled 0) × (x.filled 1 ≡ y.filled 1) }
     ensures formatted { (image : Image) (x : Contents) → HoldsContents image x → IsUnformatted image → ⊥ }
 {}
 

@@ -1,5 +1,5 @@
 -- How many bytes a command that reads records out reads of the media.
-use Rattle.std.proofs.Common.{◌≡◌, ◌<◌, ◌≤◌, ◌*◌, ℕ, List, [], length, get_or, Option, Some, None, refl, sym, ap, ◌∙◌, subst, arith}
+use Rattle.std.proofs.Common.{◌≡◌, ◌<◌, ◌≤◌, ◌*◌, ℕ, Bool, List, [], length, get_or, Option, Some, None, refl, sym, ap, ◌∙◌, subst, arith}
 use mathlib.Core.List.{Sublist, sublist-append_left}
 use Rattle.vdr_terms.specs.Queries.{Query, Span}
 use Rattle.vdr_terms.specs.Slots.{slot_count}
@@ -71,10 +71,10 @@ module _ {tells tells_images : Type 0} (old mid new : MediaSeen tells tells_imag
       (its.slots ∙ ap (λ (sizes : List ℕ). slot_count vault.config.segment (get_or sizes m 0)) (sym still.sizes)) (sym (still.reads told)) (at.reads.settled.reads told)
 
   -- by the configuration and the incidents that the vault keeps
-  few_of : (text : List ℕ) (held : ℕ → List Placed) → AreOfSegments query vault placed (span_in vault placed query.medium) → ReadsEachOnce query vault mid.bytes_read new.bytes_read
-      → ReadsToOpen (parts_of (record { config = vault.config; text = text; placed = held; table = vault.table })) old.disk.sizes old.bytes_read mid.bytes_read
-      → ReadsFew query (record { config = vault.config; text = text; placed = held; table = vault.table }) old new
-  few_of text held are once opens =
+  few_of : (text : List ℕ) (held : ℕ → List Placed) (filled : ℕ → Bool) → AreOfSegments query vault placed (span_in vault placed query.medium) → ReadsEachOnce query vault mid.bytes_read new.bytes_read
+      → ReadsToOpen (parts_of (record { config = vault.config; text = text; placed = held; table = vault.table; filled = filled })) old.disk.sizes old.bytes_read mid.bytes_read
+      → ReadsFew query (record { config = vault.config; text = text; placed = held; table = vault.table; filled = filled }) old new
+  few_of text held filled are once opens =
       let few = met_few query vault placed (ring_is (medium_of query.medium) member).segment (span_in vault placed query.medium) are in
       record {
         placed = placed;
@@ -89,8 +89,8 @@ module _ {tells tells_images : Type 0} (old mid new : MediaSeen tells tells_imag
 
 -- Contents with another configuration and other incidents, which are the same.
 same_contents : (x : Contents) (config : Configuration) (table : List (Option Incident)) → config ≡ x.config → table ≡ x.table
-    → ◌≡◌ {A = Contents} (record { config = config; text = x.text; placed = x.placed; table = table }) x
-same_contents x config table configs tables = λ i. record { config = configs i; text = x.text; placed = x.placed; table = tables i }
+    → ◌≡◌ {A = Contents} (record { config = config; text = x.text; placed = x.placed; table = table; filled = x.filled }) x
+same_contents x config table configs tables = λ i. record { config = configs i; text = x.text; placed = x.placed; table = tables i; filled = x.filled }
 
 pub reads_few : {tells tells_images : Type 0} (asked : AskedPlay) (old mid new : MediaSeen tells tells_images) (query : Query) (vault : VaultState) (x : Contents) (placed : ℕ → List Placed)
     → query ≡ query_of vault.config asked.medium asked.channel asked.from asked.to → AreRings vault mid.disk.sizes → Unchanged mid.disk new.disk → IsReadable (opening_of x) [] vault placed mid.disk → tells
@@ -101,7 +101,7 @@ reads_few asked old mid new query vault x placed is rings still readable told ar
     let q : Query = query_of vault.config asked.medium asked.channel asked.from asked.to in
     let same = same_contents x vault.config vault.table config table in
     subst (λ (y : Contents). ReadsFew (query_of y.config asked.medium asked.channel asked.from asked.to) y old new) same
-    (few_of old mid new q vault placed (opening_of x) (is_member asked.medium) rings still readable told x.text x.placed
+    (few_of old mid new q vault placed (opening_of x) (is_member asked.medium) rings still readable told x.text x.placed x.filled
     (subst (λ (p : Query). AreOfSegments p vault placed (span_in vault placed p.medium)) is are)
     (subst (λ (p : Query). ReadsEachOnce p vault mid.bytes_read new.bytes_read) is once)
     (subst (λ (y : Contents). ReadsToOpen (parts_of y) old.disk.sizes old.bytes_read mid.bytes_read) (sym same) opens))

@@ -1,5 +1,5 @@
 -- What the media of a vault at rest read as: all its events.
-use Rattle.std.proofs.Common.{ℕ, List, refl}
+use Rattle.std.proofs.Common.{◌≡◌, ℕ, List, refl}
 use Rattle.std.proofs.lemmas.List.Elements.{All-weaker}
 use Rattle.vdr_core.specs.Histories.{Event, Opening, incidents}
 use Rattle.vdr_durability.specs.Retention.{Retains}
@@ -7,8 +7,10 @@ use Rattle.vdr_durability.specs.Shown.{given_with, pins_on}
 use Rattle.vdr_outside.specs.Disk.{Disk, content}
 use Rattle.vdr_outside.proofs.Moments.{size_read}
 use Rattle.vdr_directory.specs.Sequence.{all_records}
-use Rattle.vdr_opening.specs.Media.{members, Contents, HoldsContents, IsMedium}
-use Rattle.vdr_vault.specs.Vaults.{HoldsHistory, VaultState, ShowsHistory, Stands, ring_of}
+use Rattle.vdr_ring.specs.Whole.{is_filled}
+use Rattle.vdr_opening.specs.Media.{members, Contents, HoldsContents, IsMedium, slots_on}
+use Rattle.vdr_vault.specs.Vaults.{HoldsHistory, VaultState, ShowsHistory, Stands, contents_of, ring_of}
+use Rattle.vdr_vault.proofs.Kept.{filled_there}
 use Rattle.vdr_vault.proofs.ShownHistory.{held_at, stands_sound}
 use Rattle.vdr_vault.proofs.ShownImages.{placed_there, shown_level}
 use Rattle.vdr_directory.specs.Sequence.{Placed}
@@ -29,13 +31,15 @@ module _ {tells tells_images : Type 0} (opening : Opening) (events : List Event)
   }
 
   abbrev Held : Contents
-  Held = record { config = vault.config; text = opening.settings.text; placed = placed; table = vault.table }
+  Held = contents_of opening vault placed vault.table
 
   holds : HoldsContents disk.reads Held
   holds = record {
     media = All-weaker Holds (λ m. IsMedium m vault.config opening.settings.text (placed m) (content disk.reads m)) read_at members stands.media;
     table = stands.table told;
     there = stands.there;
+    filled = All-weaker Holds (λ m. is_filled (ring_of vault m).slots (placed m) ≡ is_filled (slots_on vault.config disk.reads m) (placed m))
+        (λ m h. filled_there vault.config disk.sizes m (ring_of vault m) (placed m) (content disk.reads m) h.is_its (size_read disk m told)) members stands.media;
   }
 
   pub stand_reads : ShowsHistory opening events disk.reads

@@ -31,7 +31,8 @@ use Rattle.vdr_rescue.specs.Alones.{IsOfKind, Rescue, RefusesAlone, Rescued}
 use Rattle.vdr_rescue.specs.Findings.{Account, as_closed, as_damaged, as_missing, closes, damages, damages_when, faults, found_in, is_empty, lacks, owed_by, places_of}
 use Rattle.vdr_rescue.specs.Fronts.{AreFronts}
 use Rattle.vdr_rescue.specs.Lacking.{last_second, missing}
-use Rattle.vdr_rescue.specs.Legible.{FindsNothing, GivesAll, KeepsAll}
+use Rattle.vdr_ring.specs.Whole.{KeepsAll}
+use Rattle.vdr_rescue.specs.Legible.{FindsNothing, GivesAll}
 use Rattle.vdr_rescue.specs.Readings.{AreRead}
 use Rattle.vdr_rescue.specs.Saves.{AreSaves, saved_slots}
 use Rattle.vdr_rescue.proofs.AloneAnswer.{as_refused}

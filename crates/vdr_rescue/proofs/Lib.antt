@@ -21,4 +21,3 @@ mod LegalLacks
 mod LegalSaves
 mod Legible
 mod OfLives
-mod KeptPlaces

@@ -1,12 +1,11 @@
 -- A medium with a life that is read alone.
-use Rattle.std.proofs.Common.{◌≡◌, ◌⊎◌, ◌<◌, ◌≤◌, ◌+◌, ◌&&◌, ℕ, Bool, true, false, List, [], ◌∷◌, ◌++◌, length, filter, get_or, Any, Contains, Option, Some, None, inl, inr, ⊎_elim, refl, sym, ap, ◌∙◌, subst, arith, append-nil}
+use Rattle.std.proofs.Common.{◌≡◌, ◌⊎◌, ◌<◌, ◌≤◌, ◌+◌, ◌&&◌, ℕ, Bool, true, false, List, [], ◌∷◌, ◌++◌, filter, get_or, Any, Contains, Option, Some, None, inl, inr, ⊎_elim, refl, sym, ap, ◌∙◌, subst, arith, append-nil}
 use Rattle.std.specs.Prelude.{if◌then◌else◌, nat_le}
 use Rattle.std.proofs.lemmas.Bool.{and_parts, cases_Bool, cond-false, leb-true}
 use Rattle.std.proofs.lemmas.List.Elements.{All-contains, filter-append}
 use Rattle.std.proofs.lemmas.Option.{get_or_from_slice_get, slice_get-get_or}
 use Rattle.vdr_terms.specs.Records.{Record, last}
-use Rattle.vdr_terms.specs.Order.{AreInOrder, RunOn}
-use Rattle.vdr_terms.specs.Slots.{slot_count}
+use Rattle.vdr_terms.specs.Order.{AreInOrder}
 use Rattle.vdr_terms.specs.Windows.{window}
 use Rattle.vdr_terms.specs.Queries.{Medium, Query, matches}
 use Rattle.vdr_terms.specs.Queries.Medium.{WindowOf, Incident as IncidentOf}
@@ -15,7 +14,6 @@ use Rattle.vdr_durability.specs.Layout.{Batches, segment_records}
 use Rattle.vdr_durability.specs.Playback.{extent, medium_of, records_of_incident, selected}
 use Rattle.vdr_durability.specs.Readings.{EndsMeet, ends_before, leading_batch, records_on, restored, with_next}
 use Rattle.vdr_durability.specs.Retention.{at_places, within}
-use Rattle.vdr_durability.specs.Soundness.{IsUnbroken}
 use Rattle.vdr_durability.proofs.Lists.{contains_here, contains_there}
 use Rattle.vdr_durability.proofs.Ordered.{parts_in_order}
 use Rattle.vdr_durability.proofs.Restored.{ends_not_before, last_in_order, next_added, next_kept}
@@ -27,12 +25,14 @@ use Rattle.vdr_directory.specs.Sequence.{all_records, batches_in}
 use Rattle.vdr_incident.specs.Saves.{IsIncidentSlot}
 use Rattle.vdr_incident.specs.Tables.{place_of}
 use Rattle.vdr_media.specs.Formatted.{IsUnformatted}
-use Rattle.vdr_opening.specs.Media.{Contents, HoldsContents, members, opening_of, reading_of}
+use Rattle.vdr_opening.specs.Media.{Contents, HoldsContents, members, opening_of, reading_of, slots_on}
 use Rattle.vdr_opening.proofs.ContentsHeld.{are_formatted}
 use Rattle.vdr_ring.proofs.Records.{records_are}
 use Rattle.vdr_vault.specs.Lives.{Life}
 use Rattle.vdr_vault.specs.Ours.{IsOurs}
-use Rattle.vdr_vault.specs.Regularity.{AreSound, IsRegularMedium, IsUnbrokenMedium}
+use Rattle.vdr_ring.specs.Whole.{KeepsAll, is_filled}
+use Rattle.vdr_vault.specs.Regularity.{AreSound, IsRegularMedium, LacksNothing}
+use Rattle.vdr_vault.proofs.Kept.{keeps_all}
 use Rattle.vdr_vault.proofs.Lives.{life_incidents, life_ours, life_places, life_windows}
 use Rattle.vdr_vault.proofs.SoundMedia.{sound_as}
 use Rattle.vdr_rescue.specs.Alones.{Rescue, Rescued, selected_of}
@@ -118,12 +118,13 @@ module _ (image : Image) (y : Contents) (m : ℕ) (holds : HoldsContents image y
   unfolding lacking_here
   at_most_here = at_most_last (leading_batch members (reading_of y)) (batches_in (y.placed m))
 
-  unbroken_here : EndsWithLast y m → IsUnbroken (window_of y.config m) (all_records (y.placed m))
-  unbroken_here e = subst (IsUnbroken (window_of y.config m)) (restored_here ∙ ap (λ (rs : List Record). all_records (y.placed m) ++ rs) (none_here e) ∙ append-nil (all_records (y.placed m)))
-      (All-contains (IsUnbrokenMedium y) members m meet_and_sound.1.unbroken there)
+  -- It lacks nothing, with the last batch or without.
+  keeps_here : KeepsAll (window_of y.config m) (slots_on y.config image m) (y.placed m)
+  keeps_here = keeps_all y m (slots_on y.config image m) (All-contains (λ m. y.filled m ≡ is_filled (slots_on y.config image m) (y.placed m)) members m holds.filled there)
+      (All-contains (LacksNothing y) members m meet_and_sound.1.kept there)
 
-  pub ours_find : (x : Rescue) → Rescued m (content image m) x → EndsWithLast y m → (length (y.placed m) + 1 < slot_count y.config.segment (length (content image m)) → RunOn 0 (all_records (y.placed m))) → FindsNothing x
-  ours_find x k e whole = legible_finds image y m holds there x k (record { unbroken = unbroken_here e; whole = whole })
+  pub ours_find : (x : Rescue) → Rescued m (content image m) x → FindsNothing x
+  ours_find x k = legible_finds image y m holds there x k keeps_here
 
 module _ (c : Configuration) (text : List ℕ) (all : List Event) (image : Image) (y : Contents) (m : ℕ) (x : Rescue) (life : Life c text all image) (holds : HoldsContents image y) (there : Contains members m) (k : Rescued m (content image m) x) where
   gives : GivesAll y m x

@@ -1,5 +1,5 @@
 // The laws of one medium alone.
-ghost use Rattle.std.specs.Prelude.{◌≡◌, ◌<◌, ◌+◌, ℕ, List, [], length, Contains, drop};
+ghost use Rattle.std.specs.Prelude.{◌≡◌, ℕ, List, [], Contains, drop};
 ghost use Rattle.vdr_terms.specs.Records.{Record as Entry};
 ghost use Rattle.vdr_terms.specs.Order.{RunOn};
 ghost use Rattle.vdr_core.specs.Histories.{Event};
@@ -7,12 +7,7 @@ ghost use Rattle.vdr_durability.specs.Playback.{medium_of, selected};
 ghost use Rattle.vdr_outside.specs.Disk.{Image, content};
 ghost use Rattle.vdr_config.specs.Configuration.{Configuration};
 ghost use Rattle.vdr_config.specs.Sizes.{window_of};
-ghost use Rattle.vdr_terms.specs.Needs.{Sizes};
-ghost use Rattle.vdr_durability.specs.Retention.{Pin};
-ghost use Rattle.vdr_directory.specs.Bringing.{AreAlike};
-ghost use Rattle.vdr_directory.specs.Sequence.{Placed, all_records};
-ghost use Rattle.vdr_ring.specs.Regularity.{IsAllowed};
-ghost use Rattle.vdr_ring.specs.Stages.{AreStages, Stages};
+ghost use Rattle.vdr_ring.specs.Whole.{KeepsAll};
 ghost use Rattle.vdr_vault.specs.Lives.{Life};
 ghost use Rattle.vdr_vault.specs.Ours.{IsOurs};
 ghost use Rattle.vdr_segment.specs.Segments.{AreBatches};
@@ -20,13 +15,11 @@ ghost use Rattle.vdr_index.specs.Extents.{records_in};
 ghost use Rattle.vdr_rescue.specs.declared.findings.Finding.{Finding as AFinding};
 ghost use Rattle.vdr_terms.specs.Queries.{Query};
 ghost use Rattle.vdr_rescue.specs.Alones.{AloneState, IsAloneOn, IsReadThrough, IsSameMedium, RefusesAlone, Rescue, Rescued, Selects, account_of, selected_of};
-ghost use Rattle.vdr_opening.specs.Media.{Contents, HoldsContents, members, opening_of};
+ghost use Rattle.vdr_opening.specs.Media.{Contents, HoldsContents, members, opening_of, slots_on};
 ghost use Rattle.vdr_rescue.specs.Findings.{AreFindings};
 ghost use Rattle.vdr_rescue.specs.Given.{GivenBy};
-ghost use Rattle.vdr_rescue.specs.Legible.{FindsNothing, GivesAll, KeepsAll, slots_of};
+ghost use Rattle.vdr_rescue.specs.Legible.{FindsNothing, GivesAll};
 ghost use Rattle.vdr_rescue.specs.Lives.{EndsWithLast, HasNoOlder, RescuesLife};
-
-use vdr_ring::law_of_stages;
 
 /// A segment gives one list of records. One whose batches are legal and whose places run on from its first one gives all its records.
 pub fn law_of_given()
@@ -63,22 +56,20 @@ pub fn law_of_legible()
         → Contains members m → Rescued m (content image m) x → GivesAll y m x }
     ensures finds { (image : Image) (y : Contents) (m : ℕ) (x : Rescue) → HoldsContents image y
         → Contains members m → Rescued m (content image m) x
-        → KeepsAll (window_of y.config m) (slots_of y image m) (y.placed m) → FindsNothing x }
+        → KeepsAll (window_of y.config m) (slots_on y.config image m) (y.placed m) → FindsNothing x }
 {}
 
 /// Media of this product, each read alone, over any number of runs and stops: what one gives has in
 /// its window just the records of all that was ever recorded, but for a last batch that did not
-/// reach it, and of each live incident just its records. Nothing is missing or damaged on one that
-/// has the last batch and, while two of its slots are not open, all places from 0 on. Where it has
-/// that batch and nothing from before its window, a query selects what it selects in a play.
+/// reach it, and of each live incident just its records. Nothing is missing or damaged on any, with
+/// that batch or without. Where it has that batch and nothing from before its window, a query selects
+/// what it selects in a play.
 pub fn law_of_rescue()
     ensures gives { (c : Configuration) (text : List ℕ) (all : List Event) (image : Image)
         (y : Contents) (m : ℕ) (x : Rescue) → Life c text all image → HoldsContents image y
         → Contains members m → Rescued m (content image m) x → RescuesLife c text all y m x }
     ensures finds { (image : Image) (y : Contents) (m : ℕ) (x : Rescue) → IsOurs image
         → HoldsContents image y → Contains members m → Rescued m (content image m) x
-        → EndsWithLast y m
-        → (length (y.placed m) + 1 < slots_of y image m → RunOn 0 (all_records (y.placed m)))
         → FindsNothing x }
     ensures plays { (image : Image) (y : Contents) (x : Rescue) (query : Query) → IsOurs image
         → HoldsContents image y → Contains members (medium_of query.medium)
@@ -86,21 +77,3 @@ pub fn law_of_rescue()
         → EndsWithLast y (medium_of query.medium) → HasNoOlder y.config x.given query.medium
         → selected_of x query ≡ selected (opening_of y) [] query }
 {}
-
-/// A ring keeps it that its medium lacks nothing: one without a segment does, each stage of an
-/// append that its configuration allows does where the medium did before it, and so do segments
-/// that get their summary.
-pub fn law_of_places()
-    ensures nothing { (seconds count : ℕ) → KeepsAll seconds count [] }
-    ensures stages { (sizes : Sizes) (m size count seconds : ℕ) (pins : List Pin)
-        (placed : List Placed) (first : ℕ) (records : List Entry) (stages : Stages)
-        → IsAllowed sizes m size count seconds pins placed records
-        → AreStages size count seconds pins placed first records stages
-        → (all_records placed ≡ [] → RunOn 0 records) → KeepsAll seconds count placed
-        → KeepsAll seconds count stages.closed × KeepsAll seconds count stages.begun
-        × KeepsAll seconds count stages.done × KeepsAll seconds count stages.left }
-    ensures alike { (seconds count : ℕ) (placed now : List Placed) → AreAlike placed now
-        → KeepsAll seconds count placed → KeepsAll seconds count now }
-{
-    law_of_stages();
-}

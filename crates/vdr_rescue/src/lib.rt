@@ -34,7 +34,5 @@ pub use front::Front;
 pub use fronts::{Fronts, Head, read_fronts};
 pub use given::{Stand, next_given};
 pub use lacking::Places;
-pub use law::{
-    law_of_alone, law_of_given, law_of_legible, law_of_places, law_of_rescue, law_of_rescued,
-};
+pub use law::{law_of_alone, law_of_given, law_of_legible, law_of_rescue, law_of_rescued};
 pub use told::{Run, Told};

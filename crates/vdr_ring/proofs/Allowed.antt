@@ -190,11 +190,14 @@ module _ (sizes : Sizes) (m size count seconds : ℕ) (pins : List Pin) (all rec
       (λ b. subst (λ (p : List Placed × List Placed). P p.0 p.1) (λ i. (sym b.begun i, sym b.done i)) (more stages.closed (new_segment b.slot (next_seq (last placed)) first)))
       are.0
 
-  begun_batches : batches_in stages.begun ≡ batches_in stages.closed
+  pub begun_batches : batches_in stages.begun ≡ batches_in stages.closed
   begun_batches = begun_from (λ ps. batches_in ps ≡ batches_in stages.closed) refl (λ slot seq. batches_append stages.closed (new_segment slot seq first ∷ []) ∙ append-nil (batches_in stages.closed))
 
-  done_batches : batches_in stages.done ≡ batches_in stages.closed ++ records ∷ []
+  pub done_batches : batches_in stages.done ≡ batches_in stages.closed ++ records ∷ []
   done_batches = done_from (λ begun done. batches_in done ≡ batches_in begun ++ records ∷ []) (λ older newest. pushed older newest records) ∙ ap (λ (bs : Batches). bs ++ records ∷ []) begun_batches
+
+  pub left_batches : batches_in stages.left ≡ batches_in stages.done
+  left_batches = sym (segments_batches stages.left) ∙ ap (flat_map (λ (segment : Batches). segment)) (same_segments records stages are.1) ∙ segments_batches stages.done
 
   closed_ends : last (batches_in stages.closed) ≡ last (batches_in placed)
   closed_ends = closed_from (λ was now. last (batches_in now) ≡ last (batches_in was)) refl (λ before v after order may_go some. last_stays_behind seconds pins before v after ready.allowed.some order may_go some)
@@ -270,7 +273,7 @@ module _ (sizes : Sizes) (m size count seconds : ℕ) (pins : List Pin) (all rec
   module _ (now : List Placed) (have : HaveBatch stages now) where
     now_batches : batches_in now ≡ batches_in stages.closed ++ records ∷ []
     now_batches = at_both stages now have (λ ps. batches_in ps ≡ batches_in stages.closed ++ records ∷ []) done_batches
-        (sym (segments_batches stages.left) ∙ ap (flat_map (λ (segment : Batches). segment)) (same_segments records stages are.1) ∙ segments_batches stages.done ∙ done_batches)
+        (left_batches ∙ done_batches)
 
     now_records : all_records now ≡ all_records stages.closed ++ records
     now_records = sym (records_are now) ∙ ap segment_records now_batches ∙ all_with (batches_in stages.closed) records ∙ ap (λ (rs : List Record). rs ++ records) (records_are stages.closed)

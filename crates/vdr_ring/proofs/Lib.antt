@@ -27,6 +27,7 @@ pub mod Shaping
 pub mod Pinned
 pub mod Records
 pub mod Allowed
+pub mod KeptPlaces
 pub mod Continuing
 pub mod Batching
 pub mod Lacking

@@ -8,6 +8,7 @@ pub mod Stages
 pub mod Bringing
 pub mod Appends
 pub mod Regularity
+pub mod Whole
 pub mod Keeping
 pub mod Lasts
 pub mod Meets

@@ -1,6 +1,7 @@
-// The laws of the ring: what it retains at each stage of an append, and that summaries change no record.
+// The laws of the ring: what it retains at each stage of an append and that its medium lacks nothing, and that summaries change no record.
 ghost use Rattle.std.specs.Prelude.{◌≡◌, ◌≢◌, ◌↔◌, ◌≤◌, [], ◌∷◌, ◌++◌, ℕ, List};
 ghost use Rattle.vdr_terms.specs.Needs.{Sizes, cost, usable};
+ghost use Rattle.vdr_terms.specs.Order.{RunOn};
 ghost use Rattle.vdr_terms.specs.Records.{Record};
 ghost use Rattle.vdr_durability.specs.Retention.{Pin, Retains};
 ghost use Rattle.vdr_durability.specs.Victims.{IsOldestCandidate};
@@ -10,6 +11,7 @@ ghost use Rattle.vdr_directory.specs.Bringing.{AreAlike};
 ghost use Rattle.vdr_directory.specs.Closed.{IsFull};
 ghost use Rattle.vdr_ring.specs.Stages.{AreStages, IsOldest, IsVictim, Stages};
 ghost use Rattle.vdr_ring.specs.Regularity.{AreRegular, IsAllowed, MissOneAtMost};
+ghost use Rattle.vdr_ring.specs.Whole.{KeepsAll};
 
 /// What a ring retains of all the records that it was given, at each stage of an append that its configuration allows: of
 /// all before it once a victim is closed and once a segment is begun, and of the batch too once it is done and once a
@@ -44,6 +46,19 @@ pub fn law_of_stages()
         → MissOneAtMost stages.closed placed × (batches_in stages.begun ≡ batches_in stages.closed) × (batches_in stages.done ≡ batches_in stages.closed ++ records ∷ [])
         × (batches_in stages.left ≡ batches_in stages.done) }
 {}
+
+/// A ring keeps it that its medium lacks nothing: one without a segment does, each stage of an append that its configuration
+/// allows does where the medium did before it, and so do segments that get their summary.
+pub fn law_of_places()
+    ensures nothing { (seconds count : ℕ) → KeepsAll seconds count [] }
+    ensures stages { (sizes : Sizes) (m size count seconds : ℕ) (pins : List Pin) (placed : List Placed) (first : ℕ) (records : List Record) (stages : Stages)
+        → IsAllowed sizes m size count seconds pins placed records → AreStages size count seconds pins placed first records stages
+        → (all_records placed ≡ [] → RunOn 0 records) → KeepsAll seconds count placed
+        → KeepsAll seconds count stages.closed × KeepsAll seconds count stages.begun × KeepsAll seconds count stages.done × KeepsAll seconds count stages.left }
+    ensures alike { (seconds count : ℕ) (placed now : List Placed) → AreAlike placed now → KeepsAll seconds count placed → KeepsAll seconds count now }
+{
+    law_of_stages();
+}
 
 /// Segments that differ in summaries alone are the same batches and records, and hold the same places. Regular ones stay
 /// regular.

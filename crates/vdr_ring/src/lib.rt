@@ -31,7 +31,7 @@ mod visit;
 
 pub use cursor::Cursor;
 pub use cursor_law::law_of_budget;
-pub use law::{law_of_alike, law_of_stages};
+pub use law::{law_of_alike, law_of_places, law_of_stages};
 pub use pins::Pins;
 pub use refused::ReadRefused;
 pub use ring::Ring;

@@ -19,7 +19,7 @@ use Rattle.vdr_durability.specs.Media.{IsAppended}
 use Rattle.vdr_outside.specs.declared.fault.Fault.{Fault}
 use Rattle.vdr_outside.specs.Disk.{Disk, Image, content}
 use Rattle.vdr_outside.specs.Moments.{AtEachMoment}
-use Rattle.vdr_outside.proofs.Moments.{moments_join, moments_weaken, now_after}
+use Rattle.vdr_outside.proofs.Moments.{moments_join, moments_weaken, now_after, size_read}
 use Rattle.vdr_config.specs.Sizes.{sizes_of, window_of}
 use Rattle.vdr_segment.specs.Slots.{SameFront}
 use Rattle.vdr_directory.specs.Sequence.{Placed, all_records, batches_in, segments_in}
@@ -34,10 +34,13 @@ use Rattle.vdr_ring.specs.Bringing.{HasBroughtUp}
 use Rattle.vdr_ring.proofs.AlikeMedia.{alike_holds, alike_records}
 use Rattle.vdr_media.proofs.Two.{all_two, of_all, of_each}
 use Rattle.vdr_opening.specs.Answers.{AreRingsOf, ring_at}
-use Rattle.vdr_opening.specs.Media.{AreThere, Contents, IsMedium, members}
+use Rattle.vdr_ring.specs.Whole.{is_filled}
+use Rattle.vdr_ring.proofs.KeptPlaces.{kept_alike}
+use Rattle.vdr_opening.specs.Media.{AreThere, Contents, IsMedium, members, slots_on}
 use Rattle.vdr_vault.specs.Bringing.{AllStayAlike}
 use Rattle.vdr_vault.specs.Calls.{Commits, MayCommit}
-use Rattle.vdr_vault.specs.Vaults.{HoldsHistory, ShowsHistory, Stands, VaultState, reading_with, ring_of}
+use Rattle.vdr_vault.specs.Vaults.{HoldsHistory, ShowsHistory, Stands, VaultState, contents_of, reading_with, ring_of}
+use Rattle.vdr_vault.proofs.Kept.{filled_there, keeps_after}
 use Rattle.vdr_vault.proofs.CommitImages.{legible_with, two}
 use Rattle.vdr_vault.proofs.Members.{ring_is}
 use Rattle.vdr_vault.proofs.ShownHistory.{sound_alone}
@@ -74,26 +77,29 @@ module _ {tells tells_images : Type 0} (opening : Opening) (events : List Event)
       retained : (m : ℕ) → m < 2 → Retains (opening.settings.seconds m) (pins_on m (incidents opening events)) (given_with opening events m) (all_records (now m))
       retained m lt = subst (Retains (opening.settings.seconds m) (pins_on m (incidents opening events)) (given_with opening events m)) (same_records m lt) (history m lt).retains
 
-      sound : (m : ℕ) → m < 2 → IsSoundAlone vault.config m (now m) vault.table (all_records (now m))
+      sound : (m : ℕ) → m < 2 → IsSoundAlone vault.config m (ring_of vault m).slots (now m) vault.table (all_records (now m))
       sound m lt =
           let was = sound_alone opening events vault.config m (ring_of vault m) (placed m) vault.table old (history m lt) (ap (λ (s : Settings). s.seconds m) stands.settings) stands.incidents_are in
           record {
             regular = alike_regular _ _ _ (placed m) (now m) (alike m lt) was.regular;
             pins = subst (λ (rs : List Record). ArePinsOf (sizes_of vault.config) m rs (pins_on m vault.table)) (same_records m lt) was.pins;
             unbroken = subst (IsUnbroken (window_of vault.config m)) (same_records m lt) was.unbroken;
+            keeps = kept_alike _ _ (placed m) (now m) (alike m lt) was.keeps;
           }
 
       -- An image that holds them shows the events.
       shows : (i : Image) → ((m : ℕ) → m < 2 → HoldsPlaced (ring_of vault m).segment (ring_of vault m).slots (now m) (content i m) × AreInOrder (now m) × SameFront (content old.reads m) (content i m)) → ShowsHistory opening events i
       shows i holds =
-          let x : Contents = record { config = vault.config; text = opening.settings.text; placed = now; table = vault.table } in
+          let x : Contents = contents_of opening vault now vault.table in
           shown_level opening events x i (record {
             media = of_all (λ m. IsMedium m vault.config opening.settings.text (now m) (content i m))
                 (λ m lt. legible_with opening events vault.config m (ring_of vault m) (placed m) old (history m lt) told (now m) (content i m) (holds m lt).2 (holds m lt).0 (holds m lt).1);
             table = table_stays (content old.reads 1) (content i 1) (holds 1 (omega arith)).2 vault.config.incident_slots vault.table few (stands.table told);
             there = there;
+            filled = of_all (λ m. is_filled (ring_of vault m).slots (now m) ≡ is_filled (slots_on vault.config i m) (now m))
+                (λ m lt. filled_there vault.config old.sizes m (ring_of vault m) (now m) (content i m) (history m lt).is_its ((holds m lt).2.size ∙ size_read old m told));
           })
-          (sound_level x level (of_all (λ m. AreInOrder (now m)) (λ m lt. (holds m lt).1)) (sound 0 (omega arith)) (sound 1 (omega arith)))
+          (sound_level x (λ m. (ring_of vault m).slots) (of_all (λ m. is_filled (ring_of vault m).slots (now m) ≡ is_filled (ring_of vault m).slots (now m)) (λ m lt. refl)) level (of_all (λ m. AreInOrder (now m)) (λ m lt. (holds m lt).1)) (sound 0 (omega arith)) (sound 1 (omega arith)))
           refl stands.incidents_are level (of_all (λ m. Retains (opening.settings.seconds m) (pins_on m (incidents opening events)) (given_with opening events m) (all_records (now m))) retained)
 
       -- A vault whose rings read them stands.
@@ -113,6 +119,7 @@ module _ {tells tells_images : Type 0} (opening : Opening) (events : List Event)
               retains = retained m lt;
               pins = subst (λ (rs : List Record). ArePinsOf (sizes_of vault.config) m rs (pins_on m (incidents opening events))) (same_records m lt) was.pins;
               unbroken = was.unbroken;
+              keeps = keeps_after vault.config m (ring_of vault m) (ring_at after m) (now m) old new told was.is_its (ring_is are m lt) (fronts m) (kept_alike _ _ (placed m) (now m) (alike m lt) was.keeps);
             });
         level = level;
         incidents_are = stands.incidents_are;

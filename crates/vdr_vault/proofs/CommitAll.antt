@@ -29,6 +29,9 @@ use Rattle.vdr_ring.specs.Openings.{IsRingOf}
 use Rattle.vdr_durability.specs.Soundness.{IsUnbroken}
 use Rattle.vdr_durability.proofs.Unbroken.{unbroken_follows}
 use Rattle.vdr_vault.specs.Vaults.{HoldsHistory, of_stamp, tick_utc, VaultState, ShowsHistory, Stands, ring_of, working_from}
+use Rattle.vdr_ring.specs.Whole.{KeepsAll}
+use Rattle.vdr_ring.proofs.KeptPlaces.{begins_whole, kept_with}
+use Rattle.vdr_vault.proofs.Kept.{keeps_after}
 use Rattle.vdr_ring.proofs.Allowed.{IsAfter, last_of_both, IsReady, done_after}
 use Rattle.vdr_vault.proofs.ShownImages.{front_stays, table_stays}
 use Rattle.vdr_vault.proofs.ShownPlaces.{stamp_told}
@@ -93,8 +96,10 @@ module _ (opening : Opening) (events : List Event) (e : Event) (records : List R
         → IsRingOf c new.sizes m new_ring → rings.Reads new_ring now new → (tells → SameFront (content old.reads m) (content new.reads m))
         → ring.seconds ≡ opening.settings.seconds m → 0 < opening.settings.seconds m → FollowOn (last (given_with opening events m)) records
         → IsAfter (sizes_of c) m ring.seconds (pins_on m (incidents opening events)) (given_with opening events m) records placed now
+        → KeepsAll new_ring.seconds new_ring.slots now
         → HoldsHistory opening (events ++ e ∷ []) c m new_ring now new
-    history_done c m ring new_ring placed now old new h its reads front window some follow after = record {
+    history_done c m ring new_ring placed now old new h its reads front window some follow after keeps = record {
+      keeps = keeps;
       is_its = its;
       reads = reads;
       front = λ told. front_stays (content old.reads m) (content new.reads m) (front told) m c opening.settings.text (h.front told);
@@ -119,6 +124,7 @@ history_meanwhile opening events c m k ring placed P old new ne moments others s
   retains = h.retains;
   pins = h.pins;
   unbroken = h.unbroken;
+  keeps = h.keeps;
 }
   where
     differs : ring.medium ≢ m
@@ -223,6 +229,9 @@ module _ {tells tells_images : Type 0} (opening : Opening) (events : List Event)
           → HoldsHistory opening (events ++ e ∷ []) vault.config k (ring_at after k) g.stages.left new
       history_with k lt g = history_done opening events e records taken is vault.config k (ring_of vault k) (ring_at after k) (placed k) g.stages.left old new (history k lt) (ring_is are k lt) g.reads (λ _. fronts k) (window k lt) (roomy k)
           (follows k lt) (done k lt g)
+          (keeps_after vault.config k (ring_of vault k) (ring_at after k) g.stages.left old new told (history k lt).is_its (ring_is are k lt) (fronts k)
+          (kept_with (sizes_of vault.config) k (ring_of vault k).segment (ring_of vault k).slots (ring_of vault k).seconds (pins_on k (incidents opening events)) (given_with opening events k) records (placed k)
+          (next_place opening events) (ready k lt) g.stages g.are g.stages.left (inr refl) (begins_whole (placed k) (next_place opening events) records (next_at k lt) may.places) (history k lt).keeps))
 
       stands_with : Stands opening (events ++ e ∷ []) (working_from (last records) (record vault { rings = after })) (two first.stages.left second.stages.left) new
       stands_with =

@@ -16,7 +16,9 @@ use Rattle.vdr_directory.specs.Sequence.{Placed, all_records, batches_in}
 use Rattle.vdr_directory.specs.Order.{AreInOrder}
 use Rattle.vdr_directory.specs.Holds.{HoldsPlaced}
 use Rattle.vdr_ring.specs.Rings.{RingState}
-use Rattle.vdr_opening.specs.Media.{members, IsMedium, AreThere, Contents, HoldsContents, reading_of}
+use Rattle.vdr_ring.specs.Whole.{KeepsAll, is_filled}
+use Rattle.vdr_ring.proofs.KeptPlaces.{begins_whole, kept_with}
+use Rattle.vdr_opening.specs.Media.{members, IsMedium, AreThere, Contents, HoldsContents, reading_of, slots_on}
 use Rattle.vdr_vault.specs.Vaults.{HoldsHistory, ShowsHistory}
 use Rattle.vdr_ring.specs.Taking.{Lacks, Has}
 use Rattle.vdr_vault.specs.Passes.{Passes}
@@ -32,7 +34,8 @@ use Rattle.vdr_vault.proofs.Members.{passed_on}
 use Rattle.vdr_ring.proofs.Pinned.{HoldPins}
 use Rattle.vdr_ring.proofs.Continuing.{waits}
 use Rattle.vdr_vault.proofs.CommitReady.{are_there}
-use Rattle.vdr_vault.proofs.Sounding.{IsSoundAlone, sound_level, sound_passed, unbroken_waiting}
+use Rattle.vdr_vault.proofs.Kept.{filled_there, keeps_window}
+use Rattle.vdr_vault.proofs.Sounding.{AreFilled, IsSoundAlone, sound_level, sound_passed, unbroken_waiting}
 use Rattle.vdr_durability.proofs.Unbroken.{unbroken_follows, unbroken_held}
 use Rattle.vdr_durability.specs.Soundness.{IsUnbroken}
 use Rattle.vdr_ring.proofs.Medium.{in_order_records}
@@ -69,8 +72,14 @@ module _ {tells tells_images : Type 0} where
 -- What an image shows while a batch goes to one medium after the other.
 
 -- What the media hold with these segments.
-abbrev contents : Opening → Configuration → List (Option Incident) → List Placed → List Placed → Contents
-contents opening c table capsule long_term = record { config = c; text = opening.settings.text; placed = two capsule long_term; table = table }
+abbrev contents : Opening → Configuration → (count : ℕ → ℕ) → List (Option Incident) → List Placed → List Placed → Contents
+contents opening c count table capsule long_term = record {
+  config = c;
+  text = opening.settings.text;
+  placed = two capsule long_term;
+  table = table;
+  filled = λ m. is_filled (count m) (two capsule long_term m);
+}
 
 -- Pins of more records are those of fewer.
 fewer_pins : (sizes : Sizes) (m : ℕ) (held more : List Record) (pins : List Pin) → ArePinsOf sizes m (held ++ more) pins → ArePinsOf sizes m held pins
@@ -91,6 +100,9 @@ module _ (opening : Opening) (events : List Event) (c : Configuration) (table : 
       (window : (k : ℕ) → k < 2 → (ring k).seconds ≡ opening.settings.seconds k)
       (ready : (k : ℕ) → k < 2 → IsReady (sizes_of c) k (ring k).segment (ring k).slots (ring k).seconds (pins_on k (incidents opening events)) (given_with opening events k) records (placed k))
       (first : ℕ) (told : tells) (held : HoldsTable c.incident_slots table (content old.reads 1)) where
+    abbrev count : ℕ → ℕ
+    count k = (ring k).slots
+
     abbrev LacksIt : ℕ → List ℕ → Type 0
     LacksIt k = Lacks true (ring k) (pins_on k (incidents opening events)) (placed k) first records (content old.reads k)
 
@@ -102,14 +114,20 @@ module _ (opening : Opening) (events : List Event) (c : Configuration) (table : 
 
     -- What an image holds with these segments.
     holds_contents : (i : Image) (first second : List Placed) → HoldsPlaced (ring 0).segment (ring 0).slots first (content i 0) → AreInOrder first → SameFront (content old.reads 0) (content i 0)
-        → HoldsPlaced (ring 1).segment (ring 1).slots second (content i 1) → AreInOrder second → SameFront (content old.reads 1) (content i 1) → HoldPins (pins_of (incidents opening events)) second → HoldsContents i (contents opening c table first second)
+        → HoldsPlaced (ring 1).segment (ring 1).slots second (content i 1) → AreInOrder second → SameFront (content old.reads 1) (content i 1) → HoldPins (pins_of (incidents opening events)) second → HoldsContents i (contents opening c count table first second)
     holds_contents i first second held_first order front held_second order' front' pinned = record {
       media = all_two (λ m. IsMedium m c opening.settings.text (two first second m) (content i m))
           (legible_with opening events c 0 (ring 0) (placed 0) old (history 0 (omega arith)) told first (content i 0) front held_first order)
           (legible_with opening events c 1 (ring 1) (placed 1) old (history 1 (omega arith)) told second (content i 1) front' held_second order');
       table = table_stays (content old.reads 1) (content i 1) front' c.incident_slots table few held;
       there = subst (λ (t : List (Option Incident)). AreThere t second) (sym is_table) (are_there (incidents opening events) second pinned);
+      filled = all_two (λ m. is_filled (count m) (two first second m) ≡ is_filled (slots_on c i m) (two first second m))
+          (filled_there c old.sizes 0 (ring 0) first (content i 0) (history 0 (omega arith)).is_its (front.size ∙ size_read old 0 told))
+          (filled_there c old.sizes 1 (ring 1) second (content i 1) (history 1 (omega arith)).is_its (front'.size ∙ size_read old 1 told));
     }
+
+    are_filled : (first second : List Placed) → AreFilled (contents opening c count table first second) count
+    are_filled first second = all_two (λ m. is_filled (count m) (two first second m) ≡ is_filled (count m) (two first second m)) refl refl
 
     module _ (k : ℕ) (lt : k < 2) where
       follow : FollowOn (last (given_with opening events k)) records
@@ -132,16 +150,21 @@ module _ (opening : Opening) (events : List Event) (c : Configuration) (table : 
       unbroken_with = unbroken_follows (opening.settings.seconds k) (given_with opening events k) records (roomy k) (history k lt).order follow (history k lt).unbroken
 
       -- It is sound by itself: lacking the batch as it is and with it, and having it.
-      before_sound : (bytes : List ℕ) (b : Before k bytes) → IsSoundAlone c k b.now table (all_records b.now)
+      before_keeps : (bytes : List ℕ) (b : Before k bytes) → KeepsAll (window_of c k) (count k) b.now
+      before_keeps bytes b = keeps_window c old.sizes k (ring k) b.now (history k lt).is_its (b.keeps (history k lt).keeps)
+
+      before_sound : (bytes : List ℕ) (b : Before k bytes) → IsSoundAlone c k (count k) b.now table (all_records b.now)
       before_sound bytes b = record {
+        keeps = before_keeps bytes b;
         regular = b.stays.regular;
         pins = subst (λ (t : List (Option Incident)). ArePinsOf (sizes_of c) k (all_records b.now) (pins_on k t)) (sym is_table) (fewer_pins (sizes_of c) k (all_records b.now) records (pins_on k (incidents opening events)) b.stays.pins_with);
         unbroken = subst (λ (n : ℕ). IsUnbroken n (all_records b.now)) (windows k)
             (unbroken_held (opening.settings.seconds k) (given_with opening events k) (all_records b.now) (history k lt).order (in_order_records b.now b.order) (before_retains b.now b.before).window (history k lt).unbroken);
       }
 
-      lacking_sound : (bytes : List ℕ) (b : Before k bytes) → IsSoundAlone c k b.now table (all_records b.now ++ records)
+      lacking_sound : (bytes : List ℕ) (b : Before k bytes) → IsSoundAlone c k (count k) b.now table (all_records b.now ++ records)
       lacking_sound bytes b = record {
+        keeps = before_keeps bytes b;
         regular = b.stays.regular;
         pins = subst (λ (t : List (Option Incident)). ArePinsOf (sizes_of c) k (all_records b.now ++ records) (pins_on k t)) (sym is_table) b.stays.pins_with;
         unbroken = subst (λ (n : ℕ). IsUnbroken n (all_records b.now ++ records)) (windows k)
@@ -149,8 +172,15 @@ module _ (opening : Opening) (events : List Event) (c : Configuration) (table : 
             (before_retains b.now b.before) unbroken_with);
       }
 
-      having_sound : (bytes : List ℕ) (h : HasIt k bytes) → IsSoundAlone c k h.now table (all_records h.now)
+      next_at : next_after (last (all_records (placed k))) ≡ next_place opening events
+      next_at = of_each (λ k. next_after (last (all_records (placed k))) ≡ next_place opening events)
+          (all_two (λ k. next_after (last (all_records (placed k))) ≡ next_place opening events) meets.next_capsule meets.next_long) k lt
+
+      having_sound : (bytes : List ℕ) (h : HasIt k bytes) → IsSoundAlone c k (count k) h.now table (all_records h.now)
       having_sound bytes h = record {
+        keeps = keeps_window c old.sizes k (ring k) h.now (history k lt).is_its
+            (kept_with (sizes_of c) k (ring k).segment (ring k).slots (ring k).seconds (pins_on k (incidents opening events)) (given_with opening events k) records (placed k) first (ready k lt) h.stages h.are h.now h.stage
+            (begins_whole (placed k) (next_place opening events) records next_at meets.run) (history k lt).keeps);
         regular = (after bytes h).regular;
         pins = subst (λ (t : List (Option Incident)). ArePinsOf (sizes_of c) k (all_records h.now) (pins_on k t)) (sym is_table) (after bytes h).pins_are;
         unbroken = subst (λ (n : ℕ). IsUnbroken n (all_records h.now)) (windows k)
@@ -167,10 +197,10 @@ module _ (opening : Opening) (events : List Event) (c : Configuration) (table : 
     none_has i l l' =
         let x = before 0 (omega arith) (content i 0) l in
         let y = before 1 (omega arith) (content i 1) l' in
-        let level = all_two (λ m. last ((reading_of (contents opening c table x.now y.now)).batches m) ≡ last (batches_in x.now)) refl (y.before.ends ∙ meets.level ∙ sym x.before.ends) in
-        shown_level opening events (contents opening c table x.now y.now) i
+        let level = all_two (λ m. last ((reading_of (contents opening c count table x.now y.now)).batches m) ≡ last (batches_in x.now)) refl (y.before.ends ∙ meets.level ∙ sym x.before.ends) in
+        shown_level opening events (contents opening c count table x.now y.now) i
         (holds_contents i x.now y.now x.holds x.order l.front y.holds y.order l'.front y.before.pinned)
-        (sound_level (contents opening c table x.now y.now) level (all_two (λ m. AreInOrder (two x.now y.now m)) x.order y.order)
+        (sound_level (contents opening c count table x.now y.now) count (are_filled x.now y.now) level (all_two (λ m. AreInOrder (two x.now y.now m)) x.order y.order)
         (before_sound 0 (omega arith) (content i 0) x) (before_sound 1 (omega arith) (content i 1) y))
         refl is_table level
         (all_two (RetainsGiven opening events (given_with opening events) (two x.now y.now)) (before_retains 0 (omega arith) x.now x.before) (before_retains 1 (omega arith) y.now y.before))
@@ -180,12 +210,12 @@ module _ (opening : Opening) (events : List Event) (c : Configuration) (table : 
     first_has i h l =
         let done = after 0 (omega arith) (content i 0) h in
         let y = before 1 (omega arith) (content i 1) l in
-        let x = contents opening c table h.now y.now in
+        let x = contents opening c count table h.now y.now in
         let passed = passed_on records (reading_of x) done.ends (waits_for 1 (omega arith) (content i 1) y meets.next_long) in
         let retained = before_retains 1 (omega arith) y.now y.before in
         shown_passed opening events x i
         (holds_contents i h.now y.now h.holds (h.order refl) h.front y.holds y.order l.front y.before.pinned)
-        (sound_passed x records passed y.stays.paced
+        (sound_passed x count records (are_filled h.now y.now) passed y.stays.paced
         (having_sound 0 (omega arith) (content i 0) h)
         (lacking_sound 1 (omega arith) (content i 1) y))
         refl is_table e records taken (0 ∷ []) (1 ∷ []) is passed meets.follow
@@ -197,10 +227,10 @@ module _ (opening : Opening) (events : List Event) (c : Configuration) (table : 
     all_have i h h' =
         let done = after 0 (omega arith) (content i 0) h in
         let done' = after 1 (omega arith) (content i 1) h' in
-        let x = contents opening c table h.now h'.now in
+        let x = contents opening c count table h.now h'.now in
         shown_passed opening events x i
         (holds_contents i h.now h'.now h.holds (h.order refl) h.front h'.holds (h'.order refl) h'.front done'.pinned)
-        (sound_level x (all_two (λ m. last ((reading_of x).batches m) ≡ last (batches_in h.now)) refl (done'.ends ∙ sym done.ends))
+        (sound_level x count (are_filled h.now h'.now) (all_two (λ m. last ((reading_of x).batches m) ≡ last (batches_in h.now)) refl (done'.ends ∙ sym done.ends))
         (all_two (λ m. AreInOrder (x.placed m)) (h.order refl) (h'.order refl))
         (having_sound 0 (omega arith) (content i 0) h)
         (having_sound 1 (omega arith) (content i 1) h'))

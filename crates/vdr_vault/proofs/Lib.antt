@@ -2,6 +2,7 @@ pub mod Members
 pub mod PinsTaken
 pub mod ShownPlaces
 pub mod ShownHistory
+pub mod Kept
 pub mod ShownImages
 pub mod CommitReady
 pub mod OpenContents

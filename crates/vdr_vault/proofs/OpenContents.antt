@@ -5,6 +5,7 @@ use Rattle.std.proofs.lemmas.Bool.{false≢true}
 use Rattle.std.proofs.lemmas.List.Elements.{All-append, All-cons, All-contains, All-head, All-nil, All-tail}
 use Rattle.vdr_terms.specs.Order.{AreInOrder as RecordsAreInOrder, NeverFalls, RunOn}
 use Rattle.vdr_terms.specs.Records.{Record, last}
+use Rattle.vdr_terms.specs.Slots.{slot_count}
 use Rattle.vdr_durability.specs.Layout.{Batches, segment_records}
 use Rattle.vdr_durability.proofs.Lists.{last_contained}
 use Rattle.vdr_durability.proofs.Ordered.{parts_in_order, run_on_in_order}
@@ -25,6 +26,7 @@ use Rattle.vdr_directory.specs.Knowns.{AreInPlaceBy, batches_read}
 use Rattle.vdr_directory.specs.Opening.{AreBatchesRead, slot_bytes}
 use Rattle.vdr_directory.specs.Telling.{TellsBy}
 use Rattle.vdr_ring.specs.Rings.{RingState}
+use Rattle.vdr_ring.specs.Whole.{is_filled}
 use Rattle.vdr_ring.proofs.Medium.{in_order_records}
 use Rattle.vdr_incident.specs.Tables.{HoldsTable}
 use Rattle.vdr_opening.specs.Media.{members, Contents, HasKnowns, HoldsContents, HoldsParts, IsMedium, opening_of, reading_of}
@@ -57,6 +59,7 @@ module _ {tells tells_images : Type 0} where
     media = λ k d lt. subst (IsMedium (get_or members k d) x.config x.text (x.placed (get_or members k d))) (sym ((durable k d lt).each i now)) (h.media k d lt);
     table = subst (HoldsTable x.config.incident_slots x.table) (sym ((durable 1 1 (omega arith)).each i now)) h.table;
     there = h.there;
+    filled = λ k d lt. subst (λ (bytes : List ℕ). x.filled (get_or members k d) ≡ is_filled (slot_count x.config.segment (length bytes)) (x.placed (get_or members k d))) (sym ((durable k d lt).each i now)) (h.filled k d lt);
   }
 
 -- Contents whose ends meet show what is opened on them.

@@ -13,6 +13,7 @@ use Rattle.vdr_incident.specs.Tables.{HoldsTable}
 use Rattle.std.proofs.lemmas.List.Elements.{All-weaker}
 use Rattle.vdr_opening.specs.Media.{HasFront, members}
 use Rattle.vdr_ring.specs.Openings.{IsRingOf}
+use Rattle.vdr_ring.specs.Whole.{KeepsAll}
 use Rattle.vdr_vault.specs.Vaults.{VaultState, AreJudged, AreRings, HoldsHistory, IsReadable, IsReadableAt, Stands, ring_of}
 use Rattle.vdr_vault.specs.Plays.{ReadsOn}
 use Rattle.vdr_vault.proofs.Members.{at_one}
@@ -43,6 +44,7 @@ module _ {tells tells_images : Type 0} where
     retains = h.retains;
     pins = h.pins;
     unbroken = h.unbroken;
+    keeps = subst (λ (r : RingState). KeepsAll r.seconds r.slots placed) (sym read.ring) h.keeps;
   }
 
   -- What stands can be read.

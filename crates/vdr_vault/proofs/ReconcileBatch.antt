@@ -96,17 +96,17 @@ module _ {tells tells_images : Type 0} (x : Contents) (batch : List Record) (rin
   begins : begins_at (first_place x) batch ≡ true
   begins = (and_parts _ _ comes).0
 
-  runs : RunOn (first_place x) batch
-  runs = let run = last_runs_on (x.placed 0) batch capsule_order ends in runs_from batch (first_place x) run.0 run.1 begins
+  pub lacked_runs : RunOn (first_place x) batch
+  lacked_runs = let run = last_runs_on (x.placed 0) batch capsule_order ends in runs_from batch (first_place x) run.0 run.1 begins
 
   pub lacked_follows : FollowOn (last (all_records (x.placed 1))) batch
   lacked_follows =
       let goes_on = placed_goes_on None (x.placed 0) batch capsule_order (last_contained (batches_in (x.placed 0)) batch ends) in
-      follows (last (all_records (x.placed 1))) batch goes_on.1 goes_on.3 runs (and_parts _ _ comes).1
+      follows (last (all_records (x.placed 1))) batch goes_on.1 goes_on.3 lacked_runs (and_parts _ _ comes).1
 
   -- The batch goes on where the medium ends.
   pub lacked_goes_on : Continues (x.placed 1) (first_place x) batch
-  lacked_goes_on = continues (x.placed 1) batch (first_place x) order refl runs (begun (first_place x) batch begins) lacked_follows
+  lacked_goes_on = continues (x.placed 1) batch (first_place x) order refl lacked_runs (begun (first_place x) batch begins) lacked_follows
 
   module _ (stages : Stages) (are : AreStages ring.segment ring.slots ring.seconds (pins_of x.table) (x.placed 1) (first_place x) batch stages) where
     pub lacked_orders : AreInOrder stages.closed × AreInOrder stages.begun × AreInOrder stages.done × AreInOrder stages.left

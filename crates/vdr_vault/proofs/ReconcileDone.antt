@@ -21,15 +21,19 @@ use Rattle.vdr_directory.specs.Holds.{HoldsPlaced}
 use Rattle.vdr_ring.specs.Rings.{RingState}
 use Rattle.vdr_ring.specs.Regularity.{AreRegular, MissOneAtMost}
 use Rattle.vdr_ring.specs.Stages.{AreStages, Stages}
-use Rattle.vdr_opening.specs.Media.{members, Contents, HoldsContents, IsMedium, opening_of, reading_of, AreThere, HasFront}
+use Rattle.vdr_opening.specs.Media.{members, Contents, HoldsContents, IsMedium, opening_of, reading_of, AreThere, HasFront, slots_on}
 use Rattle.vdr_vault.proofs.Members.{ring_is}
 use Rattle.vdr_ring.specs.Taking.{HaveBatch}
 use Rattle.vdr_vault.specs.Vaults.{ShowsHistory, AreRings, HoldsHistory, VaultState, Stands, of_stamp, ring_of, tick_utc}
 use Rattle.vdr_durability.specs.Soundness.{IsUnbroken}
-use Rattle.vdr_vault.specs.Regularity.{AreSound, IsRegularMedium, IsUnbrokenMedium}
+use Rattle.vdr_vault.specs.Regularity.{AreSound, IsRegularMedium, IsUnbrokenMedium, LacksNothing}
+use Rattle.vdr_terms.specs.Slots.{slot_count}
+use Rattle.vdr_ring.specs.Whole.{KeepsAll, is_filled}
+use Rattle.vdr_ring.proofs.KeptPlaces.{begins_whole, kept_with}
+use Rattle.vdr_vault.proofs.Kept.{keeps_after, keeps_all, slots_there}
 use Rattle.vdr_ring.proofs.Medium.{in_order_records}
 use Rattle.vdr_durability.proofs.Following.{follow_in_order}
-use Rattle.vdr_vault.proofs.Sounding.{IsSoundAlone, no_pins, sound_level, sound_passed, unbroken_waiting, missing_is_paced, pins_read, segments_read, AreOpened, capsule_restored, long_term_restored, opened_shown, passed_still, waiting_shown, with_long_term, with_placed, level_opened}
+use Rattle.vdr_vault.proofs.Sounding.{AreFilled, IsSoundAlone, no_pins, sound_level, sound_passed, unbroken_waiting, missing_is_paced, pins_read, segments_read, AreOpened, capsule_restored, long_term_restored, opened_shown, passed_still, waiting_shown, with_long_term, with_placed, level_opened}
 use Rattle.vdr_durability.proofs.Unbroken.{unbroken_held}
 use Rattle.vdr_vault.proofs.ShownImages.{front_stays, table_stays, placed_there}
 use Rattle.vdr_ring.proofs.Pinned.{HoldPins}
@@ -38,7 +42,7 @@ use Rattle.vdr_ring.proofs.Allowed.{IsAfter, IsReady, StaysRegular, done_after}
 use Rattle.vdr_media.proofs.Formats.{zero_one}
 use Rattle.vdr_ring.proofs.Lacking.{before_of}
 use Rattle.vdr_ring.proofs.Batching.{last_runs_on}
-use Rattle.vdr_vault.proofs.ReconcileBatch.{HasIt, Lacks, LacksIt, first_place, lacked_follows, lacked_order, had_order, appending_within, held_within, lacked_goes_on}
+use Rattle.vdr_vault.proofs.ReconcileBatch.{HasIt, Lacks, LacksIt, first_place, lacked_follows, lacked_order, had_order, appending_within, held_within, lacked_goes_on, lacked_runs}
 use Rattle.vdr_core.specs.Histories.{Incident, stamp_of}
 use Rattle.vdr_config.specs.Configuration.{Configuration, IsConfiguration}
 use Rattle.vdr_ring.specs.Rings as rings
@@ -91,9 +95,32 @@ module _ {tells tells_images : Type 0} (x : Contents) (batch : List Record) (rin
   follow : FollowOn (last (all_records (x.placed 1))) batch
   follow = lacked_follows x batch ring disk h
 
+  -- How many slots the media have, and what each keeps.
+  abbrev count : ℕ → ℕ
+  count m = slots_on x.config disk.reads m
+
+  abbrev filled_with : List Placed → ℕ → Bool
+  filled_with now m = is_filled (count m) (with_long_term x.placed now m)
+
+  are_filled : (now : List Placed) → AreFilled (with_placed x (filled_with now) (with_long_term x.placed now)) count
+  are_filled now = all_two (λ m. filled_with now m ≡ filled_with now m) refl refl
+
+  slots_are : ring.slots ≡ count 1
+  slots_are = slots_there x.config disk.sizes 1 ring (content disk.reads 1) h.is_its (size_read disk 1 h.told)
+
+  -- The long-term medium, by its ring and by its configuration.
+  ring_keeps : KeepsAll ring.seconds ring.slots (x.placed 1)
+  ring_keeps =
+      let k = keeps_all x 1 (count 1) (h.holds.filled 1 1 (omega arith)) (sound.kept 1 1 (omega arith)) in
+      subst (λ (p : ℕ × ℕ). KeepsAll p.0 p.1 (x.placed 1)) (λ i. (sym h.is_its.seconds i, sym slots_are i)) k
+
+  keeps_now : (now : List Placed) → KeepsAll ring.seconds ring.slots now → KeepsAll (window_of x.config 1) (count 1) now
+  keeps_now now k = subst (λ (p : ℕ × ℕ). KeepsAll p.0 p.1 now) (λ i. (h.is_its.seconds i, slots_are i)) k
+
   -- Each medium is sound by itself: the capsule as it is, the long-term medium with the batch.
-  capsule_sound : IsSoundAlone x.config 0 (x.placed 0) x.table (all_records (x.placed 0))
+  capsule_sound : IsSoundAlone x.config 0 (count 0) (x.placed 0) x.table (all_records (x.placed 0))
   capsule_sound = record {
+    keeps = keeps_all x 0 (count 0) (h.holds.filled 0 0 (omega arith)) (sound.kept 0 0 (omega arith));
     regular = segments_read x sound.regular 0 0 (omega arith);
     pins = no_pins x.config (all_records (x.placed 0));
     unbroken = subst (IsUnbroken (window_of x.config 0)) (capsule_restored x batch h.passed follow) (sound.unbroken 0 0 (omega arith));
@@ -103,10 +130,11 @@ module _ {tells tells_images : Type 0} (x : Contents) (batch : List Record) (rin
   unbroken_with = subst (IsUnbroken (window_of x.config 1)) (long_term_restored x batch h.passed follow) (sound.unbroken 1 1 (omega arith))
 
   waiting_sound : (now : List Placed) → AreInOrder now → Retains (window_of x.config 1) (pins_on 1 x.table) (all_records (x.placed 1)) (all_records now) → StaysRegular (sizes_of x.config) 1 (pins_of x.table) batch now
-      → AreSound (with_placed x (with_long_term x.placed now))
-  waiting_sound now order retains stays = sound_passed (with_placed x (with_long_term x.placed now)) batch (passed_still x batch h.passed follow now retains)
+      → KeepsAll ring.seconds ring.slots now → AreSound (with_placed x (filled_with now) (with_long_term x.placed now))
+  waiting_sound now order retains stays keeps = sound_passed (with_placed x (filled_with now) (with_long_term x.placed now)) count batch (are_filled now) (passed_still x batch h.passed follow now retains (filled_with now))
       stays.paced capsule_sound
       (record {
+        keeps = keeps_now now keeps;
         regular = stays.regular;
         pins = stays.pins_with;
         unbroken = unbroken_waiting (window_of x.config 1) (all_records (x.placed 1)) (all_records now) batch (in_order_records (x.placed 1) ready.order) (in_order_records now order) follow stays.paced.order
@@ -133,9 +161,14 @@ module _ {tells tells_images : Type 0} (x : Contents) (batch : List Record) (rin
       there = are_there x.table now done.pinned;
     }
 
-    done_sound : AreSound (with_placed x (with_long_term x.placed now))
-    done_sound = sound_level (with_placed x (with_long_term x.placed now)) done_opened.level done_opened.order capsule_sound
+    pub done_keeps : KeepsAll ring.seconds ring.slots now
+    done_keeps = kept_with (sizes_of x.config) 1 ring.segment ring.slots ring.seconds (pins_of x.table) (all_records (x.placed 1)) batch (x.placed 1) (first_place x) ready stages are now have
+        (begins_whole (x.placed 1) (first_place x) batch refl (lacked_runs x batch ring disk h)) ring_keeps
+
+    done_sound : AreSound (with_placed x (filled_with now) (with_long_term x.placed now))
+    done_sound = sound_level (with_placed x (filled_with now) (with_long_term x.placed now)) count (are_filled now) done_opened.level done_opened.order capsule_sound
         (record {
+          keeps = keeps_now now done_keeps;
           regular = done.regular;
           pins = done.pins_are;
           unbroken = unbroken_held (window_of x.config 1) (all_records (x.placed 1) ++ batch) (all_records now)
@@ -145,7 +178,7 @@ module _ {tells tells_images : Type 0} (x : Contents) (batch : List Record) (rin
 
   -- What an image holds then.
   held : (now : List Placed) → AreInOrder now → HoldPins (pins_of x.table) now → (i : Image) → Changed 1 (λ b. LacksIt x batch ring disk h b ⊎ HasIt x batch ring disk h b) disk.now i → SameFront (content disk.reads 1) (content i 1)
-      → HoldsPlaced ring.segment ring.slots now (content i 1) → HoldsContents i (with_placed x (with_long_term x.placed now))
+      → HoldsPlaced ring.segment ring.slots now (content i 1) → HoldsContents i (with_placed x (filled_with now) (with_long_term x.placed now))
   held now order pinned i c front holds = record {
     media = all_two (λ m. IsMedium m x.config x.text (with_long_term x.placed now m) (content i m))
         (subst (IsMedium 0 x.config x.text (x.placed 0)) (sym (c.others 0 zero_one ∙ h.capsule.each c.image c.was)) (h.holds.media 0 0 (omega arith)))
@@ -155,6 +188,9 @@ module _ {tells tells_images : Type 0} (x : Contents) (batch : List Record) (rin
         });
     table = table_stays (content disk.reads 1) (content i 1) front x.config.incident_slots x.table h.ranges.slots_high h.holds.table;
     there = are_there x.table now pinned;
+    filled = all_two (λ m. filled_with now m ≡ is_filled (slots_on x.config i m) (with_long_term x.placed now m))
+        (ap (λ (bytes : List ℕ). is_filled (slot_count x.config.segment (length bytes)) (x.placed 0)) (sym (c.others 0 zero_one ∙ h.capsule.each c.image c.was)))
+        (ap (λ (n : ℕ). is_filled (slot_count x.config.segment n) now) (sym front.size));
   }
 
   -- At every moment they show what was opened.
@@ -164,10 +200,10 @@ module _ {tells tells_images : Type 0} (x : Contents) (batch : List Record) (rin
       let b = before_of (sizes_of x.config) 1 ring (pins_of x.table) (all_records (x.placed 1)) batch (x.placed 1) (first_place x) ready (content disk.reads 1) (content i 1)
       (record { now = l.now; holds = l.holds; stage = l.stage; order = λ o. lacked_order x batch ring disk h (content i 1) l; front = l.front }) in
       let retained = subst (λ (n : ℕ). Retains n (pins_of x.table) (all_records (x.placed 1)) (all_records b.now)) h.is_its.seconds b.before.retains in
-      waiting_shown x batch h.passed follow b.now retained i (waiting_sound b.now b.order retained b.stays) (held b.now b.order b.before.pinned i c l.front b.holds))
+      waiting_shown x batch h.passed follow b.now retained (filled_with b.now) i (waiting_sound b.now b.order retained b.stays (b.keeps ring_keeps)) (held b.now b.order b.before.pinned i c l.front b.holds))
       (λ (d : HasIt x batch ring disk h (content i 1)).
       let order = had_order x batch ring disk h (content i 1) d in
-      opened_shown x (with_long_term x.placed d.now) i (done_opened d.stages d.are d.now d.stage order) (done_sound d.stages d.are d.now d.stage order)
+      opened_shown x (filled_with d.now) (with_long_term x.placed d.now) i (done_opened d.stages d.are d.now d.stage order) (done_sound d.stages d.are d.now d.stage order)
       (held d.now order (done d.stages d.are d.now d.stage order).pinned i c d.front d.holds))
       c.has
 
@@ -186,6 +222,7 @@ module _ {tells tells_images : Type 0} where
     pub slots : length x.table ≡ x.config.incident_slots
     pub next : vault.next_place ≡ next_after (last (all_records (placed 0)))
     pub last_is : vault.last ≡ option_map tick_utc (last (all_records (placed 0)))
+    pub keeps : All (λ m. KeepsAll (ring_of vault m).seconds (ring_of vault m).slots (placed m)) members
 
   module _ (x : Contents) (vault : VaultState) (placed : ℕ → List Placed) (disk : Disk tells tells_images) (sound : AreSound x) (opened : AreOpened x placed) (v : ReadsVault x vault placed disk) where
     abbrev given : ℕ → List Record
@@ -205,6 +242,7 @@ module _ {tells tells_images : Type 0} where
           (of_each (λ m. Retains (window_of x.config m) (pins_on m x.table) (given m) (all_records (placed m))) opened.retains m lt);
       pins = of_each (λ m. ArePinsOf (sizes_of x.config) m (all_records (placed m)) (pins_on m x.table)) opened.pins m lt;
       unbroken = subst (IsUnbroken (window_of x.config m)) (sym (all_given m)) (of_each (IsUnbrokenMedium x) sound.unbroken m lt);
+      keeps = of_each (λ m. KeepsAll (ring_of vault m).seconds (ring_of vault m).slots (placed m)) v.keeps m lt;
     })
 
     ends_given : last (given 0) ≡ last (all_records (placed 0))
@@ -263,6 +301,15 @@ module _ {tells tells_images : Type 0} where
     durable : All (λ m. Durable m disk) members
     durable = of_all (λ m. Durable m disk) (λ m lt. subst (λ (k : ℕ). Durable k disk) (ring_is are m lt).medium (reads m lt).settled.durable)
 
+    -- What the rings keep, of sound media.
+    ring_keeps_as_read : AreSound x → (m : ℕ) → m < 2 → KeepsAll (ring_of vault m).seconds (ring_of vault m).slots (x.placed m)
+    ring_keeps_as_read sound m lt =
+        let is = its m lt in
+        let same = of_each (λ m. x.filled m ≡ is_filled (slots_on x.config disk.reads m) (x.placed m)) o.holds.filled m lt in
+        let k = keeps_all x m (slots_on x.config disk.reads m) same (of_each (LacksNothing x) sound.kept m lt) in
+        let slots = slots_there x.config disk.sizes m (ring_of vault m) (content disk.reads m) is (size_read disk m told) in
+        subst (λ (p : ℕ × ℕ). KeepsAll p.0 p.1 (x.placed m)) (λ i. (sym is.seconds i, sym slots i)) k
+
     -- No batch is missing
     pub within_level : AtEachMoment disk disk (EndsWithin x)
     within_level = moments_none disk _ (λ i now. held_within x i o.meet (held_durable x disk durable o.holds i now))
@@ -272,7 +319,7 @@ module _ {tells tells_images : Type 0} where
         let opened = level_opened x sound.regular (All-weaker (λ m. IsMedium m x.config x.text (x.placed m) (content disk.reads m)) (λ m. AreInOrder (x.placed m)) (λ m h. h.segments.order) members o.holds.media) o.holds.there
         (none_missing missing lacking (reading_of x) none o.missing) in
         record {
-          moments = moments_none disk _ (λ i now. opened_shown x x.placed i opened sound (held_durable x disk durable o.holds i now));
+          moments = moments_none disk _ (λ i now. opened_shown x x.filled x.placed i opened sound (held_durable x disk durable o.holds i now));
           done = (
             x.placed,
             opened_stands x vault x.placed disk sound opened (record {
@@ -286,6 +333,7 @@ module _ {tells tells_images : Type 0} where
               slots = o.holds.table.size;
               next = behind.place;
               last_is = behind.newest;
+              keeps = of_all (λ m. KeepsAll (ring_of vault m).seconds (ring_of vault m).slots (x.placed m)) (ring_keeps_as_read sound);
             }),
           );
         }
@@ -352,6 +400,10 @@ module _ {tells tells_images : Type 0} where
           slots = o.holds.table.size;
           next = behind.place;
           last_is = behind.newest;
+          keeps = all_two (λ m. KeepsAll (ring_at after m).seconds (ring_at after m).slots (with_long_term x.placed g.stages.left m))
+              (subst (λ (r : RingState). KeepsAll r.seconds r.slots (x.placed 0)) (sym capsule_same) (ring_keeps_as_read sound 0 (omega arith)))
+              (keeps_after x.config 1 long_term (ring_at after 1) g.stages.left disk new told (its 1 (omega arith)) (subst (λ (c : Configuration). IsRingOf c new.sizes 1 (ring_at after 1)) o.config (ring_is rings_after 1 (omega arith)))
+              (fronts told 1) (done_keeps x missing long_term disk lacks sound g.stages g.are g.stages.left (inr refl) g.reads.order));
         })
 
         pub reconciled_append : Reconciles x (record vault { rings = after }) disk new result

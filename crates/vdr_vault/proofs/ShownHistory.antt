@@ -18,8 +18,11 @@ use Rattle.vdr_directory.specs.Sequence as sequence
 use Rattle.vdr_directory.specs.Holds.{HoldsPlaced}
 use Rattle.vdr_ring.specs.Rings.{RingState}
 use Rattle.vdr_incident.specs.Tables.{HoldsTable}
-use Rattle.vdr_opening.specs.Media.{members, HasFront, HoldsContents, IsMedium}
-use Rattle.vdr_vault.specs.Vaults.{VaultState, HoldsHistory, ShowsHistory, Stands, of_stamp, ring_of}
+use Rattle.vdr_ring.specs.Whole.{is_filled}
+use Rattle.vdr_media.proofs.Two.{all_two}
+use Rattle.vdr_opening.specs.Media.{members, HasFront, HoldsContents, IsMedium, slots_on}
+use Rattle.vdr_vault.specs.Vaults.{VaultState, HoldsHistory, ShowsHistory, Stands, contents_of, of_stamp, ring_of}
+use Rattle.vdr_vault.proofs.Kept.{filled_there, keeps_window}
 use Rattle.vdr_durability.specs.Soundness.{IsUnbroken}
 use Rattle.vdr_vault.specs.Regularity.{AreSound}
 use Rattle.vdr_vault.proofs.ShownImages.{placed_there, shown_level}
@@ -55,18 +58,20 @@ module _ {tells tells_images : Type 0} where
   -- A medium at rest is sound by itself.
   pub sound_alone : (opening : Opening) (events : List Event) (c : Configuration) (m : ℕ) (ring : RingState) (placed : List Placed) (table : List (Option Incident)) (disk : Disk tells tells_images)
       → HoldsHistory opening events c m ring placed disk → opening.settings.seconds m ≡ window_of c m → table ≡ incidents opening events
-      → IsSoundAlone c m placed table (sequence.all_records placed)
+      → IsSoundAlone c m ring.slots placed table (sequence.all_records placed)
   sound_alone opening events c m ring placed table disk h window is = record {
     regular = h.regular;
     pins = subst (λ (t : List (Option Incident)). ArePinsOf (sizes_of c) m (sequence.all_records placed) (pins_on m t)) (sym is) h.pins;
     unbroken = subst (λ (n : ℕ). IsUnbroken n (sequence.all_records placed)) window
         (unbroken_held (opening.settings.seconds m) (given_with opening events m) (sequence.all_records placed) h.order (in_order_records placed h.reads.order) h.retains.window h.unbroken);
+    keeps = keeps_window c disk.sizes m ring placed h.is_its h.keeps;
   }
 
   pub stands_sound : (opening : Opening) (events : List Event) (vault : VaultState) (placed : ℕ → List Placed) (disk : Disk tells tells_images) → Stands opening events vault placed disk
-      → AreSound (record { config = vault.config; text = opening.settings.text; placed = placed; table = vault.table })
+      → AreSound (contents_of opening vault placed vault.table)
   stands_sound opening events vault placed disk stands =
-      sound_level (record { config = vault.config; text = opening.settings.text; placed = placed; table = vault.table }) stands.level
+      sound_level (contents_of opening vault placed vault.table) (λ m. (ring_of vault m).slots)
+      (all_two (λ m. is_filled (ring_of vault m).slots (placed m) ≡ is_filled (ring_of vault m).slots (placed m)) refl refl) stands.level
       (All-weaker (λ m. HoldsHistory opening events vault.config m (ring_of vault m) (placed m) disk) (λ m. InOrder (placed m)) (λ m h. h.reads.order) members stands.media)
       (sound_alone opening events vault.config 0 (ring_of vault 0) (placed 0) vault.table disk (stands.media 0 0 (omega arith)) (ap (λ (s : Settings). s.seconds 0) stands.settings) stands.incidents_are)
       (sound_alone opening events vault.config 1 (ring_of vault 1) (placed 1) vault.table disk (stands.media 1 1 (omega arith)) (ap (λ (s : Settings). s.seconds 1) stands.settings) stands.incidents_are)
@@ -75,7 +80,7 @@ module _ {tells tells_images : Type 0} where
   pub stand_shows : (opening : Opening) (events : List Event) (vault : VaultState) (placed : ℕ → List Placed) (disk : Disk tells tells_images) → Stands opening events vault placed disk
       → (image : Image) → disk.now image → ShowsHistory opening events image
   stand_shows opening events vault placed disk stands image now =
-      shown_level opening events (record { config = vault.config; text = opening.settings.text; placed = placed; table = vault.table }) image holds
+      shown_level opening events (contents_of opening vault placed vault.table) image holds
       (stands_sound opening events vault placed disk stands) refl stands.incidents_are stands.level
       (All-weaker (λ m. HoldsHistory opening events vault.config m (ring_of vault m) (placed m) disk)
       (λ m. Retains (opening.settings.seconds m) (pins_on m (incidents opening events)) (given_with opening events m) (sequence.all_records (placed m))) (λ m h. h.retains) members stands.media)
@@ -86,13 +91,17 @@ module _ {tells tells_images : Type 0} where
       long : Durable 1 disk
       long = durable_at opening events vault.config 1 (ring_of vault 1) (placed 1) disk (stands.media 1 1 (omega arith))
 
-      holds : HoldsContents image (record { config = vault.config; text = opening.settings.text; placed = placed; table = vault.table })
+      holds : HoldsContents image (contents_of opening vault placed vault.table)
       holds = record {
         media = All-weaker (λ m. HoldsHistory opening events vault.config m (ring_of vault m) (placed m) disk)
             (λ m. IsMedium m vault.config opening.settings.text (placed m) (content image m))
             (λ m h. legible_at opening events vault.config m (ring_of vault m) (placed m) disk h image now) members stands.media;
         table = subst (HoldsTable vault.config.incident_slots vault.table) (sym (long.each image now)) (stands.table told);
         there = stands.there;
+        filled = All-weaker (λ m. HoldsHistory opening events vault.config m (ring_of vault m) (placed m) disk)
+            (λ m. is_filled (ring_of vault m).slots (placed m) ≡ is_filled (slots_on vault.config image m) (placed m))
+            (λ m h. filled_there vault.config disk.sizes m (ring_of vault m) (placed m) (content image m) h.is_its
+            (ap length ((durable_at opening events vault.config m (ring_of vault m) (placed m) disk h).each image now) ∙ size_read disk m told)) members stands.media;
       }
 
   -- It stands on over calls that only read.
@@ -131,6 +140,7 @@ module _ (opening : Opening) (events : List Event) (e : Event) (none : records_o
           (subst (λ (t : List (Option Incident)). Retains (opening.settings.seconds m) (pins_on m t) (all_records opening m events) (sequence.all_records placed)) (sym same_table) h.retains);
       pins = subst (λ (t : List (Option Incident)). ArePinsOf (sizes_of c) m (sequence.all_records placed) (pins_on m t)) (sym same_table) h.pins;
       unbroken = subst (IsUnbroken (opening.settings.seconds m)) (sym (same_given m)) h.unbroken;
+      keeps = h.keeps;
     }
 
     pub stands_silent : {tells tells_images : Type 0} (vault : VaultState) (placed : ℕ → List Placed) (disk : Disk tells tells_images) → Stands opening events vault placed disk → Stands opening (events ++ e ∷ []) vault placed disk

@@ -2,7 +2,7 @@
 use Rattle.std.proofs.Common.{◌≡◌, ◌≤◌, ◌+◌, ◌*◌, ℕ, Bool, true, false, List, [], ◌∷◌, length, get_or, take, slice_get, if◌then◌else◌, Option, Result, Ok, Err, refl, sym, ap, ◌∙◌, subst, arith, ◌<◌, ◌++◌, All, Contains}
 use Rattle.std.specs.Prelude.{nat_lt}
 use Rattle.std.proofs.lemmas.Bool.{ltb-false}
-use Rattle.vdr_terms.specs.Needs.{Fits, slots_in}
+use Rattle.vdr_terms.specs.Needs.{Fits}
 use Rattle.vdr_core.specs.Histories.{Incident, Act, Event, Opening, all_records as all_given, incidents}
 use Rattle.vdr_config.specs.declared.bad.ConfigBad.{ConfigBad}
 use Rattle.vdr_config.specs.Configuration.{Configuration}
@@ -36,6 +36,7 @@ use Rattle.vdr_ring.proofs.Medium.{in_order_records}
 use Rattle.vdr_ring.specs.Openings.{IsRingOf}
 use Rattle.vdr_vault.specs.Regularity.{AreSound}
 use Rattle.vdr_vault.specs.Vaults.{ShowsHistory}
+use Rattle.vdr_vault.proofs.Kept.{slots_there}
 use Rattle.vdr_ring.proofs.Records.{records_are}
 
 not_ok : {A : Type 0} (e : ConfigBad) (x : A) → ◌≡◌ {A = Result A ConfigBad} (Err e) (Ok x) → ⊥
@@ -150,5 +151,5 @@ module _ (opening : Opening) (events : List Event) (x : Contents) (image : Image
 pub placed_there : (c : Configuration) (sizes : List ℕ) (m : ℕ) (ring : RingState) (placed : List Placed) (bytes : List ℕ) → IsRingOf c sizes m ring → length bytes ≡ get_or sizes m 0
     → HoldsPlaced ring.segment ring.slots placed bytes → HoldsPlaced c.segment (slot_count c.segment (length bytes)) placed bytes
 placed_there c sizes m ring placed bytes its size h =
-    let slots : ring.slots ≡ slot_count c.segment (length bytes) = its.slots ∙ ap (λ (n : ℕ). slots_in (sizes_of c) n) (sym size) in
+    let slots = slots_there c sizes m ring bytes its size in
     subst (λ (p : ℕ × ℕ). HoldsPlaced p.0 p.1 placed bytes) (λ i. (its.segment i, slots i)) h

@@ -8,7 +8,8 @@ use Rattle.vdr_directory.specs.Sequence.{Placed, all_records}
 use Rattle.vdr_directory.specs.Holds.{HoldsPlaced}
 use Rattle.vdr_incident.specs.Tables.{SameBesideSlot, HoldsBeside, HoldsEither, HoldsTable}
 use Rattle.vdr_incident.proofs.Beside.{segments_beside}
-use Rattle.vdr_opening.specs.Media.{HasFront, IsMedium, AreThere, HoldsContents}
+use Rattle.vdr_ring.specs.Whole.{is_filled}
+use Rattle.vdr_opening.specs.Media.{HasFront, IsMedium, AreThere, HoldsContents, slots_on}
 use Rattle.vdr_vault.proofs.ShownImages.{front_as, RetainsGiven, shown_level}
 use Rattle.std.specs.Prelude.{IfSome, ⊤}
 use Rattle.std.proofs.Math.ListN.{length-set}
@@ -22,14 +23,15 @@ use Rattle.vdr_durability.specs.Shown.{given_with, pins_of, pins_on}
 use Rattle.vdr_durability.proofs.Shows.{OnSlot, slot_written as pins_written, incidents_with}
 use Rattle.vdr_outside.specs.Disk.{Disk, Image, SameBut, content}
 use Rattle.vdr_directory.specs.Lookup.{HoldAll}
-use Rattle.vdr_vault.specs.Vaults.{VaultState, Stands, ring_of, HoldsHistory, ShowsHistory, of_stamp}
+use Rattle.vdr_vault.specs.Vaults.{VaultState, Stands, contents_of, ring_of, HoldsHistory, ShowsHistory, of_stamp}
+use Rattle.vdr_vault.proofs.Kept.{filled_there}
 use Rattle.vdr_terms.proofs.Results.{on_ok_both}
 use Rattle.vdr_vault.specs.Saves.{Does}
 use Rattle.vdr_terms.specs.Records.{Record}
 use Rattle.vdr_terms.specs.Order.{AreInOrder}
 use Rattle.vdr_durability.specs.Keeping.{ShowsEither}
 use Rattle.vdr_outside.specs.Moments.{AtEachMoment, Changed, ChangesOnly, Settled}
-use Rattle.vdr_outside.proofs.Moments.{moments_weaken}
+use Rattle.vdr_outside.proofs.Moments.{moments_weaken, size_read}
 use Rattle.vdr_media.proofs.Two.{all_two}
 use Rattle.vdr_segment.specs.Slots.{place_of}
 use Rattle.vdr_ring.specs.Rings.{RingState}
@@ -158,16 +160,17 @@ module _ {tells tells_images : Type 0} (opening : Opening) (events : List Event)
       (λ i. (sym (same_given opening events e written.silent 1) i, sym written.table i)) (record { window = long_term.retains.window; places = written.places })
 
   -- With the other table the media are as sound.
-  written_sound : AreSound (record { config = vault.config; text = opening.settings.text; placed = placed; table = after })
-  written_sound = sound_level (record { config = vault.config; text = opening.settings.text; placed = placed; table = after }) stands.level
+  written_sound : AreSound (contents_of opening vault placed after)
+  written_sound = sound_level (contents_of opening vault placed after) (λ m. (ring_of vault m).slots)
+      (all_two (λ m. is_filled (ring_of vault m).slots (placed m) ≡ is_filled (ring_of vault m).slots (placed m)) refl refl) stands.level
       (all_two (λ m. InOrder (placed m)) capsule.reads.order long_term.reads.order)
-      (record { regular = capsule.regular; pins = no_pins vault.config (all_records (placed 0)); unbroken = alone_capsule.unbroken })
-      (record { regular = long_term.regular; pins = written.pins; unbroken = alone_long_term.unbroken })
+      (record { regular = capsule.regular; pins = no_pins vault.config (all_records (placed 0)); unbroken = alone_capsule.unbroken; keeps = alone_capsule.keeps })
+      (record { regular = long_term.regular; pins = written.pins; unbroken = alone_long_term.unbroken; keeps = alone_long_term.keeps })
     where
-      alone_capsule : IsSoundAlone vault.config 0 (placed 0) vault.table (all_records (placed 0))
+      alone_capsule : IsSoundAlone vault.config 0 (ring_of vault 0).slots (placed 0) vault.table (all_records (placed 0))
       alone_capsule = sound_alone opening events vault.config 0 (ring_of vault 0) (placed 0) vault.table old capsule (ap (λ (s : Settings). s.seconds 0) stands.settings) stands.incidents_are
 
-      alone_long_term : IsSoundAlone vault.config 1 (placed 1) vault.table (all_records (placed 1))
+      alone_long_term : IsSoundAlone vault.config 1 (ring_of vault 1).slots (placed 1) vault.table (all_records (placed 1))
       alone_long_term = sound_alone opening events vault.config 1 (ring_of vault 1) (placed 1) vault.table old long_term (ap (λ (s : Settings). s.seconds 1) stands.settings) stands.incidents_are
 
   -- What an image holds of which the slot alone was written.
@@ -176,7 +179,7 @@ module _ {tells tells_images : Type 0} (opening : Opening) (events : List Event)
     told = (old.shown (old.told changed.image changed.was)).0
 
     holds : (table : List (Option Incident)) → AreThere table (placed 1) → HoldsBeside slot vault.config.incident_slots table (content old.reads 1) (content i 1)
-        → HoldsContents i (record { config = vault.config; text = opening.settings.text; placed = placed; table = table })
+        → HoldsContents i (contents_of opening vault placed table)
     holds table there h = record {
       media = all_two (λ m. IsMedium m vault.config opening.settings.text (placed m) (content i m))
           (subst (IsMedium 0 vault.config opening.settings.text (placed 0)) (sym (changed.others 0 zero_one))
@@ -186,17 +189,21 @@ module _ {tells tells_images : Type 0} (opening : Opening) (events : List Event)
           (legible_at opening events vault.config 1 (ring_of vault 1) (placed 1) old long_term changed.image changed.was)));
       table = h.holds;
       there = there;
+      filled = all_two (λ m. is_filled (ring_of vault m).slots (placed m) ≡ is_filled (slots_on vault.config i m) (placed m))
+          (filled_there vault.config old.sizes 0 (ring_of vault 0) (placed 0) (content i 0) capsule.is_its
+          (ap length (changed.others 0 zero_one ∙ (durable_at opening events vault.config 0 (ring_of vault 0) (placed 0) old capsule).each changed.image changed.was) ∙ size_read old 0 told))
+          (filled_there vault.config old.sizes 1 (ring_of vault 1) (placed 1) (content i 1) long_term.is_its (h.beside.size ∙ size_read old 1 told));
     }
 
     shows_before : HoldsBeside slot vault.config.incident_slots vault.table (content old.reads 1) (content i 1) → ShowsHistory opening events i
     shows_before h =
-        shown_level opening events (record { config = vault.config; text = opening.settings.text; placed = placed; table = vault.table }) i (holds vault.table stands.there h)
+        shown_level opening events (contents_of opening vault placed vault.table) i (holds vault.table stands.there h)
         (stands_sound opening events vault placed old stands) refl
         stands.incidents_are stands.level (all_two (RetainsGiven opening events (given_with opening events) placed) capsule.retains long_term.retains)
 
     shows_after : HoldsBeside slot vault.config.incident_slots after (content old.reads 1) (content i 1) → ShowsHistory opening with_event i
     shows_after h =
-        shown_level opening with_event (record { config = vault.config; text = opening.settings.text; placed = placed; table = after }) i (holds after written.there h)
+        shown_level opening with_event (contents_of opening vault placed after) i (holds after written.there h)
         written_sound refl
         (sym written.table) stands.level (all_two (RetainsGiven opening with_event (given_with opening with_event) placed) capsule_retains long_term_retains)
 
@@ -222,6 +229,7 @@ module _ {tells tells_images : Type 0} (opening : Opening) (events : List Event)
     retains = retains;
     pins = pins;
     unbroken = subst (IsUnbroken (opening.settings.seconds m)) (sym (same_given opening events e written.silent m)) h.unbroken;
+    keeps = h.keeps;
   }
 
   -- Once it is written.
@@ -254,6 +262,7 @@ module _ {tells tells_images : Type 0} (opening : Opening) (events : List Event)
       retains = long_term.retains;
       pins = long_term.pins;
       unbroken = long_term.unbroken;
+      keeps = long_term.keeps;
     }
 
     written_stands : Stands opening with_event (with_table vault after) placed new

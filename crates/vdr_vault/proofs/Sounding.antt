@@ -1,5 +1,5 @@
 -- Regular contents are regular media by the segments of each.
-use Rattle.std.proofs.Common.{◌≡◌, inl, inr, ℕ, zero, suc, ◌<◌, ◌≤◌, List, [], length, true, All, Some, sym, ap, ◌∙◌, subst, arith, ◌∷◌, ◌++◌, Contains, Option, refl, if◌then◌else◌, ◌==◌}
+use Rattle.std.proofs.Common.{◌≡◌, inl, inr, ℕ, Bool, zero, suc, ◌<◌, ◌≤◌, List, [], length, true, All, Some, sym, ap, ◌∙◌, subst, arith, ◌∷◌, ◌++◌, Contains, Option, refl, if◌then◌else◌, ◌==◌}
 use Rattle.std.proofs.lemmas.List.Elements.{All-nil, All-cons, All-weaker}
 use Rattle.vdr_terms.specs.Records.{Record, last}
 use Rattle.vdr_terms.specs.Sizes.{records_size}
@@ -18,7 +18,9 @@ use Rattle.vdr_media.proofs.Two.{all_two, all_one}
 use Rattle.vdr_directory.specs.Sequence.{Placed, all_records, batches_in, segments_in}
 use Rattle.vdr_ring.specs.Regularity.{AreLaidOut, AreRegular}
 use Rattle.vdr_opening.specs.Media.{members, Contents, reading_of, AreThere, HoldsContents, opening_of}
-use Rattle.vdr_vault.specs.Regularity.{AreRegularMedia, IsRegularMedium, AreSound, IsUnbrokenMedium}
+use Rattle.vdr_vault.specs.Regularity.{AreRegularMedia, IsRegularMedium, AreSound, IsUnbrokenMedium, LacksNothing}
+use Rattle.vdr_ring.specs.Whole.{KeepsAll, is_filled}
+use Rattle.vdr_vault.proofs.Kept.{lacks_nothing}
 use Rattle.vdr_ring.proofs.Allowed.{segments_batches}
 use Rattle.vdr_ring.proofs.Records.{records_are}
 use Rattle.vdr_vault.proofs.ShownImages.{has_capsule, has_long_term, are_members}
@@ -121,8 +123,8 @@ with_long_term placed now zero = placed zero
 with_long_term placed now (suc m) = now
 
 -- These contents with other segments.
-abbrev pub with_placed : Contents → (ℕ → List Placed) → Contents
-with_placed x placed = record { config = x.config; text = x.text; placed = placed; table = x.table }
+abbrev pub with_placed : Contents → (filled : ℕ → Bool) → (ℕ → List Placed) → Contents
+with_placed x filled placed = record { config = x.config; text = x.text; placed = placed; table = x.table; filled = filled }
 
 -- The media have these segments once they are opened: they are level, regular, and retain what they are restored to.
 pub record AreOpened (x : Contents) (placed : ℕ → List Placed) : Type 0 where
@@ -139,12 +141,13 @@ in_order placed h = All-weaker (λ m. AreInOrder (placed m)) (λ m. RecordsAreIn
     (λ m k. subst RecordsAreInOrder (sym (records_are (placed m))) (in_order_records (placed m) k)) members h
 
 -- They show what was opened.
-pub opened_shown : (x : Contents) (placed : ℕ → List Placed) (image : Image) → AreOpened x placed → AreSound (with_placed x placed) → HoldsContents image (with_placed x placed) → ShowsHistory (opening_of x) [] image
-opened_shown x placed image opened sound holds = (
+pub opened_shown : (x : Contents) (filled : ℕ → Bool) (placed : ℕ → List Placed) (image : Image) → AreOpened x placed → AreSound (with_placed x filled placed) → HoldsContents image (with_placed x filled placed)
+    → ShowsHistory (opening_of x) [] image
+opened_shown x filled placed image opened sound holds = (
   members,
-  reading_of (with_placed x placed),
-  record { reads = record { members_are = refl; contents = with_placed x placed; holds = holds; is = refl }; sound = sound },
-  reconciled_shows members (settings_of x.config x.text) (reading_of x) (reading_of (with_placed x placed)) are_members has_long_term refl
+  reading_of (with_placed x filled placed),
+  record { reads = record { members_are = refl; contents = with_placed x filled placed; holds = holds; is = refl }; sound = sound },
+  reconciled_shows members (settings_of x.config x.text) (reading_of x) (reading_of (with_placed x filled placed)) are_members has_long_term refl
       (record {
         text = refl;
         table = refl;
@@ -202,26 +205,30 @@ module _ (x : Contents) (batch : List Record) (passed : IsPassedOn members (0 �
         ∙ ap (λ (o : Option Record). comes_next o batch) retains.window.newest
         ∙ sym (ap (λ (rs : List Record). comes_next (last rs) batch) (records_are (x.placed 1))) ∙ waits
 
-    pub passed_still : IsPassedOn members (0 ∷ []) (1 ∷ []) batch (reading_of (with_placed x (with_long_term x.placed now)))
-    passed_still = passed_on batch (reading_of (with_placed x (with_long_term x.placed now))) (passed.given_end 0 0 (omega arith)) still_waits
+    module _ (filled : ℕ → Bool) where
+      abbrev lacking : Contents
+      lacking = with_placed x filled (with_long_term x.placed now)
 
-    -- show what was opened too.
-    pub waiting_shown : (image : Image) → AreSound (with_placed x (with_long_term x.placed now)) → HoldsContents image (with_placed x (with_long_term x.placed now)) → ShowsHistory (opening_of x) [] image
-    waiting_shown image sound holds = (
-      members,
-      reading_of (with_placed x (with_long_term x.placed now)),
-      record { reads = record { members_are = refl; contents = with_placed x (with_long_term x.placed now); holds = holds; is = refl }; sound = sound },
-      reconciling_shows members (settings_of x.config x.text) (reading_of x) (reading_of (with_placed x (with_long_term x.placed now))) (0 ∷ []) (1 ∷ []) batch are_members has_long_term refl refl leads
-          passed_still
-          (follow_is_in_order (last (all_records (x.placed 1))) batch follow)
-          (all_one (λ m. (ends_before (Some batch) (batches_in (x.placed m)) ≡ true) × FollowOn (last (segment_records (batches_in (x.placed m)))) batch) 1
-          (waits, subst (λ (rs : List Record). FollowOn (last rs) batch) (sym (records_are (x.placed 1))) follow))
-          (all_one (λ m. Retains (window_of x.config m) (pins_on m x.table) (records_on (restored members (reading_of x)) m) (segment_records (batches_in (with_long_term x.placed now m)))) 0
-          (subst (λ (rs : List Record). Retains (window_of x.config 0) (pins_on 0 x.table) rs (segment_records (batches_in (x.placed 0)))) (sym (capsule_restored ∙ sym (records_are (x.placed 0))))
-          (retains_itself (window_of x.config 0) (pins_on 0 x.table) (segment_records (batches_in (x.placed 0))))))
-          (all_one (λ m. Retains (window_of x.config m) (pins_on m x.table) (segment_records (batches_in (x.placed m))) (segment_records (batches_in (with_long_term x.placed now m)))) 1
-          (subst (λ (p : List Record × List Record). Retains (window_of x.config 1) (pins_on 1 x.table) p.0 p.1) (λ i. (sym (records_are (x.placed 1)) i, sym (records_are now) i)) retains)),
-    )
+      pub passed_still : IsPassedOn members (0 ∷ []) (1 ∷ []) batch (reading_of lacking)
+      passed_still = passed_on batch (reading_of lacking) (passed.given_end 0 0 (omega arith)) still_waits
+
+      -- show what was opened too.
+      pub waiting_shown : (image : Image) → AreSound lacking → HoldsContents image lacking → ShowsHistory (opening_of x) [] image
+      waiting_shown image sound holds = (
+        members,
+        reading_of lacking,
+        record { reads = record { members_are = refl; contents = lacking; holds = holds; is = refl }; sound = sound },
+        reconciling_shows members (settings_of x.config x.text) (reading_of x) (reading_of lacking) (0 ∷ []) (1 ∷ []) batch are_members has_long_term refl refl leads
+            passed_still
+            (follow_is_in_order (last (all_records (x.placed 1))) batch follow)
+            (all_one (λ m. (ends_before (Some batch) (batches_in (x.placed m)) ≡ true) × FollowOn (last (segment_records (batches_in (x.placed m)))) batch) 1
+            (waits, subst (λ (rs : List Record). FollowOn (last rs) batch) (sym (records_are (x.placed 1))) follow))
+            (all_one (λ m. Retains (window_of x.config m) (pins_on m x.table) (records_on (restored members (reading_of x)) m) (segment_records (batches_in (with_long_term x.placed now m)))) 0
+            (subst (λ (rs : List Record). Retains (window_of x.config 0) (pins_on 0 x.table) rs (segment_records (batches_in (x.placed 0)))) (sym (capsule_restored ∙ sym (records_are (x.placed 0))))
+            (retains_itself (window_of x.config 0) (pins_on 0 x.table) (segment_records (batches_in (x.placed 0))))))
+            (all_one (λ m. Retains (window_of x.config m) (pins_on m x.table) (segment_records (batches_in (x.placed m))) (segment_records (batches_in (with_long_term x.placed now m)))) 1
+            (subst (λ (p : List Record × List Record). Retains (window_of x.config 1) (pins_on 1 x.table) p.0 p.1) (λ i. (sym (records_are (x.placed 1)) i, sym (records_are now) i)) retains)),
+      )
 
 -- Media of which each is regular are sound, as they are and while a batch is on its way.
 
@@ -259,26 +266,32 @@ module _ (x : Contents) (first : IsRegularOn x.config (x.placed 0)) (second : Is
   passed_is_regular batch passed paced pins = media_of (passed_regular (sizes_of x.config) members layout_on (reading_of x) (0 ∷ []) (1 ∷ []) batch passed as_read pins
       (all_one (λ m. IsPaced (cost (sizes_of x.config)) x.config.batch (segments_of (layout_on m)) batch) 1 (paced_laid_out _ _ _ (x.placed 1) second.layout batch paced)))
 
--- What is known of a medium by itself.
-pub record IsSoundAlone (c : Configuration) (m : ℕ) (placed : List Placed) (table : List (Option Incident)) (records : List Record) : Type 0 where
+-- What is known of a medium of so many slots by itself, which is restored to these records.
+pub record IsSoundAlone (c : Configuration) (m count : ℕ) (placed : List Placed) (table : List (Option Incident)) (records : List Record) : Type 0 where
   pub regular : IsRegularOn c placed
   pub pins : ArePinsOf (sizes_of c) m records (pins_on m table)
   pub unbroken : IsUnbroken (window_of c m) records
+  pub keeps : KeepsAll (window_of c m) count placed
+
+-- The media have so many slots.
+abbrev pub AreFilled : Contents → (count : ℕ → ℕ) → Type 0
+AreFilled x count = All (λ m. x.filled m ≡ is_filled (count m) (x.placed m)) members
 
 -- The media as they are restored, each of which is sound by itself, where they are regular then.
-sound_by : (x : Contents) (records : ℕ → List Record) → All (λ m. records_on (restored members (reading_of x)) m ≡ records m) members
-    → (first : IsSoundAlone x.config 0 (x.placed 0) x.table (records 0)) (second : IsSoundAlone x.config 1 (x.placed 1) x.table (records 1))
+sound_by : (x : Contents) (count : ℕ → ℕ) (records : ℕ → List Record) → AreFilled x count → All (λ m. records_on (restored members (reading_of x)) m ≡ records m) members
+    → (first : IsSoundAlone x.config 0 (count 0) (x.placed 0) x.table (records 0)) (second : IsSoundAlone x.config 1 (count 1) (x.placed 1) x.table (records 1))
     → (All (Pinned x first.regular second.regular) members → AreRegularMedia x) → AreSound x
-sound_by x records are first second regular = record {
+sound_by x count records filled are first second regular = record {
   regular = regular (all_two (Pinned x first.regular second.regular) (subst (λ (rs : List Record). ArePinsOf (sizes_of x.config) 0 rs (pins_on 0 x.table)) (sym (are 0 0 (omega arith))) first.pins)
       (subst (λ (rs : List Record). ArePinsOf (sizes_of x.config) 1 rs (pins_on 1 x.table)) (sym (are 1 1 (omega arith))) second.pins));
   unbroken = all_two (IsUnbrokenMedium x) (subst (IsUnbroken (window_of x.config 0)) (sym (are 0 0 (omega arith))) first.unbroken) (subst (IsUnbroken (window_of x.config 1)) (sym (are 1 1 (omega arith))) second.unbroken);
+  kept = all_two (LacksNothing x) (lacks_nothing x 0 (count 0) (filled 0 0 (omega arith)) first.keeps) (lacks_nothing x 1 (count 1) (filled 1 1 (omega arith)) second.keeps);
 }
 
 -- Level media.
-pub sound_level : (x : Contents) → AreLevel members (reading_of x) → All (λ m. AreInOrder (x.placed m)) members → IsSoundAlone x.config 0 (x.placed 0) x.table (all_records (x.placed 0)) → IsSoundAlone x.config 1 (x.placed 1) x.table (all_records (x.placed 1))
-    → AreSound x
-sound_level x level order first second = sound_by x (λ m. all_records (x.placed m)) (all_two (λ m. records_on (restored members (reading_of x)) m ≡ all_records (x.placed m)) (as_it_is 0 has_capsule) (as_it_is 1 has_long_term)) first second
+pub sound_level : (x : Contents) (count : ℕ → ℕ) → AreFilled x count → AreLevel members (reading_of x) → All (λ m. AreInOrder (x.placed m)) members
+    → IsSoundAlone x.config 0 (count 0) (x.placed 0) x.table (all_records (x.placed 0)) → IsSoundAlone x.config 1 (count 1) (x.placed 1) x.table (all_records (x.placed 1)) → AreSound x
+sound_level x count filled level order first second = sound_by x count (λ m. all_records (x.placed m)) filled (all_two (λ m. records_on (restored members (reading_of x)) m ≡ all_records (x.placed m)) (as_it_is 0 has_capsule) (as_it_is 1 has_long_term)) first second
     (level_is_regular x first.regular second.regular level)
   where
     as_it_is : (m : ℕ) → Contains members m → records_on (restored members (reading_of x)) m ≡ all_records (x.placed m)
@@ -286,9 +299,9 @@ sound_level x level order first second = sound_by x (λ m. all_records (x.placed
         (λ m k. subst RecordsAreInOrder (sym (records_are (x.placed m))) (in_order_records (x.placed m) k)) members order) m there ∙ records_are (x.placed m)
 
 -- The capsule has a batch that may come next on the long-term medium.
-pub sound_passed : (x : Contents) (batch : List Record) → IsPassedOn members (0 ∷ []) (1 ∷ []) batch (reading_of x) → IsPaced (cost (sizes_of x.config)) x.config.batch (segments_in (x.placed 1)) batch
-    → IsSoundAlone x.config 0 (x.placed 0) x.table (all_records (x.placed 0)) → IsSoundAlone x.config 1 (x.placed 1) x.table (all_records (x.placed 1) ++ batch) → AreSound x
-sound_passed x batch passed paced first second = sound_by x (λ m. if m == 0 then all_records (x.placed 0) else all_records (x.placed 1) ++ batch)
+pub sound_passed : (x : Contents) (count : ℕ → ℕ) (batch : List Record) → AreFilled x count → IsPassedOn members (0 ∷ []) (1 ∷ []) batch (reading_of x) → IsPaced (cost (sizes_of x.config)) x.config.batch (segments_in (x.placed 1)) batch
+    → IsSoundAlone x.config 0 (count 0) (x.placed 0) x.table (all_records (x.placed 0)) → IsSoundAlone x.config 1 (count 1) (x.placed 1) x.table (all_records (x.placed 1) ++ batch) → AreSound x
+sound_passed x count batch filled passed paced first second = sound_by x count (λ m. if m == 0 then all_records (x.placed 0) else all_records (x.placed 1) ++ batch) filled
     (all_two (λ m. records_on (restored members (reading_of x)) m ≡ (if m == 0 then all_records (x.placed 0) else all_records (x.placed 1) ++ batch)) (capsule_restored x batch passed paced.order) (long_term_restored x batch passed paced.order))
     first second (passed_is_regular x first.regular second.regular batch passed paced)
 

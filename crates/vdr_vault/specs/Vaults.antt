@@ -19,11 +19,12 @@ use Rattle.vdr_ring.specs.Rings.{RingState}
 use Rattle.vdr_ring.specs.Rings as rings
 use Rattle.vdr_incident.specs.Tables.{HoldsTable}
 use Rattle.vdr_opening.specs.Settings.{settings_of}
-use Rattle.vdr_opening.specs.Media.{members, HasFront, AreThere, Reads}
+use Rattle.vdr_opening.specs.Media.{members, Contents, HasFront, AreThere, Reads}
 use Rattle.vdr_durability.specs.Soundness.{IsUnbroken}
 use Rattle.vdr_vault.specs.Regularity.{AreSound}
 use Rattle.vdr_opening.specs.Answers.{AreJudgedOn, AreRingsOf, ring_at}
 use Rattle.vdr_ring.specs.Openings.{IsRingOf}
+use Rattle.vdr_ring.specs.Whole.{KeepsAll, is_filled}
 
 -- A vault without its media: the configuration, a ring on each medium in order of number, the incidents, the next place with tick and
 -- utc of the last record, and whether a write has failed. After a fault place and record are those before the batch that met it.
@@ -58,6 +59,16 @@ ring_of vault m = ring_at vault.rings m
 abbrev pub AreRings : VaultState → (sizes : List ℕ) → Type 0
 AreRings vault sizes = AreRingsOf vault.config sizes vault.rings
 
+-- What the media of a vault hold with these segments and these incidents.
+abbrev pub contents_of : Opening → VaultState → (ℕ → List Placed) → List (Option Incident) → Contents
+contents_of opening vault placed table = record {
+  config = vault.config;
+  text = opening.settings.text;
+  placed = placed;
+  table = table;
+  filled = λ m. is_filled (ring_of vault m).slots (placed m);
+}
+
 -- What the segments of both media read as.
 abbrev pub reading_with : (text : List ℕ) (placed : ℕ → List Placed) (table : List (Option Incident)) → Reading
 reading_with text placed table = record { batches = λ m. batches_in (placed m); table = table; text = text }
@@ -72,7 +83,8 @@ abbrev pub ShowsHistory : Opening → List Event → Image → Type 0
 ShowsHistory opening events image = ImageShows ReadsSound opening events image
 
 module _ {tells tells_images : Type 0} where
-  -- Medium m has these segments, which are regular, and retains of all that it was given its window and the live incidents.
+  -- Medium m has these segments, which are regular, and retains of all that it was given its window and the live incidents. It lacks
+  -- nothing that it is to keep.
   pub record HoldsHistory (opening : Opening) (events : List Event) (c : Configuration) (m : ℕ) (ring : RingState) (placed : List Placed) (disk : Disk tells tells_images) : Type 0 where
     pub is_its : IsRingOf c disk.sizes m ring
     pub reads : rings.Reads ring placed disk
@@ -82,6 +94,7 @@ module _ {tells tells_images : Type 0} where
     pub retains : Retains (opening.settings.seconds m) (pins_on m (incidents opening events)) (given_with opening events m) (all_records placed)
     pub pins : ArePinsOf (sizes_of c) m (all_records placed) (pins_on m (incidents opening events))
     pub unbroken : IsUnbroken (opening.settings.seconds m) (given_with opening events m)
+    pub keeps : KeepsAll ring.seconds ring.slots placed
 
   -- What reading medium m needs of it: these segments are there, in order, and retain of all that it was given its window and the
   -- live incidents.

@@ -1,4 +1,4 @@
-use Rattle.vdr_opening.proofs.ContentsHeld.{are_legal, are_formatted, one_config, one_configured_text, one_capsule, one_long_term, one_incidents}
+use Rattle.vdr_opening.proofs.ContentsHeld.{are_legal, are_formatted, one_config, one_configured_text, one_capsule, one_filled, one_long_term, one_incidents}
 use Rattle.vdr_opening.proofs.law.law_of_contents.Goals as goal
 
 pub returns-clause-config : goal.returns-clause-config
@@ -9,6 +9,9 @@ returns-clause-placed c image x y h k = (one_capsule (are_legal h) (are_legal k)
 
 pub returns-clause-table : goal.returns-clause-table
 returns-clause-table c image x y h k = one_incidents (are_legal h) (are_legal k) h.table k.table
+
+pub returns-clause-filled : goal.returns-clause-filled
+returns-clause-filled c image x y h k = one_filled h k
 
 pub returns-clause-formatted : goal.returns-clause-formatted
 returns-clause-formatted c = are_formatted

@@ -5,7 +5,7 @@ pub returns-clause-gives : goal.returns-clause-gives
 returns-clause-gives c = rescues_life
 
 pub returns-clause-finds : goal.returns-clause-finds
-returns-clause-finds c image y m x ours holds there k ends whole = ours_find image y m holds there ours x k ends whole
+returns-clause-finds c image y m x ours holds there k = ours_find image y m holds there ours x k
 
 pub returns-clause-plays : goal.returns-clause-plays
 returns-clause-plays c = plays_same

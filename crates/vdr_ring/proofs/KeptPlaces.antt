@@ -8,6 +8,7 @@ use Rattle.vdr_terms.proofs.Running.{last_of_run, run_on_join}
 use Rattle.vdr_durability.specs.Layout.{Batches, records_in, segment_records}
 use Rattle.vdr_durability.specs.Regular.{FollowOn}
 use Rattle.vdr_durability.specs.Retention.{Pin}
+use Rattle.vdr_durability.specs.Readings.{next_after}
 use Rattle.vdr_durability.specs.Soundness.{IsUnbroken}
 use Rattle.vdr_durability.proofs.Following.{follow_in_order}
 use Rattle.vdr_durability.proofs.Restored.{all_with}
@@ -17,11 +18,13 @@ use Rattle.vdr_directory.specs.Bringing.{AreAlike}
 use Rattle.vdr_directory.specs.Sequence.{Placed, all_records, batches_in, batches_of}
 use Rattle.vdr_directory.proofs.Bringing.{alike_segments}
 use Rattle.vdr_segment.specs.Segments.{with_batch}
-use Rattle.vdr_ring.specs.Regularity.{AreLaidOut, AreRegular, IsAllowed, MissOneAtMost}
+use Rattle.vdr_ring.specs.Regularity.{AreLaidOut, AreRegular, IsAllowed}
 use Rattle.vdr_ring.specs.Stages.{AreStages, BeginsAnew, GoesOn, IsForced, IsLeft, IsOldest, IsVictim, Leaves, Stages}
 use Rattle.vdr_ring.proofs.Records.{records_are}
 use Rattle.vdr_ring.proofs.Retaining.{closed_retains, done_retains, stages_regular}
-use Rattle.vdr_rescue.specs.Legible.{KeepsAll}
+use Rattle.vdr_ring.specs.Taking.{HaveBatch}
+use Rattle.vdr_ring.specs.Whole.{KeepsAll}
+use Rattle.vdr_ring.proofs.Allowed.{IsReady, at_both, begun_batches, done_batches, left_batches}
 
 -- How many segments each stage has
 
@@ -107,16 +110,16 @@ kept_nothing seconds count = record { unbroken = (0, tt); whole = λ lt. tt }
 
 module _ (sizes : Sizes) (m size count seconds : ℕ) (pins : List Pin) (placed : List Placed) (first : ℕ) (records : List Record) (stages : Stages)
     (allowed : IsAllowed sizes m size count seconds pins placed records) (are : AreStages size count seconds pins placed first records stages)
-    (batches : MissOneAtMost stages.closed placed × (batches_in stages.begun ≡ batches_in stages.closed) × (batches_in stages.done ≡ batches_in stages.closed ++ records ∷ []) × (batches_in stages.left ≡ batches_in stages.done))
-    (start : all_records placed ≡ [] → RunOn 0 records) (k : KeepsAll seconds count placed) where
+    (begun_same : batches_in stages.begun ≡ batches_in stages.closed) (done_with : batches_in stages.done ≡ batches_in stages.closed ++ records ∷ []) (left_same : batches_in stages.left ≡ batches_in stages.done)
+    (k : KeepsAll seconds count placed) where
   begun_records : all_records stages.begun ≡ all_records stages.closed
-  begun_records = sym (records_are stages.begun) ∙ ap segment_records batches.1 ∙ records_are stages.closed
+  begun_records = sym (records_are stages.begun) ∙ ap segment_records begun_same ∙ records_are stages.closed
 
   done_records : all_records stages.done ≡ all_records stages.closed ++ records
-  done_records = sym (records_are stages.done) ∙ ap segment_records batches.2 ∙ all_with (batches_in stages.closed) records ∙ ap (λ (rs : List Record). rs ++ records) (records_are stages.closed)
+  done_records = sym (records_are stages.done) ∙ ap segment_records done_with ∙ all_with (batches_in stages.closed) records ∙ ap (λ (rs : List Record). rs ++ records) (records_are stages.closed)
 
   left_records : all_records stages.left ≡ all_records stages.done
-  left_records = sym (records_are stages.left) ∙ ap segment_records batches.3 ∙ records_are stages.done
+  left_records = sym (records_are stages.left) ∙ ap segment_records left_same ∙ records_are stages.done
 
   many : Counts count placed stages
   many = counts size count seconds pins placed first records stages are
@@ -128,30 +131,62 @@ module _ (sizes : Sizes) (m size count seconds : ℕ) (pins : List Pin) (placed 
       × AreRegular (cost sizes) (usable sizes) sizes.batch stages.left
   regular = stages_regular sizes m size count seconds pins placed first records stages allowed are
 
-  keeps_closed : KeepsAll seconds count stages.closed
+  pub keeps_closed : KeepsAll seconds count stages.closed
   keeps_closed = record {
     unbroken = unbroken_held seconds (all_records placed) (all_records stages.closed) was_in_order (regular_order _ _ _ stages.closed regular.0)
         (closed_retains sizes m size count seconds pins placed first (all_records placed) records stages allowed are (retains_itself seconds pins (all_records placed))).window k.unbroken;
     whole = λ lt. subst (λ (ps : List Placed). RunOn 0 (all_records ps)) (sym (many.room lt)) (k.whole (subst (λ (ps : List Placed). length ps + 1 < count) (many.room lt) lt));
   }
 
-  keeps_begun : KeepsAll seconds count stages.begun
+  pub keeps_begun : KeepsAll seconds count stages.begun
   keeps_begun = kept_as seconds count stages.closed stages.begun begun_records many.begun keeps_closed
 
-  keeps_done : KeepsAll seconds count stages.done
-  keeps_done = record {
-    unbroken = unbroken_held seconds (all_records placed ++ records) (all_records stages.done) (follow_in_order (all_records placed) records was_in_order allowed.paced.order) (regular_order _ _ _ stages.done regular.2)
-        (done_retains sizes m size count seconds pins placed first (all_records placed) records stages allowed are (retains_itself seconds pins (all_records placed))).window
-        (unbroken_follows seconds (all_records placed) records allowed.some was_in_order allowed.paced.order k.unbroken);
-    whole = λ lt.
-        let more = many.done in
-        let low : length stages.closed + 1 < count = omega (arith, lt, more) in
-        let same = many.room low in
-        subst (RunOn 0) (sym (done_records ∙ ap (λ (ps : List Placed). all_records ps ++ records) same))
-        (joined (all_records placed) records allowed.paced.order start (k.whole (subst (λ (ps : List Placed). length ps + 1 < count) same low)));
-  }
+  module _ (start : all_records placed ≡ [] → RunOn 0 records) where
+    keeps_done : KeepsAll seconds count stages.done
+    keeps_done = record {
+      unbroken = unbroken_held seconds (all_records placed ++ records) (all_records stages.done) (follow_in_order (all_records placed) records was_in_order allowed.paced.order) (regular_order _ _ _ stages.done regular.2)
+          (done_retains sizes m size count seconds pins placed first (all_records placed) records stages allowed are (retains_itself seconds pins (all_records placed))).window
+          (unbroken_follows seconds (all_records placed) records allowed.some was_in_order allowed.paced.order k.unbroken);
+      whole = λ lt.
+          let more = many.done in
+          let low : length stages.closed + 1 < count = omega (arith, lt, more) in
+          let same = many.room low in
+          subst (RunOn 0) (sym (done_records ∙ ap (λ (ps : List Placed). all_records ps ++ records) same))
+          (joined (all_records placed) records allowed.paced.order start (k.whole (subst (λ (ps : List Placed). length ps + 1 < count) same low)));
+    }
 
-  pub keeps_stages : KeepsAll seconds count stages.closed × KeepsAll seconds count stages.begun × KeepsAll seconds count stages.done × KeepsAll seconds count stages.left
-  keeps_stages =
-      let long = left_long records stages are.1 in
-      (keeps_closed, keeps_begun, keeps_done, kept_as seconds count stages.done stages.left left_records (omega (arith, long)) keeps_done)
+    pub keeps_stages : KeepsAll seconds count stages.closed × KeepsAll seconds count stages.begun × KeepsAll seconds count stages.done × KeepsAll seconds count stages.left
+    keeps_stages =
+        let long = left_long records stages are.1 in
+        (keeps_closed, keeps_begun, keeps_done, kept_as seconds count stages.done stages.left left_records (omega (arith, long)) keeps_done)
+
+-- Of a medium that is ready
+
+module _ (sizes : Sizes) (m size count seconds : ℕ) (pins : List Pin) (all records : List Record) (placed : List Placed) (first : ℕ) (ready : IsReady sizes m size count seconds pins all records placed) (stages : Stages)
+    (are : AreStages size count seconds pins placed first records stages) where
+  begun : batches_in stages.begun ≡ batches_in stages.closed
+  begun = begun_batches sizes m size count seconds pins all records placed first ready stages are
+
+  done : batches_in stages.done ≡ batches_in stages.closed ++ records ∷ []
+  done = done_batches sizes m size count seconds pins all records placed first ready stages are
+
+  left : batches_in stages.left ≡ batches_in stages.done
+  left = left_batches sizes m size count seconds pins all records placed first ready stages are
+
+  -- Until the batch is there, and once it is.
+  pub kept_until : KeepsAll seconds count placed → KeepsAll seconds count stages.closed × KeepsAll seconds count stages.begun
+  kept_until k = (
+    keeps_closed sizes m size count seconds pins placed first records stages ready.allowed are begun done left k,
+    keeps_begun sizes m size count seconds pins placed first records stages ready.allowed are begun done left k,
+  )
+
+  keeps_each : (all_records placed ≡ [] → RunOn 0 records) → KeepsAll seconds count placed
+      → KeepsAll seconds count stages.closed × KeepsAll seconds count stages.begun × KeepsAll seconds count stages.done × KeepsAll seconds count stages.left
+  keeps_each start k = keeps_stages sizes m size count seconds pins placed first records stages ready.allowed are begun done left k start
+
+  pub kept_with : (now : List Placed) → HaveBatch stages now → (all_records placed ≡ [] → RunOn 0 records) → KeepsAll seconds count placed → KeepsAll seconds count now
+  kept_with now have start k = let each = keeps_each start k in at_both stages now have (KeepsAll seconds count) each.2 each.3
+
+-- The first batch of a medium runs on from 0, where its first place is that behind the last record.
+pub begins_whole : (placed : List Placed) (first : ℕ) (records : List Record) → next_after (last (all_records placed)) ≡ first → RunOn first records → all_records placed ≡ [] → RunOn 0 records
+begins_whole placed first records behind run none = subst (λ (n : ℕ). RunOn n records) (sym behind ∙ ap (λ (rs : List Record). next_after (last rs)) none) run
