@@ -8,3 +8,4 @@ mod Relaying
 mod Gathering
 mod FileLemmas
 mod SectionLemmas
+mod GoingOn

@@ -1,6 +1,6 @@
 -- How far a reader has come in a capture.
 use Rattle.std.specs.Prelude.{◌≡◌, ◌≤◌, ℕ, Bool, true, false, List, Option, None, Some, Result, Ok, Err, ⊤}
-use Rattle.std.specs.Io.KnownBytes.{Consumes, IsAtEnd}
+use Rattle.std.specs.Io.KnownBytes.{Consumes, IsAtEnd, prepend_known}
 use Rattle.vdr_outside.specs.Writes.{AppendsFront}
 use Rattle.vdr_feed.specs.Feed.{longest_feed}
 use Rattle.vdr_pcap.specs.Seen.{IfKnown}
@@ -49,3 +49,19 @@ GathersFeed left now taken taken' waiting (Ok x) = IsAtEnd now × IfCaptured lef
 GathersFeed left now taken taken' waiting (Err (Refused number offset)) = IfRefusedBehind left number offset (λ parts. Gathers taken taken' (imported parts) waiting)
 GathersFeed left now taken taken' waiting (Err Input) = IfReached left (λ parts. Gathers taken taken' (imported parts) waiting)
 GathersFeed left now taken taken' waiting (Err Output) = IfReached left (λ parts. AppendsFront taken taken' (imported parts))
+
+-- It has read the header and some packets or blocks, and the feed of their items was written, or waits.
+pub record HasGathered (first now : Option (List ℕ)) (r : Reading) (taken taken' : Option (List ℕ)) (waiting : List ℕ) : Type 0 where
+  pub parts : List Part
+  pub read : HasRead first now r parts
+  pub gathers : Gathers taken taken' (imported parts) waiting
+
+-- What was gathered of the bytes that were read ahead: whatever was read and gathered before.
+abbrev pub GoesOn : (ahead ahead' : List ℕ) → (r r' : Reading) → (taken taken' : Option (List ℕ)) → (waiting waiting' : List ℕ) → Type 0
+GoesOn ahead ahead' r r' taken taken' waiting waiting' = (first left begin : Option (List ℕ)) → HasGathered first (prepend_known ahead left) r begin taken waiting
+    → HasGathered first (prepend_known ahead' left) r' begin taken' waiting' × (r.course.account.items ≤ r'.course.account.items)
+
+-- The sink failed behind a front of the feed of what was read.
+abbrev pub FailsSo : (ahead : List ℕ) → Reading → (taken taken' : Option (List ℕ)) → (waiting : List ℕ) → Type 0
+FailsSo ahead r taken taken' waiting = (first left begin : Option (List ℕ)) → HasGathered first (prepend_known ahead left) r begin taken waiting
+    → IfReached first (λ parts. AppendsFront begin taken' (imported parts))

@@ -1,11 +1,12 @@
 // What was read ahead of a capture's source, and what is gathered for its sink.
-ghost use Rattle.std.specs.Prelude.{◌≡◌, ◌≤◌, ◌<◌, ◌+◌, ◌++◌, true, false, [], length, take, OnOk, OnErr};
+ghost use Rattle.std.specs.Prelude.{◌≡◌, ◌≤◌, ◌<◌, ◌+◌, ◌++◌, true, false, [], length, drop, take, OnOk, OnErr};
 ghost use Rattle.std.specs.Io.KnownBytes.{IsAtEnd, Keeps, prepend_known};
 ghost use Rattle.vdr_outside.specs.Causes.{HasCause};
 
 use crate::spelling::head_of;
-use vdr_feed::{Item, LONGEST_ITEM};
+use vdr_feed::LONGEST_ITEM;
 use vdr_outside::{Failed, Sink, Source};
+use vdr_pcap::LentItem;
 
 /// How many bytes are read ahead, and gathered, at most.
 pub(crate) const CAPACITY: usize = 65_536;
@@ -23,7 +24,7 @@ pub(crate) struct Buffer {
 
 impl Buffer {
     ghost use Rattle.vdr_feed.specs.Feed.{spelling};
-    ghost use Rattle.vdr_pcap.specs.Taken.{item_held};
+    ghost use Rattle.vdr_pcap.specs.Taken.{item_lent};
     ghost use Rattle.vdr_import.specs.Relayed.{Gathers, held_in};
 
     /// One that holds nothing.
@@ -43,6 +44,21 @@ impl Buffer {
         ensures some { result ≡ false → 0 < length (held_in self.now) }
     {
         self.from == self.to
+    }
+
+    /// What is held.
+    pub(crate) fn held(&self) -> &[u8]
+        ensures { result.now ≡ held_in self.now }
+    {
+        &self.bytes[self.from..self.to]
+    }
+
+    /// Passes over so many bytes of what is held.
+    pub(crate) fn pass(&mut self, size: usize)
+        requires { size ≤ length (held_in self.old) }
+        ensures { held_in self.new ≡ drop size (held_in self.old) }
+    {
+        self.from += size;
     }
 
     /// Puts the next bytes into a front of a slice, and says how many.
@@ -122,15 +138,20 @@ impl Buffer {
     }
 
     /// Gathers an item as it is spelled. Where there is too little room, what is held is written first.
-    pub(crate) fn push_item<O: Sink>(&mut self, output: &mut O, item: &Item) -> Result<(), Failed>
+    pub(crate) fn push_item<O: Sink>(
+        &mut self,
+        output: &mut O,
+        item: &LentItem<'_>,
+    ) -> Result<(), Failed>
+        requires { length item.now.body.now ≤ 1_473 }
         ensures all { OnOk result (Gathers (O.taken output.old) (O.taken output.new)
-            (held_in self.old ++ spelling (item_held item.now)) (held_in self.new)) }
+            (held_in self.old ++ spelling (item_lent item.now)) (held_in self.new)) }
         ensures front { OnErr result (Gathers (O.taken output.old) (O.taken output.new) (held_in self.old) (held_in self.new)) }
         ensures cause { HasCause (O.faults output.old) (O.faults output.new) result }
     {
         self.make_room(output)?;
         self.gather(&head_of(item));
-        self.gather(item.bytes.as_slice());
+        self.gather(item.body);
         Ok(())
     }
 }

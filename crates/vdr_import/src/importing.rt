@@ -1,18 +1,33 @@
 // The feed of a capture's items.
-ghost use Rattle.std.specs.Prelude.{◌≡◌, [], true, false, Err, OnErr, OnOk};
+ghost use Rattle.std.specs.Prelude.{◌≡◌, ◌≤◌, [], true, false, length, Err, OnErr, OnOk};
 ghost use Rattle.vdr_feed.specs.Feed.{longest_feed};
 ghost use Rattle.vdr_pcap.specs.Reader.{new_reading};
+ghost use Rattle.vdr_pcap.specs.Taken.{item_held, item_lent};
 ghost use Rattle.vdr_import.specs.Imports.{HasCauses, Imports};
 ghost use Rattle.vdr_import.specs.Progress.{GathersFeed};
 ghost use Rattle.vdr_import.specs.Relayed.{held_in};
 ghost use Rattle.vdr_import.specs.declared.refused.ImportRefused.TheVariants.{Output};
 
+use crate::ahead::gather_ahead;
 use crate::buffers::Buffers;
 use crate::next::next_item;
 use crate::refused::ImportRefused;
 use vdr_feed::{Item, LONGEST_FEED};
 use vdr_outside::{Failed, Sink, Source};
-use vdr_pcap::{CaptureFault, CaptureReader};
+use vdr_pcap::{CaptureFault, CaptureReader, LentItem};
+
+// An item that was read, lent.
+fn lent(item: &Item) -> LentItem<'_>
+    ensures item { item_lent result ≡ item_held item.now }
+    ensures body { length result.body.now ≤ 1_473 }
+{
+    LentItem {
+        group: item.group,
+        received: item.received,
+        utc: item.utc,
+        body: item.bytes.as_slice(),
+    }
+}
 
 // Gathers the feed of the items that a new reader gives, and writes it as far as it was handed on.
 fn gather_feed<I: Source, O: Sink>(
@@ -40,12 +55,16 @@ fn gather_feed<I: Source, O: Sink>(
     }
     let mut item = Item::new();
     'items: loop {
+        match gather_ahead(reader, &mut buffers.ahead, &mut buffers.gathered, output) {
+            Ok(()) => {}
+            Err(_) => return Err(ImportRefused::Output),
+        }
         match next_item(reader, input, output, buffers, &mut item) {
             Ok(true) => {}
             Ok(false) => return Ok(()),
             Err(refused) => return Err(refused),
         }
-        match buffers.gathered.push_item(output, &item) {
+        match buffers.gathered.push_item(output, &lent(&item)) {
             Ok(()) => {}
             Err(_) => return Err(ImportRefused::Output),
         }

@@ -4,6 +4,7 @@
 #![tactic(auto)]
 
 mod account_text;
+mod ahead;
 mod buffers;
 mod counting;
 mod importing;

@@ -10,3 +10,4 @@ pub mod Local
 pub mod Unique
 pub mod Items
 pub mod Timed
+pub mod WithinLemmas

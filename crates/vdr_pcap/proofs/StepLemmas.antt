@@ -70,7 +70,7 @@ takes limit c s' size p bytes e fits =
     ap (λ (x : Parsed). step_of limit c x) e
     ∙ ap (λ (b : Bool). cond b (Refuses 7) (Takes size (record { standing = s'; offset = c.offset + size; account = counted p c.account }) p)) fits
 
-passes : (left now : Option (List ℕ)) (limit : ℕ) (c : Course) (s' : Standing) (offset' : ℕ) (a' : Account) (size : ℕ) (p : Piece) (bytes : List ℕ) (items : List FeedItem)
+pub passes : (left now : Option (List ℕ)) (limit : ℕ) (c : Course) (s' : Standing) (offset' : ℕ) (a' : Account) (size : ℕ) (p : Piece) (bytes : List ℕ) (items : List FeedItem)
     → length bytes ≡ size → Consumes left now bytes → parsed c.standing bytes ≡ Reads size s' p → is_too_much limit c.offset c.account.items size p ≡ false
     → offset' ≡ c.offset + size → a' ≡ counted p c.account → item_from c.account (datagram_of p) ≡ items
     → Passes left now limit c (record { standing = s'; offset = offset'; account = a' }) items

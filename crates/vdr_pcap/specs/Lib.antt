@@ -11,3 +11,4 @@ pub mod Seen
 pub mod Stamps
 pub mod Steps
 pub mod Taken
+pub mod Within

@@ -8,6 +8,7 @@ use crate::account::Account;
 use crate::buffers::Buffers;
 use crate::fault::CaptureFault;
 use crate::steps::{Course, Stepped, read_header, read_item};
+use crate::within::{Within, take_within};
 use std::marker::Model;
 use vdr_feed::Item;
 use vdr_outside::Source;
@@ -33,8 +34,9 @@ impl Model for CaptureReader {
 }
 
 impl CaptureReader {
-    ghost use Rattle.vdr_pcap.specs.Reader.{GivesHeader, GivesItem, HasReadCause, IfRefused, new_reading};
+    ghost use Rattle.vdr_pcap.specs.Reader.{GivesHeader, GivesItem, HasReadCause, IfRefused, new_reading, reading_at};
     ghost use Rattle.vdr_pcap.specs.Steps.{RefusesAt};
+    ghost use Rattle.vdr_pcap.specs.Within.{IsShort, TakesFront};
 
     /// A reader that gives at most so many items.
     pub fn new(limit: u64) -> CaptureReader
@@ -123,5 +125,18 @@ impl CaptureReader {
                 Err(CaptureFault::Fault)
             }
         }
+    }
+
+    /// Takes the packet of a pcap file that lies whole at the front of some bytes, which are the next of the capture, and copies nothing
+    /// of it. Nothing where none does, or it would be refused, and of pcapng: `item` has to read on then. The caller passes over the bytes
+    /// of what is taken. The header was asked for, and there was no fault and no refusal.
+    pub fn packet_within<'a>(&mut self, bytes: &'a [u8]) -> Within<'a>
+        requires begun { self.old.begun ≡ true }
+        requires going { self.old.stopped ≡ None }
+        ensures takes { TakesFront self.old.limit bytes.now self.old.course self.new.course result }
+        ensures goes_on { self.new ≡ reading_at self.old.limit self.new.course }
+        ensures short { IsShort result }
+    {
+        take_within(self.limit, &mut self.course, bytes)
     }
 }
