@@ -1,13 +1,14 @@
 -- What a row of a table is compared with, and what the table is with it.
 use Rattle.std.proofs.Common.{◌≡◌, ◌≤◌, ◌∙◌, ◌∷◌, ℕ, List, Option, Result, ap, subst, arith}
 use Rattle.vdr_durability.specs.Sources.{Source, source_cmp}
-use Rattle.vdr_watch.specs.Kept.{IsPlaced, row_at, with_row}
+use Rattle.vdr_alerts.specs.Rows.{IsPlaced, row_at, with_row}
 use Rattle.vdr_watch.specs.Signs.{Alarm, Alarms, Beats, Heartbeat, Sign}
 use Rattle.vdr_watch.specs.Supervision.{alarm_cmp, beat_cmp, last_state, latest, predecessor, states}
 use Rattle.vdr_watch.specs.TableViews.{HasRoom}
-use Rattle.vdr_watch.specs.Texts.{Mark, beat_text}
+use Rattle.vdr_alerts.specs.Lines.{Mark}
+use Rattle.vdr_watch.specs.Texts.{beat_text}
 use Rattle.vdr_watch.specs.declared.tables.Tables.{Tables}
-use Rattle.vdr_watch.proofs.Ordered.{find_placed, put_placed}
+use Rattle.vdr_alerts.proofs.Ordered.{find_placed, put_placed}
 use Rattle.vdr_watch.proofs.Orders.{alarm_total, beat_found, beat_from, beat_total, latest_ordered, state_found, states_ordered}
 
 module _ (met : List Sign) (rows : List Heartbeat) (is : rows ≡ latest met) (s t : Source) (same : s ≡ t) (place : Result ℕ ℕ) (p : IsPlaced (λ b. source_cmp b.source s) rows place) where
@@ -37,4 +38,8 @@ pub beat_same : (m : Mark) (o p : Option Heartbeat) (x y : Option ℕ) → o ≡
 beat_same m o p x y e f = λ i. beat_text m (e i) (f i)
 
 pub room_less : (t : Tables) (m n : ℕ) → HasRoom t m → n ≤ m → HasRoom t n
-room_less t m n room less = record { beats = omega (arith, room.beats, less); alarms = omega (arith, room.alarms, less) }
+room_less t m n room less = record {
+  beats = omega (arith, room.beats, less);
+  alarms = omega (arith, room.alarms, less);
+  board = record { parts = omega (arith, room.board.parts, less); lists = omega (arith, room.board.lists, less); alerts = omega (arith, room.board.alerts, less) };
+}

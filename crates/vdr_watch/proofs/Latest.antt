@@ -4,8 +4,9 @@ use Rattle.std.specs.Cmp.{IsTotalOrder}
 use Rattle.std.specs.List.{Contains, slice_index_or}
 use Rattle.std.proofs.lemmas.Cmp.{tied_itself}
 use Rattle.vdr_watch.specs.Signs.{Sign}
-use Rattle.vdr_watch.specs.Supervision.{AreLatest, AreOrdered, beat_cmp, latest}
-use Rattle.vdr_watch.proofs.Ordered.{all_at, same_as}
+use Rattle.vdr_alerts.specs.Rows.{AreOrdered}
+use Rattle.vdr_watch.specs.Supervision.{AreLatest, beat_cmp, latest}
+use Rattle.vdr_alerts.proofs.Ordered.{all_at, same_as}
 use Rattle.vdr_watch.proofs.Orders.{beat_found, beat_total, latest_ordered}
 
 module _ {A : Type 0} (cmp : A → A → Ordering) (total : IsTotalOrder cmp) where

@@ -9,7 +9,8 @@ use Rattle.vdr_datagram.specs.Views.{span_of, verdict_of}
 use Rattle.vdr_datagram.specs.declared.line.Line.{Line}
 use Rattle.vdr_watch.specs.Signs.{Sign, sign_in}
 use Rattle.vdr_watch.specs.Supervision.{met_after}
-use Rattle.vdr_watch.specs.Texts.{Mark, sign_text, signs_text}
+use Rattle.vdr_alerts.specs.Lines.{Mark}
+use Rattle.vdr_watch.specs.Texts.{sign_text, signs_text}
 
 abbrev pub signs_along : (group tick : ℕ) → List LineSpan → List Sign
 signs_along group tick spans = filter_map (λ s. sign_in group tick s.verdict) spans

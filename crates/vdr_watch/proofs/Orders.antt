@@ -6,9 +6,12 @@ use Rattle.std.proofs.lemmas.Bool.{ltb-true, ne_eqb}
 use Rattle.std.proofs.lemmas.Cmp.{nat_cmp_total, on_total, then_total}
 use Rattle.vdr_durability.specs.Sources.{Source, is_same, source_cmp}
 use Rattle.vdr_durability.proofs.SourceOrder.{is_same_by, source_total}
-use Rattle.vdr_watch.specs.Signs.{Alarm, Alarms, Beats, Begins, Heartbeat, Sign}
-use Rattle.vdr_watch.specs.Supervision.{AreOrdered, alarm_cmp, beat_cmp, last_state, latest, predecessor, states}
-use Rattle.vdr_watch.proofs.Ordered.{found_with, ordered_with, same_as}
+use Rattle.vdr_watch.specs.Signs.{Alarm, Alarms, Beats, Begins, Heartbeat, Says, Sign}
+use Rattle.vdr_alerts.specs.Rows.{AreOrdered}
+use Rattle.vdr_watch.specs.Supervision.{alarm_cmp, beat_cmp, board_of, last_state, latest, predecessor, states}
+use Rattle.vdr_alerts.specs.Views.{IsOrdered}
+use Rattle.vdr_alerts.proofs.Orders.{ordered_behind}
+use Rattle.vdr_alerts.proofs.Ordered.{found_with, ordered_with, same_as}
 
 pub beat_total : IsTotalOrder beat_cmp
 beat_total = on_total (λ (b : Heartbeat). b.source) source_total
@@ -25,12 +28,21 @@ latest_ordered [] = tt
 latest_ordered (Begins ∷ met) = tt
 latest_ordered (Beats b ∷ met) = ordered_with beat_cmp beat_total (latest met) b (latest_ordered met)
 latest_ordered (Alarms a text ∷ met) = latest_ordered met
+latest_ordered (Says s ∷ met) = latest_ordered met
 
 pub states_ordered : (met : List Sign) → AreOrdered alarm_cmp (states met)
 states_ordered [] = tt
 states_ordered (Begins ∷ met) = states_ordered met
 states_ordered (Beats b ∷ met) = states_ordered met
+states_ordered (Says s ∷ met) = states_ordered met
 states_ordered (Alarms a text ∷ met) = ordered_with alarm_cmp alarm_total (states met) a (states_ordered met)
+
+pub board_ordered : (met : List Sign) → IsOrdered (board_of met)
+board_ordered [] = record { parts = tt; lists = tt; alerts = tt }
+board_ordered (Begins ∷ met) = board_ordered met
+board_ordered (Beats b ∷ met) = board_ordered met
+board_ordered (Alarms a text ∷ met) = board_ordered met
+board_ordered (Says s ∷ met) = ordered_behind (board_of met) s (board_ordered met)
 
 either : {A : Type 0} (b c : Bool) (x y z : Option A) → b ≡ c → y ≡ z → cond b x y ≡ cond c x z
 either b c x y z e f = λ i. cond (e i) x (f i)
@@ -42,6 +54,7 @@ beat_found (Begins ∷ met) k = refl
 beat_found (Beats b ∷ met) k =
     found_with beat_cmp beat_total (latest met) b k ∙ either (is_eq (beat_cmp b k)) (is_same b.source k.source) (Some b) _ _ (is_same_by b.source k.source) (beat_found met k)
 beat_found (Alarms a text ∷ met) k = beat_found met k
+beat_found (Says s ∷ met) k = beat_found met k
 
 both : (o p : Ordering) → is_eq (ordering_then o p) ≡ is_eq o && is_eq p
 both Less p = refl
@@ -61,6 +74,7 @@ pub state_found : (met : List Sign) (k : Alarm) → find (same_as alarm_cmp alar
 state_found [] k = refl
 state_found (Begins ∷ met) k = state_found met k
 state_found (Beats b ∷ met) k = state_found met k
+state_found (Says s ∷ met) k = state_found met k
 state_found (Alarms a text ∷ met) k =
     found_with alarm_cmp alarm_total (states met) a k ∙ either (is_eq (alarm_cmp a k)) (is_same a.source k.source && (a.number == k.number)) (Some a) _ _ test (state_found met k)
   where

@@ -5,10 +5,12 @@ use Rattle.std.proofs.lemmas.List.{append-nil}
 use Rattle.std.proofs.lemmas.List.Sums.{fold-append}
 use Rattle.vdr_terms.specs.Records.{Record, last, last_after}
 use Rattle.vdr_terms.specs.Records.Content.{Datagram}
+use Rattle.vdr_alerts.specs.Boards.{Board}
+use Rattle.vdr_alerts.specs.Lines.{Mark, mark_of}
 use Rattle.vdr_watch.specs.Kept.{AreKept, Kept, kept_of}
 use Rattle.vdr_watch.specs.Signs.{Alarm, Heartbeat, Sign, signs_in, signs_of, signs_said}
-use Rattle.vdr_watch.specs.Supervision.{latest, met_after, met_in, states}
-use Rattle.vdr_watch.specs.Texts.{Mark, mark_of, record_text, records_text, signs_text}
+use Rattle.vdr_watch.specs.Supervision.{board_of, latest, met_after, met_in, states}
+use Rattle.vdr_watch.specs.Texts.{record_text, records_text, signs_text}
 
 -- A Datagram shows what its lines show.
 pub datagram_told : (r : Record) (m : Mark) (group : ℕ) (payload : List ℕ) (met : List Sign) → m ≡ mark_of r → group ≡ r.group → Datagram payload ≡ r.content
@@ -27,13 +29,14 @@ pub met_with : (before : List Record) (r : Record) → met_in (before ++ r ∷ [
 met_with before r = fold-append (λ met r. met_after met (signs_of r)) [] before (r ∷ [])
 
 -- What is kept once a record was met.
-pub kept_with : (before : List Record) (r : Record) (beats : List Heartbeat) (alarms : List Alarm) (m : Mark) → AreKept (met_after (met_in before) (signs_of r)) beats alarms → m ≡ mark_of r
-    → ◌≡◌ {A = Kept} (record { heartbeats = beats; alarms = alarms; last = Some m }) (kept_of (before ++ r ∷ []))
-kept_with before r beats alarms m kept e =
+pub kept_with : (before : List Record) (r : Record) (beats : List Heartbeat) (alarms : List Alarm) (board : Board) (m : Mark) → AreKept (met_after (met_in before) (signs_of r)) beats alarms board
+    → m ≡ mark_of r → ◌≡◌ {A = Kept} (record { heartbeats = beats; alarms = alarms; board = board; last = Some m }) (kept_of (before ++ r ∷ []))
+kept_with before r beats alarms board m kept e =
     let b : beats ≡ latest (met_in (before ++ r ∷ [])) = kept.beats ∙ sym (ap latest (met_with before r)) in
     let a : alarms ≡ states (met_in (before ++ r ∷ [])) = kept.states ∙ sym (ap states (met_with before r)) in
+    let k : board ≡ board_of (met_in (before ++ r ∷ [])) = kept.alerts ∙ sym (ap board_of (met_with before r)) in
     let l : Some m ≡ option_map mark_of (last (before ++ r ∷ [])) = ap (λ (m : Mark). Some m) e ∙ sym (ap (option_map mark_of) (last_of before r)) in
-    λ i. record { heartbeats = b i; alarms = a i; last = l i }
+    λ i. record { heartbeats = b i; alarms = a i; board = k i; last = l i }
 
 met_from : List Sign → List Record → List Sign
 met_from met records = fold (λ met r. met_after met (signs_of r)) met records

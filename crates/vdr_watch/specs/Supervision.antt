@@ -1,13 +1,13 @@
 -- What is said of equipment by its signs (this project's profile): what each sign is compared with, looked for in all that were met before
 -- it, the latest first.
-use Rattle.std.specs.Prelude.{◌≡◌, ◌↔◌, ◌-◌, ◌*◌, ⊤, ℕ, Bool, true, false, ◌&&◌, ◌==◌, nat_lt, List, [], ◌∷◌, fold, Contains, Option, Some, None, if◌then◌else◌}
-use Rattle.std.specs.List.{AllByRecursion}
+use Rattle.std.specs.Prelude.{◌≡◌, ◌↔◌, ◌-◌, ◌*◌, ℕ, Bool, true, false, ◌&&◌, ◌==◌, nat_lt, List, [], ◌∷◌, fold, Contains, Option, Some, None, if◌then◌else◌}
 use Rattle.std.specs.Ordering.{nat_cmp, ordering_then}
 use Rattle.std.specs.declared.cmp.Ordering.{Ordering}
-use Rattle.std.specs.declared.cmp.Ordering.TheVariants.{Less, Equal, Greater}
 use Rattle.vdr_terms.specs.Records.{Record}
 use Rattle.vdr_durability.specs.Sources.{Source, is_same, source_cmp}
-use Rattle.vdr_watch.specs.Signs.{Alarm, Alarms, Beats, Begins, Heartbeat, Sign, signs_of}
+use Rattle.vdr_alerts.specs.Boards.{Board, board_behind, empty}
+use Rattle.vdr_alerts.specs.Rows.{AreOrdered, put}
+use Rattle.vdr_watch.specs.Signs.{Alarm, Alarms, Beats, Begins, Heartbeat, Says, Sign, signs_of}
 
 -- The last heartbeat of the source, with no begin of a run behind it.
 abbrev pub predecessor : Source → (met : List Sign) → Option Heartbeat
@@ -15,12 +15,14 @@ predecessor source [] = None
 predecessor source (Begins ∷ met) = None
 predecessor source (Beats b ∷ met) = if is_same b.source source then Some b else predecessor source met
 predecessor source (Alarms a text ∷ met) = predecessor source met
+predecessor source (Says saying ∷ met) = predecessor source met
 
 -- The last state of the source's alarm of this number. Runs do not part it.
 abbrev pub last_state : Source → (number : ℕ) → (met : List Sign) → Option Alarm
 last_state source number [] = None
 last_state source number (Begins ∷ met) = last_state source number met
 last_state source number (Beats b ∷ met) = last_state source number met
+last_state source number (Says saying ∷ met) = last_state source number met
 last_state source number (Alarms a text ∷ met) = if is_same a.source source && (a.number == number) then Some a else last_state source number met
 
 -- More than twice the interval has passed since the heartbeat, in millionths of a second.
@@ -46,16 +48,6 @@ met_after met (s ∷ signs) = met_after (s ∷ met) signs
 abbrev pub met_in : List Record → List Sign
 met_in records = fold (λ met r. met_after met (signs_of r)) [] records
 
--- A list in order with one more: in the place of the one that counts as the same, or between.
-abbrev pub put_at : {A : Type 0} → Ordering → A → List A → A → List A → List A
-put_at Less x xs new rest = x ∷ rest
-put_at Equal x xs new rest = new ∷ xs
-put_at Greater x xs new rest = new ∷ x ∷ xs
-
-abbrev pub put : {A : Type 0} → (A → A → Ordering) → List A → A → List A
-put cmp [] new = new ∷ []
-put cmp (x ∷ xs) new = put_at (cmp x new) x xs new (put cmp xs new)
-
 -- By group and then source.
 abbrev pub beat_cmp : Heartbeat → Heartbeat → Ordering
 beat_cmp a b = source_cmp a.source b.source
@@ -70,18 +62,23 @@ latest [] = []
 latest (Begins ∷ met) = []
 latest (Beats b ∷ met) = put beat_cmp (latest met) b
 latest (Alarms a text ∷ met) = latest met
+latest (Says saying ∷ met) = latest met
 
 -- The last state of each alarm, by group, source and number.
 abbrev pub states : (met : List Sign) → List Alarm
 states [] = []
 states (Begins ∷ met) = states met
 states (Beats b ∷ met) = states met
+states (Says saying ∷ met) = states met
 states (Alarms a text ∷ met) = put alarm_cmp (states met) a
 
--- Each comes before those behind it.
-abbrev pub AreOrdered : {A : Type 0} → (A → A → Ordering) → List A → Type 0
-AreOrdered cmp [] = ⊤
-AreOrdered cmp (x ∷ xs) = AllByRecursion (λ later. cmp x later ≡ Less) xs × AreOrdered cmp xs
+-- What is known of bridge alerts. Runs do not part it.
+abbrev pub board_of : (met : List Sign) → Board
+board_of [] = empty
+board_of (Begins ∷ met) = board_of met
+board_of (Beats b ∷ met) = board_of met
+board_of (Alarms a text ∷ met) = board_of met
+board_of (Says saying ∷ met) = board_behind (board_of met) saying
 
 -- The list has, in order, the predecessor that each source would have now, and nothing else.
 pub record AreLatest (met : List Sign) (beats : List Heartbeat) : Type 0 where

@@ -1,26 +1,12 @@
 -- What is printed of the supervision of equipment (this project's profile).
-use Rattle.std.specs.Prelude.{◌+◌, ◌-◌, ◌%◌, ◌==◌, ℕ, ℤ, List, [], ◌∷◌, ◌++◌, codes, decimal, Option, Some, None, option_map, if◌then◌else◌}
+use Rattle.std.specs.Prelude.{◌+◌, ◌-◌, ◌%◌, ◌==◌, ℕ, List, [], ◌∷◌, ◌++◌, codes, decimal, Option, Some, None, option_map, if◌then◌else◌}
 use Rattle.std.specs.List.{concat, flat_map}
-use Rattle.vdr_terms.specs.Groups.{group_name}
 use Rattle.vdr_terms.specs.Records.{Record, last}
-use Rattle.vdr_entry.specs.Escape.{escaped}
-use Rattle.vdr_entry.specs.Utc.{utc_text}
 use Rattle.vdr_durability.specs.Sources.{Source}
-use Rattle.vdr_watch.specs.Signs.{Alarm, Alarms, Beats, Begins, Heartbeat, Sign, signs_of}
-use Rattle.vdr_watch.specs.Supervision.{is_silent, last_state, latest, met_after, met_in, predecessor, same_state}
-
--- The record at which a line is told.
-pub record Mark : Type 0 where
-  pub place : ℕ
-  pub utc : ℤ
-  pub tick : ℕ
-
-abbrev pub mark_of : Record → Mark
-mark_of r = record { place = r.place; utc = r.utc; tick = r.tick }
-
--- PLACE UTC WORD GROUP SOURCE, and a space.
-unfoldable pub front_text : Mark → (word : List ℕ) → Source → List ℕ
-front_text m word source = concat (decimal m.place ∷ codes " " ∷ utc_text m.utc ∷ word ∷ group_name source.group ∷ codes " " ∷ source.name ∷ codes " " ∷ [])
+use Rattle.vdr_alerts.specs.Boards.{saying_text}
+use Rattle.vdr_alerts.specs.Lines.{Mark, front_text, letter_text, mark_of, raw_text}
+use Rattle.vdr_watch.specs.Signs.{Alarm, Alarms, Beats, Begins, Heartbeat, Says, Sign, signs_of}
+use Rattle.vdr_watch.specs.Supervision.{board_of, is_silent, last_state, latest, met_after, met_in, predecessor, same_state}
 
 -- PLACE UTC silent GROUP SOURCE MS, where so many milliseconds are more than twice the interval.
 abbrev pub silent_text : Mark → Heartbeat → List ℕ
@@ -37,14 +23,6 @@ jump_text m source None now = []
 abbrev pub beat_text : Mark → (before : Option Heartbeat) → (sequence : Option ℕ) → List ℕ
 beat_text m None sequence = []
 beat_text m (Some before) sequence = silent_text m before ++ jump_text m before.source before.sequence sequence
-
-abbrev pub letter_text : Option ℕ → List ℕ
-letter_text None = codes "null"
-letter_text (Some letter) = letter ∷ []
-
-abbrev pub raw_text : Option (List ℕ) → List ℕ
-raw_text None = codes "null"
-raw_text (Some bytes) = escaped bytes
 
 -- PLACE UTC alarm GROUP SOURCE NUMBER CONDITION ACKNOWLEDGED, and a space.
 abbrev pub state_text : Mark → Alarm → List ℕ
@@ -64,6 +42,7 @@ abbrev pub sign_text : Mark → (met : List Sign) → Sign → List ℕ
 sign_text m met Begins = []
 sign_text m met (Beats b) = beat_text m (predecessor b.source met) b.sequence
 sign_text m met (Alarms a text) = alarm_text m (last_state a.source a.number met) a text
+sign_text m met (Says saying) = saying_text m (board_of met) saying
 
 abbrev pub signs_text : Mark → (met : List Sign) → List Sign → List ℕ
 signs_text m met [] = []

@@ -5,7 +5,7 @@ use vdr_outside::Failed;
 /// Why a record was not watched.
 #[derive(Clone, Copy, Debug, PartialEq, Eq, Drop)]
 pub enum WatchFault {
-    /// There was no memory for one more source or alarm.
+    /// There was no memory for one more source, alarm or alert.
     NoMemory,
     /// The output failed.
     Output,

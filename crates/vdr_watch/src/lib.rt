@@ -1,5 +1,5 @@
-//! Supervision of equipment by what it said: heartbeats that stayed away, sequence numbers that jump, and changes of alarms (sentences HBT and
-//! ALR of IEC 61162-1; when a line is printed is this project's profile).
+//! Supervision of equipment by what it said: heartbeats that stayed away, sequence numbers that jump, and changes of alarms and of bridge alerts
+//! (sentences HBT, ALR, ALF and ALC of IEC 61162-1; when a line is printed is this project's profile).
 //!
 //! The format, with an example: docs/formats/printed.md.
 //!
@@ -12,7 +12,6 @@ mod alarm;
 mod fault;
 mod heartbeat;
 mod laws;
-mod mark;
 mod place;
 mod print;
 mod sign;

@@ -4,12 +4,14 @@ ghost use Rattle.vdr_datagram.specs.Views.{verdict_of};
 ghost use Rattle.vdr_sources.specs.Tables.{named, reading_of};
 ghost use Rattle.vdr_values.specs.Views.{sign_and_size};
 ghost use Rattle.vdr_watch.specs.SignViews.{sign_value};
-ghost use Rattle.vdr_watch.specs.Signs.{alarm_of, heartbeat_of, sign_in, sign_read, sign_told};
+ghost use Rattle.vdr_watch.specs.Signs.{alarm_of, code_in, heartbeat_of, sign_in, sign_read, sign_told};
 
 use crate::alarm::Alarm;
 use crate::heartbeat::Heartbeat;
 use arrayvec::ArrayVec;
+use vdr_alerts::{Saying, saying_of};
 use vdr_datagram::LineVerdict;
+use vdr_tag::Grouping;
 use vdr_values::{Num, Reading, read_value};
 
 // The formatters that are watched.
@@ -20,11 +22,12 @@ const ALARM: &[u8] = b"ALR";
 // The name of a source that names none.
 const NO_SOURCE: &[u8] = b"-";
 
-/// A heartbeat, or the state of an alarm with its text.
+/// A heartbeat, the state of an alarm with its text, or what is said of bridge alerts.
 #[derive(Drop)]
 pub(crate) enum Sign<'a> {
     Heartbeat(Heartbeat),
     Alarm(Alarm, Option<&'a [u8]>),
+    Alert(Saying<'a>),
 }
 
 // The bytes of a name.
@@ -87,10 +90,26 @@ fn alarm_of<'a>(
     Some(Sign::Alarm(alarm, text))
 }
 
-fn sign_told<'a>(group: u8, name: &[u8], tick: u64, reading: &Reading<'a>) -> Option<Sign<'a>>
+// The code of the TAG group that a sentence stands in.
+fn code_in(group: Option<Grouping>) -> Option<u32>
+    ensures { result ≡ code_in group }
+{
+    match group {
+        Some(group) => Some(group.code),
+        None => None,
+    }
+}
+
+fn sign_told<'a>(
+    group: u8,
+    name: &[u8],
+    code: Option<u32>,
+    tick: u64,
+    reading: Reading<'a>,
+) -> Option<Sign<'a>>
     requires group { group ≤ 15 }
     requires short { length name.now ≤ 15 }
-    ensures { option_map sign_value result ≡ sign_told reading.now.row.formatter (record { group = group; name = name.now }) tick reading.now.values }
+    ensures { option_map sign_value result ≡ sign_told reading.entry.row.formatter (record { group = group; name = name.now }) code tick reading.entry.values }
 {
     let formatter = reading.formatter();
     if formatter == HEARTBEAT {
@@ -107,10 +126,10 @@ fn sign_told<'a>(group: u8, name: &[u8], tick: u64, reading: &Reading<'a>) -> Op
             text,
         );
     }
-    None
+    Some(Sign::Alert(saying_of((group, name), code, reading)?))
 }
 
-/// The sign that a line is, recorded at this tick. None where it is no heartbeat and no state of an alarm.
+/// The sign that a line is, recorded at this tick. None where it says nothing that is watched.
 pub(crate) fn sign_in<'a>(group: u8, tick: u64, verdict: &LineVerdict<'a>) -> Option<Sign<'a>>
     requires group { group ≤ 15 }
     requires short { length (reading_of (verdict_of verdict.now)).name ≤ 15 }
@@ -122,5 +141,6 @@ pub(crate) fn sign_in<'a>(group: u8, tick: u64, verdict: &LineVerdict<'a>) -> Op
     let Ok(Some(reading)) = read_value(sentence) else {
         return None;
     };
-    sign_told(group, tags.source.unwrap_or(NO_SOURCE), tick, &reading)
+    let (name, code) = (tags.source.unwrap_or(NO_SOURCE), code_in(tags.group));
+    sign_told(group, name, code, tick, reading)
 }

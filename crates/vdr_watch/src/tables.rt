@@ -1,4 +1,4 @@
-// What is kept of heartbeats and alarms, and what a record makes of it.
+// What is kept of heartbeats, alarms and alerts, and what a record makes of it.
 ghost use Rattle.std.specs.Prelude.{◌≡◌, ◌≤◌, ◌<◌, ◌+◌, ◌∷◌, [], ℕ, suc, List, Err, IfOk, OnErr, OnOk, length, option_copied};
 ghost use Rattle.std.specs.Io.KnownBytes.{Appends};
 ghost use Rattle.std.specs.List.{cons_option};
@@ -9,8 +9,8 @@ ghost use Rattle.vdr_outside.specs.Causes.{HasCause, Rose};
 ghost use Rattle.vdr_outside.specs.Writes.{AppendsFront};
 ghost use Rattle.vdr_sources.specs.Tables.{reading_of};
 ghost use Rattle.vdr_watch.specs.declared.fault.WatchFault.TheVariants.{NoMemory as WantsMemory, Output as HasFailed};
-ghost use Rattle.vdr_watch.specs.Kept.{row_at};
-ghost use Rattle.vdr_watch.specs.Signs.{Alarms, Beats, Sign as ASign, sign_in, signs_in, signs_of};
+ghost use Rattle.vdr_alerts.specs.Views.{board_value, saying_value};
+ghost use Rattle.vdr_watch.specs.Signs.{Alarms, Beats, Says, Sign as ASign, sign_in, signs_in, signs_of};
 ghost use Rattle.vdr_watch.specs.SignViews.{sign_value};
 ghost use Rattle.vdr_watch.specs.Supervision.{met_after};
 ghost use Rattle.vdr_watch.specs.TableViews.{HasRoom, Keeps};
@@ -19,30 +19,21 @@ ghost use Rattle.vdr_watch.specs.Texts.{record_text, sign_text, signs_text};
 use crate::alarm::Alarm;
 use crate::fault::WatchFault;
 use crate::heartbeat::Heartbeat;
-use crate::mark::Mark;
-use crate::place::{place_of_alarm, place_of_heartbeat, put_row};
+use crate::place::{place_of_alarm, place_of_heartbeat};
 use crate::print::{print_alarm, print_heartbeat};
 use crate::sign::{Sign, sign_in};
 use std::alloc::AllocError;
+use vdr_alerts::{Board, Mark, Saying, found, put_row};
 use vdr_datagram::{LineVerdict, lines};
 use vdr_entry::{Content, Record};
 use vdr_outside::{Failed, Sink};
 
-/// The last heartbeats, by group and then source, and the last states of alarms, by group, source and number.
+/// The last heartbeats, by group and then source, the last states of alarms, by group, source and number, and what is known of bridge alerts.
 #[derive(Drop)]
 pub(crate) struct Tables {
     pub(crate) heartbeats: Vec<Heartbeat>,
     pub(crate) alarms: Vec<Alarm>,
-}
-
-// The row at a place, if it stands there.
-fn found<R>(rows: &[R], place: Result<usize, usize>) -> Option<&R>
-    ensures { option_copied result ≡ row_at place rows.now }
-{
-    match place {
-        Ok(at) => rows.get(at),
-        Err(_) => None,
-    }
+    pub(crate) board: Board,
 }
 
 impl Tables {
@@ -51,9 +42,11 @@ impl Tables {
         ensures room { OnOk result (HasRoom self.new count) }
         ensures beats { self.new.heartbeats.items ≡ self.old.heartbeats.items }
         ensures alarms { self.new.alarms.items ≡ self.old.alarms.items }
+        ensures board { board_value self.new.board ≡ board_value self.old.board }
     {
         self.heartbeats.reserve(count)?;
-        self.alarms.reserve(count)
+        self.alarms.reserve(count)?;
+        self.board.make_room(count)
     }
 
     fn tell_heartbeat<O: Sink>(
@@ -105,6 +98,25 @@ impl Tables {
         Ok(())
     }
 
+    fn tell_alert<O: Sink>(
+        &mut self,
+        mark: &Mark,
+        saying: Saying<'_>,
+        out: &mut O,
+    ) -> Result<(), Failed>
+        requires kept { (met : List ASign) × Keeps met self.old }
+        requires room { HasRoom self.old 1 }
+        ensures kept { (met : List ASign) → Keeps met self.old → OnOk result (Keeps (Says (saying_value saying.entry) ∷ met) self.new) }
+        ensures all { (met : List ASign) → Keeps met self.old → OnOk result (Appends (O.taken out.old) (O.taken out.new) (sign_text mark.now met (Says (saying_value saying.entry)))) }
+        ensures front { (met : List ASign) → Keeps met self.old → AppendsFront (O.taken out.old) (O.taken out.new) (sign_text mark.now met (Says (saying_value saying.entry))) }
+        ensures failed { OnErr result (self.new ≡ self.old) }
+        ensures room { (n : ℕ) → HasRoom self.old (suc n) → HasRoom self.new n }
+        ensures cause { HasCause (O.faults out.old) (O.faults out.new) result }
+    {
+        self.board.tell(mark, saying, out)?;
+        Ok(())
+    }
+
     // Tells what a line shows, and keeps it.
     fn tell_line<O: Sink>(
         &mut self,
@@ -129,6 +141,7 @@ impl Tables {
         match sign_in(group, mark.tick, verdict) {
             Some(Sign::Heartbeat(beat)) => self.tell_heartbeat(mark, beat, out),
             Some(Sign::Alarm(alarm, text)) => self.tell_alarm(mark, alarm, text, out),
+            Some(Sign::Alert(saying)) => self.tell_alert(mark, saying, out),
             None => Ok(()),
         }
     }
@@ -170,7 +183,7 @@ impl Tables {
         ensures still { (met : List ASign) × Keeps met self.new }
         ensures all { (met : List ASign) → Keeps met self.old → OnOk result (Appends (O.taken out.old) (O.taken out.new) (record_text met item.now)) }
         ensures front { (met : List ASign) → Keeps met self.old → AppendsFront (O.taken out.old) (O.taken out.new) (record_text met item.now) }
-        ensures memory { result ≡ Err WantsMemory → (self.new.heartbeats.items ≡ self.old.heartbeats.items) × (self.new.alarms.items ≡ self.old.alarms.items) × (out.new ≡ out.old) }
+        ensures memory { result ≡ Err WantsMemory → (self.new.heartbeats.items ≡ self.old.heartbeats.items) × (self.new.alarms.items ≡ self.old.alarms.items) × (board_value self.new.board ≡ board_value self.old.board) × (out.new ≡ out.old) }
         ensures later { O.faults out.old ≤ O.faults out.new }
         ensures output { result ≡ Err HasFailed → Rose (O.faults out.old) (O.faults out.new) }
     {
@@ -186,7 +199,7 @@ impl Tables {
         ensures still { (met : List ASign) × Keeps met self.new }
         ensures all { (met : List ASign) → Keeps met self.old → OnOk result (Appends (O.taken out.old) (O.taken out.new) (record_text met item.now)) }
         ensures front { (met : List ASign) → Keeps met self.old → AppendsFront (O.taken out.old) (O.taken out.new) (record_text met item.now) }
-        ensures memory { result ≡ Err WantsMemory → (self.new.heartbeats.items ≡ self.old.heartbeats.items) × (self.new.alarms.items ≡ self.old.alarms.items) × (out.new ≡ out.old) }
+        ensures memory { result ≡ Err WantsMemory → (self.new.heartbeats.items ≡ self.old.heartbeats.items) × (self.new.alarms.items ≡ self.old.alarms.items) × (board_value self.new.board ≡ board_value self.old.board) × (out.new ≡ out.old) }
         ensures later { O.faults out.old ≤ O.faults out.new }
         ensures output { result ≡ Err HasFailed → Rose (O.faults out.old) (O.faults out.new) }
     {

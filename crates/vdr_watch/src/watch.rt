@@ -10,11 +10,11 @@ ghost use Rattle.vdr_watch.specs.Supervision.{met_in};
 ghost use Rattle.vdr_watch.specs.Texts.{end_text, closing_text, record_text};
 
 use crate::fault::WatchFault;
-use crate::mark::Mark;
 use crate::print::print_all_silent;
 use crate::tables::Tables;
 use std::alloc::Global;
 use std::marker::Model;
+use vdr_alerts::{Board, Mark};
 use vdr_entry::Record;
 use vdr_outside::{Failed, Sink};
 
@@ -25,12 +25,15 @@ use vdr_outside::{Failed, Sink};
 /// | a heartbeat that comes later than twice the interval of the one before it | `PLACE UTC silent GROUP SOURCE MS` |
 /// | a heartbeat whose sequence number is not the next one | `PLACE UTC jump GROUP SOURCE OLD NEW` |
 /// | the first state of an alarm, and each that differs from the one before it | `PLACE UTC alarm GROUP SOURCE NUMBER CONDITION ACKNOWLEDGED TEXT` |
+/// | the first state of a bridge alert, and where its priority or state differs | `PLACE UTC alert GROUP SOURCE IDENTIFIER INSTANCE PRIORITY STATE TEXT` |
+/// | the end of a list that lacks an alert of its source which stood | `PLACE UTC alert GROUP SOURCE IDENTIFIER INSTANCE PRIORITY gone null` |
 ///
 /// A heartbeat is an HBT sentence with an interval above 0, and the one before it is the last of the same group and source with no Start record
-/// between them. A state is an ALR sentence with a number, and the one before it the last of the same group, source and number. A line that
+/// between them. A state is an ALR sentence with a number, and the one before it the last of the same group, source and number. A bridge alert is told by sentences ALF, and listed by ALC; it stands
+/// while its state is not normal. A line that
 /// names no source counts for the source `-`, and one with a refused field does not count. A field that is left out prints as `null`.
 ///
-/// It takes memory for its sources and its alarms, and none for their lines.
+/// It takes memory for its sources, alarms and alerts, and none for their lines.
 #[derive(Drop)]
 pub struct Watch {
     tables: Tables,
@@ -40,13 +43,14 @@ pub struct Watch {
 
 impl Model for Watch {
     ghost use Rattle.std.specs.Prelude.{List};
+    ghost use Rattle.vdr_alerts.specs.Views.{board_value};
     ghost use Rattle.vdr_watch.specs.Kept.{Kept};
     ghost use Rattle.vdr_watch.specs.Signs.{Sign};
     ghost use Rattle.vdr_watch.specs.TableViews.{Keeps};
 
     ghost Value = { Kept };
 
-    ghost view = { λ w. record { heartbeats = w.tables.heartbeats.items; alarms = w.tables.alarms.items; last = w.last } };
+    ghost view = { λ w. record { heartbeats = w.tables.heartbeats.items; alarms = w.tables.alarms.items; board = board_value w.tables.board; last = w.last } };
 
     ghost invariant = { λ w. (met : List Sign) × Keeps met w.tables };
 }
@@ -60,6 +64,7 @@ impl Watch {
             tables: Tables {
                 heartbeats: Vec::new(alloc),
                 alarms: Vec::new(alloc),
+                board: Board::new(alloc),
             },
             last: None,
         }

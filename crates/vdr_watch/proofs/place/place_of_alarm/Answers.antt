@@ -1,6 +1,6 @@
 use Rattle.std.proofs.Common.{rules}
 use Rattle.std.proofs.lemmas.Fn.{always_returns_same}
-use Rattle.vdr_watch.proofs.Ordered.{placed}
+use Rattle.vdr_alerts.proofs.Ordered.{placed}
 use Rattle.vdr_watch.proofs.Orders.{alarm_total}
 use Rattle.vdr_watch.specs.Supervision.{alarm_cmp}
 use Rattle.vdr_watch.proofs.place.place_of_alarm.Goals as goal

@@ -1,7 +1,7 @@
 use Rattle.std.proofs.Common.{rules}
 use Rattle.std.proofs.lemmas.Fn.{always_returns_same}
 use Rattle.vdr_durability.specs.Sources.{source_cmp}
-use Rattle.vdr_watch.proofs.Ordered.{placed}
+use Rattle.vdr_alerts.proofs.Ordered.{placed}
 use Rattle.vdr_watch.proofs.Orders.{beat_from, beat_total}
 use Rattle.vdr_watch.specs.Supervision.{beat_cmp}
 use Rattle.vdr_watch.proofs.place.place_of_heartbeat.Goals as goal

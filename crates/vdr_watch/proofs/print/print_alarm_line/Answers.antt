@@ -2,8 +2,9 @@ use Rattle.std.proofs.Common.{◌++◌, List, ℕ, codes, append_assoc, refl}
 use Rattle.std.specs.Prelude.{option_copied}
 use Rattle.std.proofs.KnownBytes.{Appends-trans}
 use Rattle.vdr_outside.proofs.Known.{front-more}
-use Rattle.vdr_watch.specs.Texts.{raw_text, state_text}
-use Rattle.vdr_watch.proofs.Writing.{both_all, both_front, first_front}
+use Rattle.vdr_alerts.specs.Lines.{raw_text}
+use Rattle.vdr_watch.specs.Texts.{state_text}
+use Rattle.vdr_alerts.proofs.Writing.{both_all, both_front, first_front}
 use Rattle.vdr_watch.proofs.print.print_alarm_line.Goals as goal
 
 pub returns-in_err-print_state-clause-front : goal.returns-in_err-print_state-clause-front

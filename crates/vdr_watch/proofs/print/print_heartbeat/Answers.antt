@@ -2,7 +2,7 @@ use Rattle.std.proofs.Common.{Option, Bor, ap}
 use Rattle.std.specs.Prelude.{option_copied}
 use Rattle.vdr_watch.specs.Signs.{Heartbeat}
 use Rattle.vdr_watch.specs.Texts.{beat_text}
-use Rattle.vdr_watch.proofs.Writing.{both_all, both_front, first_front}
+use Rattle.vdr_alerts.proofs.Writing.{both_all, both_front, first_front}
 use Rattle.vdr_watch.proofs.print.print_heartbeat.Goals as goal
 
 pub returns-in_err-print_silent-clause-front : goal.returns-in_err-print_silent-clause-front

@@ -1,6 +1,7 @@
 use Rattle.std.proofs.Common.{◌≡◌, ◌++◌, List, ℕ, [], codes, rules, subst}
 use Rattle.vdr_outside.specs.Writes.{AppendsFront}
-use Rattle.vdr_watch.specs.Texts.{front_text, jump_text}
+use Rattle.vdr_alerts.specs.Lines.{front_text}
+use Rattle.vdr_watch.specs.Texts.{jump_text}
 use Rattle.vdr_watch.proofs.print.print_jump.Goals as goal
 
 pub returns-clause-front : goal.returns-clause-front

@@ -1,6 +1,7 @@
 use Rattle.std.proofs.Common.{◌≡◌, ◌++◌, List, ℕ, [], codes, rules, subst}
 use Rattle.vdr_outside.specs.Writes.{AppendsFront}
-use Rattle.vdr_watch.specs.Texts.{front_text, silent_text}
+use Rattle.vdr_alerts.specs.Lines.{front_text}
+use Rattle.vdr_watch.specs.Texts.{silent_text}
 use Rattle.vdr_watch.proofs.print.print_silent.Goals as goal
 
 pub returns-clause-front : goal.returns-clause-front

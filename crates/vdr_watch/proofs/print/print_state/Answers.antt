@@ -1,7 +1,8 @@
 use Rattle.std.proofs.Common.{◌≡◌, ◌++◌, ◌∷◌, List, ℕ, [], codes, rules, subst}
 use Rattle.std.specs.List.{concat}
 use Rattle.vdr_outside.specs.Writes.{AppendsFront}
-use Rattle.vdr_watch.specs.Texts.{front_text, state_text}
+use Rattle.vdr_alerts.specs.Lines.{front_text}
+use Rattle.vdr_watch.specs.Texts.{state_text}
 use Rattle.vdr_watch.proofs.print.print_state.Goals as goal
 
 pub returns-clause-front : goal.returns-clause-front

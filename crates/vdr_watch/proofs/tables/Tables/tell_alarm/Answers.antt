@@ -2,9 +2,10 @@ use Rattle.std.proofs.Common.{◌∙◌, List, Option, ap, subst, sym}
 use Rattle.std.specs.Prelude.{option_copied}
 use Rattle.std.specs.Io.KnownBytes.{Appends}
 use Rattle.vdr_outside.specs.Writes.{AppendsFront}
-use Rattle.vdr_watch.specs.Kept.{IsPlaced, row_at}
+use Rattle.vdr_alerts.specs.Rows.{IsPlaced, row_at}
 use Rattle.vdr_watch.specs.Signs.{Alarm}
-use Rattle.vdr_watch.specs.Supervision.{AreOrdered, alarm_cmp}
+use Rattle.vdr_alerts.specs.Rows.{AreOrdered}
+use Rattle.vdr_watch.specs.Supervision.{alarm_cmp}
 use Rattle.vdr_watch.specs.Texts.{alarm_text}
 use Rattle.vdr_watch.proofs.Keeping.{kept_with_state, last_state_found}
 use Rattle.vdr_watch.proofs.Orders.{states_ordered}
@@ -25,6 +26,7 @@ returns-clause-kept g c met keeps =
     record {
       beats = keeps.beats;
       states = c.put_row.ensures.rows ∙ kept_with_state met _ keeps.states c.args.alarm _ p (option_copied c.args.text);
+      alerts = keeps.alerts;
     }
 
 pub returns-clause-all : goal.returns-clause-all

@@ -2,9 +2,10 @@ use Rattle.std.proofs.Common.{◌≡◌, ◌∙◌, List, ℕ, ap, subst, sym, r
 use Rattle.std.specs.Io.KnownBytes.{Appends}
 use Rattle.vdr_outside.specs.Writes.{AppendsFront}
 use Rattle.vdr_durability.specs.Sources.{Source, source_cmp}
-use Rattle.vdr_watch.specs.Kept.{IsPlaced, row_at}
+use Rattle.vdr_alerts.specs.Rows.{IsPlaced, row_at}
 use Rattle.vdr_watch.specs.Signs.{Heartbeat}
-use Rattle.vdr_watch.specs.Supervision.{AreOrdered, beat_cmp}
+use Rattle.vdr_alerts.specs.Rows.{AreOrdered}
+use Rattle.vdr_watch.specs.Supervision.{beat_cmp}
 use Rattle.vdr_watch.proofs.Keeping.{beat_same, kept_with_beat, predecessor_found}
 use Rattle.vdr_watch.proofs.Orders.{latest_ordered}
 use Rattle.vdr_watch.proofs.tables.Tables.tell_heartbeat.Goals as goal
@@ -29,6 +30,7 @@ returns-clause-kept g c met keeps =
     record {
       beats = c.put_row.ensures.rows ∙ kept_with_beat met _ keeps.beats s _ same _ p _ refl;
       states = keeps.states;
+      alerts = keeps.alerts;
     }
 
 pub returns-clause-all : goal.returns-clause-all

@@ -10,7 +10,8 @@ use Rattle.vdr_sources.proofs.Lines.{span_short, spans_few}
 use Rattle.vdr_watch.specs.Signs.{Sign}
 use Rattle.vdr_watch.specs.Supervision.{met_after}
 use Rattle.vdr_watch.specs.TableViews.{Keeps}
-use Rattle.vdr_watch.specs.Texts.{Mark, signs_text}
+use Rattle.vdr_alerts.specs.Lines.{Mark}
+use Rattle.vdr_watch.specs.Texts.{signs_text}
 use Rattle.vdr_watch.proofs.Keeping.{room_less}
 use Rattle.vdr_watch.proofs.Lines.{along_more, met_more, rest_text, sign_at, signs_along, text_at, text_more}
 use Rattle.vdr_watch.proofs.tables.Tables.tell_lines.Goals as goal

@@ -1,6 +1,6 @@
 use Rattle.std.proofs.Common.{Bor, List, ℕ}
 use Rattle.vdr_outside.proofs.Known.{front-more, pieces-at}
-use Rattle.vdr_watch.proofs.print.write_pieces.Goals as goal
+use Rattle.vdr_alerts.proofs.line.write_pieces.Goals as goal
 
 pub returns-in_err-write_all-clause-front : goal.returns-in_err-write_all-clause-front
 returns-in_err-write_all-clause-front g c =

@@ -11,7 +11,7 @@ use Rattle.vdr_terms.specs.Groups.{group_name}
 use Rattle.vdr_entry.specs.Utc.{utc_text}
 use Rattle.vdr_play.proofs.Fronts.{front-first}
 use Rattle.vdr_durability.specs.Sources.{Source}
-use Rattle.vdr_watch.specs.Texts.{Mark, front_text}
+use Rattle.vdr_alerts.specs.Lines.{Mark, front_text}
 
 module _ (old between new : Option (List ℕ)) (first second text : List ℕ) (is : text ≡ first ++ second) where
   -- The first part was not written whole.

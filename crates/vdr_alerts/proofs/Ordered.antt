@@ -4,8 +4,7 @@ use Rattle.std.specs.Cmp.{IsTotalOrder}
 use Rattle.std.specs.List.{AllByRecursion, AllWithin, HoldsAt, insert, slice_index_or, slice_set}
 use Rattle.std.specs.List.Sorted.{IsBinarySearchResult, IsNonDecreasingBy, IsSearchInRange}
 use Rattle.std.specs.Ordering.{ordering_index, ordering_reverse}
-use Rattle.vdr_watch.specs.Kept.{IsPlaced, row_at, with_row}
-use Rattle.vdr_watch.specs.Supervision.{AreOrdered, put, put_at}
+use Rattle.vdr_alerts.specs.Rows.{AreOrdered, IsPlaced, put, put_at, row_at, with_row}
 
 at_most : (o : Ordering) → ordering_index o ≤ 2
 at_most Less = omega arith

@@ -1,8 +1,8 @@
 use Rattle.std.proofs.Common.{◌++◌, List, ℕ, rules, ap, Bor}
 use Rattle.std.specs.List.{flat_map}
 use Rattle.vdr_durability.specs.Sources.{Source}
-use Rattle.vdr_watch.proofs.Writing.{both_all, both_front, first_front, front_is}
-use Rattle.vdr_watch.proofs.print.print_line.Goals as goal
+use Rattle.vdr_alerts.proofs.Writing.{both_all, both_front, first_front, front_is}
+use Rattle.vdr_alerts.proofs.line.print_line.Goals as goal
 
 pub returns-in_err-print_words-clause-front : goal.returns-in_err-print_words-clause-front
 returns-in_err-print_words-clause-front g c =

@@ -1,21 +1,21 @@
 // Where a line of supervision is told.
 ghost use Rattle.std.specs.Prelude.{◌≡◌};
-ghost use Rattle.vdr_watch.specs.Texts.{mark_of};
+ghost use Rattle.vdr_alerts.specs.Lines.{mark_of};
 
 use std::marker::Model;
 use vdr_entry::Record;
 
 /// The place of a record, its stamp in milliseconds since 1970, and its recording time in milliseconds.
 #[derive(Drop)]
-pub(crate) struct Mark {
-    pub(crate) place: u64,
-    pub(crate) utc: i64,
-    pub(crate) tick: u64,
+pub struct Mark {
+    pub place: u64,
+    pub utc: i64,
+    pub tick: u64,
 }
 
 impl Model for Mark {
     ghost use Rattle.vdr_terms.specs.Stamps.{IsStamp};
-    ghost use Rattle.vdr_watch.specs.Texts.{Mark as AMark};
+    ghost use Rattle.vdr_alerts.specs.Lines.{Mark as AMark};
 
     ghost Value = { AMark };
 
@@ -25,7 +25,7 @@ impl Model for Mark {
 }
 
 impl Mark {
-    pub(crate) fn of(item: &Record) -> Mark
+    pub fn of(item: &Record) -> Mark
         ensures { result ≡ mark_of item.now }
     {
         Mark {

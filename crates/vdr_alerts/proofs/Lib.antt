@@ -1,0 +1,4 @@
+pub mod Ordered
+pub mod Writing
+pub mod Orders
+pub mod Keeping
