@@ -9,7 +9,7 @@ use Rattle.vdr_export.specs.Answers.{file_end}
 use Rattle.vdr_export.specs.Refusals.{refusal_by}
 use Rattle.vdr_export.specs.declared.refused.ExportRefused.{ExportRefused}
 use Rattle.vdr_export.specs.declared.refused.ExportRefused.TheVariants.{Nothing, Mixed, Long, Part, Fault, Damaged, Output, NoMemory}
-use Rattle.vdr_export.proofs.Refusing.{is_refused, none_from, some_is}
+use Rattle.vdr_export.proofs.Refusing.{is_refused, none_from}
 
 -- A refusal that is none of the media cuts the reads off.
 own_end : (T : Type 0) (e : ExportRefused) → (e ≡ Fault → ⊥) → ((m offset : ℕ) → e ≡ Damaged m offset → ⊥) → file_end {T = T} (Err e) ≡ CutOff

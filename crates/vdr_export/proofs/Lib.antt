@@ -11,5 +11,9 @@ pub mod Joining
 pub mod Ending
 pub mod Ends
 pub mod Visited
+pub mod Unlisted
+pub mod Lines
+pub mod Entries
+pub mod Listings
 pub mod TwoPasses
 mod Rows

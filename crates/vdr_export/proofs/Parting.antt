@@ -12,11 +12,11 @@ use Rattle.vdr_export.specs.Pictures.{Shown, bodies, body_at, greatest_of}
 use Rattle.vdr_export.proofs.Sounding.{mixed_other, mixed_same}
 
 -- What is kept, or what comes later.
-abbrev else_some : Option (List ℕ) → Option (List ℕ) → Option (List ℕ)
+abbrev pub else_some : Option (List ℕ) → Option (List ℕ) → Option (List ℕ)
 else_some None later = later
 else_some (Some x) later = Some x
 
-at_more : (n : ℕ) (ps : List Shown) (p : Shown) → body_at n (ps ++ p ∷ []) ≡ else_some (body_at n ps) (if p.header.sequence == n then Some p.header.body else None)
+pub at_more : (n : ℕ) (ps : List Shown) (p : Shown) → body_at n (ps ++ p ∷ []) ≡ else_some (body_at n ps) (if p.header.sequence == n then Some p.header.body else None)
 at_more n ps p = ap (λ (o : Option Shown). option_map (λ p. p.header.body) o) (find-append (λ (p : Shown). p.header.sequence == n) ps (p ∷ [])) ∙ go (find (λ (p : Shown). p.header.sequence == n) ps) (p.header.sequence == n)
   where
     go : (o : Option Shown) (b : Bool) → option_map (λ p. p.header.body) (option_or o (cond b (Some p) None)) ≡ else_some (option_map (λ p. p.header.body) o) (if b then Some p.header.body else None)
@@ -86,7 +86,7 @@ module _ (g : ℕ) (ps : List Shown) (p : Shown) (first : 1 ≤ p.header.sequenc
 no_bodies : (g : ℕ) → replicate g None ≡ bodies g []
 no_bodies g = fill_by_all (λ k. body_at (suc k) []) (replicate g None) g None (length-replicate g None) (λ k low. get_or-replicate g k None None low)
 
-greatest_more : (ps : List Shown) (p : Shown) → greatest_of (ps ++ p ∷ []) ≡ greatest_of ps ++ record { place = p.place; number = p.header.greatest } ∷ []
+pub greatest_more : (ps : List Shown) (p : Shown) → greatest_of (ps ++ p ∷ []) ≡ greatest_of ps ++ record { place = p.place; number = p.header.greatest } ∷ []
 greatest_more ps p = map-append (λ (p : Shown). record { place = p.place; number = p.header.greatest }) ps (p ∷ [])
 
 module _ (p : Shown) (first : 1 ≤ p.header.sequence) (last : p.header.sequence ≤ p.header.greatest) (mid now : List (Option (List ℕ))) where

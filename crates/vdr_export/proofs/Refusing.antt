@@ -9,7 +9,7 @@ use Rattle.vdr_visit.specs.declared.visit_refused.VisitRefused.{VisitRefused}
 use Rattle.vdr_visit.specs.declared.visit_refused.VisitRefused.TheVariants as stops
 use Rattle.vdr_export.specs.Refusals.{refusal_by}
 use Rattle.vdr_export.specs.declared.refused.ExportRefused.{ExportRefused}
-use Rattle.vdr_export.specs.declared.refused.ExportRefused.TheVariants.{Damaged, Fault, Output}
+use Rattle.vdr_export.specs.declared.refused.ExportRefused.TheVariants.{Output}
 
 pub some_is : (a b : ExportRefused) → Some a ≡ Some b → a ≡ b
 some_is a b e = cc

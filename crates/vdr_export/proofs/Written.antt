@@ -1,7 +1,6 @@
 -- What is written of the frames that were heard, once one more is.
 use Rattle.std.proofs.Common.{◌≡◌, ◌++◌, ℕ, List, [], ◌∷◌, Some, sym, ap, ◌∙◌}
 use Rattle.std.specs.Prelude.{option_map}
-use Rattle.vdr_terms.specs.Records.{last}
 use Rattle.vdr_export.specs.Heard.{IsWritten}
 use Rattle.vdr_export.specs.Sounds.{Heard}
 use Rattle.vdr_export.specs.Tails.{tail_of}

@@ -8,11 +8,12 @@ use Rattle.vdr_export.specs.Numbers.{mixed_at}
 use Rattle.vdr_terms.specs.Records.{Record}
 use Rattle.vdr_visit.specs.Visits.{ReadEnd}
 use Rattle.vdr_visit.specs.Visits.ReadEnd.{AllRead, CutOff, ReadDamaged, ReadFault}
+use Rattle.vdr_export.specs.Listings.{listing_of, listing_text}
 use Rattle.vdr_export.specs.Pictures.{Shown, bodies, greatest_of, shown}
 use Rattle.vdr_export.specs.Sounds.{Heard, frames_of, heard, rates_of, sound}
 use Rattle.vdr_export.specs.Waves.{most_bytes, wave_file}
 use Rattle.vdr_export.specs.declared.file.File.{File}
-use Rattle.vdr_export.specs.declared.file.File.TheVariants.{Sound, Picture}
+use Rattle.vdr_export.specs.declared.file.File.TheVariants.{Sound, Picture, Listing}
 use Rattle.vdr_export.specs.declared.refused.ExportRefused.{ExportRefused}
 use Rattle.vdr_export.specs.declared.refused.ExportRefused.TheVariants.{Nothing, Mixed, Long, Part, Fault, Damaged, Output, NoMemory}
 use Rattle.vdr_export.specs.declared.wave.WaveSize.{WaveSize}
@@ -124,6 +125,17 @@ IsPictureRefusal (Damaged m offset) = ⊤
 IsPictureRefusal Output = ⊤
 IsPictureRefusal NoMemory = ⊤
 
+-- A list of images is refused by a read, or since the output fails, or there is no memory, and in no other way.
+abbrev pub IsListingRefusal : ExportRefused → Type 0
+IsListingRefusal Nothing = ⊥
+IsListingRefusal (Mixed place) = ⊥
+IsListingRefusal Long = ⊥
+IsListingRefusal (Part number) = ⊥
+IsListingRefusal Fault = ⊤
+IsListingRefusal (Damaged m offset) = ⊤
+IsListingRefusal Output = ⊤
+IsListingRefusal NoMemory = ⊤
+
 -- It is answered so, unless the media failed.
 abbrev pub AnswersOrFails : {T : Type 0} → Result T ExportRefused → Result T ExportRefused → Type 0
 AnswersOrFails answer result = (result ≡ answer) ⊎ (result ≡ Err Fault)
@@ -136,16 +148,19 @@ OkOrFails result = (result ≡ Ok tt) ⊎ ((result ≡ Err Fault) ⊎ (result �
 abbrev pub file_of : File → List Record → Result (List ℕ) ExportRefused
 file_of (Sound microphone) records = wave_of (heard microphone records)
 file_of (Picture block) records = picture_of (shown block records)
+file_of Listing records = Ok (listing_text (listing_of records))
 
 -- A file is refused so, and in no other way.
 abbrev pub IsFileRefusal : File → ExportRefused → Type 0
 IsFileRefusal (Sound microphone) why = IsWaveRefusal why
 IsFileRefusal (Picture block) why = IsPictureRefusal why
+IsFileRefusal Listing why = IsListingRefusal why
 
--- The file may have been begun: a sound is read once more as it is written, and a picture is written when all of it was read.
+-- The file may have been begun: a sound is read once more as it is written, and the others are written when all was read.
 abbrev pub MayBeBegun : File → ExportRefused → Type 0
 MayBeBegun (Sound microphone) why = IsWriteRefusal why
 MayBeBegun (Picture block) why = why ≡ Output
+MayBeBegun Listing why = why ≡ Output
 
 -- How the reads of a file ended: a refusal that is none of the media cuts them off.
 abbrev pub file_end : {T : Type 0} → Result T ExportRefused → ReadEnd

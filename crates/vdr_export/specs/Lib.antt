@@ -3,6 +3,7 @@ pub mod Numbers
 pub mod Sounds
 pub mod Waves
 pub mod Pictures
+pub mod Listings
 pub mod Asked
 pub mod Answers
 pub mod Refusals
@@ -10,3 +11,4 @@ pub mod Tails
 pub mod Heard
 pub mod Collected
 pub mod Kept
+pub mod Laws

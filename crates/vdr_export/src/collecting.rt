@@ -14,7 +14,8 @@ use vdr_image::{ImageHeader, read_image};
 use vdr_outside::Sink;
 use vdr_visit::{Visitor, VisitorRefused};
 
-fn header_in(item: &Record) -> Option<ImageHeader<'_>>
+/// The image header of a record, if it has one.
+pub(crate) fn header_in(item: &Record) -> Option<ImageHeader<'_>>
     ensures { option_map header_of result ≡ header_in item.now.content }
 {
     match item.content() {

@@ -12,6 +12,7 @@ ghost use Rattle.vdr_export.specs.Sounds.{heard};
 ghost use Rattle.vdr_export.specs.declared.refused.ExportRefused.TheVariants.{Fault as AFault, Output};
 
 use crate::block::Block;
+use crate::images::write_listing;
 use crate::picture::write_picture;
 use crate::refused::ExportRefused;
 use crate::waves::{wave_size, write_wave};
@@ -27,6 +28,8 @@ pub enum File {
     Sound { microphone: u8 },
     /// The image of this block.
     Picture(Block),
+    /// The list of the images.
+    Listing,
 }
 
 // Writes a sound in two passes.
@@ -51,8 +54,9 @@ fn export_wave<R: Reader, M: Media, O: Sink>(
     write_wave(reader, media, query, microphone, &size, out)
 }
 
-/// Writes a file out of what a query selects: a sound by `wave_size` and then `write_wave`, a picture by `write_picture`. Takes memory for a
-/// picture alone. The query's channel is configured, and its incident is live, where it asks for one.
+/// Writes a file out of what a query selects: a sound by `wave_size` and then `write_wave`, a picture by
+/// `write_picture`, a list of images by `write_listing`. Takes no memory for a sound. The query's channel is
+/// configured, and its incident is live, where it asks for one.
 ///
 /// Where there is no such file it is refused, and nothing is written. Where a read or a write fails, a front of it may be written.
 pub fn export_file<R: Reader, M: Media, O: Sink>(
@@ -75,5 +79,6 @@ pub fn export_file<R: Reader, M: Media, O: Sink>(
     match file {
         File::Sound { microphone } => export_wave(reader, media, query, *microphone, out),
         File::Picture(block) => write_picture(alloc, reader, media, query, block, out),
+        File::Listing => write_listing(alloc, reader, media, query, out),
     }
 }

@@ -12,3 +12,8 @@ pub returns-in-Picture-clause-file : goal.returns-in-Picture-clause-file
 returns-in-Picture-clause-file g c records told =
     subst (λ (f : File). FileEnds (file_of f records) (g.O.Sink.taken c.args.out.now) (g.O.Sink.taken c.write_picture.new.out) c.write_picture.result) (sym c.in-Picture.is)
     (c.write_picture.ensures.picture records told)
+
+pub returns-in-Listing-clause-file : goal.returns-in-Listing-clause-file
+returns-in-Listing-clause-file g c records told =
+    subst (λ (f : File). FileEnds (file_of f records) (g.O.Sink.taken c.args.out.now) (g.O.Sink.taken c.write_listing.new.out) c.write_listing.result) (sym c.in-Listing.is)
+    (c.write_listing.ensures.listing records told)

@@ -1,4 +1,4 @@
-use Rattle.std.proofs.Common.{◌≡◌, ◌∙◌, Ok, Err, sym, ap, subst}
+use Rattle.std.proofs.Common.{◌∙◌, Err, ap, subst}
 use Rattle.std.proofs.lemmas.Result.{err_from_is_err_and}
 use Rattle.vdr_entry.specs.Queries.{asked}
 use Rattle.vdr_visit.specs.Visits.{ReadEnd}
