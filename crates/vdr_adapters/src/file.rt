@@ -7,10 +7,13 @@ ghost use Rattle.std.specs.Prelude.{◌≡◌, ◌+◌, ◌-◌, ◌^◌, ℕ, L
 ghost use Rattle.vdr_outside.specs.Causes.{HasCause};
 ghost use Rattle.vdr_adapters.specs.Files.{IsFile, IsPlaced, Makes, MakesAt, open_for, or_left};
 ghost use Rattle.vdr_adapters.specs.Files.Call.{Leave, Read, Sync, Write};
+ghost use Rattle.vdr_adapters.specs.Making.{IsMade};
+ghost use Rattle.vdr_adapters.specs.declared.folder.Access.TheVariants.{Full};
 ghost use Rattle.vdr_adapters.specs.Files.Place.{Missing, Shut};
 ghost use Rattle.vdr_adapters.specs.Media.{place_in};
 
 use crate::Trouble;
+use crate::filling::filled;
 use crate::folder::{Access, MediaFolder, MediumFile, Unopened};
 use std::alloc::AllocError;
 use std::io;
@@ -108,6 +111,16 @@ fn sync_read<F: MediumFile>(file: &mut F) -> Result<(), Option<Trouble>>
 }
 
 impl<F: MediumFile + Drop> FileMedium<F> {
+    /// The medium over a file that was made: it is locked, and zeros fill it up to this length and are synced.
+    pub(crate) fn made(file: F, size: u64) -> Result<FileMedium<F>, Trouble>
+        ensures made { (name mark : List ℕ) → IsFile (F.seen file) (record { name = name; mark = mark; access = Full; calls = [] })
+            → IfOk result (λ medium. IsMade F.seen (place_in medium) name mark size) }
+        ensures size { IfOk result (λ medium. medium.size ≡ size) }
+    {
+        let file = filled(file, size)?;
+        Ok(FileMedium::new(State::Open, Some(file), size, None))
+    }
+
     fn new(state: State, file: Option<F>, size: u64, trouble: Option<Trouble>) -> FileMedium<F>
         ensures state { result.state ≡ state }
         ensures file { result.file ≡ file }

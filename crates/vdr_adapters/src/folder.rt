@@ -2,6 +2,7 @@
 ghost use Rattle.std.specs.Prelude.{◌≡◌, [], ◌∷◌, length, IfOk, OnOk};
 ghost use Rattle.vdr_adapters.specs.Files.{IsFile, Makes};
 ghost use Rattle.vdr_adapters.specs.Files.Call.{Leave, Length, Lock, Read, Sync, Write};
+ghost use Rattle.vdr_adapters.specs.declared.folder.Access.TheVariants.{Full};
 
 use crate::Trouble;
 use std::io;
@@ -78,4 +79,27 @@ pub trait MediaFolder {
     /// Opens the file of this name, which would leave the mark of this name.
     fn open(&self, name: &str, mark: &str, access: Access) -> Result<Self::File, Unopened>
         ensures { IfOk result (λ file. IsFile (Self.File.seen file) (record { name = name.now; mark = mark.now; access = access; calls = [] })) };
+}
+
+/// The folder in which media are made.
+pub trait NewMedia {
+    /// Its files.
+    type File: MediumFile;
+
+    /// Makes the folder where there is none, and tells whether it did.
+    fn make(&self) -> io::Result<bool>;
+
+    /// Makes the file of this name, which its owner alone may read and write, and which would leave the mark of this name. A name
+    /// that is taken is refused, and so is one whose mark stands.
+    fn create(&self, name: &str, mark: &str) -> Result<Self::File, Unopened>
+        ensures { IfOk result (λ file. IsFile (Self.File.seen file) (record { name = name.now; mark = mark.now; access = Full; calls = [] })) };
+
+    /// Syncs the names in the folder, and the folder's own where it was made.
+    fn sync(&self, made: bool) -> io::Result<()>;
+
+    /// Removes the file of this name.
+    fn remove(&self, name: &str);
+
+    /// Removes the folder.
+    fn unmake(&self);
 }

@@ -6,14 +6,17 @@
 #![tactic(auto)]
 
 mod file;
+mod filling;
 mod folder;
+mod making;
 mod media;
 mod standard;
 mod streams;
 mod system;
 mod trouble;
 
-pub use folder::{Access, MediaFolder, MediumFile, Unopened};
+pub use folder::{Access, MediaFolder, MediumFile, NewMedia, Unopened};
+pub use making::{NewlyMade, Unmade, make_in, make_media, unmake_in, unmake_media};
 pub use media::FileMedia;
 pub use standard::StandardStreams;
 pub use streams::{StdIn, StdOut};

@@ -20,13 +20,13 @@ use vdr_outside::{Failed, Media};
 use vdr_sockets::Alarm;
 
 /// The names of the files in their folder, and of the marks beside them.
-const CAPSULE: &str = "capsule.vdr";
+pub(crate) const CAPSULE: &str = "capsule.vdr";
 
-const CAPSULE_MARK: &str = "capsule.left";
+pub(crate) const CAPSULE_MARK: &str = "capsule.left";
 
-const LONG_TERM: &str = "longterm.vdr";
+pub(crate) const LONG_TERM: &str = "longterm.vdr";
 
-const LONG_TERM_MARK: &str = "longterm.left";
+pub(crate) const LONG_TERM_MARK: &str = "longterm.left";
 
 /// The two media of a recorder as the files `capsule.vdr` and `longterm.vdr` of a folder. The files are made beforehand:
 /// the length of a file or of a block device is the size of its medium, and a file that is missing is a medium of size 0. They
@@ -79,6 +79,19 @@ impl<'a, F: MediumFile + Drop> FileMedia<'a, F> {
             folder: None,
             capsule: FileMedium::closed(0),
             long_term: FileMedium::closed(0),
+        }
+    }
+
+    /// The media over two files that are open.
+    pub(crate) fn over(capsule: FileMedium<F>, long_term: FileMedium<F>) -> FileMedia<'a, F>
+        ensures capsule { result.capsule ≡ capsule }
+        ensures long_term { result.long_term ≡ long_term }
+    {
+        FileMedia {
+            alarm: None,
+            folder: None,
+            capsule,
+            long_term,
         }
     }
 

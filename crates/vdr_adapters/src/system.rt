@@ -2,10 +2,10 @@
 //
 // What is neither a file nor a block device is refused before it is opened: to open a pipe waits for its other end.
 use crate::Trouble;
-use crate::folder::{Access, MediaFolder, MediumFile, Unopened};
+use crate::folder::{Access, MediaFolder, MediumFile, NewMedia, Unopened};
 use std::fs::{File, FileType, Files, OpenOptions, TryLockError};
 use std::io::{ErrorKind, Seek, SeekFrom, Write};
-use std::os::unix::fs::{FileExt, FileTypeExt};
+use std::os::unix::fs::{FileExt, FileTypeExt, OpenOptionsExt};
 use std::{fs, io};
 
 /// A folder of the file system.
@@ -115,6 +115,78 @@ impl<'a, R: AllocGlobal + Files<File = File> + Eprint + Copy> MediaFolder for Sy
             }
             Err(error) => Err(Unopened::Shut(Trouble::System(error))),
         }
+    }
+}
+
+// The owner alone reads and writes a medium that was made.
+const OWNER_ALONE: u32 = 0o600;
+
+impl<'a, R: AllocGlobal + Files<File = File> + Eprint + Copy> SystemFolder<'a, R> {
+    // Makes the file at this path.
+    fn create_at(&self, path: &str) -> Result<File, Unopened> {
+        let created = OpenOptions::new()
+            .read(true)
+            .write(true)
+            .create_new(true)
+            .mode(OWNER_ALONE)
+            .open(&self.rt, path);
+        match created {
+            Ok(file) => Ok(file),
+            Err(error) if error.kind() == ErrorKind::AlreadyExists => {
+                Err(Unopened::Shut(Trouble::Taken))
+            }
+            Err(error) => Err(Unopened::Shut(Trouble::System(error))),
+        }
+    }
+
+    // Syncs the names in the folder at this path.
+    fn sync_at(&self, path: &str) -> io::Result<()> {
+        File::open(&self.rt, path)?.sync_all()
+    }
+}
+
+impl<'a, R: AllocGlobal + Files<File = File> + Eprint + Copy> NewMedia for SystemFolder<'a, R> {
+    type File = SystemFile<R>;
+
+    fn make(&self) -> io::Result<bool> {
+        match fs::create_dir(&self.rt, self.path) {
+            Ok(()) => Ok(true),
+            Err(error) if error.kind() == ErrorKind::AlreadyExists => Ok(false),
+            Err(error) => Err(error),
+        }
+    }
+
+    fn create(&self, name: &str, mark: &str) -> Result<SystemFile<R>, Unopened> {
+        let path = self.path_of(name)?;
+        let mark = self.path_of(mark)?;
+        let Ok(folder) = self.path.to_string(self.rt.alloc()) else {
+            return Err(Unopened::NoMemory);
+        };
+        if fs::symlink_metadata(&self.rt, mark.as_str()).is_ok() {
+            return Err(Unopened::Shut(Trouble::Left));
+        }
+        let file = self.create_at(path.as_str())?;
+        Ok(SystemFile::over(self.rt, file, folder, mark))
+    }
+
+    fn sync(&self, made: bool) -> io::Result<()> {
+        self.sync_at(self.path)?;
+        if made {
+            let path = self.path;
+            let above = format!(in self.rt.alloc(); "{path}/..")?;
+            self.sync_at(above.as_str())?;
+        }
+        Ok(())
+    }
+
+    fn remove(&self, name: &str) {
+        if let Ok(path) = self.path_of(name) {
+            let _ = fs::remove_file(&self.rt, path.as_str());
+        }
+    }
+
+    fn unmake(&self) {
+        let _ = fs::remove_dir(&self.rt, self.path);
     }
 }
 

@@ -10,6 +10,8 @@ pub enum Trouble {
     NoMedium,
     /// A write or a sync failed before, and its mark still stands.
     Left,
+    /// A medium was to be made, and its name is taken.
+    Taken,
     /// What the system said.
     System(io::Error),
 }
@@ -22,6 +24,10 @@ impl fmt::Display for Trouble {
             Trouble::Left => write!(
                 f,
                 "a write or a sync of it failed before: see to its disk, then remove its .left file"
+            ),
+            Trouble::Taken => write!(
+                f,
+                "it is there already; `format` formats media that are there"
             ),
             Trouble::System(error) => write!(f, "{error}"),
         }
