@@ -1,9 +1,9 @@
 //! The program of the voyage data recorder.
 #![tactic(auto)]
 
-use std::env;
 use std::process::ExitCode;
-use vdr_live::{Alarm, command_line, tcp_desk, udp_lanes};
+use std::{env, io};
+use vdr_live::{Alarm, Streams, command_line, tcp_desk, udp_lanes};
 use vdr_tool::Status;
 
 fn main(rt: HostRuntime) -> ExitCode {
@@ -26,7 +26,11 @@ fn main(rt: HostRuntime) -> ExitCode {
         &rt,
         &rt,
         words.as_slice(),
-        rt.stdin(),
+        Streams {
+            input: rt.stdin(),
+            output: io::writer(&rt),
+            errors: &rt,
+        },
         lanes.as_mut_slice(),
         &mut desks,
         &alarm,

@@ -5,3 +5,4 @@ pub mod Headline
 pub mod Recordings
 pub mod Runs
 pub mod Lines
+pub mod Making

@@ -17,7 +17,7 @@ fn way_on(status: Status, uses: Uses, trouble: Option<(&str, &Trouble)>) -> Opti
         return None;
     }
     match (status, trouble) {
-        (_, Some((_, Trouble::InUse))) => None,
+        (_, Some((_, Trouble::InUse | Trouble::Left))) => None,
         (Status::Unformatted | Status::Damaged { .. } | Status::MediaFault, Some((name, _)))
             if name == "longterm.vdr" => { Some(CAPSULE_ALONE) }
         (Status::Unformatted | Status::Damaged { .. } | Status::MediaFault, Some((name, _)))
@@ -65,6 +65,10 @@ pub(crate) fn explain<R: Read + Drop, W: Write + Drop, F: MediumFile + Drop>(
             hint_words(rt, folder, command);
             return;
         }
+        Status::Config { .. } => {
+            hint(rt, status);
+            return;
+        }
         Status::InputFault => ("standard input", world.input.trouble()),
         Status::OutputFault => ("standard output", world.output.trouble()),
         _ => {
@@ -78,8 +82,9 @@ pub(crate) fn explain<R: Read + Drop, W: Write + Drop, F: MediumFile + Drop>(
 }
 
 /// Where a recorder uses the media, tells in a line how it is asked for what these words ask for.
-pub(crate) fn advise<R: AllocGlobal + Net<Stream = TcpStream> + Eprint, F: MediumFile + Drop>(
+pub(crate) fn advise<R: AllocGlobal + Net<Stream = TcpStream>, E: Eprint, F: MediumFile + Drop>(
     rt: &R,
+    errors: &E,
     folder: &str,
     command: &[String],
     media: &FileMedia<'_, F>,
@@ -93,6 +98,6 @@ pub(crate) fn advise<R: AllocGlobal + Net<Stream = TcpStream> + Eprint, F: Mediu
         return;
     }
     if let Ok(line) = line_of(rt.alloc(), command) {
-        let _ = eprintln!(rt; "vdr: in use by a recorder: vdr {folder} order {line}");
+        let _ = eprintln!(errors; "vdr: in use by a recorder: vdr {folder} order {line}");
     }
 }

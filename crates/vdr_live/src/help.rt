@@ -34,6 +34,10 @@ Commands:
             number of groups, the cost of a second and the usable bytes of a segment,
             and the slots of the capsule and of the long-term medium. A medium of N
             slots has 32,768 bytes and N segments.
+  make      Reads a configuration from standard input, makes the media that it asks for, and
+            formats them: FOLDER where there is none, and in it the files capsule.vdr and
+            longterm.vdr, of the least sizes that `check` says, for their owner alone, with their
+            blocks taken. Where a name is taken nothing is changed; where it fails nothing is left.
   format    Reads a configuration from standard input and formats the media, which are
             the files capsule.vdr and longterm.vdr in FOLDER. They have to be there, as
             large as `check` says, or be block devices. Media that are formatted already are
@@ -113,14 +117,23 @@ Commands:
   picture MEDIUM CHANNEL SOURCE BLOCK FROM TO
             Writes the image with this SOURCE (six bytes, such as EI0001) and BLOCK (a number), out of
             a channel of kind `image`, to standard output, once all its parts are there.
+  pictures MEDIUM CHANNEL FROM TO
+            Prints the images of a channel of kind `image` of which a selected record has a part, in
+            the order of their first parts: for each a line `SOURCE BLOCK UTC PARTS OF COMPLETE`. UTC
+            is the stamp of its first part, PARTS how many of its OF parts are there, and COMPLETE is
+            `complete`, `part`, or `mixed` where parts say several numbers of parts; `picture` writes
+            what is `complete`. The words are as for `play`.
   rescue COMMAND WORDS
             Does what COMMAND does, which is `play`, `sources`, `watch`, `runs`, `digest`, `targets`,
-            `wav` or `picture`, on one medium alone: that of its WORDS, and for `incident-ID` the
-            long-term one. The medium may be whole, cut short or damaged, the other one may be lost;
-            nothing is written. Each record that legally stands there is given. Behind that stand, but for
-            `wav` and `picture`, `missing A B` for places that the medium owes and lacks,
-            `damaged OFFSET` for each part that is not legal, and `closed OFFSET` for a slot that a
-            stop may have closed, and so may a changed byte.
+            `wav`, `picture` or `pictures`, on one medium alone: that of its WORDS, and for
+            `incident-ID` the long-term one. The medium may be whole, cut short or damaged, the other
+            one may be lost; nothing is written. Each record that legally stands there is given.
+            Behind that stand, but for `wav`, `picture` and `pictures`, `missing A B` for places that
+            the medium owes and lacks, `damaged OFFSET` for each part that is not legal, and
+            `closed OFFSET` for a slot that a stop may have closed, and so may a changed byte.
+  rescue info MEDIUM
+            Prints what `info` prints of one medium, `capsule` or `longterm`, by all records that
+            legally stand there, and then what `rescue` prints behind the records.
   save LABEL
             Saves an incident: keeps the records of the long-term medium, from the first one
             of the last `incident_seconds` of recorder time to the last one, until the
@@ -129,6 +142,13 @@ Commands:
   incidents Prints the saved incidents, by their IDs, each as a line
             `ID TICK UTC A B LABEL`: recorder time in milliseconds and stamp of its last
             record, the places of its first and of its last record, and its label.
+  info      Prints what the media are: for each a line `MEDIUM slots N segment N used N first PLACE
+            UTC last PLACE UTC seconds N`, then the saved incidents as `incidents` does, and
+            `configuration BYTES SHA256` with the configuration's text below it. N slots of so many
+            bytes, how many of them hold a segment, where the records begin and end, within the
+            window or before it, `-` where there is none, and the seconds of recorder time from one
+            to the other. The first stamp is the least of the oldest segment. It reads headers and
+            the newest segment alone.
   release ID
             Releases the incident with this ID, 1 to 32. What it kept goes as other records
             do, and its ID is free.

@@ -27,8 +27,22 @@ fn tell_usage(rt: &impl Eprint, command: &str, words: &[Form]) {
     let _ = eprintln!(rt; "; `vdr --help {command}` teaches them");
 }
 
+// Whether what one medium alone is was to be asked for.
+fn are_of_info_alone(words: &[String]) -> bool {
+    match words {
+        [word, next, ..] => word.as_str() == "rescue" && next.as_str() == "info",
+        _ => false,
+    }
+}
+
 /// Which word asks for nothing, and what it may be.
 pub(crate) fn hint_words(rt: &impl Eprint, folder: &str, words: &[String]) {
+    if are_of_info_alone(words) {
+        let _ = eprintln!(rt;
+            "vdr: the words are: vdr FOLDER rescue info MEDIUM, and MEDIUM is `capsule` or `longterm`"
+        );
+        return;
+    }
     let words = match words {
         [word, rest @ ..] if word.as_str() == "rescue" => rest,
         _ => words,
@@ -141,7 +155,9 @@ fn plain(status: Status) -> Option<&'static str> {
             "the media are at the end of their numbers; copy them, and format others for what comes",
         ),
         Status::ExportKind => {
-            Some("`wav` takes a channel of kind `pcm`, and `picture` one of kind `image`")
+            Some(
+                "`wav` takes a channel of kind `pcm`, `picture` and `pictures` one of kind `image`",
+            )
         }
         Status::ExportNothing => {
             Some("what is selected has no frame of this sound, or no part of this image")

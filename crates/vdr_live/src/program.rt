@@ -4,10 +4,11 @@ ghost use Rattle.std.specs.Prelude.{◌≡◌, ◌<◌, ◌^◌, ℕ, length, sl
 use crate::explaining::{advise, explain};
 use crate::help::{HELP, VERSION};
 use crate::helping::tell_command;
+use crate::making::{ended, is_make, make};
 use crate::{Line, line_of, medium_use, run};
 use std::alloc::AllocError;
 use std::io;
-use std::io::{BufReader, Read};
+use std::io::{BufReader, Read, Write};
 use std::net::{Net, TcpStream};
 use std::sync::Wait;
 use std::thread::Threads;
@@ -22,20 +23,29 @@ use vdr_tool::{Status, Uses, World};
 /// How many bytes the input is read ahead.
 const READ_AHEAD: usize = 65_536;
 
+/// The streams of a command: what it reads, what it writes, and where one line for a person goes.
+pub struct Streams<'a, I: Read + Drop, O: Write + Drop, E: Eprint> {
+    pub input: I,
+    pub output: O,
+    pub errors: &'a E,
+}
+
 // Prints a text for a person, and tells whether that could be done.
-fn tell(rt: &impl Print, text: &str) -> Status {
-    match rt.print(text) {
+fn tell<O: Write>(output: &mut O, text: &str) -> Status {
+    match output.write_all(text.as_bytes()) {
         Ok(()) => Status::Done,
         Err(_) => Status::OutputFault,
     }
 }
 
 // Prints what the help says of a command, and tells whether that could be done.
-fn tell_of(rt: &(impl Print + Eprint), command: &str) -> Status {
-    match tell_command(rt, command) {
+fn tell_of<O: Write, E: Eprint>(output: &mut O, errors: &E, command: &str) -> Status {
+    match tell_command(output, command) {
         Ok(true) => Status::Done,
         Ok(false) => {
-            let _ = eprintln!(rt; "vdr: {command}: no command; `vdr --help` teaches the commands");
+            let _ = eprintln!(errors;
+                "vdr: {command}: no command; `vdr --help` teaches the commands"
+            );
             Status::Words
         }
         Err(_) => Status::OutputFault,
@@ -44,8 +54,9 @@ fn tell_of(rt: &(impl Print + Eprint), command: &str) -> Status {
 
 // The media of a folder, as a command uses them, which raise the alarm where they can't be written. One that uses none opens none, one that
 // reads one medium alone opens that one, and none is opened beside a standard stream that could not be filled.
-fn media_for<'a>(
+fn media_for<'a, E: Eprint>(
     host: &HostRuntime,
+    errors: &E,
     filled: &io::Result<StandardStreams>,
     folder: &str,
     uses: Uses,
@@ -55,7 +66,7 @@ fn media_for<'a>(
         return Ok(FileMedia::unused());
     }
     if let Err(error) = filled {
-        let _ = eprintln!(host; "vdr: /dev/null: {error}");
+        let _ = eprintln!(errors; "vdr: /dev/null: {error}");
         return Ok(FileMedia::shut());
     }
     let mut media = match uses {
@@ -66,24 +77,42 @@ fn media_for<'a>(
     Ok(media)
 }
 
-/// Does what the words of the program ask for, over this input, the standard output, the media of the folder that the first
-/// word names, the ports of these lanes and the links of these desks, and tells the exit status.
+// Makes media, but beside a standard stream that could not be filled.
+fn make_beside<I: Read + Drop, O: Write + Drop, E: Eprint>(
+    host: &HostRuntime,
+    errors: &E,
+    filled: &io::Result<StandardStreams>,
+    folder: &str,
+    input: I,
+    output: O,
+) -> Status {
+    if let Err(error) = filled {
+        let _ = eprintln!(errors; "vdr: /dev/null: {error}");
+        return ended(output, Status::MediaFault);
+    }
+    make(host, errors, folder, input, output)
+}
+
+/// Does what the words of the program ask for, over these streams, the media of the folder that the first word names, the ports
+/// of these lanes and the links of these desks, and tells the exit status.
 ///
 /// `--help`, `-h` and `--version`, as the only word, print what the program says of itself, and `--help` with a command what it says of that.
-/// Where something went wrong, one line on the standard error says what, or the way on (docs/formats/hints.md). Standard streams that are closed
-/// are filled before any medium is opened, and before any port or link is asked. An order goes to the recorder of this host. The alarm is raised
-/// where a medium can't be written or synced; ports and links that were made for it then end. Files and streams are those of `host`, and threads
-/// and waiting those of `rt`: in `main` both are its one parameter.
+/// `make` makes the media and formats them. Where something went wrong, one line for a person says what, or the way on (docs/formats/hints.md). Standard streams that are closed
+/// are filled before any medium is opened, and before any port or link is asked. An order goes to the recorder of this host, and its reply to
+/// the standard output. The alarm is raised where a medium can't be written or synced; ports and links that were made for it then end. Files
+/// are those of `host`, and threads and waiting those of `rt`: in `main` both are its one parameter.
 pub fn command_line<
     R: AllocGlobal + Net<Stream = TcpStream> + Print + Eprint + Threads + Wait + Sync,
     I: Read + Drop,
+    O: Write + Drop,
+    E: Eprint,
     P: Port + Send,
     L: Link + Send,
 >(
     rt: &R,
     host: &HostRuntime,
     words: &[String],
-    input: I,
+    streams: Streams<'_, I, O, E>,
     lanes: &mut [Lane<P>],
     desks: &mut [Desk<L, Mark>],
     alarm: &Alarm,
@@ -94,27 +123,35 @@ pub fn command_line<
 {
     // Held to the end.
     let filled = StandardStreams::fill(host);
+    let Streams {
+        input,
+        mut output,
+        errors,
+    } = streams;
     let (folder, command) = match line_of(words) {
-        Line::Help => return tell(host, HELP).code(),
-        Line::HelpOf(command) => return tell_of(host, command).code(),
-        Line::Version => return tell(host, VERSION).code(),
+        Line::Help => return tell(&mut output, HELP).code(),
+        Line::HelpOf(command) => return tell_of(&mut output, errors, command).code(),
+        Line::Version => return tell(&mut output, VERSION).code(),
         Line::Order { words } => return order(rt, words),
         Line::Command { folder, command } => (folder, command),
     };
     let Ok(input) = BufReader::with_capacity(host.alloc(), READ_AHEAD, input) else {
         return Status::NoMemory.code();
     };
+    if is_make(command) {
+        return make_beside(host, errors, &filled, folder, input, output).code();
+    }
     let uses = medium_use(command);
-    let Ok(media) = media_for(host, &filled, folder, uses, alarm) else {
+    let Ok(media) = media_for(host, errors, &filled, folder, uses, alarm) else {
         return Status::NoMemory.code();
     };
     let mut world = World {
         input: StdIn::new(input),
-        output: StdOut::new(io::writer(host)),
+        output: StdOut::new(output),
         media,
     };
     let status = run(rt, host.alloc(), command, &mut world, lanes, desks);
-    explain(host, folder, command, status, uses, &world);
-    advise(rt, folder, command, &world.media);
+    explain(errors, folder, command, status, uses, &world);
+    advise(rt, errors, folder, command, &world.media);
     status.code()
 }

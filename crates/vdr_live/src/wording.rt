@@ -7,7 +7,7 @@ struct Usage {
     words: &'static [Form],
 }
 
-const USAGES: [Usage; 21] = [
+const USAGES: [Usage; 24] = [
     Usage {
         command: "review",
         words: &[],
@@ -26,6 +26,10 @@ const USAGES: [Usage; 21] = [
     },
     Usage {
         command: "check",
+        words: &[],
+    },
+    Usage {
+        command: "make",
         words: &[],
     },
     Usage {
@@ -84,11 +88,19 @@ const USAGES: [Usage; 21] = [
         ],
     },
     Usage {
+        command: "pictures",
+        words: &[Form::Medium, Form::Channel, Form::From, Form::To],
+    },
+    Usage {
         command: "save",
         words: &[Form::Label],
     },
     Usage {
         command: "incidents",
+        words: &[],
+    },
+    Usage {
+        command: "info",
         words: &[],
     },
     Usage {

@@ -38,7 +38,7 @@ use Rattle.vdr_command.proofs.OpenedLemmas.{OpenedOn, TellsOn, opened_by, opened
 use Rattle.vdr_readout.specs.Exports.{CanExport, ExportEnds, IfRefusal, IsJudged, IsExportStatus, WritesFile, file_in, kind_at, made_of, status_of_export, wished}
 use Rattle.vdr_readout.specs.Reads.{AskedPlay, CanBeRead, CanPlay, IfItself, IsMetDamage, IsOwnStatus, LacksChannel, LacksIncident, MetUnreadable, PlayEnds, all_records, channel_in, id_of, query_of, records_asked, status_by}
 use Rattle.vdr_readout.specs.declared.exporting.Wish.{Wish}
-use Rattle.vdr_readout.specs.declared.exporting.Wish.TheVariants.{Sound, Picture}
+use Rattle.vdr_readout.specs.declared.exporting.Wish.TheVariants.{Sound, Picture, Listing}
 use Rattle.vdr_readout.proofs.DamageLemmas.{IsTold}
 use Rattle.vdr_readout.proofs.FileLemmas.{as_visit, damage_as, done_as, fault_as, may_write, not_asked, of_damage, output_as, own_status, undamaged, writes_so}
 use Rattle.vdr_readout.proofs.ReadLemmas.{Wants, read_ends}
@@ -48,6 +48,7 @@ use Rattle.vdr_readout.proofs.RefusedLemmas.{asked_within, channel_ends, lacks_f
 no_file : (wish : Wish) → wished wish None ≡ None
 no_file Sound = refl
 no_file (Picture block) = refl
+no_file Listing = refl
 
 lacks_no_file : (wish : Wish) (c : Configuration) (name : List ℕ) → LacksChannel c name → file_in wish c name ≡ None
 lacks_no_file wish c name lacks = ap (λ (k : Option ℕ). wished wish (kind_at c.channels k)) (none_asked (bytes_eq name all_records)) ∙ no_file wish

@@ -24,7 +24,7 @@ use Rattle.vdr_command.specs.declared.status.Status.{Status}
 use Rattle.vdr_command.specs.declared.status.Status.TheVariants as ends
 use Rattle.vdr_readout.specs.Exports.{IsExportStatus, MayWrite, WritesFile, status_of_export, wished}
 use Rattle.vdr_readout.specs.declared.exporting.Wish.{Wish}
-use Rattle.vdr_readout.specs.declared.exporting.Wish.TheVariants.{Sound, Picture}
+use Rattle.vdr_readout.specs.declared.exporting.Wish.TheVariants.{Sound, Picture, Listing}
 
 -- The same as the end of a visit, whose own reason is a status.
 abbrev pub as_visit : Result ⊤ ExportRefused → Result ⊤ (VisitRefused Status)
@@ -132,6 +132,7 @@ picture_undamaged (p ∷ ps) m offset is =
 never_damaged : (file : File) (records : List Record) (m offset : ℕ) → file_of file records ≡ Err (Damaged m offset) → ⊥
 never_damaged (files.Sound microphone) records m offset is = sound_undamaged (heard microphone records) m offset is
 never_damaged (files.Picture block) records m offset is = picture_undamaged (shown block records) m offset is
+never_damaged files.Listing records m offset is = let none : ⊥ = cc in none
 
 no_failure : (out : Result ⊤ ExportRefused) (why : ExportRefused) → out ≡ Err why → (why ≡ Fault → ⊥) → (why ≡ Output → ⊥) → (why ≡ NoMemory → ⊥) → IsFailure out → ⊥
 no_failure out why is f o n failed = ⊎_elim (λ (k : out ≡ Err Fault). f cc) (λ rest. ⊎_elim (λ (k : out ≡ Err Output). o cc) (λ (k : out ≡ Err NoMemory). n cc) rest) failed
@@ -194,8 +195,13 @@ module _ (was next : OutputSeen) (file : Result (List ℕ) ExportRefused) where
 abbrev IsOf : Wish → File → Type 0
 IsOf Sound (files.Sound microphone) = ⊤
 IsOf Sound (files.Picture block) = ⊥
+IsOf Sound files.Listing = ⊥
 IsOf (Picture block) (files.Sound microphone) = ⊥
 IsOf (Picture block) (files.Picture other) = ⊤
+IsOf (Picture block) files.Listing = ⊥
+IsOf Listing (files.Sound microphone) = ⊥
+IsOf Listing (files.Picture block) = ⊥
+IsOf Listing files.Listing = ⊤
 
 of_wish : (wish : Wish) (kind : Option Selection) (file : File) → wished wish kind ≡ Some file → IsOf wish file
 of_wish Sound None file is = let none : ⊥ = cc in absurd none
@@ -208,16 +214,37 @@ of_wish (Picture block) (Some (Sentence formatter source)) file is = let none : 
 of_wish (Picture block) (Some (Images source)) file is = subst (IsOf (Picture block)) (let same : files.Picture block ≡ file = cc in same) tt
 of_wish (Picture block) (Some (Pcm microphone)) file is = let none : ⊥ = cc in absurd none
 of_wish (Picture block) (Some Opaque) file is = let none : ⊥ = cc in absurd none
+of_wish Listing None file is = let none : ⊥ = cc in absurd none
+of_wish Listing (Some (Sentence formatter source)) file is = let none : ⊥ = cc in absurd none
+of_wish Listing (Some (Images source)) file is = subst (IsOf Listing) (let same : files.Listing ≡ file = cc in same) tt
+of_wish Listing (Some (Pcm microphone)) file is = let none : ⊥ = cc in absurd none
+of_wish Listing (Some Opaque) file is = let none : ⊥ = cc in absurd none
 
 own_by : (wish : Wish) (file : File) → IsOf wish file → (out : Result ⊤ ExportRefused) → IfErr out (IsFileRefusal file) → IsExportStatus wish (status_of_export out)
 own_by wish file of (Ok u) own = tt
-own_by wish file of (Err Nothing) own = tt
-own_by wish file of (Err (Mixed place)) own = tt
+own_by Sound file of (Err Nothing) own = tt
+own_by (Picture block) file of (Err Nothing) own = tt
+own_by Listing (files.Sound microphone) of (Err Nothing) own = absurd of
+own_by Listing (files.Picture block) of (Err Nothing) own = absurd of
+own_by Listing files.Listing of (Err Nothing) own = own
+own_by Sound file of (Err (Mixed place)) own = tt
+own_by (Picture block) file of (Err (Mixed place)) own = tt
+own_by Listing (files.Sound microphone) of (Err (Mixed place)) own = absurd of
+own_by Listing (files.Picture block) of (Err (Mixed place)) own = absurd of
+own_by Listing files.Listing of (Err (Mixed place)) own = own
 own_by Sound file of (Err Long) own = tt
 own_by (Picture block) (files.Sound microphone) of (Err Long) own = absurd of
 own_by (Picture block) (files.Picture other) of (Err Long) own = own
+own_by (Picture block) files.Listing of (Err Long) own = absurd of
+own_by Listing (files.Sound microphone) of (Err Long) own = absurd of
+own_by Listing (files.Picture block) of (Err Long) own = absurd of
+own_by Listing files.Listing of (Err Long) own = own
 own_by Sound (files.Sound microphone) of (Err (Part number)) own = own
 own_by Sound (files.Picture block) of (Err (Part number)) own = absurd of
+own_by Sound files.Listing of (Err (Part number)) own = absurd of
+own_by Listing (files.Sound microphone) of (Err (Part number)) own = absurd of
+own_by Listing (files.Picture block) of (Err (Part number)) own = absurd of
+own_by Listing files.Listing of (Err (Part number)) own = own
 own_by (Picture block) file of (Err (Part number)) own = tt
 own_by wish file of (Err Fault) own = tt
 own_by wish file of (Err (Damaged m offset)) own = tt
@@ -239,7 +266,11 @@ begun_by Sound (files.Sound microphone) of (Err (Damaged m offset)) silent = sil
 begun_by Sound (files.Sound microphone) of (Err Output) silent = silent
 begun_by Sound (files.Sound microphone) of (Err NoMemory) silent = silent
 begun_by Sound (files.Picture block) of (Err why) silent = absurd of
+begun_by Sound files.Listing of (Err why) silent = absurd of
 begun_by (Picture block) (files.Sound microphone) of (Err why) silent = absurd of
+begun_by (Picture block) files.Listing of (Err why) silent = absurd of
+begun_by Listing (files.Sound microphone) of (Err why) silent = absurd of
+begun_by Listing (files.Picture block) of (Err why) silent = absurd of
 begun_by (Picture block) (files.Picture other) of (Err Nothing) silent = ⊎_elim (λ is. let none : ⊥ = cc in absurd none) (λ same. inr same) silent
 begun_by (Picture block) (files.Picture other) of (Err (Mixed place)) silent = ⊎_elim (λ is. let none : ⊥ = cc in absurd none) (λ same. inr same) silent
 begun_by (Picture block) (files.Picture other) of (Err Long) silent = ⊎_elim (λ is. let none : ⊥ = cc in absurd none) (λ same. inr same) silent
@@ -248,6 +279,14 @@ begun_by (Picture block) (files.Picture other) of (Err Fault) silent = ⊎_elim 
 begun_by (Picture block) (files.Picture other) of (Err (Damaged m offset)) silent = ⊎_elim (λ is. let none : ⊥ = cc in absurd none) (λ same. inr same) silent
 begun_by (Picture block) (files.Picture other) of (Err Output) silent = inl tt
 begun_by (Picture block) (files.Picture other) of (Err NoMemory) silent = ⊎_elim (λ is. let none : ⊥ = cc in absurd none) (λ same. inr same) silent
+begun_by Listing files.Listing of (Err Nothing) silent = ⊎_elim (λ is. let none : ⊥ = cc in absurd none) (λ same. inr same) silent
+begun_by Listing files.Listing of (Err (Mixed place)) silent = ⊎_elim (λ is. let none : ⊥ = cc in absurd none) (λ same. inr same) silent
+begun_by Listing files.Listing of (Err Long) silent = ⊎_elim (λ is. let none : ⊥ = cc in absurd none) (λ same. inr same) silent
+begun_by Listing files.Listing of (Err (Part number)) silent = ⊎_elim (λ is. let none : ⊥ = cc in absurd none) (λ same. inr same) silent
+begun_by Listing files.Listing of (Err Fault) silent = ⊎_elim (λ is. let none : ⊥ = cc in absurd none) (λ same. inr same) silent
+begun_by Listing files.Listing of (Err (Damaged m offset)) silent = ⊎_elim (λ is. let none : ⊥ = cc in absurd none) (λ same. inr same) silent
+begun_by Listing files.Listing of (Err Output) silent = inl tt
+begun_by Listing files.Listing of (Err NoMemory) silent = ⊎_elim (λ is. let none : ⊥ = cc in absurd none) (λ same. inr same) silent
 
 pub may_write : {Same : Type 0} (wish : Wish) (kind : Option Selection) (file : File) → wished wish kind ≡ Some file → (out : Result ⊤ ExportRefused) → IfErr out (λ why. MayBeBegun file why ⊎ Same)
     → MayWrite wish (status_of_export out) ⊎ Same

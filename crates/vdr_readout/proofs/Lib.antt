@@ -16,3 +16,6 @@ pub mod TableLemmas
 pub mod RescueLemmas
 pub mod RescuedFileLemmas
 pub mod ReadingLemmas
+pub mod InformLemmas
+pub mod AloneInfoLemmas
+pub mod InformAlone

@@ -12,7 +12,7 @@ use Rattle.vdr_command.specs.declared.status.Status.TheVariants.{Words}
 use Rattle.vdr_outside.specs.Disk.{Unchanged, content}
 use Rattle.vdr_readout.specs.declared.exporting.Wish.{Wish}
 use Rattle.vdr_readout.specs.Readings.{OwesReading, Reading, RescuesReading, asked_in}
-use Rattle.vdr_readout.specs.Readings.Reading.{Play, Sources, Watch, Runs, Digest, Targets, Wav, Picture}
+use Rattle.vdr_readout.specs.Readings.Reading.{Play, Sources, Watch, Runs, Digest, Targets, Wav, Picture, Pictures}
 use Rattle.vdr_readout.specs.Reads.{AskedPlay, PlayEnds, number_asked}
 use Rattle.vdr_readout.specs.Rescues.{Rescues, ShowsRescue}
 use Rattle.vdr_readout.specs.RescuedFiles.{RescuesFile, ShowsFile}
@@ -53,6 +53,7 @@ module _ {tells tells_images : Type 0} (old new : Outside tells tells_images) (s
   reading_plays (Targets medium at) owed = owed.media
   reading_plays (Wav asked) owed = owed.ends.media
   reading_plays (Picture asked block) owed = owed.ends.media
+  reading_plays (Pictures asked) owed = owed.ends.media
 
   -- And one medium alone is left as it is.
   pub rescue_unchanged : (reading : Reading) → RescuesReading reading old new status → Unchanged old.media.disk new.media.disk
@@ -64,3 +65,4 @@ module _ {tells tells_images : Type 0} (old new : Outside tells tells_images) (s
   rescue_unchanged (Targets medium at) owed = owed.media.unchanged
   rescue_unchanged (Wav asked) owed = owed.media.unchanged
   rescue_unchanged (Picture asked block) owed = owed.media.unchanged
+  rescue_unchanged (Pictures asked) owed = owed.media.unchanged

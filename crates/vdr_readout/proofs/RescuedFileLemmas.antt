@@ -271,6 +271,7 @@ module _ {tells tells_images : Type 0} (laws : LawsOfAlone) (wish : Wish) (asked
                 not_begun : (f : File) → MayBeBegun f exports.Nothing → ⊥
                 not_begun (files.Sound microphone) may = may
                 not_begun (files.Picture block) may = let none : ⊥ = cc in none
+                not_begun files.Listing may = let none : ⊥ = cc in none
             refused_rescues (exports.Mixed place) is = record {
               shown = no_file (exports.Mixed place) is (not_begun file) (λ f. ⊎_elim (λ e. cc) (λ g. ⊎_elim (λ e. cc) (λ e. cc) g) f);
               media = record { unchanged = unchanged; others = others; fault = λ e. let none : ⊥ = cc in absurd none };
@@ -280,6 +281,7 @@ module _ {tells tells_images : Type 0} (laws : LawsOfAlone) (wish : Wish) (asked
                 not_begun : (f : File) → MayBeBegun f (exports.Mixed place) → ⊥
                 not_begun (files.Sound microphone) may = may
                 not_begun (files.Picture block) may = let none : ⊥ = cc in none
+                not_begun files.Listing may = let none : ⊥ = cc in none
             refused_rescues exports.Long is = record {
               shown = no_file exports.Long is (not_begun file) (λ f. ⊎_elim (λ e. cc) (λ g. ⊎_elim (λ e. cc) (λ e. cc) g) f);
               media = record { unchanged = unchanged; others = others; fault = λ e. let none : ⊥ = cc in absurd none };
@@ -289,6 +291,7 @@ module _ {tells tells_images : Type 0} (laws : LawsOfAlone) (wish : Wish) (asked
                 not_begun : (f : File) → MayBeBegun f exports.Long → ⊥
                 not_begun (files.Sound microphone) may = may
                 not_begun (files.Picture block) may = let none : ⊥ = cc in none
+                not_begun files.Listing may = let none : ⊥ = cc in none
             refused_rescues (exports.Part number) is = record {
               shown = no_file (exports.Part number) is (not_begun file) (λ f. ⊎_elim (λ e. cc) (λ g. ⊎_elim (λ e. cc) (λ e. cc) g) f);
               media = record { unchanged = unchanged; others = others; fault = λ e. let none : ⊥ = cc in absurd none };
@@ -298,6 +301,7 @@ module _ {tells tells_images : Type 0} (laws : LawsOfAlone) (wish : Wish) (asked
                 not_begun : (f : File) → MayBeBegun f (exports.Part number) → ⊥
                 not_begun (files.Sound microphone) may = may
                 not_begun (files.Picture block) may = let none : ⊥ = cc in none
+                not_begun files.Listing may = let none : ⊥ = cc in none
             refused_rescues exports.Fault is = record {
               shown = begun;
               media = record { unchanged = unchanged; others = others; fault = λ e. fault is };

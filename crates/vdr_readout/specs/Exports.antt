@@ -1,4 +1,4 @@
--- What `wav` and `picture` write and answer: a file out of what was recorded, or why there is none (this project's profile).
+-- What `wav`, `picture` and `pictures` write and answer: a file out of what was recorded, or why there is none (this project's profile).
 use Rattle.std.specs.Prelude.{◌≡◌, ◌⊎◌, ◌∷◌, ◌<◌, ◌^◌, ℕ, true, List, [], codes, decimal, slice_get, option_map, Option, Some, None, Result, Ok, Err, ⊤}
 use Rattle.vdr_core.specs.Histories.{live}
 use Rattle.vdr_durability.specs.Readings.{EndsMeet}
@@ -25,7 +25,7 @@ use Rattle.vdr_command.specs.declared.status.Status.{Status}
 use Rattle.vdr_command.specs.declared.status.Status.TheVariants.{Done, Unformatted, Damaged, MediaFault, OutputFault, NoMemory, NoChannel, NoIncident, ExportKind, ExportNothing, ExportMixed, ExportLong, ExportPart}
 use Rattle.vdr_readout.specs.Reads.{AskedPlay, CanBeRead, CanPlay, LacksChannel, MetUnreadable, PlayEnds, channel_asked, records_asked}
 use Rattle.vdr_readout.specs.declared.exporting.Wish.{Wish}
-use Rattle.vdr_readout.specs.declared.exporting.Wish.TheVariants.{Sound, Picture}
+use Rattle.vdr_readout.specs.declared.exporting.Wish.TheVariants.{Sound, Picture, Listing}
 
 -- What the channel of this number selects, None where there is none.
 abbrev pub kind_at : List Selector → Option ℕ → Option Selection
@@ -47,9 +47,17 @@ picture_in block (Some (Images source)) = Some (files.Picture block)
 picture_in block (Some (Pcm microphone)) = None
 picture_in block (Some Opaque) = None
 
+abbrev pub listing_in : Option Selection → Option File
+listing_in None = None
+listing_in (Some (Sentence formatter source)) = None
+listing_in (Some (Images source)) = Some files.Listing
+listing_in (Some (Pcm microphone)) = None
+listing_in (Some Opaque) = None
+
 abbrev pub wished : Wish → Option Selection → Option File
 wished Sound kind = sound_of kind
 wished (Picture block) kind = picture_in block kind
+wished Listing kind = listing_in kind
 
 abbrev pub file_in : Wish → Configuration → (name : List ℕ) → Option File
 file_in wish c name = wished wish (kind_at c.channels (channel_asked c name))
@@ -73,10 +81,17 @@ status_of_export (Err exports.NoMemory) = NoMemory
 abbrev pub IsSound : Wish → Type 0
 IsSound Sound = ⊤
 IsSound (Picture block) = ⊥
+IsSound Listing = ⊥
 
 abbrev pub IsPicture : Wish → Type 0
 IsPicture Sound = ⊥
 IsPicture (Picture block) = ⊤
+IsPicture Listing = ⊥
+
+abbrev pub IsNoListing : Wish → Type 0
+IsNoListing Sound = ⊤
+IsNoListing (Picture block) = ⊤
+IsNoListing Listing = ⊥
 
 -- The command ends so, and in no other way.
 abbrev pub IsExportStatus : Wish → Status → Type 0
@@ -89,13 +104,13 @@ IsExportStatus wish NoMemory = ⊤
 IsExportStatus wish NoChannel = ⊤
 IsExportStatus wish (NoIncident id) = ⊤
 IsExportStatus wish ExportKind = ⊤
-IsExportStatus wish ExportNothing = ⊤
-IsExportStatus wish (ExportMixed place) = ⊤
+IsExportStatus wish ExportNothing = IsNoListing wish
+IsExportStatus wish (ExportMixed place) = IsNoListing wish
 IsExportStatus wish ExportLong = IsSound wish
 IsExportStatus wish (ExportPart number) = IsPicture wish
 IsExportStatus wish status = ⊥
 
--- The file may have been begun: a sound is read once more as it is written, and a picture is written when all of it was read.
+-- The file may have been begun: a sound is read once more as it is written, and the others are written when all was read.
 abbrev pub MayWrite : Wish → Status → Type 0
 MayWrite wish Done = ⊤
 MayWrite wish OutputFault = ⊤
@@ -165,7 +180,7 @@ pub record ExportsAll (wish : Wish) (asked : AskedPlay) (image : Image) (status 
   pub done : (x : Contents) (file : File) (bytes : List ℕ) → HoldsContents image x → EndsMeet members (reading_of x) → CanBeRead x → CanPlay x asked.medium asked.channel
       → file_in wish x.config asked.channel ≡ Some file → made_of x asked file ≡ Ok bytes → IsDone status
 
--- What `wav` and `picture` owe.
+-- What `wav`, `picture` and `pictures` owe.
 pub record Exports {tells tells_images : Type 0} (wish : Wish) (asked : AskedPlay) (old new : Outside tells tells_images) (status : Status) : Type 0 where
   pub ends : ExportEnds wish asked old new status
   -- nothing else comes in the place of the file, or of a refusal, but want of memory
@@ -210,4 +225,22 @@ picturing asked block = record {
   reads_input = ⊥;
   uses_media = ⊤;
   owes = λ old new hears w status. Exports (Picture block) asked old new status;
+}
+
+-- `pictures`, and its words: those of a play.
+pub record AreListingWords (texts : List (List ℕ)) (asked : AskedPlay) : Type 0 where
+  pub medium : List ℕ
+  pub channel : List ℕ
+  pub from : List ℕ
+  pub to : List ℕ
+  pub words : texts ≡ codes "pictures" ∷ medium ∷ channel ∷ from ∷ to ∷ []
+  pub spelled : SpellsPlay medium channel from to (PlayOrder asked.medium asked.channel asked.from asked.to)
+
+abbrev pub listing : AskedPlay → Promise
+listing asked = record {
+  words = λ texts. AreListingWords texts asked;
+  legal = ⊤;
+  reads_input = ⊥;
+  uses_media = ⊤;
+  owes = λ old new hears w status. Exports Listing asked old new status;
 }

@@ -12,3 +12,4 @@ pub mod Rescues
 pub mod Telling
 pub mod RescuedFiles
 pub mod Readings
+pub mod Informs

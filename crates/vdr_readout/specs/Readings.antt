@@ -16,7 +16,7 @@ use Rattle.vdr_runs.specs.Runs.{last_lines as runs_last, line_at as runs_line}
 use Rattle.vdr_command.specs.Outside.{Outside}
 use Rattle.vdr_command.specs.Promises.{Promise}
 use Rattle.vdr_command.specs.declared.status.Status.{Status}
-use Rattle.vdr_readout.specs.Exports.{Exports, picturing, sounding}
+use Rattle.vdr_readout.specs.Exports.{Exports, listing, picturing, sounding}
 use Rattle.vdr_readout.specs.Lines.{TellsLines, telling}
 use Rattle.vdr_readout.specs.Plays.{Plays, playing}
 use Rattle.vdr_readout.specs.Reads.{AskedPlay, plain_play}
@@ -38,6 +38,7 @@ pub data Reading : Type 0 where
   Targets : (medium : Medium) (at : ℤ) → Reading
   Wav : (asked : AskedPlay) → Reading
   Picture : (asked : AskedPlay) (block : Block) → Reading
+  Pictures : (asked : AskedPlay) → Reading
 
 -- It as contracts see it: with the bytes that it borrows.
 abbrev pub plain_reading : Told → Reading
@@ -49,6 +50,7 @@ plain_reading (told.Digest medium) = Digest medium
 plain_reading (told.Targets medium at) = Targets medium at
 plain_reading (told.Wav wanted) = Wav (plain_play wanted)
 plain_reading (told.Picture wanted block) = Picture (plain_play wanted) block
+plain_reading (told.Pictures wanted) = Pictures (plain_play wanted)
 
 -- The records of which it is.
 abbrev pub asked_in : Reading → AskedPlay
@@ -60,6 +62,7 @@ asked_in (Digest medium) = whole_of medium
 asked_in (Targets medium at) = up_to medium at
 asked_in (Wav asked) = asked
 asked_in (Picture asked block) = asked
+asked_in (Pictures asked) = asked
 
 -- The number of the medium on which they stand.
 abbrev pub number_read : Reading → ℕ
@@ -75,6 +78,7 @@ reads (Digest medium) = telling (codes "digest") digest_line digest_last medium
 reads (Targets medium at) = targeting medium at
 reads (Wav asked) = sounding asked
 reads (Picture asked block) = picturing asked block
+reads (Pictures asked) = listing asked
 
 -- What it owes of both media.
 abbrev pub OwesReading : {tells tells_images : Type 0} → Reading → (old new : Outside tells tells_images) → Status → Type 0
@@ -86,6 +90,7 @@ OwesReading (Digest medium) old new status = TellsLines digest_line digest_last 
 OwesReading (Targets medium at) old new status = TellsTargets medium at old new status
 OwesReading (Wav asked) old new status = Exports wishes.Sound asked old new status
 OwesReading (Picture asked block) old new status = Exports (wishes.Picture block) asked old new status
+OwesReading (Pictures asked) old new status = Exports wishes.Listing asked old new status
 
 -- What it owes of one medium alone: its text of the records that the medium gives, and what was found.
 abbrev pub RescuesReading : {tells tells_images : Type 0} → Reading → (old new : Outside tells tells_images) → Status → Type 0
@@ -97,6 +102,7 @@ RescuesReading (Digest medium) old new status = Rescues (whole_of medium) digest
 RescuesReading (Targets medium at) old new status = Rescues (up_to medium at) (λ seen r. []) (λ seen. targets_text (targets_of seen)) old new status
 RescuesReading (Wav asked) old new status = RescuesFile wishes.Sound asked old new status
 RescuesReading (Picture asked block) old new status = RescuesFile (wishes.Picture block) asked old new status
+RescuesReading (Pictures asked) old new status = RescuesFile wishes.Listing asked old new status
 
 -- The texts are those of a reading.
 pub record SpellsReading (texts : List (List ℕ)) (reading : Reading) : Type 0 where

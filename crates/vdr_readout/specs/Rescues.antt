@@ -1,10 +1,12 @@
 -- What is said of a command that reads one medium alone, as `rescue` asks for it (this project's profile).
 use Rattle.std.specs.Prelude.{◌≡◌, ◌⊎◌, ◌++◌, ◌∷◌, ℕ, List, codes, Option, Some, None, Result, Ok, Err, ⊤}
 use Rattle.vdr_terms.specs.Records.{Record}
+use Rattle.vdr_outside.specs.Causes.{NoneFalls}
 use Rattle.vdr_outside.specs.Disk.{Unchanged, content}
+use Rattle.vdr_outside.specs.declared.media.Media.{Ghosts as MediaTells}
 use Rattle.vdr_export.specs.Answers.{file_of}
 use Rattle.vdr_export.specs.declared.file.File.{File}
-use Rattle.vdr_rescue.specs.Alones.{RefusesAlone, Rescue, Rescued, selected_of}
+use Rattle.vdr_rescue.specs.Alones.{AloneState, IsAloneOn, RefusesAlone, Rescue, Rescued, selected_of}
 use Rattle.vdr_rescue.specs.Costs.{ReadsNoOther}
 use Rattle.vdr_rescue.specs.declared.found.Found.{Found}
 use Rattle.vdr_rescue.specs.declared.found.Found.TheVariants as found
@@ -79,3 +81,19 @@ pub record Rescues {tells tells_images : Type 0} (asked : AskedPlay) (line : Lis
   pub media : LeavesRescued asked old.media new.media status
   -- nothing else comes in the place of that, or of a refusal, but want of memory
   pub complete : NothingFailed old new → tells → RescuesAll asked (content old.media.disk.reads (number_asked asked)) status
+
+-- Medium m was opened alone after the media stood as they did before, and since then media were only read, and no other one.
+pub record IsOpenedSince {M : Type 0} (media : MediaTells M) (m : ℕ) (before now : M) (a : AloneState) : Type 0 where
+  pub medium : a.cursor.area.medium ≡ m
+  pub alone : media.tells → IsAloneOn m (content (media.disk before).reads m) a
+  pub unchanged : Unchanged (media.disk before) (media.disk now)
+  pub others : ReadsNoOther m (media.bytes_read before) (media.bytes_read now)
+  pub later : NoneFalls (media.faults before) (media.faults now)
+
+-- What stands outside, with the media as they were before.
+abbrev pub since : {M : Type 0} (media : MediaTells M) (before : M) → Outside media.tells media.tells_images → Outside media.tells media.tells_images
+since media before outside = record {
+  input = outside.input;
+  output = outside.output;
+  media = record { disk = media.disk before; faults = media.faults before; bytes_read = media.bytes_read before };
+}

@@ -45,6 +45,8 @@ pub enum Reading<'a> {
     Wav(Wanted<'a>),
     /// The image of this block, out of a channel of images.
     Picture(Wanted<'a>, Block),
+    /// The list of the images of a channel.
+    Pictures(Wanted<'a>),
 }
 
 impl Reading<'_> {
@@ -54,9 +56,10 @@ impl Reading<'_> {
         ensures few { result < 2 }
     {
         let medium = match self {
-            Reading::Play(wanted) | Reading::Wav(wanted) | Reading::Picture(wanted, _) => {
-                wanted.medium
-            }
+            Reading::Play(wanted)
+            | Reading::Wav(wanted)
+            | Reading::Picture(wanted, _)
+            | Reading::Pictures(wanted) => wanted.medium,
             Reading::Sources { medium }
             | Reading::Watch { medium }
             | Reading::Runs { medium }
@@ -122,6 +125,7 @@ pub fn answer_reading<I: Source + Drop, O: Sink + Drop, M: Media + Drop>(
         Reading::Picture(wanted, block) => {
             answer_export(alloc, wanted, Wish::Picture(block), world)
         }
+        Reading::Pictures(wanted) => answer_export(alloc, wanted, Wish::Listing, world),
     }
 }
 
@@ -162,5 +166,6 @@ pub fn answer_rescue<I: Source + Drop, O: Sink + Drop, M: Media + Drop>(
         Reading::Picture(wanted, block) => {
             rescue_file(alloc, wanted, Wish::Picture(block), world)
         }
+        Reading::Pictures(wanted) => rescue_file(alloc, wanted, Wish::Listing, world),
     }
 }

@@ -1,4 +1,4 @@
-// Files out of what was recorded: the sound of a channel, and the image of a block.
+// Files out of what was recorded: the sound of a channel, the image of a block, and the list of the images.
 ghost use Rattle.std.specs.Prelude.{◌≡◌, ◌≤◌, length, Err};
 ghost use Rattle.vdr_command.specs.Endings.{ending};
 ghost use Rattle.vdr_command.specs.declared.status.Status.TheVariants.{Words};
@@ -22,6 +22,8 @@ pub enum Wish {
     Sound,
     /// The image of this block, out of a channel of images.
     Picture(Block),
+    /// The list of the images, out of a channel of images.
+    Listing,
 }
 
 /// The file that is to be made of a channel, None where its kind is another.
@@ -39,6 +41,7 @@ pub(crate) fn file_of(config: &Config, channel: Option<u8>, wish: Wish) -> Optio
             microphone: *microphone,
         }),
         (Wish::Picture(block), ChannelKind::Image { .. }) => Some(File::Picture(block)),
+        (Wish::Listing, ChannelKind::Image { .. }) => Some(File::Listing),
         _ => None,
     }
 }
@@ -107,7 +110,8 @@ fn export<I: Source + Drop, O: Sink + Drop, M: Media + Drop>(
     exported(written)
 }
 
-/// Writes the file that is asked for to the output. Memory is taken to open the media, and for the parts of a picture.
+/// Writes the file that is asked for to the output. Memory is taken to open the media, for the parts of a picture, and
+/// for the images of a list.
 pub(crate) fn answer_export<I: Source + Drop, O: Sink + Drop, M: Media + Drop>(
     alloc: Global,
     wanted: Wanted<'_>,

@@ -3,6 +3,8 @@
 
 mod answering;
 mod exporting;
+mod informing;
+mod informing_alone;
 mod listing;
 mod playing;
 mod reading;
@@ -14,5 +16,8 @@ mod telling;
 mod watching;
 
 pub use answering::{Reading, answer_reading, answer_rescue};
+pub use informing::answer_info;
+pub use informing_alone::answer_rescue_info;
 pub use listing::answer_incidents;
 pub use reading::{EndsCommand, Wanted, read_out};
+pub use rescuing::number_of;

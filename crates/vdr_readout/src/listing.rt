@@ -46,8 +46,8 @@ fn push_utc(row: &mut ArrayVec<u8, ROOM>, saved: &Save)
     push_text(row, b" ");
 }
 
-// The row of a live save.
-fn row_of(id: u32, saved: &Save) -> ArrayVec<u8, ROOM>
+/// The row of a live save.
+pub(crate) fn row_of(id: u32, saved: &Save) -> ArrayVec<u8, ROOM>
     ensures { result.items ≡ incident_row id saved.now }
 {
     let mut row = ArrayVec::new();

@@ -5,10 +5,11 @@
 ghost use Rattle.std.specs.Prelude.{◌≡◌, ◌≤◌, ◌<◌, [], length};
 ghost use Rattle.vdr_durability.specs.Playback.{medium_of};
 ghost use Rattle.vdr_entry.specs.Queries.{asked_medium};
+ghost use Rattle.vdr_segment.specs.Areas.{HasRoom};
 ghost use Rattle.vdr_rescue.specs.Alones.{account_of};
 ghost use Rattle.vdr_command.specs.Endings.{ending};
-ghost use Rattle.vdr_readout.specs.Reads.{plain_play};
-ghost use Rattle.vdr_readout.specs.Rescues.{Rescues, status_found};
+ghost use Rattle.vdr_readout.specs.Reads.{number_asked, plain_play};
+ghost use Rattle.vdr_readout.specs.Rescues.{IsOpenedSince, Rescues, since, status_found};
 ghost use Rattle.vdr_readout.specs.Telling.{TellsAlone, status_of_part};
 
 use crate::reading::{Wanted, query_in, stopped_as};
@@ -20,7 +21,7 @@ use vdr_rescue::{Alone, Found, found_of, law_of_alone, print_findings};
 use vdr_visit::{Visitor, visit_buffered};
 
 /// The number of the medium on which this stands: an incident's records stand on the long-term medium.
-pub(crate) fn number_of(medium: Medium) -> u8
+pub fn number_of(medium: Medium) -> u8
     ensures number { result ≡ medium_of (asked_medium medium) }
     ensures few { result < 2 }
 {
@@ -66,6 +67,47 @@ fn tell<O: Sink>(alloc: Global, alone: &Alone, out: &mut O) -> Result<(), Status
     }
 }
 
+/// Hands the records that are wanted of a medium that was opened alone to the visitor, and prints what was found. What is said of this
+/// goes back to the media as they were before it was opened.
+pub(crate) fn rescue_opened<
+    I: Source + Drop,
+    O: Sink + Drop,
+    M: Media + Drop,
+    V: Visitor<Reason = AllocError>,
+>(
+    alloc: Global,
+    opened: Alone,
+    wanted: Wanted<'_>,
+    visitor: &mut V,
+    world: &mut World<I, O, M>,
+) -> Result<(), Status>
+    requires room { HasRoom opened.cursor.area (M.disk world.old.media).sizes }
+    ensures rescues { let at = ⟦<World<I, O, M> as Outer>⟧.outside in (first : V) → V.has first [] visitor.old
+        → (before : M) → IsOpenedSince M.Media (number_asked (plain_play wanted.entry)) before world.old.media opened
+        → Rescues (plain_play wanted.entry) (V.line first) (V.last first) (since M.Media before (at world.old)) (at world.new) (ending result) }
+    ensures later { O.faults world.old.output ≤ O.faults world.new.output }
+    ensures sizes { (M.disk world.new.media).sizes ≡ (M.disk world.old.media).sizes }
+    ensures unread { world.new.input ≡ world.old.input }
+{
+    law_of_alone();
+    let mut alone = opened;
+    let Some(query) = query_in(alone.config(), wanted) else {
+        report_channel(wanted.channel, &mut world.output);
+        return Err(Status::NoChannel);
+    };
+    let ended = visit_buffered(
+        &mut alone,
+        &mut world.media,
+        &query,
+        visitor,
+        &mut world.output,
+    );
+    if let Err(stop) = ended {
+        return Err(stopped_as(stop, wanted.medium));
+    }
+    tell(alloc, &alone, &mut world.output)
+}
+
 /// Opens the medium that is wanted alone, and hands its records that are wanted to the visitor; then prints what was found. Only the line
 /// of a channel that is not configured is written besides, by `NoChannel`. Nothing is written to any medium, and no other one is read.
 ///
@@ -91,23 +133,8 @@ pub(crate) fn rescue_out<
 {
     law_of_alone();
     let m = number_of(wanted.medium);
-    let mut alone = match Alone::open(alloc, &mut world.media, m) {
-        Ok(alone) => alone,
-        Err(refused) => return Err(status_of_part(refused)),
-    };
-    let Some(query) = query_in(alone.config(), wanted) else {
-        report_channel(wanted.channel, &mut world.output);
-        return Err(Status::NoChannel);
-    };
-    let ended = visit_buffered(
-        &mut alone,
-        &mut world.media,
-        &query,
-        visitor,
-        &mut world.output,
-    );
-    if let Err(stop) = ended {
-        return Err(stopped_as(stop, wanted.medium));
+    match Alone::open(alloc, &mut world.media, m) {
+        Ok(alone) => rescue_opened(alloc, alone, wanted, visitor, world),
+        Err(refused) => Err(status_of_part(refused)),
     }
-    tell(alloc, &alone, &mut world.output)
 }

@@ -16,7 +16,7 @@ use Rattle.vdr_vault.specs.Ours.{AreOurs, IsOurs, StayOurs}
 use Rattle.vdr_vault.proofs.Ours.{ours_formatted, ours_opened, ours_unchanged}
 use Rattle.vdr_readout.proofs.ReadingLemmas.{reading_plays, rescue_unchanged}
 use Rattle.vdr_tool.specs.Commands.{Asked}
-use Rattle.vdr_tool.specs.Commands.Asked.{Review, Check, Format, Replay, Read, Incidents, Save, Release, Trial, Import, Packets, Rescue}
+use Rattle.vdr_tool.specs.Commands.Asked.{Review, Check, Format, Replay, Read, Incidents, Info, Save, Release, Trial, Import, Packets, Rescue, RescueInfo}
 use Rattle.vdr_tool.specs.Formats.{FormatEnds, outcome_of}
 use Rattle.vdr_command.specs.Opened.{ContentsKept, IsUnopened, KeepsContents, MediaEnds}
 use Rattle.vdr_tool.specs.Lives.{StartsSynced}
@@ -90,6 +90,10 @@ module _ {tells tells_images : Type 0} where
       by (inr (inl failed)) = ours_formatted old.disk new.disk (Err MediaFault) bench_text ours (failed.1 synced)
       by (inr (inr ran)) = let k = ran.2 told in ran_ours (MediaFailed old new) old.disk new.disk k.1 k.0 status k.3 synced ours
 
+  -- What a command leaves that leaves what might have been left before.
+  ours_left : (old new : Disk tells tells_images) → LeavesAll old new → AreOurs old → StayOurs old new
+  ours_left old new leaves ours = record { later = leaves.later; each = λ image left. ours image (leaves.each image left) }
+
   -- What each command that uses the media leaves of them.
   pub lives_of : (command : Asked) (old new : Outside tells tells_images) (hears : Type 0) (w : Watched) (status : Status) → (page command).owes old new hears w status → (page command).uses_media
       → tells_images → StartsSynced command old.media.disk → AreOurs old.media.disk → StayOurs old.media.disk new.media.disk
@@ -101,6 +105,8 @@ module _ {tells tells_images : Type 0} where
   lives_of (Format again) old new hears w status owed uses told synced ours = format_lives again old.input.left old.media new.media status owed.media synced ours
   lives_of Replay old new hears w status owed uses told synced ours = replay_lives old.input.left new.input.left old.media new.media hears w owed.answer owed.media told ours
   lives_of (Read reading) old new hears w status owed uses told synced ours = media_lives old.media new.media status (reading_plays old new status reading owed).media told ours
+  lives_of Info old new hears w status owed uses told synced ours = ours_left old.media.disk new.media.disk owed.untouched.leaves ours
+  lives_of (RescueInfo medium) old new hears w status owed uses told synced ours = ours_unchanged old.media.disk new.media.disk owed.media.unchanged ours
   lives_of Incidents old new hears w status owed uses told synced ours = media_lives old.media new.media status owed.media told ours
   lives_of (Save label) old new hears w status owed uses told synced ours = media_lives old.media new.media status owed.media told ours
   lives_of (Release id) old new hears w status owed uses told synced ours = media_lives old.media new.media status owed.media told ours

@@ -1,18 +1,20 @@
 -- Words that ask for a command.
-use Rattle.std.proofs.Common.{◌≡◌, ◌∷◌, length, ℕ, ℤ, List, [], Option, Some, None, true, false, codes, inl, refl, sym, ap, subst, ◌∙◌, ◌≢◌, Bool}
+use Rattle.std.proofs.Common.{◌≡◌, ◌∷◌, length, ℕ, ℤ, List, [], Option, Some, None, true, false, codes, inl, inr, ◌⊎◌, refl, sym, ap, subst, ◌∙◌, ◌≢◌, Bool}
 use Rattle.std.specs.Prelude.{◌&&◌, ◌||◌, nat_eq, option_map, pos}
 use Rattle.std.specs.Bool.{MatchBool}
 use Rattle.vdr_terms.specs.Stamps.{last_stamp}
 use Rattle.vdr_entry.specs.declared.query.Medium.{Medium}
+use Rattle.vdr_entry.specs.declared.query.Medium.TheVariants.{Capsule, LongTerm, Incident}
 use Rattle.vdr_control.specs.Orders.{PlainOrder}
 use Rattle.vdr_control.specs.Orders.PlainOrder.{Play as PlayOrder, Status as StatusOrder, Save as SaveOrder, Release as ReleaseOrder}
 use Rattle.vdr_control.specs.Plays.{IsMedium, SpellsBound, SpellsPlay, medium_word}
+use Rattle.vdr_readout.specs.Informs.{IsWhole}
 use Rattle.vdr_readout.specs.Readings.{Reading, SpellsReading, plain_reading, reads}
 use Rattle.vdr_readout.specs.Readings.{Reading as readings}
 use Rattle.vdr_readout.specs.Reads.{AskedPlay}
 use Rattle.vdr_readout.specs.declared.answering.Reading.{Reading as Told}
 use Rattle.vdr_tool.specs.Commands.{Asked, IsPlain}
-use Rattle.vdr_tool.specs.Commands.Asked.{Review, Check, Format, Replay, Read, Incidents, Save, Release, Trial, Import, Packets, Rescue}
+use Rattle.vdr_tool.specs.Commands.Asked.{Review, Check, Format, Replay, Read, Incidents, Info, Save, Release, Trial, Import, Packets, Rescue, RescueInfo}
 use Rattle.vdr_tool.specs.Runs.{Spells}
 
 -- The same words spell the same.
@@ -82,6 +84,7 @@ target_words word first second (readings.Runs m) s = let e = s.words in let none
 target_words word first second (readings.Digest m) s = let e = s.words in let none : ⊥ = cc in absurd none
 target_words word first second (readings.Wav asked) s = let e = s.words.words in let none : ⊥ = cc in absurd none
 target_words word first second (readings.Picture asked block) s = let e = s.words.words in let none : ⊥ = cc in absurd none
+target_words word first second (readings.Pictures asked) s = let e = s.words.words in let none : ⊥ = cc in absurd none
 target_words word first second (readings.Targets m until) s =
     let p = s.words in
     let e : word ∷ first ∷ second ∷ [] ≡ codes "targets" ∷ medium_word m ∷ p.bound ∷ [] = p.words in
@@ -127,6 +130,7 @@ reading_begins texts (readings.Digest medium) s = begins texts _ s
 reading_begins texts (readings.Targets medium at) s = begins texts _ s.words
 reading_begins texts (readings.Wav asked) s = begins texts _ s.words
 reading_begins texts (readings.Picture asked block) s = begins texts _ s.words
+reading_begins texts (readings.Pictures asked) s = begins texts _ s.words
 
 told_apart : {P : Type 0} (b : Bool) → b ≡ true → b ≡ false → P
 told_apart b so not_so =
@@ -143,13 +147,23 @@ third_is_s (a ∷ b ∷ c ∷ rest) = nat_eq c 115
 not_rescue : {P : Type 0} (word other : List ℕ) → word ≡ codes "rescue" → word ≡ other → third_is_s other ≡ false → P
 not_rescue word other is so differs = told_apart (third_is_s word) (ap third_is_s is) (ap third_is_s so ∙ differs)
 
--- Words of which the first is `rescue` are those of a reading behind it.
+-- Words of which the first is `rescue` are those of a reading behind it, or ask what a medium is.
 pub record RescueWords (rest : List (List ℕ)) (command : Asked) : Type 0 where
   pub reading : Reading
   pub is : command ≡ Rescue reading
   pub spelled : SpellsReading rest reading
 
-pub rescue_words : (word : List ℕ) (rest : List (List ℕ)) (command : Asked) → word ≡ codes "rescue" → Spells (word ∷ rest) command → RescueWords rest command
+pub record InfoWords (rest : List (List ℕ)) (command : Asked) : Type 0 where
+  pub medium : Medium
+  pub is : command ≡ RescueInfo medium
+  pub legal : IsWhole medium
+  pub words : rest ≡ codes "info" ∷ medium_word medium ∷ []
+
+-- No reading begins with `info`.
+pub not_info : {P : Type 0} (texts words : List (List ℕ)) (reading : Reading) → texts ≡ codes "info" ∷ words → SpellsReading texts reading → P
+not_info texts words reading is s = told_apart (begins_reading (first_word texts)) (reading_begins texts reading s.words) (begins texts _ is)
+
+pub rescue_words : (word : List ℕ) (rest : List (List ℕ)) (command : Asked) → word ≡ codes "rescue" → Spells (word ∷ rest) command → RescueWords rest command ⊎ InfoWords rest command
 rescue_words word rest (Review None) w s = not_rescue word (codes "review") w (first_same word (codes "review") rest _ s.words) refl
 rescue_words word rest (Review (Some rate)) w s = not_rescue word (codes "review") w (first_same word (codes "review") rest _ s.words) refl
 rescue_words word rest Check w s = not_rescue word (codes "check") w (first_same word (codes "check") rest _ s.words) refl
@@ -158,6 +172,7 @@ rescue_words word rest Packets w s = not_rescue word (codes "packets") w (first_
 rescue_words word rest (Format true) w s = not_rescue word (codes "reformat") w (first_same word (codes "reformat") rest _ s.words) refl
 rescue_words word rest (Format false) w s = not_rescue word (codes "format") w (first_same word (codes "format") rest _ s.words) refl
 rescue_words word rest Replay w s = not_rescue word (codes "replay") w (first_same word (codes "replay") rest _ s.words) refl
+rescue_words word rest Info w s = not_rescue word (codes "info") w (first_same word (codes "info") rest _ s.words) refl
 rescue_words word rest Incidents w s = not_rescue word (codes "incidents") w (first_same word (codes "incidents") rest _ s.words) refl
 rescue_words word rest (Save label) w s = not_rescue word (codes "save") w (first_same word (codes "save") rest _ s.words) refl
 rescue_words word rest (Release id) w s = not_rescue word (codes "release") w (first_same word (codes "release") rest _ s.words) refl
@@ -166,7 +181,11 @@ rescue_words word rest (Read reading) w s = told_apart (begins_reading word) (re
 rescue_words word rest (Rescue reading) w s =
     let e : word ∷ rest ≡ codes "rescue" ∷ s.words.rest = s.words.words in
     let same : s.words.rest ≡ rest = cc in
-    record { reading = reading; is = refl; spelled = record { words = subst (λ (l : List (List ℕ)). (reads reading).words l) same s.words.spelled; legal = s.legal } }
+    inl (record { reading = reading; is = refl; spelled = record { words = subst (λ (l : List (List ℕ)). (reads reading).words l) same s.words.spelled; legal = s.legal } })
+rescue_words word rest (RescueInfo medium) w s =
+    let e : word ∷ rest ≡ codes "rescue" ∷ codes "info" ∷ medium_word medium ∷ [] = s.words in
+    let same : rest ≡ codes "info" ∷ medium_word medium ∷ [] = cc in
+    inr (record { medium = medium; is = refl; legal = s.legal; words = same })
 
 -- All others are no rescue.
 pub plain_words : (word : List ℕ) (rest : List (List ℕ)) (command : Asked) → word ≢ codes "rescue" → Spells (word ∷ rest) command → IsPlain command
@@ -176,6 +195,7 @@ plain_words word rest (Format again) other s = tt
 plain_words word rest Replay other s = tt
 plain_words word rest (Read reading) other s = tt
 plain_words word rest Incidents other s = tt
+plain_words word rest Info other s = tt
 plain_words word rest (Save label) other s = tt
 plain_words word rest (Release id) other s = tt
 plain_words word rest (Trial seed count) other s = tt
@@ -183,6 +203,10 @@ plain_words word rest Import other s = tt
 plain_words word rest Packets other s = tt
 plain_words word rest (Rescue reading) other s =
     let e : word ∷ rest ≡ codes "rescue" ∷ s.words.rest = s.words.words in
+    let same : word ≡ codes "rescue" = cc in
+    absurd (other same)
+plain_words word rest (RescueInfo medium) other s =
+    let e : word ∷ rest ≡ codes "rescue" ∷ codes "info" ∷ medium_word medium ∷ [] = s.words in
     let same : word ≡ codes "rescue" = cc in
     absurd (other same)
 
@@ -197,11 +221,13 @@ no_words (Format true) s = let e = s.words in cc
 no_words (Format false) s = let e = s.words in cc
 no_words Replay s = let e = s.words in cc
 no_words Incidents s = let e = s.words in cc
+no_words Info s = let e = s.words in cc
 no_words (Save label) s = let e = s.words in cc
 no_words (Release id) s = let e = s.words in cc
 no_words (Trial seed count) s = let e = s.words in cc
 no_words (Read reading) s = told_apart _ (reading_begins [] reading s.words) refl
 no_words (Rescue reading) s = let e = s.words.words in cc
+no_words (RescueInfo medium) s = let e = s.words in cc
 
 -- What has no element is empty.
 pub nothing_in : {A : Type 0} (xs : List A) → length xs ≡ 0 → xs ≡ []
@@ -218,3 +244,27 @@ none_read r reading none is =
 pub some_rescue : (r : Option Told) (told : Told) (reading : Reading) → r ≡ Some told → option_map plain_reading r ≡ Some reading → ◌≡◌ {A = Option Asked} (Some (Rescue (plain_reading told))) (Some (Rescue reading))
 some_rescue r told reading some is =
     ap (λ (o : Option Reading). option_map Rescue o) (ap (λ (o : Option Told). option_map plain_reading o) (sym some) ∙ is)
+
+-- A medium by its name.
+pub whole_named : (word : List ℕ) (medium : Medium) → IsWhole medium → word ≡ medium_word medium → ((word ≡ codes "capsule") × (medium ≡ Capsule)) ⊎ ((word ≡ codes "longterm") × (medium ≡ LongTerm))
+whole_named word Capsule legal is = inl (is, refl)
+whole_named word LongTerm legal is = inr (is, refl)
+whole_named word (Incident id) legal is = absurd legal
+
+-- Names of media are told apart by their first letter.
+abbrev begins_with_c : List ℕ → Bool
+begins_with_c [] = false
+begins_with_c (a ∷ rest) = nat_eq a 99
+
+pub not_both : {P : Type 0} (word : List ℕ) → word ≡ codes "capsule" → word ≡ codes "longterm" → P
+not_both word a b = told_apart (begins_with_c word) (ap begins_with_c a) (ap begins_with_c b)
+
+-- The medium that is asked for is the one that was found.
+pub none_whole : {P : Type 0} (r : Option Medium) (medium : Medium) → r ≡ None → r ≡ Some medium → P
+none_whole r medium none is =
+    let clash : None ≡ Some medium = sym none ∙ is in
+    let no : ⊥ = cc in absurd no
+
+pub one_whole : (r : Option Medium) (found medium : Medium) (command : Asked) → r ≡ Some found → r ≡ Some medium → command ≡ RescueInfo medium → ◌≡◌ {A = Option Asked} (Some (RescueInfo found)) (Some command)
+one_whole r found medium command some is asks =
+    ap (λ (o : Option Medium). option_map RescueInfo o) (sym some ∙ is) ∙ ap (λ (a : Asked). Some a) (sym asks)

@@ -5,7 +5,7 @@ use Rattle.vdr_config.specs.Configuration.{Configuration}
 use Rattle.vdr_recorder.specs.Chains.{AllLive, LivesOn, Run}
 use Rattle.vdr_vault.specs.Ours.{AreOurs, StayOurs}
 use Rattle.vdr_tool.specs.Commands.{Asked}
-use Rattle.vdr_tool.specs.Commands.Asked.{Review, Check, Format, Replay, Read, Incidents, Save, Release, Trial, Import, Packets, Rescue}
+use Rattle.vdr_tool.specs.Commands.Asked.{Review, Check, Format, Replay, Read, Incidents, Info, Save, Release, Trial, Import, Packets, Rescue, RescueInfo}
 
 -- Nothing of the capsule is unsynced where the media are to be formatted: its gate is read before it is written. So it is after each
 -- start of the recorder, and after each command but one that a fault ended.
@@ -16,12 +16,14 @@ StartsSynced Check disk = ⊤
 StartsSynced Replay disk = ⊤
 StartsSynced (Read reading) disk = ⊤
 StartsSynced Incidents disk = ⊤
+StartsSynced Info disk = ⊤
 StartsSynced (Save label) disk = ⊤
 StartsSynced (Release id) disk = ⊤
 StartsSynced (Trial seed count) disk = Durable 0 disk
 StartsSynced Import disk = ⊤
 StartsSynced Packets disk = ⊤
 StartsSynced (Rescue reading) disk = ⊤
+StartsSynced (RescueInfo medium) disk = ⊤
 
 -- The command does not format the media.
 abbrev pub FormatsNothing : Asked → Type 0
@@ -31,12 +33,14 @@ FormatsNothing Check = ⊤
 FormatsNothing Replay = ⊤
 FormatsNothing (Read reading) = ⊤
 FormatsNothing Incidents = ⊤
+FormatsNothing Info = ⊤
 FormatsNothing (Save label) = ⊤
 FormatsNothing (Release id) = ⊤
 FormatsNothing (Trial seed count) = ⊥
 FormatsNothing Import = ⊤
 FormatsNothing Packets = ⊤
 FormatsNothing (Rescue reading) = ⊤
+FormatsNothing (RescueInfo medium) = ⊤
 
 -- What is kept of the media's life, whichever command it is of these.
 pub record KeepsLife {tells tells_images : Type 0} (asked : Asked → Type 0) (old new : Disk tells tells_images) : Type 0 where

@@ -3,12 +3,13 @@ use Rattle.std.specs.Prelude.{◌≡◌, ◌≤◌, ◌⊎◌, ℕ, List, String
 use Rattle.std.specs.declared.alloc.Global.{Global}
 use Rattle.vdr_tool.specs.Checks.{checking}
 use Rattle.vdr_tool.specs.Commands.{Asked}
-use Rattle.vdr_tool.specs.Commands.Asked.{Review, Check, Format, Replay, Read, Incidents, Save, Release, Trial, Import, Packets, Rescue}
+use Rattle.vdr_tool.specs.Commands.Asked.{Review, Check, Format, Replay, Read, Incidents, Info, Save, Release, Trial, Import, Packets, Rescue, RescueInfo}
 use Rattle.vdr_command.specs.Endings.{WritesLine}
 use Rattle.vdr_tool.specs.Formats.{formatting}
 use Rattle.vdr_tool.specs.Imports.{importing}
 use Rattle.vdr_tool.specs.Packets.{counting_packets}
 use Rattle.vdr_readout.specs.Incidents.{listing}
+use Rattle.vdr_readout.specs.Informs.{informing, informing_alone}
 use Rattle.vdr_command.specs.Outside.{OutputSeen, Outside}
 use Rattle.vdr_readout.specs.Readings.{reading_out, rescuing}
 use Rattle.vdr_command.specs.Promises.{Promise}
@@ -28,12 +29,14 @@ page (Format again) = formatting again
 page Replay = replaying
 page (Read reading) = reading_out reading
 page Incidents = listing
+page Info = informing
 page (Save label) = saving label
 page (Release id) = releasing id
 page (Trial seed count) = trying seed count
 page Import = importing
 page Packets = counting_packets
 page (Rescue reading) = rescuing reading
+page (RescueInfo medium) = informing_alone medium
 
 -- The texts are those of a command.
 pub record Spells (texts : List (List ℕ)) (command : Asked) : Type 0 where

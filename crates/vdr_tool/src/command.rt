@@ -20,7 +20,9 @@ use crate::words::{Command, command_of};
 use std::alloc::Global;
 use vdr_command::{Outer, Status, World, report};
 use vdr_outside::{Media, Sink, Source};
-use vdr_readout::{answer_incidents, answer_reading, answer_rescue};
+use vdr_readout::{
+    answer_incidents, answer_info, answer_reading, answer_rescue, answer_rescue_info,
+};
 use vdr_recorder::{Nobody, Watch};
 
 // Does what a command asks for, up to the line of its status.
@@ -47,12 +49,14 @@ fn answer<I: Source + Drop, O: Sink + Drop, M: Media + Drop, W: Watch<M>>(
         Command::Replay => answer_replay(alloc, world, watch),
         Command::Read(reading) => answer_reading(alloc, reading, world),
         Command::Incidents => answer_incidents(alloc, world),
+        Command::Info => answer_info(alloc, world),
         Command::Save { label } => answer_save(alloc, label, world, watch),
         Command::Release { id } => answer_release(alloc, id, world, watch),
         Command::Trial { seed, count } => answer_trial(alloc, seed, count, world),
         Command::Import => answer_import(world),
         Command::Packets => answer_packets(world),
         Command::Rescue(reading) => answer_rescue(alloc, reading, world),
+        Command::RescueInfo { medium } => answer_rescue_info(alloc, medium, world),
     }
 }
 
@@ -72,6 +76,8 @@ fn answer<I: Source + Drop, O: Sink + Drop, M: Media + Drop, W: Watch<M>>(
 ///   channel, or all where CHANNEL is `all`, whose UTC stamps are from FROM to TO; `-` is no bound.
 /// - `incidents` reads no input. It prints the saved incidents that are live, in the order of their ids, each as a line
 ///   `ID TICK UTC A B LABEL`: tick and UTC of its last record, its first and its last place, and its label.
+/// - `info` reads no input. It prints what both media are: of each a line `MEDIUM slots N segment N used N first PLACE UTC last PLACE UTC
+///   seconds N`, then the lines of `incidents`, `configuration BYTES SHA256`, and the configuration's text as it stands.
 /// - `save LABEL` reads no input. It saves an incident, as `vdr_recorder::Recorder::save` does, and prints its id and LF. The label
 ///   is 1 to 64 bytes of 0x20 to 0x7E. Where the output fails the save stays.
 /// - `release ID` reads no input and prints nothing. It releases the incident of this id, 1 to 32.
@@ -95,11 +101,13 @@ fn answer<I: Source + Drop, O: Sink + Drop, M: Media + Drop, W: Watch<M>>(
 ///   transmission groups, each as soon as it was read.
 /// - `packets` reads a capture so, and prints what became of its packets: `packets N`, of each group `GROUP whole N cut N`, of each cause
 ///   `left CAUSE N`, and `lost N` and `back N`.
-/// - `rescue COMMAND WORDS` reads no input. COMMAND is `play`, `sources`, `watch`, `runs`, `digest`, `targets`, `wav`
-///   or `picture`. It reads the medium that
-///   they ask for alone, for `incident-ID` the long-term one, whole, cut short or damaged, writes to none, and prints what they print of each
-///   record that legally stands there; then, but for `wav` and `picture`, `missing A B` for places that the medium owes and lacks, by place,
-///   `damaged OFFSET` by offset, and `closed OFFSET`. It ends with `Damaged` at the first such offset, or else with `Missing`.
+/// - `rescue COMMAND WORDS` reads no input. COMMAND is `play`, `sources`, `watch`, `runs`, `digest`, `targets`, `wav`,
+///   `picture` or `pictures`. It reads the medium that they ask for alone, for `incident-ID` the long-term one, whole,
+///   cut short or damaged, writes to none, and prints what they print of each record that legally stands there; then,
+///   but for `wav`, `picture` and `pictures`, `missing A B` for places that the medium owes and lacks, by place,
+///   `damaged OFFSET` by offset, and `closed OFFSET`. It ends with `Damaged` at the first such offset, or else with
+///   `Missing`.
+/// - `rescue info MEDIUM` reads `capsule` or `longterm` so, and prints before these lines what `info` prints of it.
 ///
 /// Any other words end with `Words`, and nothing is touched. A number is decimal digits without a sign and without a leading zero.
 ///

@@ -118,11 +118,15 @@ fn of_channel<'a>(
         let wanted = wanted_of(medium, channel, from, to)?;
         return Some(Reading::Play(wanted));
     }
-    if word != "wav" {
+    if word == "wav" {
+        let wanted = wanted_of(medium, channel, from, to)?;
+        return Some(Reading::Wav(wanted));
+    }
+    if word != "pictures" {
         return None;
     }
     let wanted = wanted_of(medium, channel, from, to)?;
-    Some(Reading::Wav(wanted))
+    Some(Reading::Pictures(wanted))
 }
 
 // The source of an image: six bytes of 0x21 to 0x7E.

@@ -1,7 +1,10 @@
 // The words that ask for a command.
-ghost use Rattle.std.specs.Prelude.{◌≡◌, ◌≤◌, ◌∷◌, [], ℕ, Some, IfSome, decimal, option_map};
+ghost use Rattle.std.specs.Prelude.{◌≡◌, ◌≤◌, ◌∷◌, [], ℕ, Some, IfSome, codes, decimal, map, option_map, string_bytes};
 ghost use Rattle.vdr_terms.specs.declared.rate.Rate.{Rate as RateTold};
 ghost use Rattle.vdr_config.specs.Configuration.{IsRate};
+ghost use Rattle.vdr_entry.specs.declared.query.Medium.{Medium as AMedium};
+ghost use Rattle.vdr_control.specs.Plays.{medium_word};
+ghost use Rattle.vdr_readout.specs.Informs.{IsWhole};
 ghost use Rattle.vdr_tool.specs.Commands.{Asked, IsOther, IsPlain, plain};
 ghost use Rattle.vdr_tool.specs.Commands.Asked.{Trial};
 ghost use Rattle.vdr_tool.specs.Runs.{Asks, Spells, page};
@@ -9,6 +12,7 @@ ghost use Rattle.vdr_tool.specs.Runs.{Asks, Spells, page};
 use crate::numbers::number_of;
 use crate::readings::reading_of;
 use vdr_config::Rate;
+use vdr_entry::Medium;
 use vdr_readout::Reading;
 
 /// What the words ask for.
@@ -26,6 +30,8 @@ pub(crate) enum Command<'a> {
     Read(Reading<'a>),
     /// The live saves are listed.
     Incidents,
+    /// What both media are is told.
+    Info,
     /// An incident is saved under this label. What it holds is judged by the save.
     Save { label: &'a [u8] },
     /// The save of this id, 1 to 32, is released.
@@ -38,6 +44,8 @@ pub(crate) enum Command<'a> {
     Packets,
     /// One medium alone is read.
     Rescue(Reading<'a>),
+    /// What one medium alone is, which is no incident.
+    RescueInfo { medium: Medium },
 }
 
 fn rate_of(datagrams: &str, bytes: &str) -> Option<Rate>
@@ -64,7 +72,10 @@ fn media_word(word: &str) -> Option<Command<'static>>
         return Some(Command::Replay);
     }
     if word == "incidents" {
-        Some(Command::Incidents)
+        return Some(Command::Incidents);
+    }
+    if word == "info" {
+        Some(Command::Info)
     } else {
         None
     }
@@ -156,6 +167,56 @@ fn plain_command_of(words: &[String]) -> Option<Command<'_>>
     }
 }
 
+// The medium of this name; an incident is none.
+fn whole_medium_of(name: &str) -> Option<Medium>
+    ensures found { (medium : AMedium) → IsWhole medium → name.now ≡ medium_word medium → result ≡ Some medium }
+    ensures only { IfSome result (λ medium. IsWhole medium × (name.now ≡ medium_word medium)) }
+{
+    if name == "capsule" {
+        return Some(Medium::Capsule);
+    }
+    if name == "longterm" {
+        Some(Medium::LongTerm)
+    } else {
+        None
+    }
+}
+
+// The medium of this name, where the word before it is `info`.
+fn info_words(word: &str, name: &str) -> Option<Medium>
+    ensures found { (medium : AMedium) → IsWhole medium → word.now ∷ name.now ∷ [] ≡ codes "info" ∷ medium_word medium ∷ [] → result ≡ Some medium }
+    ensures only { IfSome result (λ medium. IsWhole medium × (word.now ∷ name.now ∷ [] ≡ codes "info" ∷ medium_word medium ∷ [])) }
+{
+    if word == "info" {
+        whole_medium_of(name)
+    } else {
+        None
+    }
+}
+
+// The medium of which these words ask what it is.
+fn info_alone_of(words: &[String]) -> Option<Medium>
+    ensures found { (medium : AMedium) → IsWhole medium → map string_bytes words.now ≡ codes "info" ∷ medium_word medium ∷ [] → result ≡ Some medium }
+    ensures only { IfSome result (λ medium. IsWhole medium × (map string_bytes words.now ≡ codes "info" ∷ medium_word medium ∷ [])) }
+{
+    match words {
+        [word, name] => info_words(word.as_str(), name.as_str()),
+        _ => None,
+    }
+}
+
+// What is to be read of one medium alone, by the words behind `rescue`.
+fn rescue_of(words: &[String]) -> Option<Command<'_>>
+    ensures found { (command : Asked) → Spells (codes "rescue" ∷ map string_bytes words.now) command → option_map plain result ≡ Some command }
+    ensures only { IfSome result (λ command. Spells (codes "rescue" ∷ map string_bytes words.now) (plain command)) }
+{
+    if let Some(medium) = info_alone_of(words) {
+        return Some(Command::RescueInfo { medium });
+    }
+    let reading = reading_of(words)?;
+    Some(Command::Rescue(reading))
+}
+
 /// The command that these words ask for, None where they ask for none.
 pub(crate) fn command_of(words: &[String]) -> Option<Command<'_>>
     ensures found { (command : Asked) → Asks words.now command → option_map plain result ≡ Some command }
@@ -165,8 +226,7 @@ pub(crate) fn command_of(words: &[String]) -> Option<Command<'_>>
         return None;
     };
     if word.as_str() == "rescue" {
-        let reading = reading_of(rest)?;
-        return Some(Command::Rescue(reading));
+        return rescue_of(rest);
     }
     plain_command_of(words)
 }

@@ -37,3 +37,6 @@ returns-in-Wav-clause-known g c = file_known _ _ _ _ _ c.rescue_file.ensures.res
 
 pub returns-in-Picture-clause-known : goal.returns-in-Picture-clause-known
 returns-in-Picture-clause-known g c = file_known _ _ _ _ _ c.rescue_file-in-Picture.ensures.rescues
+
+pub returns-in-Pictures-clause-known : goal.returns-in-Pictures-clause-known
+returns-in-Pictures-clause-known g c = file_known _ _ _ _ _ c.rescue_file-in-Pictures.ensures.rescues
