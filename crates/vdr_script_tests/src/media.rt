@@ -133,6 +133,16 @@ impl Shelf {
         Ok(())
     }
 
+    // Leaves the first bytes of a medium alone.
+    fn shorten(&mut self, rest: &str) -> Result<()> {
+        let (medium, size) = first_word(rest)?;
+        let (medium, size) = (small_number(medium)? as usize, number(size)? as usize);
+        let medium = self.contents.get_mut(medium).context("no such medium")?;
+        ensure!(size <= medium.len(), "past the medium");
+        medium.truncate(size);
+        Ok(())
+    }
+
     fn medium(&self, word: &str) -> Result<&[u8]> {
         let medium = self.contents.get(small_number(word)? as usize);
         Ok(medium.context("no such medium")?.as_slice())
@@ -178,6 +188,7 @@ impl Shelf {
             "same" => ensure!(self.contents.as_slice() == self.get(rest)?, "other media"),
             "image" => self.image(rest)?,
             "poke" => self.poke(rest)?,
+            "shorten" => self.shorten(rest)?,
             "peek" => self.peek(rest)?,
             "holds" => ensure!(self.holds(rest)?, "the medium lacks it"),
             "lacks" => ensure!(!self.holds(rest)?, "the medium holds it"),
