@@ -1,7 +1,7 @@
--- `format`, from its first sync on.
+-- `format`, from the moment on at which the gate of medium 0 is closed.
 use Rattle.std.proofs.Common.{◌≢◌, ◌⊎◌, inl, inr, ⊎_elim, ℕ, List, [], ◌∷◌, refl, ◌∙◌, arith}
 use Rattle.std.specs.Prelude.{All, Result, IsErr, ⊤}
-use Rattle.vdr_outside.specs.Disk.{Disk, Image, Overwritten, Unchanged, content}
+use Rattle.vdr_outside.specs.Disk.{Disk, Image, Unchanged, content}
 use Rattle.vdr_outside.specs.Moments.{AtEachMoment, Changed, ChangesOnly, Settled}
 use Rattle.vdr_outside.proofs.Images.{others_written}
 use Rattle.vdr_outside.proofs.Moments.{now_after, moments_weaken, moments_join, moments_after_reads, unchanged_now, settled_meanwhile}
@@ -87,9 +87,13 @@ module _ {tells tells_images : Type 0} (members : List ℕ) where
   beside_join old mid new first second =
       moments_join old mid new _ first (moments_weaken mid new _ _ second (beside_again members old.now mid.now (now_after old mid _ first)))
 
-  pub beside_overwritten : (m : ℕ) (old new : Disk tells tells_images) → ((k : ℕ) → All (λ m. k ≢ m) members → k ≢ m) → AtEachMoment old new (Overwritten m 0 1 old.now) → AtEachMoment old new (SameBeside members old.now)
-  beside_overwritten m old new apart moments =
-      moments_weaken old new _ _ moments (λ i o. record { image = o.image; was = o.was; same = λ k others. others_written o.image i m 0 o.bytes o.is k (apart k others) })
+  pub beside_closed : (old new : Disk tells tells_images) → ((k : ℕ) → All (λ m. k ≢ m) members → k ≢ 0) → AtEachMoment old new (λ i. old.now i ⊎ ClosedAlone old.now i) → AtEachMoment old new (SameBeside members old.now)
+  beside_closed old new apart moments = moments_weaken old new _ _ moments (λ i p. ⊎_elim (beside_none members old.now i) (written_beside i) p)
+    where
+      written_beside : (i : Image) → ClosedAlone old.now i → SameBeside members old.now i
+      written_beside i c =
+          let o = c.overwritten in
+          record { image = o.image; was = o.was; same = λ k others. others_written o.image i 0 0 o.bytes o.is k (apart k others) }
 
   pub beside_changed : (m : ℕ) (P : List ℕ → Type 0) (old new : Disk tells tells_images) → ((k : ℕ) → All (λ m. k ≢ m) members → k ≢ m) → ChangesOnly m P old new → AtEachMoment old new (SameBeside members old.now)
   beside_changed m P old new apart moments =

@@ -10,14 +10,14 @@ pub record ClosedAlone (from : Image → Type 0) (i : Image) : Type 0 where
   pub unformatted : IsUnformatted i
 
 module _ {tells tells_images : Type 0} where
-  -- The call ended before its first sync succeeded. At every moment a stop left what a stop before the call might have left, or the
-  -- same with the gate of medium 0 closed.
+  -- The call ended before medium 0 was synced with its gate closed. At every moment a stop left what a stop before the call might have
+  -- left, or the same with that gate closed.
   pub record EndsBeforeSync {T E : Type 0} (old new : Disk tells tells_images) (result : Result T E) : Type 0 where
     pub failed : IsErr result
     pub moments : AtEachMoment old new (λ i. old.now i ⊎ ClosedAlone old.now i)
 
-  -- The first sync had succeeded at a moment of the call. Until then a stop may have left what a stop before the call might have
-  -- left; from then on it left unformatted media, or a new history.
+  -- Medium 0 was synced with its gate closed, at a moment of the call. Until then a stop may have left what a stop before the call might
+  -- have left; from then on it left unformatted media, or a new history.
   pub record GoesOnSynced (old new : Disk tells tells_images) (IsNew : Image → Type 0) : Type 0 where
     pub synced : ℕ
     pub after_entry : old.clock ≤ synced

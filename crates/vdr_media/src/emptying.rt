@@ -1,11 +1,11 @@
 // Emptying the media: the gate of medium 0 is closed first, and it is opened last.
 //
 // The sync of the capsule stands before any other byte is written, so that a capsule whose gate is open never stands
-// beside a half-made medium.
-ghost use Rattle.std.specs.Prelude.{◌≡◌, ◌<◌, ◌≤◌, true, false, length, get_or, Ok, All, OnOk};
+// beside a half-made medium. One more stands before its gate is closed, so that a stop leaves what was read of it.
+ghost use Rattle.std.specs.Prelude.{◌≡◌, ◌<◌, ◌≤◌, ◌⊎◌, true, false, length, get_or, Ok, All, OnOk};
 ghost use Rattle.vdr_terms.specs.Needs.{Fits};
 ghost use Rattle.vdr_outside.specs.Causes.{HasCauseOn};
-ghost use Rattle.vdr_outside.specs.Disk.{Durable, Overwritten, SameBut, content};
+ghost use Rattle.vdr_outside.specs.Disk.{SameBut, content};
 ghost use Rattle.vdr_outside.specs.Moments.{AtEachMoment, Settled};
 ghost use Rattle.vdr_config.specs.Sizes.{sizes_of};
 ghost use Rattle.vdr_config.specs.Grammar.{configuration};
@@ -13,30 +13,32 @@ ghost use Rattle.vdr_terms.specs.Slots.{slots_from};
 ghost use Rattle.vdr_media.specs.Medium.{IsEmptyMedium};
 ghost use Rattle.vdr_media.specs.Formatted.{members, IsEmptyHistoryOf, SameBeside};
 ghost use Rattle.vdr_media.specs.Answers.{KnownFormatted, KnownUnformatted};
-ghost use Rattle.vdr_media.specs.Formatting.{FormatsAtEachMoment};
+ghost use Rattle.vdr_media.specs.Formatting.{ClosedAlone, FormatsAtEachMoment};
 ghost use Rattle.vdr_media.specs.Writing.{HasClosedGate, HasCauseAmong};
 
 use crate::laying::make_empty;
 use vdr_config::Config;
-use vdr_outside::{Failed, Fault, Media};
+use vdr_outside::{Fault, Media, write_through};
 use vdr_segment::CLOSED_GATE;
 
-// Closes the gate of medium 0 where it is open, and syncs this medium.
-fn unformat<M: Media>(media: &mut M, formatted: bool) -> Result<(), Failed>
+// Syncs medium 0, and closes its gate where it is open. Whatever was unsynced before, each image that a stop may leave by then has the
+// gate that was read, so that any byte in its place leaves the media as they were, or unformatted.
+fn unformat<M: Media>(media: &mut M, formatted: bool) -> Result<(), Fault>
     requires there { 0 < length (M.disk media.old).sizes }
+    requires formatted { formatted ≡ true → KnownFormatted (M.disk media.old) }
     requires room { 1 ≤ get_or (M.disk media.old).sizes 0 0 }
-    ensures moments { AtEachMoment (M.disk media.old) (M.disk media.new) (Overwritten 0 0 1 (M.disk media.old).now) }
-    ensures untouched { formatted ≡ false → AtEachMoment (M.disk media.old) (M.disk media.new) (M.disk media.old).now }
+    ensures moments { AtEachMoment (M.disk media.old) (M.disk media.new) (λ i. (M.disk media.old).now i ⊎ ClosedAlone (M.disk media.old).now i) }
     ensures done { (formatted ≡ false → M.tells → HasClosedGate (content (M.disk media.old).reads 0)) → OnOk result (Settled 0 HasClosedGate (M.disk media.new)) }
     ensures others { M.tells → SameBut 0 (M.disk media.old).reads (M.disk media.new).reads }
     ensures sizes { (M.disk media.new).sizes ≡ (M.disk media.old).sizes }
     ensures counts { M.bytes_read media.new ≡ M.bytes_read media.old }
     ensures cause { HasCauseOn 0 (M.faults media.old) (M.faults media.new) result }
 {
-    if formatted {
-        media.write(0, 0, &[CLOSED_GATE])?;
+    media.sync(0)?;
+    if !formatted {
+        return Ok(());
     }
-    media.sync(0)
+    write_through(media, 0, 0, &[CLOSED_GATE])
 }
 
 // Makes the capsule and the long-term medium empty ones with this configuration. The gate of medium 0 decides whether they are
@@ -55,8 +57,7 @@ pub(crate) fn make_all_empty<M: Media>(
     requires capsule { Fits (sizes_of config.now) 0 (get_or (M.disk media.old).sizes 0 0) }
     requires long { Fits (sizes_of config.now) 1 (get_or (M.disk media.old).sizes 1 0) }
     ensures done { OnOk result (All (λ m. Settled m (IsEmptyMedium m config.now text.now) (M.disk media.new)) members) }
-    ensures moments { Durable 0 (M.disk media.old)
-        → FormatsAtEachMoment (M.disk media.old) (M.disk media.new) result (IsEmptyHistoryOf members text.now) }
+    ensures moments { FormatsAtEachMoment (M.disk media.old) (M.disk media.new) result (IsEmptyHistoryOf members text.now) }
     ensures others { M.tells → SameBeside members (λ image. image ≡ (M.disk media.old).reads) (M.disk media.new).reads }
     ensures others_meanwhile { AtEachMoment (M.disk media.old) (M.disk media.new) (SameBeside members (M.disk media.old).now) }
     ensures sizes { (M.disk media.new).sizes ≡ (M.disk media.old).sizes }

@@ -4,7 +4,7 @@
 // refusal and the first write. Where it can't be read nothing is said of the two later tests.
 ghost use Rattle.std.specs.Prelude.{◌≡◌, ◌<◌, ◌≤◌, true, false, length, All, OnOk, IfOk};
 ghost use Rattle.vdr_outside.specs.Causes.{HasCauseOn};
-ghost use Rattle.vdr_outside.specs.Disk.{Durable, Unchanged};
+ghost use Rattle.vdr_outside.specs.Disk.{Unchanged};
 ghost use Rattle.vdr_outside.specs.Moments.{Settled};
 ghost use Rattle.vdr_config.specs.Configuration.{Configuration};
 ghost use Rattle.vdr_media.specs.Medium.{IsEmptyMedium};
@@ -44,7 +44,8 @@ pub fn are_formatted<M: Media>(media: &mut M) -> Result<bool, Failed>
 /// The media have two or three members; a third one is left alone. Refusals are tested in the order of `FormatRefused`, before any
 /// byte is changed: media that are formatted are refused unless they are to be formatted `again`.
 ///
-/// The gate of medium 0, its byte 0, is closed first and opened last, so that a stop in between leaves media that are not formatted.
+/// The gate of medium 0, its byte 0, is closed first and opened last, so that a stop in between leaves media that are not formatted. Before
+/// it is closed that medium is synced, so that a stop leaves what was read of it.
 pub fn format<M: Media>(
     alloc: Global,
     media: &mut M,
@@ -62,9 +63,8 @@ pub fn format<M: Media>(
     ensures done { OnOk result ((c : Configuration)
         × All (λ m. Settled m (IsEmptyMedium m c text.now) (M.disk media.new)) members) }
 
-    // What a stop leaves at each moment, where nothing of medium 0 is unsynced at entry.
-    ensures moments { Durable 0 (M.disk media.old)
-        → FormatsAtEachMoment (M.disk media.old) (M.disk media.new) result (IsEmptyHistoryOf members text.now) }
+    // What a stop leaves at each moment, whatever is unsynced at entry.
+    ensures moments { FormatsAtEachMoment (M.disk media.old) (M.disk media.new) result (IsEmptyHistoryOf members text.now) }
 
     // Other media are as before, as they read and as a stop leaves them.
     ensures writes { WritesToMembers M.Media media.old media.new result }

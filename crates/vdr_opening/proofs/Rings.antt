@@ -1,6 +1,6 @@
 -- What calls that only read leave as it was.
 use Rattle.std.proofs.Common.{◌≡◌, ℕ, List, sym, ◌∙◌, ap, subst, Option, Some, None, IfSome, get_or, length, ◌<◌, ◌+◌, inl, inr, zero, suc, [], ◌∷◌, ◌++◌, set, take, IfNone, arith, get_or-set_same, get_or-set_other, length-set, ◌≤◌, drop, cond, ◌==◌, Result, Err}
-use Rattle.vdr_outside.specs.Disk.{Disk, Image, Unchanged, content}
+use Rattle.vdr_outside.specs.Disk.{Disk, Image, Durable, Unchanged, content}
 use Rattle.vdr_directory.specs.Holds.{HoldsPlaced}
 use Rattle.vdr_directory.specs.Order.{AreInOrder}
 use Rattle.vdr_ring.specs.Rings.{RingState}
@@ -9,7 +9,7 @@ use Rattle.vdr_ring.specs.Damage.{IsIntact}
 use Rattle.vdr_ring.specs.Visits.{HasJudged}
 use Rattle.vdr_directory.specs.Sequence.{Placed}
 use Rattle.vdr_terms.specs.Needs.{slots_in}
-use Rattle.vdr_outside.proofs.Moments.{size_read, unchanged_join}
+use Rattle.vdr_outside.proofs.Moments.{size_read, unchanged_join, unchanged_now}
 use Rattle.vdr_config.specs.Configuration.{Configuration}
 use Rattle.vdr_config.specs.Sizes.{sizes_of}
 use Rattle.vdr_directory.specs.Opening.{AreKnown, Refuses, HasFaultCause, slot_bytes}
@@ -38,6 +38,11 @@ use Rattle.vdr_ring.proofs.Still.{knows_still, reads_still}
 module _ {tells tells_images : Type 0} where
   pub same_content : (m : ℕ) (old new : Disk tells tells_images) → Unchanged old new → tells → content new.reads m ≡ content old.reads m
   same_content m old new same told = ap (λ (i : Image). content i m) (same.reads told)
+
+  pub durable_still : (m : ℕ) (old new : Disk tells tells_images) → Unchanged old new → Durable m old → Durable m new
+  durable_still m old new same durable = record {
+    each = λ i now. durable.each i (unchanged_now old new same i now) ∙ ap (λ (l : Image). content l m) (sym (same.reads (new.shown (new.told i now)).0));
+  }
 
   -- The slot that a ring has loaded was judged, and its medium reads as before.
   pub judged_beside : (ring : RingState) (before now : Disk tells tells_images) → (tells → content now.reads ring.medium ≡ content before.reads ring.medium) → HasJudged ring before → HasJudged ring now

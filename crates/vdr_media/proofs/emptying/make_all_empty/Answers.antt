@@ -5,16 +5,13 @@ use Rattle.vdr_outside.proofs.Counts.{none_falls_join}
 use Rattle.vdr_outside.proofs.Moments.{settled_other}
 use Rattle.vdr_media.specs.Medium.{IsEmptyMedium}
 use Rattle.vdr_media.proofs.Causes.{cause_among, cause_of_error}
-use Rattle.vdr_media.proofs.Formats.{one_zero, zero_one, goes_on, first_moments, all_moments, beside_join, beside_overwritten, beside_changed}
+use Rattle.vdr_media.proofs.Formats.{one_zero, zero_one, goes_on, first_moments, all_moments, beside_join, beside_closed, beside_changed}
 use Rattle.vdr_media.proofs.Two.{all_two, first_of, second_of, not_first, not_second}
-use Rattle.vdr_media.proofs.Unformatted.{as_before_or_closed, closed_as_read}
+use Rattle.vdr_media.proofs.Unformatted.{closed_as_read}
 use Rattle.vdr_media.proofs.emptying.make_all_empty.Goals as goal
 
 pub returns-in_err-unformat-clause-moments : goal.returns-in_err-unformat-clause-moments
-returns-in_err-unformat-clause-moments g c durable = inl (record {
-  failed = c.from_residual.ensures.0;
-  moments = as_before_or_closed _ _ _ durable c.requires.formatted c.unformat.ensures.moments c.unformat.ensures.untouched;
-})
+returns-in_err-unformat-clause-moments g c = inl (record { failed = c.from_residual.ensures.0; moments = c.unformat.ensures.moments })
 
 pub returns-in_err-unformat-clause-others : goal.returns-in_err-unformat-clause-others
 returns-in_err-unformat-clause-others g c told = record {
@@ -25,11 +22,11 @@ returns-in_err-unformat-clause-others g c told = record {
 
 pub returns-in_err-unformat-clause-others_meanwhile :
     goal.returns-in_err-unformat-clause-others_meanwhile
-returns-in_err-unformat-clause-others_meanwhile g c = beside_overwritten _ 0 _ _ not_first c.unformat.ensures.moments
+returns-in_err-unformat-clause-others_meanwhile g c = beside_closed _ _ _ not_first c.unformat.ensures.moments
 
 pub returns-in_err-make_empty-clause-moments : goal.returns-in_err-make_empty-clause-moments
-returns-in_err-make_empty-clause-moments g c durable = inr (goes_on _ _ _ _
-    (as_before_or_closed _ _ _ durable c.requires.formatted c.unformat.ensures.moments c.unformat.ensures.untouched)
+returns-in_err-make_empty-clause-moments g c = inr (goes_on _ _ _ _
+    c.unformat.ensures.moments
     (first_moments c.args.config.now c.args.text.now _ _ (c.in_ok-unformat.ensures.done (λ is. closed_as_read (g.M.Media.disk c.args.media.now) c.requires.room (c.requires.unformatted is))) c.make_empty.ensures.meanwhile))
 
 pub returns-in_err-make_empty-clause-others : goal.returns-in_err-make_empty-clause-others
@@ -42,7 +39,7 @@ returns-in_err-make_empty-clause-others g c told = record {
 pub returns-in_err-make_empty-clause-others_meanwhile :
     goal.returns-in_err-make_empty-clause-others_meanwhile
 returns-in_err-make_empty-clause-others_meanwhile g c =
-    beside_join _ _ _ _ (beside_overwritten _ 0 _ _ not_first c.unformat.ensures.moments) (beside_changed _ 1 _ _ _ not_second c.make_empty.ensures.meanwhile)
+    beside_join _ _ _ _ (beside_closed _ _ _ not_first c.unformat.ensures.moments) (beside_changed _ 1 _ _ _ not_second c.make_empty.ensures.meanwhile)
 
 pub returns-in_err-make_empty-clause-cause : goal.returns-in_err-make_empty-clause-cause
 returns-in_err-make_empty-clause-cause g c = cause_of_error _ 1 _ _ _ _ _ second_of c.unformat.ensures.cause.later c.in_err-make_empty.ensures.cause
@@ -53,11 +50,11 @@ returns-clause-done g c =
     (settled_other 0 1 _ _ _ _ one_zero c.make_empty-2.ensures.meanwhile c.make_empty-2.ensures.others c.in_ok-make_empty.ensures.done)) c.make_empty-2.ensures.done
 
 pub returns-clause-moments : goal.returns-clause-moments
-returns-clause-moments g c durable =
+returns-clause-moments g c =
     let closed = c.in_ok-unformat.ensures.done (λ is. closed_as_read (g.M.Media.disk c.args.media.now) c.requires.room (c.requires.unformatted is)) in
     let kept = settled_other 1 0 _ _ _ _ zero_one c.make_empty.ensures.meanwhile c.make_empty.ensures.others closed in
     inr (goes_on _ _ _ _
-    (as_before_or_closed _ _ _ durable c.requires.formatted c.unformat.ensures.moments c.unformat.ensures.untouched)
+    c.unformat.ensures.moments
     (all_moments c.args.config.now c.args.text.now _ _ closed c.make_empty.ensures.meanwhile c.in_ok-make_empty.ensures.done _ (c.make_empty-2.ensures.moments kept)))
 
 pub returns-clause-others : goal.returns-clause-others
@@ -70,7 +67,7 @@ returns-clause-others g c told = record {
 pub returns-clause-others_meanwhile : goal.returns-clause-others_meanwhile
 returns-clause-others_meanwhile g c =
     beside_join _ _ _ _
-    (beside_join _ _ _ _ (beside_overwritten _ 0 _ _ not_first c.unformat.ensures.moments) (beside_changed _ 1 _ _ _ not_second c.make_empty.ensures.meanwhile))
+    (beside_join _ _ _ _ (beside_closed _ _ _ not_first c.unformat.ensures.moments) (beside_changed _ 1 _ _ _ not_second c.make_empty.ensures.meanwhile))
     (beside_changed _ 0 _ _ _ not_first c.make_empty-2.ensures.meanwhile)
 
 pub returns-clause-cause : goal.returns-clause-cause

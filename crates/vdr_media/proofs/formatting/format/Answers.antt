@@ -6,7 +6,7 @@ use Rattle.vdr_media.specs.Answers.{ReadsOneByte}
 use Rattle.vdr_media.proofs.Causes.{fault_cause, no_fault, rose_among}
 use Rattle.vdr_media.proofs.Formats.{formats_after_reads, formats_unchanged, beside_unchanged, beside_join}
 use Rattle.vdr_media.proofs.Two.{first_of}
-use Rattle.vdr_media.proofs.Unformatted.{unchanged_moments, durable_still}
+use Rattle.vdr_media.proofs.Unformatted.{unchanged_moments}
 use Rattle.vdr_media.proofs.formatting.format.Goals as goal
 use Rattle.vdr_media.proofs.formatting.format.Goals.{else-formatted-via-then-formatted+else-not-again}
 
@@ -30,7 +30,7 @@ returns-in_err-fits-clause-tested g c =
     rw (p.1, p.2) (record { config = search rules; formatted = unless_again _ _ c.else-formatted.either c.in_ok-formatted.ensures.unformatted; small = search rules })
 
 pub returns-in_err-fits-clause-moments : goal.returns-in_err-fits-clause-moments
-returns-in_err-fits-clause-moments g c durable = formats_unchanged _ _ _ _ c.are_formatted.ensures.unchanged c.from_residual-in_err-fits.ensures.0
+returns-in_err-fits-clause-moments g c = formats_unchanged _ _ _ _ c.are_formatted.ensures.unchanged c.from_residual-in_err-fits.ensures.0
 
 pub returns-in_err-fits-clause-writes : goal.returns-in_err-fits-clause-writes
 returns-in_err-fits-clause-writes g c = record {
@@ -48,8 +48,8 @@ returns-in_err-make_all_empty-clause-tested g c =
 
 pub returns-in_err-make_all_empty-clause-moments :
     goal.returns-in_err-make_all_empty-clause-moments
-returns-in_err-make_all_empty-clause-moments g c durable =
-    formats_after_reads _ _ _ c.are_formatted.ensures.unchanged c.make_all_empty.result _ _ (λ is. c.from_residual-in_err-make_all_empty.ensures.0) (c.make_all_empty.ensures.moments (durable_still 0 _ _ c.are_formatted.ensures.unchanged durable))
+returns-in_err-make_all_empty-clause-moments g c =
+    formats_after_reads _ _ _ c.are_formatted.ensures.unchanged c.make_all_empty.result _ _ (λ is. c.from_residual-in_err-make_all_empty.ensures.0) c.make_all_empty.ensures.moments
 
 pub returns-in_err-make_all_empty-clause-writes : goal.returns-in_err-make_all_empty-clause-writes
 returns-in_err-make_all_empty-clause-writes g c = record {
@@ -67,8 +67,8 @@ pub returns-clause-tested : goal.returns-clause-tested
 returns-clause-tested g c = record { config = search rules; formatted = unless_again _ _ c.else-formatted.either c.in_ok-formatted.ensures.unformatted; small = search rules }
 
 pub returns-clause-moments : goal.returns-clause-moments
-returns-clause-moments g c durable =
-    formats_after_reads _ _ _ c.are_formatted.ensures.unchanged (Ok tt) (Ok tt) _ (λ is. is) (c.in_ok-make_all_empty.ensures.moments (durable_still 0 _ _ c.are_formatted.ensures.unchanged durable))
+returns-clause-moments g c =
+    formats_after_reads _ _ _ c.are_formatted.ensures.unchanged (Ok tt) (Ok tt) _ (λ is. is) c.in_ok-make_all_empty.ensures.moments
 
 pub returns-clause-writes : goal.returns-clause-writes
 returns-clause-writes g c = record {

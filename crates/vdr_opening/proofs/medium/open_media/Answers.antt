@@ -3,7 +3,6 @@ use Rattle.std.proofs.lemmas.List.{length_push}
 use Rattle.std.proofs.lemmas.Result.{err_from_is_err_and}
 use Rattle.vdr_outside.proofs.Counts.{none_falls_join}
 use Rattle.vdr_outside.specs.Disk.{Durable}
-use Rattle.vdr_media.proofs.Unformatted.{durable_still}
 use Rattle.vdr_terms.proofs.Results.{same_err}
 use Rattle.vdr_directory.specs.Sequence.{Placed}
 use Rattle.vdr_opening.specs.Answers.{ring_at}
@@ -14,7 +13,7 @@ use Rattle.vdr_ring.specs.Rings.{HoldsNewest}
 use Rattle.vdr_ring.specs.Visits.{HasJudged}
 use Rattle.vdr_opening.proofs.Costs.{IsReadBy, own_bytes, own_still, unread_still}
 use Rattle.vdr_opening.specs.Refusals.{RefusesMedium}
-use Rattle.vdr_opening.proofs.Rings.{all_known, each_read, judged_still, legal_at, legal_still, medium_still, refused_at, carry, each_more, same_content, same_text}
+use Rattle.vdr_opening.proofs.Rings.{all_known, each_read, judged_still, legal_at, legal_still, medium_still, refused_at, carry, each_more, same_content, same_text, durable_still}
 use Rattle.vdr_opening.proofs.medium.open_media.Goals as goal
 use Rattle.vdr_outside.proofs.Moments.{unchanged_join}
 use Rattle.vdr_media.proofs.Two.{all_two, of_each}

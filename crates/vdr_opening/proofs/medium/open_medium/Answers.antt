@@ -1,13 +1,12 @@
 use Rattle.std.proofs.Common.{ℕ, List, inl, inr, refl, sym, subst}
 use Rattle.std.proofs.lemmas.Result.{err_from_is_err_and}
 use Rattle.vdr_outside.proofs.Counts.{none_falls_join}
-use Rattle.vdr_media.proofs.Unformatted.{durable_still}
 use Rattle.vdr_ring.proofs.Faults.{fault_after, fault_passed, no_fault}
 use Rattle.vdr_terms.proofs.Results.{same_err}
 use Rattle.vdr_opening.specs.Media.{HasFront}
 use Rattle.vdr_opening.specs.Parts.{text_of}
 use Rattle.vdr_opening.specs.Refusals.{RefusesConfiguration}
-use Rattle.vdr_opening.proofs.Rings.{same_content, refuses_segments, knows_medium, reads_legal, same_text}
+use Rattle.vdr_opening.proofs.Rings.{same_content, refuses_segments, knows_medium, reads_legal, same_text, durable_still}
 use Rattle.vdr_opening.proofs.Costs.{medium_bytes}
 use Rattle.vdr_opening.proofs.medium.open_medium.Goals as goal
 use Rattle.vdr_outside.proofs.Moments.{unchanged_join}

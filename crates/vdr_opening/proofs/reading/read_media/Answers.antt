@@ -4,12 +4,11 @@ use Rattle.vdr_outside.proofs.Counts.{none_falls_join}
 use Rattle.vdr_outside.specs.Causes.{Rose}
 use Rattle.vdr_outside.specs.Disk.{Image}
 use Rattle.vdr_media.proofs.Two.{first_of}
-use Rattle.vdr_media.proofs.Unformatted.{durable_still}
 use Rattle.vdr_opening.specs.Costs.{ReadsParts}
 use Rattle.vdr_opening.specs.Media.{HoldsContents}
 use Rattle.vdr_opening.proofs.Costs.{gate_byte, more_parts}
 use Rattle.vdr_opening.specs.Refusals.{IsRefused}
-use Rattle.vdr_opening.proofs.Rings.{open_cause, open_failed, passed_damaged}
+use Rattle.vdr_opening.proofs.Rings.{open_cause, open_failed, passed_damaged, durable_still}
 use Rattle.vdr_opening.proofs.reading.read_media.Goals as goal
 use Rattle.vdr_outside.proofs.Moments.{unchanged_join}
 
