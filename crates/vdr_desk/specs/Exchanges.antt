@@ -23,7 +23,8 @@ pub record IsRefused (from to : ℕ) (x : Exchange) : Type 0 where
   pub later : from ≤ to
 
 module _ {E : Type 0} (answers : List E → E → PlainOrder → List ℕ → Type 0) (history : List E) where
-  -- It asks for an order, which is one event of the history, at this place or behind it. The answer is judged by the events before that.
+  -- It asks for an order, which is one event of the history, at this place or behind it, and the last one that was seen as it was answered.
+  -- The answer is judged by the events before that.
   pub record IsOrdered (from to : ℕ) (x : Exchange) : Type 0 where
     pub line : List ℕ
     pub order : PlainOrder
@@ -34,7 +35,7 @@ module _ {E : Type 0} (answers : List E → E → PlainOrder → List ℕ → Ty
     pub behind : List E
     pub split : history ≡ before ++ own ∷ behind
     pub later : from ≤ length before
-    pub next : suc (length before) ≤ to
+    pub next : to ≡ suc (length before)
     pub answered : answers before own order x.text
 
   abbrev pub IsExchanged : (from to : ℕ) → Exchange → Type 0

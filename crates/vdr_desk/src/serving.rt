@@ -20,11 +20,12 @@ use vdr_capture::Cause;
 use vdr_latch::{Latch, LatchPass};
 use vdr_outside::{Heard, Link};
 
-// Answers the lines of a link until it answers that none is left, a call of it fails, or so many calls for a line were made.
+// Answers the lines of the link of the desk of this number until it answers that none is left, a call of it fails, or so many calls for a line were made.
 fn serve<T: Answers, L: Link, R: Wait>(
     rt: &R,
     latch: &Latch<T>,
     alloc: Global,
+    number: usize,
     pass: &mut LatchPass<T::Event>,
     link: &mut L,
     turns: u64,
@@ -32,12 +33,12 @@ fn serve<T: Answers, L: Link, R: Wait>(
     requires latch { pass.old.latch ≡ latch.now }
     requires follows { pass.old.leads ≡ false }
     ensures pass { (pass.new.latch ≡ pass.old.latch) × (pass.new.parts ≡ pass.old.parts) × (pass.new.leads ≡ pass.old.leads) }
-    ensures served { (exchanges : List Exchange) × Converses L.Link turns link.old link.new exchanges result × AreExchanged T.answers pass.new.seen (length pass.old.seen) exchanges (length pass.new.seen) }
+    ensures served { (exchanges : List Exchange) × Converses L.Link turns link.old link.new exchanges result × AreExchanged (T.answers number) pass.new.seen (length pass.old.seen) exchanges (length pass.new.seen) }
 {
     let mut line = ArrayVec::new();
     for _turn in 0..turns {
         let reply = match link.line(&mut line) {
-            Heard::Line => reply_to(rt, latch, alloc, pass, line.as_slice()),
+            Heard::Line => reply_to(rt, latch, alloc, pass, number, line.as_slice()),
             Heard::Long => Reply::no_order(),
             Heard::Quiet => continue,
             Heard::Ended => return Cause::Ended,
@@ -50,27 +51,29 @@ fn serve<T: Answers, L: Link, R: Wait>(
     Cause::Turns
 }
 
-// Serves the link of a desk that holds a pass.
+// Serves the link of the desk of this number, which holds a pass.
 fn serve_desk<T: Answers, L: Link, R: Wait>(
     rt: &R,
     latch: &Latch<T>,
     alloc: Global,
+    number: usize,
     desk: &mut Desk<L, T::Event>,
     turns: u64,
 )
     requires held { (p : Passing T.Event) × (desk.old.pass ≡ Some p) × (p.latch ≡ latch.now) × (p.leads ≡ false) }
-    ensures { Serves L.Link T.answers turns desk.old desk.new }
+    ensures { Serves L.Link (T.answers number) turns desk.old desk.new }
 {
     let Some(mut pass) = desk.pass.take() else {
         unreachable!()
     };
-    let cause = serve(rt, latch, alloc, &mut pass, &mut desk.link, turns);
+    let cause = serve(rt, latch, alloc, number, &mut pass, &mut desk.link, turns);
     desk.pass = Some(pass);
     desk.cause = Some(cause);
 }
 
 /// Serves the links of all desks beside each other, each of which holds a pass that doesn't lead, with at most so many calls for a line
-/// of each. A line that asks for an order is answered in a turn at the latch, and any other line is refused without one.
+/// of each. A line that asks for an order is answered in a turn at the latch, whose event tells which desk asked, by its number. Any other
+/// line is refused without one.
 ///
 /// Each link has a thread of its own, as far as threads can be started. A worker ends where its link answers that no line is left, where a
 /// call of it fails, or after so many calls.
@@ -82,7 +85,7 @@ pub fn serve_all<T: Answers + Send, L: Link + Send, R: Threads + Wait + Sync>(
     turns: u64,
 )
     requires held { (i : ℕ) (d : _) → i < length desks.old → (p : Passing T.Event) × ((slice_index_or desks.old i d).pass ≡ Some p) × (p.latch ≡ latch.now) × (p.leads ≡ false) }
-    ensures each { (i : ℕ) (d : _) → i < length desks.old → Serves L.Link T.answers turns (slice_index_or desks.old i d) (slice_index_or desks.new i d) }
+    ensures each { (i : ℕ) (d : _) → i < length desks.old → Serves L.Link (T.answers i) turns (slice_index_or desks.old i d) (slice_index_or desks.new i d) }
     ensures length { length desks.new ≡ length desks.old }
 {
     let threads = desks.len().max(1);
@@ -90,9 +93,9 @@ pub fn serve_all<T: Answers + Send, L: Link + Send, R: Threads + Wait + Sync>(
         rt,
         desks,
         threads,
-        &|_: usize, desk: &mut Desk<L, T::Event>|
+        &|number: usize, desk: &mut Desk<L, T::Event>|
             requires held { (p : Passing T.Event) × (desk.old.pass ≡ Some p) × (p.latch ≡ latch.now) × (p.leads ≡ false) }
-            ensures { Serves L.Link T.answers turns desk.old desk.new }
-        { serve_desk(rt, latch, alloc, desk, turns) },
+            ensures { Serves L.Link (T.answers number) turns desk.old desk.new }
+        { serve_desk(rt, latch, alloc, number, desk, turns) },
     );
 }

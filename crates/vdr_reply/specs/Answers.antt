@@ -38,6 +38,8 @@ pub record LeavesRest (before after : RecorderState) : Type 0 where
   pub config : after.vault.config ≡ before.vault.config
   pub maker : after.maker ≡ before.maker
   pub is_open : after.is_open ≡ before.is_open
+  pub place : after.vault.next_place ≡ before.vault.next_place
+  pub last : after.vault.last ≡ before.vault.last
 
 -- No count of faults falls. The media have failed only where they had failed before, or the count of one of them rose, and so their sum.
 pub record HasOrderCause (failed failed_after : Bool) (before now : List ℕ) : Type 0 where

@@ -222,7 +222,7 @@ module _ {P : Type 0} (port_tells : PortTells P) {tells tells_images : Type 0} (
         marks = marks;
         began = began;
         besides = besides;
-        missed_rose = λ is. let more = sum_not_less now later falls.same_media falls.none_falls in let rose = k.missed is in omega (arith, more, rose);
+        missed_rose = (let more = sum_not_less now later falls.same_media falls.none_falls in let had = k.missed in omega (arith, more, had));
         lanes = h;
         told_as = subst (λ (b : Began). IsToldAs b outcome) (sym is) told_as;
         rest = rest;

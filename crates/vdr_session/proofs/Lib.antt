@@ -5,6 +5,7 @@ pub mod Served
 pub mod Marked
 pub mod HeldRuns
 pub mod Told
+pub mod Origins
 pub mod Gathered
 pub mod LanesRan
 pub mod LanesFed
@@ -16,6 +17,7 @@ pub mod Starts
 pub mod Faults
 pub mod Closes
 pub mod Ends
+pub mod Refused
 pub mod SessionHistory
 pub mod Sessions
 pub mod Replied

@@ -17,7 +17,7 @@ use Rattle.vdr_session.specs.declared.mark.Did.{Did}
 use Rattle.vdr_session.specs.declared.mark.Did.TheVariants.{Begin, Look}
 use Rattle.vdr_session.specs.declared.mark.Mark.{Mark}
 use Rattle.vdr_session.specs.Events.{added_records, is_started}
-use Rattle.vdr_session.specs.Marks.{IsMarkOf, begins, has_missed, is_begun, misses, taken_by, taken_in}
+use Rattle.vdr_session.specs.Marks.{IsMarkOf, begins, is_begun, taken_by, taken_in}
 use Rattle.vdr_session.specs.Standing.{batch_mark}
 use Rattle.vdr_session.proofs.Marked.{taken_more}
 
@@ -40,9 +40,6 @@ started_more marks m = list_any-append (λ (m : Mark). begins m.did) marks (m �
 
 pub begun_grows : (marks : List Mark) (m : Mark) → is_begun (marks ++ m ∷ []) ≡ (is_begun marks || (begins m.did && is_some m.moment))
 begun_grows marks m = list_any-append (λ (m : Mark). begins m.did && is_some m.moment) marks (m ∷ []) ∙ ap (λ (b : Bool). is_begun marks || b) (or_none (begins m.did && is_some m.moment))
-
-pub missed_more : (marks : List Mark) (m : Mark) → has_missed (marks ++ m ∷ []) ≡ (has_missed marks || misses m.did)
-missed_more marks m = list_any-append (λ (m : Mark). misses m.did) marks (m ∷ []) ∙ ap (λ (b : Bool). has_missed marks || b) (or_none (misses m.did))
 
 pub all_more : (marks : List Mark) (m : Mark) → All (λ m. m.moment ≢ None) marks → m.moment ≢ None → All (λ m. m.moment ≢ None) (marks ++ m ∷ [])
 all_more [] m all some = All-cons (λ (m : Mark). m.moment ≢ None) m [] some (All-nil (λ (m : Mark). m.moment ≢ None))

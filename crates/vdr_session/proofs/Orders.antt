@@ -1,11 +1,12 @@
 -- A recorder under the latch after the order of a desk.
-use Rattle.std.proofs.Common.{◌≡◌, ◌⊎◌, inl, inr, ◌+◌, ◌-◌, ◌^◌, ◌++◌, ◌∷◌, ◌&&◌, is_some, ℕ, Bool, true, false, true≢false, List, [], length, cond, refl, sym, ap, ◌∙◌, subst, arith}
+use Rattle.std.proofs.Common.{◌≡◌, ◌⊎◌, inl, inr, ◌<◌, ◌+◌, ◌-◌, ◌^◌, ◌++◌, ◌∷◌, ◌&&◌, is_some, ℕ, ℤ, Bool, true, false, true≢false, List, [], length, cond, option_map, refl, sym, ap, ◌∙◌, subst, arith}
 use Rattle.std.specs.Prelude.{min, sum}
 use Rattle.std.proofs.lemmas.Bool.{cases_Bool, le-leb, leb-true}
 use Rattle.vdr_terms.specs.Counting.{next_number}
 use Rattle.vdr_terms.specs.declared.rate.Rate.{Rate}
 use Rattle.std.specs.Prelude.{Option}
 use Rattle.vdr_core.specs.Histories.{Act, Event, Opening, records_of_act}
+use Rattle.vdr_core.specs.Runs.{base_after}
 use Rattle.vdr_core.specs.RunStates.{RunState, after_act}
 use Rattle.vdr_core.specs.Taken.{Captured}
 use Rattle.vdr_durability.specs.Replies.{Reply}
@@ -17,6 +18,7 @@ use Rattle.vdr_control.specs.Orders.PlainOrder.{Status, Save, Release, Play}
 use Rattle.vdr_vault.specs.Vaults.{VaultState}
 use Rattle.vdr_run.specs.declared.maker.Maker.{Maker}
 use Rattle.vdr_run.specs.Making.{counted_of}
+use Rattle.vdr_run.specs.Starts.{stamp_of}
 use Rattle.vdr_recorder.specs.Making.{numbers_of}
 use Rattle.vdr_recorder.specs.Recordings.{HasRecorded, RecorderState}
 use Rattle.vdr_recorder.specs.Watched.{DoneAndTold, IsWatched, Watched}
@@ -105,11 +107,11 @@ spelled_so A B (Play medium name from to) vault reply text so (inr (inl h)) = in
 spelled_so A B (Play medium name from to) vault reply text so (inr (inr h)) = inr (inr h)
 
 module _ {tells tells_images : Type 0} (before : Before) (began : Opening → ℕ → Type 0) (rates : List (Option Rate)) (room : ℕ) (sizes faults : List ℕ) (marks : List Mark) (w w' : Watched) (r : RecorderState)
-    (old : Disk tells tells_images) (was : List ℕ) (k : IsKept before began rates room sizes faults marks w r old was) (order : PlainOrder) (text : List ℕ) (after : RecorderState) (new : Disk tells tells_images) (now : List ℕ)
+    (old : Disk tells tells_images) (was : List ℕ) (k : IsKept before began rates room sizes faults marks w r old was) (desk : ℕ) (order : PlainOrder) (text : List ℕ) (after : RecorderState) (new : Disk tells tells_images) (now : List ℕ)
     (watched : IsWatched before.hears w' after new) (home : StaysHome r old was after new now) (rest : LeavesRest r after) (stays : r.vault.failed ≡ true → after.vault.failed ≡ true)
     (answered : (opening : Opening) (events : List Event) (t0 : ℕ) → tells → HasRecorded opening events t0 r old → HasAnswered r.vault.config.channels (Rose (sum was) (sum now)) opening events t0 order text r after old new before.hears w w') where
   abbrev mark : Mark
-  mark = order_mark order r.vault after.vault.failed new.clock (sum was) (sum now)
+  mark = order_mark desk order r.vault after.vault.failed new.clock (sum was) (sum now)
 
   abbrev granted : Bool
   granted = changes order r.vault
@@ -139,6 +141,10 @@ module _ {tells tells_images : Type 0} (before : Before) (began : Opening → �
           },
         );
         idle = λ is. let o = k.stage.idle (sym (started_same marks mark (begins_none granted rose order)) ∙ is) in (rest.is_open ∙ o.0, taken ∙ o.1);
+        ready = λ is. let may = k.stage.ready (sym (started_same marks mark (begins_none granted rose order)) ∙ is) in record {
+          place = subst (λ (n : ℕ). n < 2 ^ 62) (sym rest.place) may.place;
+          base = subst (λ (o : Option (ℕ × ℤ)). base_after (option_map stamp_of o) < 2 ^ 62) (sym rest.last) may.base;
+        };
         whole = λ goes. all_more marks mark (k.stage.whole (lasts goes)) (has_moment after.vault.failed new.clock mark.moment refl goes);
       })
       (λ told opening t0 b.
@@ -151,15 +157,18 @@ module _ {tells tells_images : Type 0} (before : Before) (began : Opening → �
       (ap records_of_act act ∙ records_none opening (events_of opening marks) granted order)
       (λ t. ap (after_act t) act ∙ leaves_state opening (events_of opening marks) granted order t))
 
-  pub order_answers : AnswersMark tells began before.channels marks mark order text
-  order_answers told opening t0 b =
-      let s = k.told told opening t0 b in
-      let a = answered opening (events_of opening marks) t0 told s.has in
-      let act = act_is opening (taken_in marks) (events_of opening marks) granted rose order in
-      let own : event_of opening (taken_in marks) (events_of opening marks) mark ≡ record { act = cond granted (granted_act opening (events_of opening marks) order) Act.Look; moment = mark.moment } =
-      λ i. record { act = act i; moment = mark.moment } in
-      subst (λ (x : List Selector × Event). IsAnswer x.0 (misses mark.did ≡ true) opening (events_of opening marks) x.1 order text) (λ i. (k.channels_are i, sym own i))
-      (record {
-        act_is = a.answer.act_is;
-        text_is = spelled_so (Rose (sum was) (sum now)) (misses mark.did ≡ true) order r.vault _ text (λ none rose_now. missed_so granted rose order none (le-leb (min (sum was + 1) (2 ^ 64 - 1)) (sum now) rose_now)) a.answer.text_is;
-      })
+  pub order_answers : AnswersMark tells began before.channels desk marks mark order text
+  order_answers = (
+    refl,
+    λ told opening t0 b.
+        let s = k.told told opening t0 b in
+        let a = answered opening (events_of opening marks) t0 told s.has in
+        let act = act_is opening (taken_in marks) (events_of opening marks) granted rose order in
+        let own : event_of opening (taken_in marks) (events_of opening marks) mark ≡ record { act = cond granted (granted_act opening (events_of opening marks) order) Act.Look; moment = mark.moment } =
+        λ i. record { act = act i; moment = mark.moment } in
+        subst (λ (x : List Selector × Event). IsAnswer x.0 (misses mark.did ≡ true) opening (events_of opening marks) x.1 order text) (λ i. (k.channels_are i, sym own i))
+        (record {
+          act_is = a.answer.act_is;
+          text_is = spelled_so (Rose (sum was) (sum now)) (misses mark.did ≡ true) order r.vault _ text (λ none rose_now. missed_so granted rose order none (le-leb (min (sum was + 1) (2 ^ 64 - 1)) (sum now) rose_now)) a.answer.text_is;
+        }),
+  )

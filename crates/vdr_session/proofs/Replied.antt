@@ -1,7 +1,6 @@
 -- What was replied at the desks of a session, in its history.
-use Rattle.std.proofs.Common.{◌≡◌, ◌⊎◌, inl, inr, ◌≤◌, ◌<◌, ◌++◌, ◌∷◌, ◌||◌, ℕ, Bool, true, false, true≢false, List, [], None, length, get_or, refl, sym, ap, ◌∙◌, subst, arith, append_assoc, append-nil}
+use Rattle.std.proofs.Common.{◌≡◌, ◌⊎◌, inl, inr, ◌≤◌, ◌<◌, ◌++◌, ◌∷◌, ℕ, Bool, true, false, List, [], None, length, get_or, refl, sym, ap, ◌∙◌, subst, arith, append_assoc, append-nil}
 use Rattle.std.proofs.lemmas.List.{length-append}
-use Rattle.std.proofs.lemmas.List.Folds.{list_any-append}
 use Rattle.vdr_core.specs.Histories.{Event, Opening}
 use Rattle.vdr_core.specs.Taken.{Captured}
 use Rattle.vdr_terms.specs.declared.counts.Counts.{Counts}
@@ -24,13 +23,15 @@ use Rattle.vdr_session.specs.declared.records.Began.{Began}
 use Rattle.vdr_session.specs.declared.records.Began.TheVariants as starts
 use Rattle.vdr_session.specs.Answering.{AnswersMark}
 use Rattle.vdr_session.specs.Closed.{DesksRan}
-use Rattle.vdr_session.specs.Desks.{DesksReplied, DesksTold, HasSpoken}
+use Rattle.vdr_session.specs.Desks.{DeskReplied, DesksReplied, DesksTold, HasSpoken}
 use Rattle.vdr_session.specs.Ended.{EndsRun, IsToldAs, IsWithFailures}
 use Rattle.vdr_session.specs.Events.{event_of, events_along, events_of}
-use Rattle.vdr_session.specs.Marks.{has_missed, misses, taken_by, taken_in}
+use Rattle.vdr_session.specs.Marks.{taken_by, taken_in}
+use Rattle.vdr_session.specs.Origins.{IsAnswerOf, Origin, RoseBy, failures_in, origin_at, origin_of, origins_of}
 use Rattle.vdr_session.specs.Sessions.{is_closed}
 use Rattle.vdr_session.specs.Standing.{Before}
 use Rattle.vdr_session.proofs.SessionHistory.{closed_is_done}
+use Rattle.vdr_session.proofs.Origins.{none_failed, origin_behind}
 use Rattle.vdr_session.proofs.Told.{events_more}
 
 -- the history of marks is a front of that of more
@@ -60,15 +61,6 @@ event_at opening before own behind =
       ap (events_of opening) (sym (append_assoc before (own ∷ []) behind)) ∙ j.1 ∙ r.1 ∙ ap (λ (es : List Event). es ++ r.0) (events_more opening before own)
           ∙ append_assoc (events_of opening before) (e ∷ []) r.0,
     )
-
-or_behind : (b c d : Bool) → c ≡ true → (b || (c || d)) ≡ true
-or_behind true c d e = refl
-or_behind false true d e = refl
-or_behind false false d e = absurd (true≢false (sym e))
-
-missed_at : (marks before : List Mark) (own : Mark) (behind : List Mark) → marks ≡ before ++ own ∷ behind → misses own.did ≡ true → has_missed marks ≡ true
-missed_at marks before own behind split is =
-    ap has_missed split ∙ list_any-append (λ (m : Mark). misses m.did) before (own ∷ behind) ∙ or_behind (has_missed before) (misses own.did) (has_missed behind) is
 
 -- with another cause of a fault
 spelled_so : (A B : Type 0) (order : PlainOrder) (reply : Reply) (text : List ℕ) → (A → B) → Spells A order reply text → Spells B order reply text
@@ -101,10 +93,10 @@ module _ {L : Type 0} (tells : LinkTells L) (turns : ℕ) (media_tells : Type 0)
   old_link : (i : ℕ) (d : Desk L Mark) → i < length orig → (get_or old i d).link ≡ (get_or orig i d).link
   old_link i d low = ap (λ (x : Desk L Mark). x.link) (set i d low)
 
-  spoken : (i : ℕ) (d : Desk L Mark) → i < length orig → (exchanges : List Exchange) × HasSpoken tells turns end (get_or orig i d) (get_or new i d) exchanges × AreExchanged (AnswersMark media_tells opened channels) marks 0 exchanges (length marks)
+  spoken : (i : ℕ) (d : Desk L Mark) → i < length orig → (exchanges : List Exchange) × HasSpoken tells turns end (get_or orig i d) (get_or new i d) exchanges × AreExchanged (AnswersMark media_tells opened channels i) marks 0 exchanges (length marks)
   spoken i d low = by (begun_or_not began)
     where
-      by : (began ≡ starts.Begun) ⊎ (began ≡ starts.Begun → ⊥) → (exchanges : List Exchange) × HasSpoken tells turns end (get_or orig i d) (get_or new i d) exchanges × AreExchanged (AnswersMark media_tells opened channels) marks 0 exchanges (length marks)
+      by : (began ≡ starts.Begun) ⊎ (began ≡ starts.Begun → ⊥) → (exchanges : List Exchange) × HasSpoken tells turns end (get_or orig i d) (get_or new i d) exchanges × AreExchanged (AnswersMark media_tells opened channels i) marks 0 exchanges (length marks)
       by (inl is) =
           let s = (ran.served is i d (omega (arith, low, set_long))).0 in (
             s.exchanges,
@@ -124,31 +116,41 @@ module _ {L : Type 0} (tells : LinkTells L) (turns : ℕ) (media_tells : Type 0)
     each = λ i d low. let s = spoken i d low in (s.0, s.1);
   }
 
-  pub desks_replied : {images : Type 0} (met_fault : Type 0) (missed : has_missed marks ≡ true → met_fault) (before : Before) (t0 : ℕ) (rest : ℕ → Counts) (r : RecorderState) (disk : Disk media_tells images) (w : Watched)
-      → media_tells → (opening : Opening) → opened opening t0 → (run : EndsRun before opening marks t0 rest outcome r disk w) → DesksReplied tells turns channels met_fault end orig new opening run.events
-  desks_replied met_fault missed before t0 rest r disk w told opening opens run i d low =
-      let s = spoken i d low in
-      let long : length marks ≤ length run.events = (let a = ap length run.front in let b = length-append (events_of opening marks) run.behind in let c = as_long opening marks in omega (arith, a, b, c)) in
-      record {
-        exchanges = s.0;
-        spoken = s.1;
-        answered = all_until (IsAnswer channels met_fault opening) run.events 0 (length marks) (length run.events) s.0 long
-            (all_so (AnswersMark media_tells opened channels) (IsAnswer channels met_fault opening) marks run.events at_ 0 (length marks) s.0 s.2);
-      }
+  pub desks_replied : {images : Type 0} (was now : ℕ) (missed : RoseBy (failures_in (origins_of marks)) was now) (before : Before) (t0 : ℕ) (rest : ℕ → Counts) (r : RecorderState) (disk : Disk media_tells images) (w : Watched)
+      → media_tells → (opening : Opening) → opened opening t0 → (run : EndsRun before opening marks t0 rest outcome r disk w) → DesksReplied tells turns channels was now end orig new opening run.events
+  desks_replied was now missed before t0 rest r disk w told opening opens run = record { origins = origins_of marks; failures = missed; each = replied }
     where
-      at_ : (first : List Mark) (own : Mark) (behind : List Mark) → marks ≡ first ++ own ∷ behind
+      at_ : (i : ℕ) (first : List Mark) (own : Mark) (behind : List Mark) → marks ≡ first ++ own ∷ behind
           → (front : List Event) × (event : Event) × (later : List Event) × (run.events ≡ front ++ event ∷ later) × (length front ≡ length first)
-          × ((order : PlainOrder) (text : List ℕ) → AnswersMark media_tells opened channels first own order text → IsAnswer channels met_fault opening front event order text)
-      at_ first own behind split =
+          × ((order : PlainOrder) (text : List ℕ) → AnswersMark media_tells opened channels i first own order text → IsAnswerOf channels (origins_of marks) i opening front event order text)
+      at_ i first own behind split =
           let e = event_at opening first own behind in
-          let event = event_of opening (taken_in first) (events_of opening first) own in (
+          let event = event_of opening (taken_in first) (events_of opening first) own in
+          let origin : origin_at (origins_of marks) (length (events_of opening first)) ≡ origin_of own =
+          (λ k. origin_at (origins_of (split k)) (as_long opening first k)) ∙ origin_behind first own behind (record { desk = None; failed = false }) in (
             events_of opening first,
             event,
             e.0 ++ run.behind,
             run.front ∙ ap (λ (ms : List Mark). events_of opening ms ++ run.behind) split ∙ ap (λ (es : List Event). es ++ run.behind) e.1 ∙ append_assoc (events_of opening first) (event ∷ e.0) run.behind,
             as_long opening first,
-            (λ order text a. answer_so (λ miss. missed (missed_at marks first own behind split miss)) (a told opening t0 opens)),
+            (λ order text a. record {
+              asked = ap (λ (o : Origin). o.desk) origin ∙ a.0;
+              answer = answer_so (λ miss. ap (λ (o : Origin). o.failed) origin ∙ miss) (a.1 told opening t0 opens);
+            }),
           )
+
+      long : length marks ≤ length run.events
+      long = let a = ap length run.front in let b = length-append (events_of opening marks) run.behind in let c = as_long opening marks in omega (arith, a, b, c)
+
+      replied : (i : ℕ) (d : Desk L Mark) → i < length orig → DeskReplied tells turns channels (origins_of marks) i end opening run.events (get_or orig i d) (get_or new i d)
+      replied i d low =
+          let s = spoken i d low in
+          record {
+            exchanges = s.0;
+            spoken = s.1;
+            answered = all_until (IsAnswerOf channels (origins_of marks) i opening) run.events 0 (length marks) (length run.events) s.0 long
+                (all_so (AnswersMark media_tells opened channels i) (IsAnswerOf channels (origins_of marks) i opening) marks run.events (at_ i) 0 (length marks) s.0 s.2);
+          }
 
 -- Desks of which nothing was asked, where there was no memory.
 module _ {L : Type 0} (tells : LinkTells L) (turns : ℕ) (orig new : List (Desk L Mark)) (end : Outcome) (set : (i : ℕ) (d : Desk L Mark) → i < length orig → get_or new i d ≡ record (get_or orig i d) { pass = None; cause = None })
@@ -159,5 +161,9 @@ module _ {L : Type 0} (tells : LinkTells L) (turns : ℕ) (orig new : List (Desk
   pub desks_rested : DesksTold tells turns end orig new
   desks_rested = record { as_many = set_long; each = λ i d low. ([], rested i d low) }
 
-  pub none_replied : (channels : List Selector) (met_fault : Type 0) (opening : Opening) → DesksReplied tells turns channels met_fault end orig new opening []
-  none_replied channels met_fault opening i d low = record { exchanges = []; spoken = rested i d low; answered = omega arith }
+  pub none_replied : (channels : List Selector) (faults : ℕ) (opening : Opening) → DesksReplied tells turns channels faults faults end orig new opening []
+  none_replied channels faults opening = record {
+    origins = [];
+    failures = (let none = none_failed in omega (arith, none));
+    each = λ i d low. record { exchanges = []; spoken = rested i d low; answered = omega arith };
+  }

@@ -27,6 +27,7 @@ use Rattle.vdr_run.specs.Making.{CountsItems}
 use Rattle.vdr_recorder.specs.Recordings.{HasRecorded, RecorderState, start_of_opening}
 use Rattle.vdr_recorder.specs.Watched.{Watched}
 use Rattle.vdr_recorder.proofs.Continuing.{left_place}
+use Rattle.vdr_recorder.proofs.Resting.{stand_reads}
 use Rattle.vdr_desk.proofs.Lists.{no_default}
 use Rattle.vdr_session.specs.declared.mark.Mark.{Mark}
 use Rattle.vdr_session.specs.declared.records.Began.{Began}
@@ -169,6 +170,10 @@ module _ {P : Type 0} (port_tells : PortTells P) {tells tells_images : Type 0} (
           passes = record { later = run.passes.later; each = run.passes.each; before = run.passes.earlier };
           pending = pending_told outcome end.outcome ports run.pending;
           means = outcome_means opening e.began outcome end.outcome e.told_as ports (e.told told opening t0 h).1;
+          reads = λ closed told.
+              let done = closed_is_done outcome end.outcome e.began e.told_as ports closed in
+              let standing = (run.has.works (e.works done.0).1).standing in
+              stand_reads opening run.events r.vault standing.placed disk standing.stands told;
         },
         record {
           are = told_are;
@@ -337,6 +342,7 @@ no_memory_session {P} tells {media_tells} {images} turns capacity rates old new 
           passes = record { later = omega arith; each = λ i since. inl (disk.only_now i since); before = λ t i early since. inl since };
           pending = inl (All-nil (λ (e : Event). e.moment ≢ None));
           means = subst (OutcomeMeans opening) (sym is) tt;
+          reads = λ closed. absurd (true≢false (sym closed ∙ open_));
         },
         record {
           are = subst (λ (o : Outcome). RecordsAre o (start_of_opening opening) [] [] (λ _. none_missed) (recorded [])) (sym is) refl;

@@ -27,12 +27,6 @@ module _ {tells tells_images : Type 0} {before : Before} {opening : Opening} {ma
       ∙ ap base_after (same_stamp (state_left opening (events_of opening marks)).last)
       ∙ ap (λ (start : RunStart). base_after start.last) (s.next works idle)
 
-  pub no_place : 2 ^ 62 ≤ r.vault.next_place → 2 ^ 62 ≤ opening.next_place
-  no_place high = subst (λ (n : ℕ). 2 ^ 62 ≤ n) place_is high
-
-  pub no_tick : (r.vault.next_place < 2 ^ 62) × (2 ^ 62 ≤ base_after (option_map stamp_of r.vault.last)) → (opening.next_place < 2 ^ 62) × (2 ^ 62 ≤ base_after opening.last)
-  no_tick late = (subst (λ (n : ℕ). n < 2 ^ 62) place_is late.0, subst (λ (n : ℕ). 2 ^ 62 ≤ n) base_is late.1)
-
   pub may_begin : {started : Result (Unit {0}) StartRefused} → (started ≡ Err Place) ↔ (2 ^ 62 ≤ r.vault.next_place)
       → (started ≡ Err Tick) ↔ ((r.vault.next_place < 2 ^ 62) × (2 ^ 62 ≤ base_after (option_map stamp_of r.vault.last)))
       → (started ≡ Err Place → ⊥) → (started ≡ Err Tick → ⊥) → MayBegin opening

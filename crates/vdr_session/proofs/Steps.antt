@@ -38,12 +38,14 @@ use Rattle.vdr_session.specs.declared.mark.Did.{Did}
 use Rattle.vdr_session.specs.declared.mark.Did.TheVariants.{Begin, Take, Look}
 use Rattle.vdr_session.specs.declared.mark.Mark.{Mark}
 use Rattle.vdr_session.specs.Events.{act_of, added_records, event_of, events_of, is_started, run_records}
-use Rattle.vdr_session.specs.Marks.{begins, has_missed, is_begun, is_leading, misses, taken_by, taken_in}
-use Rattle.vdr_session.specs.Standing.{AreFew, Before, HasSession, IsAt, IsFresh, IsKept, IsTaking, PassesSince, batch_mark, start_mark}
+use Rattle.vdr_session.specs.Marks.{begins, is_begun, is_leading, misses, taken_by, taken_in}
+use Rattle.vdr_session.specs.Origins.{RoseBy, failures_in, origins_of}
+use Rattle.vdr_session.specs.Standing.{AreFew, Before, HasSession, IsAt, IsFresh, IsKept, IsTaking, MayStart, PassesSince, batch_mark, start_mark}
 use Rattle.vdr_session.proofs.Faults.{none_leads}
 use Rattle.vdr_session.proofs.Marked.{taken_more}
+use Rattle.vdr_session.proofs.Origins.{failures_once, failures_same, none_failed}
 use Rattle.vdr_session.proofs.Told.{events_more}
-use Rattle.vdr_session.proofs.MarkLemmas.{added, all_more, begin_told, begun_none, begun_whole, front_shown, look_told, missed_more, no_moment, started_more, started_same, taken_same_by}
+use Rattle.vdr_session.proofs.MarkLemmas.{added, all_more, begin_told, begun_none, begun_whole, front_shown, look_told, no_moment, started_more, started_same, taken_same_by}
 
 abbrev Possible : Before → Opening → List Event → Image → Type 0
 Possible before opening es i = before.now i ⊎ ShowsPrefix (ShowsHistory opening) es 0 i
@@ -214,23 +216,24 @@ module _ {tells tells_images : Type 0} (before : Before) (began : Opening → �
         (home.rose fails);
     stage = stage;
     channels_are = ap (λ (c : Configuration). c.channels) home.config ∙ k.channels_are;
-    missed = λ is. missed_by (cases_Bool (has_missed marks)) is;
+    missed = missed_by (cases_Bool (misses m.did));
     told = told;
     watched = watched;
   }
     where
-      on_since : Rose (sum was) (sum now) → Rose (sum faults) (sum now)
-      on_since rose = rose_after (sum faults) (sum was) (sum now) (sum_not_less faults was k.later.same_media k.later.none_falls) rose
-
-      missed_by : (has_missed marks ≡ true) ⊎ (has_missed marks ≡ false) → has_missed (marks ++ m ∷ []) ≡ true → Rose (sum faults) (sum now)
-      missed_by (inl had) is = let more = sum_not_less was now home.later.same_media home.later.none_falls in let rose = k.missed had in omega (arith, more, rose)
-      missed_by (inr none) is = on_since (fell (sym (missed_more marks m ∙ ap (λ (b : Bool). b || misses m.did) none) ∙ is))
+      missed_by : (misses m.did ≡ true) ⊎ (misses m.did ≡ false) → RoseBy (failures_in (origins_of (marks ++ m ∷ []))) (sum faults) (sum now)
+      missed_by (inl is) = let one = failures_once marks m is in let rose = fell is in let had = k.missed in omega (arith, one, rose, had)
+      missed_by (inr none) =
+          let same = failures_same marks m none in
+          let more = sum_not_less was now home.later.same_media home.later.none_falls in
+          let had = k.missed in
+          omega (arith, same, more, had)
 
   home_same : StaysHome r old was r old was
   home_same = record { config = refl; rings = k.rings; sizes = refl; later = none_fell was; rose = λ fails. inl fails; elsewhere = λ told n ne ne1. refl }
 
   abbrev look_mark : Mark
-  look_mark = record { did = Look; moment = moment_of r.vault.failed old.clock }
+  look_mark = record { did = Look; moment = moment_of r.vault.failed old.clock; desk = None }
 
   -- a call that touched nothing
   pub look_kept : (w' : Watched) → IsWatched before.hears w' r old → LooksTold before.hears r old w w' → IsKept before began rates room sizes faults (marks ++ look_mark ∷ []) w' r old was
@@ -244,6 +247,7 @@ module _ {tells tells_images : Type 0} (before : Before) (began : Opening → �
           },
         );
         idle = λ is. let o = k.stage.idle (sym (started_same marks look_mark refl) ∙ is) in (o.0, taken_same_by marks look_mark refl ∙ o.1);
+        ready = λ is. k.stage.ready (sym (started_same marks look_mark refl) ∙ is);
         whole = λ goes. all_more marks look_mark (k.stage.whole goes) (has_moment r.vault.failed old.clock look_mark.moment refl goes);
       })
       (λ told opening t0 b.
@@ -259,7 +263,7 @@ module _ {tells tells_images : Type 0} (before : Before) (began : Opening → �
       subst (λ (x : RecorderState × Disk tells tells_images × List ℕ). IsWatched before.hears w' x.0 x.1 → LooksTold before.hears x.0 x.1 w w'
       → IsKept before began rates room sizes faults (marks ++ start_mark r x.0 x.1.clock ∷ []) w' x.0 x.1 x.2)
       (λ i. (sym same i, sym same_disk_ i, sym same_now i))
-      (λ watched looked. subst (λ (did : Did). IsKept before began rates room sizes faults (marks ++ record { did = did; moment = moment_of r.vault.failed old.clock } ∷ []) w' r old was)
+      (λ watched looked. subst (λ (did : Did). IsKept before began rates room sizes faults (marks ++ record { did = did; moment = moment_of r.vault.failed old.clock; desk = None } ∷ []) w' r old was)
       (sym (look_told r closed (cases_Bool r.vault.failed))) (look_kept w' watched looked))
 
   pub batch_look_kept : (items : List Captured) → r.vault.failed ≡ true → (w' : Watched) (after : RecorderState) (new : Disk tells tells_images) (now : List ℕ) → after ≡ r → new ≡ old → now ≡ was
@@ -268,7 +272,7 @@ module _ {tells tells_images : Type 0} (before : Before) (began : Opening → �
       subst (λ (x : RecorderState × Disk tells tells_images × List ℕ). IsWatched before.hears w' x.0 x.1 → LooksTold before.hears x.0 x.1 w w'
       → IsKept before began rates room sizes faults (marks ++ batch_mark r.vault.failed items x.0.vault.failed x.1.clock ∷ []) w' x.0 x.1 x.2)
       (λ i. (sym same i, sym same_disk_ i, sym same_now i))
-      (λ watched looked. subst (λ (did : Did). IsKept before began rates room sizes faults (marks ++ record { did = did; moment = moment_of r.vault.failed old.clock } ∷ []) w' r old was)
+      (λ watched looked. subst (λ (did : Did). IsKept before began rates room sizes faults (marks ++ record { did = did; moment = moment_of r.vault.failed old.clock; desk = None } ∷ []) w' r old was)
       (sym (cond-true r.vault.failed Look (Take items) fails)) (look_kept w' watched looked))
 
   -- no run was begun where none is open
@@ -289,7 +293,7 @@ module _ {tells tells_images : Type 0} (before : Before) (began : Opening → �
 
   module _ (w' : Watched) (after : RecorderState) (new : Disk tells tells_images) (now : List ℕ) (watched : IsWatched before.hears w' after new) (home : StaysHome r old was after new now) (works : r.vault.failed ≡ false) where
     abbrev begin_mark : Mark
-    begin_mark = record { did = Begin; moment = moment_of after.vault.failed new.clock }
+    begin_mark = record { did = Begin; moment = moment_of after.vault.failed new.clock; desk = None }
 
     -- a start that called the media
     pub begin_kept : r.is_open ≡ false
@@ -304,6 +308,7 @@ module _ {tells tells_images : Type 0} (before : Before) (began : Opening → �
         (record {
           open_is = λ is. opened (none.0) is (cases_Bool after.vault.failed);
           idle = λ is. absurd (true≢false (sym started ∙ is));
+          ready = λ is. absurd (true≢false (sym started ∙ is));
           whole = λ goes. all_more marks begin_mark (k.stage.whole works) (has_moment after.vault.failed new.clock begin_mark.moment refl goes);
         })
         (λ told opening t0 b.
@@ -321,12 +326,12 @@ module _ {tells tells_images : Type 0} (before : Before) (began : Opening → �
         → ((opening : Opening) (events : List Event) (t0 : ℕ) → tells → HasRecorded opening events t0 r old → DoneAndTold before.hears opening events t0 (Commit (begun (next_start (state_left opening events))).made []) after old new w w')
         → IsKept before began rates room sizes faults (marks ++ start_mark r after new.clock ∷ []) w' after new now
     start_kept closed how opens done =
-        subst (λ (did : Did). IsKept before began rates room sizes faults (marks ++ record { did = did; moment = moment_of after.vault.failed new.clock } ∷ []) w' after new now)
+        subst (λ (did : Did). IsKept before began rates room sizes faults (marks ++ record { did = did; moment = moment_of after.vault.failed new.clock; desk = None } ∷ []) w' after new now)
         (sym (begin_told r after works how)) (begin_kept closed opens done)
 
     module _ (items : List Captured) where
       abbrev take_mark : Mark
-      take_mark = record { did = Take items; moment = moment_of after.vault.failed new.clock }
+      take_mark = record { did = Take items; moment = moment_of after.vault.failed new.clock; desk = None }
 
       -- a batch that called the media
       pub take_kept : r.is_open ≡ true → after.is_open ≡ true → after.maker.place ≤ r.maker.place + 2 * length items
@@ -351,6 +356,7 @@ module _ {tells tells_images : Type 0} (before : Before) (began : Opening → �
               },
             );
             idle = λ is. absurd (true≢false (sym (started_same marks take_mark refl ∙ started) ∙ is));
+            ready = λ is. absurd (true≢false (sym (started_same marks take_mark refl ∙ started) ∙ is));
             whole = λ goes. all_more marks take_mark (k.stage.whole works) (has_moment after.vault.failed new.clock take_mark.moment refl goes);
           })
           (λ told opening t0 b.
@@ -374,7 +380,7 @@ module _ {tells tells_images : Type 0} (before : Before) (began : Opening → �
           × DoneAndTold before.hears opening events t0 (Commit records items) after old new w w')
           → IsKept before began rates room sizes faults (marks ++ batch_mark r.vault.failed items after.vault.failed new.clock ∷ []) w' after new now
       batch_kept open_was open_is place numbers done =
-          subst (λ (did : Did). IsKept before began rates room sizes faults (marks ++ record { did = did; moment = moment_of after.vault.failed new.clock } ∷ []) w' after new now)
+          subst (λ (did : Did). IsKept before began rates room sizes faults (marks ++ record { did = did; moment = moment_of after.vault.failed new.clock; desk = None } ∷ []) w' after new now)
           (sym (cond-false r.vault.failed Look (Take items) works)) (take_kept open_was open_is place numbers done)
 
 module _ {tells tells_images : Type 0} (before : Before) (began : Opening → ℕ → Type 0) (rates : List (Option Rate)) (room : ℕ) (sizes faults : List ℕ) where
@@ -390,10 +396,10 @@ module _ {tells tells_images : Type 0} (before : Before) (began : Opening → �
 
   -- before any turn
   pub first_kept : (r : RecorderState) (disk : Disk tells tells_images) (now : List ℕ) → (r.vault.config.groups ≡ rates) × (r.vault.config.batch ≡ room) × (length rates ≡ 16)
-      → r.vault.config.channels ≡ before.channels → AreRings r.vault disk.sizes → (r.is_open ≡ false) × (r.vault.failed ≡ false) → disk.sizes ≡ sizes → now ≡ faults
+      → r.vault.config.channels ≡ before.channels → AreRings r.vault disk.sizes → (r.is_open ≡ false) × (r.vault.failed ≡ false) → MayStart r.vault → disk.sizes ≡ sizes → now ≡ faults
       → (before.clock ≡ disk.clock) × ((i : Image) → disk.now i → before.now i) × ((t : ℕ) (i : Image) → disk.since t i → before.since t i) × (disk.reads ≡ before.reads)
       → ((opening : Opening) (t0 : ℕ) → began opening t0 → HasRecorded opening [] t0 r disk) → IsWatched before.hears before.heard r disk → IsKept before began rates room sizes faults [] before.heard r disk now
-  first_kept r disk now config channels rings new sizes_are faults_are was has watched = record {
+  first_kept r disk now config channels rings new may sizes_are faults_are was has watched = record {
     watched = watched;
     rates_are = config.0;
     sixteen = config.2;
@@ -404,8 +410,8 @@ module _ {tells tells_images : Type 0} (before : Before) (began : Opening → �
     later = subst (λ (fs : List ℕ). NoneFalls fs now) faults_are (none_fell now);
     rose = λ fails. absurd (true≢false (sym fails ∙ new.1));
     channels_are = channels;
-    missed = λ is. absurd (true≢false (sym is));
-    stage = record { open_is = λ is. absurd (true≢false (sym is)); idle = λ is. (new.0, refl); whole = λ goes. All-nil (λ (m : Mark). m.moment ≢ None) };
+    missed = (let none = none_failed in let same = ap sum faults_are in omega (arith, none, same));
+    stage = record { open_is = λ is. absurd (true≢false (sym is)); idle = λ is. (new.0, refl); whole = λ goes. All-nil (λ (m : Mark). m.moment ≢ None); ready = λ is. may };
     told = λ told opening t0 b. record {
       has = has opening t0 b;
       made = refl;

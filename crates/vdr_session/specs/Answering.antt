@@ -1,5 +1,5 @@
 -- The orders of a session's desks: what their marks are, and what their answers mean over an opening.
-use Rattle.std.specs.Prelude.{◌≡◌, ◌+◌, ◌-◌, ◌^◌, ℕ, Bool, true, List, cond, min, nat_le}
+use Rattle.std.specs.Prelude.{◌≡◌, ◌+◌, ◌-◌, ◌^◌, ℕ, Bool, true, List, cond, min, nat_le, Some}
 use Rattle.vdr_core.specs.Histories.{Opening}
 use Rattle.vdr_durability.specs.Keeping.{moment_of}
 use Rattle.vdr_config.specs.Configuration.{Selector}
@@ -25,12 +25,12 @@ did_for (Play medium name from to) = dids.Look
 abbrev pub rose_in : (before now : ℕ) → Bool
 rose_in before now = nat_le (min (before + 1) (2 ^ 64 - 1)) now
 
--- The mark of an order, by the vault before it, and the media's counts of faults before and after.
-abbrev pub order_mark : PlainOrder → VaultState → (failed_after : Bool) → (clock faults_before faults_after : ℕ) → Mark
-order_mark order vault failed_after clock faults_before faults_after =
-    record { did = cond (changes order vault) (did_for order) (cond (rose_in faults_before faults_after) dids.Miss dids.Look); moment = moment_of failed_after clock }
+-- The mark of an order of a desk, by the vault before it, and the media's counts of faults before and after.
+abbrev pub order_mark : (desk : ℕ) → PlainOrder → VaultState → (failed_after : Bool) → (clock faults_before faults_after : ℕ) → Mark
+order_mark desk order vault failed_after clock faults_before faults_after =
+    record { did = cond (changes order vault) (did_for order) (cond (rose_in faults_before faults_after) dids.Miss dids.Look); moment = moment_of failed_after clock; desk = Some desk }
 
--- The answer is a function of the history before its mark.
-abbrev pub AnswersMark : (tells : Type 0) (began : Opening → ℕ → Type 0) (channels : List Selector) → List Mark → Mark → PlainOrder → List ℕ → Type 0
-AnswersMark tells began channels history own order text = tells → (opening : Opening) (t0 : ℕ) → began opening t0
-    → IsAnswer channels (misses own.did ≡ true) opening (events_of opening history) (event_of opening (taken_in history) (events_of opening history) own) order text
+-- The mark is this desk's, and the answer is a function of the history before it.
+abbrev pub AnswersMark : (tells : Type 0) (began : Opening → ℕ → Type 0) (channels : List Selector) (desk : ℕ) → List Mark → Mark → PlainOrder → List ℕ → Type 0
+AnswersMark tells began channels desk history own order text = (own.desk ≡ Some desk) × (tells → (opening : Opening) (t0 : ℕ) → began opening t0
+    → IsAnswer channels (misses own.did ≡ true) opening (events_of opening history) (event_of opening (taken_in history) (events_of opening history) own) order text)

@@ -13,8 +13,8 @@ use Rattle.vdr_desk.specs.declared.desk.Desk.{Desk}
 use Rattle.vdr_desk.specs.Desks.{IsLeastFailed as IsLeastFailedDesk}
 use Rattle.vdr_desk.specs.Exchanges.{AreExchanged, Exchange}
 use Rattle.vdr_desk.specs.Links.{Converses}
-use Rattle.vdr_reply.specs.Answers.{IsAnswer}
 use Rattle.vdr_session.specs.declared.mark.Mark.{Mark}
+use Rattle.vdr_session.specs.Origins.{IsAnswerOf, Origin, RoseBy, failures_in}
 use Rattle.vdr_session.specs.Sessions.{IsLeastFailed, is_closed}
 
 module _ {L : Type 0} where
@@ -34,16 +34,18 @@ module _ {L : Type 0} where
   abbrev pub HasSpoken : LinkTells L → ℕ → Outcome → (old new : Desk L Mark) → List Exchange → Type 0
   HasSpoken tells turns outcome old new exchanges = HasConversed tells turns old new exchanges ⊎ ((is_closed outcome ≡ false) × HasRested old new exchanges)
 
-  -- What was answered at a desk stands in the history: each order is one event there, at rising places, and its reply is judged by the
-  -- events before that. A play may be cut short where a call on the media failed.
-  pub record DeskReplied (tells : LinkTells L) (turns : ℕ) (channels : List Selector) (met_fault : Type 0) (outcome : Outcome) (opening : Opening) (events : List Event) (old new : Desk L Mark) : Type 0 where
+  -- What was answered at the desk of this number stands in the history: each order is one event of its own there, at rising places, and its
+  -- reply is judged by the events before that.
+  pub record DeskReplied (tells : LinkTells L) (turns : ℕ) (channels : List Selector) (origins : List Origin) (number : ℕ) (outcome : Outcome) (opening : Opening) (events : List Event) (old new : Desk L Mark) : Type 0 where
     pub exchanges : List Exchange
     pub spoken : HasSpoken tells turns outcome old new exchanges
-    pub answered : AreExchanged (IsAnswer channels met_fault opening) events 0 exchanges (length events)
+    pub answered : AreExchanged (IsAnswerOf channels origins number opening) events 0 exchanges (length events)
 
-  abbrev pub DesksReplied : LinkTells L → ℕ → List Selector → Type 0 → Outcome → (old new : List (Desk L Mark)) → Opening → List Event → Type 0
-  DesksReplied tells turns channels met_fault outcome old new opening events =
-      (i : ℕ) (d : Desk L Mark) → i < length old → DeskReplied tells turns channels met_fault outcome opening events (get_or old i d) (get_or new i d)
+  -- So it is at each desk. No event is an order of two desks, and for each event in which a call failed the media's count of faults rose.
+  pub record DesksReplied (tells : LinkTells L) (turns : ℕ) (channels : List Selector) (faults_before faults_after : ℕ) (outcome : Outcome) (old new : List (Desk L Mark)) (opening : Opening) (events : List Event) : Type 0 where
+    pub origins : List Origin
+    pub failures : RoseBy (failures_in origins) faults_before faults_after
+    pub each : (i : ℕ) (d : Desk L Mark) → i < length old → DeskReplied tells turns channels origins i outcome opening events (get_or old i d) (get_or new i d)
 
   -- What is told of the desks of any media.
   pub record DesksTold (tells : LinkTells L) (turns : ℕ) (outcome : Outcome) (old new : List (Desk L Mark)) : Type 0 where

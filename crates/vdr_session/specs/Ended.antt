@@ -22,7 +22,8 @@ use Rattle.vdr_session.specs.declared.records.Began.TheVariants.{Begun, Place, T
 use Rattle.vdr_session.specs.Closed.{HasClosed}
 use Rattle.vdr_session.specs.Feeding.{AreMissed}
 use Rattle.vdr_session.specs.Events.{events_of, run_records}
-use Rattle.vdr_session.specs.Marks.{has_fault, has_missed, is_begun, taken_in}
+use Rattle.vdr_session.specs.Marks.{has_fault, is_begun, taken_in}
+use Rattle.vdr_session.specs.Origins.{RoseBy, failures_in, origins_of}
 use Rattle.vdr_session.specs.Standing.{Before, PassesSince, StartMeans}
 
 -- What a start and its end are told as. A run that was begun was closed, or the media failed.
@@ -56,7 +57,7 @@ module _ {tells tells_images : Type 0} where
     pub marks : List Mark
     pub began : Began
     pub besides : beside began marks
-    pub missed_rose : has_missed marks ≡ true → Rose (sum faults) (sum now)
+    pub missed_rose : RoseBy (failures_in (origins_of marks)) (sum faults) (sum now)
     pub lanes : HasClosed port_tells turns configured queues takers_before takers_after old new began marks
     pub told_as : IsToldAs began outcome
     pub rest : ℕ → Counts

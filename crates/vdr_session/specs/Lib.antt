@@ -1,4 +1,5 @@
 pub mod Marks
+pub mod Origins
 pub mod Lanes
 pub mod Heads
 pub mod Events

@@ -50,6 +50,7 @@ is_begun marks = list_any (λ m. begins m.did && is_some m.moment) marks
 abbrev pub has_fault : List Mark → Bool
 has_fault marks = list_any (λ m. not (is_some m.moment)) marks
 
+-- A call on the media failed in a turn that changed nothing.
 abbrev pub misses : Did → Bool
 misses Begin = false
 misses (Take items) = false
@@ -57,10 +58,6 @@ misses (Save label) = false
 misses (Release id) = false
 misses Look = false
 misses Miss = true
-
--- A call on the media failed in a turn that changed nothing.
-abbrev pub has_missed : List Mark → Bool
-has_missed marks = list_any (λ m. misses m.did) marks
 
 -- Further items may be taken in a run in which these were: whose records fit a batch of so many bytes, of configured groups, each behind
 -- those of its group.

@@ -1,7 +1,7 @@
 -- What a session of recording leaves, at each moment and in the end: one history, in which each datagram that a port gave, that found room in its
 -- queue and that the rate admits is once, in its port's order, and each other one is counted in a Gap; and media that keep this history
 -- (this project's profile; IEC 61996-1 and IMO MSC.333(90) for the windows that the media keep).
-use Rattle.std.specs.Prelude.{◌≡◌, ◌≢◌, ◌<◌, ◌++◌, ◌⊎◌, ◌&&◌, ℕ, Bool, true, false, List, [], length, get_or, sum, Option, Some, None, is_some, ⊤}
+use Rattle.std.specs.Prelude.{◌≡◌, ◌≢◌, ◌≤◌, ◌<◌, ◌^◌, ◌++◌, ◌⊎◌, ◌&&◌, ℕ, Bool, true, false, List, [], length, get_or, sum, option_map, Option, Some, None, is_some, ⊤}
 use Rattle.vdr_terms.specs.declared.counts.Counts.{Counts}
 use Rattle.vdr_terms.specs.declared.rate.Rate.{Rate}
 use Rattle.vdr_terms.specs.Records.{Item, Record}
@@ -10,20 +10,21 @@ use Rattle.vdr_core.specs.FullCounts.{FullCounts}
 use Rattle.vdr_core.specs.Histories.{Event, IsHistory, Opening, recorded}
 use Rattle.vdr_core.specs.Recorder.{closed_run, recorder_after}
 use Rattle.vdr_core.specs.RunStates.{IsRecorderHistory}
-use Rattle.vdr_core.specs.Runs.{RunStart, base_of}
+use Rattle.vdr_core.specs.Runs.{RunStart, base_after, base_of}
 use Rattle.vdr_core.specs.Taken.{AllFeed, Captured}
 use Rattle.vdr_durability.specs.Keeping.{IsWhole, Keeps}
 use Rattle.vdr_intake.specs.Ends.{QueueId, Taking, full_of}
 use Rattle.vdr_outside.specs.Causes.{NoneFalls, Rose}
 use Rattle.vdr_outside.specs.Disk.{Disk}
 use Rattle.vdr_outside.specs.declared.port.Port.{Ghosts as PortTells}
-use Rattle.vdr_vault.specs.Vaults.{ShowsHistory}
+use Rattle.vdr_vault.specs.Vaults.{ShowsHistory, VaultState}
 use Rattle.vdr_capture.specs.declared.lane.Cause.TheVariants.{Failed}
 use Rattle.vdr_capture.specs.declared.lane.Lane.{Lane}
 use Rattle.vdr_capture.specs.declared.sums.GroupSums.{GroupSums}
 use Rattle.vdr_capture.specs.declared.sums.Outcome.{Outcome}
 use Rattle.vdr_capture.specs.declared.sums.Outcome.TheVariants.{Done, NoMemory, Place, Tick, MediaFault, PortFault, LinkFault}
 use Rattle.vdr_capture.specs.Sums.{sums_of}
+use Rattle.vdr_run.specs.Starts.{stamp_of}
 use Rattle.vdr_recorder.specs.Recordings.{HasRecorded, Passes, RecorderState, start_of_opening}
 use Rattle.vdr_recorder.specs.Refusals.{MayBegin}
 use Rattle.vdr_session.specs.declared.session.SessionEnd.{SessionEnd}
@@ -52,6 +53,40 @@ OutcomeMeans opening Tick = StartMeans opening starts.Tick
 OutcomeMeans opening MediaFault = ⊤
 OutcomeMeans opening (PortFault g) = MayBegin opening
 OutcomeMeans opening (LinkFault i) = MayBegin opening
+
+-- By this next place and this base a run is refused, or begins.
+abbrev pub DecidedBy : (place base : ℕ) → Outcome → Type 0
+DecidedBy place base Done = (place < 2 ^ 62) × (base < 2 ^ 62)
+DecidedBy place base NoMemory = ⊤
+DecidedBy place base Place = 2 ^ 62 ≤ place
+DecidedBy place base Tick = (place < 2 ^ 62) × (2 ^ 62 ≤ base)
+DecidedBy place base MediaFault = ⊤
+DecidedBy place base (PortFault g) = (place < 2 ^ 62) × (base < 2 ^ 62)
+DecidedBy place base (LinkFault i) = (place < 2 ^ 62) × (base < 2 ^ 62)
+
+-- So it is by what the vault tells, whatever is known of the media.
+abbrev pub DecidesSession : VaultState → Outcome → Type 0
+DecidesSession vault outcome = DecidedBy vault.next_place (base_after (option_map stamp_of vault.last)) outcome
+
+-- The run is refused by what the vault tells.
+abbrev pub IsRefusedBy : VaultState → Outcome → Type 0
+IsRefusedBy vault Done = ⊥
+IsRefusedBy vault NoMemory = ⊥
+IsRefusedBy vault Place = DecidesSession vault Place
+IsRefusedBy vault Tick = DecidesSession vault Tick
+IsRefusedBy vault MediaFault = ⊥
+IsRefusedBy vault (PortFault g) = ⊥
+IsRefusedBy vault (LinkFault i) = ⊥
+
+-- The run was not begun, and not for a fault of the media.
+abbrev pub IsUnbegun : Outcome → Type 0
+IsUnbegun Done = ⊥
+IsUnbegun NoMemory = ⊤
+IsUnbegun Place = ⊤
+IsUnbegun Tick = ⊤
+IsUnbegun MediaFault = ⊥
+IsUnbegun (PortFault g) = ⊥
+IsUnbegun (LinkFault i) = ⊥
 
 -- What was recorded, of the items that were taken from the queues, those that were lost as the media failed, and what each port missed at the
 -- end: nothing; or the whole run with its close; or, where the media failed, so much of it.
@@ -123,6 +158,8 @@ module _ {tells tells_images : Type 0} where
     pub passes : Passes opening events before after
     pub pending : IsWhole events ⊎ (outcome ≡ MediaFault)
     pub means : OutcomeMeans opening outcome
+    -- what the media read as after a run that was closed shows all of it
+    pub reads : is_closed outcome ≡ true → tells → ShowsHistory opening events after.reads
 
 -- What its records say of what the ports gave.
 pub record RecordsSession (start : RunStart) (rates : List (Option Rate)) (capacity : ℕ) (given : ℕ → List Item) (rest : ℕ → Counts) (items lost : List Captured) (end : SessionEnd) (records : List Record) : Type 0 where

@@ -1,5 +1,5 @@
 -- A recorder under the latch, after these marks.
-use Rattle.std.specs.Prelude.{◌≡◌, ◌≢◌, ◌≤◌, ◌<◌, ◌⊎◌, ◌+◌, ◌*◌, ◌^◌, ℕ, Bool, true, false, List, [], length, cond, sum, All, Option, None, ⊤}
+use Rattle.std.specs.Prelude.{◌≡◌, ◌≢◌, ◌≤◌, ◌<◌, ◌⊎◌, ◌+◌, ◌*◌, ◌^◌, ℕ, Bool, true, false, List, [], length, cond, sum, All, option_map, Option, None, ⊤}
 use Rattle.vdr_terms.specs.Counting.{next_number}
 use Rattle.vdr_core.specs.Histories.{Event, Opening, recorded}
 use Rattle.vdr_core.specs.RunStates.{next_start, state_left}
@@ -11,8 +11,9 @@ use Rattle.vdr_core.specs.Taken.{Captured}
 use Rattle.vdr_outside.specs.Causes.{NoneFalls, Rose}
 use Rattle.vdr_outside.specs.Disk.{Disk, Image}
 use Rattle.vdr_vault.specs.Calls.{SameElsewhere}
-use Rattle.vdr_vault.specs.Vaults.{AreRings, ShowsHistory}
+use Rattle.vdr_vault.specs.Vaults.{AreRings, ShowsHistory, VaultState}
 use Rattle.vdr_run.specs.Making.{counted_of}
+use Rattle.vdr_run.specs.Starts.{stamp_of}
 use Rattle.vdr_recorder.specs.Making.{numbers_of}
 use Rattle.vdr_recorder.specs.Recordings.{HasRecorded, RecorderState, start_of_opening}
 use Rattle.vdr_recorder.specs.Refusals.{MayBegin}
@@ -22,18 +23,25 @@ use Rattle.vdr_session.specs.declared.mark.Did.TheVariants.{Begin, Take, Look}
 use Rattle.vdr_session.specs.declared.records.Began.{Began}
 use Rattle.vdr_session.specs.declared.records.Began.TheVariants.{Begun, Place, Tick, Fault}
 use Rattle.vdr_session.specs.Events.{events_of, is_started, run_records}
-use Rattle.vdr_session.specs.Marks.{has_missed, is_begun, taken_in}
+use Rattle.vdr_session.specs.Marks.{is_begun, taken_in}
+use Rattle.vdr_session.specs.Origins.{RoseBy, failures_in, origins_of}
 
 -- The places and numbers of the run stay small: an item takes two places at most, and its numbers.
 pub record AreFew (marks : List Mark) (r : RecorderState) : Type 0 where
   pub place : r.maker.place ≤ 2 ^ 62 + 2 * length (taken_in marks)
   pub numbers : (g : ℕ) → g < 16 → next_number (counted_of r.maker g).pending ≤ numbers_of g (taken_in marks)
 
--- Whether a run is open, and how far it is.
+-- A run may begin by what the vault tells: its first place and its base are below 2^62.
+pub record MayStart (vault : VaultState) : Type 0 where
+  pub place : vault.next_place < 2 ^ 62
+  pub base : base_after (option_map stamp_of vault.last) < 2 ^ 62
+
+-- Whether a run is open, how far it is, and that none is refused yet where none was begun.
 pub record IsAt (marks : List Mark) (r : RecorderState) : Type 0 where
   pub open_is : is_begun marks ≡ true → (r.is_open ≡ true) × AreFew marks r
   pub idle : is_started marks ≡ false → (r.is_open ≡ false) × (taken_in marks ≡ [])
   pub whole : r.vault.failed ≡ false → All (λ m. m.moment ≢ None) marks
+  pub ready : is_started marks ≡ false → MayStart r.vault
 
 -- The media as the session began: what a stop might have left of them then.
 pub record Before : Type 1 where
@@ -51,6 +59,11 @@ StartMeans opening Begun = MayBegin opening
 StartMeans opening Place = 2 ^ 62 ≤ opening.next_place
 StartMeans opening Tick = (opening.next_place < 2 ^ 62) × (2 ^ 62 ≤ base_after opening.last)
 StartMeans opening Fault = ⊤
+
+-- A start was not refused.
+pub record IsNoRefusal (began : Began) : Type 0 where
+  pub place : began ≡ Place → ⊥
+  pub tick : began ≡ Tick → ⊥
 
 module _ {tells tells_images : Type 0} where
   -- At every moment since then a stop leaves what it might have left then, or what shows the first of these events.
@@ -81,7 +94,7 @@ module _ {tells tells_images : Type 0} where
     pub rose : r.vault.failed ≡ true → Rose (sum faults) (sum now)
     pub stage : IsAt marks r
     pub channels_are : r.vault.config.channels ≡ before.channels
-    pub missed : has_missed marks ≡ true → Rose (sum faults) (sum now)
+    pub missed : RoseBy (failures_in (origins_of marks)) (sum faults) (sum now)
     pub told : tells → (opening : Opening) (t0 : ℕ) → began opening t0 → HasSession before opening marks t0 r disk w
     pub watched : IsWatched before.hears w r disk
 
@@ -103,8 +116,8 @@ module _ {tells tells_images : Type 0} where
 
 -- The mark of a batch: a look where the media had failed before.
 abbrev pub batch_mark : (failed : Bool) → List Captured → (failed_after : Bool) → ℕ → Mark
-batch_mark failed items failed_after clock = record { did = cond failed Look (Take items); moment = moment_of failed_after clock }
+batch_mark failed items failed_after clock = record { did = cond failed Look (Take items); moment = moment_of failed_after clock; desk = None }
 
 -- The mark of a start: it began the run, or met a fault in it; else it was refused.
 abbrev pub start_mark : RecorderState → RecorderState → ℕ → Mark
-start_mark old new clock = record { did = cond old.vault.failed Look (cond new.is_open Begin (cond new.vault.failed Begin Look)); moment = moment_of new.vault.failed clock }
+start_mark old new clock = record { did = cond old.vault.failed Look (cond new.is_open Begin (cond new.vault.failed Begin Look)); moment = moment_of new.vault.failed clock; desk = None }

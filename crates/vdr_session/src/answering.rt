@@ -11,9 +11,9 @@ impl<'a, 'b, M: Media, W: Watch<M>, O: Lent> Answers for Kept<'a, 'b, M, W, O> {
     ghost use Rattle.std.specs.Prelude.{sum};
     ghost use Rattle.vdr_session.specs.Answering.{AnswersMark, order_mark};
 
-    ghost event = { λ k order _ l. order_mark order k.recorder.vault l.recorder.vault.failed (M.disk l.media.now).clock (sum (M.faults k.media.now)) (sum (M.faults l.media.now)) };
+    ghost event = { λ desk k order _ l. order_mark desk order k.recorder.vault l.recorder.vault.failed (M.disk l.media.now).clock (sum (M.faults k.media.now)) (sum (M.faults l.media.now)) };
 
-    ghost answers = { λ history own order text. AnswersMark M.tells O.began O.channels history own order text };
+    ghost answers = { λ desk history own order text. AnswersMark M.tells O.began O.channels desk history own order text };
 
     fn answer(&mut self, alloc: Global, order: Order<'_>) -> Reply {
         answer(alloc, &mut self.recorder, self.media, self.watch, order)

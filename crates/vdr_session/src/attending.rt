@@ -64,7 +64,7 @@ fn run_beside<
     ensures joined { StayJoined takers.old takers.new }
     ensures room { room / least_item ≤ batch.new.items.capacity }
     ensures empty { batch.new.items.items ≡ [] }
-    ensures each { (i : ℕ) (d : _) → i < length desks.old → Serves L.Link T.answers turns (slice_index_or desks.old i d) (slice_index_or desks.new i d) }
+    ensures each { (i : ℕ) (d : _) → i < length desks.old → Serves L.Link (T.answers i) turns (slice_index_or desks.old i d) (slice_index_or desks.new i d) }
     ensures as_many { length desks.new ≡ length desks.old }
 {
     let (works, _) = join_mut(
@@ -92,7 +92,7 @@ fn run_beside<
         { capture_and_record(rt, latch, pass, lanes, turns, queues, takers, batch, room) },
         &mut ||
             requires held { (i : ℕ) (d : _) → i < length desks.now → (p : Passing Marked) × ((slice_index_or desks.now i d).pass ≡ Some p) × (p.latch ≡ latch.now) × (p.leads ≡ false) }
-            ensures each { (i : ℕ) (d : _) → i < length desks.entry.now → Serves L.Link T.answers turns (slice_index_or desks.entry.now i d) (slice_index_or desks.exit.now i d) }
+            ensures each { (i : ℕ) (d : _) → i < length desks.entry.now → Serves L.Link (T.answers i) turns (slice_index_or desks.entry.now i d) (slice_index_or desks.exit.now i d) }
             ensures as_many { length desks.exit.now ≡ length desks.entry.now }
         { serve_all(rt, latch, alloc, desks, turns) },
     );
@@ -139,7 +139,7 @@ pub(crate) fn record_and_serve<
     ensures joined { StayJoined takers.old takers.new }
     ensures room { room / least_item ≤ batch.new.items.capacity }
     ensures empty { batch.new.items.items ≡ [] }
-    ensures desks { (i : ℕ) (d : _) → i < length desks.old → HasServed L.Link T.answers turns 0 pass.new.seen (slice_index_or desks.old i d) (slice_index_or desks.new i d) × ((slice_index_or desks.new i d).pass ≡ None) }
+    ensures desks { (i : ℕ) (d : _) → i < length desks.old → HasServed L.Link (T.answers i) turns 0 pass.new.seen (slice_index_or desks.old i d) (slice_index_or desks.new i d) × ((slice_index_or desks.new i d).pass ≡ None) }
     ensures as_many { length desks.new ≡ length desks.old }
 {
     split_desks(latch, pass, desks);

@@ -12,17 +12,18 @@ ghost use Rattle.vdr_recorder.specs.Watched.{IsWatched};
 ghost use Rattle.vdr_outside.specs.Disk.{Image};
 ghost use Rattle.vdr_durability.specs.Commits.{largest_item, least_item};
 ghost use Rattle.vdr_intake.specs.Items.{most_items};
-ghost use Rattle.vdr_session.specs.declared.records.Began.TheVariants as starts;
 ghost use Rattle.vdr_session.specs.Answering.{AnswersMark};
 ghost use Rattle.vdr_session.specs.Closed.{DesksRan};
-ghost use Rattle.vdr_session.specs.Ended.{HasEnded, IsToldAs};
+ghost use Rattle.vdr_session.specs.Ended.{HasEnded};
 ghost use Rattle.vdr_session.specs.Ran.{LaneIsReady};
+ghost use Rattle.vdr_session.specs.Sessions.{DecidesSession, IsUnbegun};
 
 use crate::kept::Lent;
 use crate::lent::{Recorded, record_lent};
 use crate::making::Memory;
 use crate::mark::Mark;
 use crate::records::Began;
+use crate::refusing::refusal;
 use crate::summing::rest_of;
 use std::alloc::Global;
 use std::sync::Wait;
@@ -39,20 +40,8 @@ pub(crate) struct Ended {
     pub outcome: Outcome,
 }
 
-// How a run that was not begun is told.
-fn refused(began: Began) -> Outcome
-    requires { began ≡ starts.Begun → ⊥ }
-    ensures { IsToldAs began result }
-{
-    match began {
-        Began::Place => Outcome::Place,
-        Began::Tick => Outcome::Tick,
-        Began::Begun | Began::Fault => Outcome::MediaFault,
-    }
-}
-
-/// The session with this recorder, and the close of its run where that was begun, on media that come back. None where there is no memory for the
-/// latch: nothing was called then.
+/// The session with this recorder, and the close of its run where that was begun, on media that come back. Where the run is refused nothing is
+/// called, nor where there is no memory for the latch, which is answered by None.
 pub(crate) fn run_lent<
     'a,
     'b,
@@ -96,9 +85,14 @@ pub(crate) fn run_lent<
     ensures same_watch { result.1.ghost_name ≡ watch.entry.ghost_name }
     ensures ended { IfSome result.2 (λ e. HasEnded P.Port turns (λ g. is_configured (limits_in O.rates g)) memory.old.queues memory.old.takers memory.new.takers lanes.old lanes.new
         (record { clock = O.clock; now = O.now; since = O.since; reads = O.reads; channels = O.channels; hears = W.hears; heard = O.heard }) O.began O.sizes O.faults (λ began marks. DesksRan L.Link (AnswersMark M.tells O.began O.channels) turns desks.old desks.new began marks) e.outcome e.recorder (M.disk result.0.now) (M.faults result.0.now) (W.seen result.1.now)) }
+    ensures unbegun { IfSome result.2 (λ e. IsUnbegun e.outcome → (result.0.now ≡ media.entry.now) × (lanes.new ≡ lanes.old)) }
+    ensures decides { IfSome result.2 (λ e. DecidesSession recorder.vault e.outcome) }
     ensures queues { memory.new.queues ≡ memory.old.queues }
     ensures refused { result.2 ≡ None → (result.0.now ≡ media.entry.now) × (lanes.new ≡ lanes.old) × (desks.new ≡ desks.old) × (result.1.now ≡ watch.entry.now) }
 {
+    if let Some(outcome) = refusal(&recorder) {
+        return (media, watch, Some(Ended { recorder, outcome }));
+    }
     let (media, watch, recorded) = record_lent::<M, W, P, L, O, R>(
         rt,
         alloc,
@@ -123,7 +117,7 @@ pub(crate) fn run_lent<
         return (media, watch, None);
     };
     let Began::Begun = began else {
-        let outcome = refused(began);
+        let outcome = Outcome::MediaFault;
         return (media, watch, Some(Ended { recorder, outcome }));
     };
     let outcome = match recorder.stop_watched(media, watch, &rest_of(lanes, &memory.queues)) {

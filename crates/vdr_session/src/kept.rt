@@ -108,7 +108,7 @@ impl<'a, 'b, M: Media, W: Watch<M>, O: Lent> Stepped for Kept<'a, 'b, M, W, O> {
 impl<'a, 'b, M: Media, W: Watch<M>, O: Lent> Records for Kept<'a, 'b, M, W, O> {
     ghost use Rattle.vdr_terms.specs.Rates.{is_configured};
     ghost use Rattle.vdr_config.specs.Sizes.{limits_in};
-    ghost use Rattle.vdr_session.specs.Standing.{IsFresh, IsTaking, StartMeans, batch_mark, start_mark};
+    ghost use Rattle.vdr_session.specs.Standing.{IsFresh, IsNoRefusal, IsTaking, StartMeans, batch_mark, start_mark};
     ghost use Rattle.vdr_core.specs.Histories.{Opening};
     ghost use Rattle.std.specs.Prelude.{ℕ};
 
@@ -122,7 +122,7 @@ impl<'a, 'b, M: Media, W: Watch<M>, O: Lent> Records for Kept<'a, 'b, M, W, O> {
 
     ghost fresh = { λ k. IsFresh W.hears (W.seen k.watch.now) k.recorder (M.disk k.media.now) };
 
-    ghost means = { λ began. M.tells → (opening : Opening) (t0 : ℕ) → O.began opening t0 → StartMeans opening began };
+    ghost means = { λ began. IsNoRefusal began × (M.tells → (opening : Opening) (t0 : ℕ) → O.began opening t0 → StartMeans opening began) };
 
     ghost start = { λ k l. start_mark k.recorder l.recorder (M.disk l.media.now).clock };
 

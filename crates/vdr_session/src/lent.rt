@@ -13,7 +13,7 @@ ghost use Rattle.vdr_session.specs.declared.mark.Mark.{Mark as Marked};
 ghost use Rattle.vdr_session.specs.Answering.{AnswersMark};
 ghost use Rattle.vdr_session.specs.Closed.{DesksRan, HasClosed};
 ghost use Rattle.vdr_session.specs.Ran.{LaneIsReady};
-ghost use Rattle.vdr_session.specs.Standing.{IsKept, StartMeans};
+ghost use Rattle.vdr_session.specs.Standing.{IsKept, IsNoRefusal, MayStart, StartMeans};
 
 use crate::batch::Batch;
 use crate::kept::{Kept, Lent};
@@ -71,6 +71,7 @@ pub(crate) fn record_lent<
     requires channels { recorder.vault.config.channels ≡ O.channels }
     requires rings { AreRings recorder.vault (M.disk media.old).sizes }
     requires new { (recorder.is_open ≡ false) × (recorder.vault.failed ≡ false) }
+    requires may { MayStart recorder.vault }
     requires sizes { (M.disk media.old).sizes ≡ O.sizes }
     requires faults { M.faults media.old ≡ O.faults }
     requires turns { turns ≤ most_items }
@@ -85,7 +86,7 @@ pub(crate) fn record_lent<
         × IsKept (record { clock = O.clock; now = O.now; since = O.since; reads = O.reads; channels = O.channels; hears = W.hears; heard = O.heard }) O.began O.rates O.room O.sizes O.faults marks (W.seen result.1.now) r.recorder (M.disk result.0.now) (M.faults result.0.now)
         × HasClosed P.Port turns (λ g. is_configured (limits_in O.rates g)) queues.now takers.old takers.new lanes.old lanes.new r.began marks
         × DesksRan L.Link (AnswersMark M.tells O.began O.channels) turns desks.old desks.new r.began marks
-        × (M.tells → (opening : Opening) (t0 : ℕ) → O.began opening t0 → StartMeans opening r.began)) }
+        × IsNoRefusal r.began × (M.tells → (opening : Opening) (t0 : ℕ) → O.began opening t0 → StartMeans opening r.began)) }
     ensures refused { result.2 ≡ None → (result.0.now ≡ media.entry.now) × (lanes.new ≡ lanes.old) × (desks.new ≡ desks.old) × (takers.new ≡ takers.old) × (result.1.now ≡ watch.entry.now) }
 {
     let kept = Kept::<M, W, O> {

@@ -19,6 +19,7 @@ mod ports_alone;
 mod recording;
 mod recording_loop;
 mod records;
+mod refusing;
 mod running;
 mod session;
 mod summing;

@@ -59,7 +59,7 @@ pub fn record<M: Media + Send, P: Port + Send, R: Threads + Wait + Sync>(
     requires turns { turns ≤ most_items }
     ensures session { Session P.Port turns recorder.vault.config.queue recorder.vault.config.groups lanes.old lanes.new recorder (M.disk media.old) (M.disk media.new) result }
     ensures ports { PortsTold result.outcome lanes.new }
-    ensures ends { EndsSession M.Media recorder.vault.config.groups lanes.old lanes.new media.old media.new result }
+    ensures ends { EndsSession M.Media recorder.vault lanes.old lanes.new media.old media.new result }
 {
     let mut none: [Desk<NoLine, Mark>; 0] = [];
     record_at_desks(

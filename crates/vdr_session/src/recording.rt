@@ -1,7 +1,6 @@
 // A recording session over ports, with desks.
 ghost use Rattle.std.specs.Prelude.{◌≡◌, ◌≤◌, ◌<◌, ◌^◌, ℕ, [], None, false, length, replicate, slice_index_or, sum};
 ghost use Rattle.vdr_intake.specs.Items.{most_items};
-ghost use Rattle.vdr_outside.specs.Causes.{Rose};
 ghost use Rattle.vdr_vault.specs.Calls.{SameElsewhere};
 ghost use Rattle.vdr_vault.specs.Vaults.{AreRings};
 ghost use Rattle.vdr_capture.specs.declared.sums.Outcome.TheVariants.{NoMemory};
@@ -10,7 +9,7 @@ ghost use Rattle.vdr_session.specs.declared.records.Began.{Began as HowBegun};
 ghost use Rattle.vdr_session.specs.Calls.{AreByGroup, EndsSession, MayRecord};
 ghost use Rattle.vdr_session.specs.Desks.{DesksReplied, DesksTold, FailureTold};
 ghost use Rattle.vdr_session.specs.Ended.{IsToldAs, IsWithFailures};
-ghost use Rattle.vdr_session.specs.Sessions.{HasGroups, HasSessionCause, SessionWith};
+ghost use Rattle.vdr_session.specs.Sessions.{DecidesSession, HasGroups, HasSessionCause, IsUnbegun, SessionWith};
 
 use crate::SessionEnd;
 use crate::ending::{Ended, run_lent};
@@ -95,12 +94,13 @@ fn record_and_reply<
     requires watched { IsWatched W.hears (W.seen watch.old) recorder (M.disk media.old) }
     requires turns { turns ≤ most_items }
     ensures session { SessionWith P.Port turns recorder.vault.config.queue recorder.vault.config.groups lanes.old lanes.new recorder (M.disk media.old) (M.disk media.new) result
-        (λ opening events. DesksReplied L.Link turns recorder.vault.config.channels (Rose (sum (M.faults media.old)) (sum (M.faults media.new))) result.outcome desks.old desks.new opening events
+        (λ opening events. DesksReplied L.Link turns recorder.vault.config.channels (sum (M.faults media.old)) (sum (M.faults media.new)) result.outcome desks.old desks.new opening events
         × Tells W.hears opening [] events (W.seen watch.old) (W.seen watch.new)) }
     ensures desks { DesksTold L.Link turns result.outcome desks.old desks.new }
     ensures failures { FailureTold result.outcome lanes.new desks.new }
     ensures groups { HasGroups recorder.vault.config.groups result }
-    ensures memory { result.outcome ≡ NoMemory → (media.new ≡ media.old) × ((g : ℕ) (d : _) → g < 16 → (slice_index_or lanes.new g d).port ≡ (slice_index_or lanes.old g d).port) }
+    ensures decides { DecidesSession recorder.vault result.outcome }
+    ensures unbegun { IsUnbegun result.outcome → (media.new ≡ media.old) × ((g : ℕ) (d : _) → g < 16 → (slice_index_or lanes.new g d).port ≡ (slice_index_or lanes.old g d).port) }
     ensures others { M.tells → SameElsewhere (M.disk media.old).reads (M.disk media.new).reads }
     ensures sizes { (M.disk media.new).sizes ≡ (M.disk media.old).sizes }
     ensures cause { HasSessionCause (M.faults media.old) (M.faults media.new) result.outcome }
@@ -145,7 +145,7 @@ fn record_and_reply<
 /// that. The watch is told of each turn at its end, before its reply. A play takes memory for its page, and is answered `FAULT 9` where there is none. Once all captures and desks have ended and all
 /// queues are empty the run is closed by its closing Gaps and Stop.
 ///
-/// `NoMemory`: nothing was called. `Place`, `Tick`: the next place, or the tick of the Start, is at least 2^62, and nothing is recorded. `MediaFault`: the
+/// `NoMemory`: nothing was called. `Place`, `Tick`: the next place, or the tick of the Start, is at least 2^62, and nothing was called. `MediaFault`: the
 /// count of faults of a medium rose; the recording ends there, the captures and the desks go on to their ends, and what was recorded before
 /// stays. `PortFault`: the run was closed, and the port of this group failed, the least where several did. `LinkFault`: the run was closed, no
 /// port failed, and the link of this desk did, the least where several did.
@@ -171,11 +171,11 @@ pub fn record_at_desks<
     requires watched { IsWatched W.hears (W.seen watch.old) recorder (M.disk media.old) }
     requires turns { turns ≤ most_items }
     ensures session { SessionWith P.Port turns recorder.vault.config.queue recorder.vault.config.groups lanes.old lanes.new recorder (M.disk media.old) (M.disk media.new) result
-        (λ opening events. DesksReplied L.Link turns recorder.vault.config.channels (Rose (sum (M.faults media.old)) (sum (M.faults media.new))) result.outcome desks.old desks.new opening events
+        (λ opening events. DesksReplied L.Link turns recorder.vault.config.channels (sum (M.faults media.old)) (sum (M.faults media.new)) result.outcome desks.old desks.new opening events
         × Tells W.hears opening [] events (W.seen watch.old) (W.seen watch.new)) }
     ensures desks { DesksTold L.Link turns result.outcome desks.old desks.new }
     ensures failures { FailureTold result.outcome lanes.new desks.new }
-    ensures ends { EndsSession M.Media recorder.vault.config.groups lanes.old lanes.new media.old media.new result }
+    ensures ends { EndsSession M.Media recorder.vault lanes.old lanes.new media.old media.new result }
 {
     record_and_reply(rt, alloc, recorder, media, watch, lanes, desks, turns)
 }

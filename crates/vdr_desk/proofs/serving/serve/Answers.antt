@@ -27,20 +27,20 @@ pub returns-then-is_err-clause-served : goal.returns-then-is_err-clause-served
 returns-then-is_err-clause-served g c =
     let i = c.loop-turn.invariant in
     let start = length c.args.pass.now.seen in
-    let step : IsAnswered g.T.Answers.answers (g.L.Link.left c.args.link.now) (g.L.Link.left c.line.new.self) i.exchanges start c.match-line.pass.seen c.match-line.reply =
+    let step : IsAnswered (g.T.Answers.answers c.args.number) (g.L.Link.left c.args.link.now) (g.L.Link.left c.line.new.self) i.exchanges start c.match-line.pass.seen c.match-line.reply =
     elim c.match-line.branch [
       | in-Line w ↦
           (let e = w.in-Line.ensures in
           let r = w.reply_to-reply.ensures in
-          subst (λ (x : Passing g.row.T-Event.Denot × List ℕ). IsAnswered g.T.Answers.answers (g.L.Link.left c.args.link.now) (g.L.Link.left c.line.new.self) i.exchanges start x.0.seen x.1)
+          subst (λ (x : Passing g.row.T-Event.Denot × List ℕ). IsAnswered (g.T.Answers.answers c.args.number) (g.L.Link.left c.args.link.now) (g.L.Link.left c.line.new.self) i.exchanges start x.0.seen x.1)
           (λ k. (sym w.pass-is k, sym w.reply-is k))
-          (line_answered g.T.Answers.answers (g.L.Link.left c.args.link.now) (g.L.Link.left c.loop-turn.link) (g.L.Link.left c.line.new.self) i.exchanges start c.loop-turn.pass.seen w.reply_to-reply.new.pass.seen
+          (line_answered (g.T.Answers.answers c.args.number) (g.L.Link.left c.args.link.now) (g.L.Link.left c.loop-turn.link) (g.L.Link.left c.line.new.self) i.exchanges start c.loop-turn.pass.seen w.reply_to-reply.new.pass.seen
           c.line.new.into.items w.reply_to-reply.result i.heard i.answered e.heard r.seen
-          (subst (λ (l : List ℕ). IsExchanged g.T.Answers.answers w.reply_to-reply.new.pass.seen (length c.loop-turn.pass.seen) (length w.reply_to-reply.new.pass.seen) (record { line = Some l; text = w.reply_to-reply.result })) w.as_slice.ensures.value r.exchanged)))
+          (subst (λ (l : List ℕ). IsExchanged (g.T.Answers.answers c.args.number) w.reply_to-reply.new.pass.seen (length c.loop-turn.pass.seen) (length w.reply_to-reply.new.pass.seen) (record { line = Some l; text = w.reply_to-reply.result })) w.as_slice.ensures.value r.exchanged)))
       | in-Long w ↦
-          (subst (λ (x : Passing g.row.T-Event.Denot × List ℕ). IsAnswered g.T.Answers.answers (g.L.Link.left c.args.link.now) (g.L.Link.left c.line.new.self) i.exchanges start x.0.seen x.1)
+          (subst (λ (x : Passing g.row.T-Event.Denot × List ℕ). IsAnswered (g.T.Answers.answers c.args.number) (g.L.Link.left c.args.link.now) (g.L.Link.left c.line.new.self) i.exchanges start x.0.seen x.1)
           (λ k. (sym w.pass-is k, sym w.reply-is k))
-          (long_answered g.T.Answers.answers (g.L.Link.left c.args.link.now) (g.L.Link.left c.loop-turn.link) (g.L.Link.left c.line.new.self) i.exchanges start c.loop-turn.pass.seen c.loop-turn.pass.seen
+          (long_answered (g.T.Answers.answers c.args.number) (g.L.Link.left c.args.link.now) (g.L.Link.left c.loop-turn.link) (g.L.Link.left c.line.new.self) i.exchanges start c.loop-turn.pass.seen c.loop-turn.pass.seen
           c.line.new.into.items w.no_order-reply.result i.heard i.answered w.in-Long.ensures.heard w.no_order-reply.ensures))
     ] in
     let asked : g.L.Link.asked c.line.new.self ≡ asked_again (g.L.Link.asked c.loop-turn.link) other =
@@ -71,20 +71,20 @@ pub loop-turn-preserved : goal.loop-turn-preserved
 loop-turn-preserved g c =
     let i = c.loop-turn.invariant in
     let start = length c.args.pass.now.seen in
-    let step : IsAnswered g.T.Answers.answers (g.L.Link.left c.args.link.now) (g.L.Link.left c.line.new.self) i.exchanges start c.match-line.pass.seen c.match-line.reply =
+    let step : IsAnswered (g.T.Answers.answers c.args.number) (g.L.Link.left c.args.link.now) (g.L.Link.left c.line.new.self) i.exchanges start c.match-line.pass.seen c.match-line.reply =
     elim c.match-line.branch [
       | in-Line w ↦
           (let e = w.in-Line.ensures in
           let r = w.reply_to-reply.ensures in
-          subst (λ (x : Passing g.row.T-Event.Denot × List ℕ). IsAnswered g.T.Answers.answers (g.L.Link.left c.args.link.now) (g.L.Link.left c.line.new.self) i.exchanges start x.0.seen x.1)
+          subst (λ (x : Passing g.row.T-Event.Denot × List ℕ). IsAnswered (g.T.Answers.answers c.args.number) (g.L.Link.left c.args.link.now) (g.L.Link.left c.line.new.self) i.exchanges start x.0.seen x.1)
           (λ k. (sym w.pass-is k, sym w.reply-is k))
-          (line_answered g.T.Answers.answers (g.L.Link.left c.args.link.now) (g.L.Link.left c.loop-turn.link) (g.L.Link.left c.line.new.self) i.exchanges start c.loop-turn.pass.seen w.reply_to-reply.new.pass.seen
+          (line_answered (g.T.Answers.answers c.args.number) (g.L.Link.left c.args.link.now) (g.L.Link.left c.loop-turn.link) (g.L.Link.left c.line.new.self) i.exchanges start c.loop-turn.pass.seen w.reply_to-reply.new.pass.seen
           c.line.new.into.items w.reply_to-reply.result i.heard i.answered e.heard r.seen
-          (subst (λ (l : List ℕ). IsExchanged g.T.Answers.answers w.reply_to-reply.new.pass.seen (length c.loop-turn.pass.seen) (length w.reply_to-reply.new.pass.seen) (record { line = Some l; text = w.reply_to-reply.result })) w.as_slice.ensures.value r.exchanged)))
+          (subst (λ (l : List ℕ). IsExchanged (g.T.Answers.answers c.args.number) w.reply_to-reply.new.pass.seen (length c.loop-turn.pass.seen) (length w.reply_to-reply.new.pass.seen) (record { line = Some l; text = w.reply_to-reply.result })) w.as_slice.ensures.value r.exchanged)))
       | in-Long w ↦
-          (subst (λ (x : Passing g.row.T-Event.Denot × List ℕ). IsAnswered g.T.Answers.answers (g.L.Link.left c.args.link.now) (g.L.Link.left c.line.new.self) i.exchanges start x.0.seen x.1)
+          (subst (λ (x : Passing g.row.T-Event.Denot × List ℕ). IsAnswered (g.T.Answers.answers c.args.number) (g.L.Link.left c.args.link.now) (g.L.Link.left c.line.new.self) i.exchanges start x.0.seen x.1)
           (λ k. (sym w.pass-is k, sym w.reply-is k))
-          (long_answered g.T.Answers.answers (g.L.Link.left c.args.link.now) (g.L.Link.left c.loop-turn.link) (g.L.Link.left c.line.new.self) i.exchanges start c.loop-turn.pass.seen c.loop-turn.pass.seen
+          (long_answered (g.T.Answers.answers c.args.number) (g.L.Link.left c.args.link.now) (g.L.Link.left c.loop-turn.link) (g.L.Link.left c.line.new.self) i.exchanges start c.loop-turn.pass.seen c.loop-turn.pass.seen
           c.line.new.into.items w.no_order-reply.result i.heard i.answered w.in-Long.ensures.heard w.no_order-reply.ensures))
     ] in
     let asked : g.L.Link.asked c.line.new.self ≡ asked_again (g.L.Link.asked c.loop-turn.link) other =

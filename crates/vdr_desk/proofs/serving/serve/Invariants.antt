@@ -14,5 +14,5 @@ invariant-loop-turn g l = record {
   replied : Appends (g.L.Link.replied l.initial.link) (g.L.Link.replied l.link) (texts_of exchanges);
   asked : g.L.Link.asked l.link ≡ asked_often l._turn (g.L.Link.asked l.initial.link);
   faults : g.L.Link.faults l.initial.link ≤ g.L.Link.faults l.link;
-  answered : AreExchanged g.T.Answers.answers l.pass.seen (length l.initial.pass.seen) exchanges (length l.pass.seen);
+  answered : AreExchanged (g.T.Answers.answers l.number) l.pass.seen (length l.initial.pass.seen) exchanges (length l.pass.seen);
 }

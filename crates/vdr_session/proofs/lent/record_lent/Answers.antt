@@ -9,7 +9,7 @@ under_latch-requires-clause-leaves g c = λ _ _. (
   subst (λ (w : Watched). IsKept (record { clock = g.O.Lent.clock; now = g.O.Lent.now; since = g.O.Lent.since; reads = g.O.Lent.reads; channels = g.O.Lent.channels; hears = g.W.Watch.hears; heard = g.O.Lent.heard }) g.O.Lent.began g.O.Lent.rates g.O.Lent.room g.O.Lent.sizes g.O.Lent.faults [] w c.args.recorder (g.M.Media.disk c.args.media.now) (g.M.Media.faults c.args.media.now))
       (sym c.requires.heard)
       (first_kept (record { clock = g.O.Lent.clock; now = g.O.Lent.now; since = g.O.Lent.since; reads = g.O.Lent.reads; channels = g.O.Lent.channels; hears = g.W.Watch.hears; heard = g.O.Lent.heard }) g.O.Lent.began g.O.Lent.rates g.O.Lent.room g.O.Lent.sizes g.O.Lent.faults c.args.recorder (g.M.Media.disk c.args.media.now) (g.M.Media.faults c.args.media.now)
-      c.requires.config c.requires.channels c.requires.rings c.requires.new c.requires.sizes c.requires.faults c.requires.before c.requires.began
+      c.requires.config c.requires.channels c.requires.rings c.requires.new c.requires.may c.requires.sizes c.requires.faults c.requires.before c.requires.began
       (subst (λ (w : Watched). IsWatched g.W.Watch.hears w c.args.recorder (g.M.Media.disk c.args.media.now)) c.requires.heard c.requires.watched)),
   sym c.requires.name,
   sym c.requires.watch_name,

@@ -9,7 +9,6 @@ use Rattle.vdr_recorder.proofs.Admitting.{admits_all}
 use Rattle.vdr_session.specs.declared.session.SessionEnd.{SessionEnd}
 use Rattle.vdr_session.specs.Ran.{IsSetUp}
 use Rattle.std.specs.Prelude.{sum}
-use Rattle.vdr_outside.specs.Causes.{Rose}
 use Rattle.vdr_recorder.specs.Recordings.{HasRecorded}
 use Rattle.vdr_recorder.specs.Watched.{Tells}
 use Rattle.vdr_recorder.proofs.Telling.{tells_none}
@@ -18,7 +17,8 @@ use Rattle.vdr_session.specs.declared.mark.Mark.{Mark}
 use Rattle.vdr_session.specs.Answering.{AnswersMark}
 use Rattle.vdr_session.specs.Closed.{DesksRan}
 use Rattle.vdr_session.specs.Desks.{DesksReplied, DesksTold}
-use Rattle.vdr_session.specs.Sessions.{SessionWith, is_closed}
+use Rattle.vdr_session.specs.Sessions.{DecidesSession, SessionWith, is_closed}
+use Rattle.vdr_session.proofs.Refused.{decides_with, unbegun_before}
 use Rattle.vdr_session.proofs.Replied.{desks_replied, desks_rested, desks_told, none_replied}
 use Rattle.vdr_session.proofs.Served.{ready_as}
 use Rattle.vdr_session.specs.Summing.{paired}
@@ -43,7 +43,7 @@ returns-in_default-ended-clause-desks g c =
 pub returns-in_default-clause-session : goal.returns-in_default-clause-session
 returns-in_default-clause-session g c =
     no_memory_session g.P.Port c.args.turns c.args.recorder.vault.config.queue c.args.recorder.vault.config.groups c.args.lanes.now c.new.new.lanes c.args.recorder (g.M.Media.disk c.args.media.now) _
-    (λ opening events. DesksReplied g.L.Link c.args.turns c.args.recorder.vault.config.channels (Rose (sum (g.M.Media.faults c.args.media.now)) (sum (g.M.Media.faults c.args.media.now))) c.without_memory.result.outcome c.args.desks.now c.reset.new.desks opening events × Tells g.W.Watch.hears opening [] events (g.W.Watch.seen c.args.watch.now) (g.W.Watch.seen c.args.watch.now))
+    (λ opening events. DesksReplied g.L.Link c.args.turns c.args.recorder.vault.config.channels (sum (g.M.Media.faults c.args.media.now)) (sum (g.M.Media.faults c.args.media.now)) c.without_memory.result.outcome c.args.desks.now c.reset.new.desks opening events × Tells g.W.Watch.hears opening [] events (g.W.Watch.seen c.args.watch.now) (g.W.Watch.seen c.args.watch.now))
     c.without_memory.ensures.outcome
     (λ opening. (none_replied g.L.Link c.args.turns c.args.desks.now c.reset.new.desks c.without_memory.result.outcome c.reset.ensures.each c.reset.ensures.as_many (ap is_closed c.without_memory.ensures.outcome) c.args.recorder.vault.config.channels _ opening, tells_none (λ heard. refl)))
 
@@ -55,18 +55,18 @@ returns-in_default-ended-clause-session g c =
     let last_told = c.watch-1.given.1 (sym c.run_lent-media.ensures.same_watch) ∙ still.3 in
     subst (λ (x : g.row.M.Denot × List (Desk g.row.L.Denot Mark) × g.row.W.Denot). SessionWith g.P.Port c.args.turns c.args.recorder.vault.config.queue c.args.recorder.vault.config.groups c.args.lanes.now c.run_lent-media.new.lanes c.args.recorder
     (g.M.Media.disk c.args.media.now) (g.M.Media.disk x.0) c.without_memory-in_default-ended.result
-    (λ opening events. DesksReplied g.L.Link c.args.turns c.args.recorder.vault.config.channels (Rose (sum (g.M.Media.faults c.args.media.now)) (sum (g.M.Media.faults x.0))) c.without_memory-in_default-ended.result.outcome c.args.desks.now x.1 opening events × Tells g.W.Watch.hears opening [] events (g.W.Watch.seen c.args.watch.now) (g.W.Watch.seen x.2)))
+    (λ opening events. DesksReplied g.L.Link c.args.turns c.args.recorder.vault.config.channels (sum (g.M.Media.faults c.args.media.now)) (sum (g.M.Media.faults x.0)) c.without_memory-in_default-ended.result.outcome c.args.desks.now x.1 opening events × Tells g.W.Watch.hears opening [] events (g.W.Watch.seen c.args.watch.now) (g.W.Watch.seen x.2)))
     (λ i. (sym last i, sym still.2 i, sym last_told i))
     (no_memory_session g.P.Port c.args.turns c.args.recorder.vault.config.queue c.args.recorder.vault.config.groups c.args.lanes.now c.run_lent-media.new.lanes c.args.recorder (g.M.Media.disk c.args.media.now) _ _
     c.without_memory-in_default-ended.ensures.outcome
     (λ opening. (
       none_replied g.L.Link c.args.turns c.args.desks.now c.reset.new.desks c.without_memory-in_default-ended.result.outcome c.reset.ensures.each c.reset.ensures.as_many (ap is_closed c.without_memory-in_default-ended.ensures.outcome)
-          c.args.recorder.vault.config.channels (Rose (sum (g.M.Media.faults c.args.media.now)) (sum (g.M.Media.faults c.args.media.now))) opening,
+          c.args.recorder.vault.config.channels (sum (g.M.Media.faults c.args.media.now)) opening,
       tells_none (λ heard. refl),
     )))
 
-pub returns-in_default-ended-clause-memory : goal.returns-in_default-ended-clause-memory
-returns-in_default-ended-clause-memory g c = λ _.
+pub returns-in_default-ended-clause-unbegun : goal.returns-in_default-ended-clause-unbegun
+returns-in_default-ended-clause-unbegun g c = λ _.
     let none : c.run_lent-media.result.2 ≡ None = search rules in
     let same = c.run_lent-media.ensures.refused none in (
       c.media-1.given.1 (sym c.run_lent-media.ensures.same) ∙ same.0,
@@ -82,7 +82,7 @@ returns-clause-session g c =
     let queues = c.run_lent-media.ensures.queues in
     subst (λ (x : g.row.M.Denot × g.row.W.Denot). SessionWith g.P.Port c.args.turns c.args.recorder.vault.config.queue c.args.recorder.vault.config.groups c.args.lanes.now c.run_lent-media.new.lanes c.args.recorder
     (g.M.Media.disk c.args.media.now) (g.M.Media.disk x.0) end
-    (λ opening events. DesksReplied g.L.Link c.args.turns c.args.recorder.vault.config.channels (Rose (sum (g.M.Media.faults c.args.media.now)) (sum (g.M.Media.faults x.0))) c.with_failures.result c.args.desks.now c.run_lent-media.new.desks opening events × Tells g.W.Watch.hears opening [] events (g.W.Watch.seen c.args.watch.now) (g.W.Watch.seen x.1)))
+    (λ opening events. DesksReplied g.L.Link c.args.turns c.args.recorder.vault.config.channels (sum (g.M.Media.faults c.args.media.now)) (sum (g.M.Media.faults x.0)) c.with_failures.result c.args.desks.now c.run_lent-media.new.desks opening events × Tells g.W.Watch.hears opening [] events (g.W.Watch.seen c.args.watch.now) (g.W.Watch.seen x.1)))
     (λ i. (sym (c.media-1.given.1 (sym c.run_lent-media.ensures.same)) i, sym (c.watch-1.given.1 (sym c.run_lent-media.ensures.same_watch)) i))
     (session_of g.P.Port c.args.turns c.args.recorder.vault.config.queue c.args.recorder.vault.config.groups c.new-plan.result.configured c.in-Ok.memory.queues c.in-Ok.memory.takers c.run_lent-media.new.memory.takers
     c.args.lanes.now c.new.new.lanes c.run_lent-media.new.lanes c.args.recorder (g.M.Media.disk c.args.media.now) (g.M.Media.disk c.args.media.now).sizes (g.M.Media.faults c.args.media.now)
@@ -102,13 +102,31 @@ returns-clause-session g c =
     (admits_all c.args.recorder.vault.config (subst IsConfiguration config c.new-plan.ensures.legal))
     refl
     c.requires.new.1
-    (λ opening events. DesksReplied g.L.Link c.args.turns c.args.recorder.vault.config.channels (Rose (sum (g.M.Media.faults c.args.media.now)) (sum (g.M.Media.faults c.run_lent-media.result.0.now))) c.with_failures.result c.args.desks.now c.run_lent-media.new.desks opening events × Tells g.W.Watch.hears opening [] events (g.W.Watch.seen c.args.watch.now) (g.W.Watch.seen c.run_lent-media.result.1.now))
+    (λ opening events. DesksReplied g.L.Link c.args.turns c.args.recorder.vault.config.channels (sum (g.M.Media.faults c.args.media.now)) (sum (g.M.Media.faults c.run_lent-media.result.0.now)) c.with_failures.result c.args.desks.now c.run_lent-media.new.desks opening events × Tells g.W.Watch.hears opening [] events (g.W.Watch.seen c.args.watch.now) (g.W.Watch.seen c.run_lent-media.result.1.now))
     (λ told opening t0 h. (
       desks_replied g.L.Link c.args.turns g.M.Media.tells (λ opening t0. HasRecorded opening [] t0 c.args.recorder (g.M.Media.disk c.args.media.now)) c.args.recorder.vault.config.channels c.args.desks.now c.reset.new.desks c.run_lent-media.new.desks
           e.began e.marks c.in-Some.field-0.outcome c.with_failures.result c.reset.ensures.each c.reset.ensures.as_many e.besides e.told_as c.with_failures.ensures.told
-          (Rose (sum (g.M.Media.faults c.args.media.now)) (sum (g.M.Media.faults c.run_lent-media.result.0.now))) e.missed_rose _ t0 e.rest c.in-Some.field-0.recorder (g.M.Media.disk c.run_lent-media.result.0.now) _ told opening h (e.told told opening t0 h).0,
+          (sum (g.M.Media.faults c.args.media.now)) (sum (g.M.Media.faults c.run_lent-media.result.0.now)) e.missed_rose _ t0 e.rest c.in-Some.field-0.recorder (g.M.Media.disk c.run_lent-media.result.0.now) _ told opening h (e.told told opening t0 h).0,
       (e.told told opening t0 h).0.heard,
     )))
+
+pub returns-in_default-clause-decides : goal.returns-in_default-clause-decides
+returns-in_default-clause-decides g c = subst (DecidesSession c.args.recorder.vault) (sym c.without_memory.ensures.outcome) tt
+
+pub returns-in_default-ended-clause-decides : goal.returns-in_default-ended-clause-decides
+returns-in_default-ended-clause-decides g c = subst (DecidesSession c.args.recorder.vault) (sym c.without_memory-in_default-ended.ensures.outcome) tt
+
+pub returns-clause-decides : goal.returns-clause-decides
+returns-clause-decides g c =
+    decides_with c.args.recorder.vault.next_place _ c.in-Some.field-0.outcome c.with_failures.result c.with_failures.ensures.told
+    (if_some _ c.run_lent-media.result.2 c.in-Some.field-0 c.in-Some.is c.run_lent-media.ensures.decides)
+
+pub returns-clause-unbegun : goal.returns-clause-unbegun
+returns-clause-unbegun g c = λ unbegun.
+    let u = if_some _ c.run_lent-media.result.2 c.in-Some.field-0 c.in-Some.is c.run_lent-media.ensures.unbegun (unbegun_before c.in-Some.field-0.outcome c.with_failures.result c.with_failures.ensures.told unbegun) in (
+      c.media-1.given.1 (sym c.run_lent-media.ensures.same) ∙ u.0,
+      (λ k d small. ap (λ (ls : List (Lane g.row.P.Denot)). (get_or ls k d).port) u.1 ∙ c.new.ensures.same k d small),
+    )
 
 pub returns-clause-desks : goal.returns-clause-desks
 returns-clause-desks g c =

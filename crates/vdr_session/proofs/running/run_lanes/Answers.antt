@@ -126,6 +126,6 @@ returns-then-not-works-clause-met g c k small =
 pub returns-clause-desks : goal.returns-clause-desks
 returns-clause-desks g c i d low =
     let s = c.record_and_serve-works.ensures.desks i d low in (
-      served_on g.T.Answers.answers g.L.Link c.args.turns c.record_and_serve-works.new.pass.seen c.record_queued.new.pass.seen (get_or c.args.desks.now i d) (get_or c.record_and_serve-works.new.desks i d) c.record_queued.ensures.seen s.0,
+      served_on (g.T.Answers.answers i) g.L.Link c.args.turns c.record_and_serve-works.new.pass.seen c.record_queued.new.pass.seen (get_or c.args.desks.now i d) (get_or c.record_and_serve-works.new.desks i d) c.record_queued.ensures.seen s.0,
       s.1,
     )

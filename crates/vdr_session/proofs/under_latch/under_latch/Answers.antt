@@ -53,7 +53,7 @@ returns-clause-closed g c =
             (record {
               as_many = ap length w.desks-is ∙ r.as_many;
               served = λ e i d low.
-                  subst (λ (x : List (Desk g.row.L.Denot Marked) × Passing Marked). HasServed g.L.Link g.T.Answers.answers c.args.turns 0 x.1.seen (get_or c.args.desks.now i d) (get_or x.0 i d) × ((get_or x.0 i d).pass ≡ None))
+                  subst (λ (x : List (Desk g.row.L.Denot Marked) × Passing Marked). HasServed g.L.Link (g.T.Answers.answers i) c.args.turns 0 x.1.seen (get_or c.args.desks.now i d) (get_or x.0 i d) × ((get_or x.0 i d).pass ≡ None))
                   (λ k. (sym w.desks-is k, sym w.pass-is k)) (r.desks i d low);
               rested = λ ne. absurd (ne w.in-Begun.is);
             }),

@@ -1,4 +1,4 @@
-use Rattle.std.proofs.Common.{◌≡◌, ◌⊎◌, inl, inr, ◌++◌, ◌<◌, ◌≤◌, ◌^◌, ℕ, Bool, true, false, true≢false, List, [], ◌∷◌, Result, Ok, Err, sym, refl, ap, ◌∙◌}
+use Rattle.std.proofs.Common.{◌≡◌, ◌⊎◌, inl, inr, ◌++◌, ◌<◌, ◌≤◌, ◌^◌, ℕ, Bool, true, false, true≢false, List, [], ◌∷◌, Result, Ok, Err, option_map, sym, refl, ap, ◌∙◌, arith}
 use Rattle.std.proofs.lemmas.Bool.{cases_Bool}
 use Rattle.vdr_recorder.specs.declared.run.StartRefused.{StartRefused}
 use Rattle.vdr_recorder.specs.declared.run.StartRefused.TheVariants.{Place, Tick, Fault}
@@ -6,12 +6,11 @@ use Rattle.vdr_recorder.specs.Refusals.{MayBegin}
 use Rattle.vdr_core.specs.Histories.{Opening}
 use Rattle.vdr_core.specs.Runs.{base_after}
 use Rattle.vdr_session.specs.Events.{is_started}
-use Rattle.vdr_session.specs.Standing.{Before, HasSession, IsKept, start_mark}
+use Rattle.vdr_session.specs.Standing.{Before, HasSession, IsKept, IsNoRefusal, start_mark}
 use Rattle.vdr_session.specs.declared.records.Began.TheVariants as began
 use Rattle.vdr_session.specs.declared.records.Began.TheVariants.{Begun}
-use Rattle.vdr_session.specs.Marks.{has_fault}
-use Rattle.vdr_session.proofs.Faults.{no_fault}
-use Rattle.vdr_session.proofs.Starts.{may_begin, no_place, no_tick}
+use Rattle.vdr_run.specs.Starts.{stamp_of}
+use Rattle.vdr_session.proofs.Starts.{may_begin}
 use Rattle.vdr_session.specs.declared.mark.Mark.{Mark}
 use Rattle.vdr_recorder.specs.Recordings.{RecorderState}
 use Rattle.vdr_recorder.proofs.Telling.{look_from}
@@ -129,9 +128,19 @@ fault_is_no_refusal : (began.Fault ≡ began.Place) ⊎ (began.Fault ≡ began.T
 fault_is_no_refusal (inl e) = cc
 fault_is_no_refusal (inr e) = cc
 
+begun_is_none : IsNoRefusal Begun
+begun_is_none = record { place = λ e. cc; tick = λ e. cc }
+
+fault_is_none : IsNoRefusal began.Fault
+fault_is_none = record { place = λ e. cc; tick = λ e. cc }
+
+-- what the vault told before it is no refusal
+low_place : (place : ℕ) → place < 2 ^ 62 → 2 ^ 62 ≤ place → ⊥
+low_place place low high = omega (arith, low, high)
+
 pub returns-in-Ok-clause-means : goal.returns-in-Ok-clause-means
 returns-in-Ok-clause-means g c = λ history h idle. (
-  (λ told opening t0 b. by_failed (h.0.told told opening t0 b) idle (cases_Bool c.args.self.now.recorder.vault.failed)),
+  (begun_is_none, λ told opening t0 b. by_failed (h.0.told told opening t0 b) idle (cases_Bool c.args.self.now.recorder.vault.failed)),
   (λ either. absurd (begun_is_no_refusal either)),
 )
   where
@@ -143,18 +152,16 @@ returns-in-Ok-clause-means g c = λ history h idle. (
 pub returns-in-Err-Place-clause-means : goal.returns-in-Err-Place-clause-means
 returns-in-Err-Place-clause-means g c = λ history h idle.
     let before : (P : Type 0) → (c.args.self.now.recorder.vault.failed ≡ false → P) → P =
-    λ P goes. works_before c.args.self.now.recorder.vault.failed c.in-Err-Place.field-0 P (λ fails. (c.in-Err-Place.ensures.refuses.failed fails).0) (λ e. not_place (e ∙ c.in-Err-Place.field-0-is)) goes in (
-      (λ told opening t0 b. before (2 ^ 62 ≤ opening.next_place) (λ works. no_place (h.0.told told opening t0 b) works idle ((c.in-Err-Place.ensures.limits.place works).0 (ap Err c.in-Err-Place.field-0-is)))),
-      (λ either. before (has_fault history ≡ false) (λ works. no_fault history (h.0.stage.whole works))),
-    )
+    λ P goes. works_before c.args.self.now.recorder.vault.failed c.in-Err-Place.field-0 P (λ fails. (c.in-Err-Place.ensures.refuses.failed fails).0) (λ e. not_place (e ∙ c.in-Err-Place.field-0-is)) goes in
+    let none : ⊥ = before ⊥ (λ works. low_place c.args.self.now.recorder.vault.next_place (h.0.stage.ready idle).place ((c.in-Err-Place.ensures.limits.place works).0 (ap Err c.in-Err-Place.field-0-is))) in
+    absurd none
 
 pub returns-in-Err-Tick-clause-means : goal.returns-in-Err-Tick-clause-means
 returns-in-Err-Tick-clause-means g c = λ history h idle.
     let before : (P : Type 0) → (c.args.self.now.recorder.vault.failed ≡ false → P) → P =
-    λ P goes. works_before c.args.self.now.recorder.vault.failed c.in-Err-Tick.field-0 P (λ fails. (c.in-Err-Tick.ensures.refuses.failed fails).0) (λ e. not_tick (e ∙ c.in-Err-Tick.field-0-is)) goes in (
-      (λ told opening t0 b. before ((opening.next_place < 2 ^ 62) × (2 ^ 62 ≤ base_after opening.last)) (λ works. no_tick (h.0.told told opening t0 b) works idle ((c.in-Err-Tick.ensures.limits.tick works).0 (ap Err c.in-Err-Tick.field-0-is)))),
-      (λ either. before (has_fault history ≡ false) (λ works. no_fault history (h.0.stage.whole works))),
-    )
+    λ P goes. works_before c.args.self.now.recorder.vault.failed c.in-Err-Tick.field-0 P (λ fails. (c.in-Err-Tick.ensures.refuses.failed fails).0) (λ e. not_tick (e ∙ c.in-Err-Tick.field-0-is)) goes in
+    let none : ⊥ = before ⊥ (λ works. low_place (base_after (option_map stamp_of c.args.self.now.recorder.vault.last)) (h.0.stage.ready idle).base ((c.in-Err-Tick.ensures.limits.tick works).0 (ap Err c.in-Err-Tick.field-0-is)).1) in
+    absurd none
 
 pub returns-in-Err-Fault-clause-means : goal.returns-in-Err-Fault-clause-means
-returns-in-Err-Fault-clause-means g c = λ history h idle. ((λ told opening t0 b. tt), (λ either. absurd (fault_is_no_refusal either)))
+returns-in-Err-Fault-clause-means g c = λ history h idle. ((fault_is_none, λ told opening t0 b. tt), (λ either. absurd (fault_is_no_refusal either)))
