@@ -22,3 +22,4 @@ pub use joiner::Joiner;
 pub use message::Message;
 pub use report::{Position, Report, read_message};
 pub use table::TargetTable;
+pub use unfinished::Unfinished;

@@ -45,7 +45,11 @@ impl Model for TargetTable {
 }
 
 // Makes room for the messages of a datagram's lines, and tells how many of these carry a part.
-fn make_room(unfinished: &mut Unfinished, group: u8, payload: &[u8]) -> Result<usize, AllocError>
+pub(crate) fn make_room(
+    unfinished: &mut Unfinished,
+    group: u8,
+    payload: &[u8],
+) -> Result<usize, AllocError>
     ensures same { HasNoFewer unfinished.old unfinished.new }
     ensures room { OnOk result (All (λ line. HasPlace unfinished.new line.key) (lines_in group payload.now)) }
     ensures count { IfOk result (λ n. n ≡ length (lines_in group payload.now)) }

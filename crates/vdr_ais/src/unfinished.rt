@@ -1,21 +1,26 @@
 // The messages that have begun, one of each key.
-ghost use Rattle.std.specs.Prelude.{◌≡◌, ◌∷◌, [], IfErr, IfOk, List, OnErr, OnOk, option_map, if◌then◌else◌};
-ghost use Rattle.vdr_ais.specs.Lines.{Key as AKey, Line as ALine, is_same};
+ghost use Rattle.std.specs.Prelude.{◌≡◌, ◌∷◌, ◌++◌, [], All, IfErr, IfOk, List, OnErr, OnOk, Some, option_and_then, option_map, option_to_list, if◌then◌else◌};
+ghost use Rattle.vdr_datagram.specs.Views.{verdict_of};
+ghost use Rattle.vdr_ais.specs.Lines.{Key as AKey, Line as ALine, is_same, line_in, lines_in};
 ghost use Rattle.vdr_ais.specs.Messages.{message_behind};
 ghost use Rattle.vdr_ais.specs.Pending.{AreEntries, HasNoFewer, HasPlace, HasRead, begun, ended_by, key_cmp, next_pending, pending_in};
 ghost use Rattle.vdr_ais.specs.Places.{IsAt, IsGap};
 ghost use Rattle.vdr_ais.specs.Views.{key_of, line_said, message_of, part_of};
 
+use crate::carried::line_in;
 use crate::entry::Entry;
 use crate::line::{Key, Line};
 use crate::message::Message;
+use crate::table::make_room;
 use std::alloc::{AllocError, Global};
 use std::cmp::Ordering;
 use std::marker::Model;
+use vdr_datagram::LineVerdict;
 
-/// The messages that have begun, by their keys in order.
+/// The messages that have begun in the lines of sentence datagrams, by their keys in order. It takes memory for what the parts of messages
+/// have in common, and none for their lines.
 #[derive(Drop)]
-pub(crate) struct Unfinished {
+pub struct Unfinished {
     alloc: Global,
     entries: Vec<Entry>,
 }
@@ -50,8 +55,10 @@ fn place_of(entries: &[Entry], key: &Key<'_>) -> Result<usize, usize>
 }
 
 impl Unfinished {
-    pub(crate) fn new(alloc: Global) -> Unfinished
-        ensures { result ≡ [] }
+    /// No line was read.
+    pub fn new(alloc: Global) -> Unfinished
+        ensures none { result ≡ [] }
+        ensures read { HasRead [] result }
     {
         Unfinished {
             alloc,
@@ -97,5 +104,35 @@ impl Unfinished {
     {
         self.make_room(&line.key)?;
         Ok(self.join(line))
+    }
+
+    /// Makes room for the messages of the lines of a datagram, so that each of them can be taken. What has begun stays.
+    ///
+    /// `AllocError`: there was no memory.
+    pub fn make_rooms(&mut self, group: u8, payload: &[u8]) -> Result<(), AllocError>
+        ensures read { (back : List ALine) → HasRead back self.old → HasRead back self.new }
+        ensures rooms { OnOk result (All (λ line. HasPlace self.new line.key) (lines_in group payload.now)) }
+    {
+        let _ = &self.entries;
+        let made = make_room(self, group, payload);
+        let _ = &self.entries;
+        match made {
+            Ok(_) => Ok(()),
+            Err(none) => Err(none),
+        }
+    }
+
+    /// Takes the next line of a datagram, for whose message there is room, and gives the message that ends at it (IEC 61162-1, VDM and VDO).
+    /// Another line ends none.
+    pub fn take_line(&mut self, group: u8, verdict: &LineVerdict<'_>) -> Option<Message>
+        requires { (line : ALine) → line_in group (verdict_of verdict.now) ≡ Some line → HasPlace self.old line.key }
+        ensures read { (back : List ALine) → HasRead back self.old → HasRead (option_to_list (line_in group (verdict_of verdict.now)) ++ back) self.new }
+        ensures ended { (back : List ALine) → HasRead back self.old → option_map message_of result ≡ option_and_then (message_behind back) (line_in group (verdict_of verdict.now)) }
+        ensures places { (key : AKey) → HasPlace self.old key → HasPlace self.new key }
+    {
+        match line_in(group, verdict) {
+            Some(line) => self.join(&line),
+            None => None,
+        }
     }
 }

@@ -2,6 +2,7 @@
 pub mod Values
 pub mod Spellings
 pub mod Forms
+pub mod Columns
 pub mod Rows
 pub mod Navigation
 pub mod Machinery

@@ -1,21 +1,23 @@
 -- What a row of the table of sentences says, and which fields of a sentence are read by it.
 use Rattle.std.specs.Prelude.{ℕ, ◌+◌, ◌-◌, ◌*◌, ◌%◌, ◌==◌, Bool, ◌&&◌, min, nat_le, nat_lt, List, [], length, map, slice_index_or, codes, if◌then◌else◌}
 use Rattle.std.specs.List.{list_all, list_any, range_with_len}
+use Rattle.vdr_values.specs.declared.column.Column.{Column}
 use Rattle.vdr_values.specs.Forms.{Form, Angle, Digits, Letter, Raw, is_sound}
 
 -- A formatter's three characters; the forms of its fields, in order; the shorter counts of fields that are legal too, those of older editions;
 -- and its text, in which a digit from 1 on stands for what the field of this number says, `A` for the tenth, `B` for the next, and any other byte
--- for itself. Fields of the group may follow, again and again, and are printed in their order.
+-- for itself. Fields of the group may follow, again and again, and are printed in their order. The columns are the values that it gives a table.
 pub record Row : Type 0 where
   pub formatter : List ℕ
   pub fields : List Form
   pub shorter : List ℕ
   pub text : List ℕ
   pub group : List Form
+  pub columns : List Column
 
 -- What rows have that say no other.
 abbrev pub plain : Row
-plain = record { formatter = []; fields = []; shorter = []; text = []; group = [] }
+plain = record { formatter = []; fields = []; shorter = []; text = []; group = []; columns = [] }
 
 -- So many fields, or the next number of them that makes the groups behind the first ones whole. There is one group at least.
 abbrev pub whole_groups : (first group count : ℕ) → ℕ

@@ -60,6 +60,7 @@ row_of r = record {
   shorter = r.shorter.now;
   text = r.text.now;
   group = map form_of r.group.now;
+  columns = r.columns.now;
 }
 
 -- A number's sign, and its millionths.

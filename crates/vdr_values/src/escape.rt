@@ -36,7 +36,7 @@ fn print_escaped_byte(byte: u8, out: &mut ArrayVec<u8, 512>)
 
 /// Appends bytes as they are printed (this project's profile): a printable ASCII character other than `<` as it stands, and any other byte as
 /// `<hh>` with two hexadecimal digits in lower case.
-pub(crate) fn print_escaped(bytes: &[u8], out: &mut ArrayVec<u8, 512>)
+pub fn print_escaped(bytes: &[u8], out: &mut ArrayVec<u8, 512>)
     requires { array_vec_len out.old + length (escaped bytes.now) ≤ 512 }
     ensures { out.new.items ≡ out.old.items ++ escaped bytes.now }
 {

@@ -4,6 +4,7 @@
 #![tactic(auto)]
 
 mod bad;
+mod column;
 mod escape;
 mod form;
 mod laws;
@@ -18,8 +19,11 @@ mod text;
 mod value;
 
 pub use bad::BadField;
+pub use column::{Asserts, Column, Item, Measure, Quantity, Validity, Which, Words};
+pub use escape::print_escaped;
 pub use laws::law_of_reading;
 pub use print::{print_reading, print_value};
 pub use reading::{Reading, read_value};
 pub use row::formatter_of;
-pub use value::Num;
+pub use text::trimmed;
+pub use value::{Angle, Date, Num, Time, Value};

@@ -5,6 +5,7 @@ ghost use Rattle.vdr_values.specs.Table.{row_for};
 ghost use Rattle.vdr_values.specs.Views.{Gives};
 
 use crate::bad::BadField;
+use crate::column::Column;
 use crate::read::{Values, read_fields};
 use crate::row::{Row, row_for};
 use crate::value::{Num, Value};
@@ -62,7 +63,15 @@ impl<'a> Reading<'a> {
         self.row.formatter
     }
 
-    fn value(&self, index: usize) -> Option<Value<'a>>
+    /// The values that a table has of it, in their order.
+    pub fn columns(&self) -> &'static [Column]
+        ensures { result.now ≡ self.now.row.columns }
+    {
+        self.row.columns
+    }
+
+    /// What its field at this index says, counted from 0. None where the field is empty.
+    pub fn value(&self, index: usize) -> Option<Value<'a>>
         ensures { option_map value_of result ≡ value_at self.now.values index }
     {
         match self.values.as_slice().get(index) {

@@ -6,6 +6,7 @@ ghost use Rattle.vdr_values.specs.Rows.{form_at, is_fit, wanted, whole_groups};
 ghost use Rattle.vdr_values.specs.Table.{row_for, row_named};
 ghost use Rattle.vdr_values.specs.Views.{form_of, row_of};
 
+use crate::column::Column;
 use crate::form::Form;
 use crate::table::{alerts, machinery, navigation, traffic};
 
@@ -22,6 +23,8 @@ pub(crate) struct Row {
     pub(crate) text: &'static [u8],
     /// The forms of fields that follow, again and again.
     pub(crate) group: &'static [Form],
+    /// The values that a table has of it.
+    pub(crate) columns: &'static [Column],
 }
 
 /// What rows have that say no other.
@@ -31,6 +34,7 @@ pub(crate) const PLAIN: Row = Row {
     shorter: &[],
     text: b"",
     group: &[],
+    columns: &[],
 };
 
 /// How often a group stands at most.

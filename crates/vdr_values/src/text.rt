@@ -61,8 +61,8 @@ fn nine_digits(n: u32) -> [u8; 9]
     ]
 }
 
-// The digits without the zeros at their end.
-fn trimmed(digits: &[u8]) -> &[u8]
+/// The digits without the zeros at their end.
+pub fn trimmed(digits: &[u8]) -> &[u8]
     ensures { result.now ≡ trimmed digits.now }
 {
     let mut shown = digits;

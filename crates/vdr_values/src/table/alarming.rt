@@ -1,5 +1,6 @@
 // The rows of specs/Alerts, as bench/table writes them.
 
+use crate::column::{Asserts, BARE, Column, Item, Measure, Quantity, Validity, Words};
 use crate::row::{PLAIN, Row};
 use crate::table::forms::{
     CAPITAL, DIGIT, DIGITS_2, DIGITS_3, DIGITS_5, NUMBER, OF_ABC, OF_AQOS, OF_AVBHO, OF_AVX,
@@ -12,12 +13,34 @@ pub(crate) const ALERTS: &[Row] = &[
         formatter: b"HBT",
         fields: &[NUMBER, STATUS, DIGIT],
         text: b"interval 1 status 2 sequence 3",
+        columns: &[Column {
+            quantity: Quantity::Heartbeat,
+            item: Item::Told(3),
+            measure: Measure::Seconds,
+            valid: Validity::Status(2),
+            ..BARE
+        }],
         ..PLAIN
     },
     Row {
         formatter: b"ALR",
         fields: &[TIME, DIGITS_5, STATUS, STATUS, RAW],
         text: b"time 1 alarm 2 condition 3 acknowledged 4 text 5",
+        columns: &[
+            Column {
+                quantity: Quantity::Alarm,
+                item: Item::Told(2),
+                field: 3,
+                words: Words::Of(5),
+                ..BARE
+            },
+            Column {
+                quantity: Quantity::AlarmAcknowledged,
+                item: Item::Told(2),
+                field: 4,
+                ..BARE
+            },
+        ],
         ..PLAIN
     },
     Row {
@@ -27,6 +50,14 @@ pub(crate) const ALERTS: &[Row] = &[
             DIGIT, RAW,
         ],
         text: b"part 2 of 1 sequence 3 time 4 category 5 priority 6 state 7 maker 8 alert 9 instance A revision B escalation C text D",
+        columns: &[Column {
+            quantity: Quantity::Alert,
+            item: Item::Dotted(9, 10),
+            field: 7,
+            asserts: Asserts::Active,
+            words: Words::Of(13),
+            ..BARE
+        }],
         ..PLAIN
     },
     Row {
@@ -59,6 +90,22 @@ pub(crate) const ALERTS: &[Row] = &[
         formatter: b"ALA",
         fields: &[TIME, RAW, RAW, DIGITS_2, DIGITS_3, OF_NHJLKX, OF_AVBHO, RAW],
         text: b"time 1 system 2 equipment 3 instance 4 type 5 condition 6 acknowledged 7 text 8",
+        columns: &[
+            Column {
+                quantity: Quantity::Alarm,
+                item: Item::Dotted(4, 5),
+                field: 6,
+                asserts: Asserts::Abnormal,
+                words: Words::Of(8),
+                ..BARE
+            },
+            Column {
+                quantity: Quantity::AlarmAcknowledged,
+                item: Item::Dotted(4, 5),
+                field: 7,
+                ..BARE
+            },
+        ],
         ..PLAIN
     },
     Row {
@@ -67,6 +114,21 @@ pub(crate) const ALERTS: &[Row] = &[
             OF_SEFD, TIME, RAW, RAW, DIGITS_3, DIGITS_3, OF_AVX, STATUS, RAW,
         ],
         text: b"type 1 time 2 system 3 division 4 5 detector 6 condition 7 acknowledged 8 text 9",
+        columns: &[
+            Column {
+                quantity: Quantity::Fire,
+                item: Item::Dotted(5, 6),
+                field: 7,
+                words: Words::Of(9),
+                ..BARE
+            },
+            Column {
+                quantity: Quantity::FireAcknowledged,
+                item: Item::Dotted(5, 6),
+                field: 8,
+                ..BARE
+            },
+        ],
         ..PLAIN
     },
     Row {
@@ -75,6 +137,14 @@ pub(crate) const ALERTS: &[Row] = &[
             OF_SEF, TIME, RAW, RAW, DIGITS_3, DIGITS_3, OF_NHJLKX, OF_ONV, RAW,
         ],
         text: b"type 1 time 2 system 3 location 4 5 point 6 condition 7 override 8 text 9",
+        columns: &[Column {
+            quantity: Quantity::WaterLevelAlarm,
+            item: Item::Dotted(5, 6),
+            field: 7,
+            asserts: Asserts::Abnormal,
+            words: Words::Of(9),
+            ..BARE
+        }],
         ..PLAIN
     },
     Row {
@@ -83,6 +153,14 @@ pub(crate) const ALERTS: &[Row] = &[
             OF_SEF, TIME, RAW, RAW, DIGITS_3, DIGITS_3, OF_OCSFX, OF_OC, RAW,
         ],
         text: b"type 1 time 2 system 3 division 4 5 door 6 status 7 switch 8 text 9",
+        columns: &[Column {
+            quantity: Quantity::DoorOpen,
+            item: Item::Dotted(5, 6),
+            field: 7,
+            asserts: Asserts::Open,
+            words: Words::Of(9),
+            ..BARE
+        }],
         ..PLAIN
     },
     Row {

@@ -1,0 +1,5 @@
+use Rattle.vdr_rows.proofs.Commas.{eleven}
+use Rattle.vdr_rows.proofs.laws.law_of_fields.Goals as goal
+
+pub returns : goal.returns
+returns c = eleven

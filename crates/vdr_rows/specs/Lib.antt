@@ -1,0 +1,13 @@
+-- The table of values that records give.
+pub mod Decimals
+pub mod Names
+pub mod Values
+pub mod Told
+pub mod Reported
+pub mod Texts
+pub mod Parts
+pub mod Tables
+pub mod Fixes
+pub mod Views
+pub mod Held
+pub mod Laws

@@ -1,0 +1,11 @@
+-- What contracts see of a heading and of a value.
+use Rattle.vdr_rows.specs.declared.heading.Heading.{Heading}
+use Rattle.vdr_rows.specs.declared.said.Said.{Said}
+use Rattle.vdr_rows.specs.Texts as texts
+use Rattle.vdr_rows.specs.Values as values
+
+abbrev pub heading_said : Heading → texts.Heading
+heading_said h = record { utc = h.utc.items; place = h.place.items; group = h.group.now; source = h.source.now; sentence = h.sentence.now }
+
+abbrev pub said_of : Said → values.Said
+said_of s = record { item = s.item.now; name = s.name.now; number = s.number; measure = s.measure.now; valid = s.valid; words = s.words.now }

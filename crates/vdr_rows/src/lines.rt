@@ -1,0 +1,103 @@
+// The rows of a record.
+ghost use Rattle.std.specs.Prelude.{◌≡◌, ◌++◌, All, List, OnOk, option_map};
+ghost use Rattle.std.specs.Io.KnownBytes.{Appends};
+ghost use Rattle.vdr_datagram.specs.Verdicts.{line_spans};
+ghost use Rattle.vdr_datagram.specs.Views.{verdict_of};
+ghost use Rattle.vdr_ais.specs.Lines.{Line as Part, lines_in, lines_of};
+ghost use Rattle.vdr_ais.specs.Pending.{HasPlace, HasRead};
+ghost use Rattle.vdr_ais.specs.Views.{message_of};
+ghost use Rattle.vdr_values.specs.Readings.{reading};
+ghost use Rattle.vdr_outside.specs.Causes.{HasCause};
+ghost use Rattle.vdr_outside.specs.Writes.{AppendsFront};
+ghost use Rattle.vdr_rows.specs.Reported.{message_values};
+ghost use Rattle.vdr_rows.specs.Tables.{back_after, back_by, line_rows, lines_rows, record_rows, rows_of};
+ghost use Rattle.vdr_rows.specs.Texts.{rows_text};
+ghost use Rattle.vdr_rows.specs.Values.{values_where};
+ghost use Rattle.vdr_rows.specs.Views.{heading_said};
+
+use crate::heading::Heading;
+use crate::marks::{print_mark, print_missed};
+use crate::reported::print_message;
+use crate::sentence::print_sentence;
+use vdr_ais::{Message, Unfinished};
+use vdr_datagram::{LineVerdict, lines};
+use vdr_entry::{Content, Record};
+use vdr_outside::{Failed, Sink};
+use vdr_sentence::Sentence;
+
+/// The source of a line that names none.
+const NO_SOURCE: &[u8] = b"-";
+
+// Prints the rows of a sentence, and of the message that ends with it.
+fn print_good<O: Sink>(
+    heading: &Heading<'_>,
+    sentence: &Sentence<'_>,
+    ended: &Option<Message>,
+    out: &mut O,
+) -> Result<(), Failed>
+    ensures all { OnOk result (Appends (O.taken out.old) (O.taken out.new) (rows_text (rows_of (heading_said heading.now) (values_where (reading sentence.now.content.now) ++ message_values (option_map message_of ended.now))))) }
+    ensures front { AppendsFront (O.taken out.old) (O.taken out.new) (rows_text (rows_of (heading_said heading.now) (values_where (reading sentence.now.content.now) ++ message_values (option_map message_of ended.now)))) }
+    ensures cause { HasCause (O.faults out.old) (O.faults out.new) result }
+{
+    print_sentence(heading, sentence, out)?;
+    print_message(heading, ended, out)
+}
+
+// Prints the rows of a line, and of the message that ends at it.
+fn print_line<O: Sink>(
+    item: &Record,
+    verdict: &LineVerdict<'_>,
+    ended: &Option<Message>,
+    out: &mut O,
+) -> Result<(), Failed>
+    ensures all { OnOk result (Appends (O.taken out.old) (O.taken out.new) (rows_text (line_rows item.now (verdict_of verdict.now) (option_map message_of ended.now)))) }
+    ensures front { AppendsFront (O.taken out.old) (O.taken out.new) (rows_text (line_rows item.now (verdict_of verdict.now) (option_map message_of ended.now))) }
+    ensures cause { HasCause (O.faults out.old) (O.faults out.new) result }
+{
+    let LineVerdict::Good { tags, sentence } = verdict else {
+        return Ok(());
+    };
+    let source = tags.source.unwrap_or(NO_SOURCE);
+    let heading = Heading::new(item, source, sentence.address);
+    print_good(&heading, sentence, ended, out)
+}
+
+// Prints the rows of a datagram, for whose messages there is room.
+fn print_lines<O: Sink>(
+    item: &Record,
+    payload: &[u8],
+    unfinished: &mut Unfinished,
+    out: &mut O,
+) -> Result<(), Failed>
+    requires { All (λ line. HasPlace unfinished.old line.key) (lines_in item.now.group payload.now) }
+    ensures read { (back : List Part) → HasRead back unfinished.old → OnOk result (HasRead (back_by back item.now.group (line_spans payload.now)) unfinished.new) }
+    ensures all { (back : List Part) → HasRead back unfinished.old → OnOk result (Appends (O.taken out.old) (O.taken out.new) (rows_text (lines_rows back item.now (line_spans payload.now)))) }
+    ensures front { (back : List Part) → HasRead back unfinished.old → AppendsFront (O.taken out.old) (O.taken out.new) (rows_text (lines_rows back item.now (line_spans payload.now))) }
+    ensures cause { HasCause (O.faults out.old) (O.faults out.new) result }
+{
+    for line in lines(payload) {
+        let ended = unfinished.take_line(item.group, &line.verdict);
+        print_line(item, &line.verdict, &ended, out)?;
+    }
+    Ok(())
+}
+
+/// Prints the rows of a record, for whose messages there is room.
+pub(crate) fn print_record<O: Sink>(
+    item: &Record,
+    unfinished: &mut Unfinished,
+    out: &mut O,
+) -> Result<(), Failed>
+    requires { All (λ line. HasPlace unfinished.old line.key) (lines_of item.now.group item.now.content) }
+    ensures read { (back : List Part) → HasRead back unfinished.old → OnOk result (HasRead (back_after back item.now) unfinished.new) }
+    ensures all { (back : List Part) → HasRead back unfinished.old → OnOk result (Appends (O.taken out.old) (O.taken out.new) (rows_text (record_rows back item.now))) }
+    ensures front { (back : List Part) → HasRead back unfinished.old → AppendsFront (O.taken out.old) (O.taken out.new) (rows_text (record_rows back item.now)) }
+    ensures cause { HasCause (O.faults out.old) (O.faults out.new) result }
+{
+    match item.content() {
+        Content::Start => print_mark(item, b"start", out),
+        Content::Datagram(payload) => print_lines(item, payload, unfinished, out),
+        Content::Gap(counts) => print_missed(item, counts, out),
+        Content::Stop => print_mark(item, b"stop", out),
+    }
+}

@@ -1,0 +1,5 @@
+-- Proofs.
+pub mod Streaming
+pub mod Joining
+pub mod Turning
+pub mod Beginning
