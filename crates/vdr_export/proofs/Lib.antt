@@ -1,4 +1,5 @@
 pub mod Silent
+pub mod Tracking
 pub mod Sounding
 pub mod Sized
 pub mod Fronts
@@ -16,4 +17,5 @@ pub mod Lines
 pub mod Entries
 pub mod Listings
 pub mod TwoPasses
+pub mod TimeLines
 mod Rows

@@ -1,16 +1,16 @@
 -- What is kept of the frames that were heard, once one more is.
-use Rattle.std.proofs.Common.{◌≡◌, ◌+◌, ◌*◌, ◌++◌, ◌==◌, ◌^◌, min, ℕ, List, [], ◌∷◌, length, true, false, Some, None, refl, sym, ap, ◌∙◌, arith}
+use Rattle.std.proofs.Common.{◌≡◌, ◌+◌, ◌*◌, ◌++◌, ◌==◌, ◌^◌, min, ℕ, List, [], ◌∷◌, length, true, false, Some, None, refl, sym, ap, ◌∙◌, subst, arith}
 use Rattle.std.specs.Prelude.{slice_get, option_map}
 use Rattle.std.proofs.lemmas.List.{map-append}
 use Rattle.std.proofs.lemmas.Bool.{false_from_ne_true, eqb-true, eq-eqb}
-use Rattle.vdr_terms.specs.Records.{last}
-use Rattle.vdr_export.specs.Heard.{IsSized}
+use Rattle.vdr_export.specs.Heard.{IsSized, IsTrack}
 use Rattle.vdr_export.specs.Numbers.{Numbered, mixed_at}
-use Rattle.vdr_export.specs.Sounds.{Heard, frames_of, missing, rates_of, sound}
-use Rattle.vdr_export.specs.Tails.{tail_of}
+use Rattle.vdr_export.specs.Sounds.{Heard, rates_of, sound, track_of, with_heard}
+use Rattle.vdr_export.specs.Tracks.{Track, gap}
 use Rattle.vdr_export.specs.declared.rate.SampleRate.{SampleRate}
 use Rattle.vdr_export.specs.declared.sizing.Sizing.{Sizing}
-use Rattle.vdr_export.proofs.Sounding.{first_number, first_one, first_stays, last_heard, mixed_first, mixed_other, mixed_same, size_more}
+use Rattle.vdr_export.specs.declared.timing.Timing.{Timing}
+use Rattle.vdr_export.proofs.Sounding.{first_number, first_one, first_stays, mixed_first, mixed_other, mixed_same, size_more, track_more}
 
 rates_more : (hs : List Heard) (h : Heard) → rates_of (hs ++ h ∷ []) ≡ rates_of hs ++ record { place = h.place; number = h.frame.rate } ∷ []
 rates_more hs h = map-append (λ (h : Heard). record { place = h.place; number = h.frame.rate }) hs (h ∷ [])
@@ -22,7 +22,7 @@ first_rate (h ∷ hs) = refl
 capped : (n a : ℕ) → min (min (min n (2 ^ 32) + a) 18446744073709551615) 4294967296 ≡ min (n + a) (2 ^ 32)
 capped n a = omega arith
 
-module _ (hs : List Heard) (was : Sizing) (sized : IsSized hs was) (h : Heard) where
+module _ (timing : Timing) (hs : List Heard) (was : Sizing) (sized : IsSized timing hs was) (h : Heard) where
   abbrev one : Numbered
   one = record { place = h.place; number = h.frame.rate }
 
@@ -40,27 +40,30 @@ module _ (hs : List Heard) (was : Sizing) (sized : IsSized hs was) (h : Heard) w
   mixed_here rate is other = ap mixed_at (rates_more hs h) ∙ mixed_other (rates_of hs) one rate.hertz sized.uniform (had_is rate is) other
 
   -- Its rate is the first, or that of the others.
-  module _ (now : Sizing) (missed : ℕ) (tail : now.last ≡ Some (tail_of h.frame)) (few : missed ≡ missing (last (frames_of hs)) h.frame)
-      (bytes : now.bytes ≡ min (min (was.bytes + (2 * missed + length h.frame.samples)) 18446744073709551615) 4294967296) where
-    bytes_now : now.bytes ≡ min (length (sound (frames_of (hs ++ h ∷ [])))) (2 ^ 32)
+  module _ (now : Sizing) (silent : ℕ) (track : IsTrack timing (with_heard timing (track_of timing hs) h) now.track) (few : silent ≡ gap timing (track_of timing hs) h.stamp h.frame)
+      (bytes : now.bytes ≡ min (min (was.bytes + (2 * silent + length h.frame.samples)) 18446744073709551615) 4294967296) where
+    bytes_now : now.bytes ≡ min (length (sound timing (hs ++ h ∷ []))) (2 ^ 32)
     bytes_now = bytes
         ∙ (λ i. min (min (sized.bytes i + (2 * few i + length h.frame.samples)) 18446744073709551615) 4294967296)
-        ∙ capped (length (sound (frames_of hs))) (2 * missing (last (frames_of hs)) h.frame + length h.frame.samples)
-        ∙ ap (λ (n : ℕ). min n (2 ^ 32)) (sym (size_more hs h))
+        ∙ capped (length (sound timing hs)) (2 * gap timing (track_of timing hs) h.stamp h.frame + length h.frame.samples)
+        ∙ ap (λ (n : ℕ). min n (2 ^ 32)) (sym (size_more timing hs h))
 
-    pub sized_first : was.rate ≡ None → option_map (λ r. r.hertz) now.rate ≡ Some h.frame.rate → IsSized (hs ++ h ∷ []) now
+    track_now : IsTrack timing (track_of timing (hs ++ h ∷ [])) now.track
+    track_now = subst (λ (t : Track). IsTrack timing t now.track) (sym (track_more timing hs h)) track
+
+    pub sized_first : was.rate ≡ None → option_map (λ r. r.hertz) now.rate ≡ Some h.frame.rate → IsSized timing (hs ++ h ∷ []) now
     sized_first none is = record {
       uniform = ap mixed_at (rates_more hs h) ∙ mixed_first (rates_of hs) one (none_is none);
       rate = is ∙ sym (first_rate (hs ++ h ∷ []) ∙ ap first_number (rates_more hs h) ∙ first_one (rates_of hs) one (none_is none));
-      tail = tail ∙ sym (ap (option_map tail_of) (last_heard hs h));
+      track = track_now;
       bytes = bytes_now;
     }
 
-    pub sized_next : (rate : SampleRate) → was.rate ≡ Some rate → (h.frame.rate == rate.hertz) ≡ true → now.rate ≡ was.rate → IsSized (hs ++ h ∷ []) now
+    pub sized_next : (rate : SampleRate) → was.rate ≡ Some rate → (h.frame.rate == rate.hertz) ≡ true → now.rate ≡ was.rate → IsSized timing (hs ++ h ∷ []) now
     sized_next rate had same is = record {
       uniform = ap mixed_at (rates_more hs h) ∙ mixed_same (rates_of hs) one rate.hertz sized.uniform (had_is rate had) same;
       rate = ap (option_map (λ (r : SampleRate). r.hertz)) (is ∙ had) ∙ sym (first_rate (hs ++ h ∷ []) ∙ ap first_number (rates_more hs h) ∙ first_stays (rates_of hs) one rate.hertz (had_is rate had));
-      tail = tail ∙ sym (ap (option_map tail_of) (last_heard hs h));
+      track = track_now;
       bytes = bytes_now;
     }
 

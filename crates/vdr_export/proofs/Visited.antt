@@ -14,6 +14,7 @@ use Rattle.vdr_export.specs.Refusals.{refusal_by}
 use Rattle.vdr_export.specs.declared.block.Block.{Block}
 use Rattle.vdr_export.specs.declared.refused.ExportRefused.{ExportRefused}
 use Rattle.vdr_export.specs.declared.refused.ExportRefused.TheVariants.{Damaged, Fault, Output}
+use Rattle.vdr_export.specs.declared.timing.Timing.{Timing}
 use Rattle.vdr_export.specs.declared.wave.WaveSize.{WaveSize}
 use Rattle.vdr_export.proofs.Ends.{stopped_end}
 use Rattle.vdr_export.proofs.Ending.{picture_own, picture_stopped}
@@ -30,14 +31,14 @@ module _ {Tells : List Record → Type 0} {Has : List Record → Type 0} {line :
     pub ended_so : {T : Type 0} (out : Result T ExportRefused) → out ≡ Err refused → (Stops v.seen Fault → ⊥) → ((m offset : ℕ) → Stops v.seen (Damaged m offset) → ⊥) → end_of (Err stop) ≡ file_end out
     ended_so out is fault damage = stopped_end refused (Has v.seen) (Stops v.seen) line (whole v.seen) v.seen was now stop from v.made fault damage out is
 
-  module _ (microphone : ℕ) (silent : stop ≡ stops.Output → ⊥) (v : HasHanded Tells Has (λ seen e. IsMixed (heard microphone seen) e) line whole was now (Err stop)) where
+  module _ (microphone : ℕ) (timing : Timing) (silent : stop ≡ stops.Output → ⊥) (v : HasHanded Tells Has (λ seen e. IsMixed (heard microphone seen) e) line whole was now (Err stop)) where
     pub no_size : (out : Result WaveSize ExportRefused) → out ≡ Err refused → (records : List Record) → Tells records
-        → AnswersOrFails (size_of (heard microphone records)) out
+        → AnswersOrFails (size_of timing (heard microphone records)) out
     no_size out is records told =
-        size_stopped microphone records v.seen (Has v.seen) line (whole v.seen) was now refused stop out is from silent v.made (v.are records told)
+        size_stopped microphone timing records v.seen (Has v.seen) line (whole v.seen) was now refused stop out is from silent v.made (v.are records told)
 
     pub no_size_own : IsSizeRefusal refused
-    no_size_own = size_own microphone v.seen v.seen (Has v.seen) line (whole v.seen) was now refused stop from silent v.made
+    no_size_own = size_own microphone timing v.seen v.seen (Has v.seen) line (whole v.seen) was now refused stop from silent v.made
 
   module _ (v : HasHanded Tells Has (λ _ _. ⊥) line whole was now (Err stop)) where
     pub undamaged : (out : Result ⊤ ExportRefused) → out ≡ Err refused → (records : List Record) → Tells records → OkOrFails out

@@ -10,12 +10,13 @@ use Rattle.vdr_visit.specs.Visits.{ReadEnd}
 use Rattle.vdr_visit.specs.Visits.ReadEnd.{AllRead, CutOff, ReadDamaged, ReadFault}
 use Rattle.vdr_export.specs.Listings.{listing_of, listing_text}
 use Rattle.vdr_export.specs.Pictures.{Shown, bodies, greatest_of, shown}
-use Rattle.vdr_export.specs.Sounds.{Heard, frames_of, heard, rates_of, sound}
+use Rattle.vdr_export.specs.Sounds.{Heard, heard, rates_of, sound}
 use Rattle.vdr_export.specs.Waves.{most_bytes, wave_file}
 use Rattle.vdr_export.specs.declared.file.File.{File}
 use Rattle.vdr_export.specs.declared.file.File.TheVariants.{Sound, Picture, Listing}
 use Rattle.vdr_export.specs.declared.refused.ExportRefused.{ExportRefused}
 use Rattle.vdr_export.specs.declared.refused.ExportRefused.TheVariants.{Nothing, Mixed, Long, Part, Fault, Damaged, Output, NoMemory}
+use Rattle.vdr_export.specs.declared.timing.Timing.{Timing}
 use Rattle.vdr_export.specs.declared.wave.WaveSize.{WaveSize}
 
 -- The answer, unless numbers are mixed.
@@ -27,17 +28,17 @@ abbrev pub unless_long : (rate bytes : ℕ) → Result WaveSize ExportRefused
 unless_long rate bytes = if nat_le bytes most_bytes then Ok (record { rate = rate; bytes = bytes }) else Err Long
 
 -- The rate and the size of a sound, or why it is none, in this order: no frame; frames of several rates; too many samples.
-abbrev pub size_of : List Heard → Result WaveSize ExportRefused
-size_of [] = Err Nothing
-size_of (h ∷ hs) = unless_mixed (mixed_at (rates_of (h ∷ hs))) (unless_long h.frame.rate (length (sound (frames_of (h ∷ hs)))))
+abbrev pub size_of : Timing → List Heard → Result WaveSize ExportRefused
+size_of timing [] = Err Nothing
+size_of timing (h ∷ hs) = unless_mixed (mixed_at (rates_of (h ∷ hs))) (unless_long h.frame.rate (length (sound timing (h ∷ hs))))
 
 -- The WAVE file of this size, or why there is none.
-abbrev pub wave_with : List Heard → Result WaveSize ExportRefused → Result (List ℕ) ExportRefused
-wave_with hs (Ok size) = Ok (wave_file size (frames_of hs))
-wave_with hs (Err why) = Err why
+abbrev pub wave_with : Timing → List Heard → Result WaveSize ExportRefused → Result (List ℕ) ExportRefused
+wave_with timing hs (Ok size) = Ok (wave_file size timing hs)
+wave_with timing hs (Err why) = Err why
 
-abbrev pub wave_of : List Heard → Result (List ℕ) ExportRefused
-wave_of hs = wave_with hs (size_of hs)
+abbrev pub wave_of : Timing → List Heard → Result (List ℕ) ExportRefused
+wave_of timing hs = wave_with timing hs (size_of timing hs)
 
 -- The media or the output failed, or there was no memory.
 abbrev pub IsFailure : Result ⊤ ExportRefused → Type 0
@@ -146,19 +147,19 @@ OkOrFails result = (result ≡ Ok tt) ⊎ ((result ≡ Err Fault) ⊎ (result �
 
 -- The file, or why there is none.
 abbrev pub file_of : File → List Record → Result (List ℕ) ExportRefused
-file_of (Sound microphone) records = wave_of (heard microphone records)
+file_of (Sound microphone timing) records = wave_of timing (heard microphone records)
 file_of (Picture block) records = picture_of (shown block records)
 file_of Listing records = Ok (listing_text (listing_of records))
 
 -- A file is refused so, and in no other way.
 abbrev pub IsFileRefusal : File → ExportRefused → Type 0
-IsFileRefusal (Sound microphone) why = IsWaveRefusal why
+IsFileRefusal (Sound microphone timing) why = IsWaveRefusal why
 IsFileRefusal (Picture block) why = IsPictureRefusal why
 IsFileRefusal Listing why = IsListingRefusal why
 
 -- The file may have been begun: a sound is read once more as it is written, and the others are written when all was read.
 abbrev pub MayBeBegun : File → ExportRefused → Type 0
-MayBeBegun (Sound microphone) why = IsWriteRefusal why
+MayBeBegun (Sound microphone timing) why = IsWriteRefusal why
 MayBeBegun (Picture block) why = why ≡ Output
 MayBeBegun Listing why = why ≡ Output
 

@@ -1,14 +1,19 @@
--- What holds of the list of images, beside each of the images.
-use Rattle.std.specs.Prelude.{◌≡◌, ℕ, List, [], ◌∷◌, codes, count_by, is_some, length, Option, Some, None, Result, Ok, Err}
+-- What holds of the list of images, beside each of the images, and of sounds by stamps.
+use Rattle.std.specs.Prelude.{◌≡◌, ◌≤◌, ◌<◌, ◌+◌, ◌-◌, ◌*◌, ◌⊎◌, ℕ, List, [], ◌∷◌, ◌++◌, codes, count_by, is_some, length, Option, Some, None, Result, Ok, Err}
 use Rattle.std.specs.Map.{lookup}
+use Rattle.std.specs.Option.{unwrap_or}
 use Rattle.vdr_terms.specs.Records.{Record}
 use Rattle.vdr_export.specs.Answers.{picture_of}
 use Rattle.vdr_export.specs.Collected.{bodies_of}
 use Rattle.vdr_export.specs.Listings.{Listed, listing_of, parts_in, same_block, state_word}
 use Rattle.vdr_export.specs.Pictures.{Shown, shown}
+use Rattle.vdr_export.specs.Sounds.{Heard, heard, silence, sound}
+use Rattle.vdr_export.specs.Tracks.{jitter, position, samples_in}
 use Rattle.vdr_export.specs.declared.block.Block.{Block}
 use Rattle.vdr_export.specs.declared.refused.ExportRefused.{ExportRefused}
 use Rattle.vdr_export.specs.declared.refused.ExportRefused.TheVariants.{Nothing, Mixed, Long, Part, Fault, Damaged, Output, NoMemory}
+use Rattle.vdr_export.specs.declared.timing.Timing.{Timing}
+use Rattle.vdr_export.specs.declared.timing.Timing.TheVariants.{Stamped}
 
 -- How much of an image is there, by its picture, or why there is none.
 abbrev pub word_of : Result (List ℕ) ExportRefused → List ℕ
@@ -39,3 +44,29 @@ AreListedAs (p ∷ ps) (Some x) = IsListedAs (p ∷ ps) x
 -- So the list of these records tells of each block.
 abbrev pub ListsPictures : Type 0
 ListsPictures = (block : Block) (records : List Record) → AreListedAs (shown block records) (lookup (λ b. same_block b block) (listing_of records))
+
+-- The stamp of the first sample of a sound by stamps.
+abbrev pub first_stamp : (from : Option ℕ) → List Heard → ℕ
+first_stamp from [] = unwrap_or from 0
+first_stamp from (h ∷ hs) = unwrap_or from h.stamp
+
+-- A frame that lies behind the end of the sound, by more than the slack, begins where it lies, and any other right at the end.
+abbrev pub BeginsInTime : (begin end place slack : ℕ) → Type 0
+BeginsInTime begin end place slack = ((end + slack < place) × (begin ≡ place)) ⊎ ((place ≤ end + slack) × (begin ≡ end))
+
+-- A frame behind others in a sound by stamps: where theirs ends, in samples of two bytes, and where its own samples begin, all of them, with silence
+-- between the two.
+pub record IsInTime (from : Option ℕ) (hs : List Heard) (h : Heard) : Type 0 where
+  pub end : ℕ
+  pub ends : length (sound (Stamped from) hs) ≡ 2 * end
+  pub begin : ℕ
+  pub split : sound (Stamped from) (hs ++ h ∷ []) ≡ sound (Stamped from) hs ++ (silence (begin - end) ++ h.frame.samples)
+  pub begins : BeginsInTime begin end (position (first_stamp from (hs ++ h ∷ [])) h.stamp h.frame) (samples_in h.frame.rate jitter)
+
+-- So each frame is, behind those of any records.
+abbrev pub AreInTime : Type 0
+AreInTime = (microphone : ℕ) (from : Option ℕ) (records : List Record) (h : Heard) → IsInTime from (heard microphone records) h
+
+-- The sound of the first frames stays, whatever comes behind them.
+abbrev pub GoesOn : Type 0
+GoesOn = (timing : Timing) (front rest : List Heard) → (more : List ℕ) × (sound timing (front ++ rest) ≡ sound timing front ++ more)

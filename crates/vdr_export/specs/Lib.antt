@@ -1,5 +1,6 @@
 -- Files out of what was recorded: sound, and images.
 pub mod Numbers
+pub mod Tracks
 pub mod Sounds
 pub mod Waves
 pub mod Pictures

@@ -9,6 +9,6 @@ use Rattle.vdr_export.specs.declared.frames.Tail.{Tail}
 abbrev pub tail_of : Frame → Tail
 tail_of f = record { frame = f.frame; samples = sample_count f.samples }
 
--- A frame of the record at this place.
-abbrev pub heard_as : (place : ℕ) → PcmFrame → Heard
-heard_as place frame = record { place = place; frame = frame_of frame }
+-- A frame of the record at this place, with this stamp.
+abbrev pub heard_as : (place stamp : ℕ) → PcmFrame → Heard
+heard_as place stamp frame = record { place = place; stamp = stamp; frame = frame_of frame }

@@ -1,8 +1,8 @@
 -- A WAVE file (RIFF) of one channel of linear PCM samples of 16 bits. Numbers are little-endian.
 use Rattle.std.specs.Prelude.{ℕ, ◌+◌, ◌*◌, ◌≤◌, List, ◌++◌, codes}
 use Rattle.vdr_bytes.specs.Numbers.{le_u16, le_u32}
-use Rattle.vdr_pcm.specs.Frames.{Frame}
-use Rattle.vdr_export.specs.Sounds.{sound}
+use Rattle.vdr_export.specs.Sounds.{Heard, sound}
+use Rattle.vdr_export.specs.declared.timing.Timing.{Timing}
 use Rattle.vdr_export.specs.declared.wave.WaveSize.{WaveSize}
 
 -- The most bytes of sound that a file has: its own size is a number of four bytes, and two bytes are a sample.
@@ -22,5 +22,5 @@ format_chunk rate = codes "fmt " ++ le_u32 16 ++ le_u16 1 ++ le_u16 1 ++ le_u32 
 unfoldable pub wave_header : WaveSize → List ℕ
 wave_header size = codes "RIFF" ++ le_u32 (36 + size.bytes) ++ codes "WAVE" ++ format_chunk size.rate ++ codes "data" ++ le_u32 size.bytes
 
-abbrev pub wave_file : WaveSize → List Frame → List ℕ
-wave_file size frames = wave_header size ++ sound frames
+abbrev pub wave_file : WaveSize → Timing → List Heard → List ℕ
+wave_file size timing hs = wave_header size ++ sound timing hs

@@ -15,6 +15,7 @@ use crate::block::Block;
 use crate::images::write_listing;
 use crate::picture::write_picture;
 use crate::refused::ExportRefused;
+use crate::timing::Timing;
 use crate::waves::{wave_size, write_wave};
 use std::alloc::Global;
 use vdr_entry::Query;
@@ -24,8 +25,8 @@ use vdr_visit::Reader;
 /// What file is to be made.
 #[derive(Clone, Copy, Drop)]
 pub enum File {
-    /// The sound of this microphone, as a WAVE file.
-    Sound { microphone: u8 },
+    /// The sound of this microphone, as a WAVE file, with its frames where the timing says.
+    Sound { microphone: u8, timing: Timing },
     /// The image of this block.
     Picture(Block),
     /// The list of the images.
@@ -38,11 +39,12 @@ fn export_wave<R: Reader, M: Media, O: Sink>(
     media: &mut M,
     query: &Query,
     microphone: u8,
+    timing: Timing,
     out: &mut O,
 ) -> Result<(), ExportRefused>
     requires asked { MayBeAsked R.Reader query.now reader.old (M.disk media.old).sizes }
     ensures wave { (records : List Record) → R.tells _ M.Media reader.old media.old (asked query.now) records
-        → FileEnds (wave_of (heard microphone records)) (O.taken out.old) (O.taken out.new) result }
+        → FileEnds (wave_of timing (heard microphone records)) (O.taken out.old) (O.taken out.new) result }
     ensures silent { IfErr result (λ why. IsWriteRefusal why ⊎ (out.new ≡ out.old)) }
     ensures own { IfErr result IsWaveRefusal }
     ensures failed { R.failed reader.old ≡ true → (result ≡ Err AFault) × (reader.new ≡ reader.old) × (media.new ≡ media.old) × (out.new ≡ out.old) }
@@ -50,8 +52,8 @@ fn export_wave<R: Reader, M: Media, O: Sink>(
     ensures output { HasOutputCause (O.faults out.old) (O.faults out.new) (result ≡ Err Output) }
 {
     R::law_of_visits::<M>();
-    let size = wave_size(reader, media, query, microphone)?;
-    write_wave(reader, media, query, microphone, &size, out)
+    let size = wave_size(reader, media, query, microphone, timing)?;
+    write_wave(reader, media, query, microphone, timing, &size, out)
 }
 
 /// Writes a file out of what a query selects: a sound by `wave_size` and then `write_wave`, a picture by
@@ -77,7 +79,9 @@ pub fn export_file<R: Reader, M: Media, O: Sink>(
     ensures output { HasOutputCause (O.faults out.old) (O.faults out.new) (result ≡ Err Output) }
 {
     match file {
-        File::Sound { microphone } => export_wave(reader, media, query, *microphone, out),
+        File::Sound { microphone, timing } => {
+            export_wave(reader, media, query, *microphone, *timing, out)
+        }
         File::Picture(block) => write_picture(alloc, reader, media, query, block, out),
         File::Listing => write_listing(alloc, reader, media, query, out),
     }

@@ -1,9 +1,11 @@
 // The frames of a microphone that records have.
-ghost use Rattle.std.specs.Prelude.{◌≡◌, ◌<◌, ◌≤◌, ◌*◌, ◌^◌, option_map, Option};
+ghost use Rattle.std.specs.Prelude.{◌≡◌, ◌<◌, ◌≤◌, ◌*◌, ◌^◌, option_map, unsigned_abs, Option};
+ghost use Rattle.vdr_terms.specs.Stamps.{last_stamp};
 ghost use Rattle.vdr_pcm.specs.Frames.{Frame};
 ghost use Rattle.vdr_pcm.specs.Views.{frame_of};
-ghost use Rattle.vdr_export.specs.Sounds.{frame_in, heard_in, missing};
+ghost use Rattle.vdr_export.specs.Sounds.{frame_in, heard_in};
 ghost use Rattle.vdr_export.specs.Tails.{heard_as, tail_of};
+ghost use Rattle.vdr_export.specs.Tracks.{missing};
 
 use vdr_entry::{Content, Record};
 use vdr_pcm::{PcmFrame, read_pcm};
@@ -28,12 +30,20 @@ fn frame_in(item: &Record) -> Option<PcmFrame<'_>>
 
 /// The frame of a record, if it has one of this microphone.
 pub(crate) fn heard_in(item: &Record, microphone: u8) -> Option<PcmFrame<'_>>
-    ensures { option_map (heard_as item.now.place) result ≡ heard_in microphone item.now }
+    ensures { option_map (heard_as item.now.place (unsigned_abs item.now.utc)) result ≡ heard_in microphone item.now }
 {
     match frame_in(item) {
         Some(frame) if frame.microphone == microphone => Some(frame),
         _ => None,
     }
+}
+
+/// The stamp of a record, in milliseconds since 1970.
+pub(crate) fn stamp_of(item: &Record) -> u64
+    ensures stamp { result ≡ unsigned_abs item.now.utc }
+    ensures few { result ≤ last_stamp }
+{
+    item.utc.unsigned_abs()
 }
 
 /// How many samples are missing before a frame.

@@ -1,15 +1,19 @@
 // How large a sound is.
-ghost use Rattle.std.specs.Prelude.{◌≡◌, ◌∷◌, ◌++◌, ℕ, List, [], Err, IfErr, IfOk, OnOk};
+ghost use Rattle.std.specs.Prelude.{◌≡◌, ◌≤◌, ◌∷◌, ◌++◌, ℕ, List, [], Err, IfErr, IfOk, OnOk};
+ghost use Rattle.vdr_terms.specs.Stamps.{last_stamp};
 ghost use Rattle.vdr_export.specs.Answers.{IsSizeRefusal, size_of};
 ghost use Rattle.vdr_export.specs.Heard.{IsMixed, IsSized};
 ghost use Rattle.vdr_export.specs.Sounds.{Heard};
 ghost use Rattle.vdr_export.specs.Tails.{heard_as};
 ghost use Rattle.vdr_export.specs.Waves.{IsWaveSize};
 ghost use Rattle.vdr_export.specs.declared.refused.ExportRefused.TheVariants.{Damaged, Fault as AFault};
+ghost use Rattle.vdr_export.specs.declared.timing.Timing.{Timing as ATiming};
 
-use crate::frames::{Tail, heard_in, missing, tail_of};
+use crate::frames::{heard_in, stamp_of};
 use crate::rate::SampleRate;
 use crate::refused::ExportRefused;
+use crate::timing::Timing;
+use crate::track::Track;
 use crate::wave::WaveSize;
 use vdr_entry::Record;
 use vdr_outside::Sink;
@@ -27,41 +31,41 @@ const TOO_MANY: u64 = 4_294_967_296;
 pub(crate) struct Sizing {
     // That of the first frame, and so of all.
     rate: Option<SampleRate>,
-    last: Option<Tail>,
+    track: Track,
     bytes: u64,
 }
 
 impl Sizing {
     /// No frame was heard.
-    pub(crate) fn new() -> Sizing
-        ensures { IsSized [] result }
+    pub(crate) fn new(timing: Timing) -> Sizing
+        ensures { IsSized timing [] result }
     {
         Sizing {
             rate: None,
-            last: None,
+            track: Track::new(timing),
             bytes: 0,
         }
     }
 
-    // Hears one more frame, of the record at this place.
-    fn hear(&mut self, place: u64, frame: &PcmFrame<'_>) -> Result<(), ExportRefused>
-        ensures sized { (hs : List Heard) → IsSized hs self.old → OnOk result (IsSized (hs ++ heard_as place frame.now ∷ []) self.new) }
-        ensures mixed { (hs : List Heard) → IsSized hs self.old → IfErr result (IsMixed (hs ++ heard_as place frame.now ∷ [])) }
+    // Hears one more frame, of the record at this place, with this stamp.
+    fn hear(&mut self, place: u64, stamp: u64, frame: &PcmFrame<'_>) -> Result<(), ExportRefused>
+        requires { stamp ≤ last_stamp }
+        ensures sized { (timing : ATiming) (hs : List Heard) → IsSized timing hs self.old → OnOk result (IsSized timing (hs ++ heard_as place stamp frame.now ∷ []) self.new) }
+        ensures mixed { (timing : ATiming) (hs : List Heard) → IsSized timing hs self.old → IfErr result (IsMixed (hs ++ heard_as place stamp frame.now ∷ [])) }
     {
         match self.rate {
             None => self.rate = Some(SampleRate { hertz: frame.rate }),
             Some(rate) if rate.hertz != frame.rate => return Err(ExportRefused::Mixed { place }),
             Some(_) => {}
         }
-        let more = 2 * missing(self.last, frame) + frame.samples.len() as u64;
+        let more = 2 * self.track.follow(stamp, frame) + frame.samples.len() as u64;
         self.bytes = self.bytes.saturating_add(more).min(TOO_MANY);
-        self.last = Some(tail_of(frame));
         Ok(())
     }
 
     /// The size, once all frames were heard.
     pub(crate) fn size(&self) -> Result<WaveSize, ExportRefused>
-        ensures size { (hs : List Heard) → IsSized hs self.now → result ≡ size_of hs }
+        ensures size { (timing : ATiming) (hs : List Heard) → IsSized timing hs self.now → result ≡ size_of timing hs }
         ensures legal { IfOk result IsWaveSize }
         ensures own { IfErr result IsSizeRefusal }
         ensures fault { result ≡ Err AFault → ⊥ }
@@ -90,13 +94,13 @@ pub(crate) struct Hearing {
 
 impl Hearing {
     /// No frame was heard.
-    pub(crate) fn new(microphone: u8) -> Hearing
+    pub(crate) fn new(microphone: u8, timing: Timing) -> Hearing
         ensures microphone { result.microphone ≡ microphone }
-        ensures nothing { IsSized [] result.sizing }
+        ensures nothing { IsSized timing [] result.sizing }
     {
         Hearing {
             microphone,
-            sizing: Sizing::new(),
+            sizing: Sizing::new(timing),
         }
     }
 }
@@ -108,7 +112,7 @@ impl Visitor for Hearing {
 
     type Reason = ExportRefused;
 
-    ghost has = { λ first seen now. (now.microphone ≡ first.microphone) × IsSized (heard first.microphone seen) now.sizing };
+    ghost has = { λ first seen now. (now.microphone ≡ first.microphone) × IsSized first.sizing.track.timing (heard first.microphone seen) now.sizing };
 
     ghost line = { λ _ _ _. [] };
 
@@ -124,7 +128,7 @@ impl Visitor for Hearing {
         let Some(frame) = heard_in(item, self.microphone) else {
             return Ok(());
         };
-        match self.sizing.hear(item.place, &frame) {
+        match self.sizing.hear(item.place, stamp_of(item), &frame) {
             Ok(()) => Ok(()),
             Err(refused) => Err(VisitorRefused::Own(refused)),
         }

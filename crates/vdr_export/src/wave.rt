@@ -1,7 +1,7 @@
 // The header of a WAVE file (RIFF, linear PCM).
 //
-// A frame that is missing counts as many samples as the last one that is there; a number that goes back adds no
-// silence, since numbers don't begin again. Two passes are one look: the first counts, the second writes.
+// By numbers, a frame that is missing counts as many samples as the last one that is there; a number that goes back adds
+// no silence, since numbers don't begin again. Two passes are one look: the first counts, the second writes.
 ghost use Rattle.std.specs.Prelude.{◌≡◌, ◌≤◌, ◌+◌, ◌++◌, length};
 ghost use Rattle.arrayvec.specs.ArrayVec.{array_vec_len};
 ghost use Rattle.vdr_bytes.specs.Numbers.{le_u16, le_u32};

@@ -1,33 +1,28 @@
 // How a sound is written.
-ghost use Rattle.std.specs.Prelude.{◌≡◌, ◌≤◌, ◌∷◌, ◌++◌, ℕ, List, [], option_map, Err, IfErr, Ok, OnOk, Option};
+ghost use Rattle.std.specs.Prelude.{◌≡◌, ◌++◌, [], Err, OnOk};
 ghost use Rattle.std.specs.Io.KnownBytes.{Appends};
 ghost use Rattle.vdr_outside.specs.Causes.{HasCause};
 ghost use Rattle.vdr_outside.specs.Writes.{AppendsFront};
-ghost use Rattle.vdr_pcm.specs.Frames.{Frame};
-ghost use Rattle.vdr_pcm.specs.Views.{frame_of};
 ghost use Rattle.vdr_export.specs.Heard.{IsWritten};
-ghost use Rattle.vdr_export.specs.Sounds.{piece};
-ghost use Rattle.vdr_export.specs.Tails.{tail_of};
+ghost use Rattle.vdr_export.specs.Sounds.{silence};
 
-use crate::frames::{Tail, heard_in, missing, tail_of};
+use crate::frames::{heard_in, stamp_of};
 use crate::refused::ExportRefused;
 use crate::silence::write_silence;
+use crate::timing::Timing;
+use crate::track::Track;
 use vdr_entry::Record;
 use vdr_outside::{Failed, Sink, write_all};
 use vdr_pcm::PcmFrame;
 use vdr_visit::{Visitor, VisitorRefused};
 
-// Writes a frame's samples, and before them silence where samples are missing.
-fn write_frame<O: Sink>(
-    before: Option<Tail>,
-    frame: &PcmFrame<'_>,
-    out: &mut O,
-) -> Result<(), Failed>
-    ensures all { (told : Option Frame) → before ≡ option_map tail_of told → OnOk result (Appends (O.taken out.old) (O.taken out.new) (piece told (frame_of frame.now))) }
-    ensures front { (told : Option Frame) → before ≡ option_map tail_of told → AppendsFront (O.taken out.old) (O.taken out.new) (piece told (frame_of frame.now)) }
+// Writes so many samples of silence, and then a frame's samples.
+fn write_frame<O: Sink>(gap: u64, frame: &PcmFrame<'_>, out: &mut O) -> Result<(), Failed>
+    ensures all { OnOk result (Appends (O.taken out.old) (O.taken out.new) (silence gap ++ frame.now.samples.now)) }
+    ensures front { AppendsFront (O.taken out.old) (O.taken out.new) (silence gap ++ frame.now.samples.now) }
     ensures cause { HasCause (O.faults out.old) (O.faults out.new) result }
 {
-    write_silence(missing(before, frame), out)?;
+    write_silence(gap, out)?;
     write_all(out, frame.samples)
 }
 
@@ -35,17 +30,17 @@ fn write_frame<O: Sink>(
 #[derive(Drop)]
 pub(crate) struct Writing {
     microphone: u8,
-    last: Option<Tail>,
+    track: Track,
 }
 
 impl Writing {
     /// No frame was written.
-    pub(crate) fn new(microphone: u8) -> Writing
-        ensures { IsWritten microphone [] result }
+    pub(crate) fn new(microphone: u8, timing: Timing) -> Writing
+        ensures { IsWritten microphone timing [] result }
     {
         Writing {
             microphone,
-            last: None,
+            track: Track::new(timing),
         }
     }
 }
@@ -57,9 +52,9 @@ impl Visitor for Writing {
 
     type Reason = ExportRefused;
 
-    ghost has = { λ first seen now. IsWritten first.microphone (heard first.microphone seen) now };
+    ghost has = { λ first seen now. IsWritten first.microphone first.track.timing (heard first.microphone seen) now };
 
-    ghost line = { λ first seen item. added first.microphone seen item };
+    ghost line = { λ first seen item. added first.microphone first.track.timing seen item };
 
     ghost last = { λ _ _. [] };
 
@@ -73,8 +68,8 @@ impl Visitor for Writing {
         let Some(frame) = heard_in(item, self.microphone) else {
             return Ok(());
         };
-        write_frame(self.last, &frame, out)?;
-        self.last = Some(tail_of(&frame));
+        let gap = self.track.follow(stamp_of(item), &frame);
+        write_frame(gap, &frame, out)?;
         Ok(())
     }
 

@@ -12,7 +12,7 @@ use Rattle.vdr_export.proofs.file.export_wave.Goals as goal
 pub returns-in_err-size-clause-wave : goal.returns-in_err-size-clause-wave
 returns-in_err-size-clause-wave g c records told =
     let p = err_from_is_err_and c.from_residual.result c.from_residual.ensures.1 in
-    no_wave (heard c.args.microphone records) (g.O.Sink.taken c.args.out.now) c.wave_size.result c.in_err-size.field-0.0 c.from_residual.result
+    no_wave c.args.timing (heard c.args.microphone records) (g.O.Sink.taken c.args.out.now) c.wave_size.result c.in_err-size.field-0.0 c.from_residual.result
     (c.wave_size.ensures.size records told) c.in_err-size.was (p.1 ∙ ap (λ (e : ExportRefused). Err e) p.2)
 
 pub returns-in_err-size-clause-leaves : goal.returns-in_err-size-clause-leaves
@@ -34,7 +34,7 @@ write_wave-requires-clause-asked g c =
 pub returns-clause-wave : goal.returns-clause-wave
 returns-clause-wave g c records told =
     let after = c.law_of_visits.ensures.told _ _ _ _ _ _ c.wave_size.ensures.leaves records told in
-    the_wave (heard c.args.microphone records) c.in_ok-size.size c.wave_size.result _ _ c.write_wave.result
+    the_wave c.args.timing (heard c.args.microphone records) c.in_ok-size.size c.wave_size.result _ _ c.write_wave.result
     (c.wave_size.ensures.size records told) c.in_ok-size.was
     (c.write_wave.ensures.written records after) (c.write_wave.ensures.front records after) (c.write_wave.ensures.undamaged records after)
 

@@ -15,23 +15,23 @@ use Rattle.vdr_export.proofs.waves.wave_size.Goals as goal
 
 pub returns-in-Err-clause-size : goal.returns-in-Err-clause-size
 returns-in-Err-clause-size g c =
-    let v = c.in-Err.ensures.handed (record c.new-hearing.result { microphone = c.args.microphone }) (c.new-hearing.ensures.microphone, c.new-hearing.ensures.nothing) in
-    no_size c.refusal_of.result c.in-Err.stop c.refusal_of.ensures c.args.microphone (λ is. never_blamed c.in-Err.ensures.output (ap (λ s. Err s) is)) v _ refl
+    let v = c.in-Err.ensures.handed (record c.new-hearing.result { microphone = c.args.microphone; sizing = record c.new-hearing.result.sizing { track = record c.new-hearing.result.sizing.track { timing = c.args.timing } } }) (c.new-hearing.ensures.microphone, c.new-hearing.ensures.nothing) in
+    no_size c.refusal_of.result c.in-Err.stop c.refusal_of.ensures c.args.microphone c.args.timing (λ is. never_blamed c.in-Err.ensures.output (ap (λ s. Err s) is)) v _ refl
 
 pub returns-in-Err-clause-own : goal.returns-in-Err-clause-own
 returns-in-Err-clause-own g c =
-    let v = c.in-Err.ensures.handed (record c.new-hearing.result { microphone = c.args.microphone }) (c.new-hearing.ensures.microphone, c.new-hearing.ensures.nothing) in
-    no_size_own c.refusal_of.result c.in-Err.stop c.refusal_of.ensures c.args.microphone (λ is. never_blamed c.in-Err.ensures.output (ap (λ s. Err s) is)) v
+    let v = c.in-Err.ensures.handed (record c.new-hearing.result { microphone = c.args.microphone; sizing = record c.new-hearing.result.sizing { track = record c.new-hearing.result.sizing.track { timing = c.args.timing } } }) (c.new-hearing.ensures.microphone, c.new-hearing.ensures.nothing) in
+    no_size_own c.refusal_of.result c.in-Err.stop c.refusal_of.ensures c.args.microphone c.args.timing (λ is. never_blamed c.in-Err.ensures.output (ap (λ s. Err s) is)) v
 
 pub returns-clause-size : goal.returns-clause-size
 returns-clause-size g c records told =
-    let v = c.in_default.ensures.handed (record c.new-hearing.result { microphone = c.args.microphone }) (c.new-hearing.ensures.microphone, c.new-hearing.ensures.nothing) in
-    inl (c.size.ensures.size (heard c.args.microphone records)
-    (subst (λ (rs : List Record). IsSized (heard c.args.microphone rs) c.visit.new.visitor.sizing) (v.are records told) v.made.0.1))
+    let v = c.in_default.ensures.handed (record c.new-hearing.result { microphone = c.args.microphone; sizing = record c.new-hearing.result.sizing { track = record c.new-hearing.result.sizing.track { timing = c.args.timing } } }) (c.new-hearing.ensures.microphone, c.new-hearing.ensures.nothing) in
+    inl (c.size.ensures.size c.args.timing (heard c.args.microphone records)
+    (subst (λ (rs : List Record). IsSized c.args.timing (heard c.args.microphone rs) c.visit.new.visitor.sizing) (v.are records told) v.made.0.1))
 
 pub returns-in-Err-clause-leaves : goal.returns-in-Err-clause-leaves
 returns-in-Err-clause-leaves g c =
-    let v = c.in-Err.ensures.handed (record c.new-hearing.result { microphone = c.args.microphone }) (c.new-hearing.ensures.microphone, c.new-hearing.ensures.nothing) in
+    let v = c.in-Err.ensures.handed (record c.new-hearing.result { microphone = c.args.microphone; sizing = record c.new-hearing.result.sizing { track = record c.new-hearing.result.sizing.track { timing = c.args.timing } } }) (c.new-hearing.ensures.microphone, c.new-hearing.ensures.nothing) in
     let is : ◌≡◌ {A = Result WaveSize ExportRefused} (Err c.refusal_of.result) (Err c.refusal_of.result) = refl in
     subst (λ (e : ReadEnd). g.R.Reader.leaves _ g.M.Media (asked c.args.query.now) c.args.reader.now c.visit.new.self c.args.media.now c.visit.new.media e)
     (ended_so c.refusal_of.result c.in-Err.stop c.refusal_of.ensures v _ is
