@@ -1,0 +1,3 @@
+-- Proofs.
+mod Parts
+mod Contents

@@ -1,0 +1,6 @@
+use Rattle.vdr_bytes.proofs.NumberLemmas.{length-le_u32}
+use Rattle.vdr_bytes.proofs.PutsLemmas.{puts-whole}
+use Rattle.vdr_evidence.proofs.piece.u32_bytes.Goals as goal
+
+pub returns : goal.returns
+returns c = puts-whole _ _ _ c.put_u32.ensures (length-le_u32 c.args.n)

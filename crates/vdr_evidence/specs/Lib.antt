@@ -1,0 +1,4 @@
+-- Evidence files.
+pub mod Files
+pub mod Writing
+pub mod Laws
