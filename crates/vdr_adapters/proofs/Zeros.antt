@@ -1,5 +1,5 @@
 -- Zeros that are written one piece behind the other.
-use Rattle.std.proofs.Common.{arith, ◌≡◌, ◌+◌, ◌-◌, ◌*◌, ◌<◌, ◌∙◌, ℕ, List, [], ◌∷◌, ◌++◌, Option, Some, None, length, min, replicate, subst, sym, ap, refl}
+use Rattle.std.proofs.Common.{arith, ◌≡◌, ◌+◌, ◌-◌, ◌*◌, ◌<◌, ◌∙◌, ℕ, List, [], ◌∷◌, ◌++◌, Option, Some, None, length, min, replicate, subst, sym, ap}
 use Rattle.std.proofs.lemmas.List.{append_assoc, length-replicate}
 use Rattle.vdr_adapters.specs.Files.{Call, FileSeen, Makes}
 use Rattle.vdr_adapters.specs.Files.Call.{Length, Lock, Read, Write, Sync, Leave}

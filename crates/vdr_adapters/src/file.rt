@@ -116,6 +116,7 @@ impl<F: MediumFile + Drop> FileMedium<F> {
         ensures made { (name mark : List ℕ) → IsFile (F.seen file) (record { name = name; mark = mark; access = Full; calls = [] })
             → IfOk result (λ medium. IsMade F.seen (place_in medium) name mark size) }
         ensures size { IfOk result (λ medium. medium.size ≡ size) }
+        ensures unfailed { IfOk result (λ medium. medium.faults ≡ 0) }
     {
         let file = filled(file, size)?;
         Ok(FileMedium::new(State::Open, Some(file), size, None))
@@ -125,6 +126,7 @@ impl<F: MediumFile + Drop> FileMedium<F> {
         ensures state { result.state ≡ state }
         ensures file { result.file ≡ file }
         ensures size { result.size ≡ size }
+        ensures unfailed { result.faults ≡ 0 }
     {
         FileMedium {
             state,

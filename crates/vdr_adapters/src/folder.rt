@@ -1,5 +1,5 @@
 // The folder of the media and their files, as traits: what is told of the calls that were made on a file.
-ghost use Rattle.std.specs.Prelude.{◌≡◌, [], ◌∷◌, length, IfOk, OnOk};
+ghost use Rattle.std.specs.Prelude.{◌≡◌, [], ◌∷◌, length, IfOk, IsErr, OnErr, OnOk};
 ghost use Rattle.vdr_adapters.specs.Files.{IsFile, Makes};
 ghost use Rattle.vdr_adapters.specs.Files.Call.{Leave, Length, Lock, Read, Sync, Write};
 ghost use Rattle.vdr_adapters.specs.declared.folder.Access.TheVariants.{Full};
@@ -81,25 +81,44 @@ pub trait MediaFolder {
         ensures { IfOk result (λ file. IsFile (Self.File.seen file) (record { name = name.now; mark = mark.now; access = access; calls = [] })) };
 }
 
-/// The folder in which media are made.
+/// The folder in which media are made. It tells what stands of what was made through it, and which names are taken, as far as it can.
 pub trait NewMedia {
+    ghost use Rattle.std.specs.Prelude.{ℕ, List};
+    ghost use Rattle.vdr_adapters.specs.Makers.{Adds, AddsNone, AreStillTaken, IsFolderMade, Part, Removes};
+    ghost use Rattle.vdr_adapters.specs.Makers.Part.{Folder, Named};
+
     /// Its files.
     type File: MediumFile;
 
+    /// Of each part, a fact where it was made through it and stands.
+    ghost stands: { Self → Part → Type 0 };
+
+    /// Of each name, a fact where it is taken.
+    ghost taken: { Self → List ℕ → Type 0 };
+
     /// Makes the folder where there is none, and tells whether it did.
-    fn make(&self) -> io::Result<bool>;
+    fn make(&mut self) -> io::Result<bool>
+        ensures made { IfOk result (λ made. Adds (IsFolderMade made) (stands self.old) (stands self.new)) }
+        ensures failed { OnErr result (AddsNone (stands self.old) (stands self.new)) }
+        ensures names { AreStillTaken (taken self.old) (taken self.new) };
 
     /// Makes the file of this name, which its owner alone may read and write, and which would leave the mark of this name. A name
     /// that is taken is refused, and so is one whose mark stands.
-    fn create(&self, name: &str, mark: &str) -> Result<Self::File, Unopened>
-        ensures { IfOk result (λ file. IsFile (Self.File.seen file) (record { name = name.now; mark = mark.now; access = Full; calls = [] })) };
+    fn create(&mut self, name: &str, mark: &str) -> Result<Self::File, Unopened>
+        ensures file { IfOk result (λ file. IsFile (Self.File.seen file) (record { name = name.now; mark = mark.now; access = Full; calls = [] })) }
+        ensures made { Adds (λ part. part ≡ Named name.now) (stands self.old) (stands self.new) }
+        ensures failed { OnErr result (AddsNone (stands self.old) (stands self.new)) }
+        ensures refused { taken self.old name.now → IsErr result }
+        ensures names { AreStillTaken (taken self.old) (taken self.new) };
 
     /// Syncs the names in the folder, and the folder's own where it was made.
     fn sync(&self, made: bool) -> io::Result<()>;
 
     /// Removes the file of this name.
-    fn remove(&self, name: &str);
+    fn remove(&mut self, name: &str)
+        ensures { Removes (λ part. part ≡ Named name.now) (stands self.old) (stands self.new) };
 
     /// Removes the folder.
-    fn unmake(&self);
+    fn unmake(&mut self)
+        ensures { Removes (λ part. part ≡ Folder) (stands self.old) (stands self.new) };
 }

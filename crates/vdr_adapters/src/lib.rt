@@ -6,8 +6,10 @@
 #![tactic(auto)]
 
 mod file;
+mod file_maker;
 mod filling;
 mod folder;
+mod maker;
 mod making;
 mod media;
 mod standard;
@@ -15,8 +17,10 @@ mod streams;
 mod system;
 mod trouble;
 
+pub use file_maker::FileMaker;
 pub use folder::{Access, MediaFolder, MediumFile, NewMedia, Unopened};
-pub use making::{NewlyMade, Unmade, make_in, make_media, unmake_in, unmake_media};
+pub use maker::{MediaMaker, NotMade};
+pub use making::Unmade;
 pub use media::FileMedia;
 pub use standard::StandardStreams;
 pub use streams::{StdIn, StdOut};

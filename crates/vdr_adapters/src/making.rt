@@ -1,8 +1,9 @@
 // Both media made as the files capsule.vdr and longterm.vdr of a folder.
 //
 // A name that is taken is refused, and what stands there stays as it is. Where making fails what it made is removed.
-ghost use Rattle.std.specs.Prelude.{◌≡◌, [], codes, IfOk};
+ghost use Rattle.std.specs.Prelude.{◌≡◌, [], codes, true, IfOk, IsErr, OnErr, OnOk};
 ghost use Rattle.vdr_adapters.specs.Files.{IsFile};
+ghost use Rattle.vdr_adapters.specs.Makers.{Adds, AddsNone, AreStillTaken, IsFolderMade, IsMadePart, IsMediumFile, IsNameTaken, Removes};
 ghost use Rattle.vdr_adapters.specs.Making.{AreMade};
 ghost use Rattle.vdr_adapters.specs.Media.{place_in};
 ghost use Rattle.vdr_adapters.specs.declared.folder.Access.TheVariants.{Full};
@@ -11,8 +12,6 @@ use crate::Trouble;
 use crate::file::FileMedium;
 use crate::folder::{MediumFile, NewMedia, Unopened};
 use crate::media::{CAPSULE, CAPSULE_MARK, FileMedia, LONG_TERM, LONG_TERM_MARK};
-use crate::system::{SystemFile, SystemFolder};
-use std::fs::{File, Files};
 
 /// Why media were not made. Nothing is left of them.
 #[derive(Drop)]
@@ -41,15 +40,20 @@ impl Unmade {
 
 /// Media that were made, and whether their folder was.
 #[derive(Drop)]
-pub struct NewlyMade<'a, F: MediumFile + Drop> {
-    pub media: FileMedia<'a, F>,
-    pub folder: bool,
+pub(crate) struct NewlyMade<'a, F: MediumFile + Drop> {
+    pub(crate) media: FileMedia<'a, F>,
+    pub(crate) folder: bool,
 }
 
 // The two files, each under its own name. Where the second can't be made the first is removed.
-fn create_both<F: MediumFile + Drop, D: NewMedia<File = F>>(folder: &D) -> Result<(F, F), Unmade>
+fn create_both<F: MediumFile + Drop, D: NewMedia<File = F>>(
+    folder: &mut D,
+) -> Result<(F, F), Unmade>
     ensures capsule { IfOk result (λ files. IsFile (F.seen files.0) (record { name = codes "capsule.vdr"; mark = codes "capsule.left"; access = Full; calls = [] })) }
     ensures long_term { IfOk result (λ files. IsFile (F.seen files.1) (record { name = codes "longterm.vdr"; mark = codes "longterm.left"; access = Full; calls = [] })) }
+    ensures made { OnOk result (Adds IsMediumFile (D.stands folder.old) (D.stands folder.new)) }
+    ensures failed { OnErr result (AddsNone (D.stands folder.old) (D.stands folder.new)) }
+    ensures refused { IsNameTaken (D.taken folder.old) → IsErr result }
 {
     let capsule = match folder.create(CAPSULE, CAPSULE_MARK) {
         Ok(file) => file,
@@ -78,6 +82,7 @@ fn fill_both<'a, F: MediumFile + Drop>(
         → IsFile (F.seen long_term) (record { name = codes "longterm.vdr"; mark = codes "longterm.left"; access = Full; calls = [] })
         → IfOk result (λ media. AreMade F.seen (place_in media.capsule) capsule_size (place_in media.long_term) long_size) }
     ensures sizes { IfOk result (λ media. (media.capsule.size ≡ capsule_size) × (media.long_term.size ≡ long_size)) }
+    ensures unfailed { IfOk result (λ media. (media.capsule.faults ≡ 0) × (media.long_term.faults ≡ 0)) }
 {
     let capsule = match FileMedium::made(capsule, capsule_size) {
         Ok(medium) => medium,
@@ -91,44 +96,66 @@ fn fill_both<'a, F: MediumFile + Drop>(
 
 // The media in a folder that is there.
 fn make_files<'a, F: MediumFile + Drop, D: NewMedia<File = F>>(
-    folder: &D,
+    folder: &mut D,
     capsule_size: u64,
     long_size: u64,
 ) -> Result<FileMedia<'a, F>, Unmade>
     ensures made { IfOk result (λ media. AreMade F.seen (place_in media.capsule) capsule_size (place_in media.long_term) long_size) }
     ensures sizes { IfOk result (λ media. (media.capsule.size ≡ capsule_size) × (media.long_term.size ≡ long_size)) }
+    ensures unfailed { IfOk result (λ media. (media.capsule.faults ≡ 0) × (media.long_term.faults ≡ 0)) }
+    ensures stands { OnOk result (Adds IsMediumFile (D.stands folder.old) (D.stands folder.new)) }
+    ensures failed { OnErr result (AddsNone (D.stands folder.old) (D.stands folder.new)) }
+    ensures refused { IsNameTaken (D.taken folder.old) → IsErr result }
 {
     let (capsule, long_term) = create_both(folder)?;
-    let filled = fill_both(capsule, long_term, capsule_size, long_size);
-    if filled.is_err() {
-        remove_both(folder);
+    match fill_both(capsule, long_term, capsule_size, long_size) {
+        Ok(media) => Ok(media),
+        Err(why) => {
+            remove_both(folder);
+            Err(why)
+        }
     }
-    filled
 }
 
-fn remove_both<D: NewMedia>(folder: &D) {
+// Removes the files of both media.
+fn remove_both<D: NewMedia>(folder: &mut D)
+    ensures { Removes IsMediumFile (D.stands folder.old) (D.stands folder.new) }
+{
     folder.remove(CAPSULE);
     folder.remove(LONG_TERM);
 }
 
-/// Removes media that were made just now, and their folder if it was.
-pub fn unmake_in<D: NewMedia>(folder: &D, made: bool) {
-    remove_both(folder);
+// Removes the folder, if it was made.
+fn remove_folder<D: NewMedia>(folder: &mut D, made: bool)
+    ensures { Removes (IsFolderMade made) (D.stands folder.old) (D.stands folder.new) }
+{
     if made {
         folder.unmake();
     }
 }
 
+/// Removes media that were made just now, and their folder if it was.
+pub(crate) fn unmake_in<D: NewMedia>(folder: &mut D, made: bool)
+    ensures { Removes (IsMadePart made) (D.stands folder.old) (D.stands folder.new) }
+{
+    remove_both(folder);
+    remove_folder(folder, made);
+}
+
 /// Makes both media in this folder, which is made where there is none: each its own file, made by its own name, locked before any other
 /// call, filled with zeros up to this size in bytes, and synced. Then their names are synced. Where a name is taken, or a call fails, what
 /// was made is removed.
-pub fn make_in<'a, F: MediumFile + Drop, D: NewMedia<File = F>>(
-    folder: &D,
+pub(crate) fn make_in<'a, F: MediumFile + Drop, D: NewMedia<File = F>>(
+    folder: &mut D,
     capsule_size: u64,
     long_size: u64,
 ) -> Result<NewlyMade<'a, F>, Unmade>
     ensures made { IfOk result (λ it. AreMade F.seen (place_in it.media.capsule) capsule_size (place_in it.media.long_term) long_size) }
     ensures sizes { IfOk result (λ it. (it.media.capsule.size ≡ capsule_size) × (it.media.long_term.size ≡ long_size)) }
+    ensures unfailed { IfOk result (λ it. (it.media.capsule.faults ≡ 0) × (it.media.long_term.faults ≡ 0)) }
+    ensures stands { IfOk result (λ it. Adds (IsMadePart it.folder) (D.stands folder.old) (D.stands folder.new)) }
+    ensures failed { OnErr result (AddsNone (D.stands folder.old) (D.stands folder.new)) }
+    ensures refused { IsNameTaken (D.taken folder.old) → IsErr result }
 {
     let made = match folder.make() {
         Ok(made) => made,
@@ -137,9 +164,7 @@ pub fn make_in<'a, F: MediumFile + Drop, D: NewMedia<File = F>>(
     let media = match make_files(folder, capsule_size, long_size) {
         Ok(media) => media,
         Err(why) => {
-            if made {
-                folder.unmake();
-            }
+            remove_folder(folder, made);
             return Err(why);
         }
     };
@@ -153,23 +178,4 @@ pub fn make_in<'a, F: MediumFile + Drop, D: NewMedia<File = F>>(
             Err(Unmade::Folder(Trouble::System(error)))
         }
     }
-}
-
-/// Makes both media in the folder at this path, as `make_in` does.
-pub fn make_media<'a, R: AllocGlobal + Files<File = File> + Eprint + Copy>(
-    rt: R,
-    folder: &str,
-    capsule_size: u64,
-    long_size: u64,
-) -> Result<NewlyMade<'a, SystemFile<R>>, Unmade> {
-    make_in(&SystemFolder::new(rt, folder), capsule_size, long_size)
-}
-
-/// Removes media that were made just now in the folder at this path, and the folder if it was.
-pub fn unmake_media<R: AllocGlobal + Files<File = File> + Eprint + Copy>(
-    rt: R,
-    folder: &str,
-    made: bool,
-) {
-    unmake_in(&SystemFolder::new(rt, folder), made);
 }

@@ -148,7 +148,11 @@ impl<'a, R: AllocGlobal + Files<File = File> + Eprint + Copy> SystemFolder<'a, R
 impl<'a, R: AllocGlobal + Files<File = File> + Eprint + Copy> NewMedia for SystemFolder<'a, R> {
     type File = SystemFile<R>;
 
-    fn make(&self) -> io::Result<bool> {
+    ghost stands = { λ s part. ⊥ };
+
+    ghost taken = { λ s name. ⊥ };
+
+    fn make(&mut self) -> io::Result<bool> {
         match fs::create_dir(&self.rt, self.path) {
             Ok(()) => Ok(true),
             Err(error) if error.kind() == ErrorKind::AlreadyExists => Ok(false),
@@ -156,7 +160,7 @@ impl<'a, R: AllocGlobal + Files<File = File> + Eprint + Copy> NewMedia for Syste
         }
     }
 
-    fn create(&self, name: &str, mark: &str) -> Result<SystemFile<R>, Unopened> {
+    fn create(&mut self, name: &str, mark: &str) -> Result<SystemFile<R>, Unopened> {
         let path = self.path_of(name)?;
         let mark = self.path_of(mark)?;
         let Ok(folder) = self.path.to_string(self.rt.alloc()) else {
@@ -179,13 +183,13 @@ impl<'a, R: AllocGlobal + Files<File = File> + Eprint + Copy> NewMedia for Syste
         Ok(())
     }
 
-    fn remove(&self, name: &str) {
+    fn remove(&mut self, name: &str) {
         if let Ok(path) = self.path_of(name) {
             let _ = fs::remove_file(&self.rt, path.as_str());
         }
     }
 
-    fn unmake(&self) {
+    fn unmake(&mut self) {
         let _ = fs::remove_dir(&self.rt, self.path);
     }
 }
