@@ -4,7 +4,8 @@ use Rattle.vdr_terms.specs.declared.rate.Rate.{Rate}
 use Rattle.vdr_terms.specs.Records.{Item}
 use Rattle.vdr_core.specs.Runs.{base_after}
 use Rattle.vdr_outside.specs.Causes.{Rose}
-use Rattle.vdr_opening.specs.Media.{Contents, HoldsContents, opening_of}
+use Rattle.vdr_outside.specs.Disk.{Image}
+use Rattle.vdr_opening.specs.Media.{Contents, HoldsContents, HoldsParts, opening_of}
 use Rattle.vdr_opening.specs.declared.refused.OpenRefused.{OpenRefused}
 use Rattle.vdr_opening.specs.declared.refused.OpenRefused.TheVariants as openings
 use Rattle.vdr_capture.specs.declared.lane.Cause.{Cause}
@@ -14,14 +15,15 @@ use Rattle.vdr_capture.specs.declared.sums.Outcome.TheVariants as outcomes
 use Rattle.vdr_desk.specs.Exchanges.{Exchange}
 use Rattle.vdr_session.specs.Sessions.{OutcomeMeans, is_closed}
 use Rattle.vdr_session.specs.declared.session.SessionEnd.{SessionEnd}
-use Rattle.vdr_command.specs.Opened.{OneAnswer, WasRecorded}
+use Rattle.vdr_command.specs.Opened.{OneAnswer}
 use Rattle.vdr_command.specs.Statuses.{status_of_opening}
 use Rattle.vdr_command.specs.Outside.{MediaFailed, MediaSeen, OutputFailed, OutputSeen}
 use Rattle.vdr_tool.specs.Summaries.{summary_text}
 use Rattle.vdr_command.specs.declared.status.Status.{Status}
 use Rattle.vdr_command.specs.declared.status.Status.TheVariants.{Done, MediaFault, PortFault, LinkFault, OutputFault, NoMemory, Place, Tick}
 use Rattle.vdr_vault.proofs.OpenMoments.{never_both}
-use Rattle.vdr_command.proofs.OpenedCompleteness.{damaged_alike}
+use Rattle.vdr_command.proofs.OpenedCompleteness.{damaged_alike, last_read, place_read}
+use Rattle.vdr_recorder.specs.Refusals.{MayBegin}
 use Rattle.vdr_recorder.specs.Watched.{Watched}
 use Rattle.vdr_live.specs.Links.{AsksLinks, LinkSeen, NoLinkFailed, WasAnswered}
 use Rattle.vdr_live.specs.Ports.{AsksPorts, NoPortFailed, PortIn, PortSeen}
@@ -43,6 +45,28 @@ links_rose turns old new cause exchanges failed h = h.2.fails (same h.0 (sym h.1
   where
     same : (c : Cause) → Some c ≡ Some Failed → c ≡ Failed
     same c e = cc
+
+-- What is decided by what was read of legible media is decided by what they hold.
+means_too : (image : Image) → OneAnswer image → (y x : Contents) → HoldsParts image y → HoldsContents image x → (outcome : Outcome) → OutcomeMeans (opening_of y) outcome → OutcomeMeans (opening_of x) outcome
+means_too image law y x hy hx outcome h = go outcome h
+  where
+    place_is : (opening_of y).next_place ≡ (opening_of x).next_place
+    place_is = place_read image law y x hy hx
+
+    base_is : base_after (opening_of y).last ≡ base_after (opening_of x).last
+    base_is = ap base_after (last_read image law y x hy hx)
+
+    may : MayBegin (opening_of y) → MayBegin (opening_of x)
+    may low = record { place = subst (λ (n : ℕ). n < 2 ^ 62) place_is low.place; base = subst (λ (n : ℕ). n < 2 ^ 62) base_is low.base }
+
+    go : (outcome : Outcome) → OutcomeMeans (opening_of y) outcome → OutcomeMeans (opening_of x) outcome
+    go outcomes.Done h = may h
+    go outcomes.NoMemory h = tt
+    go outcomes.Place h = subst (λ (n : ℕ). 2 ^ 62 ≤ n) place_is h
+    go outcomes.Tick h = (subst (λ (n : ℕ). n < 2 ^ 62) place_is h.0, subst (λ (n : ℕ). 2 ^ 62 ≤ n) base_is h.1)
+    go outcomes.MediaFault h = tt
+    go (outcomes.PortFault g) h = may h
+    go (outcomes.LinkFault i) h = may h
 
 module _ {tells tells_images : Type 0} (turns : ℕ) (ports_old ports_new : List PortSeen) (links_old links_new : List LinkSeen) (old new : MediaSeen tells tells_images) (hears : Type 0) (w : Watched) (was next : OutputSeen) where
   abbrev PortRose : ℕ → Type 0
@@ -101,8 +125,8 @@ module _ {tells tells_images : Type 0} (turns : ℕ) (ports_old ports_new : List
 
     -- By exclusion
     module _ (told : tells) (law : OneAnswer old.disk.reads) (output : OutputFailed was next → ⊥) (media : MediaFailed old new → ⊥) (ports : NoPortFailed ports_old ports_new) (links : NoLinkFailed links_old links_new) where
-      means : (o : Outcome) → end.outcome ≡ o → (x : Contents) → HoldsContents old.disk.reads x → WasRecorded x → OutcomeMeans (opening_of x) o
-      means o is x holds sound = subst (λ (o : Outcome). OutcomeMeans (opening_of x) o) is (ends.recorded x told holds sound).told.means
+      means : (o : Outcome) → end.outcome ≡ o → (x : Contents) → HoldsContents old.disk.reads x → OutcomeMeans (opening_of x) o
+      means o is x holds = let l = ends.openable told in subst (λ (o : Outcome). OutcomeMeans (opening_of x) o) is (means_too old.disk.reads law l.1 x l.2 holds end.outcome l.4.begins)
 
       too_high : (n : ℕ) → 2 ^ 62 ≤ n → n < 2 ^ 62 → ⊥
       too_high n high low = omega (arith, high, low)
@@ -111,31 +135,31 @@ module _ {tells tells_images : Type 0} (turns : ℕ) (ports_old ports_new : List
       all_of outcomes.Done summary status is (inl done) = subst (λ (s : Status). RecordsAll old.disk.reads s) (sym done.0) (record {
         unformatted = λ un. absurd (never_both old.disk.reads (ends.openable told).0 un);
         damaged = λ f m offset r. let l = ends.openable told in absurd (law.opens l.1 m offset l.2 l.3 r);
-        place = λ x holds meet sound high. absurd (too_high (opening_of x).next_place high (means outcomes.Done is x holds sound).place);
-        tick = λ x holds meet sound low high. absurd (too_high (base_after (opening_of x).last) high (means outcomes.Done is x holds sound).base);
-        done = λ x holds meet sound may. tt;
+        place = λ x holds meet high. absurd (too_high (opening_of x).next_place high (means outcomes.Done is x holds).place);
+        tick = λ x holds meet low high. absurd (too_high (base_after (opening_of x).last) high (means outcomes.Done is x holds).base);
+        done = λ x holds meet may. tt;
       })
       all_of outcomes.Done summary status is (inr failed) = absurd (output failed.1)
       all_of outcomes.NoMemory summary status is p = subst (λ (s : Status). RecordsAll old.disk.reads s) (sym p.0) (record {
         unformatted = λ un. inr refl;
         damaged = λ f m offset r. inr refl;
-        place = λ x holds meet sound high. inr refl;
-        tick = λ x holds meet sound low high. inr refl;
-        done = λ x holds meet sound may. tt;
+        place = λ x holds meet high. inr refl;
+        tick = λ x holds meet low high. inr refl;
+        done = λ x holds meet may. tt;
       })
       all_of outcomes.Place summary status is p = subst (λ (s : Status). RecordsAll old.disk.reads s) (sym p.0) (record {
         unformatted = λ un. absurd (never_both old.disk.reads (ends.openable told).0 un);
         damaged = λ f m offset r. let l = ends.openable told in absurd (law.opens l.1 m offset l.2 l.3 r);
-        place = λ x holds meet sound high. inl refl;
-        tick = λ x holds meet sound low high. absurd (too_high (opening_of x).next_place (means outcomes.Place is x holds sound) low);
-        done = λ x holds meet sound may. absurd (too_high (opening_of x).next_place (means outcomes.Place is x holds sound) may.place);
+        place = λ x holds meet high. inl refl;
+        tick = λ x holds meet low high. absurd (too_high (opening_of x).next_place (means outcomes.Place is x holds) low);
+        done = λ x holds meet may. absurd (too_high (opening_of x).next_place (means outcomes.Place is x holds) may.place);
       })
       all_of outcomes.Tick summary status is p = subst (λ (s : Status). RecordsAll old.disk.reads s) (sym p.0) (record {
         unformatted = λ un. absurd (never_both old.disk.reads (ends.openable told).0 un);
         damaged = λ f m offset r. let l = ends.openable told in absurd (law.opens l.1 m offset l.2 l.3 r);
-        place = λ x holds meet sound high. absurd (too_high (opening_of x).next_place high (means outcomes.Tick is x holds sound).0);
-        tick = λ x holds meet sound low high. inl refl;
-        done = λ x holds meet sound may. absurd (too_high (base_after (opening_of x).last) (means outcomes.Tick is x holds sound).1 may.base);
+        place = λ x holds meet high. absurd (too_high (opening_of x).next_place high (means outcomes.Tick is x holds).0);
+        tick = λ x holds meet low high. inl refl;
+        done = λ x holds meet may. absurd (too_high (base_after (opening_of x).last) (means outcomes.Tick is x holds).1 may.base);
       })
       all_of outcomes.MediaFault summary status is p = absurd (media (ends.fault is))
       all_of (outcomes.PortFault g) summary status is p = let r = port_rose g is in absurd (ports g r.0 r.1)
@@ -146,27 +170,27 @@ module _ {tells tells_images : Type 0} (turns : ℕ) (ports_old ports_new : List
   refused_all told law media openings.NoMemory ends = record {
     unformatted = λ un. inr refl;
     damaged = λ f m offset r. inr refl;
-    place = λ x holds meet sound high. inr refl;
-    tick = λ x holds meet sound low high. inr refl;
-    done = λ x holds meet sound may. tt;
+    place = λ x holds meet high. inr refl;
+    tick = λ x holds meet low high. inr refl;
+    done = λ x holds meet may. tt;
   }
   refused_all told law media openings.NotFormatted ends =
       let un = (ends.media.unformatted refl).1 told in
       record {
         unformatted = λ other. inl refl;
         damaged = λ f m offset r. absurd (never_both old.disk.reads f un);
-        place = λ x holds meet sound high. absurd (law.formatted x holds un);
-        tick = λ x holds meet sound low high. absurd (law.formatted x holds un);
-        done = λ x holds meet sound may. absurd (law.formatted x holds un);
+        place = λ x holds meet high. absurd (law.formatted x holds un);
+        tick = λ x holds meet low high. absurd (law.formatted x holds un);
+        done = λ x holds meet may. absurd (law.formatted x holds un);
       }
   refused_all told law media (openings.Damaged k at) ends = ⊎_elim
       (λ r. let f = r.1 told in
       record {
         unformatted = λ un. absurd (never_both old.disk.reads f.0 un);
         damaged = λ formatted m offset also. inl (damaged_alike k at m offset (law.one k at m offset f.1 also));
-        place = λ x holds meet sound high. absurd (law.either x k at holds meet f.1);
-        tick = λ x holds meet sound low high. absurd (law.either x k at holds meet f.1);
-        done = λ x holds meet sound may. absurd (law.either x k at holds meet f.1);
+        place = λ x holds meet high. absurd (law.either x k at holds meet f.1);
+        tick = λ x holds meet low high. absurd (law.either x k at holds meet f.1);
+        done = λ x holds meet may. absurd (law.either x k at holds meet f.1);
       })
       (λ none. absurd none)
       ends.media.damaged

@@ -7,6 +7,7 @@ use Rattle.vdr_core.specs.Histories.{Event, recorded}
 use Rattle.vdr_core.specs.Runs.{RunStart}
 use Rattle.vdr_core.specs.Sums.{missed_in, recorded_in}
 use Rattle.vdr_core.specs.Taken.{AllFeed, Captured}
+use Rattle.vdr_outside.specs.Causes.{Rose}
 use Rattle.vdr_outside.specs.Disk.{Disk}
 use Rattle.vdr_config.specs.Grammar.{configuration}
 use Rattle.vdr_intake.specs.Ends.{QueueId, Taking}
@@ -20,6 +21,7 @@ use Rattle.vdr_session.specs.declared.session.SessionEnd.{SessionEnd}
 use Rattle.vdr_recorder.specs.Headline.{IsHeard}
 use Rattle.vdr_recorder.specs.Watched.{Watched}
 use Rattle.vdr_recorder.proofs.Headlines.{after_opening, order_after}
+use Rattle.vdr_recorder.proofs.Playing.{plays}
 use Rattle.vdr_live.specs.Headline.{AccountsForSession, SessionHeadline}
 use Rattle.vdr_live.specs.Links.{AreReplied, LinkSeen}
 
@@ -45,16 +47,16 @@ full_held start rates capacity given rest items lost end run s groups closed g s
         let f = s.full closed g intake small is in
         f.held (subst (λ (n : ℕ). 0 < n) f.full some)
 
-module _ {tells tells_images : Type 0} (x : Contents) (reads : configuration x.text ≡ Ok x.config) (sound : AreSound x) (rose : Type 0) (t0 : ℕ) (r : RecorderState)
+module _ {tells tells_images : Type 0} (x : Contents) (reads : configuration x.text ≡ Ok x.config) (sound : AreSound x) (was now : ℕ) (t0 : ℕ) (r : RecorderState)
     (old mid new : Disk tells tells_images) (opened : HasRecorded (opening_of x) [] t0 r mid) (passes : Passes (opening_of x) [] old mid) (entry : old.clock ≤ t0) (exit : t0 ≤ mid.clock)
     (hears : Type 0) (w : Watched) where
   pub headline : (given : ℕ → List Item) (rest : ℕ → Counts) (items lost : List Captured) → AllFeed (items ++ lost) rest given → (end : SessionEnd) (events : List Event)
       → KeepsSession (opening_of x) t0 end.outcome mid new events
       → RecordsSession (start_of_opening (opening_of x)) x.config.groups x.config.queue given rest items lost end (recorded events) → HasGroups x.config.groups end
-      → (end.outcome ≡ MediaFault → rose) → (turns : ℕ) (links_old links_new : List LinkSeen) → AreReplied turns x.config.channels rose end.outcome (opening_of x) events links_old links_new
-      → (hears → IsHeard (opening_of x) events t0 old w) → SessionHeadline x rose given turns links_old links_new end old new hears w
+      → (end.outcome ≡ MediaFault → Rose was now) → (turns : ℕ) (links_old links_new : List LinkSeen) → AreReplied turns x.config.channels was now end.outcome (opening_of x) events links_old links_new
+      → (hears → IsHeard (opening_of x) events t0 old w) → SessionHeadline x was now given turns links_old links_new end old new hears w
   headline given rest items lost feed end events k s groups risen turns links_old links_new replies heard =
-      after_opening x reads (AccountsForSession x rose given turns links_old links_new end) ((end.outcome ≡ MediaFault) × rose) old hears w t0 mid new passes entry exit events
+      after_opening x reads (AccountsForSession x was now given turns links_old links_new end new) ((end.outcome ≡ MediaFault) × Rose was now) old hears w t0 mid new passes entry exit events
       (order_after x sound t0 r mid opened events k.made) k.history k.kept k.passes (⊎_elim (λ whole. inl whole) (λ is. inr (is, risen is)) k.pending)
       (record {
         means = k.means;
@@ -65,4 +67,5 @@ module _ {tells tells_images : Type 0} (x : Contents) (reads : configuration x.t
         records = s;
         full = full_held (start_of_opening (opening_of x)) x.config.groups x.config.queue given rest items lost end (recorded events) s groups;
         replies = replies;
+        reads = λ told closed. plays x reads events (order_after x sound t0 r mid opened events k.made) new.reads (k.reads closed told);
       }) heard

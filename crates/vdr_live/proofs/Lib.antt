@@ -3,6 +3,7 @@ pub mod Endings
 pub mod Headlines
 pub mod LinkLemmas
 pub mod Lives
+pub mod MakeLemmas
 pub mod PortLemmas
 pub mod Words
 mod Numbered

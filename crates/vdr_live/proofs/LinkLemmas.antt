@@ -1,5 +1,5 @@
 -- What a session says of its desks, said of what their links tell.
-use Rattle.std.proofs.Common.{◌≡◌, ◌≢◌, ◌⊎◌, inl, inr, ◌<◌, ◌++◌, ◌∷◌, ℕ, Bool, true, false, List, [], length, map, get_or, Option, None, refl, sym, ap, ◌∙◌, subst, arith}
+use Rattle.std.proofs.Common.{◌≡◌, ◌≢◌, ◌⊎◌, inl, inr, ◌≤◌, ◌<◌, ◌++◌, ◌∷◌, ℕ, Bool, true, false, List, [], length, map, get_or, Option, None, refl, sym, ap, ◌∙◌, subst, arith}
 use Rattle.std.proofs.lemmas.List.{get_or-map, length-map}
 use Rattle.vdr_core.specs.Histories.{Event, Opening}
 use Rattle.vdr_outside.specs.declared.link.Link.{Ghosts as LinkTells}
@@ -9,24 +9,13 @@ use Rattle.vdr_capture.specs.declared.lane.Lane.{Lane}
 use Rattle.vdr_capture.specs.declared.sums.Outcome.{Outcome}
 use Rattle.vdr_capture.specs.declared.sums.Outcome.TheVariants.{Done, NoMemory, Place, Tick, MediaFault, PortFault, LinkFault}
 use Rattle.vdr_desk.specs.declared.desk.Desk.{Desk}
-use Rattle.vdr_desk.specs.Exchanges.{AreExchanged, Exchange}
+use Rattle.vdr_desk.specs.Exchanges.{Exchange}
 use Rattle.vdr_desk.specs.Links.{Converses}
-use Rattle.vdr_desk.proofs.Exchanged.{all_so}
-use Rattle.vdr_reply.specs.Answers.{IsAnswer}
-use Rattle.vdr_session.proofs.Replied.{answer_so}
 use Rattle.vdr_session.specs.declared.mark.Mark.{Mark}
 use Rattle.vdr_session.specs.Desks.{DesksReplied, DesksTold, FailureTold, HasSpoken}
 use Rattle.vdr_session.specs.Sessions.{is_closed}
 use Rattle.vdr_live.specs.Links.{AreReplied, AsksLinks, LinkIn, LinkSeen, TellsLinkFailure, as_seen, seen_link, seen_links}
 use Rattle.vdr_live.proofs.PortLemmas.{first_of}
-
--- A reply, with another cause of a fault
-
-pub answers_so : (channels : List Selector) (A B : Type 0) (opening : Opening) (events : List Event) (to : ℕ) (exchanges : List Exchange) → (A → B)
-    → AreExchanged (IsAnswer channels A opening) events 0 exchanges to → AreExchanged (IsAnswer channels B opening) events 0 exchanges to
-answers_so channels A B opening events to exchanges so h =
-    all_so (IsAnswer channels A opening) (IsAnswer channels B opening) events events
-    (λ first own behind split. (first, own, behind, split, refl, λ order text a. answer_so so a)) 0 to exchanges h
 
 module _ {L : Type 0} (tells : LinkTells L) where
   conversed_in : (turns : ℕ) (was link : L) (exchanges : List Exchange) (cause : Cause) → Converses tells turns was link exchanges cause
@@ -96,15 +85,20 @@ module _ {L : Type 0} (tells : LinkTells L) where
     failure = subst (λ (n : ℕ). TellsLinkFailure outcome n (causes_of new)) (told.as_many ∙ sym (seen_length old)) (failure_of outcome lanes new failure);
   }
 
-  pub are_replied : (turns : ℕ) (channels : List Selector) (A B : Type 0) (outcome : Outcome) (opening : Opening) (events : List Event) (old new : List (Desk L Mark)) → length new ≡ length old → (A → B)
-      → DesksReplied tells turns channels A outcome old new opening events → AreReplied turns channels B outcome opening events (seen_links tells old) (seen_links tells new)
-  are_replied turns channels A B outcome opening events old new as_many so replied i d low =
-      let below : i < length old = (let l = seen_length old in omega (arith, low, l)) in
-      let e = first_of old (omega (arith, below)) in
-      let r = replied i e below in
-      record {
-        cause = causes_of new i;
-        exchanges = r.exchanges;
-        spoken = spoken_at turns outcome old new as_many i e d below r.exchanges r.spoken;
-        answered = answers_so channels A B opening events (length events) r.exchanges so r.answered;
-      }
+  -- a count that was lower before rose by as much
+  pub are_replied : (turns : ℕ) (channels : List Selector) (first was now : ℕ) (outcome : Outcome) (opening : Opening) (events : List Event) (old new : List (Desk L Mark)) → length new ≡ length old → first ≤ was
+      → DesksReplied tells turns channels was now outcome old new opening events → AreReplied turns channels first now outcome opening events (seen_links tells old) (seen_links tells new)
+  are_replied turns channels first was now outcome opening events old new as_many earlier replied = record {
+    origins = replied.origins;
+    failures = (let rose = replied.failures in omega (arith, earlier, rose));
+    each = λ i d low.
+        let below : i < length old = (let l = seen_length old in omega (arith, low, l)) in
+        let e = first_of old (omega (arith, below)) in
+        let r = replied.each i e below in
+        record {
+          cause = causes_of new i;
+          exchanges = r.exchanges;
+          spoken = spoken_at turns outcome old new as_many i e d below r.exchanges r.spoken;
+          answered = r.answered;
+        };
+  }

@@ -6,3 +6,5 @@ pub mod Recordings
 pub mod Runs
 pub mod Lines
 pub mod Making
+pub mod Makes
+pub mod MakeParts

@@ -12,8 +12,8 @@ use Rattle.vdr_capture.specs.declared.sums.Outcome.TheVariants.{Done, NoMemory, 
 use Rattle.vdr_desk.specs.declared.desk.Desk.{Desk}
 use Rattle.vdr_desk.specs.Exchanges.{AreExchanged, Exchange}
 use Rattle.vdr_desk.specs.Links.{Converses}
-use Rattle.vdr_reply.specs.Answers.{IsAnswer}
 use Rattle.vdr_session.specs.declared.mark.Mark.{Mark}
+use Rattle.vdr_session.specs.Origins.{IsAnswerOf, Origin, RoseBy, failures_in}
 use Rattle.vdr_session.specs.Sessions.{is_closed}
 
 -- A link: the lines left and the bytes replied, where it tells them, how often it was asked for a line, and how often it failed.
@@ -60,17 +60,19 @@ pub record AsksLinks (turns : ℕ) (old new : List LinkSeen) (outcome : Outcome)
   pub each : (i : ℕ) (d : LinkSeen) → i < length old → (exchanges : List Exchange) × LinkIn turns (is_closed outcome) (get_or old i d) (get_or new i d) (causes i) exchanges
   pub failure : TellsLinkFailure outcome (length old) causes
 
--- What was answered over a link stands in the history: each order is one event there, at rising places, and its reply is a function of the events
--- before that. A play may be cut short where a call on the media failed.
-pub record IsReplied (turns : ℕ) (channels : List Selector) (met_fault : Type 0) (outcome : Outcome) (opening : Opening) (events : List Event) (old new : LinkSeen) : Type 0 where
+-- What was answered over the link of this number stands in the history: each order is one event of its own there, at rising places, and its
+-- reply is a function of the events before that. A play may be cut short where a call on the media failed in its own event.
+pub record IsReplied (turns : ℕ) (channels : List Selector) (origins : List Origin) (number : ℕ) (outcome : Outcome) (opening : Opening) (events : List Event) (old new : LinkSeen) : Type 0 where
   pub cause : Option Cause
   pub exchanges : List Exchange
   pub spoken : LinkIn turns (is_closed outcome) old new cause exchanges
-  pub answered : AreExchanged (IsAnswer channels met_fault opening) events 0 exchanges (length events)
+  pub answered : AreExchanged (IsAnswerOf channels origins number opening) events 0 exchanges (length events)
 
-abbrev pub AreReplied : (turns : ℕ) (channels : List Selector) (met_fault : Type 0) → Outcome → Opening → List Event → (old new : List LinkSeen) → Type 0
-AreReplied turns channels met_fault outcome opening events old new =
-    (i : ℕ) (d : LinkSeen) → i < length old → IsReplied turns channels met_fault outcome opening events (get_or old i d) (get_or new i d)
+-- So it is over each link. No event is an order of two links, and the media's count of faults rose for each event in which a call failed.
+pub record AreReplied (turns : ℕ) (channels : List Selector) (faults_old faults_new : ℕ) (outcome : Outcome) (opening : Opening) (events : List Event) (old new : List LinkSeen) : Type 0 where
+  pub origins : List Origin
+  pub failures : RoseBy (failures_in origins) faults_old faults_new
+  pub each : (i : ℕ) (d : LinkSeen) → i < length old → IsReplied turns channels origins i outcome opening events (get_or old i d) (get_or new i d)
 
 -- No link failed in between.
 abbrev pub NoLinkFailed : (old new : List LinkSeen) → Type 0

@@ -1,12 +1,12 @@
 -- What `record TURNS` answers, what it takes from the ports and replies over the links, and what it leaves of the media (this project's profile).
-use Rattle.std.specs.Prelude.{◌≡◌, ◌≢◌, ◌≤◌, ◌<◌, ◌^◌, ◌⊎◌, ◌∷◌, ℕ, Bool, true, List, [], String, map, string_bytes, codes, decimal, length, get_or, Option, Result, Ok, Err, ⊤}
+use Rattle.std.specs.Prelude.{◌≡◌, ◌≢◌, ◌≤◌, ◌<◌, ◌^◌, ◌⊎◌, ◌∷◌, ℕ, Bool, true, List, [], String, map, string_bytes, codes, decimal, length, get_or, sum, Option, Result, Ok, Err, ⊤}
 use Rattle.std.specs.declared.alloc.Global.{Global}
 use Rattle.vdr_terms.specs.declared.rate.Rate.{Rate}
 use Rattle.vdr_terms.specs.Records.{Item}
 use Rattle.vdr_core.specs.Runs.{base_after}
 use Rattle.vdr_durability.specs.Readings.{EndsMeet}
 use Rattle.vdr_outside.specs.Causes.{Rose}
-use Rattle.vdr_outside.specs.Disk.{Image}
+use Rattle.vdr_outside.specs.Disk.{Image, SameBut}
 use Rattle.vdr_media.specs.Formatted.{IsFormatted, IsUnformatted}
 use Rattle.vdr_opening.specs.Media.{members, Contents, HoldsContents, opening_of, reading_of}
 use Rattle.vdr_opening.specs.Refusals.{IsRefused}
@@ -14,10 +14,10 @@ use Rattle.vdr_opening.specs.declared.refused.OpenRefused.{OpenRefused}
 use Rattle.vdr_vault.specs.Calls.{SameElsewhere}
 use Rattle.vdr_capture.specs.declared.sums.Outcome.{Outcome}
 use Rattle.vdr_capture.specs.declared.sums.Outcome.TheVariants as outcomes
-use Rattle.vdr_session.specs.Sessions.{HasGroups, is_closed}
+use Rattle.vdr_session.specs.Sessions.{HasGroups, IsUnbegun, OutcomeMeans, is_closed}
 use Rattle.vdr_session.specs.declared.session.SessionEnd.{SessionEnd}
 use Rattle.vdr_command.specs.Endings.{IsDone}
-use Rattle.vdr_command.specs.Opened.{IsOpenableWith, MediaEnds, WasRecorded}
+use Rattle.vdr_command.specs.Opened.{AddsMissing, IsOpenableWith, MediaEnds, WasRecorded}
 use Rattle.vdr_command.specs.Statuses.{status_of_opening}
 use Rattle.vdr_command.specs.Outside.{MediaFailed, MediaSeen, NothingFailed, OutputFailed, OutputSeen, Outside, Prints, PrintsFront, Writes}
 use Rattle.vdr_tool.specs.Summaries.{summary_text}
@@ -66,6 +66,11 @@ abbrev pub TellsSession : Result SessionEnd OpenRefused → Status → (old new 
 TellsSession (Ok end) status old new = PrintsSession end.outcome (summary_text end.groups end.records) status old new
 TellsSession (Err refused) status old new = (status ≡ status_of_opening refused) × (new ≡ old)
 
+-- These are the rates of the groups, and a run is refused, or begins, by what opening read, sound or not.
+pub record Decides (rates : List (Option Rate)) (outcome : Outcome) (x : Contents) : Type 0 where
+  pub rates_are : x.config.groups ≡ rates
+  pub begins : OutcomeMeans (opening_of x) outcome
+
 module _ {tells tells_images : Type 0} (turns : ℕ) (ports_old ports_new : List PortSeen) (links_old links_new : List LinkSeen) (old new : MediaSeen tells tells_images) (hears : Type 0) (w : Watched) where
   -- The media were opened, and a session recorded what the ports gave and answered what the links asked for.
   pub record IsRecorded (end : SessionEnd) : Type 0 where
@@ -75,14 +80,17 @@ module _ {tells tells_images : Type 0} (turns : ℕ) (ports_old ports_new : List
     -- only the ports of configured groups are asked, and only in a run that was begun
     pub runs : is_closed end.outcome ≡ true → began ≡ true
     pub ports : end.outcome ≢ outcomes.NoMemory → AsksPorts turns began rates ports_old ports_new end.outcome given
-    pub unasked : end.outcome ≡ outcomes.NoMemory → ports_new ≡ ports_old
+    pub unasked : IsUnbegun end.outcome → ports_new ≡ ports_old
     pub groups : HasGroups rates end
     -- what was answered over each link, and its failure
     pub links : AsksLinks turns links_old links_new end.outcome
     -- one history of what the ports gave, whole and at every moment, and in it the orders of the links
     pub recorded : (x : Contents) → tells → HoldsContents old.disk.reads x → WasRecorded x
-        → SessionHeadline x (MediaFailed old new) given turns links_old links_new end old.disk new.disk hears w
-    pub openable : tells → IsOpenableWith old.disk.reads (λ x. x.config.groups ≡ rates)
+        → SessionHeadline x (sum old.faults) (sum new.faults) given turns links_old links_new end old.disk new.disk hears w
+    -- each refusal of the run comes only in its case, and it writes no more than the batch that the long-term medium lacks
+    pub openable : tells → IsOpenableWith old.disk.reads (Decides rates end.outcome)
+    pub beside : IsUnbegun end.outcome → tells → SameBut 1 old.disk.reads new.disk.reads
+    pub missing : IsUnbegun end.outcome → AddsMissing old.disk new.disk
     pub others : tells → SameElsewhere old.disk.reads new.disk.reads
     pub fault : end.outcome ≡ outcomes.MediaFault → MediaFailed old new
 
@@ -100,11 +108,11 @@ module _ {tells tells_images : Type 0} (turns : ℕ) (ports_old ports_new : List
 pub record RecordsAll (image : Image) (status : Status) : Type 0 where
   pub unformatted : IsUnformatted image → (status ≡ Unformatted) ⊎ (status ≡ NoMemory)
   pub damaged : IsFormatted image → (m offset : ℕ) → IsRefused image m offset → (status ≡ Damaged m offset) ⊎ (status ≡ NoMemory)
-  pub place : (x : Contents) → HoldsContents image x → EndsMeet members (reading_of x) → WasRecorded x
+  pub place : (x : Contents) → HoldsContents image x → EndsMeet members (reading_of x)
       → 2 ^ 62 ≤ (opening_of x).next_place → (status ≡ Place) ⊎ (status ≡ NoMemory)
-  pub tick : (x : Contents) → HoldsContents image x → EndsMeet members (reading_of x) → WasRecorded x
+  pub tick : (x : Contents) → HoldsContents image x → EndsMeet members (reading_of x)
       → (opening_of x).next_place < 2 ^ 62 → 2 ^ 62 ≤ base_after (opening_of x).last → (status ≡ Tick) ⊎ (status ≡ NoMemory)
-  pub done : (x : Contents) → HoldsContents image x → EndsMeet members (reading_of x) → WasRecorded x → MayBegin (opening_of x) → IsDone status
+  pub done : (x : Contents) → HoldsContents image x → EndsMeet members (reading_of x) → MayBegin (opening_of x) → IsDone status
 
 -- The port of this group failed.
 abbrev pub IfPortFault : Status → (ℕ → Type 0) → Type 0

@@ -9,7 +9,9 @@ pub(crate) enum Form {
     Channel,
     From,
     To,
+    Timed,
     At,
+    Named,
     Source,
     Block,
     Label,
@@ -29,6 +31,11 @@ fn is_number(word: &str, least: u64, most: u64) -> bool {
     }
 }
 
+// Whether all its bytes are 0x21 to 0x7E.
+fn is_graphic(word: &str) -> bool {
+    word.bytes().all(|byte| 0x21 <= byte && byte <= 0x7E)
+}
+
 impl Form {
     /// Its name.
     pub(crate) fn name(self) -> &'static str {
@@ -37,8 +44,9 @@ impl Form {
             Form::Channel => "CHANNEL",
             Form::From => "FROM",
             Form::To => "TO",
+            Form::Timed => "timed",
             Form::At => "AT",
-            Form::Source => "SOURCE",
+            Form::Named | Form::Source => "SOURCE",
             Form::Block => "BLOCK",
             Form::Label => "LABEL",
             Form::Id => "ID",
@@ -57,6 +65,10 @@ impl Form {
             Form::Channel => "the name of a configured channel, or `all`",
             Form::From | Form::To | Form::At => {
                 "a stamp such as 2024-05-14T06:30:00.000Z, or `-` for no bound"
+            }
+            Form::Timed => "that word, or left out",
+            Form::Named => {
+                "1 to 15 bytes of 0x21 to 0x7E, such as GP0001, or `-` for lines that name none"
             }
             Form::Source => "six bytes of 0x21 to 0x7E, such as EI0001",
             Form::Block => "a number of 0 to 4294967295",
@@ -78,8 +90,9 @@ impl Form {
             Form::From | Form::To | Form::At => {
                 read_play(b"capsule", b"all", word.as_bytes(), b"-").is_some()
             }
-            Form::Source => word.len() == 6
-                && word.bytes().all(|byte| 0x21 <= byte && byte <= 0x7E),
+            Form::Timed => word == "timed",
+            Form::Named => 1 <= word.len() && word.len() <= 15 && is_graphic(word),
+            Form::Source => word.len() == 6 && is_graphic(word),
             Form::Block => is_number(word, 0, 4_294_967_295),
             Form::Id => is_number(word, 1, 32),
             Form::Datagrams => is_number(word, 1, 10_000),

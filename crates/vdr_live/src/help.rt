@@ -68,6 +68,17 @@ Commands:
             or `incident-ID` with the ID, 1 to 32, of a saved incident. CHANNEL is the
             name of a configured channel, or `all`. FROM and TO are stamps such as
             2024-01-01T00:00:00.000Z, both included, or `-` for no bound.
+  values MEDIUM CHANNEL FROM TO
+            Prints the values that these records say as a table, plain CSV with a header that SQLite,
+            DuckDB or pandas load as it is; the words are as for `play`. A row has the stamp, the
+            place, the group, the source and the sentence of a value, then `item,name,value,unit`,
+            `valid` (1 or 0, empty where the sentence says nothing of it) and `text`. Positions are
+            degrees. Gaps are rows `missed` with their cause, the ends of runs `start` and `stop`.
+  track MEDIUM SOURCE FROM TO
+            Prints the track of a source as GPX, which charts and `gpsbabel` read: the valid positions
+            that its lines say, of all records from FROM to TO. SOURCE is as in `play`, such as GP0001,
+            or `-` for lines that name none. Where something is missing a segment ends: at a Start, a
+            gap of the group, a position that is not valid, and more than ten seconds without one.
   sources MEDIUM
             Prints the table of sources of a window or an incident, MEDIUM as for `play`: for each
             group and source a line `GROUP SOURCE FIRST LAST LINES BAD BREAKS`, in this order.
@@ -96,6 +107,10 @@ Commands:
             record, how many there are, and the SHA-256 of their bytes; then the same with `all`
             for HOUR, of all records, where HEX is the SHA-256 of the lines above. Who has written
             it down knows later whether a record was changed, left out or added.
+  evidence MEDIUM CHANNEL FROM TO
+            Writes the records that `play` prints for these words to standard output, as a file that
+            any program can read and check: as they stand on the media, behind the configuration,
+            the medium, the incident and the query, and before the SHA-256 of all.
   trial SEED COUNT
             Tries media that hold nothing yet: formats them with the bench configuration (files of
             122,880 and 712,704 bytes), records COUNT generated items (0 to 1,000,000) from SEED
@@ -114,6 +129,10 @@ Commands:
   wav MEDIUM CHANNEL FROM TO
             Writes the sound of a channel of kind `pcm` to standard output, as a WAVE file; the words
             are as for `play`. Frames that are missing are silent.
+  wav MEDIUM CHANNEL FROM TO timed
+            Writes it on its time line: each frame stands where the stamp of its record says, counted
+            from FROM, or from the first frame where that is `-`, with silence where nothing is. A source
+            that stood still for five minutes leaves five minutes of silence.
   picture MEDIUM CHANNEL SOURCE BLOCK FROM TO
             Writes the image with this SOURCE (six bytes, such as EI0001) and BLOCK (a number), out of
             a channel of kind `image`, to standard output, once all its parts are there.
@@ -124,9 +143,9 @@ Commands:
             `complete`, `part`, or `mixed` where parts say several numbers of parts; `picture` writes
             what is `complete`. The words are as for `play`.
   rescue COMMAND WORDS
-            Does what COMMAND does, which is `play`, `sources`, `watch`, `runs`, `digest`, `targets`,
-            `wav`, `picture` or `pictures`, on one medium alone: that of its WORDS, and for
-            `incident-ID` the long-term one. The medium may be whole, cut short or damaged, the other
+            Does what COMMAND does, which is `play`, `values`, `track`, `sources`, `watch`, `runs`,
+            `digest`, `targets`, `wav`, `picture` or `pictures`, on one medium alone: that of its
+            WORDS, and for `incident-ID` the long-term one. The medium may be whole, cut short or damaged, the other
             one may be lost; nothing is written. Each record that legally stands there is given.
             Behind that stand, but for `wav`, `picture` and `pictures`, `missing A B` for places that
             the medium owes and lacks, `damaged OFFSET` for each part that is not legal, and

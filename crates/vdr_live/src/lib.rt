@@ -7,6 +7,7 @@
 //! Tests: vdr_script_tests, scripts record and link; vdr_program_tests runs the program on files.
 #![tactic(auto)]
 
+mod asking;
 mod command;
 mod desks;
 mod explaining;
@@ -17,6 +18,7 @@ mod hints;
 mod lanes;
 mod line;
 mod making;
+mod making_files;
 mod ports;
 mod program;
 mod recording;
@@ -30,6 +32,7 @@ pub use command::{run, run_watched};
 pub use desks::tcp_desk;
 pub use lanes::are_lanes;
 pub use line::{Line, line_of};
+pub use making::{MakeEnd, MakeOuter, is_make, make};
 pub use ports::udp_lanes;
 pub use program::{Streams, command_line};
 pub use sizes::least_sizes;

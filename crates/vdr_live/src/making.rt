@@ -1,166 +1,155 @@
 // `make`: the media that a configuration asks for are made, and formatted.
-use crate::explaining::explain;
-use crate::hints::hint;
-use crate::sizes::least_sizes;
-use std::alloc::{AllocError, Global};
-use std::io::{Cursor, Read, Write};
-use vdr_adapters::{
-    FileMedia, NewlyMade, StdIn, StdOut, SystemFile, Unmade, make_media, unmake_media,
-};
-use vdr_config::{ConfigBad, TooSmall, read_config};
-use vdr_outside::fill;
-use vdr_tool::{Status, Uses, World, report, run_alone};
+ghost use Rattle.std.specs.Prelude.{◌≡◌, ◌≤◌, ◌<◌, ◌⊎◌, ◌∷◌, [], codes, true, false};
+ghost use Rattle.vdr_command.specs.declared.status.Status.TheVariants.{Done, MediaFault as MediaFailed};
+ghost use Rattle.vdr_tool.specs.Formats.{status_of};
+ghost use Rattle.vdr_live.specs.Makes.{AsksMake, AsksSizes, EndsMake, MakeOutside, MakesMedia};
+ghost use Rattle.vdr_live.specs.MakeParts.{MadeSays};
+
+use crate::asking::sizes_in;
+use std::alloc::Global;
+use vdr_adapters::{MediaMaker, NotMade};
+use vdr_command::number_of;
+use vdr_media::{FormatRefused, format};
+use vdr_outside::{Media, Sink, Source, fill};
+use vdr_tool::{Status, World, report};
 
 /// So many bytes tell that a text is longer than the longest configuration.
 const ENOUGH: usize = 16_381;
 
+/// How `make` ended.
+#[derive(Drop)]
+pub struct MakeEnd<M: Drop> {
+    pub status: Status,
+    /// The media, where they were made. For each status but `Done` nothing is left of them.
+    pub media: Option<M>,
+}
+
+/// What stands outside of `make`, told as one value: in the place of media stands what makes them.
+pub trait MakeOuter<M: Media> {
+    ghost outside: { Self → MakeOutside };
+}
+
+impl<I: Source + Drop, O: Sink + Drop, M: Media, K: MediaMaker<M> + Drop> MakeOuter<M>
+    for World<I, O, K> {
+    ghost outside = { λ w. record {
+      input = record { left = I.left w.input; faults = I.faults w.input };
+      output = record { taken = O.taken w.output; faults = O.faults w.output };
+      maker = record { stands = K.stands w.media; taken = K.taken w.media; faults = K.faults w.media };
+    } };
+}
+
+fn is_word(word: &str) -> bool
+    ensures is { result ≡ true → word.now ≡ codes "make" }
+    ensures no { result ≡ false → word.now ≡ codes "make" → ⊥ }
+{
+    word == "make"
+}
+
 /// Whether the words are those of `make`.
-pub(crate) fn is_make(words: &[String]) -> bool {
+pub fn is_make(words: &[String]) -> bool
+    ensures asks { result ≡ true → AsksMake words.now }
+    ensures others { result ≡ false → AsksMake words.now → ⊥ }
+{
     match words {
-        [word] => word.as_str() == "make",
+        [word] => is_word(word.as_str()),
         _ => false,
     }
 }
 
-// Why a text asks for no media.
-#[derive(Drop)]
-enum Unasked {
-    NoMemory,
-    Config,
-    Small(TooSmall),
-}
-
-// The sizes of the media that a text asks for.
-fn sizes_in(alloc: Global, text: &[u8]) -> Result<(u64, u64), Unasked> {
-    match read_config(alloc, text) {
-        Ok(config) => match least_sizes(&config) {
-            Ok(sizes) => Ok(sizes),
-            Err(small) => Err(Unasked::Small(small)),
+// How formatting that was refused ends the command.
+fn status_of(refused: &FormatRefused) -> Status
+    ensures { result ≡ status_of refused.now }
+{
+    match refused {
+        FormatRefused::NoMemory => Status::NoMemory,
+        FormatRefused::Config(bad) => Status::Config {
+            number: number_of(bad),
         },
-        Err(ConfigBad::NoMemory) => Err(Unasked::NoMemory),
-        Err(_) => Err(Unasked::Config),
+        FormatRefused::AlreadyFormatted => Status::Formatted,
+        FormatRefused::TooSmall(small) => Status::Small(*small),
+        FormatRefused::Fault => Status::MediaFault,
     }
 }
 
-/// Prints the line of a status, with which a command ends.
-pub(crate) fn ended<O: Write + Drop>(output: O, status: Status) -> Status {
-    report(status, &mut StdOut::new(output));
-    status
-}
-
-// Formats media with the configuration that this text is, and tells a person what stood in the way.
-fn format_with<O: Write + Drop, E: Eprint>(
+// MakesMedia media of these sizes and formats them with the configuration that the text is. Where that is refused they are removed.
+fn make_formatted<M: Media + Drop, K: MediaMaker<M>>(
     alloc: Global,
-    errors: &E,
-    folder: &str,
     text: &[u8],
-    output: O,
-    media: FileMedia<'_, SystemFile<HostRuntime>>,
-) -> Status {
-    let Ok(words) = format_words(alloc) else {
-        return ended(output, Status::NoMemory);
-    };
-    let mut world = World {
-        input: StdIn::new(Cursor::new(text)),
-        output: StdOut::new(output),
-        media,
-    };
-    let status = run_alone(alloc, words.as_slice(), &mut world);
-    explain(
-        errors,
-        folder,
-        words.as_slice(),
-        status,
-        Uses::Nothing,
-        &world,
-    );
-    status
-}
-
-fn format_words(alloc: Global) -> Result<Vec<String>, AllocError> {
-    Ok(vec![in alloc; "format".to_string(alloc)?]?)
-}
-
-// The status of media that were not made, of which a person is told the cause.
-fn unmade<E: Eprint>(errors: &E, why: &Unmade) -> Status {
-    match why.trouble() {
-        Some((name, trouble)) => {
-            let _ = eprintln!(errors; "vdr: {name}: {trouble}");
-            Status::MediaFault
+    sizes: (u64, u64),
+    maker: &mut K,
+) -> MakeEnd<M>
+    ensures says { AsksSizes text.now sizes.0 sizes.1
+        → MadeSays M.Media (record { stands = K.stands maker.old; taken = K.taken maker.old; faults = K.faults maker.old }) (record { stands = K.stands maker.new; taken = K.taken maker.new; faults = K.faults maker.new })
+        text.now result.media result.status }
+    ensures failed { K.faults maker.old < K.faults maker.new → result.status ≡ MediaFailed }
+    ensures left { (result.status ≡ Done) ⊎ (K.stands maker.old ≡ false → K.stands maker.new ≡ false) }
+{
+    let mut media = match maker.make(sizes.0, sizes.1) {
+        Ok(media) => media,
+        Err(NotMade::NoMemory) => {
+            return MakeEnd {
+                status: Status::NoMemory,
+                media: None,
+            };
         }
-        None => {
-            hint(errors, Status::NoMemory);
-            Status::NoMemory
+        Err(NotMade::Failed) => {
+            return MakeEnd {
+                status: Status::MediaFault,
+                media: None,
+            };
         }
+    };
+    let Err(refused) = format(alloc, &mut media, text, false) else {
+        return MakeEnd {
+            status: Status::Done,
+            media: Some(media),
+        };
+    };
+    maker.unmake();
+    MakeEnd {
+        status: status_of(&refused),
+        media: Some(media),
     }
 }
 
-// Makes media of these sizes and formats them. Where that fails they are removed.
-fn make_formatted<O: Write + Drop, E: Eprint>(
-    host: &HostRuntime,
-    errors: &E,
-    folder: &str,
-    text: &[u8],
-    output: O,
-    (capsule, long_term): (u64, u64),
-) -> Status {
-    match make_media(*host, folder, capsule, long_term) {
-        Ok(
-            NewlyMade {
-                media,
-                folder: made,
-            },
-        ) => {
-            let status = format_with(host.alloc(), errors, folder, text, output, media);
-            if !matches!(status, Status::Done) {
-                unmake_media(*host, folder, made);
-            }
-            status
-        }
-        Err(why) => ended(output, unmade(errors, &why)),
-    }
-}
-
-/// Makes the media that the configuration which the input is asks for, in this folder, and formats them.
-///
-/// The configuration is read and refused as by `check`. A medium has the least size with the slots that it needs; its file is made for its owner
-/// alone, and zeros are written through it, so that its blocks are taken. Where a name is taken, or a call fails, nothing is left of what was made.
-pub(crate) fn make<I: Read + Drop, O: Write + Drop, E: Eprint>(
-    host: &HostRuntime,
-    errors: &E,
-    folder: &str,
-    input: I,
-    output: O,
-) -> Status {
-    let mut input = StdIn::new(input);
+// MakesMedia the media that the configuration which the input is asks for, and formats them.
+fn answer_make<I: Source + Drop, O: Sink + Drop, M: Media + Drop, K: MediaMaker<M> + Drop>(
+    alloc: Global,
+    world: &mut World<I, O, K>,
+) -> MakeEnd<M>
+    ensures owed { let at = ⟦<World<I, O, K> as MakeOuter<M>>⟧.outside in MakesMedia M.Media (at world.old) (at world.new) result.media result.status }
+    ensures later { O.faults world.old.output ≤ O.faults world.new.output }
+{
     let mut text = [0; ENOUGH];
-    let Ok(count) = fill(&mut input, &mut text) else {
-        if let Some(trouble) = input.trouble() {
-            let _ = eprintln!(errors; "vdr: standard input: {trouble}");
-        }
-        return ended(output, Status::InputFault);
+    let Ok(count) = fill(&mut world.input, &mut text) else {
+        return MakeEnd {
+            status: Status::InputFault,
+            media: None,
+        };
     };
     let text = &text[..count];
-    match sizes_in(host.alloc(), text) {
-        Ok(sizes) => make_formatted(host, errors, folder, text, output, sizes),
-        // What `format` says of it, of which no medium has room for a configuration.
-        Err(Unasked::Config) => {
-            format_with(
-                host.alloc(),
-                errors,
-                folder,
-                text,
-                output,
-                FileMedia::unused(),
-            )
-        }
-        Err(Unasked::Small(small)) => {
-            hint(errors, Status::Small(small));
-            ended(output, Status::Small(small))
-        }
-        Err(Unasked::NoMemory) => {
-            hint(errors, Status::NoMemory);
-            ended(output, Status::NoMemory)
-        }
+    match sizes_in(alloc, text, &mut world.output) {
+        Ok(sizes) => make_formatted(alloc, text, sizes, &mut world.media),
+        Err(why) => MakeEnd {
+            status: why.status(),
+            media: None,
+        },
     }
+}
+
+/// `make`: reads a configuration from the input, as `check` does, makes the media that it asks for, each of the least size with the slots that it
+/// needs, and formats them with it, as `format` does. It prints nothing.
+///
+/// A configuration that is refused is told as by `check`; where no medium has enough slots, that is `Small`. A name that is taken, and a call that
+/// fails as the media are made or formatted, is `MediaFault`. For each status but `Done` the output ends with a status line, and nothing is left
+/// of the media.
+pub fn make<I: Source + Drop, O: Sink + Drop, M: Media + Drop, K: MediaMaker<M> + Drop>(
+    alloc: Global,
+    world: &mut World<I, O, K>,
+) -> MakeEnd<M>
+    ensures { let at = ⟦<World<I, O, K> as MakeOuter<M>>⟧.outside in EndsMake M.Media (at world.old) (at world.new) result.media result.status }
+{
+    let end = answer_make(alloc, world);
+    report(end.status, &mut world.output);
+    end
 }

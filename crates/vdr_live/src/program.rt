@@ -4,7 +4,8 @@ ghost use Rattle.std.specs.Prelude.{◌≡◌, ◌<◌, ◌^◌, ℕ, length, sl
 use crate::explaining::{advise, explain};
 use crate::help::{HELP, VERSION};
 use crate::helping::tell_command;
-use crate::making::{ended, is_make, make};
+use crate::making::is_make;
+use crate::making_files::{ended, make_files};
 use crate::{Line, line_of, medium_use, run};
 use std::alloc::AllocError;
 use std::io;
@@ -90,7 +91,7 @@ fn make_beside<I: Read + Drop, O: Write + Drop, E: Eprint>(
         let _ = eprintln!(errors; "vdr: /dev/null: {error}");
         return ended(output, Status::MediaFault);
     }
-    make(host, errors, folder, input, output)
+    make_files(host, errors, folder, input, output)
 }
 
 /// Does what the words of the program ask for, over these streams, the media of the folder that the first word names, the ports

@@ -1,10 +1,8 @@
 // The sizes of the media that a configuration asks for.
 ghost use Rattle.std.specs.Prelude.{◌≡◌, ◌≤◌, ◌<◌, ℕ, Err, IfNone, IfOk, IfSome};
-ghost use Rattle.vdr_terms.specs.Needs.{needed_slots};
 ghost use Rattle.vdr_terms.specs.Slots.{slot_count};
-ghost use Rattle.vdr_config.specs.Sizes.{sizes_of};
 ghost use Rattle.vdr_config.specs.declared.media.TooSmall.{TooSmall as Small};
-ghost use Rattle.vdr_live.specs.Making.{IsLeast, NoneFits};
+ghost use Rattle.vdr_live.specs.Making.{IsFirstLacking, IsLeast};
 
 use vdr_config::{Config, TooSmall, needs};
 use vdr_terms::SLOTS_FROM;
@@ -31,7 +29,7 @@ fn least_size(slots: u64, segment: u32) -> Option<u64>
 pub fn least_sizes(config: &Config) -> Result<(u64, u64), TooSmall>
     ensures capsule { IfOk result (λ sizes. IsLeast config.now 0 sizes.0) }
     ensures long_term { IfOk result (λ sizes. IsLeast config.now 1 sizes.1) }
-    ensures refused { (small : Small) → result ≡ Err small → NoneFits config.now small.medium × (small.need ≡ needed_slots (sizes_of config.now) small.medium) × (small.have ≡ 0) }
+    ensures refused { (small : Small) → result ≡ Err small → IsFirstLacking config.now small }
 {
     let needs = needs(config);
     let Some(capsule) = least_size(needs.capsule_slots, config.segment) else {

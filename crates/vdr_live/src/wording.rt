@@ -7,7 +7,7 @@ struct Usage {
     words: &'static [Form],
 }
 
-const USAGES: [Usage; 24] = [
+const USAGES: [Usage; 28] = [
     Usage {
         command: "review",
         words: &[],
@@ -53,6 +53,14 @@ const USAGES: [Usage; 24] = [
         words: &[Form::Medium, Form::Channel, Form::From, Form::To],
     },
     Usage {
+        command: "values",
+        words: &[Form::Medium, Form::Channel, Form::From, Form::To],
+    },
+    Usage {
+        command: "track",
+        words: &[Form::Medium, Form::Named, Form::From, Form::To],
+    },
+    Usage {
         command: "sources",
         words: &[Form::Medium],
     },
@@ -69,8 +77,22 @@ const USAGES: [Usage; 24] = [
         words: &[Form::Medium],
     },
     Usage {
+        command: "evidence",
+        words: &[Form::Medium, Form::Channel, Form::From, Form::To],
+    },
+    Usage {
         command: "targets",
         words: &[Form::Medium, Form::At],
+    },
+    Usage {
+        command: "wav",
+        words: &[
+            Form::Medium,
+            Form::Channel,
+            Form::From,
+            Form::To,
+            Form::Timed,
+        ],
     },
     Usage {
         command: "wav",

@@ -1,15 +1,10 @@
 -- What is told of one medium alone, from what each call says.
-use Rattle.std.proofs.Common.{◌≡◌, ◌≤◌, ◌∙◌, ℕ, zero, suc, List, Option, Some, None, length, get_or, Ok, refl, sym, ap, subst}
-use Rattle.std.specs.Prelude.{Result}
+use Rattle.std.proofs.Common.{◌≡◌, ◌≤◌, ◌∙◌, ℕ, zero, suc, List, Option, Some, None, length, Ok, refl, sym, ap, subst}
 use Rattle.vdr_terms.specs.Slots.{slot_count}
-use Rattle.vdr_terms.specs.Needs.{slots_in}
 use Rattle.vdr_core.specs.Histories.{Incident}
-use Rattle.vdr_outside.specs.Disk.{Disk, Image, Unchanged, content}
 use Rattle.vdr_outside.specs.Parts.{part}
-use Rattle.vdr_outside.proofs.Moments.{size_read}
 use Rattle.vdr_config.specs.Configuration.{Configuration}
 use Rattle.vdr_config.specs.Grammar.{configuration}
-use Rattle.vdr_config.specs.Sizes.{sizes_of}
 use Rattle.vdr_media.specs.Medium.{HoldsText}
 use Rattle.vdr_media.proofs.Rooms.{text_fits}
 use Rattle.vdr_incident.specs.Tables.{place_of}

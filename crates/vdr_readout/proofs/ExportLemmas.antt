@@ -46,7 +46,7 @@ use Rattle.vdr_readout.proofs.RefusedLemmas.{asked_within, channel_ends, lacks_f
 
 -- A channel that is not there has no file.
 no_file : (wish : Wish) → wished wish None ≡ None
-no_file Sound = refl
+no_file (Sound timing) = refl
 no_file (Picture block) = refl
 no_file Listing = refl
 

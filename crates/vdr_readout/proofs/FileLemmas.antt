@@ -11,12 +11,13 @@ use Rattle.vdr_visit.specs.declared.visit_refused.VisitRefused.TheVariants as st
 use Rattle.vdr_export.specs.Answers.{FileEnds, IsFailure, IsFileRefusal, MayBeBegun, data_of, file_of, first_missing, joined, picture_of, size_of, unless_long, unless_mixed, unless_part, wave_of, wave_with}
 use Rattle.vdr_export.specs.Numbers.{mixed_at}
 use Rattle.vdr_export.specs.Pictures.{Shown, bodies, greatest_of, shown}
-use Rattle.vdr_export.specs.Sounds.{Heard, frames_of, heard, rates_of, sound}
+use Rattle.vdr_export.specs.Sounds.{Heard, heard, rates_of, sound}
 use Rattle.vdr_export.specs.Waves.{most_bytes}
 use Rattle.vdr_export.specs.declared.file.File.{File}
 use Rattle.vdr_export.specs.declared.file.File.TheVariants as files
 use Rattle.vdr_export.specs.declared.refused.ExportRefused.{ExportRefused}
 use Rattle.vdr_export.specs.declared.refused.ExportRefused.TheVariants.{Nothing, Mixed, Long, Part, Fault, Damaged, Output, NoMemory}
+use Rattle.vdr_export.specs.declared.timing.Timing.{Timing}
 use Rattle.vdr_export.specs.declared.wave.WaveSize.{WaveSize}
 use Rattle.vdr_command.specs.Opened.{IfDamaged}
 use Rattle.vdr_command.specs.Outside.{OutputSeen}
@@ -113,16 +114,16 @@ by_part (Some number) all m offset is = cc
 by_joined : (parts : List (Option (List ℕ))) (m offset : ℕ) → joined parts ≡ Err (Damaged m offset) → ⊥
 by_joined parts m offset is = by_part (first_missing 1 parts) (flat_map data_of parts) m offset is
 
-by_size : (hs : List Heard) (size : Result WaveSize ExportRefused) (m offset : ℕ) → (size ≡ Err (Damaged m offset) → ⊥) → wave_with hs size ≡ Err (Damaged m offset) → ⊥
-by_size hs (Ok size) m offset never is = cc
-by_size hs (Err why) m offset never is = never (let same : why ≡ Damaged m offset = cc in ap (λ (e : ExportRefused). Err e) same)
+by_size : (timing : Timing) (hs : List Heard) (size : Result WaveSize ExportRefused) (m offset : ℕ) → (size ≡ Err (Damaged m offset) → ⊥) → wave_with timing hs size ≡ Err (Damaged m offset) → ⊥
+by_size timing hs (Ok size) m offset never is = cc
+by_size timing hs (Err why) m offset never is = never (let same : why ≡ Damaged m offset = cc in ap (λ (e : ExportRefused). Err e) same)
 
-sound_undamaged : (hs : List Heard) (m offset : ℕ) → wave_of hs ≡ Err (Damaged m offset) → ⊥
-sound_undamaged [] m offset is = cc
-sound_undamaged (h ∷ hs) m offset is =
-    by_size (h ∷ hs) (size_of (h ∷ hs)) m offset
-    (λ e. by_mixed (mixed_at (rates_of (h ∷ hs))) (unless_long h.frame.rate (length (sound (frames_of (h ∷ hs))))) m offset
-    (λ k. by_long h.frame.rate (length (sound (frames_of (h ∷ hs)))) m offset k) e) is
+sound_undamaged : (timing : Timing) (hs : List Heard) (m offset : ℕ) → wave_of timing hs ≡ Err (Damaged m offset) → ⊥
+sound_undamaged timing [] m offset is = cc
+sound_undamaged timing (h ∷ hs) m offset is =
+    by_size timing (h ∷ hs) (size_of timing (h ∷ hs)) m offset
+    (λ e. by_mixed (mixed_at (rates_of (h ∷ hs))) (unless_long h.frame.rate (length (sound timing (h ∷ hs)))) m offset
+    (λ k. by_long h.frame.rate (length (sound timing (h ∷ hs))) m offset k) e) is
 
 picture_undamaged : (ps : List Shown) (m offset : ℕ) → picture_of ps ≡ Err (Damaged m offset) → ⊥
 picture_undamaged [] m offset is = cc
@@ -130,7 +131,7 @@ picture_undamaged (p ∷ ps) m offset is =
     by_mixed (mixed_at (greatest_of (p ∷ ps))) (joined (bodies p.header.greatest (p ∷ ps))) m offset (λ k. by_joined (bodies p.header.greatest (p ∷ ps)) m offset k) is
 
 never_damaged : (file : File) (records : List Record) (m offset : ℕ) → file_of file records ≡ Err (Damaged m offset) → ⊥
-never_damaged (files.Sound microphone) records m offset is = sound_undamaged (heard microphone records) m offset is
+never_damaged (files.Sound microphone timing) records m offset is = sound_undamaged timing (heard microphone records) m offset is
 never_damaged (files.Picture block) records m offset is = picture_undamaged (shown block records) m offset is
 never_damaged files.Listing records m offset is = let none : ⊥ = cc in none
 
@@ -193,22 +194,22 @@ module _ (was next : OutputSeen) (file : Result (List ℕ) ExportRefused) where
 
 -- The file is of the kind that was wished.
 abbrev IsOf : Wish → File → Type 0
-IsOf Sound (files.Sound microphone) = ⊤
-IsOf Sound (files.Picture block) = ⊥
-IsOf Sound files.Listing = ⊥
-IsOf (Picture block) (files.Sound microphone) = ⊥
+IsOf (Sound timing) (files.Sound microphone other) = ⊤
+IsOf (Sound timing) (files.Picture block) = ⊥
+IsOf (Sound timing) files.Listing = ⊥
+IsOf (Picture block) (files.Sound microphone timing) = ⊥
 IsOf (Picture block) (files.Picture other) = ⊤
 IsOf (Picture block) files.Listing = ⊥
-IsOf Listing (files.Sound microphone) = ⊥
+IsOf Listing (files.Sound microphone timing) = ⊥
 IsOf Listing (files.Picture block) = ⊥
 IsOf Listing files.Listing = ⊤
 
 of_wish : (wish : Wish) (kind : Option Selection) (file : File) → wished wish kind ≡ Some file → IsOf wish file
-of_wish Sound None file is = let none : ⊥ = cc in absurd none
-of_wish Sound (Some (Sentence formatter source)) file is = let none : ⊥ = cc in absurd none
-of_wish Sound (Some (Images source)) file is = let none : ⊥ = cc in absurd none
-of_wish Sound (Some (Pcm microphone)) file is = subst (IsOf Sound) (let same : files.Sound microphone ≡ file = cc in same) tt
-of_wish Sound (Some Opaque) file is = let none : ⊥ = cc in absurd none
+of_wish (Sound timing) None file is = let none : ⊥ = cc in absurd none
+of_wish (Sound timing) (Some (Sentence formatter source)) file is = let none : ⊥ = cc in absurd none
+of_wish (Sound timing) (Some (Images source)) file is = let none : ⊥ = cc in absurd none
+of_wish (Sound timing) (Some (Pcm microphone)) file is = subst (IsOf (Sound timing)) (let same : files.Sound microphone timing ≡ file = cc in same) tt
+of_wish (Sound timing) (Some Opaque) file is = let none : ⊥ = cc in absurd none
 of_wish (Picture block) None file is = let none : ⊥ = cc in absurd none
 of_wish (Picture block) (Some (Sentence formatter source)) file is = let none : ⊥ = cc in absurd none
 of_wish (Picture block) (Some (Images source)) file is = subst (IsOf (Picture block)) (let same : files.Picture block ≡ file = cc in same) tt
@@ -222,27 +223,27 @@ of_wish Listing (Some Opaque) file is = let none : ⊥ = cc in absurd none
 
 own_by : (wish : Wish) (file : File) → IsOf wish file → (out : Result ⊤ ExportRefused) → IfErr out (IsFileRefusal file) → IsExportStatus wish (status_of_export out)
 own_by wish file of (Ok u) own = tt
-own_by Sound file of (Err Nothing) own = tt
+own_by (Sound timing) file of (Err Nothing) own = tt
 own_by (Picture block) file of (Err Nothing) own = tt
-own_by Listing (files.Sound microphone) of (Err Nothing) own = absurd of
+own_by Listing (files.Sound microphone timing) of (Err Nothing) own = absurd of
 own_by Listing (files.Picture block) of (Err Nothing) own = absurd of
 own_by Listing files.Listing of (Err Nothing) own = own
-own_by Sound file of (Err (Mixed place)) own = tt
+own_by (Sound timing) file of (Err (Mixed place)) own = tt
 own_by (Picture block) file of (Err (Mixed place)) own = tt
-own_by Listing (files.Sound microphone) of (Err (Mixed place)) own = absurd of
+own_by Listing (files.Sound microphone timing) of (Err (Mixed place)) own = absurd of
 own_by Listing (files.Picture block) of (Err (Mixed place)) own = absurd of
 own_by Listing files.Listing of (Err (Mixed place)) own = own
-own_by Sound file of (Err Long) own = tt
-own_by (Picture block) (files.Sound microphone) of (Err Long) own = absurd of
+own_by (Sound timing) file of (Err Long) own = tt
+own_by (Picture block) (files.Sound microphone timing) of (Err Long) own = absurd of
 own_by (Picture block) (files.Picture other) of (Err Long) own = own
 own_by (Picture block) files.Listing of (Err Long) own = absurd of
-own_by Listing (files.Sound microphone) of (Err Long) own = absurd of
+own_by Listing (files.Sound microphone timing) of (Err Long) own = absurd of
 own_by Listing (files.Picture block) of (Err Long) own = absurd of
 own_by Listing files.Listing of (Err Long) own = own
-own_by Sound (files.Sound microphone) of (Err (Part number)) own = own
-own_by Sound (files.Picture block) of (Err (Part number)) own = absurd of
-own_by Sound files.Listing of (Err (Part number)) own = absurd of
-own_by Listing (files.Sound microphone) of (Err (Part number)) own = absurd of
+own_by (Sound timing) (files.Sound microphone other) of (Err (Part number)) own = own
+own_by (Sound timing) (files.Picture block) of (Err (Part number)) own = absurd of
+own_by (Sound timing) files.Listing of (Err (Part number)) own = absurd of
+own_by Listing (files.Sound microphone timing) of (Err (Part number)) own = absurd of
 own_by Listing (files.Picture block) of (Err (Part number)) own = absurd of
 own_by Listing files.Listing of (Err (Part number)) own = own
 own_by (Picture block) file of (Err (Part number)) own = tt
@@ -257,19 +258,19 @@ own_status wish kind file is out own = own_by wish file (of_wish wish kind file 
 -- What may be begun.
 begun_by : {Same : Type 0} (wish : Wish) (file : File) → IsOf wish file → (out : Result ⊤ ExportRefused) → IfErr out (λ why. MayBeBegun file why ⊎ Same) → MayWrite wish (status_of_export out) ⊎ Same
 begun_by wish file of (Ok u) silent = inl tt
-begun_by Sound (files.Sound microphone) of (Err Nothing) silent = silent
-begun_by Sound (files.Sound microphone) of (Err (Mixed place)) silent = silent
-begun_by Sound (files.Sound microphone) of (Err Long) silent = silent
-begun_by Sound (files.Sound microphone) of (Err (Part number)) silent = silent
-begun_by Sound (files.Sound microphone) of (Err Fault) silent = silent
-begun_by Sound (files.Sound microphone) of (Err (Damaged m offset)) silent = silent
-begun_by Sound (files.Sound microphone) of (Err Output) silent = silent
-begun_by Sound (files.Sound microphone) of (Err NoMemory) silent = silent
-begun_by Sound (files.Picture block) of (Err why) silent = absurd of
-begun_by Sound files.Listing of (Err why) silent = absurd of
-begun_by (Picture block) (files.Sound microphone) of (Err why) silent = absurd of
+begun_by (Sound timing) (files.Sound microphone other) of (Err Nothing) silent = silent
+begun_by (Sound timing) (files.Sound microphone other) of (Err (Mixed place)) silent = silent
+begun_by (Sound timing) (files.Sound microphone other) of (Err Long) silent = silent
+begun_by (Sound timing) (files.Sound microphone other) of (Err (Part number)) silent = silent
+begun_by (Sound timing) (files.Sound microphone other) of (Err Fault) silent = silent
+begun_by (Sound timing) (files.Sound microphone other) of (Err (Damaged m offset)) silent = silent
+begun_by (Sound timing) (files.Sound microphone other) of (Err Output) silent = silent
+begun_by (Sound timing) (files.Sound microphone other) of (Err NoMemory) silent = silent
+begun_by (Sound timing) (files.Picture block) of (Err why) silent = absurd of
+begun_by (Sound timing) files.Listing of (Err why) silent = absurd of
+begun_by (Picture block) (files.Sound microphone timing) of (Err why) silent = absurd of
 begun_by (Picture block) files.Listing of (Err why) silent = absurd of
-begun_by Listing (files.Sound microphone) of (Err why) silent = absurd of
+begun_by Listing (files.Sound microphone timing) of (Err why) silent = absurd of
 begun_by Listing (files.Picture block) of (Err why) silent = absurd of
 begun_by (Picture block) (files.Picture other) of (Err Nothing) silent = ⊎_elim (λ is. let none : ⊥ = cc in absurd none) (λ same. inr same) silent
 begun_by (Picture block) (files.Picture other) of (Err (Mixed place)) silent = ⊎_elim (λ is. let none : ⊥ = cc in absurd none) (λ same. inr same) silent

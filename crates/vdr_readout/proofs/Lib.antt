@@ -10,9 +10,12 @@ pub mod PlayLemmas
 pub mod FileLemmas
 pub mod ExportLemmas
 pub mod ExportCompleteness
+pub mod EvidenceReads
+pub mod EvidenceLemmas
 pub mod LineLemmas
 pub mod WatchLemmas
 pub mod TableLemmas
+pub mod TrackLemmas
 pub mod RescueLemmas
 pub mod RescuedFileLemmas
 pub mod ReadingLemmas

@@ -1,5 +1,5 @@
--- What a command owes that tells records one after another, from what reading out ensures.
-use Rattle.std.proofs.Common.{◌≡◌, ◌⊎◌, inl, inr, ⊎_elim, ◌++◌, ◌∷◌, ℕ, List, [], refl, sym, ap, subst, ◌∙◌, append_assoc}
+-- What a command owes that tells records one after another, selected or all of a medium, from what reading out ensures.
+use Rattle.std.proofs.Common.{◌≡◌, ◌⊎◌, inl, inr, ⊎_elim, ◌++◌, ℕ, List, [], refl, sym, ap, subst, ◌∙◌, append_assoc}
 use Rattle.std.proofs.KnownBytes.{Appends-nil}
 use Rattle.vdr_terms.specs.Records.{Record}
 use Rattle.vdr_outside.specs.Disk.{Disk}
@@ -8,64 +8,69 @@ use Rattle.vdr_opening.specs.Media.{Contents, HoldsContents}
 use Rattle.vdr_visit.specs.Prints.{text_of, whole_text}
 use Rattle.vdr_command.specs.Endings.{IsWorkDone}
 use Rattle.vdr_command.specs.Opened.{OneAnswer, PrintsText}
-use Rattle.vdr_command.specs.Outside.{Outside, OutputFailed, OutputSeen, Prints, PrintsFront}
+use Rattle.vdr_command.specs.Outside.{Outside, OutputFailed, OutputSeen, Prints, PrintsFront, Writes}
+use Rattle.vdr_command.specs.StatusLine.{channel_line}
 use Rattle.vdr_command.specs.declared.status.Status.{Status}
 use Rattle.vdr_command.specs.declared.status.Status.TheVariants.{Done, Words, Config, Small, Unformatted, Formatted, Damaged, MediaFault, PortFault, LinkFault, InputFault, OutputFault, NoMemory, Feed, NoChannel, NoIncident, SaveRefused, Place, Tick, ExportKind, ExportNothing, ExportMixed, ExportLong, ExportPart, Capture, Missing}
 use Rattle.vdr_readout.specs.Plays.{IsPlayStatus}
-use Rattle.vdr_readout.specs.Reads.{AreFirst, CanBeRead, ReadsOut, ShowsReading, StoppedItself, records_asked}
+use Rattle.vdr_readout.specs.Reads.{AreFirst, AskedPlay, CanBeRead, ReadsOut, ShowsReading, StoppedItself, all_records, records_asked}
 use Rattle.vdr_readout.specs.Sources.{whole_of}
 use Rattle.vdr_readout.specs.Lines.{TellsLines}
+use Rattle.vdr_readout.specs.Selections.{TellsSelected}
 use Rattle.vdr_readout.specs.Watches.{IsCutShort}
 use Rattle.vdr_readout.proofs.PlayCompleteness.{plays_all}
 
-module _ {tells tells_images R : Type 0} (line : List Record → Record → List ℕ) (last : List Record → List ℕ) (medium : Medium)
+module _ {tells tells_images R : Type 0} (line : List Record → Record → List ℕ) (last : List Record → List ℕ) (asked : AskedPlay)
     (disk : Disk tells tells_images) (Has : List Record → Type 0) (Stops : List Record → R → Type 0) (was next : OutputSeen) where
   abbrev Stopped : Status → Type 0
-  Stopped status = StoppedItself (whole_of medium) disk Stops (λ reason. NoMemory) line was next status
+  Stopped status = StoppedItself asked disk Stops (λ reason. NoMemory) line was next status
 
   abbrev Shows : Status → Type 0
-  Shows status = ShowsReading (whole_of medium) disk Has Stops (λ reason. NoMemory) line last was next status
+  Shows status = ShowsReading asked disk Has Stops (λ reason. NoMemory) line last was next status
 
   -- What is owed of the output.
   record Owes (status : Status) : Type 0 where
     own : IsPlayStatus status
-    printed : (x : Contents) → tells → HoldsContents disk.reads x → CanBeRead x → PrintsText (whole_text line last (records_asked x (whole_of medium))) status was next
-    cut : IsCutShort status → (first : List Record) × Prints (text_of line first) was next × AreFirst (whole_of medium) disk first
+    printed : (x : Contents) → tells → HoldsContents disk.reads x → CanBeRead x → PrintsText (whole_text line last (records_asked x asked)) status was next
+    cut : IsCutShort status → (first : List Record) × Prints (text_of line first) was next × AreFirst asked disk first
     output : status ≡ OutputFault → OutputFailed was next
-    silent : IsWorkDone status ⊎ (IsCutShort status ⊎ Prints [] was next)
+    channel : status ≡ NoChannel → Writes (channel_line asked.channel) was next
+    silent : IsWorkDone status ⊎ ((status ≡ NoChannel) ⊎ (IsCutShort status ⊎ Prints [] was next))
 
   still : next ≡ was → Prints [] was next
   still same = subst (λ (o : OutputSeen). Prints [] was o) (sym same) (Appends-nil was.taken)
 
-  text_is : (x : Contents) (all : List Record) → all ≡ records_asked x (whole_of medium) → whole_text line last all ≡ whole_text line last (records_asked x (whole_of medium))
+  text_is : (x : Contents) (all : List Record) → all ≡ records_asked x asked → whole_text line last all ≡ whole_text line last (records_asked x asked)
   text_is x all is = ap (λ (records : List Record). whole_text line last records) is
 
   -- The first records were told, and no more.
-  cut_off : (status : Status) → IsPlayStatus status → IsCutShort status → ((text : List ℕ) → PrintsText text status was next) → (status ≡ OutputFault → ⊥)
-      → (first : List Record) → Prints (text_of line first) was next → AreFirst (whole_of medium) disk first → Owes status
-  cut_off status own cut printed never first told are = record {
+  cut_off : (status : Status) → IsPlayStatus status → IsCutShort status → ((text : List ℕ) → PrintsText text status was next) → (status ≡ OutputFault → ⊥) → (status ≡ NoChannel → ⊥)
+      → (first : List Record) → Prints (text_of line first) was next → AreFirst asked disk first → Owes status
+  cut_off status own cut printed never other first told are = record {
     own = own;
-    printed = λ x t holds can. printed (whole_text line last (records_asked x (whole_of medium)));
+    printed = λ x t holds can. printed (whole_text line last (records_asked x asked));
     cut = λ short. (first, told, are);
     output = λ is. absurd (never is);
-    silent = inr (inl cut);
+    channel = λ is. absurd (other is);
+    silent = inr (inr (inl cut));
   }
 
   -- Nothing was read.
-  unread : (status : Status) → IsPlayStatus status → (IsCutShort status → ⊥) → ((text : List ℕ) → PrintsText text status was next) → (status ≡ OutputFault → ⊥) → next ≡ was → Owes status
-  unread status own never printed no_output same = record {
+  unread : (status : Status) → IsPlayStatus status → (IsCutShort status → ⊥) → ((text : List ℕ) → PrintsText text status was next) → (status ≡ OutputFault → ⊥) → (status ≡ NoChannel → ⊥) → next ≡ was → Owes status
+  unread status own never printed no_output other same = record {
     own = own;
-    printed = λ x t holds can. printed (whole_text line last (records_asked x (whole_of medium)));
+    printed = λ x t holds can. printed (whole_text line last (records_asked x asked));
     cut = λ short. absurd (never short);
     output = λ is. absurd (no_output is);
-    silent = inr (inr (still same));
+    channel = λ is. absurd (other is);
+    silent = inr (inr (inr (still same)));
   }
 
   -- There was no memory, at opening or for a source or an alarm.
   memory : ((NoMemory ≡ NoMemory) × (next ≡ was)) ⊎ Stopped NoMemory → Owes NoMemory
   memory shown = ⊎_elim
-      (λ (m : (NoMemory ≡ NoMemory) × (next ≡ was)). cut_off NoMemory tt tt (λ text. tt) (λ is. let none : ⊥ = cc in none) [] (still m.1) (λ x t holds can. (records_asked x (whole_of medium), refl)))
-      (λ (s : Stopped NoMemory). cut_off NoMemory tt tt (λ text. tt) (λ is. let none : ⊥ = cc in none) s.printed.0 s.printed.3
+      (λ (m : (NoMemory ≡ NoMemory) × (next ≡ was)). cut_off NoMemory tt tt (λ text. tt) (λ is. let none : ⊥ = cc in none) (λ is. let none : ⊥ = cc in none) [] (still m.1) (λ x t holds can. (records_asked x asked, refl)))
+      (λ (s : Stopped NoMemory). cut_off NoMemory tt tt (λ text. tt) (λ is. let none : ⊥ = cc in none) (λ is. let none : ⊥ = cc in none) s.printed.0 s.printed.3
       (λ x t holds can. let a = s.first x t holds can in
       (s.printed.1 ++ a.0, a.1 ∙ ap (λ (l : List Record). l ++ a.0) s.printed.2 ∙ append_assoc s.printed.0 s.printed.1 a.0)))
       shown
@@ -81,20 +86,29 @@ module _ {tells tells_images R : Type 0} (line : List Record → Record → List
     printed = λ x t holds can. subst (λ (l : List ℕ). Prints l was next) (text_is x shown.0 (shown.3 x t holds can)) shown.2;
     cut = λ short. absurd short;
     output = λ is. let none : ⊥ = cc in absurd none;
+    channel = λ is. let none : ⊥ = cc in absurd none;
     silent = inl tt;
   }
   owes OutputFault shown = record {
     own = tt;
-    printed = λ x t holds can. subst (λ (l : List ℕ). PrintsFront l was next) (text_is x (records_asked x (whole_of medium)) refl) (shown.1 x t holds can);
+    printed = λ x t holds can. subst (λ (l : List ℕ). PrintsFront l was next) (text_is x (records_asked x asked) refl) (shown.1 x t holds can);
     cut = λ short. absurd short;
     output = λ is. shown.0;
+    channel = λ is. let none : ⊥ = cc in absurd none;
     silent = inl tt;
   }
-  owes MediaFault shown = cut_off MediaFault tt tt (λ text. tt) (λ is. let none : ⊥ = cc in none) shown.0 shown.1 shown.2
-  owes (Damaged k at) shown = cut_off (Damaged k at) tt tt (λ text. tt) (λ is. let none : ⊥ = cc in none) shown.0 shown.1 shown.2
-  owes Unformatted shown = unread Unformatted tt (λ short. short) (λ text. tt) (λ is. let none : ⊥ = cc in none) shown
-  owes (NoIncident id) shown = unread (NoIncident id) tt (λ short. short) (λ text. tt) (λ is. let none : ⊥ = cc in none) shown
-  owes NoChannel shown = absurd (shown.1 refl)
+  owes MediaFault shown = cut_off MediaFault tt tt (λ text. tt) (λ is. let none : ⊥ = cc in none) (λ is. let none : ⊥ = cc in none) shown.0 shown.1 shown.2
+  owes (Damaged k at) shown = cut_off (Damaged k at) tt tt (λ text. tt) (λ is. let none : ⊥ = cc in none) (λ is. let none : ⊥ = cc in none) shown.0 shown.1 shown.2
+  owes Unformatted shown = unread Unformatted tt (λ short. short) (λ text. tt) (λ is. let none : ⊥ = cc in none) (λ is. let none : ⊥ = cc in none) shown
+  owes (NoIncident id) shown = unread (NoIncident id) tt (λ short. short) (λ text. tt) (λ is. let none : ⊥ = cc in none) (λ is. let none : ⊥ = cc in none) shown
+  owes NoChannel shown = record {
+    own = tt;
+    printed = λ x t holds can. tt;
+    cut = λ short. absurd short;
+    output = λ is. let none : ⊥ = cc in absurd none;
+    channel = λ is. shown.0;
+    silent = inr (inl refl);
+  }
   owes NoMemory shown = memory shown
   owes Words shown = by_memory Words shown
   owes (Config n) shown = by_memory (Config n) shown
@@ -115,28 +129,50 @@ module _ {tells tells_images R : Type 0} (line : List Record → Record → List
   owes (Missing place) shown = by_memory (Missing place) shown
   owes (Capture number offset) shown = by_memory (Capture number offset) shown
 
-  no_channel : (status : Status) → Shows status → status ≡ NoChannel → ⊥
-  no_channel status shown is = (subst Shows is shown).1 refl
+  no_channel : (status : Status) → Shows status → asked.channel ≡ all_records → status ≡ NoChannel → ⊥
+  no_channel status shown all is = (subst Shows is shown).1 all
 
 -- What a visitor made of the media is what the command owes.
-module _ {tells tells_images R : Type 0} {line : List Record → Record → List ℕ} {last : List Record → List ℕ} {medium : Medium} {Has : List Record → Type 0} {Stops : List Record → R → Type 0} {old new : Outside tells tells_images} {status : Status}
-    (told : ReadsOut (whole_of medium) Has Stops (λ reason. NoMemory) line last old new status) where
-  owed : Owes line last medium old.media.disk Has Stops old.output new.output status
-  owed = owes line last medium old.media.disk Has Stops old.output new.output status told.shown
+module _ {tells tells_images R : Type 0} {line : List Record → Record → List ℕ} {last : List Record → List ℕ} {asked : AskedPlay} {Has : List Record → Type 0} {Stops : List Record → R → Type 0} {old new : Outside tells tells_images} {status : Status}
+    (told : ReadsOut asked Has Stops (λ reason. NoMemory) line last old new status) where
+  owed : Owes line last asked old.media.disk Has Stops old.output new.output status
+  owed = owes line last asked old.media.disk Has Stops old.output new.output status told.shown
 
-  pub lines_owed : OneAnswer old.media.disk.reads → TellsLines line last medium old new status
-  lines_owed law = record {
+  pub selected_owed : OneAnswer old.media.disk.reads → TellsSelected line last asked old new status
+  selected_owed law = record {
     own = owed.own;
-    no_channel = no_channel line last medium old.media.disk Has Stops old.output new.output status told.shown;
     printed = owed.printed;
     cut = owed.cut;
     output = owed.output;
+    channel = owed.channel;
     silent = owed.silent;
     media = told.media;
     missing = told.missing;
     bytes = told.bytes;
-    complete = λ none t. plays_all (whole_of medium) old.media new.media t law status (λ is. none.output (owed.output is)) (λ is. none.media (told.media.media.fault is)) owed.own told.media;
+    complete = λ none t. plays_all asked old.media new.media t law status (λ is. none.output (owed.output is)) (λ is. none.media (told.media.media.fault is)) owed.own told.media;
   }
 
   pub lines_known : status ≡ Words → ⊥
   lines_known is = subst IsPlayStatus is owed.own
+
+-- The same of all records of a medium, for which no channel is asked.
+module _ {tells tells_images R : Type 0} {line : List Record → Record → List ℕ} {last : List Record → List ℕ} {medium : Medium} {Has : List Record → Type 0} {Stops : List Record → R → Type 0} {old new : Outside tells tells_images} {status : Status}
+    (told : ReadsOut (whole_of medium) Has Stops (λ reason. NoMemory) line last old new status) where
+  none_lacks : status ≡ NoChannel → ⊥
+  none_lacks = no_channel line last (whole_of medium) old.media.disk Has Stops old.output new.output status told.shown refl
+
+  pub lines_owed : OneAnswer old.media.disk.reads → TellsLines line last medium old new status
+  lines_owed law =
+      let s = selected_owed told law in
+      record {
+        own = s.own;
+        no_channel = none_lacks;
+        printed = s.printed;
+        cut = s.cut;
+        output = s.output;
+        silent = ⊎_elim inl (λ rest. inr (⊎_elim (λ is. absurd (none_lacks is)) (λ others. others) rest)) s.silent;
+        media = s.media;
+        missing = s.missing;
+        bytes = s.bytes;
+        complete = s.complete;
+      }

@@ -1,5 +1,5 @@
 -- A visitor's own status says nothing of the media.
-use Rattle.std.proofs.Common.{⊎_elim, ℕ}
+use Rattle.std.proofs.Common.{ℕ}
 use Rattle.vdr_command.specs.Opened.{IfDamaged, IfNoIncident}
 use Rattle.vdr_command.specs.Endings.{IsWorkDone}
 use Rattle.vdr_readout.specs.Reads.{IsOwnStatus}

@@ -16,7 +16,6 @@ use Rattle.vdr_outside.proofs.Counts.{rose_after, sum_not_less}
 use Rattle.vdr_config.specs.Configuration.{Configuration}
 use Rattle.vdr_entry.specs.Queries.{asked_medium}
 use Rattle.vdr_entry.specs.declared.query.Medium.{Medium as Played}
-use Rattle.vdr_entry.specs.declared.query.Medium.TheVariants.{Incident}
 use Rattle.vdr_directory.specs.Sequence.{Placed}
 use Rattle.vdr_opening.specs.Media.{members, Contents, HoldsContents, opening_of, reading_of}
 use Rattle.vdr_opening.specs.declared.refused.OpenRefused.{OpenRefused}
@@ -37,7 +36,7 @@ use Rattle.vdr_visit.specs.declared.visit_refused.VisitRefused.{VisitRefused}
 use Rattle.vdr_visit.specs.declared.visit_refused.VisitRefused.TheVariants as stops
 use Rattle.vdr_readout.specs.Reads.{AreIntactAsked, AskedPlay, CanBeRead, CanPlay, IfItself, IsMetDamage, IsOwnStatus, LacksChannel, LacksIncident, MetUnreadable, PlayEnds, ShowsReading, query_of, records_asked, status_by}
 use Rattle.vdr_command.specs.declared.status.Status.{Status}
-use Rattle.vdr_command.specs.declared.status.Status.TheVariants.{Done, Damaged, OutputFault, NoChannel, NoIncident}
+use Rattle.vdr_command.specs.declared.status.Status.TheVariants.{Done, OutputFault}
 use Rattle.vdr_recorder.proofs.Playing.{config_read}
 use Rattle.vdr_recorder.proofs.Resting.{stand_reads}
 use Rattle.vdr_command.proofs.OpenedLemmas.{OpenedOn, TellsOn, kept_by_call, one_look, opened_by, opened_so, worked_ends}

@@ -1,6 +1,6 @@
 -- What a command that reads records out answers where it reads none: opening was refused, or no such channel is configured.
 use Rattle.std.specs.Prelude.{true, false, bytes_eq, length, is_none}
-use Rattle.std.proofs.Common.{◌≡◌, inl, inr, ⊎_elim, ℕ, List, [], Option, Some, None, Result, Ok, refl, sym, ap, subst}
+use Rattle.std.proofs.Common.{◌≡◌, inl, inr, ℕ, List, [], Option, Some, None, Result, Ok, refl, sym, ap, subst}
 use Rattle.std.proofs.KnownBytes.{Appends-nil}
 use Rattle.vdr_core.specs.Histories.{live}
 use Rattle.vdr_core.specs.Histories as histories

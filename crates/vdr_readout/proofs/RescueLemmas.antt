@@ -1,24 +1,21 @@
 -- What a command owes that reads one medium alone, from what each of its calls says.
-use Rattle.std.proofs.Common.{◌≡◌, ◌≤◌, ◌++◌, inl, inr, ⊎_elim, ℕ, List, [], length, sum, get_or, Bool, true, false, Option, Result, Ok, Err, refl, sym, ap, ◌∙◌, subst, append-nil, arith}
+use Rattle.std.proofs.Common.{◌≡◌, ◌≤◌, ◌++◌, inl, inr, ℕ, List, [], length, sum, get_or, true, false, Option, Result, Ok, Err, refl, sym, ap, ◌∙◌, subst, append-nil}
 use Rattle.std.specs.Bool.{⊤}
 use Rattle.std.proofs.KnownBytes.{Appends-nil, Appends-trans}
-use Rattle.std.specs.Io.KnownBytes.{Appends}
 use Rattle.vdr_core.specs.Histories as histories
 use Rattle.vdr_terms.specs.Records.{Record}
 use Rattle.vdr_terms.specs.Queries.{Query}
 use Rattle.vdr_outside.specs.Causes.{NoneFalls, Rose}
-use Rattle.vdr_outside.specs.Disk.{Disk, Unchanged, content}
+use Rattle.vdr_outside.specs.Disk.{Unchanged, content}
 use Rattle.vdr_outside.specs.declared.fault.PartRefused.{PartRefused}
 use Rattle.vdr_outside.specs.declared.fault.PartRefused.TheVariants as parts
 use Rattle.vdr_outside.specs.declared.media.Media.{Ghosts as MediaTells}
-use Rattle.vdr_outside.specs.Writes.{AppendsFront}
 use Rattle.vdr_outside.proofs.Counts.{rose_after, sum_not_less, sum_rose}
 use Rattle.vdr_outside.proofs.Known.{front-more}
 use Rattle.vdr_outside.proofs.Moments.{unchanged_join}
 use Rattle.vdr_config.specs.Configuration.{Configuration}
 use Rattle.vdr_directory.specs.Opening.{HasFaultCause}
 use Rattle.vdr_entry.specs.Queries.{asked_medium}
-use Rattle.vdr_entry.specs.declared.query.Medium.{Medium}
 use Rattle.vdr_entry.specs.declared.query.Medium.TheVariants.{Incident}
 use Rattle.vdr_rescue.specs.Alones.{AloneState, IsAloneOn, IsReadThrough, IsSameMedium, LeavesAlone, RefusesAlone, Rescue, Rescued, Selects, account_of, selected_of}
 use Rattle.vdr_rescue.specs.Costs.{ReadsNoOther}
@@ -26,19 +23,19 @@ use Rattle.vdr_rescue.specs.Findings.{AreFindings, findings_text, found_in}
 use Rattle.vdr_rescue.specs.declared.findings.Finding.{Finding}
 use Rattle.vdr_rescue.specs.declared.found.Found.{Found}
 use Rattle.vdr_rescue.specs.declared.found.Found.TheVariants as found
-use Rattle.vdr_visit.specs.Prints.{text_of, whole_text}
+use Rattle.vdr_visit.specs.Prints.{whole_text}
 use Rattle.vdr_visit.specs.Refusals.{IsAccepted, lacks_channel, lacks_incident}
 use Rattle.vdr_visit.specs.Visits.{AreVisited, HasHanded, HasMade, ReadEnd, end_of}
-use Rattle.vdr_visit.specs.Visits.ReadEnd.{AllRead, ReadDamaged, ReadFault}
+use Rattle.vdr_visit.specs.Visits.ReadEnd.{AllRead, ReadFault}
 use Rattle.vdr_visit.specs.declared.visit_refused.VisitRefused.{VisitRefused}
 use Rattle.vdr_visit.specs.declared.visit_refused.VisitRefused.TheVariants as stops
 use Rattle.vdr_visit.proofs.Printing.{front_of_none, front_of_whole}
-use Rattle.vdr_command.specs.Outside.{InputSeen, MediaFailed, MediaSeen, NothingFailed, OutputFailed, OutputSeen, Outside, Prints, PrintsFront, Writes}
+use Rattle.vdr_command.specs.Outside.{InputSeen, MediaFailed, MediaSeen, OutputFailed, OutputSeen, Outside, Prints, PrintsFront, Writes}
 use Rattle.vdr_command.specs.StatusLine.{channel_line}
 use Rattle.vdr_command.specs.declared.status.Status.{Status}
-use Rattle.vdr_command.specs.declared.status.Status.TheVariants.{Done, Damaged, MediaFault, OutputFault, NoMemory, NoChannel, NoIncident, Missing}
+use Rattle.vdr_command.specs.declared.status.Status.TheVariants.{Damaged, MediaFault, NoMemory, NoChannel, NoIncident}
 use Rattle.vdr_readout.specs.Reads.{AskedPlay, LacksChannel, LacksIncident, id_of, number_asked, query_of, status_by}
-use Rattle.vdr_readout.specs.Rescues.{CanRescue, IsFound, LeavesRescued, OfRescue, Rescues, RescuesAll, ShowsRescue, records_rescued, rescue_text, status_found}
+use Rattle.vdr_readout.specs.Rescues.{CanRescue, IsFound, Rescues, RescuesAll, ShowsRescue, records_rescued, rescue_text, status_found}
 use Rattle.vdr_readout.specs.Telling.{TellsAlone, TellsFindings, status_of_part}
 use Rattle.vdr_readout.proofs.PlayCompleteness.{one_id}
 use Rattle.vdr_readout.proofs.ReadLemmas.{Wants}

@@ -5,19 +5,14 @@ use Rattle.std.specs.Prelude.{IfErr, OnOk}
 use Rattle.std.proofs.KnownBytes.{Appends-nil}
 use Rattle.std.specs.Io.KnownBytes.{Appends}
 use Rattle.vdr_core.specs.Histories as histories
-use Rattle.vdr_terms.specs.Records.{Record}
 use Rattle.vdr_terms.specs.Queries.{Query}
-use Rattle.vdr_outside.specs.Causes.{NoneFalls, Rose}
 use Rattle.vdr_outside.specs.Disk.{Unchanged, content}
 use Rattle.vdr_outside.specs.declared.fault.PartRefused.{PartRefused}
 use Rattle.vdr_outside.specs.declared.fault.PartRefused.TheVariants as parts
-use Rattle.vdr_outside.specs.declared.media.Media.{Ghosts as MediaTells}
-use Rattle.vdr_outside.specs.Writes.{AppendsFront}
 use Rattle.vdr_config.specs.Configuration.{Configuration}
 use Rattle.vdr_entry.specs.Queries.{asked_medium}
-use Rattle.vdr_entry.specs.declared.query.Medium.{Medium}
 use Rattle.vdr_entry.specs.declared.query.Medium.TheVariants.{Incident}
-use Rattle.vdr_export.specs.Answers.{FileEnds, IsFailure, MayBeBegun, file_end, file_of}
+use Rattle.vdr_export.specs.Answers.{FileEnds, IsFailure, MayBeBegun, file_of}
 use Rattle.vdr_export.specs.declared.file.File.{File}
 use Rattle.vdr_export.specs.declared.file.File.TheVariants as files
 use Rattle.vdr_export.specs.declared.refused.ExportRefused.{ExportRefused}
@@ -28,24 +23,21 @@ use Rattle.vdr_rescue.specs.declared.findings.Finding.{Finding}
 use Rattle.vdr_rescue.specs.declared.found.Found.{Found}
 use Rattle.vdr_rescue.specs.declared.found.Found.TheVariants as found
 use Rattle.vdr_visit.specs.Refusals.{lacks_channel, lacks_incident, unanswered}
-use Rattle.vdr_visit.specs.Visits.{ReadEnd}
-use Rattle.vdr_visit.specs.Visits.ReadEnd.{AllRead, ReadDamaged, ReadFault}
 use Rattle.vdr_visit.specs.declared.visit_refused.VisitRefused.{VisitRefused}
-use Rattle.vdr_command.specs.Outside.{InputSeen, MediaFailed, NothingFailed, OutputFailed, OutputSeen, Outside, Prints, PrintsFront, Writes}
+use Rattle.vdr_command.specs.Outside.{MediaFailed, OutputFailed, OutputSeen, Outside, Prints, PrintsFront, Writes}
 use Rattle.vdr_command.specs.StatusLine.{channel_line}
-use Rattle.vdr_command.specs.declared.status.Status.{Status}
-use Rattle.vdr_command.specs.declared.status.Status.TheVariants.{Done, Damaged, MediaFault, OutputFault, NoMemory, NoChannel, NoIncident, ExportKind, ExportNothing, ExportMixed, ExportLong, ExportPart, Missing}
+use Rattle.vdr_command.specs.declared.status.Status.TheVariants.{Damaged, MediaFault, NoMemory, NoChannel, NoIncident, ExportKind}
 use Rattle.vdr_readout.specs.Exports.{file_in, kind_at, status_of_export, wished}
 use Rattle.vdr_rescue.specs.Findings.{found_in}
-use Rattle.vdr_readout.specs.Reads.{AskedPlay, LacksChannel, LacksIncident, channel_asked, id_of, number_asked, query_of}
-use Rattle.vdr_readout.specs.Rescues.{CanRescue, LeavesRescued, records_rescued, status_found}
-use Rattle.vdr_readout.specs.RescuedFiles.{IsBegun, IsMade, IsNone, IsWritten, RescuesAllFiles, RescuesFile, ShowsFile}
+use Rattle.vdr_readout.specs.Reads.{AskedPlay, LacksChannel, LacksIncident, id_of, number_asked}
+use Rattle.vdr_readout.specs.Rescues.{CanRescue, records_rescued, status_found}
+use Rattle.vdr_readout.specs.RescuedFiles.{IsBegun, IsNone, IsWritten, RescuesAllFiles, RescuesFile, ShowsFile}
 use Rattle.vdr_readout.specs.Telling.{status_of_part}
 use Rattle.vdr_readout.specs.declared.exporting.Wish.{Wish}
 use Rattle.vdr_readout.proofs.PlayCompleteness.{one_id}
 use Rattle.vdr_readout.proofs.ReadLemmas.{Wants}
 use Rattle.vdr_readout.proofs.RefusedLemmas.{asked_within, lacks_from, lacks_is, medium_is}
-use Rattle.vdr_readout.proofs.RescueLemmas.{LawsOfAlone, failed_so, given, no_other, still}
+use Rattle.vdr_readout.proofs.RescueLemmas.{LawsOfAlone}
 
 one_file : (o : Option File) (f g : File) → o ≡ Some f → o ≡ Some g → f ≡ g
 one_file o f g a b = cc
@@ -269,7 +261,7 @@ module _ {tells tells_images : Type 0} (laws : LawsOfAlone) (wish : Wish) (asked
             }
               where
                 not_begun : (f : File) → MayBeBegun f exports.Nothing → ⊥
-                not_begun (files.Sound microphone) may = may
+                not_begun (files.Sound microphone timing) may = may
                 not_begun (files.Picture block) may = let none : ⊥ = cc in none
                 not_begun files.Listing may = let none : ⊥ = cc in none
             refused_rescues (exports.Mixed place) is = record {
@@ -279,7 +271,7 @@ module _ {tells tells_images : Type 0} (laws : LawsOfAlone) (wish : Wish) (asked
             }
               where
                 not_begun : (f : File) → MayBeBegun f (exports.Mixed place) → ⊥
-                not_begun (files.Sound microphone) may = may
+                not_begun (files.Sound microphone timing) may = may
                 not_begun (files.Picture block) may = let none : ⊥ = cc in none
                 not_begun files.Listing may = let none : ⊥ = cc in none
             refused_rescues exports.Long is = record {
@@ -289,7 +281,7 @@ module _ {tells tells_images : Type 0} (laws : LawsOfAlone) (wish : Wish) (asked
             }
               where
                 not_begun : (f : File) → MayBeBegun f exports.Long → ⊥
-                not_begun (files.Sound microphone) may = may
+                not_begun (files.Sound microphone timing) may = may
                 not_begun (files.Picture block) may = let none : ⊥ = cc in none
                 not_begun files.Listing may = let none : ⊥ = cc in none
             refused_rescues (exports.Part number) is = record {
@@ -299,7 +291,7 @@ module _ {tells tells_images : Type 0} (laws : LawsOfAlone) (wish : Wish) (asked
             }
               where
                 not_begun : (f : File) → MayBeBegun f (exports.Part number) → ⊥
-                not_begun (files.Sound microphone) may = may
+                not_begun (files.Sound microphone timing) may = may
                 not_begun (files.Picture block) may = let none : ⊥ = cc in none
                 not_begun files.Listing may = let none : ⊥ = cc in none
             refused_rescues exports.Fault is = record {

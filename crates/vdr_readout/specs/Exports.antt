@@ -1,5 +1,5 @@
 -- What `wav`, `picture` and `pictures` write and answer: a file out of what was recorded, or why there is none (this project's profile).
-use Rattle.std.specs.Prelude.{◌≡◌, ◌⊎◌, ◌∷◌, ◌<◌, ◌^◌, ℕ, true, List, [], codes, decimal, slice_get, option_map, Option, Some, None, Result, Ok, Err, ⊤}
+use Rattle.std.specs.Prelude.{◌≡◌, ◌⊎◌, ◌∷◌, ◌<◌, ◌^◌, ◌==◌, if◌then◌else◌, ℕ, ℤ, true, List, [], codes, decimal, slice_get, option_map, unsigned_abs, Option, Some, None, Result, Ok, Err, ⊤}
 use Rattle.vdr_core.specs.Histories.{live}
 use Rattle.vdr_durability.specs.Readings.{EndsMeet}
 use Rattle.vdr_outside.specs.Disk.{Image}
@@ -13,6 +13,8 @@ use Rattle.vdr_export.specs.declared.file.File.{File}
 use Rattle.vdr_export.specs.declared.file.File.TheVariants as files
 use Rattle.vdr_export.specs.declared.refused.ExportRefused.{ExportRefused}
 use Rattle.vdr_export.specs.declared.refused.ExportRefused.TheVariants as exports
+use Rattle.vdr_export.specs.declared.timing.Timing.{Timing}
+use Rattle.vdr_export.specs.declared.timing.Timing.TheVariants.{Numbered, Stamped}
 use Rattle.vdr_opening.specs.Media.{members, Contents, HoldsContents, reading_of}
 use Rattle.vdr_control.specs.Orders.PlainOrder.{Play as PlayOrder}
 use Rattle.vdr_control.specs.Plays.{SpellsPlay}
@@ -33,12 +35,12 @@ kind_at channels None = None
 kind_at channels (Some k) = option_map (λ channel. channel.kind) (slice_get channels k)
 
 -- The file that is to be made of a channel, None where its kind is another, and of all records.
-abbrev pub sound_of : Option Selection → Option File
-sound_of None = None
-sound_of (Some (Sentence formatter source)) = None
-sound_of (Some (Images source)) = None
-sound_of (Some (Pcm microphone)) = Some (files.Sound microphone)
-sound_of (Some Opaque) = None
+abbrev pub sound_of : Timing → Option Selection → Option File
+sound_of timing None = None
+sound_of timing (Some (Sentence formatter source)) = None
+sound_of timing (Some (Images source)) = None
+sound_of timing (Some (Pcm microphone)) = Some (files.Sound microphone timing)
+sound_of timing (Some Opaque) = None
 
 abbrev pub picture_in : Block → Option Selection → Option File
 picture_in block None = None
@@ -55,7 +57,7 @@ listing_in (Some (Pcm microphone)) = None
 listing_in (Some Opaque) = None
 
 abbrev pub wished : Wish → Option Selection → Option File
-wished Sound kind = sound_of kind
+wished (Sound timing) kind = sound_of timing kind
 wished (Picture block) kind = picture_in block kind
 wished Listing kind = listing_in kind
 
@@ -79,17 +81,17 @@ status_of_export (Err exports.Output) = OutputFault
 status_of_export (Err exports.NoMemory) = NoMemory
 
 abbrev pub IsSound : Wish → Type 0
-IsSound Sound = ⊤
+IsSound (Sound timing) = ⊤
 IsSound (Picture block) = ⊥
 IsSound Listing = ⊥
 
 abbrev pub IsPicture : Wish → Type 0
-IsPicture Sound = ⊥
+IsPicture (Sound timing) = ⊥
 IsPicture (Picture block) = ⊤
 IsPicture Listing = ⊥
 
 abbrev pub IsNoListing : Wish → Type 0
-IsNoListing Sound = ⊤
+IsNoListing (Sound timing) = ⊤
 IsNoListing (Picture block) = ⊤
 IsNoListing Listing = ⊥
 
@@ -201,7 +203,29 @@ sounding asked = record {
   legal = ⊤;
   reads_input = ⊥;
   uses_media = ⊤;
-  owes = λ old new hears w status. Exports Sound asked old new status;
+  owes = λ old new hears w status. Exports (Sound Numbered) asked old new status;
+}
+
+-- A sound on its time line begins at FROM, or with its first frame where that is no bound, which is 0.
+abbrev pub timed_from : (from : ℤ) → Timing
+timed_from from = Stamped (if unsigned_abs from == 0 then None else Some (unsigned_abs from))
+
+-- `wav` with `timed` behind its words.
+pub record AreTimedWords (texts : List (List ℕ)) (asked : AskedPlay) : Type 0 where
+  pub medium : List ℕ
+  pub channel : List ℕ
+  pub from : List ℕ
+  pub to : List ℕ
+  pub words : texts ≡ codes "wav" ∷ medium ∷ channel ∷ from ∷ to ∷ codes "timed" ∷ []
+  pub spelled : SpellsPlay medium channel from to (PlayOrder asked.medium asked.channel asked.from asked.to)
+
+abbrev pub sounding_in_time : AskedPlay → Promise
+sounding_in_time asked = record {
+  words = λ texts. AreTimedWords texts asked;
+  legal = ⊤;
+  reads_input = ⊥;
+  uses_media = ⊤;
+  owes = λ old new hears w status. Exports (Sound (timed_from asked.from)) asked old new status;
 }
 
 -- `picture`, and its words: those of a play, with the source of the image and the number of its block behind the channel.

@@ -7,9 +7,11 @@ pub mod Sources
 pub mod Exports
 pub mod Watches
 pub mod Lines
+pub mod Selections
 pub mod Targets
 pub mod Rescues
 pub mod Telling
 pub mod RescuedFiles
 pub mod Readings
 pub mod Informs
+pub mod Evidences

@@ -1,5 +1,5 @@
 -- What is said of a command that writes a file out of one medium alone (this project's profile).
-use Rattle.std.specs.Prelude.{◌≡◌, ◌⊎◌, ℕ, List, Option, Some, None, Result, Ok, Err, ⊤}
+use Rattle.std.specs.Prelude.{◌≡◌, ◌⊎◌, ℕ, List, Some, None, Ok, Err}
 use Rattle.vdr_outside.specs.Disk.{content}
 use Rattle.vdr_export.specs.Answers.{file_of}
 use Rattle.vdr_export.specs.declared.file.File.{File}

@@ -1,11 +1,9 @@
 -- What is said of a command that reads one medium alone, as `rescue` asks for it (this project's profile).
-use Rattle.std.specs.Prelude.{◌≡◌, ◌⊎◌, ◌++◌, ◌∷◌, ℕ, List, codes, Option, Some, None, Result, Ok, Err, ⊤}
+use Rattle.std.specs.Prelude.{◌≡◌, ◌⊎◌, ◌++◌, ℕ, List}
 use Rattle.vdr_terms.specs.Records.{Record}
 use Rattle.vdr_outside.specs.Causes.{NoneFalls}
 use Rattle.vdr_outside.specs.Disk.{Unchanged, content}
 use Rattle.vdr_outside.specs.declared.media.Media.{Ghosts as MediaTells}
-use Rattle.vdr_export.specs.Answers.{file_of}
-use Rattle.vdr_export.specs.declared.file.File.{File}
 use Rattle.vdr_rescue.specs.Alones.{AloneState, IsAloneOn, RefusesAlone, Rescue, Rescued, selected_of}
 use Rattle.vdr_rescue.specs.Costs.{ReadsNoOther}
 use Rattle.vdr_rescue.specs.declared.found.Found.{Found}
@@ -15,7 +13,6 @@ use Rattle.vdr_command.specs.Outside.{MediaFailed, MediaSeen, NothingFailed, Out
 use Rattle.vdr_command.specs.StatusLine.{channel_line}
 use Rattle.vdr_command.specs.declared.status.Status.{Status}
 use Rattle.vdr_command.specs.declared.status.Status.TheVariants.{Done, Damaged, MediaFault, OutputFault, NoMemory, NoChannel, NoIncident, Missing}
-use Rattle.vdr_entry.specs.declared.query.Medium.{Medium}
 use Rattle.vdr_entry.specs.declared.query.Medium.TheVariants.{Incident}
 use Rattle.vdr_rescue.specs.Findings.{findings_text, found_in}
 use Rattle.vdr_readout.specs.Reads.{AskedPlay, LacksChannel, LacksIncident, number_asked, query_of}

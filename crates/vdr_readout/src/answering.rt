@@ -3,6 +3,7 @@ ghost use Rattle.std.specs.Prelude.{◌≡◌, ◌<◌, ◌≤◌, length};
 ghost use Rattle.vdr_command.specs.Endings.{ending};
 ghost use Rattle.vdr_command.specs.declared.status.Status.TheVariants.{Words};
 ghost use Rattle.vdr_readout.specs.Readings.{OwesReading, RescuesReading, number_read, plain_reading};
+ghost use Rattle.vdr_readout.specs.Exports.{timed_from};
 ghost use Rattle.vdr_readout.specs.Readings.Reading.{Targets};
 ghost use Rattle.vdr_readout.specs.Reads.{plain_play};
 ghost use Rattle.vdr_readout.specs.Targets.{up_to};
@@ -12,6 +13,7 @@ use crate::playing::{Printer, answer_play};
 use crate::reading::{ALL, Wanted};
 use crate::rescuing::{number_of, rescue_out};
 use crate::rescuing_files::rescue_file;
+use crate::selecting::{answer_track, answer_values};
 use crate::sourcing::answer_sources;
 use crate::targeting::{Lookout, answer_targets};
 use crate::telling::{answer_digest, answer_runs};
@@ -20,17 +22,23 @@ use std::alloc::Global;
 use vdr_command::{Outer, Status, World};
 use vdr_digest::Digester;
 use vdr_entry::Medium;
-use vdr_export::Block;
+use vdr_export::{Block, Timing};
 use vdr_outside::{Media, Sink, Source};
 use vdr_recorder::SourceCounter;
+use vdr_rows::Rows;
 use vdr_runs::Runs;
 use vdr_terms::LAST_STAMP;
+use vdr_track::Track;
 
 /// What is read out, and how it is told.
 #[derive(Clone, Copy, Drop)]
 pub enum Reading<'a> {
     /// The records themselves.
     Play(Wanted<'a>),
+    /// The table of the values that they say.
+    Values(Wanted<'a>),
+    /// The track of this source, 1 to 15 bytes of 0x21 to 0x7E, or `-`.
+    Track(Wanted<'a>, &'a [u8]),
     /// The table of their sources.
     Sources { medium: Medium },
     /// What heartbeats and alarms show.
@@ -43,6 +51,8 @@ pub enum Reading<'a> {
     Targets { medium: Medium, at: i64 },
     /// The sound of a channel, as a WAVE file.
     Wav(Wanted<'a>),
+    /// The same on its time line: each frame where the stamp of its record says.
+    TimedWav(Wanted<'a>),
     /// The image of this block, out of a channel of images.
     Picture(Wanted<'a>, Block),
     /// The list of the images of a channel.
@@ -57,7 +67,10 @@ impl Reading<'_> {
     {
         let medium = match self {
             Reading::Play(wanted)
+            | Reading::Values(wanted)
+            | Reading::Track(wanted, _)
             | Reading::Wav(wanted)
+            | Reading::TimedWav(wanted)
             | Reading::Picture(wanted, _)
             | Reading::Pictures(wanted) => wanted.medium,
             Reading::Sources { medium }
@@ -79,6 +92,16 @@ fn up_to(medium: Medium, at: i64) -> Wanted<'static>
         channel: ALL,
         from: 0,
         to: at,
+    }
+}
+
+// A sound on its time line from this stamp on; from its first frame on where that is no bound.
+fn timed_from(from: i64) -> Timing
+    ensures { result ≡ timed_from from }
+{
+    match from.unsigned_abs() {
+        0 => Timing::Stamped { from: None },
+        from => Timing::Stamped { from: Some(from) },
     }
 }
 
@@ -116,12 +139,19 @@ pub fn answer_reading<I: Source + Drop, O: Sink + Drop, M: Media + Drop>(
 {
     match reading {
         Reading::Play(wanted) => answer_play(alloc, wanted, world),
+        Reading::Values(wanted) => answer_values(alloc, wanted, world),
+        Reading::Track(wanted, source) => answer_track(alloc, wanted, source, world),
         Reading::Sources { medium } => answer_sources(alloc, medium, world),
         Reading::Watch { medium } => answer_watch(alloc, medium, world),
         Reading::Runs { medium } => answer_runs(alloc, medium, world),
         Reading::Digest { medium } => answer_digest(alloc, medium, world),
         Reading::Targets { medium, at } => answer_targets(alloc, medium, at, world),
-        Reading::Wav(wanted) => answer_export(alloc, wanted, Wish::Sound, world),
+        Reading::Wav(wanted) => {
+            answer_export(alloc, wanted, Wish::Sound(Timing::Numbered), world)
+        }
+        Reading::TimedWav(wanted) => {
+            answer_export(alloc, wanted, Wish::Sound(timed_from(wanted.from)), world)
+        }
         Reading::Picture(wanted, block) => {
             answer_export(alloc, wanted, Wish::Picture(block), world)
         }
@@ -145,6 +175,10 @@ pub fn answer_rescue<I: Source + Drop, O: Sink + Drop, M: Media + Drop>(
 {
     match reading {
         Reading::Play(wanted) => rescue_out(alloc, wanted, &mut Printer::new(), world),
+        Reading::Values(wanted) => rescue_out(alloc, wanted, &mut Rows::new(alloc), world),
+        Reading::Track(wanted, source) => {
+            rescue_out(alloc, wanted, &mut Track::new(source), world)
+        }
         Reading::Sources { medium } => {
             let wanted = up_to(medium, LAST_STAMP);
             rescue_out(alloc, wanted, &mut SourceCounter::new(alloc), world)
@@ -162,7 +196,10 @@ pub fn answer_rescue<I: Source + Drop, O: Sink + Drop, M: Media + Drop>(
             rescue_out(alloc, wanted, &mut Digester::new(), world)
         }
         Reading::Targets { medium, at } => rescue_targets(alloc, medium, at, world),
-        Reading::Wav(wanted) => rescue_file(alloc, wanted, Wish::Sound, world),
+        Reading::Wav(wanted) => { rescue_file(alloc, wanted, Wish::Sound(Timing::Numbered), world) }
+        Reading::TimedWav(wanted) => {
+            rescue_file(alloc, wanted, Wish::Sound(timed_from(wanted.from)), world)
+        }
         Reading::Picture(wanted, block) => {
             rescue_file(alloc, wanted, Wish::Picture(block), world)
         }

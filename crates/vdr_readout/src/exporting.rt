@@ -10,7 +10,7 @@ use std::alloc::Global;
 use std::convert::Infallible;
 use vdr_command::{Outer, Status, World, law_of_openings, report_channel};
 use vdr_config::{ChannelKind, Config};
-use vdr_export::{Block, ExportRefused, File, export_file};
+use vdr_export::{Block, ExportRefused, File, Timing, export_file};
 use vdr_outside::{Media, Sink, Source};
 use vdr_recorder::Recorder;
 use vdr_vault::law_of_meeting;
@@ -18,8 +18,8 @@ use vdr_vault::law_of_meeting;
 /// What file is asked for.
 #[derive(Clone, Copy, Drop)]
 pub enum Wish {
-    /// The sound of a channel of PCM frames.
-    Sound,
+    /// The sound of a channel of PCM frames, which stand where the timing says.
+    Sound(Timing),
     /// The image of this block, out of a channel of images.
     Picture(Block),
     /// The list of the images, out of a channel of images.
@@ -37,8 +37,9 @@ pub(crate) fn file_of(config: &Config, channel: Option<u8>, wish: Wish) -> Optio
         return None;
     };
     match (wish, &channel.kind) {
-        (Wish::Sound, ChannelKind::Pcm { microphone }) => Some(File::Sound {
+        (Wish::Sound(timing), ChannelKind::Pcm { microphone }) => Some(File::Sound {
             microphone: *microphone,
+            timing,
         }),
         (Wish::Picture(block), ChannelKind::Image { .. }) => Some(File::Picture(block)),
         (Wish::Listing, ChannelKind::Image { .. }) => Some(File::Listing),

@@ -2,6 +2,7 @@
 #![tactic(auto)]
 
 mod answering;
+mod evidencing;
 mod exporting;
 mod informing;
 mod informing_alone;
@@ -10,12 +11,14 @@ mod playing;
 mod reading;
 mod rescuing;
 mod rescuing_files;
+mod selecting;
 mod sourcing;
 mod targeting;
 mod telling;
 mod watching;
 
 pub use answering::{Reading, answer_reading, answer_rescue};
+pub use evidencing::answer_evidence;
 pub use informing::answer_info;
 pub use informing_alone::answer_rescue_info;
 pub use listing::answer_incidents;

@@ -2,7 +2,7 @@
 use Rattle.std.specs.Prelude.{Bool, true, false, IsOk, IsErrOf, All, ⊤}
 use Rattle.std.proofs.Common.{◌≡◌, ◌⊎◌, inl, inr, ℕ, List, Option, Some, None, Result, Ok, Err, refl, sym, ap, subst, ◌∙◌}
 use Rattle.std.proofs.lemmas.List.Elements.{All-weaker}
-use Rattle.vdr_outside.specs.Disk.{Image, Durable, Unchanged, content}
+use Rattle.vdr_outside.specs.Disk.{Image, Unchanged, content}
 use Rattle.vdr_outside.specs.Moments.{AtEachMoment, Settled}
 use Rattle.vdr_feed.specs.Reader.{IfKnown}
 use Rattle.vdr_config.specs.declared.bad.ConfigBad.{ConfigBad}
@@ -97,7 +97,7 @@ module _ {tells tells_images : Type 0} (again : Bool) (left : Option (List ℕ))
   pub refused_answers : (r : FormatRefused) → TextTested (Err r) (configuration text)
       → FormattedTested (Err r) again (KnownFormatted old.disk) (KnownUnformatted old.disk) (Unchanged old.disk new.disk)
       → ((c : Configuration) → configuration text ≡ Ok c → RoomTested (Err r) (room c old.disk.sizes) (Unchanged old.disk new.disk))
-      → IfRefused (Err r) (Unchanged old.disk new.disk) → (IsErrOf {T = ⊤} {E = FormatRefused} (Err r) refusal.Fault → MediaFailed old new) → (Durable 0 old.disk → FormatsAtEachMoment {T = ⊤} {E = FormatRefused} old.disk new.disk (Err r) IsNew)
+      → IfRefused (Err r) (Unchanged old.disk new.disk) → (IsErrOf {T = ⊤} {E = FormatRefused} (Err r) refusal.Fault → MediaFailed old new) → FormatsAtEachMoment {T = ⊤} {E = FormatRefused} old.disk new.disk (Err r) IsNew
       → FormatEnds again left old new (status_of r)
   refused_answers refusal.NoMemory tested formatted fits untouched fault moments = record {
     formatted = λ is. let none : ⊥ = cc in absurd none;
@@ -162,9 +162,9 @@ module _ {tells tells_images : Type 0} (again : Bool) (left : Option (List ℕ))
         own = tt;
         others = others;
         others_meanwhile = meanwhile;
-        moments = λ either rest. known left text (λ d bytes. FormatsAtEachMoment {T = ⊤} {E = Status} old.disk new.disk (Err MediaFault) (IsEmptyHistoryOf members bytes)) c.0 (whole c.0 c.1) c.1
-            (failed_moments refusal.Fault (moments rest));
-        leaves = λ either rest. (text, failed_moments refusal.Fault (moments rest));
+        moments = λ either. known left text (λ d bytes. FormatsAtEachMoment {T = ⊤} {E = Status} old.disk new.disk (Err MediaFault) (IsEmptyHistoryOf members bytes)) c.0 (whole c.0 c.1) c.1
+            (failed_moments refusal.Fault moments);
+        leaves = λ either. (text, failed_moments refusal.Fault moments);
       }
 
   -- A success of the media's call.
@@ -172,7 +172,7 @@ module _ {tells tells_images : Type 0} (again : Bool) (left : Option (List ℕ))
       → FormattedTested (Ok tt) again (KnownFormatted old.disk) (KnownUnformatted old.disk) (Unchanged old.disk new.disk)
       → ((c : Configuration) → configuration text ≡ Ok c → RoomTested (Ok tt) (room c old.disk.sizes) (Unchanged old.disk new.disk))
       → (c : Configuration) × All (λ m. Settled m (IsEmptyMedium m c text) new.disk) members
-      → (Durable 0 old.disk → FormatsAtEachMoment {T = ⊤} {E = FormatRefused} old.disk new.disk (Ok tt) IsNew)
+      → FormatsAtEachMoment {T = ⊤} {E = FormatRefused} old.disk new.disk (Ok tt) IsNew
       → FormatEnds again left old new Done
   done_answers tested formatted fits made moments =
       let c = read_as (configuration text) tested in
@@ -189,8 +189,8 @@ module _ {tells tells_images : Type 0} (again : Bool) (left : Option (List ℕ))
         own = tt;
         others = others;
         others_meanwhile = meanwhile;
-        moments = λ either rest. known left text (λ d bytes. FormatsAtEachMoment {T = ⊤} {E = Status} old.disk new.disk (Ok tt) (IsEmptyHistoryOf members bytes)) c.0 (whole c.0 c.1) c.1 (done_moments (moments rest));
-        leaves = λ either rest. (text, done_moments (moments rest));
+        moments = λ either. known left text (λ d bytes. FormatsAtEachMoment {T = ⊤} {E = Status} old.disk new.disk (Ok tt) (IsEmptyHistoryOf members bytes)) c.0 (whole c.0 c.1) c.1 (done_moments moments);
+        leaves = λ either. (text, done_moments moments);
       }
 
 not_again : (again : Bool) (image : Image) → (again ≡ true) ⊎ IsUnformatted image → again ≡ false → IsFormatted image → ⊥

@@ -3,7 +3,7 @@ use Rattle.std.specs.Bool.{⊤}
 use Rattle.std.proofs.Common.{◌≡◌, ◌≤◌, ◌⊎◌, inl, inr, ⊎_elim, ℕ, Bool, List, [], Option, Result, Err, arith}
 use Rattle.vdr_core.specs.Histories.{Event}
 use Rattle.vdr_durability.specs.Keeping.{ShowsPrefix}
-use Rattle.vdr_outside.specs.Disk.{Disk, Durable, Image, Unchanged}
+use Rattle.vdr_outside.specs.Disk.{Disk, Image, Unchanged}
 use Rattle.vdr_opening.specs.Media.{Contents, opening_of}
 use Rattle.vdr_vault.specs.Openings.{LeavesAll}
 use Rattle.vdr_recorder.specs.Headline.{PlaysBack, ToldHeadline}
@@ -16,10 +16,9 @@ use Rattle.vdr_vault.specs.Ours.{AreOurs, IsOurs, StayOurs}
 use Rattle.vdr_vault.proofs.Ours.{ours_formatted, ours_opened, ours_unchanged}
 use Rattle.vdr_readout.proofs.ReadingLemmas.{reading_plays, rescue_unchanged}
 use Rattle.vdr_tool.specs.Commands.{Asked}
-use Rattle.vdr_tool.specs.Commands.Asked.{Review, Check, Format, Replay, Read, Incidents, Info, Save, Release, Trial, Import, Packets, Rescue, RescueInfo}
+use Rattle.vdr_tool.specs.Commands.Asked.{Review, Check, Format, Replay, Read, Evidence, Incidents, Info, Save, Release, Trial, Import, Packets, Rescue, RescueInfo}
 use Rattle.vdr_tool.specs.Formats.{FormatEnds, outcome_of}
 use Rattle.vdr_command.specs.Opened.{ContentsKept, IsUnopened, KeepsContents, MediaEnds}
-use Rattle.vdr_tool.specs.Lives.{StartsSynced}
 use Rattle.vdr_command.specs.Outside.{MediaFailed, MediaSeen, Outside}
 use Rattle.vdr_tool.specs.Replays.{ReplayEnds}
 use Rattle.vdr_tool.specs.Trials.{LeavesRun, TrialEnds, TrialLeaves, bench, bench_text}
@@ -61,11 +60,11 @@ module _ {tells tells_images : Type 0} where
   pub replay_lives : (left now : Option (List ℕ)) (old new : MediaSeen tells tells_images) (hears : Type 0) (w : Watched) (answer : Result Replayed ReplayRefused) → ReplayEnds left now old new hears w answer → tells_images → AreOurs old.disk → StayOurs old.disk new.disk
   replay_lives left now old new hears w answer h told ours = ours_opened old.disk new.disk told ours h.blank (λ x t holds meet sound. left_ours x _ old.disk new.disk hears w (h.left x t holds meet sound))
 
-  pub format_lives : (again : Bool) (left : Option (List ℕ)) (old new : MediaSeen tells tells_images) (status : Status) → FormatEnds again left old new status → Durable 0 old.disk → AreOurs old.disk → StayOurs old.disk new.disk
-  format_lives again left old new status h synced ours = by h.untouched
+  pub format_lives : (again : Bool) (left : Option (List ℕ)) (old new : MediaSeen tells tells_images) (status : Status) → FormatEnds again left old new status → AreOurs old.disk → StayOurs old.disk new.disk
+  format_lives again left old new status h ours = by h.untouched
     where
       formatted : (status ≡ Done) ⊎ (status ≡ MediaFault) → StayOurs old.disk new.disk
-      formatted either = let k = h.leaves either synced in ours_formatted old.disk new.disk (outcome_of status) k.0 ours k.1
+      formatted either = let k = h.leaves either in ours_formatted old.disk new.disk (outcome_of status) k.0 ours k.1
 
       by : (status ≡ Done) ⊎ ((status ≡ MediaFault) ⊎ Unchanged old.disk new.disk) → StayOurs old.disk new.disk
       by (inl done) = formatted (inl done)
@@ -73,22 +72,22 @@ module _ {tells tells_images : Type 0} where
       by (inr (inr same)) = ours_unchanged old.disk new.disk same ours
 
   -- What a trial leaves of them, once they were formatted.
-  ran_ours : (rose : Type 0) (old new : Disk tells tells_images) (items : List FeedItem) (end : RunEnd) (status : Status) → LeavesRun rose old new items end status → Durable 0 old → AreOurs old → StayOurs old new
-  ran_ours rose old new items end status r synced ours = record {
-    later = (r.moments synced).later;
+  ran_ours : (rose : Type 0) (old new : Disk tells tells_images) (items : List FeedItem) (end : RunEnd) (status : Status) → LeavesRun rose old new items end status → AreOurs old → StayOurs old new
+  ran_ours rose old new items end status r ours = record {
+    later = r.moments.later;
     each = λ image left. ⊎_elim
         (λ now. ours image now)
         (λ k. ⊎_elim (λ un. inl un) (λ (shown : ShowsPrefix (Life bench bench_text) r.events 0 image). life_ours bench bench_text shown.first image shown.shown) k)
-        ((r.moments synced).each image left);
+        (r.moments.each image left);
   }
 
-  pub trial_lives : (seed count : ℕ) (old new : MediaSeen tells tells_images) (status : Status) → TrialEnds seed count old new status → tells → Durable 0 old.disk → AreOurs old.disk → StayOurs old.disk new.disk
-  trial_lives seed count old new status h told synced ours = by h.left
+  pub trial_lives : (seed count : ℕ) (old new : MediaSeen tells tells_images) (status : Status) → TrialEnds seed count old new status → tells → AreOurs old.disk → StayOurs old.disk new.disk
+  trial_lives seed count old new status h told ours = by h.left
     where
       by : TrialLeaves seed count old new status → StayOurs old.disk new.disk
       by (inl refused) = ours_unchanged old.disk new.disk refused.1 ours
-      by (inr (inl failed)) = ours_formatted old.disk new.disk (Err MediaFault) bench_text ours (failed.1 synced)
-      by (inr (inr ran)) = let k = ran.2 told in ran_ours (MediaFailed old new) old.disk new.disk k.1 k.0 status k.3 synced ours
+      by (inr (inl failed)) = ours_formatted old.disk new.disk (Err MediaFault) bench_text ours failed.1
+      by (inr (inr ran)) = let k = ran.2 told in ran_ours (MediaFailed old new) old.disk new.disk k.1 k.0 status k.3 ours
 
   -- What a command leaves that leaves what might have been left before.
   ours_left : (old new : Disk tells tells_images) → LeavesAll old new → AreOurs old → StayOurs old new
@@ -96,21 +95,22 @@ module _ {tells tells_images : Type 0} where
 
   -- What each command that uses the media leaves of them.
   pub lives_of : (command : Asked) (old new : Outside tells tells_images) (hears : Type 0) (w : Watched) (status : Status) → (page command).owes old new hears w status → (page command).uses_media
-      → tells_images → StartsSynced command old.media.disk → AreOurs old.media.disk → StayOurs old.media.disk new.media.disk
-  lives_of (Review rate) old new hears w status owed uses told synced ours = absurd uses
-  lives_of Check old new hears w status owed uses told synced ours = absurd uses
-  lives_of Import old new hears w status owed uses told synced ours = absurd uses
-  lives_of Packets old new hears w status owed uses told synced ours = absurd uses
-  lives_of (Rescue reading) old new hears w status owed uses told synced ours = ours_unchanged old.media.disk new.media.disk (rescue_unchanged old new status reading owed) ours
-  lives_of (Format again) old new hears w status owed uses told synced ours = format_lives again old.input.left old.media new.media status owed.media synced ours
-  lives_of Replay old new hears w status owed uses told synced ours = replay_lives old.input.left new.input.left old.media new.media hears w owed.answer owed.media told ours
-  lives_of (Read reading) old new hears w status owed uses told synced ours = media_lives old.media new.media status (reading_plays old new status reading owed).media told ours
-  lives_of Info old new hears w status owed uses told synced ours = ours_left old.media.disk new.media.disk owed.untouched.leaves ours
-  lives_of (RescueInfo medium) old new hears w status owed uses told synced ours = ours_unchanged old.media.disk new.media.disk owed.media.unchanged ours
-  lives_of Incidents old new hears w status owed uses told synced ours = media_lives old.media new.media status owed.media told ours
-  lives_of (Save label) old new hears w status owed uses told synced ours = media_lives old.media new.media status owed.media told ours
-  lives_of (Release id) old new hears w status owed uses told synced ours = media_lives old.media new.media status owed.media told ours
-  lives_of (Trial seed count) old new hears w status owed uses told synced ours = trial_lives seed count old.media new.media status owed.media (old.media.disk.shown told).0 synced ours
+      → tells_images → AreOurs old.media.disk → StayOurs old.media.disk new.media.disk
+  lives_of (Review rate) old new hears w status owed uses told ours = absurd uses
+  lives_of Check old new hears w status owed uses told ours = absurd uses
+  lives_of Import old new hears w status owed uses told ours = absurd uses
+  lives_of Packets old new hears w status owed uses told ours = absurd uses
+  lives_of (Rescue reading) old new hears w status owed uses told ours = ours_unchanged old.media.disk new.media.disk (rescue_unchanged old new status reading owed) ours
+  lives_of (Format again) old new hears w status owed uses told ours = format_lives again old.input.left old.media new.media status owed.media ours
+  lives_of Replay old new hears w status owed uses told ours = replay_lives old.input.left new.input.left old.media new.media hears w owed.answer owed.media told ours
+  lives_of (Read reading) old new hears w status owed uses told ours = media_lives old.media new.media status (reading_plays old new status reading owed).media told ours
+  lives_of (Evidence asked) old new hears w status owed uses told ours = media_lives old.media new.media status owed.media.media told ours
+  lives_of Info old new hears w status owed uses told ours = ours_left old.media.disk new.media.disk owed.untouched.leaves ours
+  lives_of (RescueInfo medium) old new hears w status owed uses told ours = ours_unchanged old.media.disk new.media.disk owed.media.unchanged ours
+  lives_of Incidents old new hears w status owed uses told ours = media_lives old.media new.media status owed.media told ours
+  lives_of (Save label) old new hears w status owed uses told ours = media_lives old.media new.media status owed.media told ours
+  lives_of (Release id) old new hears w status owed uses told ours = media_lives old.media new.media status owed.media told ours
+  lives_of (Trial seed count) old new hears w status owed uses told ours = trial_lives seed count old.media new.media status owed.media (old.media.disk.shown told).0 ours
 
   -- Media that no call was made on.
   pub ours_still : (disk : Disk tells tells_images) → AreOurs disk → StayOurs disk disk

@@ -88,7 +88,7 @@ module _ {tells tells_images : Type 0} (seed count : ℕ) where
     fault = ends.fault;
     other_media = λ other told. absurd other;
     others = ends.others;
-    left = inr (inl (refl, λ durable. (ends.moments (inr refl) durable).2));
+    left = inr (inl (refl, (ends.moments (inr refl)).2));
   }
   refused_as old new (PortFault group) h ends = absurd h
   refused_as old new (LinkFault link) h ends = absurd h

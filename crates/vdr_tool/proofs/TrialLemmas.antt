@@ -10,7 +10,7 @@ use Rattle.vdr_core.specs.Histories.{Event, recorded}
 use Rattle.vdr_durability.specs.Keeping.{IsWhole, ShowsOn, ShowsPrefix}
 use Rattle.vdr_durability.proofs.Kept.{keeps_on}
 use Rattle.vdr_outside.specs.Causes.{Rose}
-use Rattle.vdr_outside.specs.Disk.{Disk, Durable, Image, SameBut, content}
+use Rattle.vdr_outside.specs.Disk.{Disk, Image, SameBut, content}
 use Rattle.vdr_outside.specs.Moments.{AtEachMoment, Settled}
 use Rattle.vdr_outside.proofs.Moments.{moments_join, moments_weaken, now_after, settled_image}
 use Rattle.vdr_config.specs.declared.media.TooSmall.{TooSmall}
@@ -108,8 +108,8 @@ module _ {tells tells_images : Type 0} where
     pub empty_read : tells → IsEmpty mid.disk.reads
     empty_read told = record { each = all_two (λ m. IsEmptyMedium m bench bench_text (content mid.disk.reads m)) ((settled 0 0 (omega arith)).reads told) ((settled 1 1 (omega arith)).reads told) }
 
-    formats : Durable 0 old.disk → AtEachMoment old.disk mid.disk (λ image. old.disk.now image ⊎ (IsUnformatted image ⊎ IsEmpty image))
-    formats durable = by (ends.moments (inl refl) durable).2
+    formats : AtEachMoment old.disk mid.disk (λ image. old.disk.now image ⊎ (IsUnformatted image ⊎ IsEmpty image))
+    formats = by (ends.moments (inl refl)).2
       where
         by : FormatsAtEachMoment {T = ⊤} {E = Status} old.disk mid.disk (Ok tt) (IsEmptyHistoryOf members bench_text)
             → AtEachMoment old.disk mid.disk (λ image. old.disk.now image ⊎ (IsUnformatted image ⊎ IsEmpty image))
@@ -215,8 +215,8 @@ module _ {tells tells_images : Type 0} where
     pending = ⊎_elim (λ w. inl w) (λ (b : (end ≡ Broken) × rose). inr (b.0, to b.1)) r.pending;
     records = r.told.records;
     accounts = r.told.accounts;
-    moments = λ durable. moments_join old.disk mid.disk new (SinceEntry old.disk r.events)
-        (moments_weaken old.disk mid.disk (λ image. old.disk.now image ⊎ (IsUnformatted image ⊎ IsEmpty image)) (SinceEntry old.disk r.events) (formats old mid ends durable)
+    moments = moments_join old.disk mid.disk new (SinceEntry old.disk r.events)
+        (moments_weaken old.disk mid.disk (λ image. old.disk.now image ⊎ (IsUnformatted image ⊎ IsEmpty image)) (SinceEntry old.disk r.events) (formats old mid ends)
         (λ image p. ⊎_elim (λ now. inl now) (λ k. ⊎_elim (λ un. inr (inl un)) (λ empty. begun image empty) k) p))
         (moments_weaken mid.disk new (λ image. mid.disk.now image ⊎ ShowsPrefix Lives r.events 0 image) (SinceEntry old.disk r.events) r.moments
         (λ image p. ⊎_elim (λ now. begun image (empty_now old mid ends image now)) (λ shown. inr (inr shown)) p));

@@ -14,7 +14,7 @@ use Rattle.vdr_readout.specs.Readings.{Reading as readings}
 use Rattle.vdr_readout.specs.Reads.{AskedPlay}
 use Rattle.vdr_readout.specs.declared.answering.Reading.{Reading as Told}
 use Rattle.vdr_tool.specs.Commands.{Asked, IsPlain}
-use Rattle.vdr_tool.specs.Commands.Asked.{Review, Check, Format, Replay, Read, Incidents, Info, Save, Release, Trial, Import, Packets, Rescue, RescueInfo}
+use Rattle.vdr_tool.specs.Commands.Asked.{Review, Check, Format, Replay, Read, Evidence, Incidents, Info, Save, Release, Trial, Import, Packets, Rescue, RescueInfo}
 use Rattle.vdr_tool.specs.Runs.{Spells}
 
 -- The same words spell the same.
@@ -78,11 +78,14 @@ pub record TargetWords (first second : List ℕ) (reading : Reading) : Type 0 wh
 
 pub target_words : (word first second : List ℕ) (reading : Reading) → SpellsReading (word ∷ first ∷ second ∷ []) reading → TargetWords first second reading
 target_words word first second (readings.Play asked) s = let e = s.words.words in let none : ⊥ = cc in absurd none
+target_words word first second (readings.Values asked) s = let e = s.words.words in let none : ⊥ = cc in absurd none
+target_words word first second (readings.Track asked source) s = let e = s.words.words in let none : ⊥ = cc in absurd none
 target_words word first second (readings.Sources m) s = let e = s.words in let none : ⊥ = cc in absurd none
 target_words word first second (readings.Watch m) s = let e = s.words in let none : ⊥ = cc in absurd none
 target_words word first second (readings.Runs m) s = let e = s.words in let none : ⊥ = cc in absurd none
 target_words word first second (readings.Digest m) s = let e = s.words in let none : ⊥ = cc in absurd none
 target_words word first second (readings.Wav asked) s = let e = s.words.words in let none : ⊥ = cc in absurd none
+target_words word first second (readings.TimedWav asked) s = let e = s.words.words in let none : ⊥ = cc in absurd none
 target_words word first second (readings.Picture asked block) s = let e = s.words.words in let none : ⊥ = cc in absurd none
 target_words word first second (readings.Pictures asked) s = let e = s.words.words in let none : ⊥ = cc in absurd none
 target_words word first second (readings.Targets m until) s =
@@ -107,12 +110,14 @@ pub not_other : (xs ys : List ℕ) (r : Bool) → r ≡ false → MatchBool r (x
 not_other xs ys true e told = let none : ⊥ = cc in absurd none
 not_other xs ys false e told = told
 
--- Two letters tell the first word of a reading from that of every other command.
+-- Three letters tell the first word of a reading from that of every other command.
 abbrev begins_reading : List ℕ → Bool
 begins_reading [] = false
 begins_reading (a ∷ []) = false
-begins_reading (a ∷ b ∷ rest) =
-    nat_eq a 119 || (nat_eq a 100 || ((nat_eq a 112 && (nat_eq b 108 || nat_eq b 105)) || ((nat_eq a 115 && nat_eq b 111) || ((nat_eq a 116 && nat_eq b 97) || (nat_eq a 114 && nat_eq b 117)))))
+begins_reading (a ∷ b ∷ []) = false
+begins_reading (a ∷ b ∷ c ∷ rest) =
+    nat_eq a 118 || (nat_eq a 119 || (nat_eq a 100 || ((nat_eq a 112 && (nat_eq b 108 || nat_eq b 105)) || ((nat_eq a 115 && nat_eq b 111)
+    || ((nat_eq a 116 && (nat_eq b 97 || nat_eq c 97)) || (nat_eq a 114 && nat_eq b 117))))))
 
 abbrev first_word : List (List ℕ) → List ℕ
 first_word [] = []
@@ -123,12 +128,15 @@ begins texts words is = ap (λ (l : List (List ℕ)). begins_reading (first_word
 
 reading_begins : (texts : List (List ℕ)) (reading : Reading) → (reads reading).words texts → begins_reading (first_word texts) ≡ true
 reading_begins texts (readings.Play asked) s = begins texts _ s.words
+reading_begins texts (readings.Values asked) s = begins texts _ s.words
+reading_begins texts (readings.Track asked source) s = begins texts _ s.words
 reading_begins texts (readings.Sources medium) s = begins texts _ s
 reading_begins texts (readings.Watch medium) s = begins texts _ s
 reading_begins texts (readings.Runs medium) s = begins texts _ s
 reading_begins texts (readings.Digest medium) s = begins texts _ s
 reading_begins texts (readings.Targets medium at) s = begins texts _ s.words
 reading_begins texts (readings.Wav asked) s = begins texts _ s.words
+reading_begins texts (readings.TimedWav asked) s = begins texts _ s.words
 reading_begins texts (readings.Picture asked block) s = begins texts _ s.words
 reading_begins texts (readings.Pictures asked) s = begins texts _ s.words
 
@@ -172,6 +180,7 @@ rescue_words word rest Packets w s = not_rescue word (codes "packets") w (first_
 rescue_words word rest (Format true) w s = not_rescue word (codes "reformat") w (first_same word (codes "reformat") rest _ s.words) refl
 rescue_words word rest (Format false) w s = not_rescue word (codes "format") w (first_same word (codes "format") rest _ s.words) refl
 rescue_words word rest Replay w s = not_rescue word (codes "replay") w (first_same word (codes "replay") rest _ s.words) refl
+rescue_words word rest (Evidence asked) w s = not_rescue word (codes "evidence") w (first_same word (codes "evidence") rest _ s.words.words) refl
 rescue_words word rest Info w s = not_rescue word (codes "info") w (first_same word (codes "info") rest _ s.words) refl
 rescue_words word rest Incidents w s = not_rescue word (codes "incidents") w (first_same word (codes "incidents") rest _ s.words) refl
 rescue_words word rest (Save label) w s = not_rescue word (codes "save") w (first_same word (codes "save") rest _ s.words) refl
@@ -196,6 +205,7 @@ plain_words word rest Replay other s = tt
 plain_words word rest (Read reading) other s = tt
 plain_words word rest Incidents other s = tt
 plain_words word rest Info other s = tt
+plain_words word rest (Evidence asked) other s = tt
 plain_words word rest (Save label) other s = tt
 plain_words word rest (Release id) other s = tt
 plain_words word rest (Trial seed count) other s = tt
@@ -222,6 +232,7 @@ no_words (Format false) s = let e = s.words in cc
 no_words Replay s = let e = s.words in cc
 no_words Incidents s = let e = s.words in cc
 no_words Info s = let e = s.words in cc
+no_words (Evidence asked) s = let e = s.words.words in cc
 no_words (Save label) s = let e = s.words in cc
 no_words (Release id) s = let e = s.words in cc
 no_words (Trial seed count) s = let e = s.words in cc

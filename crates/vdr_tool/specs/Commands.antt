@@ -5,6 +5,7 @@ use Rattle.vdr_entry.specs.declared.query.Medium.{Medium}
 use Rattle.vdr_entry.specs.Queries.{asked_medium}
 use Rattle.vdr_durability.specs.Playback.{medium_of}
 use Rattle.vdr_readout.specs.Readings.{Reading, number_read, plain_reading}
+use Rattle.vdr_readout.specs.Reads.{AskedPlay, plain_play}
 use Rattle.vdr_tool.specs.declared.words.Command.{Command}
 use Rattle.vdr_tool.specs.declared.words.Command.TheVariants as commands
 
@@ -14,6 +15,7 @@ pub data Asked : Type 0 where
   Format : (again : Bool) → Asked
   Replay : Asked
   Read : (reading : Reading) → Asked
+  Evidence : (asked : AskedPlay) → Asked
   Incidents : Asked
   Info : Asked
   Save : (label : List ℕ) → Asked
@@ -30,6 +32,7 @@ plain commands.Check = Check
 plain (commands.Format again) = Format again
 plain commands.Replay = Replay
 plain (commands.Read reading) = Read (plain_reading reading)
+plain (commands.Evidence wanted) = Evidence (plain_play wanted)
 plain commands.Incidents = Incidents
 plain commands.Info = Info
 plain (commands.Save label) = Save label.now

@@ -1,7 +1,7 @@
 -- What `format` and `reformat` answer, and what they do to the media (this project's profile).
 use Rattle.std.specs.Prelude.{◌≡◌, ◌⊎◌, ◌∷◌, ℕ, Bool, true, false, List, [], codes, Option, Result, Ok, Err, All, ⊤}
 use Rattle.std.specs.Io.KnownBytes.{IsAtEnd}
-use Rattle.vdr_outside.specs.Disk.{Disk, Durable, Unchanged}
+use Rattle.vdr_outside.specs.Disk.{Disk, Unchanged}
 use Rattle.vdr_outside.specs.Moments.{AtEachMoment, Settled}
 use Rattle.vdr_feed.specs.Reader.{IfKnown}
 use Rattle.vdr_config.specs.declared.media.TooSmall.{TooSmall}
@@ -83,11 +83,11 @@ module _ {tells tells_images : Type 0} where
     -- a success leaves media of the input's configuration that hold nothing, and a stop leaves them so
     pub done : status ≡ Done → MayFormat again old.disk × IfConfiguration left (λ c bytes. (room c old.disk.sizes ≡ Ok tt)
         × All (λ m. Settled m (IsEmptyMedium m c bytes) new.disk) members)
-    -- at each moment, where nothing of medium 0 is unsynced at entry
-    pub moments : (status ≡ Done) ⊎ (status ≡ MediaFault) → Durable 0 old.disk
+    -- what a stop leaves at each moment, whatever is unsynced at entry
+    pub moments : (status ≡ Done) ⊎ (status ≡ MediaFault)
         → IfConfiguration left (λ c bytes. FormatsAtEachMoment old.disk new.disk (outcome_of status) (IsEmptyHistoryOf members bytes))
     -- and whatever is known of the input, with some text
-    pub leaves : (status ≡ Done) ⊎ (status ≡ MediaFault) → Durable 0 old.disk
+    pub leaves : (status ≡ Done) ⊎ (status ≡ MediaFault)
         → (text : List ℕ) × FormatsAtEachMoment old.disk new.disk (outcome_of status) (IsEmptyHistoryOf members text)
 
   -- What `format` and `reformat` owe. They print nothing.

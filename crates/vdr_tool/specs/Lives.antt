@@ -1,29 +1,11 @@
--- What a life of the media asks of the moment at which a command begins, and what the command leaves of it (this project's profile).
+-- What a command leaves of the media's life (this project's profile).
 use Rattle.std.specs.Prelude.{ℕ, List, ⊤}
-use Rattle.vdr_outside.specs.Disk.{Disk, Durable}
+use Rattle.vdr_outside.specs.Disk.{Disk}
 use Rattle.vdr_config.specs.Configuration.{Configuration}
 use Rattle.vdr_recorder.specs.Chains.{AllLive, LivesOn, Run}
 use Rattle.vdr_vault.specs.Ours.{AreOurs, StayOurs}
 use Rattle.vdr_tool.specs.Commands.{Asked}
-use Rattle.vdr_tool.specs.Commands.Asked.{Review, Check, Format, Replay, Read, Incidents, Info, Save, Release, Trial, Import, Packets, Rescue, RescueInfo}
-
--- Nothing of the capsule is unsynced where the media are to be formatted: its gate is read before it is written. So it is after each
--- start of the recorder, and after each command but one that a fault ended.
-abbrev pub StartsSynced : {tells tells_images : Type 0} → Asked → Disk tells tells_images → Type 0
-StartsSynced (Format again) disk = Durable 0 disk
-StartsSynced (Review rate) disk = ⊤
-StartsSynced Check disk = ⊤
-StartsSynced Replay disk = ⊤
-StartsSynced (Read reading) disk = ⊤
-StartsSynced Incidents disk = ⊤
-StartsSynced Info disk = ⊤
-StartsSynced (Save label) disk = ⊤
-StartsSynced (Release id) disk = ⊤
-StartsSynced (Trial seed count) disk = Durable 0 disk
-StartsSynced Import disk = ⊤
-StartsSynced Packets disk = ⊤
-StartsSynced (Rescue reading) disk = ⊤
-StartsSynced (RescueInfo medium) disk = ⊤
+use Rattle.vdr_tool.specs.Commands.Asked.{Review, Check, Format, Replay, Read, Evidence, Incidents, Info, Save, Release, Trial, Import, Packets, Rescue, RescueInfo}
 
 -- The command does not format the media.
 abbrev pub FormatsNothing : Asked → Type 0
@@ -39,6 +21,7 @@ FormatsNothing (Release id) = ⊤
 FormatsNothing (Trial seed count) = ⊥
 FormatsNothing Import = ⊤
 FormatsNothing Packets = ⊤
+FormatsNothing (Evidence asked) = ⊤
 FormatsNothing (Rescue reading) = ⊤
 FormatsNothing (RescueInfo medium) = ⊤
 
@@ -46,7 +29,7 @@ FormatsNothing (RescueInfo medium) = ⊤
 pub record KeepsLife {tells tells_images : Type 0} (asked : Asked → Type 0) (old new : Disk tells tells_images) : Type 0 where
   -- media of this product, never formatted or formatted by it and then used, stay so: each image that a stop may leave is unformatted, or
   -- legible and sound
-  pub ours : tells_images → ((command : Asked) → asked command → StartsSynced command old) → AreOurs old → StayOurs old new
+  pub ours : tells_images → AreOurs old → StayOurs old new
   -- and where nothing is formatted their life goes on: the runs since they were formatted, and then nothing, or one run more, whose events
   -- are those of the command's headline (`law_of_goes_on`), of which each image that a stop may leave now shows those that were acknowledged
   pub life : (c : Configuration) (text : List ℕ) (runs : List Run) → tells_images → ((command : Asked) → asked command → FormatsNothing command)

@@ -3,11 +3,12 @@ use Rattle.std.specs.Prelude.{◌≡◌, ◌≤◌, ◌⊎◌, ℕ, List, String
 use Rattle.std.specs.declared.alloc.Global.{Global}
 use Rattle.vdr_tool.specs.Checks.{checking}
 use Rattle.vdr_tool.specs.Commands.{Asked}
-use Rattle.vdr_tool.specs.Commands.Asked.{Review, Check, Format, Replay, Read, Incidents, Info, Save, Release, Trial, Import, Packets, Rescue, RescueInfo}
+use Rattle.vdr_tool.specs.Commands.Asked.{Review, Check, Format, Replay, Read, Evidence, Incidents, Info, Save, Release, Trial, Import, Packets, Rescue, RescueInfo}
 use Rattle.vdr_command.specs.Endings.{WritesLine}
 use Rattle.vdr_tool.specs.Formats.{formatting}
 use Rattle.vdr_tool.specs.Imports.{importing}
 use Rattle.vdr_tool.specs.Packets.{counting_packets}
+use Rattle.vdr_readout.specs.Evidences.{evidencing}
 use Rattle.vdr_readout.specs.Incidents.{listing}
 use Rattle.vdr_readout.specs.Informs.{informing, informing_alone}
 use Rattle.vdr_command.specs.Outside.{OutputSeen, Outside}
@@ -28,6 +29,7 @@ page Check = checking
 page (Format again) = formatting again
 page Replay = replaying
 page (Read reading) = reading_out reading
+page (Evidence asked) = evidencing asked
 page Incidents = listing
 page Info = informing
 page (Save label) = saving label

@@ -13,7 +13,7 @@ use Rattle.vdr_core.specs.Runs.{RunStart}
 use Rattle.vdr_capture.specs.declared.sums.GroupSums.{GroupSums}
 use Rattle.vdr_capture.specs.Sums.{sums_of}
 use Rattle.vdr_durability.specs.Keeping.{IsWhole, Keeps, ShowsPrefix}
-use Rattle.vdr_outside.specs.Disk.{Disk, Durable, Unchanged}
+use Rattle.vdr_outside.specs.Disk.{Disk, Unchanged}
 use Rattle.vdr_outside.specs.Moments.{AtEachMoment}
 use Rattle.vdr_feed.specs.Feed.{Reaches, longest_feed}
 use Rattle.vdr_feed.specs.Generated.{generated_feed, items_from}
@@ -163,9 +163,9 @@ module _ {tells tells_images : Type 0} where
     pub pending : IsWhole events ⊎ ((end ≡ Broken) × rose)
     pub records : RecordsAre end first_run items (recorded events)
     pub accounts : (g : ℕ) → AccountBy end first_run items (recorded events) g
-    -- where nothing of the capsule is unsynced at entry, a stop at each moment left what it might have left at entry, media that are not
-    -- formatted, or what has a life of the first of these events
-    pub moments : Durable 0 before → AtEachMoment before after (λ image. before.now image ⊎ (IsUnformatted image ⊎ ShowsPrefix (Life bench bench_text) events 0 image))
+    -- a stop at each moment left what it might have left at entry, media that are not formatted, or what has a life of the first of these
+    -- events
+    pub moments : AtEachMoment before after (λ image. before.now image ⊎ (IsUnformatted image ⊎ ShowsPrefix (Life bench bench_text) events 0 image))
     -- the clock from which on the media keep the history
     pub synced : ℕ
     pub after_entry : before.clock ≤ synced
@@ -178,7 +178,7 @@ module _ {tells tells_images : Type 0} where
   abbrev pub TrialLeaves : (seed count : ℕ) → (old new : MediaSeen tells tells_images) → Status → Type 0
   TrialLeaves seed count old new status =
       (IsNotFormatted status × Unchanged old.disk new.disk)
-      ⊎ (((status ≡ MediaFault) × (Durable 0 old.disk → FormatsAtEachMoment {T = ⊤} {E = Status} old.disk new.disk (Err MediaFault) (IsEmptyHistoryOf members bench_text)))
+      ⊎ (((status ≡ MediaFault) × FormatsAtEachMoment {T = ⊤} {E = Status} old.disk new.disk (Err MediaFault) (IsEmptyHistoryOf members bench_text))
       ⊎ (KnownUnformatted old.disk × (room bench old.disk.sizes ≡ Ok tt)
       × (tells → (end : RunEnd) × (items : List FeedItem) × ComesTo seed count end items status × LeavesRun (MediaFailed old new) old.disk new.disk items end status)))
 

@@ -21,7 +21,8 @@ use std::alloc::Global;
 use vdr_command::{Outer, Status, World, report};
 use vdr_outside::{Media, Sink, Source};
 use vdr_readout::{
-    answer_incidents, answer_info, answer_reading, answer_rescue, answer_rescue_info,
+    answer_evidence, answer_incidents, answer_info, answer_reading, answer_rescue,
+    answer_rescue_info,
 };
 use vdr_recorder::{Nobody, Watch};
 
@@ -48,6 +49,7 @@ fn answer<I: Source + Drop, O: Sink + Drop, M: Media + Drop, W: Watch<M>>(
         Command::Format { again } => answer_format(alloc, again, world),
         Command::Replay => answer_replay(alloc, world, watch),
         Command::Read(reading) => answer_reading(alloc, reading, world),
+        Command::Evidence(wanted) => answer_evidence(alloc, wanted, world),
         Command::Incidents => answer_incidents(alloc, world),
         Command::Info => answer_info(alloc, world),
         Command::Save { label } => answer_save(alloc, label, world, watch),
@@ -74,6 +76,10 @@ fn answer<I: Source + Drop, O: Sink + Drop, M: Media + Drop, W: Watch<M>>(
 /// - `play MEDIUM CHANNEL FROM TO` reads no input. It prints what stands on the media: of `capsule` or `longterm` the records of
 ///   the window, of `incident-ID` those of the incident that is saved under this id, 1 to 32. Of them it prints those of the
 ///   channel, or all where CHANNEL is `all`, whose UTC stamps are from FROM to TO; `-` is no bound.
+/// - `values MEDIUM CHANNEL FROM TO` reads no input. It prints the table of the values that these records say, as `vdr_rows::Rows` does: a
+///   header, and a row for each value, in order of place, of line and of field.
+/// - `track MEDIUM SOURCE FROM TO` reads no input. It prints the track of the source, 1 to 15 bytes of 0x21 to 0x7E, or `-` for lines that
+///   name none, by all records whose UTC stamps are from FROM to TO, as `vdr_track::Track` does.
 /// - `incidents` reads no input. It prints the saved incidents that are live, in the order of their ids, each as a line
 ///   `ID TICK UTC A B LABEL`: tick and UTC of its last record, its first and its last place, and its label.
 /// - `info` reads no input. It prints what both media are: of each a line `MEDIUM slots N segment N used N first PLACE UTC last PLACE UTC
@@ -90,6 +96,9 @@ fn answer<I: Source + Drop, O: Sink + Drop, M: Media + Drop, W: Watch<M>>(
 ///   for each run a line `A B FROM TO STATE TICK` and below it what the run missed, by cause.
 /// - `digest MEDIUM` reads no input. It prints the digest of the records of the window or the incident, as `vdr_digest::Digester` does: for
 ///   each hour of recording time a line `HOUR A B RECORDS HEX`, and the same of all lines above.
+/// - `evidence MEDIUM CHANNEL FROM TO` reads no input. It writes the records that `play` prints for these words as an evidence file, as
+///   `vdr_evidence::EvidenceWriter` does: behind the configuration's text, the medium, the incident and the query, and before the SHA-256
+///   of all.
 /// - `trial SEED COUNT` reads no input. It formats the media with the bench configuration, unless they are formatted already, records the
 ///   first COUNT items of the generated feed from SEED on (`vdr_feed::GeneratedFeed`; SEED is 0 to 2,147,483,647, COUNT 0 to 1,000,000)
 ///   as `replay` does, opens the media again, and prints `taken N recorded N rate N`, `records N`, `capsule N` and `longterm N`: the sums
@@ -101,8 +110,8 @@ fn answer<I: Source + Drop, O: Sink + Drop, M: Media + Drop, W: Watch<M>>(
 ///   transmission groups, each as soon as it was read.
 /// - `packets` reads a capture so, and prints what became of its packets: `packets N`, of each group `GROUP whole N cut N`, of each cause
 ///   `left CAUSE N`, and `lost N` and `back N`.
-/// - `rescue COMMAND WORDS` reads no input. COMMAND is `play`, `sources`, `watch`, `runs`, `digest`, `targets`, `wav`,
-///   `picture` or `pictures`. It reads the medium that they ask for alone, for `incident-ID` the long-term one, whole,
+/// - `rescue COMMAND WORDS` reads no input. COMMAND is `play`, `values`, `track`, `sources`, `watch`, `runs`, `digest`,
+///   `targets`, `wav`, `picture` or `pictures`. It reads the medium that they ask for alone, for `incident-ID` the long-term one, whole,
 ///   cut short or damaged, writes to none, and prints what they print of each record that legally stands there; then,
 ///   but for `wav`, `picture` and `pictures`, `missing A B` for places that the medium owes and lacks, by place,
 ///   `damaged OFFSET` by offset, and `closed OFFSET`. It ends with `Damaged` at the first such offset, or else with

@@ -1,13 +1,15 @@
 // The words that ask for a reading.
-ghost use Rattle.std.specs.Prelude.{◌≡◌, ◌∷◌, [], ℤ, pos, true, Some, IfSome, decimal, map, option_map, string_bytes};
+ghost use Rattle.std.specs.Prelude.{◌≡◌, ◌∷◌, [], ℤ, pos, true, Some, IfSome, codes, decimal, map, option_map, string_bytes};
 ghost use Rattle.vdr_terms.specs.Stamps.{last_stamp};
 ghost use Rattle.vdr_entry.specs.declared.query.Medium.{Medium as AMedium};
 ghost use Rattle.vdr_image.specs.Headers.{is_identifier};
+ghost use Rattle.vdr_tag.specs.Values.{is_identifier as names_source};
 ghost use Rattle.vdr_control.specs.Orders.PlainOrder.{Play as PlayOrder};
 ghost use Rattle.vdr_control.specs.Plays.{IsMedium, SpellsBound, SpellsPlay, medium_word};
 ghost use Rattle.vdr_export.specs.declared.block.Block.{Block as ABlock};
 ghost use Rattle.vdr_readout.specs.Exports.{IsBlock};
 ghost use Rattle.vdr_readout.specs.Readings.{Reading as AReading, SpellsReading, plain_reading};
+ghost use Rattle.vdr_readout.specs.Readings.Reading.{Track};
 ghost use Rattle.vdr_readout.specs.Reads.{AskedPlay, plain_play};
 
 use crate::numbers::number_of;
@@ -75,8 +77,13 @@ fn of_ships(word: &str, name: &str, bound: &str) -> Option<Reading<'static>>
     Some(Reading::Targets { medium, at })
 }
 
-// What these four words ask to be read out.
-fn wanted_of<'a>(medium: &str, channel: &'a str, from: &str, to: &str) -> Option<Wanted<'a>>
+/// What these four words ask to be read out.
+pub(crate) fn wanted_of<'a>(
+    medium: &str,
+    channel: &'a str,
+    from: &str,
+    to: &str,
+) -> Option<Wanted<'a>>
     ensures found { (asked : AskedPlay) → SpellsPlay medium.now channel.now from.now to.now (PlayOrder asked.medium asked.channel asked.from asked.to) → option_map plain_play result ≡ Some asked }
     ensures only { IfSome result (λ wanted. SpellsPlay medium.now channel.now from.now to.now (PlayOrder wanted.medium wanted.channel.now wanted.from wanted.to)) }
 {
@@ -103,7 +110,29 @@ fn wanted_of<'a>(medium: &str, channel: &'a str, from: &str, to: &str) -> Option
     }
 }
 
-// A reading of a channel.
+// Whether a word is a source: 1 to 15 bytes of 0x21 to 0x7E.
+fn names_source(word: &str) -> bool
+    ensures { result ≡ names_source word.now }
+{
+    let text = word.as_bytes();
+    !text.is_empty() && text.len() <= 15 && are_graphic(text)
+}
+
+// The track of a source.
+fn of_source<'a>(medium: &str, source: &'a str, from: &str, to: &str) -> Option<Reading<'a>>
+    ensures found { (asked : AskedPlay) → names_source source.now ≡ true → SpellsPlay medium.now (codes "all") from.now to.now (PlayOrder asked.medium asked.channel asked.from asked.to)
+        → option_map plain_reading result ≡ Some (Track asked source.now) }
+    ensures only { IfSome result (λ reading. (asked : AskedPlay) × (plain_reading reading ≡ Track asked source.now) × (names_source source.now ≡ true)
+        × SpellsPlay medium.now (codes "all") from.now to.now (PlayOrder asked.medium asked.channel asked.from asked.to)) }
+{
+    if !names_source(source) {
+        return None;
+    }
+    let wanted = wanted_of(medium, "all", from, to)?;
+    Some(Reading::Track(wanted, source.as_bytes()))
+}
+
+// A reading of a channel, or of a source.
 fn of_channel<'a>(
     word: &str,
     medium: &str,
@@ -118,6 +147,13 @@ fn of_channel<'a>(
         let wanted = wanted_of(medium, channel, from, to)?;
         return Some(Reading::Play(wanted));
     }
+    if word == "values" {
+        let wanted = wanted_of(medium, channel, from, to)?;
+        return Some(Reading::Values(wanted));
+    }
+    if word == "track" {
+        return of_source(medium, channel, from, to);
+    }
     if word == "wav" {
         let wanted = wanted_of(medium, channel, from, to)?;
         return Some(Reading::Wav(wanted));
@@ -127,6 +163,28 @@ fn of_channel<'a>(
     }
     let wanted = wanted_of(medium, channel, from, to)?;
     Some(Reading::Pictures(wanted))
+}
+
+// The sound of a channel on its time line.
+fn of_time_line<'a>(
+    word: &str,
+    medium: &str,
+    channel: &'a str,
+    from: &str,
+    to: &str,
+    last: &str,
+) -> Option<Reading<'a>>
+    ensures found { (reading : AReading) → SpellsReading (word.now ∷ medium.now ∷ channel.now ∷ from.now ∷ to.now ∷ last.now ∷ []) reading → option_map plain_reading result ≡ Some reading }
+    ensures only { IfSome result (λ reading. SpellsReading (word.now ∷ medium.now ∷ channel.now ∷ from.now ∷ to.now ∷ last.now ∷ []) (plain_reading reading)) }
+{
+    if word != "wav" {
+        return None;
+    }
+    if last != "timed" {
+        return None;
+    }
+    let wanted = wanted_of(medium, channel, from, to)?;
+    Some(Reading::TimedWav(wanted))
 }
 
 // The source of an image: six bytes of 0x21 to 0x7E.
@@ -191,6 +249,14 @@ pub(crate) fn reading_of(words: &[String]) -> Option<Reading<'_>>
             channel.as_str(),
             from.as_str(),
             to.as_str(),
+        ),
+        [word, medium, channel, from, to, last] => of_time_line(
+            word.as_str(),
+            medium.as_str(),
+            channel.as_str(),
+            from.as_str(),
+            to.as_str(),
+            last.as_str(),
         ),
         [word, medium, channel, source, number, from, to] => of_block(
             word.as_str(),

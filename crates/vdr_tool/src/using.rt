@@ -33,6 +33,7 @@ pub fn medium_use(words: &[String]) -> Uses
             Command::Format { .. }
             | Command::Replay
             | Command::Read(_)
+            | Command::Evidence(_)
             | Command::Incidents
             | Command::Info
             | Command::Save { .. }

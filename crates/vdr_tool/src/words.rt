@@ -10,10 +10,10 @@ ghost use Rattle.vdr_tool.specs.Commands.Asked.{Trial};
 ghost use Rattle.vdr_tool.specs.Runs.{Asks, Spells, page};
 
 use crate::numbers::number_of;
-use crate::readings::reading_of;
+use crate::readings::{reading_of, wanted_of};
 use vdr_config::Rate;
 use vdr_entry::Medium;
-use vdr_readout::Reading;
+use vdr_readout::{Reading, Wanted};
 
 /// What the words ask for.
 #[derive(Clone, Copy, Drop)]
@@ -28,6 +28,8 @@ pub(crate) enum Command<'a> {
     Replay,
     /// What was recorded is read out.
     Read(Reading<'a>),
+    /// What was recorded is written as an evidence file.
+    Evidence(Wanted<'a>),
     /// The live saves are listed.
     Incidents,
     /// What both media are is told.
@@ -143,7 +145,25 @@ fn three_words(word: &str, first: &str, second: &str) -> Option<Command<'static>
     Some(Command::Review { rate: Some(rate) })
 }
 
-// The command that these words ask for, of those that read nothing out.
+// An evidence file of what the last four words ask for.
+fn five_words<'a>(
+    word: &str,
+    medium: &str,
+    channel: &'a str,
+    from: &str,
+    to: &str,
+) -> Option<Command<'a>>
+    ensures found { (command : Asked) → IsOther command → Spells (word.now ∷ medium.now ∷ channel.now ∷ from.now ∷ to.now ∷ []) command → option_map plain result ≡ Some command }
+    ensures only { IfSome result (λ command. Spells (word.now ∷ medium.now ∷ channel.now ∷ from.now ∷ to.now ∷ []) (plain command)) }
+{
+    if word != "evidence" {
+        return None;
+    }
+    let wanted = wanted_of(medium, channel, from, to)?;
+    Some(Command::Evidence(wanted))
+}
+
+// The command that these words ask for, of those that read nothing out and of evidence.
 fn other_of(words: &[String]) -> Option<Command<'_>>
     ensures found { (command : Asked) → IsOther command → Asks words.now command → option_map plain result ≡ Some command }
     ensures only { IfSome result (λ command. Asks words.now (plain command)) }
@@ -152,6 +172,13 @@ fn other_of(words: &[String]) -> Option<Command<'_>>
         [word] => one_word(word.as_str()),
         [word, text] => two_words(word.as_str(), text.as_str()),
         [word, first, second] => three_words(word.as_str(), first.as_str(), second.as_str()),
+        [word, medium, channel, from, to] => five_words(
+            word.as_str(),
+            medium.as_str(),
+            channel.as_str(),
+            from.as_str(),
+            to.as_str(),
+        ),
         _ => None,
     }
 }

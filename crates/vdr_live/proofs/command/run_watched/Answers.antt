@@ -9,7 +9,7 @@ returns-in_default-answer_record-clause-lives g c =
     let old : MediaSeen g.M.Media.tells g.M.Media.tells_images = record { disk = g.M.Media.disk c.args.world.now.media; faults = g.M.Media.faults c.args.world.now.media; bytes_read = g.M.Media.bytes_read c.args.world.now.media } in
     let new : MediaSeen g.M.Media.tells g.M.Media.tells_images = record { disk = g.M.Media.disk c.answer_record.new.world.media; faults = g.M.Media.faults c.answer_record.new.world.media; bytes_read = g.M.Media.bytes_read c.answer_record.new.world.media } in
     record {
-      ours = λ told synced ours. record_lives c.in-Some.turns (seen_ports g.P.Port c.args.lanes.now) (seen_ports g.P.Port c.answer_record.new.lanes) (seen_links g.L.Link c.args.desks.now) (seen_links g.L.Link c.answer_record.new.desks) old new g.W.Watch.hears _ c.answer_record.ensures.owed.answer c.answer_record.ensures.owed.ends told ours;
+      ours = λ told ours. record_lives c.in-Some.turns (seen_ports g.P.Port c.args.lanes.now) (seen_ports g.P.Port c.answer_record.new.lanes) (seen_links g.L.Link c.args.desks.now) (seen_links g.L.Link c.answer_record.new.desks) old new g.W.Watch.hears _ c.answer_record.ensures.owed.answer c.answer_record.ensures.owed.ends told ours;
       life = λ config text runs told nothing live. record_life c.in-Some.turns (seen_ports g.P.Port c.args.lanes.now) (seen_ports g.P.Port c.answer_record.new.lanes) (seen_links g.L.Link c.args.desks.now) (seen_links g.L.Link c.answer_record.new.desks) old new g.W.Watch.hears _ config text runs c.answer_record.ensures.owed.answer c.answer_record.ensures.owed.ends
           told live;
     }
@@ -19,7 +19,7 @@ returns-clause-lives g c =
     let old : MediaSeen g.M.Media.tells g.M.Media.tells_images = record { disk = g.M.Media.disk c.args.world.now.media; faults = g.M.Media.faults c.args.world.now.media; bytes_read = g.M.Media.bytes_read c.args.world.now.media } in
     let new : MediaSeen g.M.Media.tells g.M.Media.tells_images = record { disk = g.M.Media.disk c.answer_record.new.world.media; faults = g.M.Media.faults c.answer_record.new.world.media; bytes_read = g.M.Media.bytes_read c.answer_record.new.world.media } in
     record {
-      ours = λ told synced ours. record_lives c.in-Some.turns (seen_ports g.P.Port c.args.lanes.now) (seen_ports g.P.Port c.answer_record.new.lanes) (seen_links g.L.Link c.args.desks.now) (seen_links g.L.Link c.answer_record.new.desks) old new g.W.Watch.hears _ c.answer_record.ensures.owed.answer c.answer_record.ensures.owed.ends told ours;
+      ours = λ told ours. record_lives c.in-Some.turns (seen_ports g.P.Port c.args.lanes.now) (seen_ports g.P.Port c.answer_record.new.lanes) (seen_links g.L.Link c.args.desks.now) (seen_links g.L.Link c.answer_record.new.desks) old new g.W.Watch.hears _ c.answer_record.ensures.owed.answer c.answer_record.ensures.owed.ends told ours;
       life = λ config text runs told nothing live. record_life c.in-Some.turns (seen_ports g.P.Port c.args.lanes.now) (seen_ports g.P.Port c.answer_record.new.lanes) (seen_links g.L.Link c.args.desks.now) (seen_links g.L.Link c.answer_record.new.desks) old new g.W.Watch.hears _ config text runs c.answer_record.ensures.owed.answer c.answer_record.ensures.owed.ends
           told live;
     }

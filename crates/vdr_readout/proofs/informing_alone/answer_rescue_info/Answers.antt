@@ -1,11 +1,10 @@
-use Rattle.std.proofs.Common.{◌≡◌, ◌∙◌, ℕ, List, Err, sym, ap, refl, subst}
+use Rattle.std.proofs.Common.{◌∙◌, Err, sym, ap, refl, subst}
 use Rattle.vdr_outside.specs.Disk.{Image, content}
 use Rattle.vdr_outside.specs.declared.fault.PartRefused.{PartRefused}
 use Rattle.vdr_outside.proofs.Counts.{none_falls_join, rose_after, sum_not_less}
 use Rattle.vdr_outside.proofs.Moments.{unchanged_join}
 use Rattle.vdr_rescue.specs.Alones.{IsAloneOn, RefusesAlone}
 use Rattle.vdr_rescue.specs.Costs.{ReadsNoOther}
-use Rattle.vdr_info.specs.Infos.{TellerState}
 use Rattle.vdr_readout.specs.Informs.{IsToldAlone}
 use Rattle.vdr_readout.proofs.InformAlone.{informs_alone, informs_refused}
 use Rattle.vdr_readout.proofs.RescueLemmas.{LawsOfAlone, media_rose}

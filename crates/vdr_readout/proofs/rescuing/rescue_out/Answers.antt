@@ -1,4 +1,4 @@
-use Rattle.std.proofs.Common.{◌≡◌, ◌∙◌, Err, ap, refl, subst}
+use Rattle.std.proofs.Common.{◌∙◌, Err, ap, refl, subst}
 use Rattle.vdr_outside.specs.Disk.{content}
 use Rattle.vdr_outside.specs.declared.fault.PartRefused.{PartRefused}
 use Rattle.vdr_rescue.specs.Alones.{IsAloneOn, RefusesAlone}

@@ -8,14 +8,14 @@ use Rattle.vdr_tool.proofs.command.run_alone_watched.Goals as goal
 
 pub returns-in_default-clause-lives : goal.returns-in_default-clause-lives
 returns-in_default-clause-lives g c = record {
-  ours = λ told synced ours. ours_still (g.M.Media.disk c.args.world.now.media) ours;
+  ours = λ told ours. ours_still (g.M.Media.disk c.args.world.now.media) ours;
   life = λ config text runs told nothing live. life_still config text runs (g.M.Media.disk c.args.world.now.media);
 }
 
 pub returns-in_default-answer-clause-lives : goal.returns-in_default-answer-clause-lives
 returns-in_default-answer-clause-lives g c = record {
-  ours = λ told synced ours. elim c.answer.ensures.untouched [
-    | inl uses ↦ lives_of (plain c.in-Some.command) _ _ g.W.Watch.hears _ _ c.answer.ensures.owed uses told (synced _ c.in-Some.ensures.only) ours
+  ours = λ told ours. elim c.answer.ensures.untouched [
+    | inl uses ↦ lives_of (plain c.in-Some.command) _ _ g.W.Watch.hears _ _ c.answer.ensures.owed uses told ours
     | inr same ↦ subst (λ m. StayOurs (g.M.Media.disk c.args.world.now.media) (g.M.Media.disk m)) (sym same) (ours_still (g.M.Media.disk c.args.world.now.media) ours)
   ];
   life = λ config text runs told nothing live. elim c.answer.ensures.untouched [
@@ -26,8 +26,8 @@ returns-in_default-answer-clause-lives g c = record {
 
 pub returns-clause-lives : goal.returns-clause-lives
 returns-clause-lives g c = record {
-  ours = λ told synced ours. elim c.answer.ensures.untouched [
-    | inl uses ↦ lives_of (plain c.in-Some.command) _ _ g.W.Watch.hears _ _ c.answer.ensures.owed uses told (synced _ c.in-Some.ensures.only) ours
+  ours = λ told ours. elim c.answer.ensures.untouched [
+    | inl uses ↦ lives_of (plain c.in-Some.command) _ _ g.W.Watch.hears _ _ c.answer.ensures.owed uses told ours
     | inr same ↦ subst (λ m. StayOurs (g.M.Media.disk c.args.world.now.media) (g.M.Media.disk m)) (sym same) (ours_still (g.M.Media.disk c.args.world.now.media) ours)
   ];
   life = λ config text runs told nothing live. elim c.answer.ensures.untouched [

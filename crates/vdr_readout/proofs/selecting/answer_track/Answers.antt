@@ -1,0 +1,11 @@
+use Rattle.vdr_readout.proofs.LineLemmas.{lines_known, selected_owed}
+use Rattle.vdr_readout.proofs.TrackLemmas.{nothing_drawn, track_owed}
+use Rattle.vdr_readout.proofs.selecting.answer_track.Goals as goal
+
+pub returns-clause-owed : goal.returns-clause-owed
+returns-clause-owed g c =
+    track_owed c.args.source.now c.new.result.source.now c.new.ensures.source_is
+    (selected_owed (c.read_out.ensures.reads c.new.result (nothing_drawn c.new.ensures)) (c.law_of_openings.ensures (g.M.Media.disk c.args.world.now.media).reads))
+
+pub returns-clause-known : goal.returns-clause-known
+returns-clause-known g c = lines_known (c.read_out.ensures.reads c.new.result (nothing_drawn c.new.ensures))
