@@ -12,6 +12,7 @@ use crate::rates::{Metered, one_rate, put_window};
 use crate::records::{record, record_of, stamp};
 use crate::rows::Row;
 use crate::sentences::{digits, field, sentence, spans, tags, value};
+use crate::tables::fixes;
 use std::alloc::{AllocError, Global};
 use vdr_ais::{Joiner, TargetTable};
 use vdr_config::{Config, read_config};
@@ -19,6 +20,8 @@ use vdr_datagram::channel_bits;
 use vdr_memory::MemorySink;
 use vdr_outside::Printable;
 use vdr_play::{Tracks, print_record};
+use vdr_rows::Rows;
+use vdr_visit::Visitor;
 use vdr_watch::Watch;
 
 /// What goes on from one row to the next.
@@ -31,6 +34,7 @@ pub(crate) struct Bench {
     watch: Watch,
     joiner: Joiner,
     ships: TargetTable,
+    table: Rows,
     metered: Metered,
     base: String,
     config: Config,
@@ -46,6 +50,7 @@ impl Bench {
             watch: Watch::new(alloc),
             joiner: Joiner::new(alloc),
             ships: TargetTable::new(alloc),
+            table: Rows::new(alloc),
             metered: Metered::new(alloc),
             base: String::new(alloc),
             config: one_rate(alloc),
@@ -86,11 +91,12 @@ impl Bench {
         Ok(())
     }
 
-    // Forgets what was printed, watched and reported.
+    // Forgets what was printed, watched, reported and told.
     fn forget(&mut self) {
         self.tracks = Tracks::new();
         self.watch = Watch::new(self.alloc);
         self.ships = TargetTable::new(self.alloc);
+        self.table = Rows::new(self.alloc);
     }
 
     // Reads the base with the text behind `->` in place of that before it.
@@ -126,6 +132,7 @@ impl Bench {
             "vdm" => part(&mut self.joiner, b"VDM", bytes, out),
             "vdo" => part(&mut self.joiner, b"VDO", bytes, out),
             "ais" => self.report(numbers, bytes),
+            "rows" => self.tell(numbers, bytes),
             "ships" => {
                 let _ = self.ships.print(out);
             }
@@ -148,6 +155,16 @@ impl Bench {
         match record_of(numbers, bytes) {
             Some(item) => {
                 let _ = self.watch.add(&item, &mut self.out);
+            }
+            None => word(&mut self.out, b"no record"),
+        }
+    }
+
+    // Prints the rows of a record in the table of values.
+    fn tell(&mut self, numbers: [u64; 3], bytes: &[u8]) {
+        match record_of(numbers, bytes) {
+            Some(item) => {
+                let _ = self.table.visit(&item, &mut self.out);
             }
             None => word(&mut self.out, b"no record"),
         }
@@ -177,6 +194,7 @@ fn alone(kind: &str, numbers: [u64; 3], bytes: &[u8], out: &mut MemorySink) {
         "value" => value(bytes, out),
         "tags" => tags(bytes, out),
         "lines" => spans(bytes, out),
+        "fixes" => fixes(bytes, out),
         "kind" => kind_of(bytes, out),
         "image" => image(bytes, out),
         "pcm" => pcm(bytes, out),

@@ -14,13 +14,14 @@ mod rates;
 mod records;
 mod rows;
 mod sentences;
+mod tables;
 
 use bench::Bench;
 use rows::row_of;
 use std::{fs, io};
 
 /// The files of rows.
-const FILES: [&str; 12] = [
+const FILES: [&str; 13] = [
     "sentences.txt",
     "tags.txt",
     "values.txt",
@@ -33,6 +34,7 @@ const FILES: [&str; 12] = [
     "orders.txt",
     "watches.txt",
     "targets.txt",
+    "tables.txt",
 ];
 
 // Tells of a row whose answer differs from the expected one.
