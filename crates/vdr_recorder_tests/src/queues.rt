@@ -1,15 +1,13 @@
 // What a run is made of whose queue was full.
-ghost use Rattle.std.specs.Prelude.{◌≡◌};
+ghost use Rattle.std.specs.Prelude.{◌≡◌, []};
 
 mod bench;
 
 use bench::{Bench, FOUR_FULL, Run};
 use std::alloc::{AllocError, Global};
-use std::process::Abort;
 use std::sync::Wait;
-use std::test::Fail;
 use vdr_capture::{Lane, capture};
-use vdr_intake::{Intake, Taker};
+use vdr_intake::{Feeder, Intake, Taker};
 use vdr_media::format;
 use vdr_memory::{MemoryPort, PortItem, RamMedia, are_in_order};
 use vdr_outside::Media;
@@ -19,20 +17,30 @@ use vdr_recorder::Medium;
 const BENCH: &[u8] =
     b"{\"profile\":\"bench\",\"capsule_seconds\":60,\"long_seconds\":600,\"incident_seconds\":30,\"incident_slots\":2,\"segment\":8192,\"batch\":2048,\"queue\":16,\"groups\":[{\"name\":\"NAVD\",\"datagrams\":2,\"bytes\":200}],\"channels\":[{\"name\":\"heading\",\"group\":\"NAVD\",\"kind\":\"sentence\",\"formatter\":\"HDT\"}]}";
 
-// Media of 16 and 145 slots, formatted.
-fn formatted(rt: &impl Abort, alloc: Global) -> Result<RamMedia, Fail> {
+// Media of 16 and 145 slots.
+fn unformatted(alloc: Global) -> Result<Vec<Vec<u8>>, AllocError> {
     let mut media = Vec::new(alloc);
     media.push(vec![in alloc; 0u8; 163_840]?)?;
     media.push(vec![in alloc; 0u8; 1_220_608]?)?;
-    assert!(rt; media.len() == 2);
-    let mut media = RamMedia::new(media);
-    assert!(rt; media.count() == 2);
-    assert!(rt; format(alloc, &mut media, BENCH, false).is_ok());
     Ok(media)
 }
 
-// A port of twenty datagrams, half a second apart.
-fn twenty(rt: &impl Abort, alloc: Global) -> Result<MemoryPort, AllocError> {
+// The same, formatted.
+fn formatted(alloc: Global) -> Option<RamMedia> {
+    let media = unformatted(alloc).ok()?;
+    if media.len() != 2 {
+        return None;
+    }
+    let mut media = RamMedia::new(media);
+    if media.count() == 2 && format(alloc, &mut media, BENCH, false).is_ok() {
+        Some(media)
+    } else {
+        None
+    }
+}
+
+// Twenty datagrams, half a second apart.
+fn twenty(alloc: Global) -> Result<Vec<PortItem>, AllocError> {
     let mut items = Vec::new(alloc);
     for number in 0..20 {
         items.push(PortItem {
@@ -41,26 +49,48 @@ fn twenty(rt: &impl Abort, alloc: Global) -> Result<MemoryPort, AllocError> {
             bytes: b"AbCdE\0".to_vec(alloc)?,
         })?;
     }
-    assert!(rt; are_in_order(items.as_slice()));
-    Ok(MemoryPort::new(items, Vec::new(alloc), Vec::new(alloc)))
+    Ok(items)
 }
 
-// Records the sixteen items of the queue, each as a batch.
-fn drain<M: Media + Drop, R: Abort + Wait>(
+// A port that gives them.
+fn port(alloc: Global) -> Option<MemoryPort> {
+    let items = twenty(alloc).ok()?;
+    if are_in_order(items.as_slice()) {
+        Some(MemoryPort::new(items, Vec::new(alloc), Vec::new(alloc)))
+    } else {
+        None
+    }
+}
+
+// Captures the port, which the queue has room for sixteen items of. Whether four are counted as full.
+fn captures_sixteen<R: Wait>(rt: &R, queue: &Intake, feeder: Feeder, port: MemoryPort) -> bool
+    requires group { queue.now.group ≡ 3 }
+    requires new { feeder ≡ record { queue = queue.now; pushed = []; full = 0 } }
+{
+    let mut lane = Lane::new(port, 3);
+    lane.feeder = Some(feeder);
+    capture(rt, &mut lane, 21, queue);
+    lane.tally.counts() == FOUR_FULL
+}
+
+// Records the sixteen items of the queue, each as a batch. Whether these are all.
+fn drains<M: Media + Drop, R: Wait>(
     rt: &R,
     queue: &Intake,
-    taker: &mut Taker,
+    mut taker: Taker,
     run: &mut Run<M>,
-)
-    requires { taker.old.queue ≡ queue.now }
+) -> bool
+    requires { taker.queue ≡ queue.now }
 {
     for _ in 0..16 {
-        let Some(item) = queue.next(rt, taker) else {
-            panic!(rt; "the queue has too few");
+        let Some(item) = queue.next(rt, &mut taker) else {
+            return false;
         };
-        run.take(rt, item);
+        if !run.take(item) {
+            return false;
+        }
     }
-    assert!(rt; queue.next(rt, taker).is_none());
+    queue.next(rt, &mut taker).is_none()
 }
 
 // What is played of the run: the Start, the sixteen items half a second apart, a Gap of the four, and the Stop.
@@ -78,31 +108,26 @@ fn played(alloc: Global) -> Result<String, AllocError> {
     Ok(text)
 }
 
-// Records what a queue of sixteen holds of twenty items, and what the port has missed behind them.
-fn record_twenty<M: Media + Drop, R: Abort + Wait>(
+// Records what a queue of sixteen holds of twenty items. Whether it holds sixteen, and the other four are counted.
+fn records_sixteen<M: Media + Drop, R: Wait>(
     rt: &R,
     alloc: Global,
     run: &mut Run<M>,
-) -> Result<(), Fail> {
-    let Ok((queue, feeder, mut taker)) = Intake::new(alloc, 3, 16) else {
-        return Err("memory".into());
+) -> Option<bool> {
+    let port = port(alloc)?;
+    let Ok((queue, feeder, taker)) = Intake::new(alloc, 3, 16) else {
+        return None;
     };
-    let mut lane = Lane::new(twenty(rt, alloc)?, 3);
-    lane.feeder = Some(feeder);
-    capture(rt, &mut lane, 21, &queue);
-    assert!(rt; lane.tally.counts() == FOUR_FULL);
-    drain(rt, &queue, &mut taker, run);
-    Ok(())
+    Some(captures_sixteen(rt, &queue, feeder, port) && drains(rt, &queue, taker, run))
 }
 
-// What found no room stands in a closing Gap, behind what the queue held.
-#[test]
-fn a_full_queue_is_drained_and_its_gap_closes_the_run(rt: HostRuntime) -> Result<(), Fail> {
-    let alloc = rt.alloc();
-    let mut run = Bench::open(&rt, alloc, formatted(&rt, alloc)?)?.start(&rt);
-    record_twenty(&rt, alloc, &mut run)?;
-    let text = played(alloc)?;
-    let mut bench = run.stop_full(&rt);
-    bench.play(&rt, alloc, Medium::LongTerm, text.as_bytes());
-    Ok(())
+/// Whether what found no room stands in a closing Gap, behind what the queue held.
+pub(crate) fn drained<R: Wait>(rt: &R, alloc: Global) -> Option<bool> {
+    let text = played(alloc).ok()?;
+    let mut run = Bench::open(alloc, formatted(alloc)?)?.start()?;
+    if !records_sixteen(rt, alloc, &mut run)? {
+        return Some(false);
+    }
+    let mut bench = run.stop_full()?;
+    Some(bench.plays(alloc, Medium::LongTerm, text.as_bytes()))
 }

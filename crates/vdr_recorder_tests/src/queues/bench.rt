@@ -1,13 +1,11 @@
 // A recorder with its media: a type for each state keeps what the next call needs, so that a test only calls.
-ghost use Rattle.std.specs.Prelude.{◌≡◌, false};
+ghost use Rattle.std.specs.Prelude.{◌≡◌, false, true};
 ghost use Rattle.vdr_terms.specs.Records.{total};
 ghost use Rattle.vdr_vault.specs.Vaults.{AreRings};
 ghost use Rattle.vdr_recorder_tests.specs.Benches.{MayClose};
 
 use std::alloc::Global;
 use std::marker::Model;
-use std::process::Abort;
-use std::test::Fail;
 use vdr_intake::Captured;
 use vdr_memory::MemorySink;
 use vdr_outside::Media;
@@ -67,17 +65,20 @@ impl<M: Media> Model for Run<M> {
 }
 
 impl<M: Media + Drop> Bench<M> {
-    pub(super) fn open(rt: &impl Abort, alloc: Global, media: M) -> Result<Bench<M>, Fail> {
+    /// None where the media are not opened.
+    pub(super) fn open(alloc: Global, media: M) -> Option<Bench<M>> {
         let mut media = media;
-        assert!(rt; media.count() == 2);
+        if media.count() != 2 {
+            return None;
+        }
         match Recorder::open(alloc, &mut media) {
-            Ok(recorder) => Ok(Bench { media, recorder }),
-            Err(_) => Err("the media are not opened".into()),
+            Ok(recorder) => Some(Bench { media, recorder }),
+            Err(_) => None,
         }
     }
 
-    /// Plays all that the medium has, which is this text.
-    pub(super) fn play(&mut self, rt: &impl Abort, alloc: Global, medium: Medium, text: &[u8]) {
+    /// Whether all that the medium has is played as this text.
+    pub(super) fn plays(&mut self, alloc: Global, medium: Medium, text: &[u8]) -> bool {
         let query = Query {
             medium,
             channel: None,
@@ -85,63 +86,66 @@ impl<M: Media + Drop> Bench<M> {
             to: 100_000,
         };
         let mut out = MemorySink::new(alloc, Vec::new(alloc));
-        assert!(rt;
-            self.recorder
-                .play(&mut self.media, &query, &mut out)
-                .is_ok()
-        );
-        assert!(rt; out.taken() == text);
+        self.recorder
+            .play(&mut self.media, &query, &mut out)
+            .is_ok()
+            && out.taken() == text
     }
 
-    pub(super) fn start(self, rt: &impl Abort) -> Run<M> {
+    /// None where the run is not begun.
+    pub(super) fn start(self) -> Option<Run<M>> {
         let Bench {
             mut media,
             mut recorder,
         } = self;
-        assert!(rt; recorder.start(&mut media).is_ok());
-        Run {
-            media,
-            recorder,
-            taken: 0,
+        match recorder.start(&mut media) {
+            Ok(()) => Some(Run {
+                media,
+                recorder,
+                taken: 0,
+            }),
+            Err(_) => None,
         }
     }
 }
 
 impl<M: Media + Drop> Run<M> {
-    /// Records one item of NAVD, before which nothing was missed, as a batch.
-    pub(super) fn take(&mut self, rt: &impl Abort, item: Captured) {
-        assert!(rt; item.group == 3 && item.missed == NONE);
-        self.take_one(rt, item);
+    /// Records one item of NAVD, before which nothing was missed, as a batch. Whether it was such an item, and is recorded.
+    pub(super) fn take(&mut self, item: Captured) -> bool {
+        item.group == 3 && item.missed == NONE && self.takes_one(item)
     }
 
-    fn take_one(&mut self, rt: &impl Abort, item: Captured)
+    fn takes_one(&mut self, item: Captured) -> bool
         requires group { item.group ≡ 3 }
         requires missed { total item.missed ≡ 0 }
     {
         let config = self.recorder.config();
-        assert!(rt; config.batch >= 2_048 && config.groups[3].is_some() && self.taken < 16);
-        assert!(rt; self.recorder.take_batch(&mut self.media, &[item]).is_ok());
+        if config.batch < 2_048 || config.groups[3].is_none() || self.taken >= 16 {
+            return false;
+        }
+        let is_taken = self.recorder.take_batch(&mut self.media, &[item]).is_ok();
         self.taken += 1;
+        is_taken
     }
 
-    /// Closes the run, in which NAVD's port has missed four items that found no room.
-    pub(super) fn stop_full(self, rt: &impl Abort) -> Bench<M> {
+    /// Closes the run, in which NAVD's port has missed four items that found no room. None where it is not closed.
+    pub(super) fn stop_full(self) -> Option<Bench<M>> {
         let Run {
             mut media,
             mut recorder,
             taken,
         } = self;
-        assert!(rt; taken <= 16 && !recorder.failed());
-        close_full(rt, &mut media, &mut recorder);
-        Bench { media, recorder }
+        if taken > 16 || recorder.failed() || !closes_full(&mut media, &mut recorder) {
+            return None;
+        }
+        Some(Bench { media, recorder })
     }
 }
 
-fn close_full<M: Media>(rt: &impl Abort, media: &mut M, recorder: &mut Recorder)
+fn closes_full<M: Media>(media: &mut M, recorder: &mut Recorder) -> bool
     requires { MayClose recorder.old (M.disk media.old).sizes }
-    ensures rings { AreRings recorder.new.vault (M.disk media.new).sizes }
-    ensures closed { recorder.old.vault.failed ≡ false → recorder.new.is_open ≡ false }
+    ensures rings { result ≡ true → AreRings recorder.new.vault (M.disk media.new).sizes }
+    ensures closed { result ≡ true → recorder.old.vault.failed ≡ false → recorder.new.is_open ≡ false }
 {
-    assert!(rt; recorder.config().groups[3].is_some());
-    assert!(rt; recorder.stop(media, &FULL).is_ok());
+    recorder.config().groups[3].is_some() && recorder.stop(media, &FULL).is_ok()
 }

@@ -1,12 +1,10 @@
 // A ring with its media: what a call needs of them is kept here, so that a test only calls.
-ghost use Rattle.std.specs.Prelude.{◌≤◌, length, IfOk};
+ghost use Rattle.std.specs.Prelude.{◌≤◌, length, IfOk, IfSome};
 ghost use Rattle.vdr_terms.specs.Sizes.{record_size};
 
 use std::alloc::{AllocError, Global};
 use std::marker::Model;
-use std::process::Abort;
-use std::test::Fail;
-use vdr_config::{fits, read_config};
+use vdr_config::{Config, fits, read_config};
 use vdr_entry::Record;
 use vdr_outside::Media;
 use vdr_ring::{Pins, Ring};
@@ -40,15 +38,22 @@ impl<M: Media> Model for Capsule<M> {
     ghost invariant = { λ c. HasMedium c.ring (M.disk c.media).sizes × (8_192 ≤ c.ring.segment) };
 }
 
+// The bench configuration. None where memory is refused.
+fn bench(alloc: Global) -> Option<Config> {
+    read_config(alloc, BENCH).ok()
+}
+
 impl<M: Media + Drop> Capsule<M> {
-    pub(super) fn open(rt: &impl Abort, alloc: Global, media: M) -> Result<Capsule<M>, Fail> {
+    /// None where it is not opened.
+    pub(super) fn open(alloc: Global, media: M) -> Option<Capsule<M>> {
         let mut media = media;
-        let config = read_config(alloc, BENCH)?;
-        assert!(rt; media.count() == 1);
-        assert!(rt; fits(&config, media.size(0), 712_704).is_ok());
+        let config = bench(alloc)?;
+        if media.count() != 1 || fits(&config, media.size(0), 712_704).is_err() {
+            return None;
+        }
         match Ring::open(alloc, &mut media, 0, &config) {
-            Ok(ring) => Ok(Capsule { media, ring }),
-            Err(_) => Err("not opened".into()),
+            Ok(ring) => Some(Capsule { media, ring }),
+            Err(_) => None,
         }
     }
 
@@ -64,21 +69,25 @@ impl<M: Media + Drop> Capsule<M> {
         &self.ring
     }
 
-    // Appends the batch of this number, and tells whether it was.
-    pub(super) fn append(&mut self, rt: &impl Abort, number: u64) -> bool {
-        let batch = [datagram(rt, number)];
+    /// Appends the batch of this number, and tells whether it was.
+    pub(super) fn append(&mut self, number: u64) -> bool {
+        let Some(item) = datagram(number) else {
+            return false;
+        };
         self.ring
-            .append(&mut self.media, &batch, &Pins::new())
+            .append(&mut self.media, &[item], &Pins::new())
             .is_ok()
     }
 }
 
 // One datagram of 100 bytes, two a second.
-fn datagram(rt: &impl Abort, number: u64) -> Record
-    ensures size { record_size result ≤ 200 }
+fn datagram(number: u64) -> Option<Record>
+    ensures size { IfSome result (λ item. record_size item ≤ 200) }
 {
     let mut bytes = [b'x'; 100];
     bytes[..6].copy_from_slice(b"AbCdE\0");
-    assert!(rt; number < 1_000 && matches!(recordable(&bytes), Verdict::Yes));
-    Record::datagram(3, 0, number, number, 500 * number, 0, &bytes)
+    if number >= 1_000 || !matches!(recordable(&bytes), Verdict::Yes) {
+        return None;
+    }
+    Some(Record::datagram(3, 0, number, number, 500 * number, 0, &bytes))
 }

@@ -1,9 +1,0 @@
-use Rattle.std.proofs.Common.{◌≡◌}
-use Rattle.vdr_bench_intake.proofs.pass.push.Given as goal
-
-abbrev pub invariant-loop : goal.invariant-loop
-invariant-loop g l = record {
-  queue : l.feeder.queue ≡ l.queue;
-  same : l.feeder.pushed ≡ l.initial.feeder.pushed;
-  item : l.item ≡ l.initial.item;
-}
