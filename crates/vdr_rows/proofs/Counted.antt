@@ -1,6 +1,6 @@
 -- The rows of records are theirs, and those of a Gap count what it missed.
-use Rattle.std.proofs.Common.{◌≡◌, ◌∙◌, ◌+◌, ◌==◌, ℕ, Bool, true, false, cond, List, [], ◌∷◌, ◌++◌, Option, Some, None, codes, decimal, eqb, refl, ap, arith}
-use Rattle.std.specs.Prelude.{⊤, sum_by, unwrap_or}
+use Rattle.std.proofs.Common.{◌≡◌, ◌+◌, ℕ, Bool, true, false, cond, List, [], ◌∷◌, ◌++◌, Option, Some, None, codes, eqb, refl, arith}
+use Rattle.std.specs.Prelude.{unwrap_or}
 use Rattle.vdr_sentence.specs.Addresses.{address_of}
 use Rattle.vdr_values.specs.Readings.{reading}
 use Rattle.std.specs.List.{cons_option}

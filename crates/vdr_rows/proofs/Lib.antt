@@ -2,6 +2,13 @@ pub mod RowLemmas
 pub mod LineLemmas
 pub mod TableLemmas
 pub mod Printing
-pub mod Degrees
 pub mod Counted
-pub mod Commas
+pub mod Cells
+pub mod Bare
+pub mod Sources
+pub mod Tellings
+pub mod Saying
+pub mod Reporting
+pub mod Fielded
+pub mod Reread
+pub mod Degrees

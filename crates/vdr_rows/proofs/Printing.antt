@@ -7,7 +7,7 @@ use Rattle.std.proofs.lemmas.List.{append-nil}
 use Rattle.std.proofs.lemmas.Result.{on_ok_weaker}
 use Rattle.vdr_outside.specs.Writes.{AppendsFront}
 use Rattle.vdr_outside.proofs.Known.{front-more}
-use Rattle.vdr_rows.specs.Parts.{front_text, middle_text, rest_text}
+use Rattle.vdr_rows.specs.Parts.{front_text, rest_text}
 use Rattle.vdr_rows.specs.Texts.{Heading, number_text, quoted, row_text, valid_text}
 use Rattle.vdr_rows.specs.Values.{Said}
 

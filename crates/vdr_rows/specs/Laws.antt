@@ -1,5 +1,5 @@
 -- What holds of the table of values.
-use Rattle.std.specs.Prelude.{◌≡◌, ◌≤◌, ◌<◌, ◌+◌, ◌*◌, ℕ, Bool, true, false, not, ◌&&◌, ◌==◌, List, [], ◌∷◌, ◌++◌, decimal, sum_by, Option, Some, None, ⊤, if◌then◌else◌}
+use Rattle.std.specs.Prelude.{◌≡◌, ◌≤◌, ◌<◌, ◌+◌, ◌*◌, ◌^◌, ℕ, nat_le, Bool, true, false, not, ◌&&◌, ◌==◌, List, [], ◌∷◌, ◌++◌, decimal, sum_by, Option, Some, None, ⊤, if◌then◌else◌}
 use Rattle.std.specs.List.{list_all}
 use Rattle.vdr_terms.specs.declared.counts.Counts.{Counts}
 use Rattle.vdr_terms.specs.Records.{Record, total}
@@ -8,9 +8,8 @@ use Rattle.vdr_entry.specs.Utc.{utc_text}
 use Rattle.vdr_visit.specs.Prints.{whole_text}
 use Rattle.vdr_ais.specs.Lines.{Line}
 use Rattle.vdr_rows.specs.declared.decimal.Decimal.{Decimal}
-use Rattle.vdr_rows.specs.Decimals.{nearest, of_arc}
-use Rattle.vdr_rows.specs.Values.{Said}
-use Rattle.vdr_rows.specs.Texts.{Heading, Row, number_text, row_text}
+use Rattle.vdr_rows.specs.Decimals.{decimal_text, hundred_millionths_in, is_negative, nearest, of_arc}
+use Rattle.vdr_rows.specs.Texts.{Row, row_text}
 use Rattle.vdr_rows.specs.Tables.{content_rows, last_lines, line_at, rows_behind, table_text}
 
 -- What is printed of records as they come is their table.
@@ -23,8 +22,13 @@ TableIsPrinted = (records : List Record) → whole_text line_at last_lines recor
 abbrev pub size_of : Decimal → ℕ
 size_of d = 100_000_000 * d.whole + d.fraction
 
--- Degrees differ from the field's minutes by at most half of the last place, which has 600 billionths of a minute, and have its sign. So they read
--- back to the same ten-thousandth of a minute.
+-- A decimal number reads back from its text.
+pub record ReadsBack (d : Decimal) : Type 0 where
+  pub size : hundred_millionths_in (decimal_text d) ≡ size_of d
+  pub sign : is_negative (decimal_text d) ≡ (d.negative && not ((d.whole == 0) && (d.fraction == 0)))
+
+-- Degrees differ from the field's minutes by at most half of the last place, which has 600 billionths of a minute, and have its sign. Their text says
+-- them, so it reads back to the same ten-thousandth of a minute.
 pub record DegreesAreNear : Type 0 where
   pub above : (negative : Bool) (billionths : ℕ) → 600 * size_of (of_arc negative billionths) ≤ billionths + 300
   pub below : (negative : Bool) (billionths : ℕ) → billionths ≤ 600 * size_of (of_arc negative billionths) + 300
@@ -32,6 +36,9 @@ pub record DegreesAreNear : Type 0 where
   pub sign : (negative : Bool) (billionths : ℕ) → (of_arc negative billionths).negative ≡ negative
   pub places : (negative : Bool) (billionths : ℕ) → (of_arc negative billionths).fraction < 100_000_000
   pub back : (negative : Bool) (ten_thousandths : ℕ) → nearest (6 * size_of (of_arc negative (100_000 * ten_thousandths))) 1000 ≡ ten_thousandths
+  pub read : (d : Decimal) → d.whole < 2 ^ 64 → d.fraction < 100_000_000 → ReadsBack d
+  pub text : (negative : Bool) (ten_thousandths : ℕ) → ten_thousandths < 2 ^ 31
+      → nearest (6 * hundred_millionths_in (decimal_text (of_arc negative (100_000 * ten_thousandths)))) 1000 ≡ ten_thousandths
 
 -- ---- rows
 
@@ -64,21 +71,22 @@ abbrev pub commas : (inside : Bool) → List ℕ → ℕ
 commas inside [] = 0
 commas inside (b ∷ text) = if b == 34 then commas (not inside) text else (if (b == 44) && not inside then 1 else 0) + commas inside text
 
--- Neither a comma nor a quote.
-abbrev pub is_bare : List ℕ → Bool
-is_bare text = list_all (λ b. not (b == 34) && not (b == 44)) text
+-- No control character of ASCII.
+abbrev pub is_printed : List ℕ → Bool
+is_printed text = list_all (λ b. nat_le 0x20 b) text
 
--- What is printed without quotes holds neither: stamps, numbers, words of the table, and the letters and digits of addresses.
-pub record IsBare (h : Heading) (s : Said) : Type 0 where
-  pub utc : is_bare h.utc ≡ true
-  pub place : is_bare h.place ≡ true
-  pub group : is_bare h.group ≡ true
-  pub sentence : is_bare h.sentence ≡ true
-  pub item : is_bare s.item ≡ true
-  pub name : is_bare s.name ≡ true
-  pub number : is_bare (number_text s.number) ≡ true
-  pub measure : is_bare s.measure ≡ true
+-- Eleven fields (RFC 4180): ten commas outside of quotes, of which none is left open, whatever stands behind; and LF at the end, behind no other
+-- control character.
+pub record IsLine (text : List ℕ) : Type 0 where
+  pub fields : (behind : List ℕ) → commas false (text ++ behind) ≡ 10 + commas false behind
+  pub front : List ℕ
+  pub ended : text ≡ front ++ 10 ∷ []
+  pub printed : is_printed front ≡ true
 
--- A row has ten commas outside of quotes, whatever its source and its text are.
+abbrev pub AreLines : List Row → Type 0
+AreLines [] = ⊤
+AreLines (row ∷ rows) = IsLine (row_text row.heading row.said) × AreLines rows
+
+-- So are the rows of all records, whatever bytes were recorded.
 abbrev pub FieldsAreEleven : Type 0
-FieldsAreEleven = (h : Heading) (s : Said) → IsBare h s → commas false (row_text h s) ≡ 10
+FieldsAreEleven = (records : List Record) → AreLines (rows_behind [] records)

@@ -1,5 +1,5 @@
 -- The table of values that records give (this project's profile): a row for each value, in order of place, of line, and of the columns of its formatter.
-use Rattle.std.specs.Prelude.{ℕ, ◌==◌, List, [], ◌∷◌, ◌++◌, filter_map, fold, map, Option, Some, None, option_and_then, option_to_list, unwrap_or, codes, if◌then◌else◌}
+use Rattle.std.specs.Prelude.{ℕ, ◌==◌, List, [], ◌∷◌, ◌++◌, fold, map, Option, Some, None, option_and_then, option_to_list, unwrap_or, codes, if◌then◌else◌}
 use Rattle.vdr_terms.specs.declared.counts.Counts.{Counts}
 use Rattle.vdr_terms.specs.Records.{Content, Record}
 use Rattle.vdr_terms.specs.Records.Content.{Start, Datagram, Gap, Stop}

@@ -14,7 +14,7 @@ use Rattle.vdr_values.specs.declared.column.Words.{Words}
 use Rattle.vdr_values.specs.declared.column.Words.TheVariants as wordings
 use Rattle.vdr_values.specs.Readings.{Reading}
 use Rattle.vdr_values.specs.Texts.{fraction_text}
-use Rattle.vdr_values.specs.Values.{Value, Number, Time, Date, Angle, Digits, Letter, Raw, digits_in, letter_in, value_at}
+use Rattle.vdr_values.specs.Values.{Value, Number, Time, Angle, Digits, Letter, Raw, digits_in, letter_in, value_at}
 use Rattle.vdr_rows.specs.declared.decimal.Decimal.{Decimal}
 use Rattle.vdr_rows.specs.Decimals.{decimal_text, of_arc, of_count, of_millionths}
 use Rattle.vdr_rows.specs.Names.{asserted_by, quantity_text, which_text}

@@ -1,5 +1,5 @@
 // What the rows of a line have in common.
-ghost use Rattle.std.specs.Prelude.{◌≡◌, ◌≤◌, decimal};
+ghost use Rattle.std.specs.Prelude.{◌≡◌, decimal};
 ghost use Rattle.vdr_terms.specs.Groups.{group_name};
 ghost use Rattle.vdr_terms.specs.Stamps.{IsStamp};
 ghost use Rattle.vdr_entry.specs.Utc.{utc_text};

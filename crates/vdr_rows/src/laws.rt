@@ -7,7 +7,7 @@ pub fn law_of_table()
 {}
 
 /// The degrees of a position differ from the minutes of its field by at most half of the last of eight places, and where they differ by that they
-/// are the greater ones. They read back to the same ten-thousandth of a minute.
+/// are the greater ones. A decimal number reads back from its text, so printed degrees give the same ten-thousandth of a minute.
 pub fn law_of_decimal_places()
     ensures { DegreesAreNear }
 {}
@@ -17,7 +17,8 @@ pub fn law_of_rows()
     ensures { RowsAreTold }
 {}
 
-/// A row has ten commas outside of quotes, whatever bytes its source and its text hold.
+/// Each row of each record has ten commas outside of quotes, leaves no quote open, and has no control character but the LF at its end, whatever
+/// bytes were recorded.
 pub fn law_of_fields()
     ensures { FieldsAreEleven }
 {}

@@ -1,5 +1,5 @@
 // The rows of a record.
-ghost use Rattle.std.specs.Prelude.{◌≡◌, ◌++◌, All, List, OnOk, option_map};
+ghost use Rattle.std.specs.Prelude.{◌++◌, All, List, OnOk, option_map};
 ghost use Rattle.std.specs.Io.KnownBytes.{Appends};
 ghost use Rattle.vdr_datagram.specs.Verdicts.{line_spans};
 ghost use Rattle.vdr_datagram.specs.Views.{verdict_of};

@@ -1,5 +1,5 @@
 // The number that a field says.
-ghost use Rattle.std.specs.Prelude.{◌≡◌, ◌==◌, option_map};
+ghost use Rattle.std.specs.Prelude.{◌≡◌, ◌==◌};
 ghost use Rattle.std.specs.List.{list_any};
 ghost use Rattle.vdr_values.specs.Views.{value_of};
 ghost use Rattle.vdr_rows.specs.Values.{is_opposite, number_in, number_of, sign_by, turned};

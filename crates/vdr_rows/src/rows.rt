@@ -2,12 +2,11 @@
 ghost use Rattle.std.specs.Prelude.{◌≡◌, ◌++◌, ◌∷◌, [], All, List, OnOk};
 ghost use Rattle.std.specs.Io.KnownBytes.{Appends};
 ghost use Rattle.vdr_terms.specs.Records.{Record as Entry};
-ghost use Rattle.vdr_ais.specs.Lines.{Line as Part, lines_of};
-ghost use Rattle.vdr_ais.specs.Pending.{HasPlace, HasRead};
+ghost use Rattle.vdr_ais.specs.Lines.{lines_of};
+ghost use Rattle.vdr_ais.specs.Pending.{HasPlace};
 ghost use Rattle.vdr_outside.specs.Causes.{HasCause};
 ghost use Rattle.vdr_outside.specs.Writes.{AppendsFront};
 ghost use Rattle.vdr_rows.specs.Tables.{header_behind, line_at};
-ghost use Rattle.vdr_rows.specs.Texts.{table_header};
 
 use crate::lines::print_record;
 use std::alloc::{AllocError, Global};

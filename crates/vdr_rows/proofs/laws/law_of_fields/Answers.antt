@@ -1,4 +1,4 @@
-use Rattle.vdr_rows.proofs.Commas.{eleven}
+use Rattle.vdr_rows.proofs.Fielded.{eleven}
 use Rattle.vdr_rows.proofs.laws.law_of_fields.Goals as goal
 
 pub returns : goal.returns

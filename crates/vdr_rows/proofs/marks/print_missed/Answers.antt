@@ -1,12 +1,9 @@
-use Rattle.std.proofs.Common.{◌≡◌, ◌∙◌, ◌∷◌, ◌++◌, [], List, ℕ, Option, codes, flat_map, option_map, sym, subst}
+use Rattle.std.proofs.Common.{[], List, ℕ, subst}
 use Rattle.std.specs.Prelude.{OnOk}
 use Rattle.std.specs.Io.KnownBytes.{Appends}
 use Rattle.vdr_outside.specs.Writes.{AppendsFront}
-use Rattle.vdr_rows.specs.Parts.{given_text}
 use Rattle.vdr_rows.specs.Tables.{missed}
-use Rattle.vdr_rows.specs.Texts.{Heading, heading_of}
-use Rattle.vdr_rows.specs.Values.{Said}
-use Rattle.vdr_rows.specs.Views.{heading_said, said_of}
+use Rattle.vdr_rows.specs.Texts.{heading_of}
 use Rattle.vdr_rows.proofs.RowLemmas.{four_given}
 use Rattle.vdr_rows.proofs.marks.print_missed.Goals as goal
 

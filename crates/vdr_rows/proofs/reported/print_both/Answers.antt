@@ -1,7 +1,6 @@
-use Rattle.std.proofs.Common.{[], ◌∷◌, List, Option, option_map}
-use Rattle.vdr_ais.specs.Views.{position_said, report_said}
+use Rattle.std.proofs.Common.{[], ◌∷◌}
+use Rattle.vdr_ais.specs.Views.{report_said}
 use Rattle.vdr_rows.specs.Reported.{name_said, position_values}
-use Rattle.vdr_rows.specs.Values.{Said}
 use Rattle.vdr_rows.specs.Views.{heading_said}
 use Rattle.vdr_rows.proofs.Printing.{first_front, last_all, last_front}
 use Rattle.vdr_rows.proofs.RowLemmas.{given_both}

@@ -1,4 +1,4 @@
-use Rattle.std.proofs.Common.{◌≡◌, ◌∙◌, ◌∷◌, [], List, ℕ, Option, codes, option_map, rules, ap, sym, subst, w32, FitsSigned}
+use Rattle.std.proofs.Common.{◌∙◌, List, ℕ, Option, codes, option_map, rules, ap, sym, subst, w32, FitsSigned}
 use Rattle.std.specs.Prelude.{OnOk}
 use Rattle.std.specs.Io.KnownBytes.{Appends}
 use Rattle.std.proofs.lemmas.Int.{to_z-of_z}

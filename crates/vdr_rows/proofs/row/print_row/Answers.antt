@@ -1,4 +1,4 @@
-use Rattle.std.proofs.Common.{◌∙◌, ◌++◌, sym, append_assoc}
+use Rattle.std.proofs.Common.{◌∙◌, sym, append_assoc}
 use Rattle.std.proofs.KnownBytes.{Appends-trans}
 use Rattle.vdr_outside.proofs.Known.{front-more}
 use Rattle.vdr_rows.specs.Parts.{front_text, rest_text}
