@@ -235,7 +235,7 @@ Exit status, with the line that ends the output:
       closed, and its summary stands above. Of `order`: no recorder listens, or it hung up
   7   `status 7 input`: the input could not be read
   8   the output could not be written
-  9   `status 9 memory`: there was not enough memory
+  9   `status 9 memory`: there was not enough memory; of `record`: or too few threads
   10  `status 10 feed N at OFFSET`: the feed is refused at the item that begins at
       OFFSET: 1 no feed, 2 cut off, 3 a time out of range, 4 no such group, or by
       `replay` one that is not configured, 5 an item received before the one before it,

@@ -146,7 +146,9 @@ fn plain(status: Status) -> Option<&'static str> {
         Status::Formatted => {
             Some("the media are formatted already; `reformat` gives up all that they hold")
         }
-        Status::NoMemory => Some("there was not enough memory"),
+        Status::NoMemory => Some(
+            "there was not enough memory; of `record`: or the host refused threads, see `ulimit -u` and TasksMax",
+        ),
         Status::NoChannel => {
             Some("the configuration names no such channel; `all` is every record")
         }

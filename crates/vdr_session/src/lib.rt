@@ -13,6 +13,7 @@ mod kept;
 mod lent;
 mod making;
 mod mark;
+mod muster;
 mod plan;
 mod popping;
 mod ports_alone;

@@ -1,11 +1,14 @@
-// The memory of a session, before it begins.
+// The memory of a session and its threads, before it begins.
 ghost use Rattle.std.specs.Prelude.{◌≡◌, ◌≤◌, ◌<◌, ◌/◌, ℕ, [], None, OnOk, IfOk, length, replicate, get_or, slice_index_or, false};
 ghost use Rattle.vdr_durability.specs.Commits.{least_item};
 ghost use Rattle.vdr_session.specs.Ran.{IsSetUp, LaneIsReady};
 
 use crate::batch::Batch;
+use crate::muster::grants_threads;
 use crate::plan::Plan;
 use std::alloc::Global;
+use std::sync::Wait;
+use std::thread::Threads;
 use vdr_capture::Lane;
 use vdr_gap::Tally;
 use vdr_intake::{CapturedBuffer, Intake, NoMemory, Taker};
@@ -90,8 +93,15 @@ pub(crate) struct Memory {
 }
 
 impl Memory {
-    /// Takes the memory, and sets all lanes anew.
-    pub fn new<P>(alloc: Global, plan: &Plan, lanes: &mut [Lane<P>]) -> Result<Memory, NoMemory>
+    /// Takes the memory, sets all lanes anew, and asks the host for the threads of a session with so many desks: one that refuses
+    /// them has no room for it, as one without memory.
+    pub fn new<P, R: Threads + Wait + Sync>(
+        rt: &R,
+        alloc: Global,
+        plan: &Plan,
+        lanes: &mut [Lane<P>],
+        desks: usize,
+    ) -> Result<Memory, NoMemory>
         requires sixteen { length lanes.old ≡ 16 }
         requires groups { (g : ℕ) (d : _) → g < 16 → (slice_index_or lanes.old g d).group ≡ g }
         requires capacity { (0 < plan.now.capacity) × (plan.now.capacity ≤ 65536) }
@@ -114,6 +124,9 @@ impl Memory {
         let Ok(items) = CapturedBuffer::with_capacity(alloc, plan.room / LEAST_ITEM) else {
             return Err(NoMemory);
         };
+        if !grants_threads(rt, alloc, desks)? {
+            return Err(NoMemory);
+        }
         Ok(Memory {
             queues,
             takers,

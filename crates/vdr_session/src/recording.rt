@@ -108,7 +108,7 @@ fn record_and_reply<
     let plan = Plan::new(recorder.config());
     let first = recorder.status().records;
     reset(desks);
-    let Ok(mut memory) = Memory::new(alloc, &plan, lanes) else {
+    let Ok(mut memory) = Memory::new(rt, alloc, &plan, lanes, desks.len()) else {
         return without_memory();
     };
     let (media, watch, ended) = run_lent::<M, W, P, L, Brand, R>(
@@ -139,13 +139,13 @@ fn record_and_reply<
 /// Records what the ports of the lanes give, as one run, with at most `turns` takes of each port, and has the orders of the desks answered, with
 /// at most `turns` calls of each link for a line.
 ///
-/// It takes all its memory, sets lanes and desks anew, and begins the run. Each lane of a configured group is captured in a thread of its own,
+/// It takes all its memory, sets lanes and desks anew, asks the host for all its threads at once, and begins the run. Each lane of a configured group is captured in a thread of its own,
 /// and each desk is served in one, beside the loop that takes what is queued into the run, in batches that are committed one by one. An
 /// order of a desk takes a turn between two batches: it is one event of the history, and its reply is a function of the history before
 /// that. The watch is told of each turn at its end, before its reply. A play takes memory for its page, and is answered `FAULT 9` where there is none. Once all captures and desks have ended and all
 /// queues are empty the run is closed by its closing Gaps and Stop.
 ///
-/// `NoMemory`: nothing was called. `Place`, `Tick`: the next place, or the tick of the Start, is at least 2^62, and nothing was called. `MediaFault`: the
+/// `NoMemory`: nothing was called; the host refused memory, or one of the threads. `Place`, `Tick`: the next place, or the tick of the Start, is at least 2^62, and nothing was called. `MediaFault`: the
 /// count of faults of a medium rose; the recording ends there, the captures and the desks go on to their ends, and what was recorded before
 /// stays. `PortFault`: the run was closed, and the port of this group failed, the least where several did. `LinkFault`: the run was closed, no
 /// port failed, and the link of this desk did, the least where several did.
