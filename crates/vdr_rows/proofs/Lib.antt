@@ -12,3 +12,5 @@ pub mod Reporting
 pub mod Fielded
 pub mod Reread
 pub mod Degrees
+pub mod Carried
+pub mod Unsaid

@@ -1,10 +1,10 @@
 -- Where a line says that its source is.
-use Rattle.std.specs.Prelude.{ℕ, Bool, true, false, List, Option, Some, None, unwrap_or, Result, Ok, Err, codes, find}
+use Rattle.std.specs.Prelude.{◌≡◌, ℕ, Bool, true, false, List, [], ◌∷◌, Option, Some, None, unwrap_or, Result, Ok, Err, codes, find, ⊤}
 use Rattle.vdr_values.specs.declared.column.Column.{Column}
 use Rattle.vdr_values.specs.declared.column.Quantity.{Quantity}
 use Rattle.vdr_values.specs.declared.column.Quantity.TheVariants.{Latitude, Longitude}
 use Rattle.vdr_values.specs.Readings.{Reading, reading}
-use Rattle.vdr_datagram.specs.Verdicts.{LineReading}
+use Rattle.vdr_datagram.specs.Verdicts.{LineReading, LineSpan}
 use Rattle.vdr_datagram.specs.Verdicts.LineReading.{Good, Tag, Sentence}
 use Rattle.vdr_rows.specs.declared.decimal.Decimal.{Decimal}
 use Rattle.vdr_rows.specs.declared.fix.Fix.{Fix}
@@ -54,3 +54,8 @@ abbrev pub fix_in : LineReading → Fix
 fix_in (Good tags sentence) = fix_where (reading sentence.content)
 fix_in (Tag bad) = Unsaid
 fix_in (Sentence tags bad) = Unsaid
+
+-- No line says anything of a position.
+abbrev pub AreUnsaid : List LineSpan → Type 0
+AreUnsaid [] = ⊤
+AreUnsaid (span ∷ spans) = (fix_in span.verdict ≡ Unsaid) × AreUnsaid spans

@@ -9,5 +9,8 @@ pub mod Parts
 pub mod Tables
 pub mod Fixes
 pub mod Views
+pub mod Seeking
 pub mod Held
 pub mod Laws
+pub mod Numbers
+pub mod NumberViews

@@ -5,7 +5,7 @@ use Rattle.vdr_rows.specs.Texts as texts
 use Rattle.vdr_rows.specs.Values as values
 
 abbrev pub heading_said : Heading → texts.Heading
-heading_said h = record { utc = h.utc.items; place = h.place.items; group = h.group.now; source = h.source.now; sentence = h.sentence.now }
+heading_said h = texts.heading_of h.item.now h.source.now h.sentence.now
 
 abbrev pub said_of : Said → values.Said
 said_of s = record { item = s.item.now; name = s.name.now; number = s.number; measure = s.measure.now; valid = s.valid; words = s.words.now }

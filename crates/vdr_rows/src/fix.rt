@@ -1,12 +1,14 @@
 // Where a line says that its source is.
-ghost use Rattle.std.specs.Prelude.{◌≡◌};
+ghost use Rattle.std.specs.Prelude.{◌≡◌, IsFalse};
+ghost use Rattle.vdr_datagram.specs.Verdicts.{line_spans};
 ghost use Rattle.vdr_datagram.specs.Views.{verdict_of};
 ghost use Rattle.vdr_values.specs.Readings.{reading};
-ghost use Rattle.vdr_rows.specs.Fixes.{fix_in, fix_said, fix_with, is_latitude, is_longitude, latitude_of, longitude_of};
+ghost use Rattle.vdr_rows.specs.Fixes.{AreUnsaid, fix_in, fix_said, fix_with, is_latitude, is_longitude, latitude_of, longitude_of};
 
 use crate::decimal::Decimal;
 use crate::measure::valid_by;
 use crate::number::number_in;
+use crate::seeking::{Sought, mentions};
 use vdr_datagram::LineVerdict;
 use vdr_values::{Column, Quantity, Reading, read_value};
 
@@ -36,7 +38,7 @@ fn is_longitude(quantity: Quantity) -> bool
     matches!(quantity, Quantity::Longitude)
 }
 
-fn latitude_of(columns: &[Column]) -> Option<Column>
+pub(crate) fn latitude_of(columns: &[Column]) -> Option<Column>
     ensures { result ≡ latitude_of columns.now }
 {
     columns
@@ -45,7 +47,7 @@ fn latitude_of(columns: &[Column]) -> Option<Column>
         .find(|column| is_latitude(column.quantity))
 }
 
-fn longitude_of(columns: &[Column]) -> Option<Column>
+pub(crate) fn longitude_of(columns: &[Column]) -> Option<Column>
     ensures { result ≡ longitude_of columns.now }
 {
     columns
@@ -90,8 +92,16 @@ pub fn fix_of(verdict: &LineVerdict<'_>) -> Fix
     let LineVerdict::Good { sentence, .. } = verdict else {
         return Fix::Unsaid;
     };
-    match read_value(sentence) {
-        Ok(Some(reading)) => fix_said(&reading),
+    match &read_value(sentence) {
+        Ok(Some(reading)) => fix_said(reading),
         Ok(None) | Err(_) => Fix::Unsaid,
     }
+}
+
+/// Whether a line of a datagram may say something of a position, by the bytes of the datagram alone. So one that names no formatter with a position can be
+/// passed over before it is cut into its lines.
+pub fn may_fix(payload: &[u8]) -> bool
+    ensures { IsFalse result → AreUnsaid (line_spans payload.now) }
+{
+    mentions(Sought::Position, payload)
 }

@@ -1,16 +1,16 @@
 // The rows of a record.
-ghost use Rattle.std.specs.Prelude.{◌++◌, All, List, OnOk, option_map};
+ghost use Rattle.std.specs.Prelude.{◌≡◌, ◌++◌, All, List, OnOk, Some, option_map};
 ghost use Rattle.std.specs.Io.KnownBytes.{Appends};
 ghost use Rattle.vdr_datagram.specs.Verdicts.{line_spans};
 ghost use Rattle.vdr_datagram.specs.Views.{verdict_of};
-ghost use Rattle.vdr_ais.specs.Lines.{Line as Part, lines_in, lines_of};
+ghost use Rattle.vdr_ais.specs.Lines.{Key, Line as Part, line_in, lines_in, lines_of};
 ghost use Rattle.vdr_ais.specs.Pending.{HasPlace, HasRead};
 ghost use Rattle.vdr_ais.specs.Views.{message_of};
 ghost use Rattle.vdr_values.specs.Readings.{reading};
 ghost use Rattle.vdr_outside.specs.Causes.{HasCause};
 ghost use Rattle.vdr_outside.specs.Writes.{AppendsFront};
 ghost use Rattle.vdr_rows.specs.Reported.{message_values};
-ghost use Rattle.vdr_rows.specs.Tables.{back_after, back_by, line_rows, lines_rows, record_rows, rows_of};
+ghost use Rattle.vdr_rows.specs.Tables.{back_after, back_by, back_with, ended_at, line_rows, lines_rows, record_rows, rows_of};
 ghost use Rattle.vdr_rows.specs.Texts.{rows_text};
 ghost use Rattle.vdr_rows.specs.Values.{values_where};
 ghost use Rattle.vdr_rows.specs.Views.{heading_said};
@@ -18,6 +18,7 @@ ghost use Rattle.vdr_rows.specs.Views.{heading_said};
 use crate::heading::Heading;
 use crate::marks::{print_mark, print_missed};
 use crate::reported::print_message;
+use crate::seeking::is_carrier;
 use crate::sentence::print_sentence;
 use vdr_ais::{Message, Unfinished};
 use vdr_datagram::{LineVerdict, lines};
@@ -43,8 +44,8 @@ fn print_good<O: Sink>(
     print_message(heading, ended, out)
 }
 
-// Prints the rows of a line, and of the message that ends at it.
-fn print_line<O: Sink>(
+// Prints the rows of a line, where this message ends at it.
+fn print_rows<O: Sink>(
     item: &Record,
     verdict: &LineVerdict<'_>,
     ended: &Option<Message>,
@@ -62,6 +63,29 @@ fn print_line<O: Sink>(
     print_good(&heading, sentence, ended, out)
 }
 
+// Prints the rows of a line, for whose message there is room, and of the message that ends at it.
+fn print_line<O: Sink>(
+    item: &Record,
+    verdict: &LineVerdict<'_>,
+    unfinished: &mut Unfinished,
+    out: &mut O,
+) -> Result<(), Failed>
+    requires { (part : Part) → line_in item.now.group (verdict_of verdict.now) ≡ Some part → HasPlace unfinished.old part.key }
+    ensures read { (back : List Part) → HasRead back unfinished.old → HasRead (back_with back item.now.group (verdict_of verdict.now)) unfinished.new }
+    ensures all { (back : List Part) → HasRead back unfinished.old
+        → OnOk result (Appends (O.taken out.old) (O.taken out.new) (rows_text (line_rows item.now (verdict_of verdict.now) (ended_at back item.now.group (verdict_of verdict.now))))) }
+    ensures front { (back : List Part) → HasRead back unfinished.old
+        → AppendsFront (O.taken out.old) (O.taken out.new) (rows_text (line_rows item.now (verdict_of verdict.now) (ended_at back item.now.group (verdict_of verdict.now)))) }
+    ensures places { (key : Key) → HasPlace unfinished.old key → HasPlace unfinished.new key }
+    ensures cause { HasCause (O.faults out.old) (O.faults out.new) result }
+{
+    if !is_carrier(verdict) {
+        return print_rows(item, verdict, &None, out);
+    }
+    let ended = unfinished.take_line(item.group, verdict);
+    print_rows(item, verdict, &ended, out)
+}
+
 // Prints the rows of a datagram, for whose messages there is room.
 fn print_lines<O: Sink>(
     item: &Record,
@@ -76,8 +100,7 @@ fn print_lines<O: Sink>(
     ensures cause { HasCause (O.faults out.old) (O.faults out.new) result }
 {
     for line in lines(payload) {
-        let ended = unfinished.take_line(item.group, &line.verdict);
-        print_line(item, &line.verdict, &ended, out)?;
+        print_line(item, &line.verdict, unfinished, out)?;
     }
     Ok(())
 }

@@ -34,26 +34,13 @@ fn valid_of(valid: Option<bool>) -> &'static [u8]
     }
 }
 
-// Prints the fields before the source. They are arguments of their own, so that they stand at one lifetime.
-fn print_three<O: Sink>(utc: &[u8], place: &[u8], group: &[u8], out: &mut O) -> Result<(), Failed>
-    ensures all { OnOk result (Appends (O.taken out.old) (O.taken out.new) (utc.now ++ 44 ∷ (place.now ++ 44 ∷ (group.now ++ 44 ∷ [])))) }
-    ensures front { AppendsFront (O.taken out.old) (O.taken out.new) (utc.now ++ 44 ∷ (place.now ++ 44 ∷ (group.now ++ 44 ∷ []))) }
-    ensures cause { HasCause (O.faults out.old) (O.faults out.new) result }
-{
-    print_pieces(&[utc, b",", place, b",", group, b","], out)
-}
-
+// Prints the fields before the source.
 fn print_front<O: Sink>(heading: &Heading<'_>, out: &mut O) -> Result<(), Failed>
     ensures all { OnOk result (Appends (O.taken out.old) (O.taken out.new) (front_text (heading_said heading.now))) }
     ensures front { AppendsFront (O.taken out.old) (O.taken out.new) (front_text (heading_said heading.now)) }
     ensures cause { HasCause (O.faults out.old) (O.faults out.new) result }
 {
-    print_three(
-        heading.utc.as_slice(),
-        heading.place.as_slice(),
-        heading.group,
-        out,
-    )
+    write_all(out, heading.front.as_slice())
 }
 
 // Prints the fields between the source and the text.

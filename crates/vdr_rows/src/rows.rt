@@ -2,13 +2,14 @@
 ghost use Rattle.std.specs.Prelude.{◌≡◌, ◌++◌, ◌∷◌, [], All, List, OnOk};
 ghost use Rattle.std.specs.Io.KnownBytes.{Appends};
 ghost use Rattle.vdr_terms.specs.Records.{Record as Entry};
-ghost use Rattle.vdr_ais.specs.Lines.{lines_of};
+ghost use Rattle.vdr_ais.specs.Lines.{lines_in, lines_of};
 ghost use Rattle.vdr_ais.specs.Pending.{HasPlace};
 ghost use Rattle.vdr_outside.specs.Causes.{HasCause};
 ghost use Rattle.vdr_outside.specs.Writes.{AppendsFront};
 ghost use Rattle.vdr_rows.specs.Tables.{header_behind, line_at};
 
 use crate::lines::print_record;
+use crate::seeking::{Sought, mentions};
 use std::alloc::{AllocError, Global};
 use vdr_ais::Unfinished;
 use vdr_entry::{Content, Record};
@@ -44,13 +45,25 @@ impl Rows {
         }
     }
 
+    // Makes room for the messages of a datagram's lines.
+    fn make_room(&mut self, group: u8, payload: &[u8]) -> Result<(), AllocError>
+        ensures visited { (seen : List Entry) → HasVisited self.old seen → HasVisited self.new seen }
+        ensures rooms { OnOk result (All (λ line. HasPlace self.new.unfinished line.key) (lines_in group payload.now)) }
+    {
+        if mentions(Sought::Parts, payload) {
+            self.unfinished.make_rooms(group, payload)
+        } else {
+            Ok(())
+        }
+    }
+
     // Makes room for the messages of a record's lines.
     fn make_rooms(&mut self, item: &Record) -> Result<(), AllocError>
         ensures visited { (seen : List Entry) → HasVisited self.old seen → HasVisited self.new seen }
         ensures rooms { OnOk result (All (λ line. HasPlace self.new.unfinished line.key) (lines_of item.now.group item.now.content)) }
     {
         match item.content() {
-            Content::Datagram(payload) => self.unfinished.make_rooms(item.group, payload),
+            Content::Datagram(payload) => self.make_room(item.group, payload),
             Content::Start | Content::Gap(_) | Content::Stop => Ok(()),
         }
     }

@@ -15,6 +15,7 @@ use arrayvec::ArrayVec;
 use vdr_datagram::lines;
 use vdr_entry::{Content, Record};
 use vdr_outside::{Failed, Sink, write_all};
+use vdr_rows::may_fix;
 
 /// The greatest time from one point of a segment to the next, in milliseconds.
 const LONGEST: u64 = 10_000;
@@ -114,6 +115,26 @@ fn follow_lines<O: Sink>(
     Ok(())
 }
 
+// The same. A datagram whose bytes name no formatter with a position is passed over before it is cut into its lines.
+fn follow_datagram<O: Sink>(
+    source: &[u8],
+    item: &Record,
+    payload: &[u8],
+    last: &mut Option<Point>,
+    out: &mut O,
+) -> Result<(), Failed>
+    requires { IsStamp item.now.utc }
+    ensures opened { OnOk result (last.new ≡ open_after last.old (lines_steps source.now item.now payload.now)) }
+    ensures all { OnOk result (Appends (O.taken out.old) (O.taken out.new) (steps_text last.old (lines_steps source.now item.now payload.now))) }
+    ensures front { AppendsFront (O.taken out.old) (O.taken out.new) (steps_text last.old (lines_steps source.now item.now payload.now)) }
+    ensures cause { HasCause (O.faults out.old) (O.faults out.new) result }
+{
+    if !may_fix(payload) {
+        return Ok(());
+    }
+    follow_lines(source, item, payload, last, out)
+}
+
 /// Prints what a record says of the track of a source, and keeps what is open behind it.
 pub(crate) fn follow_record<O: Sink>(
     source: &[u8],
@@ -128,7 +149,7 @@ pub(crate) fn follow_record<O: Sink>(
 {
     match item.content() {
         Content::Start => follow(last, Step::Begun, out),
-        Content::Datagram(payload) => follow_lines(source, item, payload, last, out),
+        Content::Datagram(payload) => follow_datagram(source, item, payload, last, out),
         Content::Gap(_) => follow(last, Step::Missed(item.group), out),
         Content::Stop => Ok(()),
     }

@@ -1,4 +1,4 @@
-use Rattle.std.proofs.Common.{◌≡◌, ◌∙◌, ℕ, List, [], Option, Some, map, length, option_map, sym, ap, subst, arith}
+use Rattle.std.proofs.Common.{◌∙◌, ℕ, List, [], map, length, sym, ap, subst, arith}
 use Rattle.std.proofs.lemmas.List.{append-nil}
 use Rattle.std.proofs.lemmas.Iterator.Consumers.{YieldsList-from_first, YieldsList-so_far, YieldsList-turn, YieldsList-end}
 use Rattle.std.proofs.KnownBytes.{Appends-trans}
@@ -7,25 +7,20 @@ use Rattle.vdr_terms.specs.Records.{Record}
 use Rattle.vdr_datagram.specs.Verdicts.{LineSpan, line_spans}
 use Rattle.vdr_datagram.specs.Views.{lines_left, span_of}
 use Rattle.vdr_outside.proofs.Known.{front-more}
-use Rattle.vdr_outside.specs.Writes.{AppendsFront}
-use Rattle.vdr_ais.specs.Bits.{Message}
 use Rattle.vdr_ais.specs.Lines.{Line, line_in}
 use Rattle.vdr_ais.specs.Pending.{HasPlace, HasRead}
-use Rattle.vdr_ais.specs.Views.{message_of}
-use Rattle.vdr_rows.specs.Tables.{back_by, back_with, ended_at, line_rows, lines_rows}
+use Rattle.vdr_rows.specs.Tables.{back_by, lines_rows}
 use Rattle.vdr_rows.specs.Texts.{rows_text}
 use Rattle.vdr_rows.proofs.LineLemmas.{back_more, found_at, one_text, text_at, text_more}
 use Rattle.vdr_rows.proofs.lines.print_lines.Goals as goal
 
-pub take_line-ended-requires : goal.take_line-ended-requires
-take_line-ended-requires g c =
+pub print_line-requires : goal.print_line-requires
+print_line-requires g c =
     let all : List LineSpan = line_spans c.args.payload.now in
     let road = YieldsList-from_first span_of lines_left all (ap lines_left c.into_iter-line-iterator.ensures.into_iter_gives ∙ c.lines-line-items.ensures) in
     let turn = YieldsList-turn road c.loop-line.yielded _ c.loop-line.yielded_by c.next.result c.next.new.self c.in-Some.line c.in-Some.is c.next.ensures.steps in
-    let group : c.item.inside.group ≡ c.args.item.now.group = ap (λ (r : Record). r.group) c.item.view_is in
     λ part carried. c.loop-line.invariant.places part.key
-    (found_at (λ (l : Line). HasPlace c.args.unfinished.now l.key) (λ (s : LineSpan). line_in c.args.item.now.group s.verdict) all (length c.loop-line.yielded) (span_of c.in-Some.line) part c.requires turn.0 turn.1
-    (subst (λ (n : ℕ). line_in n (span_of c.in-Some.line).verdict ≡ Some part) group carried))
+    (found_at (λ (l : Line). HasPlace c.args.unfinished.now l.key) (λ (s : LineSpan). line_in c.args.item.now.group s.verdict) all (length c.loop-line.yielded) (span_of c.in-Some.line) part c.requires turn.0 turn.1 carried)
 
 pub returns-in_err-print_line-clause-front : goal.returns-in_err-print_line-clause-front
 returns-in_err-print_line-clause-front g c = λ back h.
@@ -34,32 +29,24 @@ returns-in_err-print_line-clause-front g c = λ back h.
     let road = YieldsList-from_first span_of lines_left all (ap lines_left c.into_iter-line-iterator.ensures.into_iter_gives ∙ c.lines-line-items.ensures) in
     let so_far = YieldsList-so_far road c.loop-line.yielded _ c.loop-line.yielded_by in
     let turn = YieldsList-turn road c.loop-line.yielded _ c.loop-line.yielded_by c.next.result c.next.new.self c.in-Some.line c.in-Some.is c.next.ensures.steps in
-    let group : c.item.inside.group ≡ r.group = ap (λ (e : Record). e.group) c.item.view_is in
     let before : List Line = back_by back r.group (map span_of c.loop-line.yielded) in
-    let ended : option_map message_of c.take_line-ended.result ≡ ended_at before r.group (span_of c.in-Some.line).verdict =
-    subst (λ (n : ℕ). option_map message_of c.take_line-ended.result ≡ ended_at before n (span_of c.in-Some.line).verdict) group (c.take_line-ended.ensures.ended before (c.loop-line.invariant.read back h)) in
     front-more _ _ _ (rows_text (lines_rows back r (map span_of c.loop-line.yielded))) (one_text before r (span_of c.in-Some.line)) _ _ (text_at back r all c.loop-line.yielded c.in-Some.line so_far turn)
     (c.loop-line.invariant.written back h)
-    (subst (λ (m : Option Message). AppendsFront (g.O.Sink.taken c.loop-line.out) (g.O.Sink.taken c.print_line.new.out) (rows_text (line_rows r (span_of c.in-Some.line).verdict m))) ended c.in_err-print_line.ensures.front)
+    (c.in_err-print_line.ensures.front before (c.loop-line.invariant.read back h))
 
 pub loop-line-preserved : goal.loop-line-preserved
 loop-line-preserved g c =
     let r : Record = c.args.item.now in
     let now = c.loop-line.invariant in
-    let group : c.item.inside.group ≡ r.group = ap (λ (e : Record). e.group) c.item.view_is in
     record {
       read = λ back h.
           let before : List Line = back_by back r.group (map span_of c.loop-line.yielded) in
-          subst (λ (lines : List Line). HasRead lines c.take_line-ended.new.self) (sym (back_more back r.group c.loop-line.yielded c.in-Some.line))
-          (subst (λ (n : ℕ). HasRead (back_with before n (span_of c.in-Some.line).verdict) c.take_line-ended.new.self) group (c.take_line-ended.ensures.read before (now.read back h)));
+          subst (λ (lines : List Line). HasRead lines c.print_line.new.unfinished) (sym (back_more back r.group c.loop-line.yielded c.in-Some.line)) (c.print_line.ensures.read before (now.read back h));
       written = λ back h.
           let before : List Line = back_by back r.group (map span_of c.loop-line.yielded) in
-          let ended : option_map message_of c.take_line-ended.result ≡ ended_at before r.group (span_of c.in-Some.line).verdict =
-          subst (λ (n : ℕ). option_map message_of c.take_line-ended.result ≡ ended_at before n (span_of c.in-Some.line).verdict) group (c.take_line-ended.ensures.ended before (now.read back h)) in
           subst (λ (xs : List ℕ). Appends (g.O.Sink.taken c.args.out.now) (g.O.Sink.taken c.print_line.new.out) xs) (sym (text_more back r c.loop-line.yielded c.in-Some.line))
-          (Appends-trans _ _ _ _ _ (now.written back h)
-          (subst (λ (m : Option Message). Appends (g.O.Sink.taken c.loop-line.out) (g.O.Sink.taken c.print_line.new.out) (rows_text (line_rows r (span_of c.in-Some.line).verdict m))) ended c.in_ok-print_line.ensures.all));
-      places = λ key has. c.take_line-ended.ensures.places key (now.places key has);
+          (Appends-trans _ _ _ _ _ (now.written back h) (c.in_ok-print_line.ensures.all before (now.read back h)));
+      places = λ key has. c.print_line.ensures.places key (now.places key has);
       later = let more = c.print_line.ensures.cause.later in omega (arith, now.later, more);
     }
 

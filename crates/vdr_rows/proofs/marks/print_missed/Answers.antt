@@ -2,7 +2,6 @@ use Rattle.std.proofs.Common.{[], List, ℕ, subst}
 use Rattle.std.specs.Prelude.{OnOk}
 use Rattle.std.specs.Io.KnownBytes.{Appends}
 use Rattle.vdr_outside.specs.Writes.{AppendsFront}
-use Rattle.vdr_rows.specs.Tables.{missed}
 use Rattle.vdr_rows.specs.Texts.{heading_of}
 use Rattle.vdr_rows.proofs.RowLemmas.{four_given}
 use Rattle.vdr_rows.proofs.marks.print_missed.Goals as goal
