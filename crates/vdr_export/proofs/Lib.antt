@@ -19,3 +19,4 @@ pub mod Listings
 pub mod TwoPasses
 pub mod TimeLines
 mod Rows
+mod Paging

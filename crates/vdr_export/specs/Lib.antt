@@ -12,4 +12,5 @@ pub mod Tails
 pub mod Heard
 pub mod Collected
 pub mod Kept
+pub mod Paged
 pub mod Laws

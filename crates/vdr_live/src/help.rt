@@ -111,6 +111,12 @@ Commands:
             Writes the records that `play` prints for these words to standard output, as a file that
             any program can read and check: as they stand on the media, behind the configuration,
             the medium, the incident and the query, and before the SHA-256 of all.
+  page MEDIUM FROM TO
+            Writes a page of the records that `play MEDIUM all FROM TO` prints to standard output: one
+            HTML file that any browser shows from a disk, without a network. It has the track and the
+            AIS targets, the readings over time, alarms and alerts, silences and gaps, pictures and
+            sound, and the records. A page that was cut off says that it is not whole, and the status
+            line ends it.
   trial SEED COUNT
             Tries media that hold nothing yet: formats them with the bench configuration (files of
             122,880 and 712,704 bytes), records COUNT generated items (0 to 1,000,000) from SEED

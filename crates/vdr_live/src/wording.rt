@@ -7,7 +7,7 @@ struct Usage {
     words: &'static [Form],
 }
 
-const USAGES: [Usage; 28] = [
+const USAGES: [Usage; 29] = [
     Usage {
         command: "review",
         words: &[],
@@ -79,6 +79,10 @@ const USAGES: [Usage; 28] = [
     Usage {
         command: "evidence",
         words: &[Form::Medium, Form::Channel, Form::From, Form::To],
+    },
+    Usage {
+        command: "page",
+        words: &[Form::Medium, Form::From, Form::To],
     },
     Usage {
         command: "targets",

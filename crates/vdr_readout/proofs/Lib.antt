@@ -12,6 +12,7 @@ pub mod ExportLemmas
 pub mod ExportCompleteness
 pub mod EvidenceReads
 pub mod EvidenceLemmas
+pub mod PageLemmas
 pub mod LineLemmas
 pub mod WatchLemmas
 pub mod TableLemmas

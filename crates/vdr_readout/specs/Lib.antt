@@ -11,6 +11,7 @@ pub mod Selections
 pub mod Targets
 pub mod Rescues
 pub mod Telling
+pub mod Paged
 pub mod RescuedFiles
 pub mod Readings
 pub mod Informs

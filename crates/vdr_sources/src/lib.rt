@@ -8,4 +8,5 @@ mod place;
 mod row;
 mod table;
 
+pub use row::Row;
 pub use table::SourceTable;

@@ -1,5 +1,5 @@
 // The row of a source.
-ghost use Rattle.std.specs.Prelude.{◌≡◌, ◌≤◌, ◌<◌, ◌+◌, ◌^◌, ◌++◌, codes, decimal, length};
+ghost use Rattle.std.specs.Prelude.{◌≡◌, ◌≤◌, ◌<◌, ◌+◌, ◌^◌, ◌++◌, codes, decimal, length, unsigned_abs};
 ghost use Rattle.arrayvec.specs.ArrayVec.{array_vec_len};
 ghost use Rattle.vdr_terms.specs.Stamps.{IsStamp};
 ghost use Rattle.vdr_entry.specs.Utc.{utc_text};
@@ -18,9 +18,9 @@ use vdr_terms::group_name;
 /// Room for the longest row: a group of 4 bytes, a name of 15, two stamps of 24 and three numbers of 20, each with what is behind it.
 pub(crate) const ROOM: usize = 134;
 
-/// What is kept of a source.
+/// The row of a source: what the lines say that count for it.
 #[derive(Drop)]
-pub(crate) struct Row {
+pub struct Row {
     group: u8,
     name: ArrayVec<u8, 15>,
     // The stamps of the first and of the last record with a line of it.
@@ -151,6 +151,56 @@ impl Row {
         ensures { result ≡ source_cmp (record { group = group; name = name.now }) self.now.source }
     {
         group.cmp(&self.group).then(name.cmp(&self.name.as_slice()))
+    }
+
+    /// The number of its transmission group.
+    pub fn group(&self) -> u8
+        ensures group { result ≡ self.now.source.group }
+        ensures few { result ≤ 15 }
+    {
+        self.group
+    }
+
+    /// The name of its source, `-` where the lines name none.
+    pub fn name(&self) -> &[u8]
+        ensures { result.now ≡ self.now.source.name }
+    {
+        self.name.as_slice()
+    }
+
+    /// The stamp of the first record with a line of it, in milliseconds since 1970.
+    pub fn first(&self) -> u64
+        ensures { result ≡ unsigned_abs self.now.first }
+    {
+        self.first.unsigned_abs()
+    }
+
+    /// The stamp of the last record with a line of it, in milliseconds since 1970.
+    pub fn last(&self) -> u64
+        ensures { result ≡ unsigned_abs self.now.last }
+    {
+        self.last.unsigned_abs()
+    }
+
+    /// How many lines it has.
+    pub fn lines(&self) -> u64
+        ensures { result ≡ self.now.lines }
+    {
+        self.lines
+    }
+
+    /// How many of them are refused.
+    pub fn bad(&self) -> u64
+        ensures { result ≡ self.now.bad }
+    {
+        self.bad
+    }
+
+    /// How often their line count breaks.
+    pub fn breaks(&self) -> u64
+        ensures { result ≡ self.now.breaks }
+    {
+        self.breaks
     }
 
     /// Its text: `GROUP SOURCE FIRST LAST LINES BAD BREAKS` and LF.

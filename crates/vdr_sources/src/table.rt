@@ -91,6 +91,13 @@ impl SourceTable {
         }
     }
 
+    /// The rows, by transmission group and then by name in byte order.
+    pub fn rows(&self) -> &[Row]
+        ensures { result.now ≡ self.now }
+    {
+        self.rows.as_slice()
+    }
+
     /// Counts the lines of a record. Each is read once.
     ///
     /// `AllocError`: there was no memory for a source, or so many lines are counted that no number tells them, which no medium holds. The

@@ -20,7 +20,7 @@ use Rattle.vdr_replay.specs.declared.ended.ReplayRefused.{ReplayRefused}
 use Rattle.vdr_media.proofs.Unformatted.{unchanged_moments}
 use Rattle.vdr_readout.proofs.ReadingLemmas.{reading_plays, rescue_unchanged}
 use Rattle.vdr_tool.specs.Commands.{Asked}
-use Rattle.vdr_tool.specs.Commands.Asked.{Review, Check, Format, Replay, Read, Evidence, Incidents, Info, Save, Release, Trial, Import, Packets, Rescue, RescueInfo}
+use Rattle.vdr_tool.specs.Commands.Asked.{Review, Check, Format, Replay, Read, Evidence, Page, Incidents, Info, Save, Release, Trial, Import, Packets, Rescue, RescueInfo}
 use Rattle.vdr_tool.specs.Lives.{FormatsNothing}
 use Rattle.vdr_command.specs.Opened.{ContentsKept, IsUnopened, KeepsContents, MediaEnds}
 use Rattle.vdr_command.specs.Outside.{MediaSeen, Outside}
@@ -75,6 +75,7 @@ module _ {tells tells_images : Type 0} (c : Configuration) (text : List ℕ) (ru
   life_of Replay old new hears w status owed uses none told live = replay_life old.input.left new.input.left old.media new.media hears w owed.answer owed.media told live
   life_of (Read reading) old new hears w status owed uses none told live = media_life old.media new.media status (reading_plays old new status reading owed).media told live
   life_of (Evidence asked) old new hears w status owed uses none told live = media_life old.media new.media status owed.media.media told live
+  life_of (Page asked words) old new hears w status owed uses none told live = media_life old.media new.media status owed.ends.media.media told live
   life_of Info old new hears w status owed uses none told live = inl owed.untouched.leaves
   life_of (RescueInfo medium) old new hears w status owed uses none told live = inl (unchanged_moments old.media.disk new.media.disk owed.media.unchanged)
   life_of Incidents old new hears w status owed uses none told live = media_life old.media new.media status owed.media told live

@@ -16,7 +16,7 @@ use Rattle.vdr_vault.specs.Ours.{AreOurs, IsOurs, StayOurs}
 use Rattle.vdr_vault.proofs.Ours.{ours_formatted, ours_opened, ours_unchanged}
 use Rattle.vdr_readout.proofs.ReadingLemmas.{reading_plays, rescue_unchanged}
 use Rattle.vdr_tool.specs.Commands.{Asked}
-use Rattle.vdr_tool.specs.Commands.Asked.{Review, Check, Format, Replay, Read, Evidence, Incidents, Info, Save, Release, Trial, Import, Packets, Rescue, RescueInfo}
+use Rattle.vdr_tool.specs.Commands.Asked.{Review, Check, Format, Replay, Read, Evidence, Page, Incidents, Info, Save, Release, Trial, Import, Packets, Rescue, RescueInfo}
 use Rattle.vdr_tool.specs.Formats.{FormatEnds, outcome_of}
 use Rattle.vdr_command.specs.Opened.{ContentsKept, IsUnopened, KeepsContents, MediaEnds}
 use Rattle.vdr_command.specs.Outside.{MediaFailed, MediaSeen, Outside}
@@ -105,6 +105,7 @@ module _ {tells tells_images : Type 0} where
   lives_of Replay old new hears w status owed uses told ours = replay_lives old.input.left new.input.left old.media new.media hears w owed.answer owed.media told ours
   lives_of (Read reading) old new hears w status owed uses told ours = media_lives old.media new.media status (reading_plays old new status reading owed).media told ours
   lives_of (Evidence asked) old new hears w status owed uses told ours = media_lives old.media new.media status owed.media.media told ours
+  lives_of (Page asked words) old new hears w status owed uses told ours = media_lives old.media new.media status owed.ends.media.media told ours
   lives_of Info old new hears w status owed uses told ours = ours_left old.media.disk new.media.disk owed.untouched.leaves ours
   lives_of (RescueInfo medium) old new hears w status owed uses told ours = ours_unchanged old.media.disk new.media.disk owed.media.unchanged ours
   lives_of Incidents old new hears w status owed uses told ours = media_lives old.media new.media status owed.media told ours

@@ -4,6 +4,7 @@ use Rattle.vdr_terms.specs.declared.rate.Rate.{Rate}
 use Rattle.vdr_entry.specs.declared.query.Medium.{Medium}
 use Rattle.vdr_entry.specs.Queries.{asked_medium}
 use Rattle.vdr_durability.specs.Playback.{medium_of}
+use Rattle.vdr_page.specs.Fronts.{Words, words_of}
 use Rattle.vdr_readout.specs.Readings.{Reading, number_read, plain_reading}
 use Rattle.vdr_readout.specs.Reads.{AskedPlay, plain_play}
 use Rattle.vdr_tool.specs.declared.words.Command.{Command}
@@ -16,6 +17,7 @@ pub data Asked : Type 0 where
   Replay : Asked
   Read : (reading : Reading) → Asked
   Evidence : (asked : AskedPlay) → Asked
+  Page : (asked : AskedPlay) (words : Words) → Asked
   Incidents : Asked
   Info : Asked
   Save : (label : List ℕ) → Asked
@@ -33,6 +35,7 @@ plain (commands.Format again) = Format again
 plain commands.Replay = Replay
 plain (commands.Read reading) = Read (plain_reading reading)
 plain (commands.Evidence wanted) = Evidence (plain_play wanted)
+plain (commands.Page wanted words) = Page (plain_play wanted) (words_of words)
 plain commands.Incidents = Incidents
 plain commands.Info = Info
 plain (commands.Save label) = Save label.now

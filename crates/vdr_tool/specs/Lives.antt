@@ -5,7 +5,7 @@ use Rattle.vdr_config.specs.Configuration.{Configuration}
 use Rattle.vdr_recorder.specs.Chains.{AllLive, LivesOn, Run}
 use Rattle.vdr_vault.specs.Ours.{AreOurs, StayOurs}
 use Rattle.vdr_tool.specs.Commands.{Asked}
-use Rattle.vdr_tool.specs.Commands.Asked.{Review, Check, Format, Replay, Read, Evidence, Incidents, Info, Save, Release, Trial, Import, Packets, Rescue, RescueInfo}
+use Rattle.vdr_tool.specs.Commands.Asked.{Review, Check, Format, Replay, Read, Evidence, Page, Incidents, Info, Save, Release, Trial, Import, Packets, Rescue, RescueInfo}
 
 -- The command does not format the media.
 abbrev pub FormatsNothing : Asked → Type 0
@@ -22,6 +22,7 @@ FormatsNothing (Trial seed count) = ⊥
 FormatsNothing Import = ⊤
 FormatsNothing Packets = ⊤
 FormatsNothing (Evidence asked) = ⊤
+FormatsNothing (Page asked words) = ⊤
 FormatsNothing (Rescue reading) = ⊤
 FormatsNothing (RescueInfo medium) = ⊤
 

@@ -3,7 +3,7 @@ use Rattle.std.specs.Prelude.{◌≡◌, ◌≤◌, ◌⊎◌, ℕ, List, String
 use Rattle.std.specs.declared.alloc.Global.{Global}
 use Rattle.vdr_tool.specs.Checks.{checking}
 use Rattle.vdr_tool.specs.Commands.{Asked}
-use Rattle.vdr_tool.specs.Commands.Asked.{Review, Check, Format, Replay, Read, Evidence, Incidents, Info, Save, Release, Trial, Import, Packets, Rescue, RescueInfo}
+use Rattle.vdr_tool.specs.Commands.Asked.{Review, Check, Format, Replay, Read, Evidence, Page, Incidents, Info, Save, Release, Trial, Import, Packets, Rescue, RescueInfo}
 use Rattle.vdr_command.specs.Endings.{WritesLine}
 use Rattle.vdr_tool.specs.Formats.{formatting}
 use Rattle.vdr_tool.specs.Imports.{importing}
@@ -11,6 +11,7 @@ use Rattle.vdr_tool.specs.Packets.{counting_packets}
 use Rattle.vdr_readout.specs.Evidences.{evidencing}
 use Rattle.vdr_readout.specs.Incidents.{listing}
 use Rattle.vdr_readout.specs.Informs.{informing, informing_alone}
+use Rattle.vdr_readout.specs.Paged.{paging}
 use Rattle.vdr_command.specs.Outside.{OutputSeen, Outside}
 use Rattle.vdr_readout.specs.Readings.{reading_out, rescuing}
 use Rattle.vdr_command.specs.Promises.{Promise}
@@ -30,6 +31,7 @@ page (Format again) = formatting again
 page Replay = replaying
 page (Read reading) = reading_out reading
 page (Evidence asked) = evidencing asked
+page (Page asked words) = paging words asked
 page Incidents = listing
 page Info = informing
 page (Save label) = saving label

@@ -21,7 +21,7 @@ use std::alloc::Global;
 use vdr_command::{Outer, Status, World, report};
 use vdr_outside::{Media, Sink, Source};
 use vdr_readout::{
-    answer_evidence, answer_incidents, answer_info, answer_reading, answer_rescue,
+    answer_evidence, answer_incidents, answer_info, answer_page, answer_reading, answer_rescue,
     answer_rescue_info,
 };
 use vdr_recorder::{Nobody, Watch};
@@ -50,6 +50,7 @@ fn answer<I: Source + Drop, O: Sink + Drop, M: Media + Drop, W: Watch<M>>(
         Command::Replay => answer_replay(alloc, world, watch),
         Command::Read(reading) => answer_reading(alloc, reading, world),
         Command::Evidence(wanted) => answer_evidence(alloc, wanted, world),
+        Command::Page(wanted, words) => answer_page(alloc, wanted, &words, world),
         Command::Incidents => answer_incidents(alloc, world),
         Command::Info => answer_info(alloc, world),
         Command::Save { label } => answer_save(alloc, label, world, watch),
@@ -99,6 +100,8 @@ fn answer<I: Source + Drop, O: Sink + Drop, M: Media + Drop, W: Watch<M>>(
 /// - `evidence MEDIUM CHANNEL FROM TO` reads no input. It writes the records that `play` prints for these words as an evidence file, as
 ///   `vdr_evidence::EvidenceWriter` does: behind the configuration's text, the medium, the incident and the query, and before the SHA-256
 ///   of all.
+/// - `page MEDIUM FROM TO` reads no input. It writes a page of the records that `play MEDIUM all FROM TO` prints: one HTML file that a browser shows,
+///   as `vdr_export::write_page` does.
 /// - `trial SEED COUNT` reads no input. It formats the media with the bench configuration, unless they are formatted already, records the
 ///   first COUNT items of the generated feed from SEED on (`vdr_feed::GeneratedFeed`; SEED is 0 to 2,147,483,647, COUNT 0 to 1,000,000)
 ///   as `replay` does, opens the media again, and prints `taken N recorded N rate N`, `records N`, `capsule N` and `longterm N`: the sums

@@ -34,6 +34,7 @@ pub fn medium_use(words: &[String]) -> Uses
             | Command::Replay
             | Command::Read(_)
             | Command::Evidence(_)
+            | Command::Page(_, _)
             | Command::Incidents
             | Command::Info
             | Command::Save { .. }

@@ -13,6 +13,7 @@ use crate::numbers::number_of;
 use crate::readings::{reading_of, wanted_of};
 use vdr_config::Rate;
 use vdr_entry::Medium;
+use vdr_page::PageWords;
 use vdr_readout::{Reading, Wanted};
 
 /// What the words ask for.
@@ -30,6 +31,8 @@ pub(crate) enum Command<'a> {
     Read(Reading<'a>),
     /// What was recorded is written as an evidence file.
     Evidence(Wanted<'a>),
+    /// What was recorded is written as a page, which is told by these words.
+    Page(Wanted<'a>, PageWords<'a>),
     /// The live saves are listed.
     Incidents,
     /// What both media are is told.
@@ -145,6 +148,23 @@ fn three_words(word: &str, first: &str, second: &str) -> Option<Command<'static>
     Some(Command::Review { rate: Some(rate) })
 }
 
+// A page of what the last three words ask for.
+fn four_words<'a>(word: &str, medium: &'a str, from: &'a str, to: &'a str) -> Option<Command<'a>>
+    ensures found { (command : Asked) → IsOther command → Spells (word.now ∷ medium.now ∷ from.now ∷ to.now ∷ []) command → option_map plain result ≡ Some command }
+    ensures only { IfSome result (λ command. Spells (word.now ∷ medium.now ∷ from.now ∷ to.now ∷ []) (plain command)) }
+{
+    if word != "page" {
+        return None;
+    }
+    let wanted = wanted_of(medium, "all", from, to)?;
+    let words = PageWords {
+        medium: medium.as_bytes(),
+        from: from.as_bytes(),
+        to: to.as_bytes(),
+    };
+    Some(Command::Page(wanted, words))
+}
+
 // An evidence file of what the last four words ask for.
 fn five_words<'a>(
     word: &str,
@@ -163,7 +183,7 @@ fn five_words<'a>(
     Some(Command::Evidence(wanted))
 }
 
-// The command that these words ask for, of those that read nothing out and of evidence.
+// The command that these words ask for, of those that read nothing out, of evidence and of a page.
 fn other_of(words: &[String]) -> Option<Command<'_>>
     ensures found { (command : Asked) → IsOther command → Asks words.now command → option_map plain result ≡ Some command }
     ensures only { IfSome result (λ command. Asks words.now (plain command)) }
@@ -172,6 +192,9 @@ fn other_of(words: &[String]) -> Option<Command<'_>>
         [word] => one_word(word.as_str()),
         [word, text] => two_words(word.as_str(), text.as_str()),
         [word, first, second] => three_words(word.as_str(), first.as_str(), second.as_str()),
+        [word, medium, from, to] => {
+            four_words(word.as_str(), medium.as_str(), from.as_str(), to.as_str())
+        }
         [word, medium, channel, from, to] => five_words(
             word.as_str(),
             medium.as_str(),

@@ -1,0 +1,21 @@
+-- A page: rows of records as a data block, between the two texts of its template.
+pub mod Strings
+pub mod Fields
+pub mod FieldViews
+pub mod Gaps
+pub mod Rows
+pub mod Runs
+pub mod Tellings
+pub mod TellingViews
+pub mod Series
+pub mod Opens
+pub mod Ledgers
+pub mod LoadViews
+pub mod Surveys
+pub mod Surveyed
+pub mod Fronts
+pub mod Template
+pub mod Watched
+pub mod Pages
+pub mod Held
+pub mod Laws

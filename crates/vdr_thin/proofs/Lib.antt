@@ -1,0 +1,12 @@
+pub mod Orders
+pub mod Placing
+pub mod Handing
+pub mod Counting
+pub mod Measures
+pub mod Parts
+pub mod Following
+pub mod Keeping
+pub mod Showing
+pub mod Cutting
+pub mod Extremes
+pub mod Bounding
