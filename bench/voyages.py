@@ -2,7 +2,7 @@
 random voyages as feeds, with what such texts are wrong in: edges of minutes, fields without a value, letters of each kind, stamps that jump, names that
 mean something to a spreadsheet, messages in parts. It knows the formatters of these voyages alone."""
 import functools, operator, re, struct
-from datetime import datetime, timezone
+from datetime import datetime
 from decimal import ROUND_HALF_UP, Decimal
 
 HEADER = "utc,place,transmission_group,source,sentence,item,name,value,unit,valid,text\n"
@@ -29,31 +29,38 @@ class Line:
 
 
 class Record:
-    """A record as `play` prints it, with the good lines of a datagram; in their order stand None for those that are not good."""
+    """A record as `play` prints it: its payload, what `play` says below it, the bytes of its lines, and these where they are good, else None."""
     def __init__(self, head, below):
         words = head.split(" ", 6)
-        self.place, self.group, self.utc, self.kind = int(words[0]), words[1], words[3], words[4]
-        self.lines, self.counts = [], []
+        self.place, self.group, self.utc, self.kind, self.said = int(words[0]), words[1], words[3], words[4], below
+        self.payload, self.raws, self.lines, self.counts = b"", [], [], []
         if self.kind == "gap":
             self.counts = [int(it) for it in " ".join(words[5:]).split(" ")]
-        if self.kind == "data" and below and below[0].split(" ", 1)[0] in ("good", "tag", "sentence"):
-            payload = re.sub(rb"<([0-9a-f]{2})>", lambda m: bytes([int(m[1], 16)]), words[6].encode())
-            raws = [it for it in re.split(rb"(?<=\r\n)", payload[6:]) if it]
-            assert len(raws) == len(below), head
-            self.lines = [Line(self, raw, word.split(" ", 4)) if word.startswith("good ") else None for raw, word in zip(raws, below)]
+        if self.kind == "data":
+            self.payload = re.sub(rb"<([0-9a-f]{2})>", lambda m: bytes([int(m[1], 16)]), words[6].encode())
+        if below and below[0].split(" ", 1)[0] in ("good", "tag", "sentence"):
+            self.raws = [it for it in re.split(rb"(?<=\r\n)", self.payload[6:]) if it]
+            assert len(self.raws) == len(below), head
+            self.lines = [Line(self, raw, word.split(" ", 4)) if word.startswith("good ") else None for raw, word in zip(self.raws, below)]
 
 
-def records(play):
-    """The records of a text of `play`."""
-    found, head, below = [], None, []
-    for line in play.split("\n")[:-1]:
+def each(lines):
+    """The records of the lines of a text of `play`, one after another."""
+    head, below = None, []
+    for line in lines:
         if line.startswith("  "):
             below.append(line[2:])
         elif re.match(r"\d+ \S+ \S+ \S+Z (data|gap|start|stop)\b", line):
             if head:
-                found.append(Record(head, below))
+                yield Record(head, below)
             head, below = line, []
-    return found + [Record(head, below)] if head else found
+    if head:
+        yield Record(head, below)
+
+
+def records(play):
+    """The records of a text of `play`."""
+    return list(each(play.split("\n")[:-1]))
 
 
 # ---- values
@@ -187,6 +194,7 @@ class Ships:
         bits = "".join(f"{(ord(it) - 48 if ord(it) <= 88 else ord(it) - 56) & 63:06b}" for it in f(5))
         back = self.parts.setdefault(key, [])
         back.append((total, part, bits, fill))
+        del back[:-9]
         if part < 1 or part != total or len(back) < total:
             return None
         last = back[-total:]
@@ -195,10 +203,11 @@ class Ships:
         whole = "".join(it[2] for it in last)
         return whole[:len(whole) - fill] if fill else whole
 
-    def rows(self, line):
+    def report(self, line):
+        """What the message that this line ends reports: its MMSI, its position as it is sent, None where it has no field for it, and its name."""
         bits = self.message(line)
-        if bits is None or len(bits) < 6:
-            return []
+        if bits is None or len(bits) < 38:
+            return 0, None, None
         kind, size = int(bits[:6], 2), len(bits)
 
         def unsigned(first, last):
@@ -220,7 +229,14 @@ class Ships:
             name = 143 if kind == 19 else None
         elif kind == 24 and size >= 160 and unsigned(38, 39) == 0:
             name = 40
-        rows, item = [], f"{unsigned(8, 37):09d}" if size > 37 else ""
+        if name is not None:
+            letters = [unsigned(name + 6 * k, name + 6 * k + 5) for k in range(20)]
+            name = "".join(chr(it + 64 if it < 32 else it) for it in letters).split("@")[0].rstrip(" ")
+        return unsigned(8, 37), place, name
+
+    def rows(self, line):
+        mmsi, place, name = self.report(line)
+        rows, item = [], f"{mmsi:09d}"
         if place:
             latitude, longitude, speed, course, heading = place
             for column, value, none in ("ais_latitude", latitude, 54_600_000), ("ais_longitude", longitude, 108_600_000):
@@ -229,11 +245,8 @@ class Ships:
             for column, value, none, tenth, unit in ("ais_speed", speed, 1023, True, "kn"), ("ais_course", course, 3600, True, "deg"), ("ais_heading", heading, 511, False, "deg"):
                 if value is not None and value != none:
                     rows.append((item, column, number(f"{value // 10}.{value % 10}") if tenth else str(value), unit, None, ""))
-        if name is not None:
-            letters = [unsigned(name + 6 * k, name + 6 * k + 5) for k in range(20)]
-            text = "".join(chr(it + 64 if it < 32 else it) for it in letters).split("@")[0].rstrip(" ")
-            if text:
-                rows.append((item, "ais_name", "", "", None, text))
+        if name:
+            rows.append((item, "ais_name", "", "", None, name))
         return rows
 
 
@@ -269,7 +282,7 @@ def values(recorded):
 
 def milliseconds(utc):
     """A stamp as milliseconds."""
-    return round(datetime.strptime(utc, "%Y-%m-%dT%H:%M:%S.%fZ").replace(tzinfo=timezone.utc).timestamp() * 1000)
+    return round(datetime.fromisoformat(utc.replace("Z", "+00:00")).timestamp() * 1000)
 
 
 def segments(recorded, source):
