@@ -18,8 +18,9 @@ fn send<R: Net>(rt: &R, number: u16, bytes: &[u8]) -> Result<()> {
     Ok(())
 }
 
-// Sends a datagram of so many bytes, each the first of a text.
-fn send_run<R: AllocGlobal + Net>(rt: &R, word: &str, rest: &str) -> Result<()> {
+// Sends a datagram to a port: so many bytes, each the first of a text.
+fn send_run<R: AllocGlobal + Net>(rt: &R, rest: &str) -> Result<()> {
+    let (word, rest) = first_word(rest)?;
     let (count, text) = first_word(rest)?;
     let bytes = run_of(rt.alloc(), number(count)?, text)?;
     send(rt, port_number(word)?, bytes.as_slice())
@@ -56,22 +57,25 @@ fn port_fails<R: Net + Clock + Eprint>(rt: &R, word: &str) -> Result<()> {
     take_of(&mut UdpPort::with_number(rt, number, now), "failed")
 }
 
-/// Follows a line of a script that is about this host. False where there is no such line.
+// That nobody listens there.
+fn is_closed<R: Net<Listener = TcpListener, Stream = TcpStream>>(rt: &R, at: &str) -> Result<()> {
+    ensure!(TcpStream::connect(rt, at).is_err(), "it listens");
+    Ok(())
+}
+
+/// Follows a line of a script that is about this host. None where there is no such line.
 pub(crate) fn follow<
     R: AllocGlobal + Net<Listener = TcpListener, Stream = TcpStream> + Clock + Eprint,
->(rt: &R, link: u16, verb: &str, rest: &str) -> Result<bool> {
-    match verb {
-        "group" => is_group(rt, rest)?,
-        "link-beside" => link_fails(rt, link)?,
-        "port-beside" => port_fails(rt, rest)?,
-        "closed" => ensure!(TcpStream::connect(rt, rest).is_err(), "it listens"),
-        "send" => {
-            let (word, rest) = first_word(rest)?;
-            send_run(rt, word, rest)?
-        }
-        _ => return Ok(false),
-    }
-    Ok(true)
+>(rt: &R, link: u16, verb: &str, rest: &str) -> Option<Result<()>> {
+    let done = match verb {
+        "group" => is_group(rt, rest),
+        "link-beside" => link_fails(rt, link),
+        "port-beside" => port_fails(rt, rest),
+        "closed" => is_closed(rt, rest),
+        "send" => send_run(rt, rest),
+        _ => return None,
+    };
+    Some(done)
 }
 
 /// A further peer of a link.
@@ -84,23 +88,19 @@ pub(crate) fn connect<R: Net<Listener = TcpListener, Stream = TcpStream>>(
     Ok(())
 }
 
-/// Follows a line of a script that is about time. False where there is no such line.
+/// Follows a line of a script that is about time: `begin`, or `within` so many milliseconds since then.
 pub(crate) fn follow_time<R: Clock>(
     rt: &R,
     began: &mut Duration,
     verb: &str,
     rest: &str,
-) -> Result<bool> {
-    match verb {
-        "begin" => *began = rt.monotonic()?,
-        "within" => {
-            let taken = rt.monotonic()?.saturating_sub(*began);
-            ensure!(
-                taken.as_millis() < u128::from(number(rest)?),
-                "it took longer"
-            );
-        }
-        _ => return Ok(false),
+) -> Result<()> {
+    let now = rt.monotonic()?;
+    if verb == "begin" {
+        *began = now;
+        return Ok(());
     }
-    Ok(true)
+    let taken = now.saturating_sub(*began).as_millis();
+    ensure!(taken < u128::from(number(rest)?), "it took longer");
+    Ok(())
 }

@@ -48,6 +48,19 @@ fn make_socket<R: Files<File = File> + Net>(rt: &R, path: &str) -> Result<()> {
     Ok(())
 }
 
+// Follows a line that is about replies and files.
+fn follow_beside<R: AllocGlobal + Files<File = File> + Net>(
+    rt: &R,
+    verb: &str,
+    rest: &str,
+) -> Result<()> {
+    match verb {
+        "client" => client::tells(rt.alloc(), rest),
+        "socket" => make_socket(rt, rest),
+        _ => paths::follow(rt, verb, rest).context("no such line")?,
+    }
+}
+
 // Follows a line of a script.
 fn follow<
     'a,
@@ -66,16 +79,19 @@ fn follow<
     line: &str,
 ) -> Result<()> {
     let (verb, rest) = line.split_once(' ').unwrap_or((line, ""));
-    match verb {
-        "client" => return client::tells(rt.alloc(), rest),
-        "socket" => return make_socket(rt, rest),
-        _ => {}
+    if let Some(done) = shelf.follow(rt.alloc(), alarm, verb, rest) {
+        return done;
     }
-    let is_known = shelf::follow(rt, alarm, shelf, verb, rest)?
-        || wires.follow(rt, verb, rest)?
-        || paths::follow(rt, verb, rest)?;
-    ensure!(is_known, "no such line");
-    Ok(())
+    if let Some(done) = wires.follow_own(verb, rest) {
+        return done;
+    }
+    if let Some(done) = shelf::follow(rt, shelf, verb, rest) {
+        return done;
+    }
+    if let Some(done) = wires.follow(rt, verb, rest) {
+        return done;
+    }
+    follow_beside(rt, verb, rest)
 }
 
 // Tells a line that is not met.

@@ -67,50 +67,51 @@ fn fill<M: Media>(alloc: Global, media: &mut M, m: u8, at: u64, count: u64) -> R
     Ok(())
 }
 
-// Follows a line about bytes of a medium. False where there is no such line.
+// Writes these bytes.
+fn put<M: Media>(media: &mut M, m: u8, at: u64, bytes: &[u8]) -> Result<()> {
+    ensure!(writes(media, m, at, bytes), "it failed");
+    Ok(())
+}
+
+// Follows a line about bytes of a medium: `has`, `put` or `fill`.
 fn follow_bytes<M: Media>(
     alloc: Global,
     media: &mut M,
     m: u8,
     verb: &str,
     rest: &str,
-) -> Result<bool> {
+) -> Result<()> {
     let (at, text) = first_word(rest)?;
     let at = number(at)?;
     match verb {
-        "has" => has(alloc, media, m, at, text.as_bytes())?,
-        "put" => ensure!(writes(media, m, at, text.as_bytes()), "it failed"),
-        "fill" => fill(alloc, media, m, at, number(text)?)?,
-        _ => return Ok(false),
+        "has" => has(alloc, media, m, at, text.as_bytes()),
+        "put" => put(media, m, at, text.as_bytes()),
+        _ => fill(alloc, media, m, at, number(text)?),
     }
-    Ok(true)
 }
 
-/// Follows a line of a script that is about a medium. False where there is no such line.
+// That a call of medium m succeeds or fails, as the word says.
+fn answers<M: Media>(media: &mut M, m: u8, may_write: bool, call: &str, word: &str) -> Result<()> {
+    let is_well = is_well(word, may_write);
+    ensure!(succeeds(media, m, call) == is_well, "another answer");
+    Ok(())
+}
+
+/// Follows a line of a script that is about a medium: `sync`, `read`, `write`, `size`, `has`, `put` or `fill`.
 pub(crate) fn follow<M: Media>(
     alloc: Global,
     media: &mut M,
     may_write: bool,
     verb: &str,
     rest: &str,
-) -> Result<bool> {
-    if !matches!(
-        verb,
-        "sync" | "read" | "write" | "size" | "has" | "put" | "fill"
-    ) {
-        return Ok(false);
-    }
+) -> Result<()> {
     let (m, rest) = first_word(rest)?;
     let m = small_number(m)?;
     match verb {
-        "sync" | "read" | "write" => ensure!(
-            succeeds(media, m, verb) == is_well(rest, may_write),
-            "another answer"
-        ),
-        "size" => is_long(media, m, rest)?,
-        _ => return follow_bytes(alloc, media, m, verb, rest),
+        "sync" | "read" | "write" => answers(media, m, may_write, verb, rest),
+        "size" => is_long(media, m, rest),
+        _ => follow_bytes(alloc, media, m, verb, rest),
     }
-    Ok(true)
 }
 
 /// That what stands in the way of the media begins with these words, or that nothing does where they are none.

@@ -46,40 +46,73 @@ pub(crate) fn lock_up<R: Files<File = File>>(rt: &R, path: &str) -> io::Result<b
     Ok(OpenOptions::new().write(true).open(rt, path).is_ok())
 }
 
-// Follows a line with two words behind its verb. False where there is no such line.
+// A file with this text.
+fn file<R: AllocGlobal + Files<File = File>>(rt: &R, path: &str, text: &str) -> Result<()> {
+    let text = unescaped(rt.alloc(), text)?;
+    fs::write(rt, path, text.as_bytes())?;
+    Ok(())
+}
+
+// That nothing is there.
+fn is_free<R: Files<File = File>>(rt: &R, path: &str) -> Result<()> {
+    ensure!(fs::metadata(rt, path).is_err(), "it is there");
+    Ok(())
+}
+
+// A second name of a file: `hard`, or `symbolic`.
+fn link<R: Files<File = File>>(rt: &R, verb: &str, path: &str, other: &str) -> io::Result<()> {
+    if verb == "hard" {
+        fs::hard_link(rt, path, other)
+    } else {
+        symlink(rt, path, other)
+    }
+}
+
+// Makes a folder without anything in it, or removes a file.
+fn change<R: Files<File = File>>(rt: &R, verb: &str, path: &str) -> io::Result<()> {
+    if verb == "empty" {
+        fs::create_dir_all(rt, path)
+    } else {
+        fs::remove_file(rt, path)
+    }
+}
+
+// The same, of a call that may fail.
+fn done(called: io::Result<()>) -> Result<()> {
+    called?;
+    Ok(())
+}
+
+// Follows a line with two words behind its verb. None where there is no such line.
 fn follow_pair<R: AllocGlobal + Files<File = File>>(
     rt: &R,
     verb: &str,
     path: &str,
     rest: &str,
-) -> Result<bool> {
+) -> Option<Result<()>> {
     match verb {
-        "file" => fs::write(rt, path, unescaped(rt.alloc(), rest)?.as_bytes())?,
-        "zeros" => zeros(rt, path, rest)?,
-        "hard" => fs::hard_link(rt, path, rest)?,
-        "symbolic" => symlink(rt, path, rest)?,
-        "begins" => begins(rt, path, rest)?,
-        "sevens" => sevens(rt, path, rest)?,
-        _ => return Ok(false),
+        "file" => Some(file(rt, path, rest)),
+        "zeros" => Some(zeros(rt, path, rest)),
+        "hard" | "symbolic" => Some(done(link(rt, verb, path, rest))),
+        "begins" => Some(begins(rt, path, rest)),
+        "sevens" => Some(sevens(rt, path, rest)),
+        _ => None,
     }
-    Ok(true)
 }
 
-/// Follows a line of a script that is about files. False where there is no such line.
+/// Follows a line of a script that is about files. None where there is no such line.
 pub(crate) fn follow<R: AllocGlobal + Files<File = File>>(
     rt: &R,
     verb: &str,
     rest: &str,
-) -> Result<bool> {
+) -> Option<Result<()>> {
     match verb {
-        "folder" => folder(rt, rest)?,
-        "empty" => fs::create_dir_all(rt, rest)?,
-        "remove" => fs::remove_file(rt, rest)?,
-        "free" => ensure!(fs::metadata(rt, rest).is_err(), "it is there"),
+        "folder" => Some(done(folder(rt, rest))),
+        "empty" | "remove" => Some(done(change(rt, verb, rest))),
+        "free" => Some(is_free(rt, rest)),
         _ => {
             let (path, rest) = rest.split_once(' ').unwrap_or((rest, ""));
-            return follow_pair(rt, verb, path, rest);
+            follow_pair(rt, verb, path, rest)
         }
     }
-    Ok(true)
 }

@@ -62,22 +62,18 @@ fn follow_one(alloc: Global, peer: &mut TcpStream, verb: &str, rest: &str) -> Re
     }
 }
 
-/// Follows a line of a script that is about peers. False where there is no such line.
+/// Follows a line of a script that is about peers.
 pub(crate) fn follow(
     alloc: Global,
     peers: &mut Vec<TcpStream>,
     verb: &str,
     rest: &str,
-) -> Result<bool> {
+) -> Result<()> {
     let (word, rest) = rest.split_once(' ').unwrap_or((rest, ""));
-    match verb {
-        "hang-up" => hang_up(peers, word)?,
-        "say" | "say-x" | "gets" | "gone" | "stays" => {
-            let place = number(word)? as usize;
-            let peer = peers.get_mut(place).context("no such peer")?;
-            follow_one(alloc, peer, verb, rest)?
-        }
-        _ => return Ok(false),
+    if verb == "hang-up" {
+        return hang_up(peers, word);
     }
-    Ok(true)
+    let place = number(word)? as usize;
+    let peer = peers.get_mut(place).context("no such peer")?;
+    follow_one(alloc, peer, verb, rest)
 }

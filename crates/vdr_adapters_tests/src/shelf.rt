@@ -40,16 +40,14 @@ impl<'a, F: MediumFile + Drop> Shelf<'a, F> {
         self.put(media);
     }
 
-    // Follows a line that needs no files. False where there is no such line.
-    fn follow_open(&mut self, alarm: &'a Alarm, verb: &str) -> bool {
+    // Follows a line about which media are open: `shut`, `close`, `keep` or `let-go`.
+    fn change(&mut self, alarm: &'a Alarm, verb: &str) {
         match verb {
             "shut" => self.shut(alarm),
             "close" => self.put(FileMedia::unused()),
             "keep" => self.kept = mem::replace(&mut self.media, FileMedia::unused()),
-            "let-go" => self.kept = FileMedia::unused(),
-            _ => return false,
+            _ => self.kept = FileMedia::unused(),
         }
-        true
     }
 
     // That this stands in the way of the media, or nothing does where a file that is locked up may be written.
@@ -61,14 +59,25 @@ impl<'a, F: MediumFile + Drop> Shelf<'a, F> {
         }
     }
 
-    // Follows a line about the media that are open. False where there is no such line.
-    fn follow_media(&mut self, alloc: Global, verb: &str, rest: &str) -> Result<bool> {
+    /// Follows a line about the media that needs no files. None where there is no such line.
+    pub(crate) fn follow(
+        &mut self,
+        alloc: Global,
+        alarm: &'a Alarm,
+        verb: &str,
+        rest: &str,
+    ) -> Option<Result<()>> {
         match verb {
-            "tells" | "tells-locked" => {
-                self.tells(alloc, verb, rest)?;
-                Ok(true)
+            "shut" | "close" | "keep" | "let-go" => {
+                self.change(alarm, verb);
+                Some(Ok(()))
             }
-            _ => media::follow(alloc, &mut self.media, self.may_write, verb, rest),
+            "tells" | "tells-locked" => Some(self.tells(alloc, verb, rest)),
+            "sync" | "read" | "write" | "size" | "has" | "put" | "fill" => {
+                let may_write = self.may_write;
+                Some(media::follow(alloc, &mut self.media, may_write, verb, rest))
+            }
+            _ => None,
         }
     }
 }
@@ -88,35 +97,50 @@ fn open_device<'a, R: AllocGlobal + Files<File = File> + Eprint>(
     })?)
 }
 
-// Follows a line that opens files. False where there is no such line.
-fn follow_files<'a, R: AllocGlobal + Files<File = File> + Eprint>(
+// Opens the media of a folder.
+fn open<'a, R: AllocGlobal + Files<File = File> + Eprint>(
     rt: &'a R,
     shelf: &mut Shelf<'a, SystemFile<&'a R>>,
-    verb: &str,
-    rest: &str,
-) -> Result<bool> {
-    match verb {
-        "open" => shelf.put(FileMedia::open(rt, rest)?),
-        "device" => shelf.put(open_device(rt, rest)?),
-        "lock-up" => shelf.may_write = lock_up(rt, rest)?,
-        "full" => fail_when_full(rt, rest)?,
-        "mark" => leave_mark(rt, rest)?,
-        _ => return Ok(false),
-    }
-    Ok(true)
+    folder: &str,
+) -> Result<()> {
+    shelf.put(FileMedia::open(rt, folder)?);
+    Ok(())
 }
 
-/// Follows a line of a script that is about media. False where there is no such line.
+// Opens media in which a medium is a device.
+fn open_with<'a, R: AllocGlobal + Files<File = File> + Eprint>(
+    rt: &'a R,
+    shelf: &mut Shelf<'a, SystemFile<&'a R>>,
+    rest: &str,
+) -> Result<()> {
+    shelf.put(open_device(rt, rest)?);
+    Ok(())
+}
+
+// Makes a file read-only.
+fn lock<'a, R: AllocGlobal + Files<File = File> + Eprint>(
+    rt: &'a R,
+    shelf: &mut Shelf<'a, SystemFile<&'a R>>,
+    path: &str,
+) -> Result<()> {
+    shelf.may_write = lock_up(rt, path)?;
+    Ok(())
+}
+
+/// Follows a line of a script that opens files. None where there is no such line.
 pub(crate) fn follow<'a, R: AllocGlobal + Files<File = File> + Eprint>(
     rt: &'a R,
-    alarm: &'a Alarm,
     shelf: &mut Shelf<'a, SystemFile<&'a R>>,
     verb: &str,
     rest: &str,
-) -> Result<bool> {
-    Ok(
-        shelf.follow_open(alarm, verb)
-            || follow_files(rt, shelf, verb, rest)?
-            || shelf.follow_media(rt.alloc(), verb, rest)?,
-    )
+) -> Option<Result<()>> {
+    let done = match verb {
+        "open" => open(rt, shelf, rest),
+        "device" => open_with(rt, shelf, rest),
+        "lock-up" => lock(rt, shelf, rest),
+        "full" => fail_when_full(rt, rest),
+        "mark" => leave_mark(rt, rest),
+        _ => return None,
+    };
+    Some(done)
 }

@@ -82,23 +82,27 @@ fn reply_pieces<L: Link>(alloc: Global, link: &mut L, count: &str) -> Result<()>
     Ok(())
 }
 
-/// Follows a line of a script that is about a link. False where there is no such line.
+// That a link stays quiet for so many looks.
+fn stays_quiet<L: Link>(link: &mut L, looks: &str) -> Result<()> {
+    ensure!(is_quiet(link, number(looks)?), "it isn't quiet");
+    Ok(())
+}
+
+/// Follows a line of a script that is about a link.
 pub(crate) fn follow_link<L: Link>(
     alloc: Global,
     link: &mut L,
     verb: &str,
     rest: &str,
-) -> Result<bool> {
+) -> Result<()> {
     match verb {
-        "hear" => hear(link, rest.as_bytes())?,
-        "hear-x" => hear_x(alloc, link, rest)?,
-        "link-is" => hear_of(link, rest)?,
-        "quiet" => ensure!(is_quiet(link, number(rest)?), "it isn't quiet"),
-        "reply" => reply(alloc, link, rest)?,
-        "reply-pieces" => reply_pieces(alloc, link, rest)?,
-        _ => return Ok(false),
+        "hear" => hear(link, rest.as_bytes()),
+        "hear-x" => hear_x(alloc, link, rest),
+        "link-is" => hear_of(link, rest),
+        "quiet" => stays_quiet(link, rest),
+        "reply" => reply(alloc, link, rest),
+        _ => reply_pieces(alloc, link, rest),
     }
-    Ok(true)
 }
 
 // The next answer of a port that isn't quiet.

@@ -36,37 +36,30 @@ impl<L: Link + Drop, P: Port + Drop> Wires<L, P> {
         }
     }
 
-    // Follows a line about the port. False where there is no such line.
-    fn follow_port(&mut self, verb: &str, rest: &str) -> Result<bool> {
-        match verb {
-            "take" => take(&mut self.port, &mut self.last, rest)?,
-            "port-is" => take_of(&mut self.port, rest)?,
-            _ => return Ok(false),
-        }
-        Ok(true)
+    /// Follows a line about the port, the link and its peers that needs no system. None where there is no such line.
+    pub(crate) fn follow_own(&mut self, verb: &str, rest: &str) -> Option<Result<()>> {
+        let done = match verb {
+            "take" => take(&mut self.port, &mut self.last, rest),
+            "port-is" => take_of(&mut self.port, rest),
+            "hear" | "hear-x" | "link-is" | "quiet" | "reply" | "reply-pieces" => {
+                follow_link(self.alloc, &mut self.link, verb, rest)
+            }
+            "hang-up" | "say" | "say-x" | "gets" | "gone" | "stays" => {
+                peers::follow(self.alloc, &mut self.peers, verb, rest)
+            }
+            _ => return None,
+        };
+        Some(done)
     }
 
-    // Follows a line that needs no system. False where there is no such line.
-    fn follow_own(&mut self, verb: &str, rest: &str) -> Result<bool> {
-        Ok(
-            follow_link(self.alloc, &mut self.link, verb, rest)?
-                || self.follow_port(verb, rest)?
-                || peers::follow(self.alloc, &mut self.peers, verb, rest)?,
-        )
-    }
-
-    /// Follows a line of a script that is about ports, links, peers and time. False where there is no such line.
+    /// Follows a line of a script that is about the host and about time. None where there is no such line.
     pub(crate) fn follow<
         R: AllocGlobal + Net<Listener = TcpListener, Stream = TcpStream> + Clock + Eprint,
-    >(&mut self, rt: &R, verb: &str, rest: &str) -> Result<bool> {
-        if verb == "connect" {
-            connect(rt, self.number, &mut self.peers)?;
-            return Ok(true);
+    >(&mut self, rt: &R, verb: &str, rest: &str) -> Option<Result<()>> {
+        match verb {
+            "connect" => Some(connect(rt, self.number, &mut self.peers)),
+            "begin" | "within" => Some(hosts::follow_time(rt, &mut self.began, verb, rest)),
+            _ => hosts::follow(rt, self.number, verb, rest),
         }
-        Ok(
-            self.follow_own(verb, rest)?
-                || hosts::follow(rt, self.number, verb, rest)?
-                || hosts::follow_time(rt, &mut self.began, verb, rest)?,
-        )
     }
 }

@@ -2,7 +2,7 @@
 use crate::asking::Ran;
 use crate::paths;
 use crate::words::{first_word, unescaped};
-use anyhow::{Context, Result, ensure};
+use anyhow::{Context, Result};
 use std::alloc::Global;
 use std::{fs, io};
 
@@ -104,6 +104,11 @@ impl Bench {
         Ok(())
     }
 
+    fn expect_status(&mut self, word: &str) -> Result<()> {
+        self.code = Some(word.parse::<u8>().context("no status")?);
+        Ok(())
+    }
+
     // Expects the bytes of a file.
     fn expect_file(&mut self, rt: &HostRuntime, path: &str) -> Result<()> {
         let bytes = fs::read(rt, path)?;
@@ -118,14 +123,8 @@ impl Bench {
             "=" => self.expect_bytes(rest),
             "is" => self.expect_file(rt, rest),
             "!" => self.expect_told(rest),
-            "status" => {
-                self.code = Some(rest.parse::<u8>().context("no status")?);
-                Ok(())
-            }
-            _ => {
-                ensure!(paths::follow(rt, verb, rest)?, "no such line");
-                Ok(())
-            }
+            "status" => self.expect_status(rest),
+            _ => paths::follow(rt, verb, rest),
         }
     }
 }

@@ -5,7 +5,7 @@ use crate::ran::Ran;
 use crate::running::{MemoryWorld, answered, contents_of, ran_in, words_of, world_of};
 use crate::setting::Setting;
 use crate::texts::Texts;
-use anyhow::{Result, ensure};
+use anyhow::{Result, bail, ensure};
 use std::alloc::Global;
 use std::mem;
 use std::sync::Wait;
@@ -125,25 +125,42 @@ impl Bench {
         Ok(())
     }
 
-    // Follows a line that none of the parts follows. False where there is no such line.
+    // Takes what is left of the output as a text of this name.
+    fn take(&mut self, name: &str) -> Result<()> {
+        let left = self.ran.printed.left().to_vec(self.alloc)?;
+        self.texts.begin(name, left)
+    }
+
+    // Follows a line that needs no host. None where there is no such line.
+    fn follow_alone(&mut self, verb: &str, rest: &str) -> Option<Result<()>> {
+        if let Some(done) = self.ran.follow(verb, rest) {
+            return Some(done);
+        }
+        if let Some(done) = self.texts.follow(verb, rest) {
+            return Some(done);
+        }
+        if let Some(done) = self.setting.follow(verb, rest) {
+            return Some(done);
+        }
+        self.shelf.follow(verb, rest)
+    }
+
+    // Follows a line that none of the parts follows.
     fn follow_beside<R: Threads + Wait + Clock + Sync>(
         &mut self,
         rt: &R,
         verb: &str,
         rest: &str,
-    ) -> Result<bool> {
+    ) -> Result<()> {
         match verb {
-            "$" => self.run(rt, rest)?,
-            "is" => self.is(rest)?,
-            "front" => self.is_front(rest)?,
-            "take" => self
-                .texts
-                .begin(rest, self.ran.printed.left().to_vec(self.alloc)?)?,
-            "meet" => self.run_meeting(rt, rest)?,
-            "gate" => self.run_gated(rt, rest)?,
-            _ => return Ok(false),
+            "$" => self.run(rt, rest),
+            "is" => self.is(rest),
+            "front" => self.is_front(rest),
+            "take" => self.take(rest),
+            "meet" => self.run_meeting(rt, rest),
+            "gate" => self.run_gated(rt, rest),
+            _ => bail!("no such line"),
         }
-        Ok(true)
     }
 
     /// Follows a line of a script.
@@ -153,13 +170,10 @@ impl Bench {
         line: &str,
     ) -> Result<()> {
         let (verb, rest) = line.split_once(' ').unwrap_or((line, ""));
-        let is_known = self.ran.follow(verb, rest)?
-            || self.texts.follow(verb, rest)?
-            || self.setting.follow(verb, rest)?
-            || self.shelf.follow(verb, rest)?
-            || self.follow_beside(rt, verb, rest)?;
-        ensure!(is_known, "no such line");
-        Ok(())
+        match self.follow_alone(verb, rest) {
+            Some(done) => done,
+            None => self.follow_beside(rt, verb, rest),
+        }
     }
 
     /// Tells what the last command printed that no line has gone over.

@@ -108,13 +108,9 @@ impl Shelf {
     // What a stop of the media that are held leaves.
     fn image(&mut self, rest: &str) -> Result<()> {
         let held = self.held.as_ref().context("no command was stopped")?;
-        self.contents = match rest.split_once(' ') {
-            Some((last, rest)) => {
-                let last = [torn_of(self.alloc, last)?];
-                held.image(&last, &torn_of(self.alloc, rest)?)?
-            }
-            None => held.image(&[], &torn_of(self.alloc, rest)?)?,
-        };
+        let (last, rest) = rest.rsplit_once(' ').unwrap_or((rest, rest));
+        let (last, rest) = ([torn_of(self.alloc, last)?], torn_of(self.alloc, rest)?);
+        self.contents = held.image(&last, &rest)?;
         Ok(())
     }
 
@@ -179,23 +175,43 @@ impl Shelf {
         Ok(())
     }
 
-    /// Follows a line on media. False where it is none.
-    pub(crate) fn follow(&mut self, verb: &str, rest: &str) -> Result<bool> {
-        match verb {
-            "media" => self.make(rest)?,
-            "keep" => self.keep(rest)?,
-            "back" => self.back(rest)?,
-            "same" => ensure!(self.contents.as_slice() == self.get(rest)?, "other media"),
-            "image" => self.image(rest)?,
-            "poke" => self.poke(rest)?,
-            "shorten" => self.shorten(rest)?,
-            "peek" => self.peek(rest)?,
-            "holds" => ensure!(self.holds(rest)?, "the medium lacks it"),
-            "lacks" => ensure!(!self.holds(rest)?, "the medium holds it"),
-            "call" => self.call(rest, true)?,
-            "failed" => self.call(rest, false)?,
-            _ => return Ok(false),
-        }
-        Ok(true)
+    // That the media are those that were kept under this name.
+    fn is_same(&self, name: &str) -> Result<()> {
+        ensure!(self.contents.as_slice() == self.get(name)?, "other media");
+        Ok(())
+    }
+
+    // That these bytes stand on a medium, or that they do not.
+    fn is_there(&self, rest: &str, there: bool) -> Result<()> {
+        ensure!(self.holds(rest)? == there, "it is otherwise");
+        Ok(())
+    }
+
+    // Follows a line on what stands on the media and was done.
+    fn tell(&self, verb: &str, rest: &str) -> Option<Result<()>> {
+        let done = match verb {
+            "same" => self.is_same(rest),
+            "peek" => self.peek(rest),
+            "holds" => self.is_there(rest, true),
+            "lacks" => self.is_there(rest, false),
+            "call" => self.call(rest, true),
+            "failed" => self.call(rest, false),
+            _ => return None,
+        };
+        Some(done)
+    }
+
+    /// Follows a line on media. None where it is none.
+    pub(crate) fn follow(&mut self, verb: &str, rest: &str) -> Option<Result<()>> {
+        let done = match verb {
+            "media" => self.make(rest),
+            "keep" => self.keep(rest),
+            "back" => self.back(rest),
+            "image" => self.image(rest),
+            "poke" => self.poke(rest),
+            "shorten" => self.shorten(rest),
+            _ => return self.tell(verb, rest),
+        };
+        Some(done)
     }
 }

@@ -34,12 +34,18 @@ impl Output {
         self.pass(b"\n")
     }
 
+    // Goes over the next line, whatever it is.
+    fn skip_line(&mut self) -> Result<()> {
+        let end = self.left().iter().position(|byte| *byte == b'\n');
+        let end = end.context("too few lines are printed")?;
+        self.passed = self.passed.saturating_add(end).saturating_add(1);
+        Ok(())
+    }
+
     // Goes over so many lines.
-    fn skip(&mut self, count: u64) -> Result<()> {
-        for _ in 0..count {
-            let end = self.left().iter().position(|byte| *byte == b'\n');
-            let end = end.context("too few lines are printed")?;
-            self.passed = self.passed.saturating_add(end).saturating_add(1);
+    fn skip(&mut self, count: &str) -> Result<()> {
+        for _ in 0..number(count)? {
+            self.skip_line()?;
         }
         Ok(())
     }
@@ -64,6 +70,18 @@ impl Output {
     pub(crate) fn pass_all(&mut self) {
         self.passed = self.bytes.len();
     }
+
+    // That nothing is left.
+    fn is_passed(&self) -> Result<()> {
+        ensure!(self.left().is_empty(), "more is replied");
+        Ok(())
+    }
+}
+
+// That a count is this number.
+fn is_count(count: u64, word: &str) -> Result<()> {
+    ensure!(count == number(word)?, "another number");
+    Ok(())
 }
 
 /// A command that was run.
@@ -180,29 +198,51 @@ impl Ran {
         Ok(())
     }
 
-    /// Follows a line on what a command printed and did. False where it is none.
-    pub(crate) fn follow(&mut self, verb: &str, rest: &str) -> Result<bool> {
-        match verb {
-            ">" => self.printed.pass_line(rest)?,
-            "=" => self.pass_bytes(rest)?,
-            "ends" => self.printed.end(rest)?,
-            "skip" => self.printed.skip(number(rest)?)?,
-            "rest" => self.printed.pass_all(),
-            "count" => self.count(rest)?,
-            "lines" => self.lines(rest)?,
-            "records" => self.records(rest)?,
-            "writes" => ensure!(self.writes == number(rest)?, "another number of writes"),
-            "status" => self.expected = small_number(rest)?,
-            "<" => self.replied.pass_line(rest)?,
-            "replied" => ensure!(self.replied.left().is_empty(), "more is replied"),
-            "asked" => ensure!(self.asked == number(rest)?, "another number of calls"),
-            "changes" => ensure!(
-                self.made.changes() == number(rest)?,
-                "another number of calls"
-            ),
-            "read" => self.most_read(rest)?,
-            _ => return Ok(false),
+    // Expects this status.
+    fn expect(&mut self, rest: &str) -> Result<()> {
+        self.expected = small_number(rest)?;
+        Ok(())
+    }
+
+    // Follows a line that goes over what is printed or replied.
+    fn pass(&mut self, verb: &str, rest: &str) -> Option<Result<()>> {
+        let done = match verb {
+            ">" => self.printed.pass_line(rest),
+            "=" => self.pass_bytes(rest),
+            "ends" => self.printed.end(rest),
+            "skip" => self.printed.skip(rest),
+            "<" => self.replied.pass_line(rest),
+            "status" => self.expect(rest),
+            _ => return None,
+        };
+        Some(done)
+    }
+
+    // Follows a line on what was printed and done.
+    fn tell(&self, verb: &str, rest: &str) -> Option<Result<()>> {
+        let done = match verb {
+            "count" => self.count(rest),
+            "lines" => self.lines(rest),
+            "records" => self.records(rest),
+            "writes" => is_count(self.writes, rest),
+            "replied" => self.replied.is_passed(),
+            "asked" => is_count(self.asked, rest),
+            "changes" => is_count(self.made.changes(), rest),
+            "read" => self.most_read(rest),
+            _ => return None,
+        };
+        Some(done)
+    }
+
+    /// Follows a line on what a command printed and did. None where it is none.
+    pub(crate) fn follow(&mut self, verb: &str, rest: &str) -> Option<Result<()>> {
+        if verb == "rest" {
+            self.printed.pass_all();
+            return Some(Ok(()));
         }
-        Ok(true)
+        match self.pass(verb, rest) {
+            Some(done) => Some(done),
+            None => self.tell(verb, rest),
+        }
     }
 }

@@ -48,9 +48,17 @@ fn takes_of(alloc: Global, group: u8, takes: &[(u8, u64)]) -> Result<Vec<u64>, A
     Ok(numbers)
 }
 
-fn group_and_number(rest: &str) -> Result<(u8, u64)> {
+// Appends a number.
+fn push_number(numbers: &mut Vec<u64>, word: &str) -> Result<()> {
+    numbers.push(number(word)?)?;
+    Ok(())
+}
+
+// Appends the group and the number of a take.
+fn push_take(takes: &mut Vec<(u8, u64)>, rest: &str) -> Result<()> {
     let (group, take) = first_word(rest)?;
-    Ok((small_number(group)?, number(take)?))
+    takes.push((small_number(group)?, number(take)?))?;
+    Ok(())
 }
 
 impl Setting {
@@ -148,22 +156,43 @@ impl Setting {
         Ok(())
     }
 
-    /// Follows a line on what stands around the next command. False where it is none.
-    pub(crate) fn follow(&mut self, verb: &str, rest: &str) -> Result<bool> {
-        match verb {
-            "stop" => self.stop = Some(number(rest)?),
-            "fail" => self.failing.push(number(rest)?)?,
-            "fail-read" => self.failing_reads.push(number(rest)?)?,
-            "fail-write" => self.failing_writes.push(number(rest)?)?,
-            "give" => self.give(rest)?,
-            "fail-take" => self.failing_takes.push(group_and_number(rest)?)?,
-            "quiet-take" => self.quiet_takes.push(group_and_number(rest)?)?,
-            "link" => self.begin_link()?,
-            "ask" => self.ask(rest)?,
-            "fail-line" => self.link()?.failing.push(number(rest)?)?,
-            "fail-reply" => self.link()?.refusing.push(number(rest)?)?,
-            _ => return Ok(false),
-        }
-        Ok(true)
+    fn stop_behind(&mut self, rest: &str) -> Result<()> {
+        self.stop = Some(number(rest)?);
+        Ok(())
+    }
+
+    fn fail_line(&mut self, rest: &str) -> Result<()> {
+        push_number(&mut self.link()?.failing, rest)
+    }
+
+    fn fail_reply(&mut self, rest: &str) -> Result<()> {
+        push_number(&mut self.link()?.refusing, rest)
+    }
+
+    // Follows a line on ports and links.
+    fn follow_lanes(&mut self, verb: &str, rest: &str) -> Option<Result<()>> {
+        let done = match verb {
+            "give" => self.give(rest),
+            "fail-take" => push_take(&mut self.failing_takes, rest),
+            "quiet-take" => push_take(&mut self.quiet_takes, rest),
+            "link" => self.begin_link(),
+            "ask" => self.ask(rest),
+            "fail-line" => self.fail_line(rest),
+            "fail-reply" => self.fail_reply(rest),
+            _ => return None,
+        };
+        Some(done)
+    }
+
+    /// Follows a line on what stands around the next command. None where it is none.
+    pub(crate) fn follow(&mut self, verb: &str, rest: &str) -> Option<Result<()>> {
+        let done = match verb {
+            "stop" => self.stop_behind(rest),
+            "fail" => push_number(&mut self.failing, rest),
+            "fail-read" => push_number(&mut self.failing_reads, rest),
+            "fail-write" => push_number(&mut self.failing_writes, rest),
+            _ => return self.follow_lanes(verb, rest),
+        };
+        Some(done)
     }
 }

@@ -130,21 +130,45 @@ impl Texts {
         Ok(())
     }
 
-    /// Follows a line on texts. False where it is none.
-    pub(crate) fn follow(&mut self, verb: &str, rest: &str) -> Result<bool> {
-        match verb {
-            "text" => self.begin(rest, Vec::new(self.alloc))?,
-            "feed" => self.begin(rest, FEED_HEADER.to_vec(self.alloc)?)?,
-            "item" => self.item(rest)?,
-            "generated" => push_generated(self.newest()?, number(rest)?)?,
-            "bytes" => self.push(rest)?,
-            "line" => self.line(rest)?,
-            "copy" => self.copy(rest)?,
-            "swap" => self.swap(rest)?,
-            "cut" => self.newest()?.truncate(number(rest)? as usize),
-            "pad" => self.pad(rest)?,
-            _ => return Ok(false),
-        }
-        Ok(true)
+    // Begins a text with the header of a feed.
+    fn begin_feed(&mut self, name: &str) -> Result<()> {
+        let header = FEED_HEADER.to_vec(self.alloc)?;
+        self.begin(name, header)
+    }
+
+    fn generate(&mut self, rest: &str) -> Result<()> {
+        push_generated(self.newest()?, number(rest)?)
+    }
+
+    fn cut(&mut self, rest: &str) -> Result<()> {
+        let length = number(rest)? as usize;
+        self.newest()?.truncate(length);
+        Ok(())
+    }
+
+    // Follows a line on the newest text.
+    fn follow_newest(&mut self, verb: &str, rest: &str) -> Option<Result<()>> {
+        let done = match verb {
+            "bytes" => self.push(rest),
+            "line" => self.line(rest),
+            "copy" => self.copy(rest),
+            "swap" => self.swap(rest),
+            "cut" => self.cut(rest),
+            "pad" => self.pad(rest),
+            _ => return None,
+        };
+        Some(done)
+    }
+
+    /// Follows a line on texts. None where it is none.
+    pub(crate) fn follow(&mut self, verb: &str, rest: &str) -> Option<Result<()>> {
+        let done = match verb {
+            "text" => self.begin(rest, Vec::new(self.alloc)),
+            "feed" => self.begin_feed(rest),
+            "item" => self.item(rest),
+            "generated" => self.generate(rest),
+            _ => return self.follow_newest(verb, rest),
+        };
+        Some(done)
     }
 }
