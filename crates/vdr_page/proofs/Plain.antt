@@ -1,5 +1,5 @@
 -- Bytes that stand for themselves, in one piece.
-use Rattle.std.proofs.Common.{◌≡◌, ◌∙◌, ◌||◌, ◌==◌, ◌++◌, ◌+◌, ℕ, zero, suc, Bool, true, false, cond, List, [], ◌∷◌, All, codes, take, drop, refl, sym, ap, append_assoc, get_or, length, ◌-◌, ◌≤◌, ◌<◌, ◌/◌, ◌%◌, subst, arith, add-one}
+use Rattle.std.proofs.Common.{◌≡◌, ◌∙◌, ◌||◌, ◌==◌, ◌++◌, ◌+◌, ℕ, zero, suc, Bool, true, cond, List, [], ◌∷◌, All, codes, take, drop, refl, sym, ap, append_assoc, get_or, length, ◌-◌, ◌<◌, ◌/◌, ◌%◌, subst, arith, add-one}
 use Rattle.std.specs.List.{flat_map}
 use Rattle.std.proofs.lemmas.Grind.{flat_map-append}
 use Rattle.std.proofs.lemmas.List.Elements.{All-cons, All-head, All-nil, All-tail}

@@ -12,8 +12,9 @@ use Rattle.vdr_tag.specs.declared.bad.BadTag.{BadTag}
 use Rattle.vdr_tag.specs.Fronts.{reading as tag_reading}
 use Rattle.vdr_tag.specs.Values.{TagValues}
 use Rattle.vdr_values.specs.Readings.{fields_of, read_as, read_by, reading, with_values}
-use Rattle.vdr_values.specs.Rows.{Row}
-use Rattle.vdr_values.specs.Table.{row_for, row_named}
+use Rattle.vdr_values.specs.Rows.{Row as Formatter}
+use Rattle.vdr_values.specs.declared.column.Column.{Column}
+use Rattle.vdr_values.specs.Table.{row_for, row_named, table}
 use Rattle.vdr_values.specs.Values.{Value}
 use Rattle.vdr_values.proofs.Lookups.{named-good}
 use Rattle.vdr_datagram.specs.Lines.{and_lines, cut, cut_behind, with_byte}
@@ -22,9 +23,15 @@ use Rattle.vdr_datagram.specs.Tokens.{token}
 use Rattle.vdr_datagram.specs.declared.tokens.Token.{Token}
 use Rattle.vdr_datagram.specs.declared.tokens.Token.TheVariants.{Sentences, Image, Pcm, Other, NoToken}
 use Rattle.vdr_ais.specs.Lines.{Line, carries, line_in, line_where, lines_in}
+use Rattle.vdr_terms.specs.Records.{Record}
+use Rattle.vdr_ais.specs.Bits.{Message}
+use Rattle.vdr_rows.specs.Reported.{message_values}
+use Rattle.vdr_rows.specs.Tables.{line_rows, rows_of}
+use Rattle.vdr_rows.specs.Texts.{heading_of}
+use Rattle.vdr_rows.specs.Values.{Said, said_by, values_where}
 use Rattle.vdr_rows.specs.declared.seeking.Sought.{Sought}
 use Rattle.vdr_rows.specs.declared.seeking.Sought.TheVariants.{Parts}
-use Rattle.vdr_rows.specs.Seeking.{begins, is_carrier, is_sought, mentions}
+use Rattle.vdr_rows.specs.Seeking.{begins, carried_rows, is_carrier, is_sought, mentions}
 
 -- ---- by the address
 
@@ -32,7 +39,7 @@ off : {X : Type 0} (t : Bool) (o : Option X) → t ≡ false → cond t o None �
 off true o h = absurd (cc)
 off false o h = refl
 
-pub row_behind : (address : List ℕ) (row : Row) → row_for address ≡ Some row → row_named (drop 2 address) ≡ Some row
+pub row_behind : (address : List ℕ) (row : Formatter) → row_for address ≡ Some row → row_named (drop 2 address) ≡ Some row
 row_behind address row h = by_test (eqb (get_or address 0 0) 80) h
   where
     by_test : (t : Bool) → cond t None (row_named (drop 2 address)) ≡ Some row → row_named (drop 2 address) ≡ Some row
@@ -44,11 +51,11 @@ nothing_read : (group : ℕ) (source content : List ℕ) → carries (drop 2 (ad
 unfolding reading
 nothing_read group source content h = by_row (row_for (address_of content)) refl
   where
-    by_values : (row : Row) (read : Result (List (Option Value)) ℕ) → carries row.formatter ≡ false → line_where group source (with_values row read) ≡ None
+    by_values : (row : Formatter) (read : Result (List (Option Value)) ℕ) → carries row.formatter ≡ false → line_where group source (with_values row read) ≡ None
     by_values row (Ok values) plain = off (carries row.formatter) _ plain
     by_values row (Err bad) plain = refl
 
-    by_row : (o : Option Row) → row_for (address_of content) ≡ o → line_where group source (read_as o (fields_of content)) ≡ None
+    by_row : (o : Option Formatter) → row_for (address_of content) ≡ o → line_where group source (read_as o (fields_of content)) ≡ None
     by_row None e = refl
     by_row (Some row) e =
         let named : row.formatter ≡ drop 2 (address_of content) = (named-good _ row (row_behind (address_of content) row e)).0 in
@@ -58,6 +65,54 @@ pub nothing_carried : (group : ℕ) (line : LineReading) → is_carrier line ≡
 nothing_carried group (Good tags sentence) h = nothing_read group (unwrap_or tags.source (codes "-")) sentence.content h
 nothing_carried group (Tag bad) h = refl
 nothing_carried group (Sentence tags bad) h = refl
+
+-- ---- a line that may carry a part says no value of its own
+
+abbrev Silent : Option Formatter → Type 0
+Silent None = Unit {0}
+Silent (Some row) = row.columns ≡ []
+
+other_silent : Silent (row_named (codes "VDM"))
+unfolding table
+other_silent = refl
+
+own_silent : Silent (row_named (codes "VDO"))
+unfolding table
+own_silent = refl
+
+carrier_silent : (formatter : List ℕ) → carries formatter ≡ true → Silent (row_named formatter)
+carrier_silent formatter h = by_test (bytes_eq formatter (codes "VDM")) refl h
+  where
+    by_test : (t : Bool) → bytes_eq formatter (codes "VDM") ≡ t → (t || bytes_eq formatter (codes "VDO")) ≡ true → Silent (row_named formatter)
+    by_test true e k = subst (λ (f : List ℕ). Silent (row_named f)) (sym ((bytes_eq-Decides formatter (codes "VDM")).0 e)) other_silent
+    by_test false e k = subst (λ (f : List ℕ). Silent (row_named f)) (sym ((bytes_eq-Decides formatter (codes "VDO")).0 k)) own_silent
+
+pub none_said : (content : List ℕ) → carries (drop 2 (address_of content)) ≡ true → values_where (reading content) ≡ []
+unfolding reading
+none_said content h = by_row (row_for (address_of content)) refl
+  where
+    by_values : (row : Formatter) (read : Result (List (Option Value)) ℕ) → row.columns ≡ [] → values_where (with_values row read) ≡ []
+    by_values row (Ok values) none = ap (λ (columns : List Column). filter_map (said_by values) columns) none
+    by_values row (Err bad) none = refl
+
+    by_row : (o : Option Formatter) → row_for (address_of content) ≡ o → values_where (read_as o (fields_of content)) ≡ []
+    by_row None e = refl
+    by_row (Some row) e = by_values row (read_by row (fields_of content)) (subst Silent (row_behind (address_of content) row e) (carrier_silent (drop 2 (address_of content)) h))
+
+-- The rows of the line are those of the message that ends with it.
+pub ended_rows : (r : Record) (line : LineReading) (m : Message) → is_carrier line ≡ true
+    → line_rows r line (Some m) ≡ carried_rows r line m
+ended_rows r (Good tags sentence) m h =
+    ap (λ (said : List Said). rows_of (heading_of r (unwrap_or tags.source (codes "-")) (address_of sentence.content)) (said ++ message_values (Some m))) (none_said sentence.content h)
+ended_rows r (Tag bad) m h = refl
+ended_rows r (Sentence tags bad) m h = refl
+
+-- Nor has it a row where none ends.
+pub no_rows : (r : Record) (line : LineReading) → is_carrier line ≡ true → line_rows r line None ≡ []
+no_rows r (Good tags sentence) h =
+    ap (λ (said : List Said). rows_of (heading_of r (unwrap_or tags.source (codes "-")) (address_of sentence.content)) (said ++ [])) (none_said sentence.content h)
+no_rows r (Tag bad) h = refl
+no_rows r (Sentence tags bad) h = refl
 
 -- ---- by the bytes
 

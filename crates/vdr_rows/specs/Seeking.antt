@@ -1,10 +1,15 @@
 -- Formatters that are looked for in the bytes of a datagram. One that names none of them need not be cut into its lines.
-use Rattle.std.specs.Prelude.{ℕ, Bool, false, ◌||◌, List, [], ◌∷◌, drop, bytes_eq, codes}
+use Rattle.std.specs.Prelude.{ℕ, Bool, false, ◌||◌, List, [], ◌∷◌, drop, bytes_eq, codes, Some, unwrap_or}
 use Rattle.std.specs.List.{list_any}
 use Rattle.vdr_sentence.specs.Addresses.{address_of}
 use Rattle.vdr_datagram.specs.Verdicts.{LineReading}
 use Rattle.vdr_datagram.specs.Verdicts.LineReading.{Good, Tag, Sentence}
 use Rattle.vdr_ais.specs.Lines.{carries}
+use Rattle.vdr_terms.specs.Records.{Record}
+use Rattle.vdr_ais.specs.Bits.{Message}
+use Rattle.vdr_rows.specs.Reported.{message_values}
+use Rattle.vdr_rows.specs.Tables.{rows_of}
+use Rattle.vdr_rows.specs.Texts.{Row, heading_of}
 use Rattle.vdr_rows.specs.declared.seeking.Sought.{Sought}
 use Rattle.vdr_rows.specs.declared.seeking.Sought.TheVariants.{Parts, Position}
 
@@ -31,3 +36,9 @@ abbrev pub is_carrier : LineReading → Bool
 is_carrier (Good tags sentence) = carries (drop 2 (address_of sentence.content))
 is_carrier (Tag bad) = false
 is_carrier (Sentence tags bad) = false
+
+-- The rows of a message that ends at a line.
+abbrev pub carried_rows : Record → LineReading → Message → List Row
+carried_rows r (Good tags sentence) m = rows_of (heading_of r (unwrap_or tags.source (codes "-")) (address_of sentence.content)) (message_values (Some m))
+carried_rows r (Tag bad) m = []
+carried_rows r (Sentence tags bad) m = []

@@ -1,19 +1,17 @@
 // The rows of a record.
-ghost use Rattle.std.specs.Prelude.{◌≡◌, ◌++◌, All, List, OnOk, Some, option_map};
+ghost use Rattle.std.specs.Prelude.{◌≡◌, All, List, None, OnOk, Some, codes, unwrap_or};
 ghost use Rattle.std.specs.Io.KnownBytes.{Appends};
+ghost use Rattle.vdr_tag.specs.Views.{values_of};
 ghost use Rattle.vdr_datagram.specs.Verdicts.{line_spans};
 ghost use Rattle.vdr_datagram.specs.Views.{verdict_of};
 ghost use Rattle.vdr_ais.specs.Lines.{Key, Line as Part, line_in, lines_in, lines_of};
 ghost use Rattle.vdr_ais.specs.Pending.{HasPlace, HasRead};
 ghost use Rattle.vdr_ais.specs.Views.{message_of};
-ghost use Rattle.vdr_values.specs.Readings.{reading};
 ghost use Rattle.vdr_outside.specs.Causes.{HasCause};
 ghost use Rattle.vdr_outside.specs.Writes.{AppendsFront};
-ghost use Rattle.vdr_rows.specs.Reported.{message_values};
-ghost use Rattle.vdr_rows.specs.Tables.{back_after, back_by, back_with, ended_at, line_rows, lines_rows, record_rows, rows_of};
+ghost use Rattle.vdr_rows.specs.Tables.{back_after, back_by, back_with, ended_at, line_rows, lines_rows, record_rows};
 ghost use Rattle.vdr_rows.specs.Texts.{rows_text};
-ghost use Rattle.vdr_rows.specs.Values.{values_where};
-ghost use Rattle.vdr_rows.specs.Views.{heading_said};
+ghost use Rattle.vdr_rows.specs.Seeking.{carried_rows};
 
 use crate::heading::Heading;
 use crate::marks::{print_mark, print_missed};
@@ -24,43 +22,46 @@ use vdr_ais::{Message, Unfinished};
 use vdr_datagram::{LineVerdict, lines};
 use vdr_entry::{Content, Record};
 use vdr_outside::{Failed, Sink};
-use vdr_sentence::Sentence;
+use vdr_tag::Tags;
 
 /// The source of a line that names none.
 const NO_SOURCE: &[u8] = b"-";
 
-// Prints the rows of a sentence, and of the message that ends with it.
-fn print_good<O: Sink>(
-    heading: &Heading<'_>,
-    sentence: &Sentence<'_>,
-    ended: &Option<Message>,
-    out: &mut O,
-) -> Result<(), Failed>
-    ensures all { OnOk result (Appends (O.taken out.old) (O.taken out.new) (rows_text (rows_of (heading_said heading.now) (values_where (reading sentence.now.content.now) ++ message_values (option_map message_of ended.now))))) }
-    ensures front { AppendsFront (O.taken out.old) (O.taken out.new) (rows_text (rows_of (heading_said heading.now) (values_where (reading sentence.now.content.now) ++ message_values (option_map message_of ended.now)))) }
-    ensures cause { HasCause (O.faults out.old) (O.faults out.new) result }
+fn source_of<'a>(tags: &Tags<'a>) -> &'a [u8]
+    ensures { result.now ≡ unwrap_or (values_of tags.now).source (codes "-") }
 {
-    print_sentence(heading, sentence, out)?;
-    print_message(heading, ended, out)
+    tags.source.unwrap_or(NO_SOURCE)
 }
 
-// Prints the rows of a line, where this message ends at it.
-fn print_rows<O: Sink>(
-    item: &Record,
-    verdict: &LineVerdict<'_>,
-    ended: &Option<Message>,
-    out: &mut O,
-) -> Result<(), Failed>
-    ensures all { OnOk result (Appends (O.taken out.old) (O.taken out.new) (rows_text (line_rows item.now (verdict_of verdict.now) (option_map message_of ended.now)))) }
-    ensures front { AppendsFront (O.taken out.old) (O.taken out.new) (rows_text (line_rows item.now (verdict_of verdict.now) (option_map message_of ended.now))) }
+// Prints the rows of what a line says, where it carries no part of an AIS message.
+fn print_said<O: Sink>(item: &Record, verdict: &LineVerdict<'_>, out: &mut O) -> Result<(), Failed>
+    ensures all { OnOk result (Appends (O.taken out.old) (O.taken out.new) (rows_text (line_rows item.now (verdict_of verdict.now) None))) }
+    ensures front { AppendsFront (O.taken out.old) (O.taken out.new) (rows_text (line_rows item.now (verdict_of verdict.now) None)) }
     ensures cause { HasCause (O.faults out.old) (O.faults out.new) result }
 {
     let LineVerdict::Good { tags, sentence } = verdict else {
         return Ok(());
     };
-    let source = tags.source.unwrap_or(NO_SOURCE);
-    let heading = Heading::new(item, source, sentence.address);
-    print_good(&heading, sentence, ended, out)
+    let heading = Heading::new(item, source_of(tags), sentence.address);
+    print_sentence(&heading, sentence, out)
+}
+
+// Prints the rows of a message that ends at a line.
+fn print_ended<O: Sink>(
+    item: &Record,
+    verdict: &LineVerdict<'_>,
+    message: &Message,
+    out: &mut O,
+) -> Result<(), Failed>
+    ensures all { OnOk result (Appends (O.taken out.old) (O.taken out.new) (rows_text (carried_rows item.now (verdict_of verdict.now) (message_of message.now)))) }
+    ensures front { AppendsFront (O.taken out.old) (O.taken out.new) (rows_text (carried_rows item.now (verdict_of verdict.now) (message_of message.now))) }
+    ensures cause { HasCause (O.faults out.old) (O.faults out.new) result }
+{
+    let LineVerdict::Good { tags, sentence } = verdict else {
+        return Ok(());
+    };
+    let heading = Heading::new(item, source_of(tags), sentence.address);
+    print_message(&heading, message, out)
 }
 
 // Prints the rows of a line, for whose message there is room, and of the message that ends at it.
@@ -80,10 +81,12 @@ fn print_line<O: Sink>(
     ensures cause { HasCause (O.faults out.old) (O.faults out.new) result }
 {
     if !is_carrier(verdict) {
-        return print_rows(item, verdict, &None, out);
+        return print_said(item, verdict, out);
     }
-    let ended = unfinished.take_line(item.group, verdict);
-    print_rows(item, verdict, &ended, out)
+    match unfinished.take_line(item.group, verdict) {
+        Some(message) => print_ended(item, verdict, &message, out),
+        None => Ok(()),
+    }
 }
 
 // Prints the rows of a datagram, for whose messages there is room.

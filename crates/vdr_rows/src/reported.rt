@@ -222,19 +222,16 @@ fn print_report<O: Sink>(
     print_both(heading, kind, mmsi.as_slice(), report, out)
 }
 
-/// Prints the rows of what a message reports, where there is one.
+/// Prints the rows of what a message reports.
 pub(crate) fn print_message<O: Sink>(
     heading: &Heading<'_>,
-    message: &Option<Message>,
+    message: &Message,
     out: &mut O,
 ) -> Result<(), Failed>
-    ensures all { OnOk result (Appends (O.taken out.old) (O.taken out.new) (rows_text (rows_of (heading_said heading.now) (message_values (option_map message_of message.now))))) }
-    ensures front { AppendsFront (O.taken out.old) (O.taken out.new) (rows_text (rows_of (heading_said heading.now) (message_values (option_map message_of message.now)))) }
+    ensures all { OnOk result (Appends (O.taken out.old) (O.taken out.new) (rows_text (rows_of (heading_said heading.now) (message_values (Some (message_of message.now)))))) }
+    ensures front { AppendsFront (O.taken out.old) (O.taken out.new) (rows_text (rows_of (heading_said heading.now) (message_values (Some (message_of message.now))))) }
     ensures cause { HasCause (O.faults out.old) (O.faults out.new) result }
 {
-    let Some(message) = message else {
-        return Ok(());
-    };
     match read_message(message) {
         Some(report) => print_report(heading, kind_of(message), &report, out),
         None => Ok(()),

@@ -3,3 +3,4 @@ pub mod Keeping
 pub mod Lines
 pub mod Records
 pub mod Latest
+pub mod Unwatched

@@ -5,3 +5,4 @@ pub mod Supervision
 pub mod Texts
 pub mod Kept
 pub mod TableViews
+pub mod Watched

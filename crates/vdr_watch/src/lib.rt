@@ -17,6 +17,7 @@ mod print;
 mod sign;
 mod tables;
 mod watch;
+mod watched;
 
 pub use fault::WatchFault;
 pub use laws::{law_of_latest, law_of_watch};

@@ -22,6 +22,7 @@ use crate::heartbeat::Heartbeat;
 use crate::place::{place_of_alarm, place_of_heartbeat};
 use crate::print::{print_alarm, print_heartbeat};
 use crate::sign::{Sign, sign_in};
+use crate::watched::is_watched;
 use std::alloc::AllocError;
 use vdr_alerts::{Board, Mark, Saying, found, put_row};
 use vdr_datagram::{LineVerdict, lines};
@@ -117,8 +118,8 @@ impl Tables {
         Ok(())
     }
 
-    // Tells what a line shows, and keeps it.
-    fn tell_line<O: Sink>(
+    // Reads a line, tells what it shows, and keeps it.
+    fn tell_sign<O: Sink>(
         &mut self,
         mark: &Mark,
         group: u8,
@@ -144,6 +145,33 @@ impl Tables {
             Some(Sign::Alert(saying)) => self.tell_alert(mark, saying, out),
             None => Ok(()),
         }
+    }
+
+    // Tells what a line shows, and keeps it.
+    fn tell_line<O: Sink>(
+        &mut self,
+        mark: &Mark,
+        group: u8,
+        verdict: &LineVerdict<'_>,
+        out: &mut O,
+    ) -> Result<(), Failed>
+        requires kept { (met : List ASign) × Keeps met self.old }
+        requires room { HasRoom self.old 1 }
+        requires group { group ≤ 15 }
+        requires short { length (reading_of (verdict_of verdict.now)).name ≤ 15 }
+        ensures kept { (met : List ASign) → Keeps met self.old → OnOk result (Keeps (met_after met (cons_option (sign_in group mark.now.tick (verdict_of verdict.now)) [])) self.new) }
+        ensures all { (met : List ASign) → Keeps met self.old
+            → OnOk result (Appends (O.taken out.old) (O.taken out.new) (signs_text mark.now met (cons_option (sign_in group mark.now.tick (verdict_of verdict.now)) []))) }
+        ensures front { (met : List ASign) → Keeps met self.old
+            → AppendsFront (O.taken out.old) (O.taken out.new) (signs_text mark.now met (cons_option (sign_in group mark.now.tick (verdict_of verdict.now)) [])) }
+        ensures failed { OnErr result (self.new ≡ self.old) }
+        ensures room { (n : ℕ) → HasRoom self.old (suc n) → HasRoom self.new n }
+        ensures cause { HasCause (O.faults out.old) (O.faults out.new) result }
+    {
+        if !is_watched(verdict) {
+            return Ok(());
+        }
+        self.tell_sign(mark, group, verdict, out)
     }
 
     // Tells what the lines of a datagram show, for which there is room.

@@ -1,4 +1,4 @@
-use Rattle.std.proofs.Common.{arith, drop, length}
+use Rattle.std.proofs.Common.{arith}
 use Rattle.std.proofs.lemmas.List.{length-drop}
 use Rattle.vdr_page.specs.Strings.{inlined}
 use Rattle.vdr_page.proofs.Plain.{more_of}

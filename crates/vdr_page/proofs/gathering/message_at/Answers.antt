@@ -1,4 +1,4 @@
-use Rattle.std.proofs.Common.{◌≡◌, ◌∙◌, ◌++◌, List, Option, None, false, option_map, refl, subst, sym}
+use Rattle.std.proofs.Common.{◌≡◌, ◌++◌, Option, None, refl, subst, sym}
 use Rattle.std.specs.Prelude.{option_and_then, option_to_list}
 use Rattle.vdr_datagram.specs.Views.{verdict_of}
 use Rattle.vdr_ais.specs.Bits.{Message}
