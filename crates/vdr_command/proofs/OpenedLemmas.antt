@@ -25,7 +25,7 @@ use Rattle.vdr_command.specs.Opened.{AddsMissing, AreLooks, ContentsKept, IsOpen
 use Rattle.vdr_command.specs.Statuses.{status_of_opening}
 use Rattle.vdr_command.specs.Outside.{MediaSeen}
 use Rattle.vdr_command.specs.declared.status.Status.{Status}
-use Rattle.vdr_command.specs.declared.status.Status.TheVariants.{Done, Words, Config, Small, Unformatted, Formatted, Damaged, MediaFault, PortFault, LinkFault, InputFault, OutputFault, NoMemory, Feed, NoChannel, NoIncident, SaveRefused, Place, Tick, ExportKind, ExportNothing, ExportMixed, ExportLong, ExportPart, Capture, Missing}
+use Rattle.vdr_command.specs.declared.status.Status.TheVariants.{Done, Words, Config, Small, Unformatted, Formatted, Damaged, MediaFault, PortFault, LinkFault, InputFault, OutputFault, NoMemory, Feed, NoChannel, NoIncident, SaveRefused, Place, Tick, ExportKind, ExportNothing, ExportMixed, ExportLong, ExportPart, Capture, NoEvidence, Missing}
 use Rattle.vdr_recorder.proofs.Headlines.{after_opening, only_opened, order_quiet}
 use Rattle.vdr_recorder.proofs.Passing.{passes_opened}
 use Rattle.vdr_recorder.proofs.Playing.{config_read, plays}
@@ -71,6 +71,7 @@ done_either ExportLong is = absurd is
 done_either (ExportPart number) is = absurd is
 done_either (Missing place) is = absurd is
 done_either (Capture number offset) is = absurd is
+done_either (NoEvidence named offset) is = absurd is
 
 -- Work that was done was begun.
 pub done_is_begun : {P : Type 0} (status : Status) → IsWorkDone status → IsUnbegun status → P

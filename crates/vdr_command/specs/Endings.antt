@@ -4,8 +4,9 @@ use Rattle.vdr_config.specs.declared.bad.ConfigBad.{ConfigBad}
 use Rattle.vdr_command.specs.Refusals.{number_of}
 use Rattle.vdr_command.specs.Outside.{OutputSeen, Writes}
 use Rattle.vdr_command.specs.StatusLine.{status_line}
+use Rattle.vdr_command.specs.declared.status.EvidencePart.{EvidencePart}
 use Rattle.vdr_command.specs.declared.status.Status.{Status}
-use Rattle.vdr_command.specs.declared.status.Status.TheVariants.{Done, Config, OutputFault, NoMemory, Feed, NoChannel, Capture}
+use Rattle.vdr_command.specs.declared.status.Status.TheVariants.{Done, Config, OutputFault, NoMemory, Feed, NoChannel, Capture, NoEvidence}
 
 -- The status of a command that succeeded, or ended otherwise.
 abbrev pub ending : Result ⊤ Status → Status
@@ -43,6 +44,12 @@ IsRefusal number offset status = ⊥
 abbrev pub IsCaptureRefusal : ℕ → ℕ → Status → Type 0
 IsCaptureRefusal number offset (Capture n at) = (n ≡ number) × (at ≡ offset)
 IsCaptureRefusal number offset status = ⊥
+
+-- The file is refused at this part, or there was no memory.
+abbrev pub IsEvidenceRefusal : EvidencePart → ℕ → Status → Type 0
+IsEvidenceRefusal part offset (NoEvidence p at) = (p ≡ part) × (at ≡ offset)
+IsEvidenceRefusal part offset NoMemory = ⊤
+IsEvidenceRefusal part offset status = ⊥
 
 -- The configuration was refused so, or there was no memory.
 abbrev pub IsConfigRefusal : ConfigBad → Status → Type 0

@@ -5,11 +5,13 @@ use Rattle.vdr_terms.specs.Groups.{group_name}
 use Rattle.vdr_entry.specs.Escape.{escaped}
 use Rattle.vdr_outside.specs.Causes.{Rose}
 use Rattle.vdr_outside.specs.Writes.{AppendsFront}
+use Rattle.vdr_command.specs.declared.status.EvidencePart.{EvidencePart}
+use Rattle.vdr_command.specs.declared.status.EvidencePart.TheVariants as parts
 use Rattle.vdr_command.specs.declared.status.SaveCause.{SaveCause}
 use Rattle.vdr_command.specs.declared.status.SaveCause.TheVariants.{Label, Nothing, TableFull}
 use Rattle.vdr_command.specs.declared.status.Status.{Status}
 use Rattle.vdr_config.specs.declared.media.TooSmall.{TooSmall}
-use Rattle.vdr_command.specs.declared.status.Status.TheVariants.{Done, Words, Config, Small, Unformatted, Formatted, Damaged, MediaFault, PortFault, LinkFault, InputFault, OutputFault, NoMemory, Feed, NoChannel, NoIncident, SaveRefused, Place, Tick, ExportKind, ExportNothing, ExportMixed, ExportLong, ExportPart, Capture, Missing}
+use Rattle.vdr_command.specs.declared.status.Status.TheVariants.{Done, Words, Config, Small, Unformatted, Formatted, Damaged, MediaFault, PortFault, LinkFault, InputFault, OutputFault, NoMemory, Feed, NoChannel, NoIncident, SaveRefused, Place, Tick, ExportKind, ExportNothing, ExportMixed, ExportLong, ExportPart, Capture, NoEvidence, Missing}
 
 -- The program's exit status.
 abbrev pub code_of : Status → ℕ
@@ -38,6 +40,7 @@ code_of (ExportMixed place) = 14
 code_of ExportLong = 14
 code_of (ExportPart number) = 14
 code_of (Capture number offset) = 16
+code_of (NoEvidence part offset) = 16
 code_of (Missing place) = 4
 
 -- The names of the media in texts.
@@ -65,6 +68,22 @@ feed_line number offset = codes "status 10 feed " ++ decimal number ++ codes " a
 
 abbrev pub capture_line : (number offset : ℕ) → List ℕ
 capture_line number offset = codes "status 16 capture " ++ decimal number ++ codes " at " ++ decimal offset ++ codes "\n"
+
+-- The words of the parts of an evidence file.
+abbrev pub part_word : EvidencePart → List ℕ
+part_word parts.Token = codes "token"
+part_word parts.Configuration = codes "configuration"
+part_word parts.Medium = codes "medium"
+part_word parts.Incident = codes "incident"
+part_word parts.Label = codes "label"
+part_word parts.Query = codes "query"
+part_word parts.Record = codes "record"
+part_word parts.End = codes "end"
+part_word parts.Digest = codes "digest"
+part_word parts.Behind = codes "behind"
+
+abbrev pub evidence_line : EvidencePart → (offset : ℕ) → List ℕ
+evidence_line part offset = codes "status 16 evidence " ++ part_word part ++ codes " at " ++ decimal offset ++ codes "\n"
 
 abbrev pub incident_line : ℕ → List ℕ
 incident_line id = codes "status 11 incident " ++ decimal id ++ codes "\n"
@@ -117,6 +136,7 @@ status_line (ExportMixed place) = mixed_line place
 status_line ExportLong = codes "status 14 long\n"
 status_line (ExportPart number) = part_line number
 status_line (Capture number offset) = capture_line number offset
+status_line (NoEvidence part offset) = evidence_line part offset
 status_line (Missing place) = missing_line place
 
 -- The output grew by a front of the text, and by all of it unless the sink's count rose, which never falls.
@@ -134,6 +154,11 @@ IfFeed status P = ⊤
 abbrev pub IfCapture : Status → (ℕ → ℕ → Type 0) → Type 0
 IfCapture (Capture number offset) P = P number offset
 IfCapture status P = ⊤
+
+-- What is said of a file that is not evidence.
+abbrev pub IfNoEvidence : Status → (EvidencePart → ℕ → Type 0) → Type 0
+IfNoEvidence (NoEvidence part offset) P = P part offset
+IfNoEvidence status P = ⊤
 
 -- What is said of a medium that is too small.
 abbrev pub IfSmall : Status → (TooSmall → Type 0) → Type 0

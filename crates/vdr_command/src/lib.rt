@@ -10,5 +10,5 @@ mod world;
 pub use opening::law_of_openings;
 pub use refusal::{number_of, report_channel, report_refusal};
 pub use reports::{ROOM, name_of, push_text, report};
-pub use status::{SaveCause, Status};
+pub use status::{EvidencePart, SaveCause, Status};
 pub use world::{Outer, World};

@@ -3,9 +3,9 @@ ghost use Rattle.std.specs.Prelude.{◌≡◌, ◌≤◌, ◌+◌, ◌++◌, cod
 ghost use Rattle.arrayvec.specs.ArrayVec.{array_vec_len};
 ghost use Rattle.vdr_terms.specs.Groups.{group_name};
 ghost use Rattle.vdr_command.specs.Endings.{WritesLine};
-ghost use Rattle.vdr_command.specs.StatusLine.{damaged_line, incident_line, link_line, medium_name, missing_line, mixed_line, part_line, port_line, save_line, small_line, status_line};
+ghost use Rattle.vdr_command.specs.StatusLine.{damaged_line, evidence_line, incident_line, link_line, medium_name, missing_line, mixed_line, part_line, part_word, port_line, save_line, small_line, status_line};
 
-use crate::{SaveCause, Status};
+use crate::{EvidencePart, SaveCause, Status};
 use arrayvec::ArrayVec;
 use itoa::Buffer;
 use vdr_config::TooSmall;
@@ -111,6 +111,37 @@ fn push_refusal(line: &mut ArrayVec<u8, ROOM>, front: &[u8], number: u8, offset:
     push_text(line, b"\n");
 }
 
+// The word of a part of an evidence file.
+fn part_word(part: EvidencePart) -> &'static [u8]
+    ensures word { result.now ≡ part_word part }
+    ensures short { length result.now ≤ 13 }
+{
+    match part {
+        EvidencePart::Token => b"token",
+        EvidencePart::Configuration => b"configuration",
+        EvidencePart::Medium => b"medium",
+        EvidencePart::Incident => b"incident",
+        EvidencePart::Label => b"label",
+        EvidencePart::Query => b"query",
+        EvidencePart::Record => b"record",
+        EvidencePart::End => b"end",
+        EvidencePart::Digest => b"digest",
+        EvidencePart::Behind => b"behind",
+    }
+}
+
+// Which part of a file is not evidence, and where it begins.
+fn push_evidence(line: &mut ArrayVec<u8, ROOM>, part: EvidencePart, offset: u64)
+    requires { array_vec_len line.old ≡ 0 }
+    ensures { line.new.items ≡ line.old.items ++ evidence_line part offset }
+{
+    push_text(line, b"status 16 evidence ");
+    push_text(line, part_word(part));
+    push_text(line, b" at ");
+    push_text(line, Buffer::new().format(offset).as_bytes());
+    push_text(line, b"\n");
+}
+
 // Which incident is not saved.
 fn push_incident(line: &mut ArrayVec<u8, ROOM>, id: u32)
     requires { array_vec_len line.old ≡ 0 }
@@ -187,6 +218,7 @@ fn line_of(status: Status) -> ArrayVec<u8, ROOM>
         Status::Capture { number, offset } => {
             push_refusal(&mut line, b"status 16 capture ", number, offset);
         }
+        Status::NoEvidence { part, offset } => push_evidence(&mut line, part, offset),
         Status::Missing(place) => push_missing(&mut line, place),
     }
     line

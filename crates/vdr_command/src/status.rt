@@ -18,6 +18,31 @@ pub enum SaveCause {
     TableFull,
 }
 
+/// The first part of a file that is not evidence.
+#[derive(Clone, Copy, Debug, PartialEq, Eq, Drop)]
+pub enum EvidencePart {
+    /// The eight bytes at the front.
+    Token,
+    /// The text of the configuration.
+    Configuration,
+    /// The number of the medium.
+    Medium,
+    /// The id of the incident.
+    Incident,
+    /// The label of the incident.
+    Label,
+    /// What was asked of the medium.
+    Query,
+    /// A record, where another one or the end should stand.
+    Record,
+    /// The number of records.
+    End,
+    /// The SHA-256 of all before.
+    Digest,
+    /// What stands behind the digest.
+    Behind,
+}
+
 /// How a command ended.
 #[derive(Clone, Copy, Debug, PartialEq, Eq, Drop)]
 pub enum Status {
@@ -73,6 +98,8 @@ pub enum Status {
     ExportPart(u32),
     /// The capture is refused by this number, at the packet or block that begins at this offset.
     Capture { number: u8, offset: u64 },
+    /// The input is not evidence: this part of it is the first that is not legal, and begins at this offset.
+    NoEvidence { part: EvidencePart, offset: u64 },
     /// One medium alone lacks records that it owes, from this place on. Nothing of it is damaged.
     Missing(u64),
 }
@@ -104,7 +131,7 @@ impl Status {
             | Status::ExportMixed(_)
             | Status::ExportLong
             | Status::ExportPart(_) => 14,
-            Status::Capture { .. } => 16,
+            Status::Capture { .. } | Status::NoEvidence { .. } => 16,
         }
     }
 }

@@ -28,7 +28,7 @@ use Rattle.vdr_command.specs.Outside.{InputFailed, OutputSeen}
 use Rattle.vdr_command.specs.Refusals.{number_of}
 use Rattle.vdr_command.specs.StatusLine.{IsConfig}
 use Rattle.vdr_command.specs.declared.status.Status.{Status}
-use Rattle.vdr_command.specs.declared.status.Status.TheVariants.{Done, Words, Config, Small, Unformatted, Formatted, Damaged, MediaFault, PortFault, LinkFault, InputFault, OutputFault, NoMemory, Feed, NoChannel, NoIncident, SaveRefused, Place, Tick, ExportKind, ExportNothing, ExportMixed, ExportLong, ExportPart, Capture, Missing}
+use Rattle.vdr_command.specs.declared.status.Status.TheVariants.{Done, Words, Config, Small, Unformatted, Formatted, Damaged, MediaFault, PortFault, LinkFault, InputFault, OutputFault, NoMemory, Feed, NoChannel, NoIncident, SaveRefused, Place, Tick, ExportKind, ExportNothing, ExportMixed, ExportLong, ExportPart, Capture, NoEvidence, Missing}
 use Rattle.vdr_tool.specs.Formats.{status_of}
 use Rattle.vdr_tool.proofs.FormatLemmas.{known, one_configuration, same_refusal}
 use Rattle.vdr_tool.proofs.Texts.{told_text}
@@ -157,6 +157,7 @@ module _ {M : Type 0} (media : MediaTells M) (left : Option (List ℕ)) (text : 
   made_says end ExportLong says = absurd says
   made_says end (ExportPart number) says = absurd says
   made_says end (Capture number offset) says = absurd says
+  made_says end (NoEvidence named offset) says = absurd says
   made_says end (Missing place) says = absurd says
 
 -- What asks for no media writes nothing but its refusal.
@@ -224,6 +225,7 @@ module _ {M : Type 0} (media : MediaTells M) (old new : MakeOutside) (made : Opt
   makes_all bytes told ExportLong says = absurd says
   makes_all bytes told (ExportPart number) says = absurd says
   makes_all bytes told (Capture number offset) says = absurd says
+  makes_all bytes told (NoEvidence named offset) says = absurd says
   makes_all bytes told (Missing place) says = absurd says
 
   makes_known : (left : Option (List ℕ)) (status : Status) → MakeSays media left old new made status → IfKnown left (λ bytes. media.tells → MakesAll bytes status)

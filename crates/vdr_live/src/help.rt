@@ -30,6 +30,11 @@ Commands:
             each group how many of its datagrams were captured whole or cut, for each cause how
             many were left out, how many the capture lost itself, and how often its clock
             went back.
+  verify    Reads an evidence file from standard input to its end, and prints what it holds: the
+            SHA-256 of the configuration, the medium or the incident, the query, the places and
+            stamps of the first and the last record, how many records of each kind there are,
+            what the gaps count, and the SHA-256 of the file. One that is no evidence ends with
+            its first part that is not legal, and where that begins.
   check     Reads a configuration from standard input and prints what it needs: the
             number of groups, the cost of a second and the usable bytes of a segment,
             and the slots of the capsule and of the long-term medium. A medium of N
@@ -159,6 +164,11 @@ Commands:
   rescue info MEDIUM
             Prints what `info` prints of one medium, `capsule` or `longterm`, by all records that
             legally stand there, and then what `rescue` prints behind the records.
+  compare   Reads both media, each of them alone, and prints by rising place `differs PLACE` where both
+            have a record, with other bytes, and `lacks MEDIUM A B` for the longest runs of places that
+            the other medium has and this one lacks of its window; then `same A B`, the least and the
+            greatest place of records that are the same. `differs configuration` stands before these
+            where the texts of the configurations differ. Nothing is written.
   save LABEL
             Saves an incident: keeps the records of the long-term medium, from the first one
             of the last `incident_seconds` of recorder time to the last one, until the
@@ -184,6 +194,7 @@ Examples:
   vdr . check < examples/ship.json
   vdr . packets < bridge.pcapng
   vdr . import < bridge.pcapng | vdr voyage replay
+  vdr . verify < night.evidence
 
 A voyage on bench media, of which the capsule keeps a minute:
   mkdir voyage
@@ -229,7 +240,8 @@ Exit status, with the line that ends the output:
   4   `status 4 unformatted`: the media are not formatted
   4   `status 4 damaged MEDIUM OFFSET`: a part of this medium, 0 the capsule or 1 the
       long-term medium, is not legal; it begins at OFFSET, in bytes
-  4   `status 4 missing PLACE`: by `rescue`: nothing is damaged, and records lack from PLACE on
+  4   `status 4 missing PLACE`: by `rescue`: nothing is damaged, and records lack from PLACE on;
+      by `compare`: the first place that differs or lacks
   5   `status 5 media`: a medium is in use by another process, may not be opened or
       written, or could not be read, written or synced; what was recorded before stays.
       `play`, `sources`, `targets` and `incidents` need no leave to write. Behind a write or a sync

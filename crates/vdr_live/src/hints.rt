@@ -4,7 +4,7 @@
 use crate::form::Form;
 use crate::wording::{Wrong, is_command, wrong_in};
 use vdr_config::TooSmall;
-use vdr_tool::{SaveCause, Status};
+use vdr_tool::{EvidencePart, SaveCause, Status};
 
 /// The most slots that a medium has.
 const MOST_SLOTS: u64 = 1_000_000;
@@ -126,6 +126,23 @@ fn capture(number: u8) -> &'static str {
     }
 }
 
+// Why a file is not evidence.
+fn not_evidence(part: EvidencePart) -> &'static str {
+    match part {
+        EvidencePart::Token => "its token does not stand",
+        EvidencePart::Configuration => "no configuration stands",
+        EvidencePart::Medium => "no medium stands, 0 or 1",
+        EvidencePart::Incident => "no id of an incident of that medium stands",
+        EvidencePart::Label => "no label of the incident stands, or one of none",
+        EvidencePart::Query => "no query of a channel and two stamps stands",
+        EvidencePart::Record =>
+            "neither the next record that the query selects stands, nor the end",
+        EvidencePart::End => "the end tells another number of records",
+        EvidencePart::Digest => "the SHA-256 is not that of what stands before it",
+        EvidencePart::Behind => "something stands behind its end",
+    }
+}
+
 // Why an incident is not saved.
 fn unsaved(cause: SaveCause) -> &'static str {
     match cause {
@@ -192,7 +209,7 @@ pub(crate) fn hint(rt: &impl Eprint, status: Status) {
         }
         Status::Missing(place) => {
             eprintln!(rt;
-                "vdr: this medium owes records from place {place} on, and lacks them; `rescue play` lists what is missing"
+                "vdr: records lack or differ from place {place} on; `rescue play` lists what one medium lacks, `compare` what both say"
             )
         }
         Status::Feed { number, offset } => {
@@ -202,6 +219,10 @@ pub(crate) fn hint(rt: &impl Eprint, status: Status) {
         Status::Capture { number, offset } => {
             let text = capture(number);
             eprintln!(rt; "vdr: the capture, at byte {offset}: {text}")
+        }
+        Status::NoEvidence { part, offset } => {
+            let text = not_evidence(part);
+            eprintln!(rt; "vdr: this is no evidence file: at byte {offset} {text}")
         }
         Status::NoIncident(id) => {
             eprintln!(rt; "vdr: no incident is saved under {id}; `incidents` lists those that are")

@@ -7,7 +7,7 @@ struct Usage {
     words: &'static [Form],
 }
 
-const USAGES: [Usage; 29] = [
+const USAGES: [Usage; 31] = [
     Usage {
         command: "review",
         words: &[],
@@ -22,6 +22,10 @@ const USAGES: [Usage; 29] = [
     },
     Usage {
         command: "packets",
+        words: &[],
+    },
+    Usage {
+        command: "verify",
         words: &[],
     },
     Usage {
@@ -127,6 +131,10 @@ const USAGES: [Usage; 29] = [
     },
     Usage {
         command: "info",
+        words: &[],
+    },
+    Usage {
+        command: "compare",
         words: &[],
     },
     Usage {

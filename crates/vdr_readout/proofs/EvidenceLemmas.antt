@@ -18,7 +18,7 @@ use Rattle.vdr_command.specs.Outside.{Outside, OutputFailed, OutputSeen, Prints,
 use Rattle.vdr_command.specs.StatusLine.{IsNoChannel, channel_line}
 use Rattle.vdr_command.specs.Statuses.{status_of_opening}
 use Rattle.vdr_command.specs.declared.status.Status.{Status}
-use Rattle.vdr_command.specs.declared.status.Status.TheVariants.{Done, Words, Config, Small, Unformatted, Formatted, Damaged, MediaFault, PortFault, LinkFault, InputFault, OutputFault, NoMemory, Feed, NoChannel, NoIncident, SaveRefused, Place, Tick, ExportKind, ExportNothing, ExportMixed, ExportLong, ExportPart, Capture, Missing}
+use Rattle.vdr_command.specs.declared.status.Status.TheVariants.{Done, Words, Config, Small, Unformatted, Formatted, Damaged, MediaFault, PortFault, LinkFault, InputFault, OutputFault, NoMemory, Feed, NoChannel, NoIncident, SaveRefused, Place, Tick, ExportKind, ExportNothing, ExportMixed, ExportLong, ExportPart, Capture, NoEvidence, Missing}
 use Rattle.vdr_readout.specs.Evidences.{Evidences, evidence_of, heading_asked}
 use Rattle.vdr_readout.specs.Plays.{IsCut, IsPlayStatus}
 use Rattle.vdr_readout.specs.Reads.{AreFirst, AskedPlay, CanBeRead, CanPlay, MetUnreadable, PlayEnds, ShowsReading, StoppedItself, id_of, records_asked}
@@ -176,6 +176,7 @@ module _ {tells tells_images : Type 0} (R : Type 0) (asked : AskedPlay) (disk : 
   owes (ExportPart number) shown = memory (ExportPart number) shown
   owes (Missing place) shown = memory (Missing place) shown
   owes (Capture number offset) shown = memory (Capture number offset) shown
+  owes (NoEvidence named offset) shown = memory (NoEvidence named offset) shown
 
 -- What a writer made of the media is what the command owes.
 pub evidence_owed : {tells tells_images : Type 0} (R : Type 0) (asked : AskedPlay) (Has : List Record → Type 0) (heading : List ℕ) → EvidenceIsWritten → (old new : Outside tells tells_images) (status : Status)

@@ -8,7 +8,7 @@ use Rattle.vdr_export.specs.declared.refused.ExportRefused.TheVariants as export
 use Rattle.vdr_command.specs.Opened.{OneAnswer}
 use Rattle.vdr_command.specs.Outside.{Outside}
 use Rattle.vdr_command.specs.declared.status.Status.{Status}
-use Rattle.vdr_command.specs.declared.status.Status.TheVariants.{Done, Words, Config, Small, Unformatted, Formatted, Damaged, MediaFault, PortFault, LinkFault, InputFault, OutputFault, NoMemory, Feed, NoChannel, NoIncident, SaveRefused, Place, Tick, ExportKind, ExportNothing, ExportMixed, ExportLong, ExportPart, Capture, Missing}
+use Rattle.vdr_command.specs.declared.status.Status.TheVariants.{Done, Words, Config, Small, Unformatted, Formatted, Damaged, MediaFault, PortFault, LinkFault, InputFault, OutputFault, NoMemory, Feed, NoChannel, NoIncident, SaveRefused, Place, Tick, ExportKind, ExportNothing, ExportMixed, ExportLong, ExportPart, Capture, NoEvidence, Missing}
 use Rattle.vdr_command.proofs.OpenedCompleteness.{damaged_refused, memory_refused, opened_refused, unformatted_refused}
 use Rattle.vdr_readout.specs.Exports.{ExportEnds, ExportsAll, IfRefusal, IsJudged, file_in, made_of, status_of_export}
 use Rattle.vdr_readout.specs.Reads.{AskedPlay, LacksChannel, LacksIncident}
@@ -134,6 +134,7 @@ module _ {tells tells_images : Type 0} (wish : Wish) (asked : AskedPlay) (old ne
   exports_all (ExportPart number) output media ends = refused_all (ExportPart number) (exports.Part number) refl (λ P p. p) tt ends
   exports_all (Missing place) output media ends = absurd ends.own
   exports_all (Capture number offset) output media ends = absurd ends.own
+  exports_all (NoEvidence named offset) output media ends = absurd ends.own
   exports_all MediaFault output media ends = absurd (media refl)
   exports_all OutputFault output media ends = absurd (output refl)
   exports_all Words output media ends = absurd ends.own

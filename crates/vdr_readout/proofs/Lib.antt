@@ -23,3 +23,4 @@ pub mod ReadingLemmas
 pub mod InformLemmas
 pub mod AloneInfoLemmas
 pub mod InformAlone
+pub mod CompareLemmas

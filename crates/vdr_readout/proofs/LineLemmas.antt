@@ -11,7 +11,7 @@ use Rattle.vdr_command.specs.Opened.{OneAnswer, PrintsText}
 use Rattle.vdr_command.specs.Outside.{Outside, OutputFailed, OutputSeen, Prints, PrintsFront, Writes}
 use Rattle.vdr_command.specs.StatusLine.{channel_line}
 use Rattle.vdr_command.specs.declared.status.Status.{Status}
-use Rattle.vdr_command.specs.declared.status.Status.TheVariants.{Done, Words, Config, Small, Unformatted, Formatted, Damaged, MediaFault, PortFault, LinkFault, InputFault, OutputFault, NoMemory, Feed, NoChannel, NoIncident, SaveRefused, Place, Tick, ExportKind, ExportNothing, ExportMixed, ExportLong, ExportPart, Capture, Missing}
+use Rattle.vdr_command.specs.declared.status.Status.TheVariants.{Done, Words, Config, Small, Unformatted, Formatted, Damaged, MediaFault, PortFault, LinkFault, InputFault, OutputFault, NoMemory, Feed, NoChannel, NoIncident, SaveRefused, Place, Tick, ExportKind, ExportNothing, ExportMixed, ExportLong, ExportPart, Capture, NoEvidence, Missing}
 use Rattle.vdr_readout.specs.Plays.{IsPlayStatus}
 use Rattle.vdr_readout.specs.Reads.{AreFirst, AskedPlay, CanBeRead, ReadsOut, ShowsReading, StoppedItself, all_records, records_asked}
 use Rattle.vdr_readout.specs.Sources.{whole_of}
@@ -128,6 +128,7 @@ module _ {tells tells_images R : Type 0} (line : List Record → Record → List
   owes (ExportPart number) shown = by_memory (ExportPart number) shown
   owes (Missing place) shown = by_memory (Missing place) shown
   owes (Capture number offset) shown = by_memory (Capture number offset) shown
+  owes (NoEvidence named offset) shown = by_memory (NoEvidence named offset) shown
 
   no_channel : (status : Status) → Shows status → asked.channel ≡ all_records → status ≡ NoChannel → ⊥
   no_channel status shown all is = (subst Shows is shown).1 all

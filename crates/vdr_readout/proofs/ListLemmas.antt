@@ -15,7 +15,7 @@ use Rattle.vdr_readout.specs.Incidents.{CanList, IsListStatus, ListsAll}
 use Rattle.vdr_command.specs.Opened.{AreLooks, MediaEnds, OneAnswer, WasRecorded}
 use Rattle.vdr_command.specs.Outside.{MediaSeen}
 use Rattle.vdr_command.specs.declared.status.Status.{Status}
-use Rattle.vdr_command.specs.declared.status.Status.TheVariants.{Done, Words, Config, Small, Unformatted, Formatted, Damaged, MediaFault, PortFault, LinkFault, InputFault, OutputFault, NoMemory, Feed, NoChannel, NoIncident, SaveRefused, Place, Tick, ExportKind, ExportNothing, ExportMixed, ExportLong, ExportPart, Capture, Missing}
+use Rattle.vdr_command.specs.declared.status.Status.TheVariants.{Done, Words, Config, Small, Unformatted, Formatted, Damaged, MediaFault, PortFault, LinkFault, InputFault, OutputFault, NoMemory, Feed, NoChannel, NoIncident, SaveRefused, Place, Tick, ExportKind, ExportNothing, ExportMixed, ExportLong, ExportPart, Capture, NoEvidence, Missing}
 use Rattle.vdr_command.proofs.OpenedCompleteness.{damaged_refused, opened_refused, memory_refused, unformatted_refused}
 use Rattle.vdr_command.proofs.OpenedLemmas.{OpenedOn, kept_opened, no_looks, opened_so, worked_ends}
 
@@ -62,5 +62,6 @@ module _ {tells tells_images : Type 0} (old new : MediaSeen tells tells_images) 
   lists_all (ExportPart number) output media own ends = absurd own
   lists_all (Missing place) output media own ends = absurd own
   lists_all (Capture number offset) output media own ends = absurd own
+  lists_all (NoEvidence named offset) output media own ends = absurd own
   lists_all (NoIncident id) output media own ends = absurd own
   lists_all (SaveRefused cause) output media own ends = absurd own

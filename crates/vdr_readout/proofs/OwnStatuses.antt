@@ -4,7 +4,7 @@ use Rattle.vdr_command.specs.Opened.{IfDamaged, IfNoIncident}
 use Rattle.vdr_command.specs.Endings.{IsWorkDone}
 use Rattle.vdr_readout.specs.Reads.{IsOwnStatus}
 use Rattle.vdr_command.specs.declared.status.Status.{Status}
-use Rattle.vdr_command.specs.declared.status.Status.TheVariants.{Done, Words, Config, Small, Unformatted, Formatted, Damaged, MediaFault, PortFault, LinkFault, InputFault, OutputFault, NoMemory, Feed, NoChannel, NoIncident, SaveRefused, Place, Tick, ExportKind, ExportNothing, ExportMixed, ExportLong, ExportPart, Capture, Missing}
+use Rattle.vdr_command.specs.declared.status.Status.TheVariants.{Done, Words, Config, Small, Unformatted, Formatted, Damaged, MediaFault, PortFault, LinkFault, InputFault, OutputFault, NoMemory, Feed, NoChannel, NoIncident, SaveRefused, Place, Tick, ExportKind, ExportNothing, ExportMixed, ExportLong, ExportPart, Capture, NoEvidence, Missing}
 
 -- A visitor's own status says nothing of the media.
 pub own_status : (status : Status) (P : ℕ → ℕ → Type 0) (Q : ℕ → Type 0) → IsOwnStatus status → IfDamaged status P × IfNoIncident status Q × (IsWorkDone status → ⊥)
@@ -34,3 +34,4 @@ own_status ExportLong P Q own = (tt, tt, λ done. done)
 own_status (ExportPart number) P Q own = (tt, tt, λ done. done)
 own_status (Missing place) P Q own = (tt, tt, λ done. done)
 own_status (Capture number offset) P Q own = (tt, tt, λ done. done)
+own_status (NoEvidence named offset) P Q own = (tt, tt, λ done. done)

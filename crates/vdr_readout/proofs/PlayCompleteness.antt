@@ -11,7 +11,7 @@ use Rattle.vdr_command.specs.Opened.{OneAnswer}
 use Rattle.vdr_readout.specs.Plays.{IsPlayStatus}
 use Rattle.vdr_readout.specs.Reads.{AskedPlay, LacksChannel, LacksIncident, PlayEnds, PlaysAll}
 use Rattle.vdr_command.specs.declared.status.Status.{Status}
-use Rattle.vdr_command.specs.declared.status.Status.TheVariants.{Done, Words, Config, Small, Unformatted, Formatted, Damaged, MediaFault, PortFault, LinkFault, InputFault, OutputFault, NoMemory, Feed, NoChannel, NoIncident, SaveRefused, Place, Tick, ExportKind, ExportNothing, ExportMixed, ExportLong, ExportPart, Capture, Missing}
+use Rattle.vdr_command.specs.declared.status.Status.TheVariants.{Done, Words, Config, Small, Unformatted, Formatted, Damaged, MediaFault, PortFault, LinkFault, InputFault, OutputFault, NoMemory, Feed, NoChannel, NoIncident, SaveRefused, Place, Tick, ExportKind, ExportNothing, ExportMixed, ExportLong, ExportPart, Capture, NoEvidence, Missing}
 use Rattle.vdr_command.proofs.OpenedCompleteness.{damaged_refused, memory_refused, opened_refused, unformatted_refused}
 
 pub not_live : (table : List (Option histories.Incident)) (medium : Medium) (id : ℕ) → medium ≡ Incident id → live table id ≡ None → LacksIncident table medium
@@ -104,3 +104,4 @@ module _ {tells tells_images : Type 0} (asked : AskedPlay) (old new : MediaSeen 
   plays_all (ExportPart number) output media own ends = absurd own
   plays_all (Missing place) output media own ends = absurd own
   plays_all (Capture number offset) output media own ends = absurd own
+  plays_all (NoEvidence named offset) output media own ends = absurd own

@@ -11,7 +11,7 @@ use Rattle.vdr_command.specs.Opened.{OneAnswer, PrintsText}
 use Rattle.vdr_command.specs.Outside.{Outside, OutputFailed, OutputSeen, Prints, PrintsFront, Writes}
 use Rattle.vdr_command.specs.StatusLine.{IsNoChannel, channel_line}
 use Rattle.vdr_command.specs.declared.status.Status.{Status}
-use Rattle.vdr_command.specs.declared.status.Status.TheVariants.{Done, Words, Config, Small, Unformatted, Formatted, Damaged, MediaFault, PortFault, LinkFault, InputFault, OutputFault, NoMemory, Feed, NoChannel, NoIncident, SaveRefused, Place, Tick, ExportKind, ExportNothing, ExportMixed, ExportLong, ExportPart, Capture, Missing}
+use Rattle.vdr_command.specs.declared.status.Status.TheVariants.{Done, Words, Config, Small, Unformatted, Formatted, Damaged, MediaFault, PortFault, LinkFault, InputFault, OutputFault, NoMemory, Feed, NoChannel, NoIncident, SaveRefused, Place, Tick, ExportKind, ExportNothing, ExportMixed, ExportLong, ExportPart, Capture, NoEvidence, Missing}
 use Rattle.vdr_recorder.proofs.Printing.{line_after, lines_are, whole_is}
 use Rattle.vdr_readout.specs.Plays.{IsCut, IsPlayStatus, Plays, play_text}
 use Rattle.vdr_readout.specs.Reads.{AreFirst, AskedPlay, CanBeRead, ReadsOut, ShowsReading, StoppedItself, records_asked}
@@ -58,6 +58,7 @@ module _ {tells tells_images R : Type 0} (asked : AskedPlay) (disk : Disk tells 
   play_status (ExportPart number) shown = is_play (ExportPart number) (of_memory (ExportPart number) shown).0
   play_status (Missing place) shown = is_play (Missing place) (of_memory (Missing place) shown).0
   play_status (Capture number offset) shown = is_play (Capture number offset) (of_memory (Capture number offset) shown).0
+  play_status (NoEvidence named offset) shown = is_play (NoEvidence named offset) (of_memory (NoEvidence named offset) shown).0
 
   text_is : (x : Contents) (all : List Record) → all ≡ records_asked x asked → whole_text (line_after first) (λ all. []) all ≡ play_text x asked
   text_is x all is = whole_is first all new ∙ ap (λ (rs : List Record). records_text nothing_seen rs) is
@@ -89,6 +90,7 @@ module _ {tells tells_images R : Type 0} (asked : AskedPlay) (disk : Disk tells 
   play_printed (ExportPart number) shown x t holds can = tt
   play_printed (Missing place) shown x t holds can = tt
   play_printed (Capture number offset) shown x t holds can = tt
+  play_printed (NoEvidence named offset) shown x t holds can = tt
 
   play_cut : (status : Status) → Shows status → IsCut status → (front : List Record) × Prints (records_text nothing_seen front) was next × AreFirst asked disk front
   play_cut Done shown cut = absurd cut
@@ -117,6 +119,7 @@ module _ {tells tells_images R : Type 0} (asked : AskedPlay) (disk : Disk tells 
   play_cut (ExportPart number) shown cut = absurd cut
   play_cut (Missing place) shown cut = absurd cut
   play_cut (Capture number offset) shown cut = absurd cut
+  play_cut (NoEvidence named offset) shown cut = absurd cut
 
   play_output : (status : Status) → Shows status → status ≡ OutputFault → OutputFailed was next
   play_output status shown is = (subst Shows is shown).0
@@ -151,6 +154,7 @@ module _ {tells tells_images R : Type 0} (asked : AskedPlay) (disk : Disk tells 
   play_silent (ExportPart number) shown = inr (inr (inr (of_memory (ExportPart number) shown).1))
   play_silent (Missing place) shown = inr (inr (inr (of_memory (Missing place) shown).1))
   play_silent (Capture number offset) shown = inr (inr (inr (of_memory (Capture number offset) shown).1))
+  play_silent (NoEvidence named offset) shown = inr (inr (inr (of_memory (NoEvidence named offset) shown).1))
 
 -- What a player made of the media is what `play` owes.
 module _ {tells tells_images R : Type 0} {asked : AskedPlay} {Has : List Record → Type 0} {status_of : R → Status} {first : Seen} {old new : Outside tells tells_images} {status : Status} (fresh : first ≡ nothing_seen)

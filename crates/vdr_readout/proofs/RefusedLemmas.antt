@@ -26,7 +26,7 @@ use Rattle.vdr_vault.proofs.Channels.{has_number, number_if, position_within}
 use Rattle.vdr_visit.specs.Refusals.{lacks_channel, lacks_incident}
 use Rattle.vdr_readout.specs.Reads.{AskedPlay, CanPlay, IsOwnStatus, LacksChannel, LacksIncident, MetUnreadable, PlayEnds, ReadsOut, ShowsReading, StoppedItself, channel_asked, channel_in, all_records, id_of, records_asked}
 use Rattle.vdr_command.specs.declared.status.Status.{Status}
-use Rattle.vdr_command.specs.declared.status.Status.TheVariants.{Done, Words, Config, Small, Unformatted, Formatted, Damaged, MediaFault, PortFault, LinkFault, InputFault, OutputFault, NoMemory, Feed, NoChannel, NoIncident, SaveRefused, Place, Tick, ExportKind, ExportNothing, ExportMixed, ExportLong, ExportPart, Capture, Missing}
+use Rattle.vdr_command.specs.declared.status.Status.TheVariants.{Done, Words, Config, Small, Unformatted, Formatted, Damaged, MediaFault, PortFault, LinkFault, InputFault, OutputFault, NoMemory, Feed, NoChannel, NoIncident, SaveRefused, Place, Tick, ExportKind, ExportNothing, ExportMixed, ExportLong, ExportPart, Capture, NoEvidence, Missing}
 use Rattle.vdr_recorder.proofs.Playing.{config_read}
 use Rattle.vdr_command.proofs.OpenedLemmas.{OpenedOn, kept_opened, no_looks, opened_so}
 
@@ -143,6 +143,7 @@ module _ {tells tells_images : Type 0} where
   own_shown asked disk Has Stops status_of line last was next (ExportPart number) own stopped = inr stopped
   own_shown asked disk Has Stops status_of line last was next (Missing place) own stopped = inr stopped
   own_shown asked disk Has Stops status_of line last was next (Capture number offset) own stopped = inr stopped
+  own_shown asked disk Has Stops status_of line last was next (NoEvidence named offset) own stopped = inr stopped
 
   -- Where opening is refused nothing is printed.
   opening_shown : {R : Type 0} (asked : AskedPlay) (disk : Disk tells tells_images) (Has : List Record → Type 0) (Stops : List Record → R → Type 0) (status_of : R → Status) (line : List Record → Record → List ℕ)

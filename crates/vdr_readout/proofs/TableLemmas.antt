@@ -14,7 +14,7 @@ use Rattle.vdr_command.specs.Endings.{IsWorkDone}
 use Rattle.vdr_command.specs.Opened.{OneAnswer, PrintsText}
 use Rattle.vdr_command.specs.Outside.{Outside, OutputFailed, OutputSeen, Prints, PrintsFront}
 use Rattle.vdr_command.specs.declared.status.Status.{Status}
-use Rattle.vdr_command.specs.declared.status.Status.TheVariants.{Done, Words, Config, Small, Unformatted, Formatted, Damaged, MediaFault, PortFault, LinkFault, InputFault, OutputFault, NoMemory, Feed, NoChannel, NoIncident, SaveRefused, Place, Tick, ExportKind, ExportNothing, ExportMixed, ExportLong, ExportPart, Capture, Missing}
+use Rattle.vdr_command.specs.declared.status.Status.TheVariants.{Done, Words, Config, Small, Unformatted, Formatted, Damaged, MediaFault, PortFault, LinkFault, InputFault, OutputFault, NoMemory, Feed, NoChannel, NoIncident, SaveRefused, Place, Tick, ExportKind, ExportNothing, ExportMixed, ExportLong, ExportPart, Capture, NoEvidence, Missing}
 use Rattle.vdr_readout.specs.Plays.{IsPlayStatus}
 use Rattle.vdr_readout.specs.Reads.{AskedPlay, CanBeRead, ReadsOut, ShowsReading, StoppedItself, all_records, records_asked}
 use Rattle.vdr_readout.specs.Tables.{TellsTable}
@@ -62,6 +62,7 @@ module _ {tells tells_images R : Type 0} (asked : AskedPlay) (plain : asked.chan
   table_status (ExportPart number) shown = is_play (ExportPart number) (of_memory (ExportPart number) shown)
   table_status (Missing place) shown = is_play (Missing place) (of_memory (Missing place) shown)
   table_status (Capture number offset) shown = is_play (Capture number offset) (of_memory (Capture number offset) shown)
+  table_status (NoEvidence named offset) shown = is_play (NoEvidence named offset) (of_memory (NoEvidence named offset) shown)
 
   table_channel : (status : Status) → Shows status → status ≡ NoChannel → ⊥
   table_channel status shown is = (subst Shows is shown).1 plain
@@ -96,6 +97,7 @@ module _ {tells tells_images R : Type 0} (asked : AskedPlay) (plain : asked.chan
   table_printed (ExportPart number) shown x t holds can = tt
   table_printed (Missing place) shown x t holds can = tt
   table_printed (Capture number offset) shown x t holds can = tt
+  table_printed (NoEvidence named offset) shown x t holds can = tt
 
   table_output : (status : Status) → Shows status → status ≡ OutputFault → OutputFailed was next
   table_output status shown is = (subst Shows is shown).0
@@ -136,6 +138,7 @@ module _ {tells tells_images R : Type 0} (asked : AskedPlay) (plain : asked.chan
   table_silent (ExportPart number) shown = inr (none_of (ExportPart number) shown)
   table_silent (Missing place) shown = inr (none_of (Missing place) shown)
   table_silent (Capture number offset) shown = inr (none_of (Capture number offset) shown)
+  table_silent (NoEvidence named offset) shown = inr (none_of (NoEvidence named offset) shown)
 
 -- What a visitor made of the media that prints a table behind the last record is what the command owes.
 module _ {tells tells_images R : Type 0} {asked : AskedPlay} {Has : List Record → Type 0} {Stops : List Record → R → Type 0} {old new : Outside tells tells_images} {status : Status} (plain : asked.channel ≡ all_records)

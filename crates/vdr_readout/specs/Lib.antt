@@ -16,3 +16,4 @@ pub mod RescuedFiles
 pub mod Readings
 pub mod Informs
 pub mod Evidences
+pub mod Compares

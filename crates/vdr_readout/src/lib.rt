@@ -2,6 +2,7 @@
 #![tactic(auto)]
 
 mod answering;
+mod comparing;
 mod evidencing;
 mod exporting;
 mod informing;
@@ -20,6 +21,7 @@ mod telling;
 mod watching;
 
 pub use answering::{Reading, answer_reading, answer_rescue};
+pub use comparing::answer_compare;
 pub use evidencing::answer_evidence;
 pub use informing::answer_info;
 pub use informing_alone::answer_rescue_info;

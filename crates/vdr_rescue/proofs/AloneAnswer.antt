@@ -12,6 +12,7 @@ use Rattle.vdr_segment.specs.declared.area.Area.{Area}
 use Rattle.vdr_opening.specs.Media.{HoldsConfigText}
 use Rattle.vdr_rescue.specs.declared.findings.Finding.{Finding}
 use Rattle.vdr_rescue.specs.declared.fronts.Head.{Head}
+use Rattle.vdr_rescue.specs.declared.told.Told.{Told}
 use Rattle.vdr_rescue.specs.Alones.{AloneState, IsAloneOn, IsOfKind, IsReadThrough, IsReadingOrder, IsSameMedium, RefusesAlone, Rescue, Rescued, Selects, account_of, selected_of}
 use Rattle.vdr_rescue.specs.Findings.{Account, AreFindings}
 use Rattle.vdr_rescue.specs.Fronts.{AreFronts, FrontsState}
@@ -98,3 +99,6 @@ selects_given m bytes a x query h k = selects_here m bytes a x h k query
 pub found_once : (m : ℕ) (bytes : List ℕ) (a b : AloneState) (x : Rescue) (given : List Record) (findings : List Finding) → IsAloneOn m bytes a → IsSameMedium a b
     → IsReadThrough bytes a.cursor b.cursor.told given → Rescued m bytes x → AreFindings (account_of b) findings → findings ≡ x.findings
 found_once m bytes a b x given findings h same read k found = found_here m bytes a x h k b given findings same read found
+
+pub reads_given : (m : ℕ) (bytes : List ℕ) (a : AloneState) (x : Rescue) → IsAloneOn m bytes a → Rescued m bytes x → (told : List Told) × IsReadThrough bytes a.cursor told x.given
+reads_given m bytes a x h k = (k.told, read_here m bytes a x h k)

@@ -249,6 +249,13 @@ impl Alone {
         self.cursor.area().medium
     }
 
+    /// The reader of its records, wherever it stands.
+    pub fn into_cursor(self) -> Cursor
+        ensures { result ≡ self.cursor }
+    {
+        self.cursor
+    }
+
     /// The live save of an id. None where its slot is free or is not legal, and on the capsule.
     pub fn live(&self, id: u32) -> Option<&Save>
         ensures { option_copied result ≡ live self.now.saves.table id }

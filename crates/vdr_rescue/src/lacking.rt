@@ -62,8 +62,8 @@ fn greatest_of(pins: &[Places]) -> Option<u64>
         .fold(None, |greatest, pin| greater_of(greatest, *pin))
 }
 
-// Whether a second is in the window of so many seconds that ends with the second `last`.
-fn is_in_window(second: u64, last: u64, seconds: u64) -> bool
+/// Whether a second is in the window of so many seconds that ends with the second `last`.
+pub fn is_in_window(second: u64, last: u64, seconds: u64) -> bool
     ensures { result ≡ in_window second last seconds }
 {
     match second.checked_add(seconds) {

@@ -13,6 +13,7 @@ ghost use Rattle.vdr_vault.specs.Ours.{IsOurs};
 ghost use Rattle.vdr_segment.specs.Segments.{AreBatches};
 ghost use Rattle.vdr_index.specs.Extents.{records_in};
 ghost use Rattle.vdr_rescue.specs.declared.findings.Finding.{Finding as AFinding};
+ghost use Rattle.vdr_rescue.specs.declared.told.Told.{Told as ATold};
 ghost use Rattle.vdr_terms.specs.Queries.{Query};
 ghost use Rattle.vdr_rescue.specs.Alones.{AloneState, IsAloneOn, IsReadThrough, IsSameMedium, RefusesAlone, Rescue, Rescued, Selects, account_of, selected_of};
 ghost use Rattle.vdr_opening.specs.Media.{Contents, HoldsContents, members, opening_of, slots_on};
@@ -36,12 +37,13 @@ pub fn law_of_rescued()
 {}
 
 /// One medium of any bytes is refused at one offset, or gives one answer: what was opened has its configuration and its saves,
-/// selects of its records, and in the end finds what it finds.
+/// reads its records, selects of them, and in the end finds what it finds.
 pub fn law_of_alone()
     ensures same { (m : ℕ) (bytes : List ℕ) (a : AloneState) (x : Rescue) → IsAloneOn m bytes a → Rescued m bytes x → (a.config ≡ x.config) × (a.saves.table ≡ x.table) }
     ensures refused { (m offset : ℕ) (bytes : List ℕ) (a : AloneState) → RefusesAlone m bytes offset → IsAloneOn m bytes a → ⊥ }
     ensures never { (m offset : ℕ) (bytes : List ℕ) (x : Rescue) → RefusesAlone m bytes offset → Rescued m bytes x → ⊥ }
     ensures one { (m p q : ℕ) (bytes : List ℕ) → RefusesAlone m bytes p → RefusesAlone m bytes q → p ≡ q }
+    ensures read { (m : ℕ) (bytes : List ℕ) (a : AloneState) (x : Rescue) → IsAloneOn m bytes a → Rescued m bytes x → (told : List ATold) × IsReadThrough bytes a.cursor told x.given }
     ensures given { (m : ℕ) (bytes : List ℕ) (a : AloneState) (x : Rescue) (query : Query) → IsAloneOn m bytes a → Rescued m bytes x → Selects bytes a query (selected_of x query) }
     ensures found { (m : ℕ) (bytes : List ℕ) (a b : AloneState) (x : Rescue) (given : List Entry) (findings : List AFinding) → IsAloneOn m bytes a → IsSameMedium a b
         → IsReadThrough bytes a.cursor b.cursor.told given → Rescued m bytes x → AreFindings (account_of b) findings → findings ≡ x.findings }

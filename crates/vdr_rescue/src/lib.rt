@@ -33,6 +33,6 @@ pub use found::{Found, found_of, print_findings};
 pub use front::Front;
 pub use fronts::{Fronts, Head, read_fronts};
 pub use given::{Stand, next_given};
-pub use lacking::Places;
+pub use lacking::{Places, is_in_window};
 pub use law::{law_of_alone, law_of_given, law_of_legible, law_of_rescue, law_of_rescued};
 pub use told::{Run, Told};

@@ -15,7 +15,7 @@ use Rattle.vdr_command.specs.Outside.{OutputSeen}
 use Rattle.vdr_tool.specs.Reviews.{IsReviewStatus, ReviewsAll}
 use Rattle.vdr_command.specs.StatusLine.{IfFeed}
 use Rattle.vdr_command.specs.declared.status.Status.{Status}
-use Rattle.vdr_command.specs.declared.status.Status.TheVariants.{Done, Words, Config, Small, Unformatted, Formatted, Damaged, MediaFault, PortFault, LinkFault, InputFault, OutputFault, NoMemory, Feed, NoChannel, NoIncident, SaveRefused, Place, Tick, ExportKind, ExportNothing, ExportMixed, ExportLong, ExportPart, Capture, Missing}
+use Rattle.vdr_command.specs.declared.status.Status.TheVariants.{Done, Words, Config, Small, Unformatted, Formatted, Damaged, MediaFault, PortFault, LinkFault, InputFault, OutputFault, NoMemory, Feed, NoChannel, NoIncident, SaveRefused, Place, Tick, ExportKind, ExportNothing, ExportMixed, ExportLong, ExportPart, Capture, NoEvidence, Missing}
 use Rattle.vdr_tool.proofs.FormatLemmas.{same_refusal}
 
 pub completes : (left : Option (List ℕ)) (status : Status) → IsReviewStatus status → NoFeedIsRefused → OneRefusal
@@ -47,6 +47,7 @@ completes (Some bytes) ExportLong own none one input output done feed = absurd o
 completes (Some bytes) (ExportPart number) own none one input output done feed = absurd own
 completes (Some bytes) (Missing place) own none one input output done feed = absurd own
 completes (Some bytes) (Capture number offset) own none one input output done feed = absurd own
+completes (Some bytes) (NoEvidence named offset) own none one input output done feed = absurd own
 completes (Some bytes) MediaFault own none one input output done feed = absurd own
 completes (Some bytes) InputFault own none one input output done feed = absurd (input refl)
 completes (Some bytes) OutputFault own none one input output done feed = absurd (output refl)
@@ -86,6 +87,7 @@ checks_all (Some bytes) was next ExportLong own input output done config = absur
 checks_all (Some bytes) was next (ExportPart number) own input output done config = absurd own
 checks_all (Some bytes) was next (Missing place) own input output done config = absurd own
 checks_all (Some bytes) was next (Capture number offset) own input output done config = absurd own
+checks_all (Some bytes) was next (NoEvidence named offset) own input output done config = absurd own
 checks_all (Some bytes) was next MediaFault own input output done config = absurd own
 checks_all (Some bytes) was next InputFault own input output done config = absurd (input refl)
 checks_all (Some bytes) was next OutputFault own input output done config = absurd (output refl)

@@ -21,7 +21,7 @@ use Rattle.vdr_tool.specs.Formats.{FormatEnds, FormatsAll, IfBad, IfConfiguratio
 use Rattle.vdr_command.specs.Outside.{MediaFailed, MediaSeen, OutputSeen}
 use Rattle.vdr_command.specs.StatusLine.{IfConfig}
 use Rattle.vdr_command.specs.declared.status.Status.{Status}
-use Rattle.vdr_command.specs.declared.status.Status.TheVariants.{Done, Words, Config, Small, Unformatted, Formatted, Damaged, MediaFault, PortFault, LinkFault, InputFault, OutputFault, NoMemory, Feed, NoChannel, NoIncident, SaveRefused, Place, Tick, ExportKind, ExportNothing, ExportMixed, ExportLong, ExportPart, Capture, Missing}
+use Rattle.vdr_command.specs.declared.status.Status.TheVariants.{Done, Words, Config, Small, Unformatted, Formatted, Damaged, MediaFault, PortFault, LinkFault, InputFault, OutputFault, NoMemory, Feed, NoChannel, NoIncident, SaveRefused, Place, Tick, ExportKind, ExportNothing, ExportMixed, ExportLong, ExportPart, Capture, NoEvidence, Missing}
 
 -- The configuration that a text is.
 pub read_as : (r : Result Configuration ConfigBad) → IsOk r → (c : Configuration) × (r ≡ Ok c)
@@ -255,6 +255,7 @@ module _ {tells tells_images : Type 0} (again : Bool) (bytes : List ℕ) (old ne
   formats_all was next (ExportPart number) input media answers config = absurd answers.own
   formats_all was next (Missing place) input media answers config = absurd answers.own
   formats_all was next (Capture number offset) input media answers config = absurd answers.own
+  formats_all was next (NoEvidence named offset) input media answers config = absurd answers.own
   formats_all was next Formatted input media answers config =
       let is = answers.formatted refl in
       let c = is.1 in

@@ -1,4 +1,5 @@
 pub mod CaptureLemmas
+mod VerifyLemmas
 pub mod Completeness
 pub mod CountLemmas
 pub mod FeedLemmas

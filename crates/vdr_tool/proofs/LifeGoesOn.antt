@@ -20,7 +20,7 @@ use Rattle.vdr_replay.specs.declared.ended.ReplayRefused.{ReplayRefused}
 use Rattle.vdr_media.proofs.Unformatted.{unchanged_moments}
 use Rattle.vdr_readout.proofs.ReadingLemmas.{reading_plays, rescue_unchanged}
 use Rattle.vdr_tool.specs.Commands.{Asked}
-use Rattle.vdr_tool.specs.Commands.Asked.{Review, Check, Format, Replay, Read, Evidence, Page, Incidents, Info, Save, Release, Trial, Import, Packets, Rescue, RescueInfo}
+use Rattle.vdr_tool.specs.Commands.Asked.{Review, Check, Format, Replay, Read, Evidence, Page, Incidents, Info, Save, Release, Trial, Import, Packets, Verify, Rescue, RescueInfo, Compare}
 use Rattle.vdr_tool.specs.Lives.{FormatsNothing}
 use Rattle.vdr_command.specs.Opened.{ContentsKept, IsUnopened, KeepsContents, MediaEnds}
 use Rattle.vdr_command.specs.Outside.{MediaSeen, Outside}
@@ -70,6 +70,7 @@ module _ {tells tells_images : Type 0} (c : Configuration) (text : List ℕ) (ru
   life_of Check old new hears w status owed uses none told live = absurd uses
   life_of Import old new hears w status owed uses none told live = absurd uses
   life_of Packets old new hears w status owed uses none told live = absurd uses
+  life_of Verify old new hears w status owed uses none told live = absurd uses
   life_of (Rescue reading) old new hears w status owed uses none told live = inl (unchanged_moments old.media.disk new.media.disk (rescue_unchanged old new status reading owed))
   life_of (Format again) old new hears w status owed uses none told live = absurd none
   life_of Replay old new hears w status owed uses none told live = replay_life old.input.left new.input.left old.media new.media hears w owed.answer owed.media told live
@@ -78,6 +79,7 @@ module _ {tells tells_images : Type 0} (c : Configuration) (text : List ℕ) (ru
   life_of (Page asked words) old new hears w status owed uses none told live = media_life old.media new.media status owed.ends.media.media told live
   life_of Info old new hears w status owed uses none told live = inl owed.untouched.leaves
   life_of (RescueInfo medium) old new hears w status owed uses none told live = inl (unchanged_moments old.media.disk new.media.disk owed.media.unchanged)
+  life_of Compare old new hears w status owed uses none told live = inl (unchanged_moments old.media.disk new.media.disk owed.unchanged)
   life_of Incidents old new hears w status owed uses none told live = media_life old.media new.media status owed.media told live
   life_of (Save label) old new hears w status owed uses none told live = media_life old.media new.media status owed.media told live
   life_of (Trial seed count) old new hears w status owed uses none told live = absurd none

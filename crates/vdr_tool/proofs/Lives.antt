@@ -16,7 +16,7 @@ use Rattle.vdr_vault.specs.Ours.{AreOurs, IsOurs, StayOurs}
 use Rattle.vdr_vault.proofs.Ours.{ours_formatted, ours_opened, ours_unchanged}
 use Rattle.vdr_readout.proofs.ReadingLemmas.{reading_plays, rescue_unchanged}
 use Rattle.vdr_tool.specs.Commands.{Asked}
-use Rattle.vdr_tool.specs.Commands.Asked.{Review, Check, Format, Replay, Read, Evidence, Page, Incidents, Info, Save, Release, Trial, Import, Packets, Rescue, RescueInfo}
+use Rattle.vdr_tool.specs.Commands.Asked.{Review, Check, Format, Replay, Read, Evidence, Page, Incidents, Info, Save, Release, Trial, Import, Packets, Verify, Rescue, RescueInfo, Compare}
 use Rattle.vdr_tool.specs.Formats.{FormatEnds, outcome_of}
 use Rattle.vdr_command.specs.Opened.{ContentsKept, IsUnopened, KeepsContents, MediaEnds}
 use Rattle.vdr_command.specs.Outside.{MediaFailed, MediaSeen, Outside}
@@ -100,6 +100,7 @@ module _ {tells tells_images : Type 0} where
   lives_of Check old new hears w status owed uses told ours = absurd uses
   lives_of Import old new hears w status owed uses told ours = absurd uses
   lives_of Packets old new hears w status owed uses told ours = absurd uses
+  lives_of Verify old new hears w status owed uses told ours = absurd uses
   lives_of (Rescue reading) old new hears w status owed uses told ours = ours_unchanged old.media.disk new.media.disk (rescue_unchanged old new status reading owed) ours
   lives_of (Format again) old new hears w status owed uses told ours = format_lives again old.input.left old.media new.media status owed.media ours
   lives_of Replay old new hears w status owed uses told ours = replay_lives old.input.left new.input.left old.media new.media hears w owed.answer owed.media told ours
@@ -108,6 +109,7 @@ module _ {tells tells_images : Type 0} where
   lives_of (Page asked words) old new hears w status owed uses told ours = media_lives old.media new.media status owed.ends.media.media told ours
   lives_of Info old new hears w status owed uses told ours = ours_left old.media.disk new.media.disk owed.untouched.leaves ours
   lives_of (RescueInfo medium) old new hears w status owed uses told ours = ours_unchanged old.media.disk new.media.disk owed.media.unchanged ours
+  lives_of Compare old new hears w status owed uses told ours = ours_unchanged old.media.disk new.media.disk owed.unchanged ours
   lives_of Incidents old new hears w status owed uses told ours = media_lives old.media new.media status owed.media told ours
   lives_of (Save label) old new hears w status owed uses told ours = media_lives old.media new.media status owed.media told ours
   lives_of (Release id) old new hears w status owed uses told ours = media_lives old.media new.media status owed.media told ours

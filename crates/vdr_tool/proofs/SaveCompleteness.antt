@@ -10,7 +10,7 @@ use Rattle.vdr_tool.specs.Releases.{CanRelease, IsReleaseStatus, ReleasesAll}
 use Rattle.vdr_tool.specs.Saves.{CanSave, IfSaveRefused, IsJudged, IsSaveStatus, SavesAll, save_cause}
 use Rattle.vdr_command.specs.declared.status.SaveCause.{SaveCause}
 use Rattle.vdr_command.specs.declared.status.Status.{Status}
-use Rattle.vdr_command.specs.declared.status.Status.TheVariants.{Done, Words, Config, Small, Unformatted, Formatted, Damaged, MediaFault, PortFault, LinkFault, InputFault, OutputFault, NoMemory, Feed, NoChannel, NoIncident, SaveRefused, Place, Tick, ExportKind, ExportNothing, ExportMixed, ExportLong, ExportPart, Capture, Missing}
+use Rattle.vdr_command.specs.declared.status.Status.TheVariants.{Done, Words, Config, Small, Unformatted, Formatted, Damaged, MediaFault, PortFault, LinkFault, InputFault, OutputFault, NoMemory, Feed, NoChannel, NoIncident, SaveRefused, Place, Tick, ExportKind, ExportNothing, ExportMixed, ExportLong, ExportPart, Capture, NoEvidence, Missing}
 use Rattle.vdr_command.proofs.OpenedCompleteness.{damaged_refused, last_read, memory_refused, opened_refused, unformatted_refused}
 
 one_cause : (a b : SaveCause) (found : Option SaveCause) → found ≡ Some a → found ≡ Some b → SaveRefused a ≡ SaveRefused b
@@ -96,6 +96,7 @@ module _ {tells tells_images : Type 0} (old new : MediaSeen tells tells_images) 
   saves_all label (ExportPart number) output media own ends refused = absurd own
   saves_all label (Missing place) output media own ends refused = absurd own
   saves_all label (Capture number offset) output media own ends refused = absurd own
+  saves_all label (NoEvidence named offset) output media own ends refused = absurd own
   saves_all label (NoIncident id) output media own ends refused = absurd own
 
   pub releases_all : (id : ℕ) (status : Status) → (status ≡ MediaFault → ⊥) → IsReleaseStatus status
@@ -153,4 +154,5 @@ module _ {tells tells_images : Type 0} (old new : MediaSeen tells tells_images) 
   releases_all id (ExportPart number) media own ends missing = absurd own
   releases_all id (Missing place) media own ends missing = absurd own
   releases_all id (Capture number offset) media own ends missing = absurd own
+  releases_all id (NoEvidence named offset) media own ends missing = absurd own
   releases_all id (SaveRefused cause) media own ends missing = absurd own

@@ -27,7 +27,7 @@ use Rattle.vdr_command.specs.Opened.{PrintsText}
 use Rattle.vdr_command.specs.Outside.{MediaFailed, MediaSeen, OutputFailed, Outside}
 use Rattle.vdr_command.proofs.OpenedLemmas.{done_either}
 use Rattle.vdr_command.specs.declared.status.Status.{Status}
-use Rattle.vdr_command.specs.declared.status.Status.TheVariants.{Done, Words, Config, Small, Unformatted, Formatted, Damaged, MediaFault, PortFault, LinkFault, InputFault, OutputFault, NoMemory, Feed, NoChannel, NoIncident, SaveRefused, Place, Tick, ExportKind, ExportNothing, ExportMixed, ExportLong, ExportPart, Capture, Missing}
+use Rattle.vdr_command.specs.declared.status.Status.TheVariants.{Done, Words, Config, Small, Unformatted, Formatted, Damaged, MediaFault, PortFault, LinkFault, InputFault, OutputFault, NoMemory, Feed, NoChannel, NoIncident, SaveRefused, Place, Tick, ExportKind, ExportNothing, ExportMixed, ExportLong, ExportPart, Capture, NoEvidence, Missing}
 use Rattle.vdr_tool.specs.Formats.{FormatEnds}
 use Rattle.vdr_tool.specs.TrialParts.{BreaksOff, CountsWindows, IfStatus, IsBenchStatus, IsOwnStatus, IsRunStatus, IsTally, IsPartStatus, RunsItems, as_u64}
 use Rattle.vdr_tool.specs.Trials.{ComesTo, IsAfterRun, IsOfOtherMedia, LeavesRun, TrialEnds, TrialLeaves, Trials, TriesAll, all_of, bench, bench_text, fresh, trial_items, trial_lines, trial_records, trial_text, window_count}
@@ -116,6 +116,7 @@ module _ {tells tells_images : Type 0} (seed count : ℕ) where
   refused_as old new (ExportPart part) h ends = absurd h
   refused_as old new (Missing place) h ends = absurd h
   refused_as old new (Capture number offset) h ends = absurd h
+  refused_as old new (NoEvidence named offset) h ends = absurd h
 
   -- The media were formatted. What is left to say of the run is said where they tell.
   module _ (old mid new : MediaSeen tells tells_images) (ends : FormatEnds false (Some bench_text) old mid Done) where
@@ -186,6 +187,7 @@ module _ {tells tells_images : Type 0} (seed count : ℕ) where
       left_by (ExportPart part) told runs = absurd runs
       left_by (Missing place) told runs = absurd runs
       left_by (Capture number offset) told runs = absurd runs
+      left_by (NoEvidence named offset) told runs = absurd runs
 
       not_other : (s : Status) → RunsItems seed count (Rose (sum mid.faults) (sum new.faults)) mid.disk new.disk (Err s) → IsOfOtherMedia s → ⊥
       not_other Done runs other = absurd runs
@@ -214,6 +216,7 @@ module _ {tells tells_images : Type 0} (seed count : ℕ) where
       not_other (ExportPart part) runs other = absurd runs
       not_other (Missing place) runs other = absurd runs
       not_other (Capture number offset) runs other = absurd runs
+      not_other (NoEvidence named offset) runs other = absurd runs
 
       pub run_stops_as : (s : Status) → IsRunStatus s → (s ≡ MediaFault → Rose (sum mid.faults) (sum new.faults)) → (tells → SameElsewhere mid.disk.reads new.disk.reads)
           → (tells → RunsItems seed count (Rose (sum mid.faults) (sum new.faults)) mid.disk new.disk (Err s)) → TrialEnds seed count old new s
@@ -338,6 +341,7 @@ module _ {tells tells_images : Type 0} (seed count : ℕ) (old new : MediaSeen t
   tries_all (ExportPart part) output media ends = absurd ends.own
   tries_all (Missing place) output media ends = absurd ends.own
   tries_all (Capture number offset) output media ends = absurd ends.own
+  tries_all (NoEvidence named offset) output media ends = absurd ends.own
 
 -- The output failed where all else was done.
 pub output_failed : {tells tells_images : Type 0} (seed count : ℕ) (old new : MediaSeen tells tells_images) → TrialEnds seed count old new Done → TrialEnds seed count old new OutputFault

@@ -7,7 +7,7 @@ use Rattle.vdr_command.specs.Opened.{PrintsText}
 use Rattle.vdr_command.specs.Outside.{OutputSeen}
 use Rattle.vdr_command.specs.StatusLine.{IfSmall}
 use Rattle.vdr_command.specs.declared.status.Status.{Status}
-use Rattle.vdr_command.specs.declared.status.Status.TheVariants.{Done, Words, Config, Small, Unformatted, Formatted, Damaged, MediaFault, PortFault, LinkFault, InputFault, OutputFault, NoMemory, Feed, NoChannel, NoIncident, SaveRefused, Place, Tick, ExportKind, ExportNothing, ExportMixed, ExportLong, ExportPart, Capture, Missing}
+use Rattle.vdr_command.specs.declared.status.Status.TheVariants.{Done, Words, Config, Small, Unformatted, Formatted, Damaged, MediaFault, PortFault, LinkFault, InputFault, OutputFault, NoMemory, Feed, NoChannel, NoIncident, SaveRefused, Place, Tick, ExportKind, ExportNothing, ExportMixed, ExportLong, ExportPart, Capture, NoEvidence, Missing}
 use Rattle.vdr_tool.specs.TrialParts.{IsBenchStatus, IsOwnStatus, IsPartStatus, IsRunStatus}
 use Rattle.vdr_tool.specs.Trials.{IsAfterRun, IsOfOtherMedia, IsTrialStatus}
 
@@ -38,6 +38,7 @@ bench_trial ExportLong h = absurd h
 bench_trial (ExportPart part) h = absurd h
 bench_trial (Missing place) h = absurd h
 bench_trial (Capture number offset) h = absurd h
+bench_trial (NoEvidence named offset) h = absurd h
 
 pub run_trial : (s : Status) → IsRunStatus s → IsPartStatus s
 run_trial Done h = absurd h
@@ -66,6 +67,7 @@ run_trial ExportLong h = absurd h
 run_trial (ExportPart part) h = absurd h
 run_trial (Missing place) h = absurd h
 run_trial (Capture number offset) h = absurd h
+run_trial (NoEvidence named offset) h = absurd h
 
 pub stop_status : (s : Status) → IsPartStatus s → IsTrialStatus s
 stop_status Done h = absurd h
@@ -94,6 +96,7 @@ stop_status ExportLong h = absurd h
 stop_status (ExportPart part) h = absurd h
 stop_status (Missing place) h = absurd h
 stop_status (Capture number offset) h = absurd h
+stop_status (NoEvidence named offset) h = absurd h
 
 -- No work is done where a part of it stopped.
 pub stop_undone : {P : Type 0} (s : Status) → IsPartStatus s → IsWorkDone s → P
@@ -123,6 +126,7 @@ stop_undone ExportLong h done = absurd h
 stop_undone (ExportPart part) h done = absurd h
 stop_undone (Missing place) h done = absurd h
 stop_undone (Capture number offset) h done = absurd h
+stop_undone (NoEvidence named offset) h done = absurd h
 
 pub stop_prints : (text : List ℕ) (was next : OutputSeen) (s : Status) → IsPartStatus s → PrintsText text s was next
 stop_prints text was next Done h = absurd h
@@ -151,6 +155,7 @@ stop_prints text was next ExportLong h = absurd h
 stop_prints text was next (ExportPart part) h = absurd h
 stop_prints text was next (Missing place) h = absurd h
 stop_prints text was next (Capture number offset) h = absurd h
+stop_prints text was next (NoEvidence named offset) h = absurd h
 
 pub run_not_formatted : (s : Status) → IsRunStatus s → s ≡ Formatted → ⊥
 run_not_formatted Done h is = absurd h
@@ -179,6 +184,7 @@ run_not_formatted ExportLong h is = absurd h
 run_not_formatted (ExportPart part) h is = absurd h
 run_not_formatted (Missing place) h is = absurd h
 run_not_formatted (Capture number offset) h is = absurd h
+run_not_formatted (NoEvidence named offset) h is = absurd h
 
 pub run_not_small : (P : TooSmall → Type 0) (s : Status) → IsRunStatus s → IfSmall s P
 run_not_small P Done h = absurd h
@@ -207,6 +213,7 @@ run_not_small P ExportLong h = absurd h
 run_not_small P (ExportPart part) h = absurd h
 run_not_small P (Missing place) h = absurd h
 run_not_small P (Capture number offset) h = absurd h
+run_not_small P (NoEvidence named offset) h = absurd h
 
 pub own_after : (s : Status) → IsOwnStatus s → IsAfterRun s
 own_after Done h = absurd h
@@ -235,6 +242,7 @@ own_after ExportLong h = absurd h
 own_after (ExportPart part) h = absurd h
 own_after (Missing place) h = absurd h
 own_after (Capture number offset) h = absurd h
+own_after (NoEvidence named offset) h = absurd h
 
 pub own_not_other : (s : Status) → IsOwnStatus s → IsOfOtherMedia s → ⊥
 own_not_other Done h other = absurd h
@@ -263,3 +271,4 @@ own_not_other ExportLong h other = absurd h
 own_not_other (ExportPart part) h other = absurd h
 own_not_other (Missing place) h other = absurd h
 own_not_other (Capture number offset) h other = absurd h
+own_not_other (NoEvidence named offset) h other = absurd h

@@ -14,7 +14,7 @@ use Rattle.vdr_readout.specs.Readings.{Reading as readings}
 use Rattle.vdr_readout.specs.Reads.{AskedPlay}
 use Rattle.vdr_readout.specs.declared.answering.Reading.{Reading as Told}
 use Rattle.vdr_tool.specs.Commands.{Asked, IsPlain}
-use Rattle.vdr_tool.specs.Commands.Asked.{Review, Check, Format, Replay, Read, Evidence, Page, Incidents, Info, Save, Release, Trial, Import, Packets, Rescue, RescueInfo}
+use Rattle.vdr_tool.specs.Commands.Asked.{Review, Check, Format, Replay, Read, Evidence, Page, Incidents, Info, Save, Release, Trial, Import, Packets, Verify, Rescue, RescueInfo, Compare}
 use Rattle.vdr_tool.specs.Runs.{Spells}
 
 -- The same words spell the same.
@@ -177,12 +177,14 @@ rescue_words word rest (Review (Some rate)) w s = not_rescue word (codes "review
 rescue_words word rest Check w s = not_rescue word (codes "check") w (first_same word (codes "check") rest _ s.words) refl
 rescue_words word rest Import w s = not_rescue word (codes "import") w (first_same word (codes "import") rest _ s.words) refl
 rescue_words word rest Packets w s = not_rescue word (codes "packets") w (first_same word (codes "packets") rest _ s.words) refl
+rescue_words word rest Verify w s = not_rescue word (codes "verify") w (first_same word (codes "verify") rest _ s.words) refl
 rescue_words word rest (Format true) w s = not_rescue word (codes "reformat") w (first_same word (codes "reformat") rest _ s.words) refl
 rescue_words word rest (Format false) w s = not_rescue word (codes "format") w (first_same word (codes "format") rest _ s.words) refl
 rescue_words word rest Replay w s = not_rescue word (codes "replay") w (first_same word (codes "replay") rest _ s.words) refl
 rescue_words word rest (Evidence asked) w s = not_rescue word (codes "evidence") w (first_same word (codes "evidence") rest _ s.words.words) refl
 rescue_words word rest (Page asked words) w s = not_rescue word (codes "page") w (first_same word (codes "page") rest _ s.words.words) refl
 rescue_words word rest Info w s = not_rescue word (codes "info") w (first_same word (codes "info") rest _ s.words) refl
+rescue_words word rest Compare w s = not_rescue word (codes "compare") w (first_same word (codes "compare") rest _ s.words) refl
 rescue_words word rest Incidents w s = not_rescue word (codes "incidents") w (first_same word (codes "incidents") rest _ s.words) refl
 rescue_words word rest (Save label) w s = not_rescue word (codes "save") w (first_same word (codes "save") rest _ s.words) refl
 rescue_words word rest (Release id) w s = not_rescue word (codes "release") w (first_same word (codes "release") rest _ s.words) refl
@@ -206,6 +208,7 @@ plain_words word rest Replay other s = tt
 plain_words word rest (Read reading) other s = tt
 plain_words word rest Incidents other s = tt
 plain_words word rest Info other s = tt
+plain_words word rest Compare other s = tt
 plain_words word rest (Evidence asked) other s = tt
 plain_words word rest (Page asked words) other s = tt
 plain_words word rest (Save label) other s = tt
@@ -213,6 +216,7 @@ plain_words word rest (Release id) other s = tt
 plain_words word rest (Trial seed count) other s = tt
 plain_words word rest Import other s = tt
 plain_words word rest Packets other s = tt
+plain_words word rest Verify other s = tt
 plain_words word rest (Rescue reading) other s =
     let e : word ∷ rest ≡ codes "rescue" ∷ s.words.rest = s.words.words in
     let same : word ≡ codes "rescue" = cc in
@@ -229,11 +233,13 @@ no_words (Review (Some rate)) s = let e = s.words in cc
 no_words Check s = let e = s.words in cc
 no_words Import s = let e = s.words in cc
 no_words Packets s = let e = s.words in cc
+no_words Verify s = let e = s.words in cc
 no_words (Format true) s = let e = s.words in cc
 no_words (Format false) s = let e = s.words in cc
 no_words Replay s = let e = s.words in cc
 no_words Incidents s = let e = s.words in cc
 no_words Info s = let e = s.words in cc
+no_words Compare s = let e = s.words in cc
 no_words (Evidence asked) s = let e = s.words.words in cc
 no_words (Page asked words) s = let e = s.words.words in cc
 no_words (Save label) s = let e = s.words in cc

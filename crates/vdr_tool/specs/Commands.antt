@@ -25,8 +25,10 @@ pub data Asked : Type 0 where
   Trial : (seed count : ℕ) → Asked
   Import : Asked
   Packets : Asked
+  Verify : Asked
   Rescue : (reading : Reading) → Asked
   RescueInfo : (medium : Medium) → Asked
+  Compare : Asked
 
 abbrev pub plain : Command → Asked
 plain (commands.Review rate) = Review rate
@@ -43,8 +45,10 @@ plain (commands.Release id) = Release id
 plain (commands.Trial seed count) = Trial seed count
 plain commands.Import = Import
 plain commands.Packets = Packets
+plain commands.Verify = Verify
 plain (commands.Rescue reading) = Rescue (plain_reading reading)
 plain (commands.RescueInfo medium) = RescueInfo medium
+plain commands.Compare = Compare
 
 -- It is no rescue.
 abbrev pub IsPlain : Asked → Type 0

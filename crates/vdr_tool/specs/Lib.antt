@@ -7,6 +7,7 @@ pub mod Formats
 pub mod Imports
 pub mod Lives
 pub mod Packets
+pub mod Verifying
 pub mod Releases
 pub mod Replays
 pub mod Reviews

@@ -5,7 +5,7 @@ use Rattle.vdr_config.specs.Configuration.{Configuration}
 use Rattle.vdr_recorder.specs.Chains.{AllLive, LivesOn, Run}
 use Rattle.vdr_vault.specs.Ours.{AreOurs, StayOurs}
 use Rattle.vdr_tool.specs.Commands.{Asked}
-use Rattle.vdr_tool.specs.Commands.Asked.{Review, Check, Format, Replay, Read, Evidence, Page, Incidents, Info, Save, Release, Trial, Import, Packets, Rescue, RescueInfo}
+use Rattle.vdr_tool.specs.Commands.Asked.{Review, Check, Format, Replay, Read, Evidence, Page, Incidents, Info, Save, Release, Trial, Import, Packets, Verify, Rescue, RescueInfo, Compare}
 
 -- The command does not format the media.
 abbrev pub FormatsNothing : Asked → Type 0
@@ -21,10 +21,12 @@ FormatsNothing (Release id) = ⊤
 FormatsNothing (Trial seed count) = ⊥
 FormatsNothing Import = ⊤
 FormatsNothing Packets = ⊤
+FormatsNothing Verify = ⊤
 FormatsNothing (Evidence asked) = ⊤
 FormatsNothing (Page asked words) = ⊤
 FormatsNothing (Rescue reading) = ⊤
 FormatsNothing (RescueInfo medium) = ⊤
+FormatsNothing Compare = ⊤
 
 -- What is kept of the media's life, whichever command it is of these.
 pub record KeepsLife {tells tells_images : Type 0} (asked : Asked → Type 0) (old new : Disk tells tells_images) : Type 0 where

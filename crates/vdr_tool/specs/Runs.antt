@@ -3,11 +3,13 @@ use Rattle.std.specs.Prelude.{◌≡◌, ◌≤◌, ◌⊎◌, ℕ, List, String
 use Rattle.std.specs.declared.alloc.Global.{Global}
 use Rattle.vdr_tool.specs.Checks.{checking}
 use Rattle.vdr_tool.specs.Commands.{Asked}
-use Rattle.vdr_tool.specs.Commands.Asked.{Review, Check, Format, Replay, Read, Evidence, Page, Incidents, Info, Save, Release, Trial, Import, Packets, Rescue, RescueInfo}
+use Rattle.vdr_tool.specs.Commands.Asked.{Review, Check, Format, Replay, Read, Evidence, Page, Incidents, Info, Save, Release, Trial, Import, Packets, Verify, Rescue, RescueInfo, Compare}
 use Rattle.vdr_command.specs.Endings.{WritesLine}
 use Rattle.vdr_tool.specs.Formats.{formatting}
 use Rattle.vdr_tool.specs.Imports.{importing}
 use Rattle.vdr_tool.specs.Packets.{counting_packets}
+use Rattle.vdr_tool.specs.Verifying.{verifying}
+use Rattle.vdr_readout.specs.Compares.{comparing}
 use Rattle.vdr_readout.specs.Evidences.{evidencing}
 use Rattle.vdr_readout.specs.Incidents.{listing}
 use Rattle.vdr_readout.specs.Informs.{informing, informing_alone}
@@ -39,8 +41,10 @@ page (Release id) = releasing id
 page (Trial seed count) = trying seed count
 page Import = importing
 page Packets = counting_packets
+page Verify = verifying
 page (Rescue reading) = rescuing reading
 page (RescueInfo medium) = informing_alone medium
+page Compare = comparing
 
 -- The texts are those of a command.
 pub record Spells (texts : List (List ℕ)) (command : Asked) : Type 0 where

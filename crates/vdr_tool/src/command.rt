@@ -16,13 +16,14 @@ use crate::replaying::answer_replay;
 use crate::reviewing::answer_review;
 use crate::saving::answer_save;
 use crate::trying::answer_trial;
+use crate::verifying::answer_verify;
 use crate::words::{Command, command_of};
 use std::alloc::Global;
 use vdr_command::{Outer, Status, World, report};
 use vdr_outside::{Media, Sink, Source};
 use vdr_readout::{
-    answer_evidence, answer_incidents, answer_info, answer_page, answer_reading, answer_rescue,
-    answer_rescue_info,
+    answer_compare, answer_evidence, answer_incidents, answer_info, answer_page, answer_reading,
+    answer_rescue, answer_rescue_info,
 };
 use vdr_recorder::{Nobody, Watch};
 
@@ -58,8 +59,10 @@ fn answer<I: Source + Drop, O: Sink + Drop, M: Media + Drop, W: Watch<M>>(
         Command::Trial { seed, count } => answer_trial(alloc, seed, count, world),
         Command::Import => answer_import(world),
         Command::Packets => answer_packets(world),
+        Command::Verify => answer_verify(alloc, world),
         Command::Rescue(reading) => answer_rescue(alloc, reading, world),
         Command::RescueInfo { medium } => answer_rescue_info(alloc, medium, world),
+        Command::Compare => answer_compare(alloc, world),
     }
 }
 
@@ -113,6 +116,8 @@ fn answer<I: Source + Drop, O: Sink + Drop, M: Media + Drop, W: Watch<M>>(
 ///   transmission groups, each as soon as it was read.
 /// - `packets` reads a capture so, and prints what became of its packets: `packets N`, of each group `GROUP whole N cut N`, of each cause
 ///   `left CAUSE N`, and `lost N` and `back N`.
+/// - `verify` reads an evidence file from the input to its end, and prints what it holds, as `vdr_verify::verify` does. A file that is none ends
+///   with `NoEvidence` at its first part that is not legal.
 /// - `rescue COMMAND WORDS` reads no input. COMMAND is `play`, `values`, `track`, `sources`, `watch`, `runs`, `digest`,
 ///   `targets`, `wav`, `picture` or `pictures`. It reads the medium that they ask for alone, for `incident-ID` the long-term one, whole,
 ///   cut short or damaged, writes to none, and prints what they print of each record that legally stands there; then,
@@ -120,6 +125,10 @@ fn answer<I: Source + Drop, O: Sink + Drop, M: Media + Drop, W: Watch<M>>(
 ///   `damaged OFFSET` by offset, and `closed OFFSET`. It ends with `Damaged` at the first such offset, or else with
 ///   `Missing`.
 /// - `rescue info MEDIUM` reads `capsule` or `longterm` so, and prints before these lines what `info` prints of it.
+/// - `compare` reads no input. It reads both media alone, each as `rescue` does, and prints by rising place `differs PLACE` where both have
+///   a record with other bytes, and `lacks MEDIUM A B` for the longest runs of places that the other medium has and this one lacks of its
+///   window; then `same A B`, the least and the greatest place of records that are the same. `differs configuration` stands before these
+///   where the texts of the configurations differ. It ends with `Missing` at the first such place.
 ///
 /// Any other words end with `Words`, and nothing is touched. A number is decimal digits without a sign and without a leading zero.
 ///

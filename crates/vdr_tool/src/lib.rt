@@ -16,9 +16,10 @@ mod saving;
 mod summary;
 mod trying;
 mod using;
+mod verifying;
 mod words;
 
 pub use command::{run_alone, run_alone_watched};
 pub use summary::Summary;
 pub use using::{Uses, medium_use};
-pub use vdr_command::{Outer, SaveCause, Status, World, law_of_openings, report};
+pub use vdr_command::{EvidencePart, Outer, SaveCause, Status, World, law_of_openings, report};

@@ -25,8 +25,14 @@ pub fn medium_use(words: &[String]) -> Uses
     ensures nothing { result ≡ Nothing → (command : Asked) → Asks words.now command → (page command).uses_media → ⊥ }
 {
     match command_of(words) {
-        None | Some(Command::Review { .. } | Command::Check | Command::Import | Command::Packets) =>
-            { Uses::Nothing }
+        None
+        | Some(
+            Command::Review { .. }
+            | Command::Check
+            | Command::Import
+            | Command::Packets
+            | Command::Verify,
+        ) => { Uses::Nothing }
         Some(Command::Rescue(reading)) => Uses::Alone(reading.medium_number()),
         Some(Command::RescueInfo { medium }) => Uses::Alone(number_of(medium)),
         Some(
@@ -37,6 +43,7 @@ pub fn medium_use(words: &[String]) -> Uses
             | Command::Page(_, _)
             | Command::Incidents
             | Command::Info
+            | Command::Compare
             | Command::Save { .. }
             | Command::Release { .. }
             | Command::Trial { .. },

@@ -47,10 +47,14 @@ pub(crate) enum Command<'a> {
     Import,
     /// What became of a capture's packets is told.
     Packets,
+    /// What an evidence file holds is told.
+    Verify,
     /// One medium alone is read.
     Rescue(Reading<'a>),
     /// What one medium alone is, which is no incident.
     RescueInfo { medium: Medium },
+    /// Both media are compared.
+    Compare,
 }
 
 fn rate_of(datagrams: &str, bytes: &str) -> Option<Rate>
@@ -79,6 +83,9 @@ fn media_word(word: &str) -> Option<Command<'static>>
     if word == "incidents" {
         return Some(Command::Incidents);
     }
+    if word == "compare" {
+        return Some(Command::Compare);
+    }
     if word == "info" {
         Some(Command::Info)
     } else {
@@ -101,6 +108,9 @@ fn one_word(word: &str) -> Option<Command<'static>>
     }
     if word == "packets" {
         return Some(Command::Packets);
+    }
+    if word == "verify" {
+        return Some(Command::Verify);
     }
     media_word(word)
 }

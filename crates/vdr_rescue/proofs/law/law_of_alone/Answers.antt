@@ -1,4 +1,4 @@
-use Rattle.vdr_rescue.proofs.AloneAnswer.{as_refused, found_once, one_refusal, same_answer, selects_given}
+use Rattle.vdr_rescue.proofs.AloneAnswer.{as_refused, found_once, one_refusal, reads_given, same_answer, selects_given}
 use Rattle.vdr_rescue.proofs.law.law_of_alone.Goals as goal
 
 pub returns-clause-same : goal.returns-clause-same
@@ -12,6 +12,9 @@ returns-clause-never c m offset bytes x r h = as_refused m offset bytes x.config
 
 pub returns-clause-one : goal.returns-clause-one
 returns-clause-one c = one_refusal
+
+pub returns-clause-read : goal.returns-clause-read
+returns-clause-read c m bytes a x h k = reads_given m bytes a x h k
 
 pub returns-clause-given : goal.returns-clause-given
 returns-clause-given c = selects_given

@@ -1,0 +1,10 @@
+mod Sameness
+mod Joining
+mod Telling
+mod Stepping
+mod Causes
+mod Pairs
+mod Going
+mod SameRecords
+mod Opened
+mod SoRecords
