@@ -1,14 +1,15 @@
 -- The media keep a history that grows by one event, and go on keeping it between the events.
-use Rattle.std.proofs.Common.{ℕ, ◌<◌, ◌≤◌, List, [], ◌∷◌, ◌++◌, length, Bool, true, false, Option, Some, None, ◌≡◌, ◌≢◌, ◌⊎◌, inl, inr, ⊎_elim, refl, sym, ap, ◌∙◌, subst, arith, append_assoc, append-nil}
+use Rattle.std.proofs.Common.{ℕ, suc, ◌<◌, ◌≤◌, List, [], ◌∷◌, ◌++◌, length, Bool, true, false, Option, Some, None, ◌≡◌, ◌≢◌, ◌⊎◌, inl, inr, ⊎_elim, refl, sym, ap, ◌∙◌, subst, arith, append_assoc, append-nil}
 use Rattle.std.proofs.lemmas.Bool.{cases_Bool, cases_lt}
 use Rattle.vdr_core.specs.Histories.{Act, Event, EndsBy}
 use Rattle.vdr_core.specs.Histories.Act.{Look}
 use Rattle.vdr_outside.specs.Disk.{Disk, Image, Unchanged}
 use Rattle.vdr_outside.specs.Moments.{AtEachMoment}
-use Rattle.vdr_outside.proofs.Moments.{now_after, unchanged_now}
-use Rattle.vdr_durability.specs.Keeping.{Extends, IsWhole, Keeps, RiseTo, ShowsEither, ShowsOn, ShowsPrefix, acknowledged, is_by, moment_of, moments}
+use Rattle.vdr_outside.proofs.Moments.{moments_still, now_after, unchanged_now}
+use Rattle.vdr_durability.specs.Keeping.{Extends, IsWhole, Keeps, RiseTo, ShowsAtMost, ShowsEither, ShowsOn, ShowsPrefix, acknowledged, is_by, moment_of, moments}
 use Rattle.vdr_durability.proofs.Pending.{pending_with, pending_looks}
-use Rattle.vdr_durability.proofs.Acknowledged.{acknowledged_without, acknowledged_within, length_with, moments_none, moments_some, reached, rise_longer, rise_with, whole_last}
+use Rattle.vdr_durability.proofs.Acknowledged.{acknowledged_more, acknowledged_without, acknowledged_within, length_with, moments_none, moments_some, reached, rise_longer, rise_with, whole_last}
+use Rattle.vdr_durability.proofs.Doubt.{all_at_most, either_at_most, front_at_most, no_more, one_more_on, one_more_still}
 
 some_is : (o : Option ℕ) (m : ℕ) → o ≡ Some m → o ≢ None
 some_is o m e = λ n. clash m (sym e ∙ n)
@@ -65,6 +66,12 @@ module _ {tells tells_images : Type 0} (shows : List Event → Image → Type 0)
         (λ (k : ShowsEither shows events e old.now image). either shows events e t image (now_either whole image k))
         (by_moment old new (ShowsEither shows events e old.now) t image goes left)
 
+    -- what came to the media by then
+    more_with : IsWhole events → Extends shows events e old new → (t : ℕ) (image : Image) → t0 ≤ t → t < new.clock → new.until (suc t) image
+        → new.until t0 image ⊎ ShowsAtMost shows (events ++ e ∷ []) (suc (acknowledged (events ++ e ∷ []) t)) image
+    more_with whole goes = one_more_on shows events t0 old new h (ShowsEither shows events e old.now) goes whole (events ++ e ∷ []) (acknowledged_more events e)
+        (front_at_most shows events e) (λ image k. either_at_most shows events e image (now_either whole image k))
+
     -- A call that answered: its moment is the clock as it returned, and what may be left now shows its event.
     pub keeps_done : IsWhole events → Extends shows events e old new → e.moment ≡ Some new.clock → ((image : Image) → new.now image → shows (events ++ e ∷ []) image)
         → Keeps shows (events ++ e ∷ []) t0 new
@@ -77,6 +84,7 @@ module _ {tells tells_images : Type 0} (shows : List Event → Image → Type 0)
           (λ (not_yet : is_by t e.moment ≡ false). subst (λ (n : ℕ). ShowsPrefix shows (events ++ e ∷ []) n image) (sym (acknowledged_without events e t not_yet))
           (not_counted whole goes t image start left))
           (cases_Bool (is_by t e.moment));
+      one_more = more_with whole goes;
       now = λ _. now;
     }
       where
@@ -94,6 +102,7 @@ module _ {tells tells_images : Type 0} (shows : List Event → Image → Type 0)
       pending = pending_with events e whole (subst (λ (o : Option ℕ). EndsBy o e.act [] (Unit {0})) (sym moment) (acts, tt));
       prefixes = λ t image start end left. subst (λ (n : ℕ). ShowsPrefix shows (events ++ e ∷ []) n image) (sym (acknowledged_without events e t (ap (is_by t) moment)))
           (not_counted whole goes t image start left);
+      one_more = more_with whole goes;
       now = λ all. absurd (whole_last events e all moment);
     }
 
@@ -104,16 +113,13 @@ module _ {tells tells_images : Type 0} (shows : List Event → Image → Type 0)
       pending = pending_looks events e h.pending broken looks moment;
       prefixes = λ t image start end left. subst (λ (n : ℕ). ShowsPrefix shows (events ++ e ∷ []) n image) (sym (acknowledged_without events e t (ap (is_by t) moment)))
           (longer shows events e (acknowledged events t) image (h.prefixes t image start (omega (arith, end, same.clock)) ((same.since t image).0 left)));
+      one_more = one_more_still shows events t0 old new h same (events ++ e ∷ []) (acknowledged_more events e) (front_at_most shows events e);
       now = λ all. absurd (whole_last events e all moment);
     }
 
     -- An event that shows at once, as a look or an empty commit, and leaves the media alone.
     pub keeps_silent : IsWhole events → Unchanged old new → e.moment ≡ Some new.clock → ((image : Image) → shows events image → shows (events ++ e ∷ []) image) → Keeps shows (events ++ e ∷ []) t0 new
-    keeps_silent whole same moment silent = keeps_done whole (record {
-      later = omega (arith, same.clock);
-      each = λ image left. inl (old.only_now image ((same.since old.clock image).0 left));
-      before = λ t image early left. inl ((same.since t image).0 left);
-    }) moment (λ image now. silent image (h.now whole image (unchanged_now old new same image now)))
+    keeps_silent whole same moment silent = keeps_done whole (moments_still old new (ShowsEither shows events e old.now) same (λ image now. inl now)) moment (λ image now. silent image (h.now whole image (unchanged_now old new same image now)))
 
   -- A call that answered, or met a fault.
   pub keeps_call : (e : Event) (failed : Bool) (old new : Disk tells tells_images) → Keeps shows events t0 old → IsWhole events → Extends shows events e old new
@@ -128,6 +134,7 @@ module _ {tells tells_images : Type 0} (shows : List Event → Image → Type 0)
     rising = subst (λ (clock : ℕ). RiseTo clock 0 (moments events)) (sym same.clock) h.rising;
     pending = h.pending;
     prefixes = λ t image start end left. h.prefixes t image start (omega (arith, end, same.clock)) ((same.since t image).0 left);
+    one_more = one_more_still shows events t0 old new h same events (λ t. omega arith) (no_more shows events);
     now = λ whole image now. h.now whole image (unchanged_now old new same image now);
   }
 
@@ -139,6 +146,8 @@ module _ {tells tells_images : Type 0} (shows : List Event → Image → Type 0)
         (λ (k : (t ≤ old.clock) × old.since t image). h.prefixes t image start k.0 k.1)
         (λ (k : old.now image ⊎ shows events image). all_shown shows events (acknowledged events t) image (acknowledged_within events t) (shown image k))
         (by_moment old new (λ image. old.now image ⊎ shows events image) t image goes left);
+    one_more = one_more_on shows events t0 old new h (λ image. old.now image ⊎ shows events image) goes whole events (λ t. omega arith) (no_more shows events)
+        (λ image k. all_at_most shows events (suc (length events)) image (omega arith) (shown image k));
     now = λ _ image now. shown image (now_after old new (λ image. old.now image ⊎ shows events image) goes image now);
   }
     where
@@ -151,6 +160,7 @@ module _ {tells tells_images : Type 0} (shows : List Event → Image → Type 0)
     rising = h.rising;
     pending = h.pending;
     prefixes = λ t image start end left. h.prefixes t image (omega (arith, after, start)) end left;
+    one_more = λ t image start end left. ⊎_elim (λ was. inl (disk.later t0 later image after was)) (λ k. inr k) (h.one_more t image (omega (arith, after, start)) end left);
     now = h.now;
   }
 
@@ -160,6 +170,7 @@ keeps_opened shows disk h = record {
   rising = omega arith;
   pending = tt;
   prefixes = λ t image start end left. all_shown shows [] 0 image (omega arith) (h image (disk.only_now image (subst (λ (u : ℕ). disk.since u image) (same t start end) left)));
+  one_more = λ t image start end left. absurd (omega (arith, start, end));
   now = λ _. h;
 }
   where

@@ -32,10 +32,12 @@ pub mod Restored
 pub mod Shows
 pub mod Acknowledged
 pub mod Pending
+pub mod Doubt
 pub mod Whole
 pub mod Kept
 pub mod Reopened
 pub mod Regular
 pub mod Worked
+pub mod KeepingWorked
 pub mod Unbroken
 pub mod Joined

@@ -3,7 +3,7 @@ ghost use Rattle.std.specs.Prelude.{◌≡◌, ◌≤◌, ◌↔◌, [], ◌∷�
 ghost use Rattle.vdr_core.specs.Histories.{Event};
 ghost use Rattle.vdr_core.specs.RunStates.{has_failed};
 ghost use Rattle.vdr_outside.specs.Disk.{Image};
-ghost use Rattle.vdr_durability.specs.Keeping.{GoesOnKeeping, IsWhole, acknowledged, is_by};
+ghost use Rattle.vdr_durability.specs.Keeping.{GoesOnKeeping, HasOneInDoubt, IsWhole, acknowledged, is_by};
 
 use vdr_outside::Media;
 
@@ -27,4 +27,11 @@ pub fn law_of_acknowledgment()
 /// is the clock as the call returned, and what a stop may leave now shows it. They go on keeping it over calls that are no event.
 pub fn law_of_keeping<M: Media, S: Showing>(old: &M, new: &M)
     ensures { GoesOnKeeping S.shows (M.disk old.now) (M.disk new.now) }
+{}
+
+/// At most one event is in doubt: whatever a stop may have left up to a moment, but for what was there before, shows no more than
+/// one event above what each stop shows from the moment before it on. Media that take two events back, even if they give
+/// them again, keep no history, and so do media that get two at once.
+pub fn law_of_doubt<M: Media, S: Showing>(media: &M)
+    ensures { HasOneInDoubt S.shows (M.disk media.now) }
 {}

@@ -23,7 +23,7 @@ mod soundness;
 
 pub use ends::{law_of_ends, law_of_ends_off};
 pub use joining::law_of_joined_runs;
-pub use keeping::{Showing, law_of_acknowledgment, law_of_keeping};
+pub use keeping::{Showing, law_of_acknowledgment, law_of_doubt, law_of_keeping};
 pub use pace_law::{law_of_media, law_of_pace, law_of_sizes};
 pub use playback_law::{law_of_orders, law_of_playback, law_of_sources};
 pub use regularity::law_of_regular_members;

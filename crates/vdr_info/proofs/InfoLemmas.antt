@@ -9,7 +9,7 @@ use Rattle.vdr_terms.specs.Slots.{slot_count}
 use Rattle.vdr_outside.specs.Causes.{HasCauseOn, NoneFalls, Rose}
 use Rattle.vdr_outside.specs.Disk.{Disk, Image, Unchanged, content}
 use Rattle.vdr_outside.proofs.Counts.{none_falls_join, rose_after}
-use Rattle.vdr_outside.proofs.Moments.{size_read}
+use Rattle.vdr_outside.proofs.Moments.{size_read, unchanged_none}
 use Rattle.vdr_config.specs.Configuration.{Configuration}
 use Rattle.vdr_config.specs.Sizes.{sizes_of}
 use Rattle.vdr_segment.specs.declared.area.Area.{Area}
@@ -31,8 +31,11 @@ use Rattle.vdr_opening.proofs.ContentsHeld.{one_text}
 use Rattle.vdr_ring.specs.Openings.{IsRingOf}
 use Rattle.vdr_ring.specs.Rings.{RingState}
 use Rattle.vdr_opening.specs.Answers.{HasOpenCause, RefusesAsRead}
-use Rattle.vdr_opening.specs.Parts.{HasRoomBefore}
+use Rattle.vdr_opening.specs.Parts.{HasRoomBefore, refusal_by}
 use Rattle.vdr_opening.specs.declared.refused.OpenRefused.{OpenRefused}
+use Rattle.vdr_opening.specs.declared.refused.OpenRefused.TheVariants.{NotFormatted}
+use Rattle.vdr_outside.specs.declared.fault.PartRefused.{PartRefused}
+use Rattle.vdr_outside.specs.declared.fault.PartRefused.TheVariants as parts
 use Rattle.vdr_opening.proofs.Rings.{open_cause}
 use Rattle.vdr_terms.proofs.Results.{same_err}
 use Rattle.vdr_info.specs.Costs.{ReadsTwice}
@@ -228,7 +231,7 @@ one_used segment bytes (suc n) a b h k =
 
 -- What was not touched.
 pub unchanged_still : {tells tells_images : Type 0} (d : Disk tells tells_images) → Unchanged d d
-unchanged_still d = record { sizes = refl; reads = λ t. refl; clock = refl; since = λ t i. (λ x. x, λ x. x) }
+unchanged_still d = unchanged_none d
 
 -- A medium of a ring has room for what stands before its slots.
 pub room_before : (c : Configuration) (sizes : List ℕ) (m : ℕ) (ring : RingState) → IsRingOf c sizes m ring → HasRoomBefore m sizes
@@ -241,6 +244,18 @@ room_before c sizes m ring h = record {
 pub cause_behind : {T : Type 0} (a b c : List ℕ) (r : Result T OpenRefused) → NoneFalls a b → HasOpenCause b c r → HasOpenCause a c r
 cause_behind a b c r earlier h = open_cause a c r (none_falls_join a b c earlier h.later)
     (λ is. let one = h.by_medium is in (one.0, one.1, one.2, one.3, rose_after (get_or a one.1 0) (get_or b one.1 0) (get_or c one.1 0) (earlier.none_falls one.1) one.4))
+
+-- Of what refuses a part none is that the media are not formatted.
+pub never_unformatted : {T : Type 0} (e : PartRefused) (x : OpenRefused) → x ≡ refusal_by e → ◌≡◌ {A = Result T OpenRefused} (Err x) (Err NotFormatted) → ⊥
+never_unformatted {T} e x is made = of e (sym is ∙ one made)
+  where
+    one : ◌≡◌ {A = Result T OpenRefused} (Err x) (Err NotFormatted) → x ≡ NotFormatted
+    one made = cc
+
+    of : (e : PartRefused) → refusal_by e ≡ NotFormatted → ⊥
+    of parts.NoMemory h = cc
+    of (parts.Damaged m offset) h = cc
+    of parts.Fault h = cc
 
 -- What was refused, of another answer.
 pub refused_so : {tells tells_images T U : Type 0} (disk : Disk tells tells_images) (e : OpenRefused) → RefusesAsRead {T = T} (Err e) disk → RefusesAsRead {T = U} (Err e) disk

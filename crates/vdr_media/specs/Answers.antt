@@ -1,5 +1,5 @@
 -- What each answer of `format` says of its three tests, in their order, and when it may be a fault.
-use Rattle.std.specs.Prelude.{◌≡◌, ◌⊎◌, ℕ, ◌≤◌, Bool, false, List, get_or, sum, Any, Result, Ok, Err, IsOk, IsErrOf, ⊤}
+use Rattle.std.specs.Prelude.{◌≡◌, ◌⊎◌, ℕ, ◌≤◌, Bool, false, List, [], ◌∷◌, get_or, sum, Any, Result, Ok, Err, IsOk, IsErrOf, ⊤}
 use Rattle.vdr_outside.specs.Causes.{Rose, NoneFalls, counted}
 use Rattle.vdr_outside.specs.Disk.{Disk}
 use Rattle.vdr_config.specs.declared.bad.ConfigBad.{ConfigBad}
@@ -22,7 +22,7 @@ refusal_by e = Config e
 
 -- Whether media of these sizes have the slots that the configuration needs, else the first that has not.
 abbrev pub room : Configuration → List ℕ → Result ⊤ Small
-room c sizes = fitting (sizes_of c) (get_or sizes 0 0) (get_or sizes 1 0)
+room c sizes = fitting (sizes_of c) (get_or sizes 0 0 ∷ get_or sizes 1 0 ∷ [])
 
 -- The text is refused exactly so. Every other answer but want of memory comes only of a configuration.
 abbrev pub TextTested : Answer → Result Configuration ConfigBad → Type 0

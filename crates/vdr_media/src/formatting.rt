@@ -74,7 +74,7 @@ pub fn format<M: Media>(
     if formatted && !again {
         return Err(FormatRefused::AlreadyFormatted);
     }
-    fits(&config, media.size(0), media.size(1))?;
+    fits(&config, &[media.size(0), media.size(1)])?;
     make_all_empty(media, formatted, &config, text)?;
     Ok(())
 }

@@ -19,7 +19,7 @@ ghost use Rattle.vdr_opening.specs.Parts.{HasRoomBefore, text_of};
 
 use std::alloc::Global;
 use vdr_bytes::u32_at;
-use vdr_config::{Config, ConfigBad, LONGEST_TEXT, needs, read_config};
+use vdr_config::{Config, ConfigBad, LONGEST_TEXT, needed_slots, read_config};
 use vdr_media::TEXT_FROM;
 use vdr_outside::{Media, PartRefused};
 use vdr_terms::slot_count;
@@ -120,16 +120,9 @@ fn configured_by(
 // Whether a configuration goes with medium m, of so many bytes: its segment is that of the superblock, and the medium has the slots
 // that it needs.
 fn goes_with(config: &Config, m: u8, segment: u32, size: u64) -> bool
-    requires { m < 2 }
     ensures { IsTrue result ↔ ((config.now.segment ≡ segment) × Fits (sizes_of config.now) m size) }
 {
-    let needs = needs(config);
-    let needed = if m == 0 {
-        needs.capsule_slots
-    } else {
-        needs.long_slots
-    };
-    config.segment == segment && needed <= slot_count(config.segment, size) as u64
+    config.segment == segment && needed_slots(config, m) <= slot_count(config.segment, size) as u64
 }
 
 /// The configuration of medium m, and its text, where the superblock says this segment size. `Damaged`: it is none, or

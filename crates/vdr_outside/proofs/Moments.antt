@@ -1,5 +1,5 @@
 -- How what holds at every moment goes on from call to call.
-use Rattle.std.proofs.Common.{◌≡◌, ◌≢◌, inl, inr, ⊎_elim, ℕ, List, length, map, get_or, sym, ◌∙◌, ap, subst, arith}
+use Rattle.std.proofs.Common.{◌≡◌, ◌≢◌, ◌≤◌, ◌⊎◌, inl, inr, ⊎_elim, ℕ, List, length, map, get_or, refl, sym, ◌∙◌, ap, subst, arith}
 use Rattle.vdr_outside.specs.Disk.{Disk, Image, content, over, InRange, Elapses, Overwritten, Tears, Narrows, Durable, SameBut, Unchanged}
 use Rattle.vdr_outside.specs.Moments.{AtEachMoment, Changed, ChangesOnly, Settled}
 use Rattle.vdr_outside.proofs.Bytes.{size_of}
@@ -10,12 +10,30 @@ module _ {tells tells_images : Type 0} where
   pub now_after : (old new : Disk tells tells_images) (P : Image → Type 0) → AtEachMoment old new P → (i : Image) → new.now i → P i
   now_after old new P moments i now = moments.each i (new.counts_now old.clock i moments.later now)
 
+  -- what was left until now was left before the calls, or in them
+  pub in_calls : (old new : Disk tells tells_images) (P : Image → Type 0) → AtEachMoment old new P → (t : ℕ) (i : Image) → new.until t i → old.until old.clock i ⊎ P i
+  in_calls old new P moments t i left = ⊎_elim (λ was. inl ((moments.past old.clock i (omega arith)).0 was)) (λ since. inr (moments.each i since)) (new.until_or_since old.clock t i moments.later left)
+
+  -- calls that read alone, of media whose images have P
+  pub moments_still : (old new : Disk tells tells_images) (P : Image → Type 0) → Unchanged old new → ((i : Image) → old.now i → P i) → AtEachMoment old new P
+  moments_still old new P same here = record {
+    later = omega (arith, same.clock);
+    each = λ i left. here i (old.only_now i ((same.since old.clock i).0 left));
+    before = λ t i le left. inl ((same.since t i).0 left);
+    past = λ t i le. same.until t i;
+  }
+
+  -- nothing changed
+  pub unchanged_none : (d : Disk tells tells_images) → Unchanged d d
+  unchanged_none d = record { sizes = refl; reads = λ told. refl; clock = refl; since = λ t i. ((λ left. left), (λ left. left)); until = λ t i. ((λ left. left), (λ left. left)) }
+
   -- before the first call
   pub moments_none : (d : Disk tells tells_images) (P : Image → Type 0) → ((i : Image) → d.now i → P i) → AtEachMoment d d P
   moments_none d P here = record {
     later = omega arith;
     each = λ i left. here i (d.only_now i left);
     before = λ t i le left. inl left;
+    past = λ t i le. ((λ left. left), (λ left. left));
   }
 
   -- one call of the media
@@ -24,6 +42,7 @@ module _ {tells tells_images : Type 0} where
     later = time.later;
     each = λ i left. ⊎_elim (λ since. here i (old.only_now i since)) (there i) (time.nothing_else old.clock i (omega arith) left);
     before = λ t i le left. ⊎_elim (λ since. inl since) (λ now. inr (there i now)) (time.nothing_else t i le left);
+    past = time.past;
   }
 
   -- one call after another
@@ -32,6 +51,9 @@ module _ {tells tells_images : Type 0} where
     later = omega (arith, first.later, second.later);
     each = λ i left. ⊎_elim (first.each i) (λ p. p) (second.before old.clock i first.later left);
     before = λ t i le left. ⊎_elim (first.before t i le) (λ p. inr p) (second.before t i (omega (arith, le, first.later)) left);
+    past = λ t i le.
+        let onward : t ≤ mid.clock = omega (arith, le, first.later) in
+        ((λ left. (first.past t i le).0 ((second.past t i onward).0 left)), (λ left. (second.past t i onward).1 ((first.past t i le).1 left)));
   }
 
   pub moments_weaken : (old new : Disk tells tells_images) (P Q : Image → Type 0) → AtEachMoment old new P → ((i : Image) → P i → Q i) → AtEachMoment old new Q
@@ -39,6 +61,7 @@ module _ {tells tells_images : Type 0} where
     later = moments.later;
     each = λ i left. to i (moments.each i left);
     before = λ t i le left. ⊎_elim (λ since. inl since) (λ p. inr (to i p)) (moments.before t i le left);
+    past = moments.past;
   }
 
   -- an image is itself with its own bytes in the range
@@ -126,6 +149,7 @@ module _ {tells tells_images : Type 0} where
     reads = λ told. second.reads told ∙ first.reads told;
     clock = second.clock ∙ first.clock;
     since = λ t i. ((λ left. (first.since t i).0 ((second.since t i).0 left)), (λ left. (second.since t i).1 ((first.since t i).1 left)));
+    until = λ t i. ((λ left. (first.until t i).0 ((second.until t i).0 left)), (λ left. (second.until t i).1 ((first.until t i).1 left)));
   }
 
   pub unchanged_now : (old new : Disk tells tells_images) → Unchanged old new → (i : Image) → new.now i → old.now i
@@ -147,6 +171,9 @@ module _ {tells tells_images : Type 0} where
     later = omega (arith, same.clock, moments.later);
     each = λ i left. moments.each i (subst (λ (t : ℕ). new.since t i) (sym same.clock) left);
     before = λ t i le left. ⊎_elim (λ since. inl ((same.since t i).0 since)) (λ p. inr p) (moments.before t i (omega (arith, le, same.clock)) left);
+    past = λ t i le.
+        let past = moments.past t i (omega (arith, le, same.clock)) in
+        ((λ left. (same.until t i).0 (past.0 left)), (λ left. past.1 ((same.until t i).1 left)));
   }
 
   pub moments_and_reads : (old mid new : Disk tells tells_images) (P : Image → Type 0) → AtEachMoment old mid P → Unchanged mid new → AtEachMoment old new P
@@ -154,4 +181,5 @@ module _ {tells tells_images : Type 0} where
     later = omega (arith, same.clock, moments.later);
     each = λ i left. moments.each i ((same.since old.clock i).0 left);
     before = λ t i le left. moments.before t i le ((same.since t i).0 left);
+    past = λ t i le. ((λ left. (moments.past t i le).0 ((same.until t i).0 left)), (λ left. (same.until t i).1 ((moments.past t i le).1 left)));
   }

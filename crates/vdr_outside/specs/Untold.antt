@@ -16,7 +16,11 @@ contents_alone reads = record {
   sized_as_read = λ told. refl;
   counts_now = λ t i le left. left;
   only_now = λ i left. left;
+  until = λ t i. ⊥;
   earlier = λ t u i le left. left;
+  counts_until = λ t i le left. left;
+  later = λ t u i le left. left;
+  until_or_since = λ t u i le left. absurd left;
 }
 
 -- Nothing is told but the sizes.
@@ -33,5 +37,9 @@ sizes_alone sizes = record {
   sized_as_read = λ told. absurd told;
   counts_now = λ t i le left. left;
   only_now = λ i left. left;
+  until = λ t i. ⊥;
   earlier = λ t u i le left. left;
+  counts_until = λ t i le left. left;
+  later = λ t u i le left. left;
+  until_or_since = λ t u i le left. absurd left;
 }

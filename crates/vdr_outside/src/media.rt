@@ -1,7 +1,7 @@
 // The media, as a trait: read, written and synced, with the disk model of what a stop leaves.
 ghost use Rattle.std.specs.Prelude.{◌≡◌, ◌+◌, ℕ, List, length, get_or, slice_range, OnOk, OnErr};
 ghost use Rattle.vdr_outside.specs.Causes.{HasCauseOn, counted};
-ghost use Rattle.vdr_outside.specs.Disk.{Disk, InRange, Elapses, Rises, Tears, Narrows, Durable, Overwritten, Unchanged, content, written};
+ghost use Rattle.vdr_outside.specs.Disk.{Disk, InRange, Elapses, Rises, Ticks, Tears, Narrows, Durable, Overwritten, Unchanged, content, written};
 
 use crate::Failed;
 
@@ -47,6 +47,7 @@ pub trait Media {
         ensures images { Tears m at (length bytes.now) (disk self.old) (disk self.new) }
         ensures time { Elapses (disk self.old) (disk self.new) }
         ensures rises { Rises (disk self.old) (disk self.new) }
+        ensures ticks { Ticks (disk self.old) (disk self.new) result }
         ensures sizes { (disk self.new).sizes ≡ (disk self.old).sizes }
         ensures counts { bytes_read self.new ≡ bytes_read self.old }
         ensures cause { HasCauseOn m (faults self.old) (faults self.new) result };
@@ -59,6 +60,7 @@ pub trait Media {
         ensures images { Narrows (disk self.old) (disk self.new) }
         ensures time { Elapses (disk self.old) (disk self.new) }
         ensures rises { Rises (disk self.old) (disk self.new) }
+        ensures ticks { Ticks (disk self.old) (disk self.new) result }
         ensures sizes { (disk self.new).sizes ≡ (disk self.old).sizes }
         ensures counts { bytes_read self.new ≡ bytes_read self.old }
         ensures cause { HasCauseOn m (faults self.old) (faults self.new) result };

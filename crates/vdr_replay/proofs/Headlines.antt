@@ -54,14 +54,14 @@ module _ {tells tells_images : Type 0} (x : Contents) (bytes : List ℕ) (now : 
   pub begun_nothing : HasRecorded (opening_of x) [] t0 after new → Passes (opening_of x) [] mid new → NothingIsRecorded x rose old new
   begun_nothing has then =
       inr (after_opening x reads (AccountsForFeed x new [] NotStarted) ((NotStarted ≡ Broken) × rose) old ⊥ nothing_heard t0 mid new passes entry exit [] (order_quiet x sound [] refl)
-      has.history has.kept then (inl no_event_whole) (nothing_told x new) (λ none. absurd none))
+      has.history has.kept has.rises then (inl no_event_whole) (nothing_told x new) (λ none. absurd none))
 
   module _ (hears : Type 0) (was is_seen : Watched) (heard : hears → IsHeard (opening_of x) [] t0 old was) (left : Option (List ℕ)) (reader : Reading) (admits : Admits (limits_in x.config.groups)) where
     -- The events of a recorder
     ran : (feed : List FeedItem) (end : RunEnd) (events : List Event) → HasRecorded (opening_of x) events t0 after new → Passes (opening_of x) events mid new
         → IsWhole events ⊎ ((end ≡ Broken) × rose) → AccountsForFeed x new feed end events → Tells hears (opening_of x) [] events was is_seen → ReplayHeadline x rose old new hears is_seen feed end
     ran feed end events has then pending told tells = after_opening x reads (AccountsForFeed x new feed end) ((end ≡ Broken) × rose) old hears is_seen t0 mid new passes entry exit events
-        (order_after x sound t0 r mid opened events has.made) has.history has.kept then pending told
+        (order_after x sound t0 r mid opened events has.made) has.history has.kept has.rises then pending told
         (λ hearing. let h = heard hearing in record { found = tells.found hearing ∙ h.found; opened = tells.synced hearing ∙ h.opened; told = tells.told hearing h.told })
 
     closed : (r : Replayed) (h : HasRun (opening_of x) t0 left reader now x.config.groups after mid new hears was is_seen r) → ReplayHeadline x rose old new hears is_seen h.feed Closed

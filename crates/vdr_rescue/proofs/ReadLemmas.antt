@@ -8,7 +8,7 @@ use Rattle.vdr_outside.specs.declared.media.Media.{Ghosts as MediaTells}
 use Rattle.vdr_outside.specs.Causes.{Rose}
 use Rattle.vdr_outside.specs.Disk.{Image, content}
 use Rattle.vdr_outside.proofs.Counts.{none_fell, none_falls_join, rose_after}
-use Rattle.vdr_outside.proofs.Moments.{unchanged_join}
+use Rattle.vdr_outside.proofs.Moments.{unchanged_join, unchanged_none}
 use Rattle.vdr_visit.specs.Visits.{ReadEnd, end_of}
 use Rattle.vdr_visit.specs.declared.visit_refused.VisitRefused.{VisitRefused}
 use Rattle.vdr_visit.specs.declared.visit_refused.VisitRefused.TheVariants.{NoChannel, NoIncident, Fault, Damaged, Output, Own}
@@ -106,7 +106,7 @@ module _ {M : Type 0} (media : MediaTells M) where
   leaves_none a x room = record {
     same = record { kept = refl; area = refl; heads = refl };
     room = room;
-    unchanged = record { sizes = refl; reads = λ told. refl; clock = refl; since = λ t i. (λ now. now, λ now. now) };
+    unchanged = unchanged_none (media.disk x);
     others = λ k other. refl;
     later = none_fell (media.faults x);
     rose = λ e. absurd (let none : ⊥ = cc in none);

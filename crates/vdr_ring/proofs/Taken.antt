@@ -52,6 +52,7 @@ module _ {tells tells_images : Type 0} where
     later = first.later;
     each = λ i left. joined i (first.each i left) (second.each i left);
     before = λ t i le left. ⊎_elim (λ since. inl since) (λ p. ⊎_elim (λ since. inl since) (λ q. inr (joined i p q)) (second.before t i le left)) (first.before t i le left);
+    past = first.past;
   }
     where
       joined : (i : Image) → Changed m P old.now i → Changed m Q old.now i → Changed m (λ bytes. P bytes × Q bytes) old.now i

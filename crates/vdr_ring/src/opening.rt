@@ -3,7 +3,7 @@ ghost use Rattle.std.specs.Prelude.{◌≡◌, ◌+◌, ◌*◌, ◌<◌, ◌≤
 ghost use Rattle.vdr_terms.specs.Needs.{Fits, slots_in};
 ghost use Rattle.vdr_outside.specs.Disk.{Unchanged, content};
 ghost use Rattle.vdr_outside.specs.declared.fault.PartRefused.TheVariants.{Damaged};
-ghost use Rattle.vdr_config.specs.Sizes.{sizes_of, window_of};
+ghost use Rattle.vdr_config.specs.Sizes.{sizes_of};
 ghost use Rattle.vdr_directory.specs.Opening.{HasFaultCause, Refuses};
 ghost use Rattle.vdr_ring.specs.Openings.{OpensRing};
 
@@ -26,19 +26,6 @@ fn area_of(config: &Config, m: u8, size: u64) -> Area
         medium: m,
         segment: config.segment,
         slots: slot_count(config.segment, size),
-    }
-}
-
-// The window of medium m, in seconds.
-fn seconds_of(config: &Config, m: u8) -> u64
-    ensures window { result ≡ window_of config.now m }
-    ensures low { 1 ≤ result }
-    ensures high { result ≤ 31_536_000 }
-{
-    if m == 0 {
-        config.capsule_seconds
-    } else {
-        config.long_seconds
     }
 }
 
@@ -81,7 +68,7 @@ impl Ring {
         };
         Ok(Ring {
             area,
-            seconds: seconds_of(config, m),
+            seconds: config.window(m),
             directory,
             buffer,
             loaded,

@@ -1,6 +1,6 @@
 -- A batch that may come next on a vault may come next on each of its media.
 use Rattle.std.proofs.Common.{◌≡◌, ◌<◌, ◌≤◌, ℕ, List, ◌==◌, Option, Some, None, sym, ap, ◌∙◌, subst, arith}
-use Rattle.std.specs.Prelude.{IfSome}
+use Rattle.std.specs.Prelude.{IfSome, if◌then◌else◌}
 use Rattle.std.proofs.lemmas.Bool.{cond_both}
 use Rattle.std.proofs.lemmas.List.Elements.{All-contains, All-weaker}
 use Rattle.vdr_terms.specs.Needs.{cost, needed_slots, slots_in}
@@ -48,7 +48,9 @@ pub windowed : (c : Configuration) (m : ℕ) → IsConfiguration c → 0 < windo
 windowed c m is =
     let a = is.capsule_low in
     let b = is.long_low in
-    cond_both (m == 0) c.capsule_seconds c.long_seconds (λ (n : ℕ). 0 < n) (λ _. omega (arith, a)) (λ _. omega (arith, b))
+    let f = is.float_low in
+    cond_both (m == 0) c.capsule_seconds (if m == 1 then c.long_seconds else c.float_seconds) (λ (n : ℕ). 0 < n) (λ _. omega (arith, a))
+    (λ _. cond_both (m == 1) c.long_seconds c.float_seconds (λ (n : ℕ). 0 < n) (λ _. omega (arith, b)) (λ _. omega (arith, f)))
 
 module _ {tells tells_images : Type 0} where
   pub medium_is_ready : (opening : Opening) (events : List Event) (c : Configuration) (m : ℕ) (ring : RingState) (placed : List Placed) (disk : Disk tells tells_images) (records : List Record)

@@ -6,6 +6,7 @@ use Rattle.vdr_terms.specs.Queries.{Query}
 use Rattle.vdr_durability.specs.Playback.{medium_of}
 use Rattle.vdr_outside.specs.declared.media.Media.{Ghosts as MediaTells}
 use Rattle.vdr_outside.specs.Disk.{Disk, Unchanged}
+use Rattle.vdr_outside.proofs.Moments.{unchanged_none}
 use Rattle.vdr_ring.specs.Meets.{AreApart}
 use Rattle.vdr_ring.specs.Visits.{StandsAmong}
 use Rattle.vdr_ring.specs.declared.refused.ReadRefused.{ReadRefused}
@@ -46,7 +47,7 @@ module _ {tells tells_images : Type 0} where
 
   -- nothing was done yet
   unchanged_yet : (disk : Disk tells tells_images) → Unchanged disk disk
-  unchanged_yet disk = record { sizes = refl; reads = λ told. refl; clock = refl; since = λ t i. (λ h. h, λ h. h) }
+  unchanged_yet disk = unchanged_none disk
 
 reads_none : (m : ℕ) (vault : VaultState) → ReadsOn m vault vault
 reads_none m vault = record { vault = refl; count = refl; ring = refl; others = λ k other. refl }

@@ -1,4 +1,4 @@
-use Rattle.std.proofs.Common.{rules, ◌∙◌, ℕ, List, ap, sym, subst, arith}
+use Rattle.std.proofs.Common.{◌∙◌, ℕ, List, ap, sym, subst, arith}
 use Rattle.std.proofs.lemmas.Result.{err_from_is_err_and}
 use Rattle.vdr_outside.specs.Disk.{Image}
 use Rattle.vdr_opening.specs.Answers.{OpenedState}
@@ -7,7 +7,7 @@ use Rattle.vdr_opening.specs.Parts.{HasRoomBefore}
 use Rattle.vdr_opening.proofs.Rings.{open_failed, passed_damaged}
 use Rattle.vdr_info.specs.Infos.{AreParts}
 use Rattle.vdr_opening.specs.Costs.{ReadsParts}
-use Rattle.vdr_info.proofs.InfoLemmas.{reads_twice, refused_so, room_before}
+use Rattle.vdr_info.proofs.InfoLemmas.{never_unformatted, reads_twice, refused_so, room_before}
 use Rattle.vdr_info.proofs.info.read_synced.Goals as goal
 
 pub returns-in_err-opened-clause-refused : goal.returns-in_err-opened-clause-refused
@@ -23,7 +23,7 @@ pub returns-in_err-parts-clause-refused : goal.returns-in_err-parts-clause-refus
 returns-in_err-parts-clause-refused g c =
     let p = err_from_is_err_and c.from_residual-in_err-parts.result c.from_residual-in_err-parts.ensures.1 in
     rw p.1 (record {
-      unformatted = search rules;
+      unformatted = λ e. absurd (never_unformatted _ _ p.2 e);
       damaged = λ m offset e told durable.
           let found = c.in_ok-opened.ensures.parts told in
           absurd (c.in_err-parts.ensures.legal m offset (passed_damaged _ _ m offset p.2 e) told found.0 found.1.holds (ap (λ (o : OpenedState). o.config) c.opened.view_is ∙ found.1.config));

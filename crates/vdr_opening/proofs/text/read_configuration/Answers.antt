@@ -37,7 +37,7 @@ returns-then-not-goes_with-clause-damaged g c k offset e =
           let measures = c.size.ensures ∙ ap (λ (s : List ℕ). get_or s c.args.m 0) c.read_text.ensures.unchanged.sizes ∙ sym (size_read (g.M.Media.disk c.args.media.now) c.args.m told) in
           subst (λ (n : ℕ). RefusesConfiguration c.args.m (text_of c.args.before) (content (g.M.Media.disk c.args.media.now).reads c.args.m) n) (sym h.1)
           (refused_text _ _ _ _ (c.requires.superblock told) c.in_ok-text.text.items c.in_ok-text.ensures.short (c.in_ok-text.ensures.text told)
-          (λ config reads segment fits same. other_config _ _ _ _ _ _ _ _ _ c.in_ok-configured.ensures.text c.in_ok-configured.ensures.reads reads segment fits measures c.goes_with.ensures c.if-not-goes_with.true)),
+          (λ config reads segment fits same. other_config c.args.m c.args.segment _ _ _ _ _ _ _ c.in_ok-configured.ensures.text c.in_ok-configured.ensures.reads reads segment fits measures c.goes_with.ensures c.if-not-goes_with.true)),
     )
 
 pub returns-clause-front : goal.returns-clause-front

@@ -21,3 +21,8 @@ pub returns-clause-counts : goal.returns-clause-counts
 returns-clause-counts g c =
     let lent : length c.deref_mut.result.now ≡ c.in_ok-length.length = c.deref_mut.ensures.len ∙ c.in-Ok.ensures.len in
     text_bytes c.args.m (length c.deref_mut.result.now) _ _ _ (omega (arith, lent, c.if-length-gt-LONGEST.false)) c.read_length.ensures.counts c.read.ensures.counts
+
+pub returns-in_err-read-clause-counts : goal.returns-in_err-read-clause-counts
+returns-in_err-read-clause-counts g c =
+    let lent : length c.deref_mut.result.now ≡ c.in_ok-length.length = c.deref_mut.ensures.len ∙ c.in-Ok.ensures.len in
+    text_bytes c.args.m (length c.deref_mut.result.now) _ _ _ (omega (arith, lent, c.if-length-gt-LONGEST.false)) c.read_length.ensures.counts c.read.ensures.counts

@@ -3,6 +3,7 @@ use Rattle.std.proofs.lemmas.Result.{err_from_is_err_and}
 use Rattle.vdr_terms.specs.Slots.{slot_count}
 use Rattle.vdr_terms.proofs.Results.{same_err}
 use Rattle.vdr_outside.specs.Disk.{Image, content}
+use Rattle.vdr_outside.proofs.Counts.{none_falls_join}
 use Rattle.vdr_outside.proofs.Moments.{size_read, unchanged_join}
 use Rattle.vdr_rescue.specs.Fronts.{AreFronts}
 use Rattle.vdr_rescue.specs.Saves.{AreSaves, saved_slots}
@@ -45,3 +46,9 @@ returns-clause-opened g c told =
     c.area_of-area.ensures.medium segment (slots ∙ ap (λ (n : ℕ). slot_count c.in_ok-config.config.segment n) size)
     saved are
     (search rules) c.in-Ok.ensures.legal c.in-Ok.ensures.saves c.in-Ok.ensures.area c.in-Ok.ensures.order c.in-Ok.ensures.shown
+
+pub returns-clause-cause : goal.returns-clause-cause
+returns-clause-cause g c = record {
+  later = none_falls_join _ _ _ (none_falls_join _ _ _ c.read_before.ensures.cause.later c.read_saves_of.ensures.cause.later) c.read_fronts.ensures.cause.later;
+  rose = λ fault. let none : ⊥ = cc in absurd none;
+}

@@ -36,8 +36,8 @@ invariant_of-result g c = (
   let four = four_slots (sizes_of c.args.config.now) c.args.m (get_or (g.M.Media.disk c.args.media.now).sizes c.args.m 0) c.requires.fits in
       let same = ap (λ (n : ℕ). slots_in (sizes_of c.args.config.now) n) c.size.ensures in
       omega (arith, four, same, c.area_of-area.ensures.slots),
-  c.seconds_of.ensures.low,
-  c.seconds_of.ensures.high,
+  c.window.ensures.low,
+  c.window.ensures.high,
 )
 
 pub returns-clause-opened : goal.returns-clause-opened
@@ -57,7 +57,7 @@ returns-clause-opened g c =
       medium = c.area_of-area.result.medium;
       segment = c.area_of-area.result.segment;
       slots = c.area_of-area.result.slots;
-      seconds = c.seconds_of.result;
+      seconds = c.window.result;
       directory = c.in-Ok-of.directory;
       buffer = (with_items c.in-Ok.buffer c.read_segments.new.buffer).items;
       loaded = c.in_ok-opened.loaded;
