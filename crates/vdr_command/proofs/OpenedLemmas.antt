@@ -219,5 +219,5 @@ module _ {tells tells_images : Type 0} where
   kept_by_call x reads sound MayBe status old mid new result act none r after t0 moments from upto done rests may =
       let silent : recorded (done.event ∷ []) ≡ [] = ap (λ (a : Act). records_of_act a ++ []) done.act_is ∙ ap (λ (rs : List Record). rs ++ []) none in
       after_opening x reads (ContentsKept x MayBe status new) ⊤ old ⊥ nothing_told t0 mid new (passes_opened (opening_of x) old mid result moments) from upto (done.event ∷ []) (order_quiet x sound (done.event ∷ []) silent)
-      done.has.history done.has.kept done.passes (inr tt)
+      done.has.history done.has.kept done.has.rises done.passes (inr tt)
       (record { may_be = may; reads = λ worked t. plays x reads (done.event ∷ []) (order_quiet x sound (done.event ∷ []) silent) new.reads (rests worked t) }) (λ none. absurd none)

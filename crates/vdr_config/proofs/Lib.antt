@@ -5,3 +5,4 @@ pub mod Whole
 pub mod Table
 mod Rows
 pub mod Ranges
+mod Windows

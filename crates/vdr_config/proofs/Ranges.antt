@@ -1,6 +1,6 @@
 -- What a configuration that is a text keeps: no more than 32 incident slots, and an incident no longer than the long-term window.
 use Rattle.std.proofs.Common.{◌≡◌, ◌≤◌, ℕ, Bool, true, false, List, length, Option, Some, None, Result, Ok, Err, codes, if◌then◌else◌, ⊎_elim, refl, sym, ap, ◌∙◌, subst}
-use Rattle.std.specs.Prelude.{nat_lt, nat_le, option_and_then, ◌&&◌}
+use Rattle.std.specs.Prelude.{max, nat_lt, nat_le, option_and_then, ◌&&◌}
 use Rattle.std.specs.Option.{is_some}
 use Rattle.std.specs.Str.{is_utf8}
 use Rattle.std.proofs.lemmas.Bool.{and_parts, cases_Bool, cond-true, cond-false, leb-true}
@@ -14,7 +14,7 @@ use Rattle.vdr_config.specs.declared.reading.TopEntry.{TopEntry}
 use Rattle.vdr_config.specs.declared.scope.Scope.TheVariants as scopes
 use Rattle.vdr_config.specs.Configuration.{Configuration}
 use Rattle.vdr_config.specs.Forms.{choice, if_passes, list, profile_named, whole}
-use Rattle.vdr_config.specs.Grammar.{◌>>=◌, agreement, channel_at, configuration, configuration_from, configuration_of, each_element, group_at, in_form, needed_key, needed_value, of_value, only_keys, top_of}
+use Rattle.vdr_config.specs.Grammar.{◌>>=◌, agreement, channel_at, configuration, configuration_from, configuration_of, each_element, group_at, in_form, needed_key, needed_value, of_value, only_keys, optional_key, top_of}
 
 abbrev HasRanges : Configuration → Type 0
 HasRanges c = (c.incident_slots ≤ 32) × (c.incident_seconds ≤ c.long_seconds)
@@ -60,6 +60,10 @@ next : {A : Type 0} (k : List ℕ) (form : Data → Option A) (d : Data) (f : A 
     → (x : A) × (needed_key scopes.Top k form d ≡ Ok x) × (f x ≡ Ok top)
 next k form d f top e = first_ok (needed_key scopes.Top k form d) f top e
 
+next_optional : {A : Type 0} (k : List ℕ) (form : Data → Option A) (d : Data) (f : Option A → Result TopEntry ConfigBad) (top : TopEntry) → (optional_key scopes.Top k form d >>= f) ≡ Ok top
+    → (x : Option A) × (optional_key scopes.Top k form d ≡ Ok x) × (f x ≡ Ok top)
+next_optional k form d f top e = first_ok (optional_key scopes.Top k form d) f top e
+
 is_whole : (k : List ℕ) (least most : ℕ) (d : Data) (n : ℕ) → needed_key scopes.Top k (whole least most) d ≡ Ok n → n ≤ most
 unfolding needed_key
 is_whole k least most d n e = within k least most n (get k d) e
@@ -70,7 +74,8 @@ top_ranges d top e =
     let profile = next (codes "profile") (choice profile_named) d _ top e in
     let capsule = next (codes "capsule_seconds") (whole 1 31_536_000) d _ top profile.2 in
     let long = next (codes "long_seconds") (whole 1 31_536_000) d _ top capsule.2 in
-    let incident = next (codes "incident_seconds") (whole 1 long.0) d _ top long.2 in
+    let float = next_optional (codes "float_seconds") (whole 1 (max capsule.0 long.0)) d _ top long.2 in
+    let incident = next (codes "incident_seconds") (whole 1 long.0) d _ top float.2 in
     let slots = next (codes "incident_slots") (whole 1 32) d _ top incident.2 in
     let segment = next (codes "segment") (whole 8_192 16_777_216) d _ top slots.2 in
     let batch = next (codes "batch") (whole 2_048 1_048_576) d _ top segment.2 in

@@ -1,5 +1,5 @@
 -- Worked examples, computed.
-use Rattle.std.proofs.Common.{◌≡◌, [], ◌∷◌, Some, None, Ok, Err, refl, replicate}
+use Rattle.std.proofs.Common.{◌≡◌, [], ◌∷◌, Some, None, Ok, Err, refl, replicate, false}
 use Rattle.std.specs.Prelude.{codes}
 use Rattle.std.specs.Str.{is_utf8, chars}
 use Rattle.serde_json.proofs.OnLiterals.{serde_json_on_literals}
@@ -29,6 +29,8 @@ bench = record {
   profile = Bench;
   capsule_seconds = 60;
   long_seconds = 600;
+  float_seconds = 60;
+  float_given = false;
   incident_seconds = 30;
   incident_slots = 2;
   segment = 8192;
@@ -47,6 +49,8 @@ ship = record {
   profile = Ship;
   capsule_seconds = 172800;
   long_seconds = 2592000;
+  float_seconds = 172800;
+  float_given = false;
   incident_seconds = 43200;
   incident_slots = 4;
   segment = 1048576;
@@ -60,10 +64,10 @@ ship_text : configuration (codes "{\"profile\":\"ship\",\"capsule_seconds\":1728
 unfolding serde_json_on_literals is_utf8 chars configuration configuration_of only_keys top_of needed_key optional_key each_element group_at channel_at selection_at agreement is_key
 ship_text = refl
 
-bench_fits : fitting (sizes_of bench) 122880 712704 ≡ Ok tt
+bench_fits : fitting (sizes_of bench) (122880 ∷ 712704 ∷ []) ≡ Ok tt
 bench_fits = refl
 
-bench_is_too_small : fitting (sizes_of bench) 114688 712704 ≡ Err (record { medium = 0; need = 11; have = 10 })
+bench_is_too_small : fitting (sizes_of bench) (114688 ∷ 712704 ∷ []) ≡ Err (record { medium = 0; need = 11; have = 10 })
 bench_is_too_small = refl
 
 ship_needs : needed_slots (sizes_of ship) 1 ≡ 32014

@@ -1,5 +1,5 @@
 -- What a configuration is: its parts and their ranges (this project's profile).
-use Rattle.std.specs.Prelude.{◌≡◌, ◌≢◌, ℕ, ◌*◌, ◌≤◌, ◌&&◌, Bool, true, false, List, length, Option, Some, None, IfSome, IsSome, All, AllPairs, nat_le, slice_index_or}
+use Rattle.std.specs.Prelude.{◌≡◌, ◌≢◌, ℕ, ◌*◌, ◌≤◌, max, ◌&&◌, Bool, true, false, List, length, Option, Some, None, IfSome, IsSome, All, AllPairs, nat_le, slice_index_or}
 use Rattle.vdr_terms.specs.declared.rate.Rate.{Rate}
 use Rattle.vdr_config.specs.declared.profile.Profile.{Profile}
 use Rattle.vdr_config.specs.declared.profile.Profile.TheVariants.{Ship, Bench}
@@ -18,11 +18,14 @@ pub record Selector : Type 0 where
   pub group : ℕ
   pub kind : Selection
 
--- A configuration. At the number of each of the sixteen groups stands its rate, None where the group is not configured.
+-- A configuration. At the number of each of the sixteen groups stands its rate, None where the group is not configured. The window
+-- of the float-free medium is the capsule's where none was given.
 pub record Configuration : Type 0 where
   pub profile : Profile
   pub capsule_seconds : ℕ
   pub long_seconds : ℕ
+  pub float_seconds : ℕ
+  pub float_given : Bool
   pub incident_seconds : ℕ
   pub incident_slots : ℕ
   pub segment : ℕ
@@ -51,6 +54,8 @@ pub record IsConfiguration (c : Configuration) : Type 0 where
   pub capsule_high : c.capsule_seconds ≤ 31_536_000
   pub long_low : 1 ≤ c.long_seconds
   pub long_high : c.long_seconds ≤ 31_536_000
+  pub float_low : 1 ≤ c.float_seconds
+  pub float_high : c.float_seconds ≤ max c.capsule_seconds c.long_seconds
   pub incident_low : 1 ≤ c.incident_seconds
   pub incident_high : c.incident_seconds ≤ c.long_seconds
   pub slots_low : 1 ≤ c.incident_slots
@@ -75,7 +80,8 @@ abbrev pub is_ship : Profile → Bool
 is_ship Ship = true
 is_ship Bench = false
 
--- A ship's windows are 48 hours and 30 days at least (IEC 61996-1, IMO MSC.333(90)).
+-- A ship's windows are 48 hours, on the capsule and on the float-free medium, and 30 days at least (IEC 61996-1, IMO MSC.333(90)).
 pub record HasShipWindows (c : Configuration) : Type 0 where
   pub capsule : 172_800 ≤ c.capsule_seconds
   pub long : 2_592_000 ≤ c.long_seconds
+  pub float : 172_800 ≤ c.float_seconds

@@ -1,5 +1,5 @@
 -- The ranges of the values that the text gives.
-use Rattle.std.specs.Prelude.{◌<◌, ◌≤◌}
+use Rattle.std.specs.Prelude.{◌<◌, ◌≤◌, max}
 use Rattle.vdr_config.specs.declared.groups.GroupEntry.{GroupEntry}
 use Rattle.vdr_config.specs.declared.reading.TopEntry.{TopEntry}
 use Rattle.vdr_config.specs.Configuration.{IsRate}
@@ -13,6 +13,8 @@ pub record IsTop (top : TopEntry) : Type 0 where
   pub capsule_high : top.capsule_seconds ≤ 31_536_000
   pub long_low : 1 ≤ top.long_seconds
   pub long_high : top.long_seconds ≤ 31_536_000
+  pub float_low : 1 ≤ top.float_seconds
+  pub float_high : top.float_seconds ≤ max top.capsule_seconds top.long_seconds
   pub incident_low : 1 ≤ top.incident_seconds
   pub incident_high : top.incident_seconds ≤ top.long_seconds
   pub slots_low : 1 ≤ top.incident_slots

@@ -45,7 +45,7 @@ kind_named s =
 -- The keys that an object of each shape may have.
 abbrev pub keys_of : Shape → List (List ℕ)
 keys_of shapes.Top =
-    codes "profile" ∷ codes "capsule_seconds" ∷ codes "long_seconds" ∷ codes "incident_seconds" ∷ codes "incident_slots" ∷ codes "segment" ∷ codes "batch" ∷ codes "queue" ∷ codes "groups" ∷ codes "channels" ∷ []
+    codes "profile" ∷ codes "capsule_seconds" ∷ codes "long_seconds" ∷ codes "float_seconds" ∷ codes "incident_seconds" ∷ codes "incident_slots" ∷ codes "segment" ∷ codes "batch" ∷ codes "queue" ∷ codes "groups" ∷ codes "channels" ∷ []
 keys_of shapes.Group = codes "name" ∷ codes "datagrams" ∷ codes "bytes" ∷ []
 keys_of shapes.Channel = codes "name" ∷ codes "group" ∷ codes "kind" ∷ codes "formatter" ∷ codes "source" ∷ codes "microphone" ∷ []
 keys_of shapes.Sentence = codes "name" ∷ codes "group" ∷ codes "kind" ∷ codes "formatter" ∷ codes "source" ∷ []

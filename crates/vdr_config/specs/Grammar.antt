@@ -1,5 +1,5 @@
 -- Which configuration a text is, or its first refusal with the path of the key (this project's profile).
-use Rattle.std.specs.Prelude.{◌≡◌, ℕ, suc, ◌*◌, ◌&&◌, Bool, true, false, List, [], ◌∷◌, ◌++◌, length, replicate, slice_set, Option, Some, None, option_map, option_and_then, is_some, nat_lt, nat_eq, bytes_eq, codes, decimal, Result, Ok, Err, ⊤, if◌then◌else◌}
+use Rattle.std.specs.Prelude.{◌≡◌, ℕ, suc, ◌*◌, max, ◌&&◌, Bool, true, false, List, [], ◌∷◌, ◌++◌, length, replicate, slice_set, Option, Some, None, option_map, option_and_then, unwrap_or, is_some, nat_lt, nat_eq, bytes_eq, codes, decimal, Result, Ok, Err, ⊤, if◌then◌else◌}
 use Rattle.std.specs.List.{list_any}
 use Rattle.std.specs.Str.{is_utf8}
 use Rattle.serde_json.specs.Data.{Data, Items, no_items, item, Members}
@@ -161,6 +161,7 @@ top_of d = do
   profile ← needed_key scopes.Top (codes "profile") (choice profile_named) d
   capsule_seconds ← needed_key scopes.Top (codes "capsule_seconds") (whole 1 31_536_000) d
   long_seconds ← needed_key scopes.Top (codes "long_seconds") (whole 1 31_536_000) d
+  float_seconds ← optional_key scopes.Top (codes "float_seconds") (whole 1 (max capsule_seconds long_seconds)) d
   incident_seconds ← needed_key scopes.Top (codes "incident_seconds") (whole 1 long_seconds) d
   incident_slots ← needed_key scopes.Top (codes "incident_slots") (whole 1 32) d
   segment ← needed_key scopes.Top (codes "segment") (whole 8_192 16_777_216) d
@@ -170,6 +171,8 @@ top_of d = do
     profile = profile;
     capsule_seconds = capsule_seconds;
     long_seconds = long_seconds;
+    float_seconds = unwrap_or float_seconds capsule_seconds;
+    float_given = is_some float_seconds;
     incident_seconds = incident_seconds;
     incident_slots = incident_slots;
     segment = segment;
@@ -184,13 +187,16 @@ agreement top groups channels = do
   names_differ ← none_repeated (first_repeat same_name channels) scopes.Channel
   capsule ← refuse_if (is_ship top.profile && nat_lt top.capsule_seconds 172_800) (bad.ShortWindow (codes "capsule_seconds"))
   long ← refuse_if (is_ship top.profile && nat_lt top.long_seconds 2_592_000) (bad.ShortWindow (codes "long_seconds"))
-  refuse_if (nat_lt top.segment (4 * top.batch)) (bad.SmallSegment (codes "segment"))
+  segment ← refuse_if (nat_lt top.segment (4 * top.batch)) (bad.SmallSegment (codes "segment"))
+  refuse_if (is_ship top.profile && nat_lt top.float_seconds 172_800) (bad.ShortWindow (codes "float_seconds"))
 
 abbrev pub configuration_from : TopEntry → List GroupEntry → List Selector → Configuration
 configuration_from top groups channels = record {
   profile = top.profile;
   capsule_seconds = top.capsule_seconds;
   long_seconds = top.long_seconds;
+  float_seconds = top.float_seconds;
+  float_given = top.float_given;
   incident_seconds = top.incident_seconds;
   incident_slots = top.incident_slots;
   segment = top.segment;

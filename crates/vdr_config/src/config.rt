@@ -1,5 +1,5 @@
 // The configuration of a recorder, with the ranges that its type keeps, and its channels and windows.
-ghost use Rattle.std.specs.Prelude.{◌≡◌, ◌<◌, ℕ, length, replicate, [], Some, IfSome, bytes_eq, position, slice_get};
+ghost use Rattle.std.specs.Prelude.{◌≡◌, ◌<◌, ◌≤◌, ℕ, length, replicate, [], Some, IfSome, bytes_eq, position, slice_get};
 ghost use Rattle.vdr_config.specs.Sizes.{window_of};
 
 use crate::channel::Channel;
@@ -19,6 +19,11 @@ pub struct Config {
     pub capsule_seconds: u64,
     /// The window of the long-term medium: 1 to 31,536,000 seconds.
     pub long_seconds: u64,
+    /// The window of the float-free medium, in seconds: 1 to the greater of `capsule_seconds` and `long_seconds`. It is
+    /// `capsule_seconds` where the text gives none.
+    pub float_seconds: u64,
+    /// Whether the text gives the window of the float-free medium.
+    pub float_given: bool,
     /// The window of a saved incident: 1 to `long_seconds` seconds.
     pub incident_seconds: u64,
     /// How many incidents may be saved at a time: 1 to 32.
@@ -41,9 +46,9 @@ impl Model for Config {
 
     ghost Value = { Configuration };
 
-    ghost view = { λ c. record { profile = c.profile; capsule_seconds = c.capsule_seconds; long_seconds = c.long_seconds; incident_seconds = c.incident_seconds; incident_slots = c.incident_slots; segment = c.segment; batch = c.batch; queue = c.queue; groups = c.groups; channels = c.channels.items } };
+    ghost view = { λ c. record { profile = c.profile; capsule_seconds = c.capsule_seconds; long_seconds = c.long_seconds; float_seconds = c.float_seconds; float_given = c.float_given; incident_seconds = c.incident_seconds; incident_slots = c.incident_slots; segment = c.segment; batch = c.batch; queue = c.queue; groups = c.groups; channels = c.channels.items } };
 
-    ghost invariant = { λ c. IsConfiguration (record { profile = c.profile; capsule_seconds = c.capsule_seconds; long_seconds = c.long_seconds; incident_seconds = c.incident_seconds; incident_slots = c.incident_slots; segment = c.segment; batch = c.batch; queue = c.queue; groups = c.groups; channels = c.channels.items }) };
+    ghost invariant = { λ c. IsConfiguration (record { profile = c.profile; capsule_seconds = c.capsule_seconds; long_seconds = c.long_seconds; float_seconds = c.float_seconds; float_given = c.float_given; incident_seconds = c.incident_seconds; incident_slots = c.incident_slots; segment = c.segment; batch = c.batch; queue = c.queue; groups = c.groups; channels = c.channels.items }) };
 }
 
 impl Config {
@@ -59,6 +64,8 @@ impl Config {
             profile: Profile::Bench,
             capsule_seconds: SHIP_CAPSULE_SECONDS,
             long_seconds: 2_592_000,
+            float_seconds: SHIP_CAPSULE_SECONDS,
+            float_given: false,
             incident_seconds: 1,
             incident_slots: 1,
             segment: 8_192,
@@ -83,14 +90,17 @@ impl Config {
         }
     }
 
-    /// The window of a medium, in seconds: medium 0 is the capsule.
+    /// The window of a medium, in seconds, 1 to 31,536,000: medium 0 is the capsule, 1 the long-term medium, and 2 the
+    /// float-free medium.
     pub fn window(&self, m: u8) -> u64
-        ensures { result ≡ window_of self.now m }
+        ensures window { result ≡ window_of self.now m }
+        ensures low { 1 ≤ result }
+        ensures high { result ≤ 31_536_000 }
     {
-        if m == 0 {
-            self.capsule_seconds
-        } else {
-            self.long_seconds
+        match m {
+            0 => self.capsule_seconds,
+            1 => self.long_seconds,
+            _ => self.float_seconds,
         }
     }
 }

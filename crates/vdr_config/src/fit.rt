@@ -1,6 +1,6 @@
 // What a configuration needs of its media, and whether media of some sizes have it.
-ghost use Rattle.std.specs.Prelude.{◌≡◌, ◌≤◌, ◌+◌, ◌*◌, ◌/◌, length, All, IfSome, OnOk, sum_by};
-ghost use Rattle.vdr_terms.specs.Needs.{group_cost, cost, usable, needed_slots, slots_in, Fits};
+ghost use Rattle.std.specs.Prelude.{◌≡◌, ◌≤◌, ◌<◌, ◌+◌, ◌*◌, ◌/◌, ℕ, length, get_or, All, IfSome, OnOk, sum_by};
+ghost use Rattle.vdr_terms.specs.Needs.{group_cost, cost, usable, needed_slots, Fits};
 ghost use Rattle.vdr_config.specs.Configuration.{IsRate};
 ghost use Rattle.vdr_config.specs.Sizes.{sizes_of, fitting};
 
@@ -43,56 +43,74 @@ fn segments(seconds: u64, cost: u64, usable: u64) -> u64
     (seconds + 1) * cost / usable
 }
 
+// The usable bytes of a segment.
+fn usable_of(config: &Config) -> u64
+    ensures value { result ≡ usable (sizes_of config.now) }
+    ensures some { 1 ≤ result }
+{
+    config.segment as u64 - 64 - (config.batch as u64 + 6)
+}
+
+/// The slots in which medium m keeps its window, the long-term medium also its saved incidents (this project's profile).
+pub fn needed_slots(config: &Config, m: u8) -> u64
+    ensures { result ≡ needed_slots (sizes_of config.now) m }
+{
+    let cost = cost_of_groups(&config.groups);
+    let usable = usable_of(config);
+    let window = segments(config.window(m), cost, usable) + 4;
+    if m == 1 {
+        let incident = segments(config.incident_seconds, cost, usable) + 2;
+        window + config.incident_slots as u64 * incident
+    } else {
+        window
+    }
+}
+
 /// What the configuration needs of its media: the cost of a second and the usable bytes of a segment, and from them the
-/// slots in which each medium keeps its window, the long-term medium also its saved incidents.
+/// slots of each medium.
 pub fn needs(config: &Config) -> Needs
     ensures cost { result.cost ≡ cost (sizes_of config.now) }
     ensures usable { result.usable ≡ usable (sizes_of config.now) }
     ensures capsule { result.capsule_slots ≡ needed_slots (sizes_of config.now) 0 }
     ensures long { result.long_slots ≡ needed_slots (sizes_of config.now) 1 }
+    ensures float { result.float_slots ≡ needed_slots (sizes_of config.now) 2 }
 {
-    let cost = cost_of_groups(&config.groups);
-    let usable = config.segment as u64 - 64 - (config.batch as u64 + 6);
-    let capsule = segments(config.capsule_seconds, cost, usable);
-    let long = segments(config.long_seconds, cost, usable);
-    let incident = segments(config.incident_seconds, cost, usable);
     Needs {
-        cost,
-        usable,
-        capsule_slots: capsule + 4,
-        long_slots: long + 4 + config.incident_slots as u64 * (incident + 2),
+        cost: cost_of_groups(&config.groups),
+        usable: usable_of(config),
+        capsule_slots: needed_slots(config, 0),
+        long_slots: needed_slots(config, 1),
+        float_slots: needed_slots(config, 2),
     }
 }
 
-fn slots(config: &Config, size: u64) -> u64
-    ensures { result ≡ slots_in (sizes_of config.now) size }
+// The first of the media of these sizes that has fewer slots than it needs.
+fn tested(config: &Config, sizes: &[u64]) -> Result<(), TooSmall>
+    requires few { length sizes.now ≤ 3 }
+    ensures { result ≡ fitting (sizes_of config.now) sizes.now }
 {
-    slot_count(config.segment, size) as u64
-}
-
-/// Whether media of these sizes, in bytes, have the slots that the configuration needs. `TooSmall` names the first that
-/// has fewer: the capsule, then the long-term medium.
-pub fn fits(config: &Config, capsule_size: u64, long_size: u64) -> Result<(), TooSmall>
-    ensures exact { result ≡ fitting (sizes_of config.now) capsule_size long_size }
-    ensures capsule { OnOk result (Fits (sizes_of config.now) 0 capsule_size) }
-    ensures long { OnOk result (Fits (sizes_of config.now) 1 long_size) }
-{
-    let needs = needs(config);
-    let have = slots(config, capsule_size);
-    if have < needs.capsule_slots {
-        return Err(TooSmall {
-            medium: 0,
-            need: needs.capsule_slots,
-            have,
-        });
-    }
-    let have = slots(config, long_size);
-    if have < needs.long_slots {
-        return Err(TooSmall {
-            medium: 1,
-            need: needs.long_slots,
-            have,
-        });
+    let mut m = 0;
+    for size in sizes {
+        let need = needed_slots(config, m);
+        let have = slot_count(config.segment, *size) as u64;
+        if have < need {
+            return Err(TooSmall {
+                medium: m,
+                need,
+                have,
+            });
+        }
+        m += 1;
     }
     Ok(())
+}
+
+/// Whether media of these sizes, in bytes and in the order of the media, have the slots that the configuration needs.
+/// `TooSmall` names the first that has fewer.
+pub fn fits(config: &Config, sizes: &[u64]) -> Result<(), TooSmall>
+    requires few { length sizes.now ≤ 3 }
+    ensures exact { result ≡ fitting (sizes_of config.now) sizes.now }
+    ensures each { OnOk result ((m : ℕ) → m < length sizes.now → Fits (sizes_of config.now) m (get_or sizes.now m 0)) }
+{
+    tested(config, sizes)
 }

@@ -111,10 +111,11 @@ pub(crate) fn names_source(name: &[u8]) -> bool
     1 <= name.len() && name.len() <= 15 && are_source_bytes(name)
 }
 
-const TOP_KEYS: [&str; 10] = [
+const TOP_KEYS: [&str; 11] = [
     "profile",
     "capsule_seconds",
     "long_seconds",
+    "float_seconds",
     "incident_seconds",
     "incident_slots",
     "segment",

@@ -1,5 +1,5 @@
 // A key of an object in its form, or the refusal with its path.
-ghost use Rattle.std.specs.Prelude.{◌≡◌, ◌≤◌, ◌<◌, not, IfOk, length, option_map, string_bytes, option_copied, find, true};
+ghost use Rattle.std.specs.Prelude.{◌≡◌, ◌≤◌, ◌<◌, not, IfOk, IfSome, length, option_map, string_bytes, option_copied, find, true};
 ghost use Rattle.std.specs.BTreeMap.{keys, IsOrdered};
 ghost use Rattle.std.specs.String.{string_cmp};
 ghost use Rattle.serde_json.specs.View.{view, items_view};
@@ -51,6 +51,29 @@ pub(crate) fn number(
         None => Err(ConfigBad::MissingKey(scope.path(alloc, key)?)),
         Some(value) => match whole_of(value, least, most) {
             Some(n) => Ok(n),
+            None => Err(ConfigBad::Range(scope.path(alloc, key)?)),
+        },
+    }
+}
+
+/// A whole number, where it is there.
+#[tactic(auto, unfolding(crate::specs::Grammar::optional_key))]
+pub(crate) fn optional_number(
+    alloc: Global,
+    scope: Scope,
+    key: &str,
+    least: u64,
+    most: u64,
+    object: &Value,
+) -> Result<Option<u64>, ConfigBad>
+    ensures exact { Gives (λ o. o) result (optional_key scope key.now (whole least most) (view object.now)) }
+    ensures low { IfOk result (λ o. IfSome o (λ n. least ≤ n)) }
+    ensures high { IfOk result (λ o. IfSome o (λ n. n ≤ most)) }
+{
+    match object.get(key) {
+        None => Ok(None),
+        Some(value) => match whole_of(value, least, most) {
+            Some(n) => Ok(Some(n)),
             None => Err(ConfigBad::Range(scope.path(alloc, key)?)),
         },
     }

@@ -20,7 +20,7 @@ mod scope;
 pub use bad::{ConfigBad, KeyPath};
 pub use channel::{Channel, ChannelKind};
 pub use config::Config;
-pub use fit::{fits, needs};
+pub use fit::{fits, needed_slots, needs};
 pub use law::law_of_ranges;
 pub use media::{Needs, TooSmall};
 pub use profile::Profile;

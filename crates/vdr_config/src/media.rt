@@ -9,12 +9,14 @@ pub struct Needs {
     pub capsule_slots: u64,
     /// The slots of the long-term medium.
     pub long_slots: u64,
+    /// The slots of the float-free medium.
+    pub float_slots: u64,
 }
 
 /// A medium that has fewer slots than it needs.
 #[derive(Clone, Copy, Debug, PartialEq, Eq, Drop)]
 pub struct TooSmall {
-    /// 0 is the capsule, 1 the long-term medium.
+    /// 0 is the capsule, 1 the long-term medium, 2 the float-free medium.
     pub medium: u8,
     /// The slots that it needs.
     pub need: u64,

@@ -2,7 +2,7 @@
 //
 // That want of memory comes only where a growth was refused no clause can say; the paths of keys are made as they
 // are refused.
-ghost use Rattle.std.specs.Prelude.{◌≡◌, ◌≤◌, ◌*◌, length, true, None, IfOk, OnOk, All};
+ghost use Rattle.std.specs.Prelude.{◌≡◌, ◌≤◌, ◌*◌, max, length, true, None, IfOk, OnOk, All};
 ghost use Rattle.serde_json.specs.View.{view};
 ghost use Rattle.vdr_config.specs.Configuration.{is_selection, is_ship, HasShipWindows};
 ghost use Rattle.vdr_config.specs.Names.{is_channel_name};
@@ -15,7 +15,7 @@ use crate::channels::{channels, repeated_channel};
 use crate::config::Config;
 use crate::form::Shape;
 use crate::groups::{GroupEntry, group_entries, rate_table, repeated_group};
-use crate::keys::{array, number, only_keys, profile};
+use crate::keys::{array, number, only_keys, optional_number, profile};
 use crate::profile::Profile;
 use crate::scope::Scope;
 use serde_json::Value;
@@ -24,7 +24,7 @@ use std::alloc::Global;
 /// The longest text of a configuration, in bytes: it has its place in the superblock of a medium (this project's profile).
 pub const LONGEST_TEXT: usize = 16_380;
 
-/// The shortest window of a ship's capsule, in seconds: 48 hours (IEC 61996-1, IMO MSC.333(90)).
+/// The shortest window of a ship's capsule and of its float-free medium, in seconds: 48 hours (IEC 61996-1, IMO MSC.333(90)).
 pub const SHIP_CAPSULE_SECONDS: u64 = 172_800;
 
 // 30 days (IEC 61996-1, IMO MSC.333(90)).
@@ -36,11 +36,20 @@ pub(crate) struct TopEntry {
     profile: Profile,
     capsule_seconds: u64,
     long_seconds: u64,
+    float_seconds: u64,
+    float_given: bool,
     incident_seconds: u64,
     incident_slots: u8,
     segment: u32,
     batch: u32,
     queue: u32,
+}
+
+// The longer of two windows.
+fn longer(a: u64, b: u64) -> u64
+    ensures { result ≡ max a b }
+{
+    if a < b { b } else { a }
 }
 
 #[tactic(auto, unfolding(crate::specs::Grammar::top_of))]
@@ -52,6 +61,8 @@ fn top_entry(alloc: Global, value: &Value) -> Result<TopEntry, ConfigBad>
     let profile = profile(alloc, scope, "profile", value)?;
     let capsule_seconds = number(alloc, scope, "capsule_seconds", 1, 31_536_000, value)?;
     let long_seconds = number(alloc, scope, "long_seconds", 1, 31_536_000, value)?;
+    let longest = longer(capsule_seconds, long_seconds);
+    let float_seconds = optional_number(alloc, scope, "float_seconds", 1, longest, value)?;
     let incident_seconds = number(alloc, scope, "incident_seconds", 1, long_seconds, value)?;
     let incident_slots = number(alloc, scope, "incident_slots", 1, 32, value)?;
     let segment = number(alloc, scope, "segment", 8_192, 16_777_216, value)?;
@@ -61,6 +72,8 @@ fn top_entry(alloc: Global, value: &Value) -> Result<TopEntry, ConfigBad>
         profile,
         capsule_seconds,
         long_seconds,
+        float_seconds: float_seconds.unwrap_or(capsule_seconds),
+        float_given: float_seconds.is_some(),
         incident_seconds,
         incident_slots: incident_slots as u8,
         segment: segment as u32,
@@ -78,7 +91,7 @@ fn agree(
 ) -> Result<(), ConfigBad>
     ensures exact { Gives (λ _. tt) result (agreement top.now groups.now channels.now) }
     ensures ship { OnOk result (is_ship top.now.profile ≡ true
-        → (172_800 ≤ top.now.capsule_seconds) × (2_592_000 ≤ top.now.long_seconds)) }
+        → (172_800 ≤ top.now.capsule_seconds) × (2_592_000 ≤ top.now.long_seconds) × (172_800 ≤ top.now.float_seconds)) }
     ensures four_batches { OnOk result (4 * top.now.batch ≤ top.now.segment) }
     ensures names_differ { OnOk result (first_repeat same_name channels.now ≡ None) }
 {
@@ -97,6 +110,9 @@ fn agree(
     }
     if (top.segment as u64) < 4 * top.batch as u64 {
         return Err(ConfigBad::SmallSegment(Scope::Top.path(alloc, "segment")?));
+    }
+    if ship && top.float_seconds < SHIP_CAPSULE_SECONDS {
+        return Err(ConfigBad::ShortWindow(Scope::Top.path(alloc, "float_seconds")?));
     }
     Ok(())
 }
@@ -119,6 +135,8 @@ fn assemble(top: TopEntry, groups: &[GroupEntry], channels: Vec<Channel>) -> Con
         profile: top.profile,
         capsule_seconds: top.capsule_seconds,
         long_seconds: top.long_seconds,
+        float_seconds: top.float_seconds,
+        float_given: top.float_given,
         incident_seconds: top.incident_seconds,
         incident_slots: top.incident_slots,
         segment: top.segment,
