@@ -5,5 +5,9 @@ mod Opening
 mod Quiet
 mod QuietRows
 mod Surveying
+mod ShownTexts
+mod Missing
+mod Parting
+mod GapCounts
 pub mod Gathered
 pub mod Plain

@@ -1,9 +1,15 @@
 -- What holds of pages.
-use Rattle.std.specs.Prelude.{◌≡◌, ◌-◌, ◌*◌, ◌<◌, ◌≤◌, ℕ, Bool, true, not, ◌&&◌, ◌||◌, ◌==◌, nat_le, List, ◌++◌, All, Some}
+use Rattle.std.specs.Prelude.{◌≡◌, ◌-◌, ◌*◌, ◌<◌, ◌≤◌, ℕ, Bool, true, not, ◌&&◌, ◌||◌, ◌==◌, nat_le, List, ◌++◌, length, All, Some}
+use Rattle.std.specs.List.{flat_map}
 use Rattle.vdr_terms.specs.Records.{Record}
 use Rattle.vdr_visit.specs.Prints.{whole_text}
+use Rattle.vdr_thin.specs.Tables.{Key}
 use Rattle.vdr_page.specs.Fronts.{Saved, Words}
+use Rattle.vdr_page.specs.Missed.{TellGaps, gaps_in, marks_in}
+use Rattle.vdr_page.specs.Opens.{gaps_of, open_behind}
 use Rattle.vdr_page.specs.Pages.{data_block, front_text, last_lines, line_at, page_text}
+use Rattle.vdr_page.specs.Parts.{TellRuns, parts_of}
+use Rattle.vdr_page.specs.Shown.{page_shown, shown_text}
 use Rattle.vdr_page.specs.Surveys.{step_of, survey_of}
 use Rattle.vdr_page.specs.Template.{template_head, template_tail}
 
@@ -25,3 +31,22 @@ pub record BlockIsQuiet : Type 0 where
 abbrev pub StepCovers : Type 0
 StepCovers = (records : List Record) (low high : ℕ) → (survey_of records).low ≡ Some low → (survey_of records).high ≡ Some high
     → (high - low < 1500 * step_of (survey_of records)) × (1500 * (step_of (survey_of records) - 1) ≤ high - low)
+
+-- ---- what rows tell
+
+-- The data block is the text of the page's rows, one after the other.
+abbrev pub RowsAreShown : Type 0
+RowsAreShown = (words : Words) (saves : List Saved) (records : List Record) → data_block words saves records ≡ flat_map shown_text (page_shown words saves records)
+
+-- Of each group the rows of gaps tell how many Gaps the records have of it, and what these miss, cause by cause.
+abbrev pub GapRowsAddUp : Type 0
+GapRowsAddUp = (words : Words) (saves : List Saved) (records : List Record) (group : ℕ) → group ≤ 15 → TellGaps (marks_in group (page_shown words saves records)) (gaps_in group records)
+
+-- Of each series the rows of runs are those of its readings between a Start or Stop and the next one, and count each reading once.
+abbrev pub RunRowsAddUp : Type 0
+RunRowsAddUp = (words : Words) (saves : List Saved) (records : List Record) (key : Key)
+    → TellRuns key (step_of (survey_of records)) (page_shown words saves records) (parts_of (step_of (survey_of records)) records)
+
+-- A reading stands behind as many Gaps as its group has before it: so a run that a Gap stands in or before says so.
+abbrev pub GapsAreCounted : Type 0
+GapsAreCounted = (step : ℕ) (seen : List Record) (r : Record) → r.group ≤ 15 → gaps_of (open_behind step seen) r ≡ length (gaps_in r.group seen)

@@ -18,4 +18,7 @@ pub mod Template
 pub mod Watched
 pub mod Pages
 pub mod Held
+pub mod Shown
+pub mod Missed
+pub mod Parts
 pub mod Laws

@@ -23,7 +23,9 @@ mod tellings;
 mod template;
 
 pub use front::{PageWords, Save, print_front};
-pub use laws::{law_of_pages, law_of_quiet_bytes, law_of_steps};
+pub use laws::{
+    law_of_gap_rows, law_of_pages, law_of_quiet_bytes, law_of_rows, law_of_run_rows, law_of_steps,
+};
 pub use printer::PagePrinter;
 pub use survey::Survey;
 pub use surveyor::Surveyor;
