@@ -53,7 +53,7 @@ token_off x y e = append_cancel_left (codes "VDREVID1") x y e
 spread : (h : Heading) (rest : List ℕ) → heading_bytes h ++ rest ≡ codes "VDREVID1" ++ (flat_map part (parts_of h) ++ rest)
 spread h rest = ap (λ (l : List ℕ). l ++ rest) (heading_is h) ∙ append_assoc (codes "VDREVID1") (flat_map part (parts_of h)) rest
 
-same_heading : (h k : Heading) (p q : Asked) (rest tail : List ℕ) → IsHeading h p → IsHeading k q → heading_bytes h ++ rest ≡ heading_bytes k ++ tail → (h ≡ k) × (rest ≡ tail)
+pub same_heading : (h k : Heading) (p q : Asked) (rest tail : List ℕ) → IsHeading h p → IsHeading k q → heading_bytes h ++ rest ≡ heading_bytes k ++ tail → (h ≡ k) × (rest ≡ tail)
 same_heading h k p q rest tail of_h of_k e =
     let same = same_parts [] (parts_of h) (parts_of k) rest tail of_h.parts of_k.parts refl (token_off _ _ (sym (spread h rest) ∙ e ∙ spread k tail)) in
     (fields same.0, same.1)
@@ -75,7 +75,7 @@ same_heading h k p q rest tail of_h of_k e =
         let id = one_id h.incident k.incident of_h.small of_k.small incident.0 in
         λ i. record { text = text.0 i; medium = number i; incident = id i; label = label.0 i; query = query.0 i }
 
-same_asked : (h k : Heading) (p q : Asked) → IsHeading h p → IsHeading k q → h ≡ k → p ≡ q
+pub same_asked : (h k : Heading) (p q : Asked) → IsHeading h p → IsHeading k q → h ≡ k → p ≡ q
 same_asked h k p q of_h of_k same =
     let moved = subst (λ (x : Heading). IsHeading x p) same of_h in
     let config = same_config k.text moved.config of_k.config moved.read of_k.read in
@@ -84,12 +84,19 @@ same_asked h k p q of_h of_k same =
 -- ---- the records
 
 -- the length of no record is 0
-no_end : (r : Record) (x y : List ℕ) → IsRecord r → record_part r ++ x ≡ le_u32 0 ++ y → ⊥
+pub no_end : (r : Record) (x y : List ℕ) → IsRecord r → record_part r ++ x ≡ le_u32 0 ++ y → ⊥
 no_end r x y legal e =
     let short = record_length r legal in
     let same = one_part (record_bytes r) [] x y (omega (arith, short)) (omega arith) (e ∙ ap (λ (l : List ℕ). l ++ y) (sym part_none)) in
     let size : length (record_bytes r) ≡ 0 = ap (λ (l : List ℕ). length l) same.0 in
     omega (arith, size, length-record_bytes r)
+
+pub one_record_at : (r s : Record) (x y : List ℕ) → IsRecord r → IsRecord s → record_part r ++ x ≡ record_part s ++ y → (r ≡ s) × (x ≡ y)
+one_record_at r s x y legal too e =
+    let short = record_length r legal in
+    let fits = record_length s too in
+    let same = one_part (record_bytes r) (record_bytes s) x y (omega (arith, short)) (omega (arith, fits)) e in
+    (same_bytes r s legal too same.0, same.1)
 
 classify : (q : Asked) (front before records : List Record) (rest tail : List ℕ) → AreNext q front before → AreNext q front records → record_parts before ++ rest ≡ record_parts records ++ (le_u32 0 ++ tail)
     → ((r : Record) × (after : List ℕ) × IsNext q (front ++ before) r × (rest ≡ record_part r ++ after)) ⊎ ((before ≡ records) × (rest ≡ le_u32 0 ++ tail))
@@ -113,14 +120,14 @@ classify q front (r ∷ before) (s ∷ records) rest tail are of e =
 
 -- ---- the file
 
-whole : (h : Heading) (records : List Record) (rest : List ℕ) → covered (heading_bytes h) records ++ rest ≡ heading_bytes h ++ (record_parts records ++ (le_u32 0 ++ (le_u64 (counted records) ++ rest)))
+pub whole : (h : Heading) (records : List Record) (rest : List ℕ) → covered (heading_bytes h) records ++ rest ≡ heading_bytes h ++ (record_parts records ++ (le_u32 0 ++ (le_u64 (counted records) ++ rest)))
 whole h records rest =
     append_assoc (heading_bytes h ++ record_parts records) (end_mark records) rest
     ∙ append_assoc (heading_bytes h) (record_parts records) (end_mark records ++ rest)
     ∙ ap (λ (l : List ℕ). heading_bytes h ++ (record_parts records ++ l)) (append_assoc (le_u32 0) (le_u64 (counted records)) rest)
 
 -- Of evidence: what was read of its heading and of its records, and what stands behind these.
-found : (bytes rest : List ℕ) (h k : Heading) (p q : Asked) (seen records : List Record) → IsHeading h p → AreNext p [] seen → IsHeading k q → AreNext q [] records → bytes ≡ evidence_bytes (heading_bytes k) records
+pub found : (bytes rest : List ℕ) (h k : Heading) (p q : Asked) (seen records : List Record) → IsHeading h p → AreNext p [] seen → IsHeading k q → AreNext q [] records → bytes ≡ evidence_bytes (heading_bytes k) records
     → bytes ≡ (heading_bytes h ++ record_parts seen) ++ rest
     → ((r : Record) × (after : List ℕ) × IsNext p seen r × (rest ≡ record_part r ++ after))
     ⊎ ((h ≡ k) × (seen ≡ records) × (rest ≡ le_u32 0 ++ (le_u64 (counted records) ++ sha256 (covered (heading_bytes k) records))))

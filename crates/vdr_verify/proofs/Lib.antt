@@ -6,3 +6,4 @@ mod Lists
 mod Refusals
 mod Exclusion
 mod Telling
+mod Visits

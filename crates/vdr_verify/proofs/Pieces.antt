@@ -13,7 +13,7 @@ use Rattle.vdr_verify.specs.Reading.{Expects, HasNoPart, HasRead, Lacks, ReadsOn
 use Rattle.vdr_verify.specs.Standing.{IsBehind}
 use Rattle.vdr_verify.specs.declared.reader.Reader.{Reader}
 
-length-part : (x : List ℕ) → length (part x) ≡ 4 + length x
+pub length-part : (x : List ℕ) → length (part x) ≡ 4 + length x
 unfolding part
 length-part x = length-append (le_u32 (length x)) x ∙ ap (λ (n : ℕ). n + length x) (length-le_u32 (length x))
 

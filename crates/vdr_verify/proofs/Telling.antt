@@ -45,6 +45,10 @@ pub passes_out : {A T : Type 0} (first now : Option (List ℕ)) (items : T → L
 passes_out {A} {T} first now items F r out e was is given told =
     subst (λ (o : Result T VerifyRefused). Tells items first now o) (sym is) (told (subst (λ (o : Result A VerifyRefused). F o) was given))
 
+pub refused_out : {A T : Type 0} (G : Result T VerifyRefused → Type 0) (F : Result A VerifyRefused → Type 0) (r : Result A VerifyRefused) (out : Result T VerifyRefused) (e : VerifyRefused) → r ≡ Err e → out ≡ Err e → F r
+    → (F (Err e) → G (Err e)) → G out
+refused_out {A} {T} G F r out e was is given told = subst G (sym is) (told (subst F was given))
+
 pub before_records : (first left : Option (List ℕ)) (reader : Reader) (q : Asked) (h : Heading) → IsHeading h q → IsBehind first left reader (heading_bytes h) → IsBehindRecords first left reader q None h []
 before_records first left reader q h is behind = record {
   holds = record { heading = is; legal = tt };

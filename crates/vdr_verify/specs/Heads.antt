@@ -10,8 +10,9 @@ use Rattle.vdr_verify.specs.declared.heading.Text.{Text}
 use Rattle.vdr_verify.specs.declared.reader.Reader.{Reader}
 use Rattle.vdr_verify.specs.declared.refused.VerifyRefused.{VerifyRefused}
 
--- The configuration of this text, and its hash.
+-- This text, its configuration, and its hash.
 pub record IsTextOf (kept : Text) (text : List ℕ) : Type 0 where
+  pub text_is : kept.text.items ≡ text
   pub config_is : configuration text ≡ Ok kept.config
   pub digest_is : kept.digest ≡ sha256 text
 
@@ -22,6 +23,8 @@ IsIdOn medium slots id = (id ≡ 0) ⊎ ((medium ≡ 1) × ((1 ≤ id) × (id �
 -- What is kept is of this heading.
 pub record IsHeadOf (head : Head) (h : Heading) : Type 0 where
   pub heading : IsHeading h head.asked
+  pub text_is : head.text.items ≡ h.text
+  pub config_is : configuration h.text ≡ Ok head.config
   pub digest_is : head.digest ≡ sha256 h.text
   pub medium_is : head.medium ≡ h.medium
   pub incident_is : head.incident ≡ h.incident

@@ -9,4 +9,7 @@ pub mod Lists
 pub mod Closings
 pub mod Texts
 pub mod Verifies
+pub mod Evidences
+pub mod Visiting
+pub mod Stored
 pub mod Laws

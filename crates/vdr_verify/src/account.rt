@@ -1,6 +1,6 @@
 // The account of the records of a file.
 ghost use Rattle.std.specs.Prelude.{◌≡◌};
-ghost use Rattle.vdr_verify.specs.Accounts.{HasStamps, account_with, missed_with, no_account, with_kind};
+ghost use Rattle.vdr_verify.specs.Accounts.{HasStamps, account_with, missed_with, no_account, spot_of, with_kind};
 
 use vdr_entry::{Content, Record};
 use vdr_terms::Counts;
@@ -10,6 +10,16 @@ use vdr_terms::Counts;
 pub(crate) struct Spot {
     pub(crate) place: u64,
     pub(crate) utc: i64,
+}
+
+/// Where a record stands, and when.
+pub(crate) fn spot_of(item: &Record) -> Spot
+    ensures { result ≡ spot_of item.now }
+{
+    Spot {
+        place: item.place,
+        utc: item.utc,
+    }
 }
 
 /// How many records there are, of each kind, what the gaps among them count, and where the first and the last of them stand. Each number

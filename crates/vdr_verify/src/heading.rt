@@ -24,16 +24,19 @@ pub(crate) const LABEL: usize = 64;
 /// Room for a query: the name of a channel, 1 to 32 bytes, and two stamps, each behind a space.
 pub(crate) const QUERY: usize = 82;
 
-/// The configuration, and the SHA-256 of its text.
+/// The text of the configuration, what it says, and its SHA-256.
 #[derive(Drop)]
 pub(crate) struct Text {
+    pub(crate) text: Vec<u8>,
     pub(crate) config: Config,
     pub(crate) digest: [u8; 32],
 }
 
-/// What is kept of a heading: the SHA-256 of its text, and its other parts.
+/// What is kept of a heading: its text, what that says, its SHA-256, and the other parts.
 #[derive(Drop)]
 pub(crate) struct Head {
+    pub(crate) text: Vec<u8>,
+    pub(crate) config: Config,
     pub(crate) digest: [u8; 32],
     pub(crate) medium: u8,
     pub(crate) incident: u32,
@@ -105,6 +108,15 @@ fn config_in(alloc: Global, text: &[u8]) -> Result<Option<Config>, AllocError>
     }
 }
 
+// The same bytes in a place of their own.
+fn copied(alloc: Global, bytes: &[u8]) -> Result<Vec<u8>, AllocError>
+    ensures { IfOk result (λ copy. copy.items ≡ bytes.now) }
+{
+    let mut copy = Vec::new(alloc);
+    copy.extend_from_slice(bytes)?;
+    Ok(copy)
+}
+
 // Reads the text of the configuration.
 fn read_text<I: Source>(
     alloc: Global,
@@ -125,8 +137,15 @@ fn read_text<I: Source>(
     let Some(config) = found else {
         return Err(VerifyRefused::Illegal { part, offset });
     };
+    let Ok(kept) = copied(alloc, text) else {
+        return Err(VerifyRefused::NoMemory);
+    };
     let digest = Sha256::digest(text);
-    Ok(Text { config, digest })
+    Ok(Text {
+        text: kept,
+        config,
+        digest,
+    })
 }
 
 // Reads the number of the medium.
@@ -228,17 +247,23 @@ pub(crate) fn read_heading<I: Source>(
     ensures cause { HasInputCause (I.faults input.old) (I.faults input.new) result }
 {
     read_token(reader, input)?;
-    let Text { config, digest } = read_text(alloc, reader, input)?;
+    let Text {
+        text,
+        config,
+        digest,
+    } = read_text(alloc, reader, input)?;
     let medium = read_medium(reader, input)?;
     let incident = read_incident(reader, input, &config, medium)?;
     let label = read_label(reader, input, incident)?;
-    let Query { text, asked } = read_query(reader, input, &config)?;
+    let Query { text: query, asked } = read_query(reader, input, &config)?;
     Ok(Head {
+        text,
+        config,
         digest,
         medium,
         incident,
         label,
-        query: text,
+        query,
         asked,
     })
 }

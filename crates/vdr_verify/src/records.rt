@@ -1,12 +1,14 @@
 // The records of an evidence file.
-ghost use Rattle.std.specs.Prelude.{◌≡◌, ◌<◌, ◌++◌, ◌∷◌, [], ℕ, List, Option, None, IfOk, IfSome, true, false};
+ghost use Rattle.std.specs.Prelude.{◌≡◌, ◌<◌, ◌++◌, ◌∷◌, [], ℕ, List, Option, None, IfErr, IfOk, IfSome, true, false};
 ghost use Rattle.vdr_terms.specs.Records.{Record as Entry};
 ghost use Rattle.vdr_entry.specs.Spelling.{record_bytes};
 ghost use Rattle.vdr_evidence.specs.Files.{Heading, heading_bytes};
 ghost use Rattle.vdr_verify.specs.Accounts.{HasStamps};
 ghost use Rattle.vdr_verify.specs.Legal.{IsHeading, selects};
 ghost use Rattle.vdr_verify.specs.Lists.{FindsNext, IsBehindRecords, IsGiven, ReadsRecords};
+ghost use Rattle.vdr_verify.specs.Reading.{HasRead};
 ghost use Rattle.vdr_verify.specs.Standing.{HasInputCause};
+ghost use Rattle.vdr_verify.specs.Visiting.{HoldsNext, IsRecordRefusal};
 
 use crate::account::{Account, Spot};
 use crate::part::Part;
@@ -44,8 +46,8 @@ fn is_next(asked: &Asked, last: Option<Spot>, bytes: &[u8], item: &mut Record) -
     asked.selects(item)
 }
 
-// Reads the next record into this place. False where the end stands there.
-fn next_record<I: Source>(
+/// Reads the next record into this place. False where the end stands there.
+pub(crate) fn next_record<I: Source>(
     reader: &mut Reader,
     input: &mut I,
     asked: &Asked,
@@ -54,7 +56,9 @@ fn next_record<I: Source>(
 ) -> Result<bool, VerifyRefused>
     ensures finds { (first : Option (List ℕ)) (h : Heading) (seen : List Entry) → IsBehindRecords first (I.left input.old) reader.old asked.now last h seen
         → FindsNext first (I.left input.new) reader.new asked.now item.new h seen result }
+    ensures holds { IfOk result (λ more. (front : List ℕ) → HasRead reader.old front → HoldsNext reader.new item.new front more) }
     ensures given { IfOk result (λ more. more ≡ true → IsGiven asked.now last item.new) }
+    ensures refused { IfErr result IsRecordRefusal }
     ensures cause { HasInputCause (I.faults input.old) (I.faults input.new) result }
 {
     let offset = reader.offset;

@@ -16,4 +16,4 @@ pub returns-clause-stage : goal.returns-clause-stage
 returns-clause-stage g c = λ first stands.
     let read = read_so _ _ _ _ _ _ _ _ c.in_ok-size.was (c.read_part.ensures.reads first [] stands refl text_short) in
     let is = rw c.in-Some.is at c.in-Ok.ensures.found in
-    (_, record { config_is = is; digest_is = c.digest-digest.ensures }, stands_on _ _ _ _ _ [] _ stands read (record { config = c.in-Some.config; read = is }))
+    (_, record { text_is = c.in-Ok-copied.ensures; config_is = is; digest_is = c.digest-digest.ensures }, stands_on _ _ _ _ _ [] _ stands read (record { config = c.in-Some.config; read = is }))

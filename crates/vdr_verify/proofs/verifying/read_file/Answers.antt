@@ -1,71 +1,24 @@
 use Rattle.std.proofs.Common.{ℕ, rules}
 use Rattle.arrayvec.specs.ArrayVec.{ArrayVec}
 use Rattle.vdr_evidence.specs.Files.{evidence_bytes, heading_bytes}
-use Rattle.vdr_verify.specs.Closings.{EndsAll, EndsCovered, IsWhole}
-use Rattle.vdr_verify.specs.Heads.{ReadsHeading}
-use Rattle.vdr_verify.specs.Lists.{ReadsRecords}
-use Rattle.vdr_verify.proofs.Telling.{before_number, before_records, begun, passes_out, told, told_text}
+use Rattle.vdr_verify.specs.Evidences.{ReadsWhole}
+use Rattle.vdr_verify.proofs.Telling.{passes_out, told, told_text}
 use Rattle.vdr_verify.proofs.verifying.read_file.Goals as goal
 
-pub returns-in_err-head-clause-tells : goal.returns-in_err-head-clause-tells
-returns-in_err-head-clause-tells g c =
+pub returns-in_err-evidence-clause-tells : goal.returns-in_err-evidence-clause-tells
+returns-in_err-evidence-clause-tells g c =
     let first = g.I.Source.left c.args.input.now in
-    passes_out first _ (λ (text : ArrayVec ℕ). text.items) (ReadsHeading first _ _) c.read_heading.result c.from_residual.result c.in_err-head.field-0.0 c.in_err-head.was (search rules)
-    (c.read_heading.ensures.reads first (begun first _ c.new-reader.ensures)) (λ refused. refused)
-
-pub returns-in_err-listed-clause-tells : goal.returns-in_err-listed-clause-tells
-returns-in_err-listed-clause-tells g c =
-    let first = g.I.Source.left c.args.input.now in
-    let head = c.in_ok-head.ensures.reads first (begun first _ c.new-reader.ensures) in
-    let h = head.0 in
-    let q = c.in_ok-head.head.asked in
-    passes_out first _ (λ (text : ArrayVec ℕ). text.items) (ReadsRecords first _ _ q h) c.read_records.result c.from_residual-in_err-listed.result c.in_err-listed.field-0.0 c.in_err-listed.was (search rules)
-    (c.read_records.ensures.reads first h (before_records first _ _ q h head.1.heading head.2)) (λ refused. refused)
-
-pub returns-in_err-read_number-clause-tells : goal.returns-in_err-read_number-clause-tells
-returns-in_err-read_number-clause-tells g c =
-    let first = g.I.Source.left c.args.input.now in
-    let head = c.in_ok-head.ensures.reads first (begun first _ c.new-reader.ensures) in
-    let h = head.0 in
-    let q = c.in_ok-head.head.asked in
-    let listed = c.in_ok-listed.ensures.reads first h (before_records first _ _ q h head.1.heading head.2) in
-    passes_out first _ (λ (text : ArrayVec ℕ). text.items) (EndsCovered first _ _ h listed.records) c.read_number.result c.from_residual-in_err-read_number.result c.in_err-read_number.field-0.0 c.in_err-read_number.was (search rules)
-    (c.read_number.ensures.reads first h q listed.records (before_number first _ _ q h _ listed)) (λ refused. refused)
-
-pub returns-in_err-read_digest-clause-tells : goal.returns-in_err-read_digest-clause-tells
-returns-in_err-read_digest-clause-tells g c =
-    let first = g.I.Source.left c.args.input.now in
-    let head = c.in_ok-head.ensures.reads first (begun first _ c.new-reader.ensures) in
-    let h = head.0 in
-    let q = c.in_ok-head.head.asked in
-    let listed = c.in_ok-listed.ensures.reads first h (before_records first _ _ q h head.1.heading head.2) in
-    let number = c.in_ok-read_number.ensures.reads first h q listed.records (before_number first _ _ q h _ listed) in
-    passes_out first _ (λ (text : ArrayVec ℕ). text.items) (EndsAll first _ _ h listed.records) c.read_digest.result c.from_residual-in_err-read_digest.result c.in_err-read_digest.field-0.0 c.in_err-read_digest.was (search rules)
-    (c.read_digest.ensures.reads first h q listed.records (record { holds = listed.holds; behind = number })) (λ refused. refused)
-
-pub returns-in_err-read_behind-clause-tells : goal.returns-in_err-read_behind-clause-tells
-returns-in_err-read_behind-clause-tells g c =
-    let first = g.I.Source.left c.args.input.now in
-    let head = c.in_ok-head.ensures.reads first (begun first _ c.new-reader.ensures) in
-    let h = head.0 in
-    let q = c.in_ok-head.head.asked in
-    let listed = c.in_ok-listed.ensures.reads first h (before_records first _ _ q h head.1.heading head.2) in
-    let number = c.in_ok-read_number.ensures.reads first h q listed.records (before_number first _ _ q h _ listed) in
-    let digest = c.in_ok-read_digest.ensures.reads first h q listed.records (record { holds = listed.holds; behind = number }) in
-    passes_out first _ (λ (text : ArrayVec ℕ). text.items) (IsWhole first _ h listed.records) c.read_behind.result c.from_residual-in_err-read_behind.result c.in_err-read_behind.field-0.0 c.in_err-read_behind.was (search rules)
-    (c.read_behind.ensures.reads first h q listed.records (record { holds = listed.holds; behind = digest })) (λ refused. refused)
+    passes_out first _ (λ (text : ArrayVec ℕ). text.items) (ReadsWhole first _) c.read_whole.result c.from_residual.result c.in_err-evidence.field-0.0 c.in_err-evidence.was (search rules)
+    (c.read_whole.ensures.reads) (λ refused. refused)
 
 pub returns-clause-tells : goal.returns-clause-tells
 returns-clause-tells g c =
     let first = g.I.Source.left c.args.input.now in
-    let head = c.in_ok-head.ensures.reads first (begun first _ c.new-reader.ensures) in
-    let h = head.0 in
-    let q = c.in_ok-head.head.asked in
-    let listed = c.in_ok-listed.ensures.reads first h (before_records first _ _ q h head.1.heading head.2) in
-    let number = c.in_ok-read_number.ensures.reads first h q listed.records (before_number first _ _ q h _ listed) in
-    let digest = c.in_ok-read_digest.ensures.reads first h q listed.records (record { holds = listed.holds; behind = number }) in
-    let whole = c.in_ok-read_behind.ensures.reads first h q listed.records (record { holds = listed.holds; behind = digest }) in (
-      whole.0,
-      told first _ h q listed.records head.1.heading listed.holds.legal whole.1
-          (told_text _ h _ listed.records _ _ _ head.1 listed.account_is (c.digest-digest.ensures (evidence_bytes (heading_bytes h) listed.records) digest.held) c.text_of.ensures),
+    let whole = c.in_ok-evidence.ensures.reads in
+    let h = whole.0 in
+    let records = whole.1 in
+    let kept = whole.2 in (
+      whole.3,
+      told first _ h _ records kept.head.heading kept.legal whole.4
+          (told_text _ h _ records _ (evidence_bytes (heading_bytes h) records) _ kept.head kept.account_is kept.digest_is c.text_of.ensures),
     )
