@@ -4,7 +4,7 @@
 // read both are opened so: else a command that fails half way would leave the capsule ahead.
 ghost use Rattle.std.specs.Prelude.{◌≡◌, ◌+◌, [], ◌∷◌, length, slice_range, is_ok, IfOk, OnOk, OnErr};
 ghost use Rattle.vdr_outside.specs.Causes.{HasCauseOn, counted};
-ghost use Rattle.vdr_outside.specs.Disk.{Durable, Elapses, InRange, Narrows, Overwritten, Rises, Tears, Unchanged, content, written};
+ghost use Rattle.vdr_outside.specs.Disk.{Durable, Elapses, InRange, Narrows, Overwritten, Rises, Tears, Ticks, Unchanged, content, written};
 ghost use Rattle.vdr_adapters.specs.Files.{MakesAt, or_left};
 ghost use Rattle.vdr_adapters.specs.Files.Call.{Read, Sync, Write};
 ghost use Rattle.vdr_adapters.specs.Media.{OnOwn, disk_of, faults_of, place_in, read_of};
@@ -258,6 +258,7 @@ impl<'a, F: MediumFile + Drop> Media for FileMedia<'a, F> {
         ensures images { Tears m at (length bytes.now) (disk_of self.old) (disk_of self.new) }
         ensures time { Elapses (disk_of self.old) (disk_of self.new) }
         ensures rises { Rises (disk_of self.old) (disk_of self.new) }
+        ensures ticks { Ticks (disk_of self.old) (disk_of self.new) result }
         ensures sizes { (disk_of self.new).sizes ≡ (disk_of self.old).sizes }
         ensures counts { read_of self.new ≡ read_of self.old }
         ensures cause { HasCauseOn m (faults_of self.old) (faults_of self.new) result }
@@ -277,6 +278,7 @@ impl<'a, F: MediumFile + Drop> Media for FileMedia<'a, F> {
         ensures images { Narrows (disk_of self.old) (disk_of self.new) }
         ensures time { Elapses (disk_of self.old) (disk_of self.new) }
         ensures rises { Rises (disk_of self.old) (disk_of self.new) }
+        ensures ticks { Ticks (disk_of self.old) (disk_of self.new) result }
         ensures sizes { (disk_of self.new).sizes ≡ (disk_of self.old).sizes }
         ensures counts { read_of self.new ≡ read_of self.old }
         ensures cause { HasCauseOn m (faults_of self.old) (faults_of self.new) result }

@@ -23,7 +23,7 @@ fn open<M: Media>(alloc: Global, media: &mut M) -> Result<Ring>
     };
     ensure!(media.count() == 2, "two media are wanted");
     ensure!(
-        fits(&config, media.size(0), media.size(1)).is_ok(),
+        fits(&config, &[media.size(0), media.size(1)]).is_ok(),
         "a medium is too small"
     );
     let Ok(ring) = Ring::open(alloc, media, 0, &config) else {

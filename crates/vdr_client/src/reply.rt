@@ -4,7 +4,14 @@ use std::alloc::Global;
 use std::io::{BufRead, Write};
 
 /// The orders whose reply is a text, ended by a line `.`.
-const WITH_TEXT: [&[u8]; 1] = [b"PLAY "];
+const WITH_TEXT: [&[u8]; 6] = [
+    b"PLAY ",
+    b"INCIDENTS",
+    b"SOURCES ",
+    b"WATCH ",
+    b"TARGETS ",
+    b"DIGEST ",
+];
 
 // Reads the next line, without its end.
 fn next_line<I: BufRead>(input: &mut I, line: &mut Vec<u8>) -> Result<(), Ended> {
@@ -45,7 +52,7 @@ fn print_text<I: BufRead, W: Write>(
     Err(Ended::NoLink)
 }
 
-/// Prints the reply to a line: what stands behind its `OK`, or the text of a play, without the line that ends it.
+/// Prints the reply to a line: what stands behind its `OK`, or its text, without the line that ends it.
 pub fn print_reply<I: BufRead, W: Write>(
     alloc: Global,
     asked: &[u8],

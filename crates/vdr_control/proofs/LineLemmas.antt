@@ -1,37 +1,95 @@
 -- A line asks for one order at most.
-use Rattle.std.proofs.Common.{◌≡◌, ◌≤◌, ◌<◌, ℕ, ℤ, List, [], ◌∷◌, ◌++◌, length, get_or, drop, codes, decimal, refl, ap, subst, sym, ◌∙◌, arith}
+use Rattle.std.proofs.Common.{◌≡◌, ◌≤◌, ◌<◌, ◌+◌, ◌*◌, ◌==◌, ℕ, ℤ, pos, List, [], ◌∷◌, ◌++◌, length, get_or, drop, codes, decimal, refl, ap, subst, sym, ◌∙◌, arith}
+use Rattle.std.specs.Prelude.{if◌then◌else◌}
 use Rattle.std.proofs.lemmas.Fmt.{decimal_injective}
-use Rattle.vdr_control.specs.Lines.{AsksFor, IsPlayLine, words}
+use Rattle.vdr_terms.specs.Stamps.{last_stamp}
+use Rattle.vdr_entry.specs.declared.query.Medium.{Medium}
+use Rattle.vdr_control.specs.Lines.{AsksFor, IsPlayLine, IsTargetsLine, words}
 use Rattle.vdr_control.specs.Orders.{PlainOrder}
-use Rattle.vdr_control.specs.Orders.PlainOrder.{Status, Save, Release, Play}
-use Rattle.vdr_control.specs.Plays.{SpellsPlay}
+use Rattle.vdr_control.specs.Orders.PlainOrder.{Status, Save, Release, Incidents, Play, Tell}
+use Rattle.vdr_control.specs.Plays.{IsMedium, SpellsBound, SpellsPlay, medium_word}
+use Rattle.vdr_control.specs.declared.order.Telling.{Telling}
+use Rattle.vdr_control.specs.declared.order.Telling.TheVariants.{Sources, Watch, Targets, Digest}
+use Rattle.vdr_control.proofs.PlayLemmas.{HaveOwnTexts, one_bound, one_medium}
 
 -- Words spell one play at most.
 abbrev pub OnePlay : Type 0
 OnePlay = (medium channel from to : List ℕ) (a b : PlainOrder) → SpellsPlay medium channel from to a → SpellsPlay medium channel from to b → a ≡ b
 
--- The second letter of a line tells which order it asks for.
+-- What kind of order it is.
+data Kind : Type 0 where
+  OfStatus : Kind
+  OfSave : Kind
+  OfRelease : Kind
+  OfIncidents : Kind
+  OfPlay : Kind
+  OfSources : Kind
+  OfWatch : Kind
+  OfTargets : Kind
+  OfDigest : Kind
 
-second : List ℕ → ℕ
-second line = get_or line 1 0
+abbrev kind : PlainOrder → Kind
+kind Status = OfStatus
+kind (Save label) = OfSave
+kind (Release id) = OfRelease
+kind Incidents = OfIncidents
+kind (Play medium channel from to) = OfPlay
+kind (Tell medium Sources) = OfSources
+kind (Tell medium Watch) = OfWatch
+kind (Tell medium (Targets at)) = OfTargets
+kind (Tell medium Digest) = OfDigest
 
-letter : PlainOrder → ℕ
-letter Status = 84
-letter (Save label) = 65
-letter (Release id) = 69
-letter (Play medium channel from to) = 76
+-- The first and the third letter of a line tell which it is.
+letters : List ℕ → ℕ
+letters line = get_or line 0 0 * 100 + get_or line 2 0
 
-letter_of : (line : List ℕ) (a : PlainOrder) → AsksFor line a → second line ≡ letter a
-unfolding second letter
-letter_of line Status asks = ap second asks
-letter_of line (Save label) asks = ap second asks
-letter_of line (Release id) asks = ap second asks.2
-letter_of line (Play medium channel from to) asks = ap second asks.begins
+kind_by : ℕ → Kind
+kind_by n =
+    if n == 8365 then OfStatus else if n == 8386 then OfSave else if n == 8276 then OfRelease else if n == 7367 then OfIncidents else if n == 8065 then OfPlay else
+    if n == 8385 then OfSources else if n == 8784 then OfWatch else if n == 8482 then OfTargets else OfDigest
 
-same_letter : (line : List ℕ) (a b : PlainOrder) → AsksFor line a → AsksFor line b → letter a ≡ letter b
-same_letter line a b first other = sym (letter_of line a first) ∙ letter_of line b other
+kind_of_line : (line : List ℕ) (a : PlainOrder) → AsksFor line a → kind_by (letters line) ≡ kind a
+unfolding letters kind_by
+kind_of_line line Status asks = ap (λ (l : List ℕ). kind_by (letters l)) asks
+kind_of_line line (Save label) asks = ap (λ (l : List ℕ). kind_by (letters l)) asks
+kind_of_line line (Release id) asks = ap (λ (l : List ℕ). kind_by (letters l)) asks.2
+kind_of_line line Incidents asks = ap (λ (l : List ℕ). kind_by (letters l)) asks
+kind_of_line line (Play medium channel from to) asks = ap (λ (l : List ℕ). kind_by (letters l)) asks.begins
+kind_of_line line (Tell medium Sources) asks = ap (λ (l : List ℕ). kind_by (letters l)) asks.1
+kind_of_line line (Tell medium Watch) asks = ap (λ (l : List ℕ). kind_by (letters l)) asks.1
+kind_of_line line (Tell medium (Targets at)) asks = ap (λ (l : List ℕ). kind_by (letters l)) asks.1.begins
+kind_of_line line (Tell medium Digest) asks = ap (λ (l : List ℕ). kind_by (letters l)) asks.1
 
--- The four words of a list.
+-- It is an order of this kind.
+abbrev Is : Kind → PlainOrder → Type 0
+Is OfStatus b = b ≡ Status
+Is OfSave b = (label : List ℕ) × (b ≡ Save label)
+Is OfRelease b = (id : ℕ) × (b ≡ Release id)
+Is OfIncidents b = b ≡ Incidents
+Is OfPlay b = (medium : Medium) × (channel : List ℕ) × (from : ℤ) × (to : ℤ) × (b ≡ Play medium channel from to)
+Is OfSources b = (medium : Medium) × (b ≡ Tell medium Sources)
+Is OfWatch b = (medium : Medium) × (b ≡ Tell medium Watch)
+Is OfTargets b = (medium : Medium) × (at : ℤ) × (b ≡ Tell medium (Targets at))
+Is OfDigest b = (medium : Medium) × (b ≡ Tell medium Digest)
+
+is : (b : PlainOrder) → Is (kind b) b
+is Status = refl
+is (Save label) = (label, refl)
+is (Release id) = (id, refl)
+is Incidents = refl
+is (Play medium channel from to) = (medium, channel, from, to, refl)
+is (Tell medium Sources) = (medium, refl)
+is (Tell medium Watch) = (medium, refl)
+is (Tell medium (Targets at)) = (medium, at, refl)
+is (Tell medium Digest) = (medium, refl)
+
+other : (line : List ℕ) (a b : PlainOrder) → AsksFor line a → AsksFor line b → Is (kind a) b
+other line a b x y = subst (λ (k : Kind). Is k b) (sym (kind_of_line line b y) ∙ kind_of_line line a x) (is b)
+
+asks_so : (line : List ℕ) (a b : PlainOrder) → a ≡ b → AsksFor line a → AsksFor line b
+asks_so line a b same asks = subst (λ (order : PlainOrder). AsksFor line order) same asks
+
+-- The words of a list.
 
 word : ℕ → List (List ℕ) → List ℕ
 word n list = get_or list n []
@@ -49,22 +107,61 @@ one_play_line own line a b x y =
     subst (λ (w : List ℕ × List ℕ × List ℕ × List ℕ). SpellsPlay w.0 w.1 w.2 w.3 b) (λ i. (medium i, channel i, from i, to i)) y.spelled in
     own x.medium x.channel x.from x.to a b x.spelled moved
 
-pub one_order : OnePlay → (line : List ℕ) (a b : PlainOrder) → AsksFor line a → AsksFor line b → a ≡ b
-unfolding letter
-one_order own line Status Status x y = refl
-one_order own line (Save a) (Save b) x y = ap Save (ap (λ (l : List ℕ). drop 5 l) (sym x ∙ y))
-one_order own line (Release a) (Release b) x y =
-    ap Release (decimal_injective a b (omega (arith, x.1)) (omega (arith, y.1)) (ap (λ (l : List ℕ). drop 8 l) (sym x.2 ∙ y.2)))
-one_order own line (Play m c f t) (Play n d g u) x y = one_play_line own line (Play m c f t) (Play n d g u) x y
-one_order own line Status (Save b) x y = let bad : ⊥ = omega (arith, same_letter line Status (Save b) x y) in absurd bad
-one_order own line Status (Release b) x y = let bad : ⊥ = omega (arith, same_letter line Status (Release b) x y) in absurd bad
-one_order own line Status (Play n d g u) x y = let bad : ⊥ = omega (arith, same_letter line Status (Play n d g u) x y) in absurd bad
-one_order own line (Save a) Status x y = let bad : ⊥ = omega (arith, same_letter line (Save a) Status x y) in absurd bad
-one_order own line (Save a) (Release b) x y = let bad : ⊥ = omega (arith, same_letter line (Save a) (Release b) x y) in absurd bad
-one_order own line (Save a) (Play n d g u) x y = let bad : ⊥ = omega (arith, same_letter line (Save a) (Play n d g u) x y) in absurd bad
-one_order own line (Release a) Status x y = let bad : ⊥ = omega (arith, same_letter line (Release a) Status x y) in absurd bad
-one_order own line (Release a) (Save b) x y = let bad : ⊥ = omega (arith, same_letter line (Release a) (Save b) x y) in absurd bad
-one_order own line (Release a) (Play n d g u) x y = let bad : ⊥ = omega (arith, same_letter line (Release a) (Play n d g u) x y) in absurd bad
-one_order own line (Play m c f t) Status x y = let bad : ⊥ = omega (arith, same_letter line (Play m c f t) Status x y) in absurd bad
-one_order own line (Play m c f t) (Save b) x y = let bad : ⊥ = omega (arith, same_letter line (Play m c f t) (Save b) x y) in absurd bad
-one_order own line (Play m c f t) (Release b) x y = let bad : ⊥ = omega (arith, same_letter line (Play m c f t) (Release b) x y) in absurd bad
+-- What stands behind `TARGETS`, in words.
+pub targets_rest : (line rest : List ℕ) (medium : Medium) (at : ℤ) → line ≡ codes "TARGETS " ++ rest → (x : IsTargetsLine line medium at) → words rest ≡ medium_word medium ∷ x.bound ∷ []
+targets_rest line rest medium at begins x = ap words (ap (λ (l : List ℕ). drop 8 l) (sym begins ∙ x.begins)) ∙ x.cut
+
+pub targets_line : (line rest first second : List ℕ) (medium : Medium) (at : ℤ) → line ≡ codes "TARGETS " ++ rest → words rest ≡ first ∷ second ∷ [] → first ≡ medium_word medium
+    → SpellsBound (pos last_stamp) second at → IsTargetsLine line medium at
+targets_line line rest first second medium at begins cut is spelled =
+    record { rest = rest; bound = second; begins = begins; cut = cut ∙ ap (λ (w : List ℕ). w ∷ second ∷ []) is; spelled = spelled }
+
+-- What two words there are.
+pub targets_words : (line rest first second : List ℕ) (medium : Medium) (at : ℤ) → line ≡ codes "TARGETS " ++ rest → words rest ≡ first ∷ second ∷ []
+    → IsTargetsLine line medium at → (first ≡ medium_word medium) × SpellsBound (pos last_stamp) second at
+unfolding word
+targets_words line rest first second medium at begins cut x =
+    let all : first ∷ second ∷ [] ≡ medium_word medium ∷ x.bound ∷ [] = sym cut ∙ targets_rest line rest medium at begins x in
+    (ap (word 0) all, subst (λ (bound : List ℕ). SpellsBound (pos last_stamp) bound at) (sym (ap (word 1) all)) x.spelled)
+
+one_targets_line : HaveOwnTexts → (line : List ℕ) (m n : Medium) (a b : ℤ) → IsMedium m → IsMedium n → IsTargetsLine line m a → IsTargetsLine line n b → Tell m (Targets a) ≡ Tell n (Targets b)
+one_targets_line own line m n a b of_m of_n x y =
+    let w = targets_words line x.rest (medium_word m) x.bound n b x.begins x.cut y in
+    let medium : m ≡ n = one_medium m n of_m of_n w.0 in
+    let at : a ≡ b = one_bound own (pos last_stamp) x.bound a b x.spelled w.1 in
+    λ i. Tell (medium i) (Targets (at i))
+
+one_tell : (n : ℕ) (front line : List ℕ) (telling : Telling) (a b : Medium) → ((rest : List ℕ) → drop n (front ++ rest) ≡ rest) → IsMedium a → IsMedium b
+    → line ≡ front ++ medium_word a → line ≡ front ++ medium_word b → Tell a telling ≡ Tell b telling
+one_tell n front line telling a b behind of_a of_b x y =
+    ap (λ (m : Medium). Tell m telling) (one_medium a b of_a of_b (sym (behind (medium_word a)) ∙ ap (λ (l : List ℕ). drop n l) (sym x ∙ y) ∙ behind (medium_word b)))
+
+pub one_order : OnePlay → HaveOwnTexts → (line : List ℕ) (a b : PlainOrder) → AsksFor line a → AsksFor line b → a ≡ b
+one_order own texts line Status b x y = sym (other line Status b x y)
+one_order own texts line Incidents b x y = sym (other line Incidents b x y)
+one_order own texts line (Save a) b x y =
+    let o = other line (Save a) b x y in let z = asks_so line b (Save o.0) o.1 y in ap Save (ap (λ (l : List ℕ). drop 5 l) (sym x ∙ z)) ∙ sym o.1
+one_order own texts line (Release a) b x y =
+    let o = other line (Release a) b x y in
+    let z = asks_so line b (Release o.0) o.1 y in
+    ap Release (decimal_injective a o.0 (omega (arith, x.1)) (omega (arith, z.1)) (ap (λ (l : List ℕ). drop 8 l) (sym x.2 ∙ z.2))) ∙ sym o.1
+one_order own texts line (Play m c f t) b x y =
+    let o = other line (Play m c f t) b x y in
+    let z = asks_so line b (Play o.0 o.1 o.2 o.3) o.4 y in
+    one_play_line own line (Play m c f t) (Play o.0 o.1 o.2 o.3) x z ∙ sym o.4
+one_order own texts line (Tell m Sources) b x y =
+    let o = other line (Tell m Sources) b x y in
+    let z = asks_so line b (Tell o.0 Sources) o.1 y in
+    one_tell 8 (codes "SOURCES ") line Sources m o.0 (λ rest. refl) x.0 z.0 x.1 z.1 ∙ sym o.1
+one_order own texts line (Tell m Watch) b x y =
+    let o = other line (Tell m Watch) b x y in
+    let z = asks_so line b (Tell o.0 Watch) o.1 y in
+    one_tell 6 (codes "WATCH ") line Watch m o.0 (λ rest. refl) x.0 z.0 x.1 z.1 ∙ sym o.1
+one_order own texts line (Tell m Digest) b x y =
+    let o = other line (Tell m Digest) b x y in
+    let z = asks_so line b (Tell o.0 Digest) o.1 y in
+    one_tell 7 (codes "DIGEST ") line Digest m o.0 (λ rest. refl) x.0 z.0 x.1 z.1 ∙ sym o.1
+one_order own texts line (Tell m (Targets at)) b x y =
+    let o = other line (Tell m (Targets at)) b x y in
+    let z = asks_so line b (Tell o.0 (Targets o.1)) o.2 y in
+    one_targets_line texts line m o.0 at o.1 x.0 z.0 x.1 z.1 ∙ sym o.2

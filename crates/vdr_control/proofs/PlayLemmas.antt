@@ -6,7 +6,7 @@ use Rattle.vdr_entry.specs.Utc.{utc_text, date_text, time_text}
 use Rattle.vdr_entry.specs.declared.query.Medium.{Medium}
 use Rattle.vdr_entry.specs.declared.query.Medium.TheVariants.{Capsule, LongTerm, Incident}
 use Rattle.vdr_control.specs.Orders.{PlainOrder}
-use Rattle.vdr_control.specs.Orders.PlainOrder.{Status, Save, Release, Play}
+use Rattle.vdr_control.specs.Orders.PlainOrder.{Status, Save, Release, Incidents, Play, Tell}
 use Rattle.vdr_control.specs.Plays.{IsMedium, SpellsBound, SpellsPlay, medium_word}
 
 -- Where a bound is none, there is no play.
@@ -16,19 +16,23 @@ no_from medium channel from to none (Play asked name since until) spells = none 
 no_from medium channel from to none Status spells = spells
 no_from medium channel from to none (Save label) spells = spells
 no_from medium channel from to none (Release id) spells = spells
+no_from medium channel from to none Incidents spells = spells
+no_from medium channel from to none (Tell asked telling) spells = spells
 
 pub no_to : (medium channel from to : List ℕ) → ((utc : ℤ) → SpellsBound (pos last_stamp) to utc → ⊥) → (order : PlainOrder) → SpellsPlay medium channel from to order → ⊥
 no_to medium channel from to none (Play asked name since until) spells = none until spells.3
 no_to medium channel from to none Status spells = spells
 no_to medium channel from to none (Save label) spells = spells
 no_to medium channel from to none (Release id) spells = spells
+no_to medium channel from to none Incidents spells = spells
+no_to medium channel from to none (Tell asked telling) spells = spells
 
 -- One medium has a word: the first characters are c, l and i.
 
 initial : List ℕ → ℕ
 initial word = get_or word 0 0
 
-one_medium : (m n : Medium) → IsMedium m → IsMedium n → medium_word m ≡ medium_word n → m ≡ n
+pub one_medium : (m n : Medium) → IsMedium m → IsMedium n → medium_word m ≡ medium_word n → m ≡ n
 unfolding initial
 one_medium Capsule Capsule of_m of_n same = refl
 one_medium Capsule LongTerm of_m of_n same = let bad : ⊥ = omega (arith, ap initial same) in absurd bad
@@ -51,7 +55,7 @@ length-utc_text utc = refl
 abbrev pub HaveOwnTexts : Type 0
 HaveOwnTexts = (a b : ℤ) → IsStamp a → IsStamp b → utc_text a ≡ utc_text b → a ≡ b
 
-one_bound : HaveOwnTexts → (unbounded : ℤ) (word : List ℕ) (a b : ℤ) → SpellsBound unbounded word a → SpellsBound unbounded word b → a ≡ b
+pub one_bound : HaveOwnTexts → (unbounded : ℤ) (word : List ℕ) (a b : ℤ) → SpellsBound unbounded word a → SpellsBound unbounded word b → a ≡ b
 one_bound own unbounded word a b (inl x) (inl y) = x.1 ∙ sym y.1
 one_bound own unbounded word a b (inl x) (inr y) = let bad : ⊥ = omega (arith, ap length (sym x.0 ∙ y.1), length-utc_text b) in absurd bad
 one_bound own unbounded word a b (inr x) (inl y) = let bad : ⊥ = omega (arith, ap length (sym x.1 ∙ y.0), length-utc_text a) in absurd bad
@@ -67,6 +71,10 @@ one_play own medium channel from to (Play m x f t) (Play n y g u) first second =
 one_play own medium channel from to (Play m x f t) Status first second = absurd second
 one_play own medium channel from to (Play m x f t) (Save l) first second = absurd second
 one_play own medium channel from to (Play m x f t) (Release i) first second = absurd second
+one_play own medium channel from to (Play m x f t) Incidents first second = absurd second
+one_play own medium channel from to (Play m x f t) (Tell n telling) first second = absurd second
 one_play own medium channel from to Status b first second = absurd first
 one_play own medium channel from to (Save l) b first second = absurd first
 one_play own medium channel from to (Release i) b first second = absurd first
+one_play own medium channel from to Incidents b first second = absurd first
+one_play own medium channel from to (Tell n telling) b first second = absurd first

@@ -45,3 +45,7 @@ pub more_words : {first second third fourth : List ℕ} (text one two three four
     → (a b c d : List ℕ) → words text ≡ a ∷ b ∷ c ∷ d ∷ [] → ⊥
 more_words text one two three four e1 e2 e3 e4 a b c d four_alone =
     omega (arith, ap length e1, ap length e2, ap length e3, ap length e4, ap length four_alone, length-slice_split (λ b. eqb b 32) four)
+
+-- A text with a third word has not two.
+pub longer_words : {first second : List ℕ} (text one two : List ℕ) → words text ≡ first ∷ words one → words one ≡ second ∷ words two → (a b : List ℕ) → words text ≡ a ∷ b ∷ [] → ⊥
+longer_words text one two e1 e2 a b two_alone = omega (arith, ap length e1, ap length e2, ap length two_alone, length-slice_split (λ b. eqb b 32) two)

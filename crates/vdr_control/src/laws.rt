@@ -19,4 +19,5 @@ pub fn law_of_lines()
     ensures { (line : List ℕ) (a b : PlainOrder) → AsksFor line a → AsksFor line b → a ≡ b }
 {
     law_of_plays();
+    law_of_stamps();
 }

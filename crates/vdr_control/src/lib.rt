@@ -10,5 +10,5 @@ mod play;
 
 pub use laws::{law_of_lines, law_of_plays};
 pub use line::read_order;
-pub use order::Order;
+pub use order::{Order, Telling};
 pub use play::read_play;

@@ -1,18 +1,25 @@
 // Reading an order from a line of a link.
-ghost use Rattle.std.specs.Prelude.{◌≡◌, ◌==◌, ◌++◌, ◌∷◌, [], ℕ, List, codes, position, IfSome, IfNone};
-ghost use Rattle.vdr_control.specs.Lines.{AsksFor, IsPlayLine, words};
+ghost use Rattle.std.specs.Prelude.{◌≡◌, ◌==◌, ◌++◌, ◌∷◌, [], ℕ, ℤ, List, codes, position, IfSome, IfNone};
+ghost use Rattle.vdr_entry.specs.declared.query.Medium.{Medium as AMedium};
+ghost use Rattle.vdr_control.specs.Lines.{AsksFor, IsPlayLine, IsTargetsLine, words};
 ghost use Rattle.vdr_control.specs.Orders.{PlainOrder, plain};
+ghost use Rattle.vdr_control.specs.Orders.PlainOrder.{Release, Tell};
+ghost use Rattle.vdr_control.specs.Plays.{IsMedium, medium_word};
+ghost use Rattle.vdr_control.specs.declared.order.Telling.{Telling as ATelling};
 
-use crate::Order;
-use crate::play::{read_id, read_play};
+use crate::play::{read_id, read_medium, read_play, read_until};
+use crate::{Order, Telling};
+use vdr_entry::Medium;
 
 /// The order that a line of a link asks for (this project's profile), None exactly where it asks for none. The line is without its LF,
 /// and one of:
 ///
-/// - `STATUS`
+/// - `STATUS`, `INCIDENTS`
 /// - `SAVE LABEL`, with the rest of the line as the label, which may be empty: the save tests it
 /// - `RELEASE ID`, with an ID of 1 to 32 in decimal digits without a leading zero
 /// - `PLAY MEDIUM CHANNEL FROM TO`, with the words of `read_play`, of which the channel has at least one byte
+/// - `SOURCES MEDIUM`, `WATCH MEDIUM`, `DIGEST MEDIUM`, with the MEDIUM of `read_play`
+/// - `TARGETS MEDIUM AT`, with AT as the TO of `read_play`
 ///
 /// Words are separated by one space.
 pub fn read_order(line: &[u8]) -> Option<Order<'_>>
@@ -22,14 +29,27 @@ pub fn read_order(line: &[u8]) -> Option<Order<'_>>
     if line == b"STATUS".as_slice() {
         return Some(Order::Status);
     }
+    if line == b"INCIDENTS".as_slice() {
+        return Some(Order::Incidents);
+    }
     if let Some(label) = behind(line, b"SAVE ") {
         return Some(Order::Save(label));
     }
-    if let Some(digits) = behind(line, b"RELEASE ") {
-        let id = read_id(digits)?;
+    if let Some(id) = read_release_line(line) {
         return Some(Order::Release(id));
     }
-    read_play_line(line)
+    if let Some(play) = read_play_line(line) {
+        return Some(play);
+    }
+    read_tell_line(line)
+}
+
+fn read_release_line(line: &[u8]) -> Option<u32>
+    ensures found { IfSome result (λ id. AsksFor line.now (Release id)) }
+    ensures none { IfNone result ((id : ℕ) → AsksFor line.now (Release id) → ⊥) }
+{
+    let digits = behind(line, b"RELEASE ")?;
+    read_id(digits)
 }
 
 fn read_play_line(line: &[u8]) -> Option<Order<'_>>
@@ -42,6 +62,41 @@ fn read_play_line(line: &[u8]) -> Option<Order<'_>>
         return None;
     }
     read_play(medium, channel, from, to)
+}
+
+fn read_tell_line(line: &[u8]) -> Option<Order<'_>>
+    ensures found { IfSome result (λ order. AsksFor line.now (plain order)) }
+    ensures none { IfNone result ((medium : AMedium) (telling : ATelling) → AsksFor line.now (Tell medium telling) → ⊥) }
+{
+    let (medium, telling) = if let Some(medium) = medium_behind(line, b"SOURCES ") {
+        (medium, Telling::Sources)
+    } else if let Some(medium) = medium_behind(line, b"WATCH ") {
+        (medium, Telling::Watch)
+    } else if let Some(medium) = medium_behind(line, b"DIGEST ") {
+        (medium, Telling::Digest)
+    } else {
+        let (medium, at) = read_targets_line(line)?;
+        (medium, Telling::Targets { at })
+    };
+    Some(Order::Tell { medium, telling })
+}
+
+fn read_targets_line(line: &[u8]) -> Option<(Medium, i64)>
+    ensures found { IfSome result (λ told. IsMedium told.0 × IsTargetsLine line.now told.0 told.1) }
+    ensures none { IfNone result ((medium : AMedium) (at : ℤ) → IsMedium medium → IsTargetsLine line.now medium at → ⊥) }
+{
+    let rest = behind(line, b"TARGETS ")?;
+    let (medium, bound) = two_words(rest)?;
+    read_until(medium, bound)
+}
+
+// The medium that stands behind the front of a line.
+fn medium_behind(line: &[u8], front: &[u8]) -> Option<Medium>
+    ensures found { IfSome result (λ medium. IsMedium medium × (line.now ≡ front.now ++ medium_word medium)) }
+    ensures none { IfNone result ((medium : AMedium) → IsMedium medium → line.now ≡ front.now ++ medium_word medium → ⊥) }
+{
+    let rest = behind(line, front)?;
+    read_medium(rest)
 }
 
 // What stands behind the front of a line.
@@ -62,6 +117,18 @@ fn four_words(text: &[u8]) -> Option<(&[u8], &[u8], &[u8], &[u8])>
     let (third, fourth) = cut_word(rest)?;
     match cut_word(fourth) {
         None => Some((first, second, third, fourth)),
+        Some(_) => None,
+    }
+}
+
+// The words of a text that has two.
+fn two_words(text: &[u8]) -> Option<(&[u8], &[u8])>
+    ensures found { IfSome result (λ two. words text.now ≡ two.0.now ∷ two.1.now ∷ []) }
+    ensures none { IfNone result ((a b : List ℕ) → words text.now ≡ a ∷ b ∷ [] → ⊥) }
+{
+    let (first, second) = cut_word(text)?;
+    match cut_word(second) {
+        None => Some((first, second)),
         Some(_) => None,
     }
 }

@@ -1,6 +1,22 @@
 // The orders that a recorder in use takes.
 use vdr_entry::Medium;
 
+/// What is told of all records of a medium, or of an incident (this project's profile). Each has the text of the command of its name.
+#[derive(Clone, Copy, Debug, PartialEq, Eq, Drop)]
+pub enum Telling {
+    /// The table of their sources.
+    Sources,
+    /// What heartbeats and alarms show of the equipment.
+    Watch,
+    /// The table of ships, by the records whose UTC stamp is `at` or before it.
+    Targets {
+        /// Milliseconds since 1970, up to the end of the year 9999.
+        at: i64,
+    },
+    /// Their digest.
+    Digest,
+}
+
 /// What is asked of a recorder (this project's profile).
 #[derive(Clone, Copy, Debug, PartialEq, Eq, Drop)]
 pub enum Order<'a> {
@@ -10,6 +26,8 @@ pub enum Order<'a> {
     Save(&'a [u8]),
     /// The incident of this id, 1 to 32, is released.
     Release(u32),
+    /// The live incidents are listed.
+    Incidents,
     /// Records are played: those of a channel, whose UTC stamps are from `from` to `to`, both included.
     Play {
         /// An incident's id is 1 to 32.
@@ -20,5 +38,11 @@ pub enum Order<'a> {
         from: i64,
         /// The same; where it is below `from`, no record is asked for.
         to: i64,
+    },
+    /// Something is told of the records of a medium.
+    Tell {
+        /// An incident's id is 1 to 32.
+        medium: Medium,
+        telling: Telling,
     },
 }

@@ -37,7 +37,8 @@ pub fn read_play<'a>(medium: &[u8], channel: &'a [u8], from: &[u8], to: &[u8]) -
     })
 }
 
-fn read_medium(word: &[u8]) -> Option<Medium>
+/// The medium that a word names.
+pub(crate) fn read_medium(word: &[u8]) -> Option<Medium>
     ensures found { IfSome result (λ medium. IsMedium medium × (word.now ≡ medium_word medium)) }
     ensures none { IfNone result ((medium : AMedium) → IsMedium medium → word.now ≡ medium_word medium → ⊥) }
 {
@@ -51,7 +52,17 @@ fn read_medium(word: &[u8]) -> Option<Medium>
     Some(Medium::Incident(id))
 }
 
-// The id of an incident, 1 to 32.
+/// The medium and the last stamp that these words spell, `-` for no bound.
+pub(crate) fn read_until(medium: &[u8], bound: &[u8]) -> Option<(Medium, i64)>
+    ensures found { IfSome result (λ told. IsMedium told.0 × (medium.now ≡ medium_word told.0) × SpellsBound (pos last_stamp) bound.now told.1) }
+    ensures none { IfNone result ((asked : AMedium) (at : ℤ) → IsMedium asked → medium.now ≡ medium_word asked → SpellsBound (pos last_stamp) bound.now at → ⊥) }
+{
+    let medium = read_medium(medium)?;
+    let at = read_bound(bound, LAST_STAMP)?;
+    Some((medium, at))
+}
+
+/// The id of an incident, 1 to 32.
 pub(crate) fn read_id(digits: &[u8]) -> Option<u32>
     ensures found { IfSome result (λ id. (1 ≤ id) × (id ≤ 32) × (digits.now ≡ decimal id)) }
     ensures none { IfNone result ((id : ℕ) → 1 ≤ id → id ≤ 32 → digits.now ≡ decimal id → ⊥) }

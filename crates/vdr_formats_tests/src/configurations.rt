@@ -4,13 +4,17 @@ use crate::printing::{number, word};
 use vdr_config::{Config, ConfigBad, KeyPath, fits, needs};
 use vdr_memory::MemorySink;
 
-/// What a configuration needs: cost, usable bytes of a segment, slots of the capsule and of the long-term medium.
+/// What a configuration needs: cost, usable bytes of a segment, slots of the capsule and of the long-term medium, and of the
+/// float-free medium where its window is given.
 pub(crate) fn put_needs(config: &Config, out: &mut MemorySink) {
     let needs = needs(config);
     number(out, needs.cost);
     number(out, needs.usable);
     number(out, needs.capsule_slots);
     number(out, needs.long_slots);
+    if config.float_given {
+        number(out, needs.float_slots);
+    }
 }
 
 // The word of a refusal, and the key.
@@ -37,10 +41,10 @@ pub(crate) fn put_refusal(bad: &ConfigBad, out: &mut MemorySink) {
     }
 }
 
-/// Whether media of these two sizes are large enough: else the medium that is too small, the slots that it needs
+/// Whether two media of these sizes are large enough: else the medium that is too small, the slots that it needs
 /// and those that it has.
 pub(crate) fn put_fit(config: &Config, capsule: u64, long: u64, out: &mut MemorySink) {
-    match fits(config, capsule, long) {
+    match fits(config, &[capsule, long]) {
         Ok(()) => word(out, b"fits"),
         Err(small) => {
             number(out, u64::from(small.medium));

@@ -1,7 +1,7 @@
 // Orders that the lines of a link ask for.
 
 use crate::printing::{bracketed, number, word};
-use vdr_control::{Order, read_order};
+use vdr_control::{Order, Telling, read_order};
 use vdr_entry::Medium;
 use vdr_memory::MemorySink;
 
@@ -14,11 +14,29 @@ fn put_medium(medium: Medium, out: &mut MemorySink) {
     }
 }
 
+// Appends what is told.
+fn put_telling(telling: Telling, out: &mut MemorySink) {
+    match telling {
+        Telling::Sources => word(out, b"sources"),
+        Telling::Watch => word(out, b"watch"),
+        Telling::Targets { at } => {
+            word(out, b"targets");
+            number(out, u64::try_from(at).unwrap_or(u64::MAX));
+        }
+        Telling::Digest => word(out, b"digest"),
+    }
+}
+
 /// What a line asks for. Nothing where it asks for nothing.
 pub(crate) fn order(line: &[u8], out: &mut MemorySink) {
     match read_order(line) {
         None => {}
         Some(Order::Status) => word(out, b"status"),
+        Some(Order::Incidents) => word(out, b"incidents"),
+        Some(Order::Tell { medium, telling }) => {
+            put_telling(telling, out);
+            put_medium(medium, out);
+        }
         Some(Order::Save(label)) => {
             word(out, b"save");
             bracketed(out, label);

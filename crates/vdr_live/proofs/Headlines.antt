@@ -57,7 +57,7 @@ module _ {tells tells_images : Type 0} (x : Contents) (reads : configuration x.t
       → (hears → IsHeard (opening_of x) events t0 old w) → SessionHeadline x was now given turns links_old links_new end old new hears w
   headline given rest items lost feed end events k s groups risen turns links_old links_new replies heard =
       after_opening x reads (AccountsForSession x was now given turns links_old links_new end new) ((end.outcome ≡ MediaFault) × Rose was now) old hears w t0 mid new passes entry exit events
-      (order_after x sound t0 r mid opened events k.made) k.history k.kept k.passes (⊎_elim (λ whole. inl whole) (λ is. inr (is, risen is)) k.pending)
+      (order_after x sound t0 r mid opened events k.made) k.history k.kept k.rises k.passes (⊎_elim (λ whole. inl whole) (λ is. inr (is, risen is)) k.pending)
       (record {
         means = k.means;
         items = items;

@@ -43,7 +43,7 @@ zeros_closed zero opened = let none : ⊥ = cc in none
 zeros_closed (suc n) opened = let none : ⊥ = cc in none
 
 -- Media of sizes with which the configuration fits have room for it.
-has_room : (s : Sizes) (capsule long_term : ℕ) → Fits s 0 capsule → Fits s 1 long_term → fitting s capsule long_term ≡ Ok tt
+has_room : (s : Sizes) (capsule long_term : ℕ) → Fits s 0 capsule → Fits s 1 long_term → fitting s (capsule ∷ long_term ∷ []) ≡ Ok tt
 has_room s capsule long_term first second =
     let rest : Result ⊤ TooSmall = if nat_lt (slots_in s long_term) (needed_slots s 1) then Err (too_small s 1 long_term) else Ok tt in
     cond-false (nat_lt (slots_in s capsule) (needed_slots s 0)) (Err (too_small s 0 capsule)) rest (le-ltb (slots_in s capsule) (needed_slots s 0) first)

@@ -92,7 +92,10 @@ pub(crate) fn advise<R: AllocGlobal + Net<Stream = TcpStream>, E: Eprint, F: Med
     let Some(word) = command.first() else {
         return;
     };
-    let is_order = matches!(word.as_str(), "play" | "save" | "release");
+    let is_order = matches!(
+        word.as_str(),
+        "play" | "save" | "release" | "incidents" | "sources" | "watch" | "targets" | "digest"
+    );
     let is_in_use = matches!(media.trouble(), Some((_, Trouble::InUse)));
     if !is_order || !is_in_use || !recorder_listens(rt) {
         return;

@@ -61,9 +61,10 @@ Commands:
             time, so that 72000 is an hour or less. Prints what `replay` prints. A port that
             fails is told at the end, and the others go on.
             Meanwhile an operator's orders are answered on 127.0.0.1, TCP port 61450, line by line:
-            `STATUS`, `SAVE LABEL`, `RELEASE ID` and `PLAY MEDIUM CHANNEL FROM TO`. This link is
-            asked for a line TURNS times at most, and waits as a port does. `STOP` ends the recording:
-            what waits is recorded, and the run is closed.
+            `STATUS`, `SAVE LABEL`, `RELEASE ID`, and with the words of their commands `PLAY`,
+            `INCIDENTS`, `SOURCES`, `WATCH`, `TARGETS` and `DIGEST`. This link is asked for a line
+            TURNS times at most, and waits as a port does. `STOP` ends the recording: what waits is
+            recorded, and the run is closed.
   order WORDS
             Sends such a line to the recorder of this host, with the first word in capitals, prints
             what is replied behind its `OK`, and ends with the status of a refusal. FOLDER may be any.

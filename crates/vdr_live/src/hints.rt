@@ -81,7 +81,7 @@ fn configuration(number: u8) -> &'static str {
         4 => "what this key has is of another type, or out of its range",
         5 => "this name is given twice",
         6 =>
-            "profile `ship` asks for a capsule_seconds of 172800 and a long_seconds of 2592000 at least",
+            "profile `ship` asks for a capsule_seconds and a float_seconds of 172800 and a long_seconds of 2592000 at least",
         7 => "segment is four times batch at least",
         _ => "it has more than 16380 bytes",
     }

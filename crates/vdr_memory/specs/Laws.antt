@@ -1,10 +1,11 @@
 -- The laws of a disk, for what writes and syncs leave. Disks.antt needs their proofs.
-use Rattle.std.specs.Prelude.{◌≡◌, ◌≤◌, ◌+◌, ℕ, zero, suc, true, false, List, [], ◌∷◌, ◌++◌, length, map, set, take, drop, replicate, refl}
-use Rattle.std.proofs.Common.{inl, inr, sym, ◌∙◌, ap, arith, length-append}
+use Rattle.std.specs.Prelude.{◌≡◌, ◌≤◌, ◌⊎◌, ◌+◌, ℕ, zero, suc, true, false, List, [], ◌∷◌, ◌++◌, length, map, set, take, drop, replicate, refl}
+use Rattle.std.proofs.Common.{inl, inr, ⊎_elim, sym, ◌∙◌, ap, arith, length-append}
+use Rattle.std.proofs.lemmas.Bool.{cases_lt}
 use Rattle.std.proofs.lemmas.List.{length-take, length-replicate, set-get_or}
 use Rattle.vdr_outside.specs.Disk.{Image, Overwritten, content, over}
 use Rattle.vdr_outside.proofs.Bytes.{sizes_written}
-use Rattle.vdr_memory.specs.Steps.{Step, reads_after, Left, LeftSince}
+use Rattle.vdr_memory.specs.Steps.{Step, reads_after, Left, LeftSince, LeftUntil}
 use Rattle.vdr_memory.specs.Steps.Step.{write, sync}
 
 -- The bytes that stand there, and any past the end.
@@ -82,3 +83,34 @@ only_now start steps lost i left = now_alone start steps (length steps + lost) i
 
 pub earlier : (start : Image) (steps : List Step) (lost t u : ℕ) (i : Image) → t ≤ u → (u ≤ length steps + lost) × LeftSince start u steps i → (t ≤ length steps + lost) × LeftSince start t steps i
 earlier start steps lost t u i le left = (omega (arith, le, left.0), since_earlier start steps t u i le left.1)
+
+-- What may be left now counts until each moment from now on.
+now_until : (start : Image) (steps : List Step) (t : ℕ) (i : Image) → length steps ≤ t → Left start steps i → LeftUntil start t steps i
+now_until start [] t i le left = left
+now_until start (step ∷ earlier) t i le left = inl (le, left)
+
+pub counts_until : (start : Image) (steps : List Step) (lost t : ℕ) (i : Image) → length steps + lost ≤ t → Left start steps i → LeftUntil start t steps i
+counts_until start steps lost t i le left = now_until start steps t i (omega (arith, le)) left
+
+pub until_later : (start : Image) (steps : List Step) (t u : ℕ) (i : Image) → t ≤ u → LeftUntil start t steps i → LeftUntil start u steps i
+until_later start [] t u i le left = left
+until_later start (step ∷ earlier) t u i le (inl now) = inl (omega (arith, now.0, le), now.1)
+until_later start (step ∷ earlier) t u i le (inr was) = inr (until_later start earlier t u i le was)
+
+-- Each step stands before t, or from it on.
+until_split : (start : Image) (steps : List Step) (t u : ℕ) (i : Image) → LeftUntil start u steps i → LeftUntil start t steps i ⊎ ((t ≤ length steps) × LeftSince start t steps i)
+until_split start [] t u i left = inl left
+until_split start (step ∷ earlier) t u i (inl now) = ⊎_elim
+    (λ (late : length (step ∷ earlier) ≤ t). inl (inl (late, now.1)))
+    (λ (early : t ≤ length (step ∷ earlier)). inr (early, inl now.1))
+    (in_order (length (step ∷ earlier)) t)
+  where
+    in_order : (a b : ℕ) → (a ≤ b) ⊎ (b ≤ a)
+    in_order a b = ⊎_elim (λ less. inl (omega (arith, less))) (λ more. inr more) (cases_lt a b)
+until_split start (step ∷ earlier) t u i (inr was) = ⊎_elim
+    (λ before. inl (inr before))
+    (λ since. inr (omega (arith, since.0), inr since))
+    (until_split start earlier t u i was)
+
+pub until_or_since : (start : Image) (steps : List Step) (lost t u : ℕ) (i : Image) → t ≤ length steps + lost → LeftUntil start u steps i → LeftUntil start t steps i ⊎ ((t ≤ length steps + lost) × LeftSince start t steps i)
+until_or_since start steps lost t u i le left = ⊎_elim (λ before. inl before) (λ since. inr (le, since.1)) (until_split start steps t u i left)

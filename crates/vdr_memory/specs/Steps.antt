@@ -31,3 +31,8 @@ Left start (sync m false ∷ earlier) i = Left start earlier i
 abbrev pub LeftSince : Image → ℕ → List Step → Image → Type 0
 LeftSince start t [] i = Left start [] i
 LeftSince start t (step ∷ earlier) i = Left start (step ∷ earlier) i ⊎ ((t ≤ length earlier) × LeftSince start t earlier i)
+
+-- The images that a stop may have left after t of the steps, or after fewer of them.
+abbrev pub LeftUntil : Image → ℕ → List Step → Image → Type 0
+LeftUntil start t [] i = Left start [] i
+LeftUntil start t (step ∷ earlier) i = ((length (step ∷ earlier) ≤ t) × Left start (step ∷ earlier) i) ⊎ LeftUntil start t earlier i

@@ -5,7 +5,7 @@
 // trace.
 ghost use Rattle.std.specs.Prelude.{◌≡◌, ◌≤◌, ◌<◌, ◌⊎◌, ◌↔◌, ◌+◌, ◌^◌, [], ℕ, None, length, get_or, map, replicate, reverse, slice_range, true, false, Contains, IfOk, IsErr, IsTrue, OnErr, OnOk};
 ghost use Rattle.vdr_outside.specs.Causes.{HasCauseOn, IsCounted, counted};
-ghost use Rattle.vdr_outside.specs.Disk.{Durable, Elapses, InRange, Narrows, Overwritten, Rises, Tears, Unchanged, content, written};
+ghost use Rattle.vdr_outside.specs.Disk.{Durable, Elapses, InRange, Narrows, Overwritten, Rises, Tears, Ticks, Unchanged, content, written};
 ghost use Rattle.vdr_memory.specs.Contents.{contents};
 ghost use Rattle.vdr_memory.specs.Counts.{changes, total};
 ghost use Rattle.vdr_memory.specs.Images.{image_by};
@@ -272,6 +272,7 @@ impl Media for MemoryMedia {
         ensures images { Tears m at (length bytes.now) (disk_of self.old) (disk_of self.new) }
         ensures time { Elapses (disk_of self.old) (disk_of self.new) }
         ensures rises { Rises (disk_of self.old) (disk_of self.new) }
+        ensures ticks { Ticks (disk_of self.old) (disk_of self.new) result }
         ensures sizes { (disk_of self.new).sizes ≡ (disk_of self.old).sizes }
         ensures counts { self.new.bytes_read ≡ self.old.bytes_read }
         ensures cause { HasCauseOn m self.old.faults self.new.faults result }
@@ -295,6 +296,7 @@ impl Media for MemoryMedia {
         ensures images { Narrows (disk_of self.old) (disk_of self.new) }
         ensures time { Elapses (disk_of self.old) (disk_of self.new) }
         ensures rises { Rises (disk_of self.old) (disk_of self.new) }
+        ensures ticks { Ticks (disk_of self.old) (disk_of self.new) result }
         ensures sizes { (disk_of self.new).sizes ≡ (disk_of self.old).sizes }
         ensures counts { self.new.bytes_read ≡ self.old.bytes_read }
         ensures cause { HasCauseOn m self.old.faults self.new.faults result }

@@ -24,7 +24,8 @@ use Rattle.vdr_command.specs.Outside.{MediaFailed, NothingFailed, OutputFailed, 
 use Rattle.vdr_command.specs.Promises.{Promise}
 use Rattle.vdr_command.specs.declared.status.Status.{Status}
 use Rattle.vdr_command.specs.declared.status.Status.TheVariants.{Unformatted, MediaFault, OutputFault, Words}
-use Rattle.vdr_readout.specs.Incidents.{IsListStatus, incidents_text}
+use Rattle.vdr_teller.specs.Incidents.{incidents_text}
+use Rattle.vdr_readout.specs.Incidents.{IsListStatus}
 use Rattle.vdr_readout.specs.Reads.{number_asked}
 use Rattle.vdr_readout.specs.Rescues.{LeavesRescued, Rescues}
 use Rattle.vdr_readout.specs.Sources.{whole_of}

@@ -15,9 +15,9 @@ use crate::rescuing::{number_of, rescue_out};
 use crate::rescuing_files::rescue_file;
 use crate::selecting::{answer_track, answer_values};
 use crate::sourcing::answer_sources;
-use crate::targeting::{Lookout, answer_targets};
+use crate::targeting::answer_targets;
 use crate::telling::{answer_digest, answer_runs};
-use crate::watching::{Watcher, answer_watch};
+use crate::watching::answer_watch;
 use std::alloc::Global;
 use vdr_command::{Outer, Status, World};
 use vdr_digest::Digester;
@@ -27,6 +27,7 @@ use vdr_outside::{Media, Sink, Source};
 use vdr_recorder::SourceCounter;
 use vdr_rows::Rows;
 use vdr_runs::Runs;
+use vdr_teller::{Lookout, Watcher};
 use vdr_terms::LAST_STAMP;
 use vdr_track::Track;
 
@@ -83,8 +84,8 @@ impl Reading<'_> {
     }
 }
 
-// All records of a medium up to this stamp.
-fn up_to(medium: Medium, at: i64) -> Wanted<'static>
+/// All records of a medium up to this stamp.
+pub fn up_to(medium: Medium, at: i64) -> Wanted<'static>
     ensures { plain_play result ≡ up_to medium at }
 {
     Wanted {
@@ -95,8 +96,8 @@ fn up_to(medium: Medium, at: i64) -> Wanted<'static>
     }
 }
 
-// A sound on its time line from this stamp on; from its first frame on where that is no bound.
-fn timed_from(from: i64) -> Timing
+/// A sound on its time line from this stamp on; from its first frame on where that is no bound.
+pub fn timed_from(from: i64) -> Timing
     ensures { result ≡ timed_from from }
 {
     match from.unsigned_abs() {

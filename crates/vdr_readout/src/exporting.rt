@@ -27,7 +27,7 @@ pub enum Wish {
 }
 
 /// The file that is to be made of a channel, None where its kind is another.
-pub(crate) fn file_of(config: &Config, channel: Option<u8>, wish: Wish) -> Option<File>
+pub fn file_of(config: &Config, channel: Option<u8>, wish: Wish) -> Option<File>
     ensures { result ≡ wished wish (kind_at config.now.channels channel) }
 {
     let Some(number) = channel else {

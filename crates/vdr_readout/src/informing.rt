@@ -5,10 +5,9 @@ ghost use Rattle.std.specs.Prelude.{◌≡◌, ◌≤◌, ◌⊎◌, ◌++◌, L
 ghost use Rattle.vdr_core.specs.Histories.{Incident, live};
 ghost use Rattle.vdr_command.specs.Endings.{ending};
 ghost use Rattle.vdr_command.specs.declared.status.Status.TheVariants.{Words};
-ghost use Rattle.vdr_readout.specs.Incidents.{row_if};
+ghost use Rattle.vdr_teller.specs.Incidents.{row_if};
 ghost use Rattle.vdr_readout.specs.Informs.{Informs, below_text, info_text};
 
-use crate::listing::row_of;
 use std::alloc::{AllocError, Global};
 use vdr_command::{Outer, Status, World, law_of_openings};
 use vdr_incident::{Save, Table};
@@ -16,6 +15,7 @@ use vdr_info::{Info, medium_line, push_config, read_info};
 use vdr_opening::law_of_parts;
 use vdr_outside::{Media, Sink, Source, write_all};
 use vdr_rescue::Alone;
+use vdr_teller::row_of;
 use vdr_terms::MOST_INCIDENTS;
 
 /// What has incidents, saved under their ids.

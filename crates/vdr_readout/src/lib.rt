@@ -20,12 +20,14 @@ mod targeting;
 mod telling;
 mod watching;
 
-pub use answering::{Reading, answer_reading, answer_rescue};
+pub use answering::{Reading, answer_reading, answer_rescue, timed_from, up_to};
 pub use comparing::answer_compare;
 pub use evidencing::answer_evidence;
+pub use exporting::{Wish, file_of};
 pub use informing::answer_info;
 pub use informing_alone::answer_rescue_info;
 pub use listing::answer_incidents;
 pub use paging::answer_page;
-pub use reading::{EndsCommand, Wanted, read_out};
+pub use playing::Printer;
+pub use reading::{EndsCommand, Wanted, query_in, read_out};
 pub use rescuing::number_of;

@@ -14,14 +14,15 @@ use vdr_outside::{Media, Sink, Source};
 use vdr_recorder::Player;
 use vdr_visit::{Visitor, VisitorRefused};
 
-// A player as a command has it: with a reason to stop that has a status, though it never stops by itself.
+/// A player as a command has it: with a reason to stop that has a status, though it never stops by itself.
 #[derive(Drop)]
-pub(crate) struct Printer {
+pub struct Printer {
     player: Player,
 }
 
 impl Printer {
-    pub(crate) fn new() -> Printer
+    /// Of which no record was played.
+    pub fn new() -> Printer
         ensures { result.player.tracks ≡ nothing_seen }
     {
         Printer {

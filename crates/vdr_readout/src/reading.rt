@@ -97,7 +97,7 @@ pub(crate) fn ended_by<R: EndsCommand>(
 }
 
 /// The query of what is wanted, None where no such channel is configured.
-pub(crate) fn query_in(config: &Config, wanted: Wanted<'_>) -> Option<Query>
+pub fn query_in(config: &Config, wanted: Wanted<'_>) -> Option<Query>
     ensures found { IfSome result (λ query. (asked query ≡ query_of config.now wanted.entry.medium wanted.entry.channel.now wanted.entry.from wanted.entry.to)
         × (LacksChannel config.now wanted.entry.channel.now → ⊥)) }
     ensures none { IfNone result (LacksChannel config.now wanted.entry.channel.now) }

@@ -8,6 +8,7 @@ use Rattle.vdr_core.proofs.Growing.{history_grows}
 use Rattle.vdr_durability.specs.Keeping.{Extends, IsWhole, ShowsEither, ShowsPrefix, moment_of}
 use Rattle.vdr_durability.proofs.Kept.{keeps_call}
 use Rattle.vdr_durability.proofs.Whole.{whole_has_not_failed}
+use Rattle.vdr_durability.proofs.Acknowledged.{rises_with}
 use Rattle.vdr_outside.specs.Disk.{Disk, Image}
 use Rattle.vdr_outside.proofs.Moments.{moments_weaken}
 use Rattle.vdr_vault.specs.Vaults.{VaultState, ShowsHistory}
@@ -57,6 +58,7 @@ module _ {tells tells_images : Type 0} (opening : Opening) (events : List Event)
         made = made_grows opening events whole_events h.made event made;
         failed = fails_with after.failed new.clock events event (λ _. whole_events) refl;
         told = told_after stands kept (cases_Bool after.failed);
+        rises = rises_with events t0 old.clock new.clock event after.failed h.rises moments.later refl;
         kept = keeps_call (ShowsHistory opening) events t0 event after.failed old new h.kept whole_events moments no_look refl
             (λ works image now. stand_shows opening (events ++ event ∷ []) after (stands works).placed new (stands works).stands image now);
         works = stands;

@@ -1,5 +1,5 @@
 -- What a recording leaves, in the words of its headline.
-use Rattle.std.proofs.Common.{◌≡◌, ◌≢◌, ◌⊎◌, inl, inr, ◌≤◌, ℕ, List, [], ◌∷◌, ◌++◌, Contains, Option, None, Ok, ⊎_elim, refl, sym, ap, ◌∙◌, subst, arith, append-nil}
+use Rattle.std.proofs.Common.{◌≡◌, ◌≢◌, ◌⊎◌, inl, inr, ◌≤◌, ℕ, List, [], ◌∷◌, ◌++◌, Contains, Option, None, Ok, ⊎_elim, refl, sym, ap, ◌∙◌, subst, arith, append-nil, suc}
 use Rattle.std.proofs.lemmas.List.Elements.{All-contains, All-nil}
 use Rattle.vdr_terms.specs.Order.{AreInOrder}
 use Rattle.vdr_terms.specs.Needs.{cost, usable}
@@ -7,7 +7,7 @@ use Rattle.vdr_terms.specs.Records.{Record, last}
 use Rattle.vdr_core.specs.Histories.{Event, IsHistory, Opening, all_records, recorded, stamp_of}
 use Rattle.vdr_core.specs.RunStates.{IsRecorderHistory}
 use Rattle.vdr_durability.proofs.Lists.{contains_cases, contains_here, contains_there, none_contained}
-use Rattle.vdr_durability.specs.Keeping.{IsWhole, Keeps, ShowsPrefix}
+use Rattle.vdr_durability.specs.Keeping.{IsWhole, Keeps, RiseFrom, ShowsAtMost, ShowsPrefix, acknowledged}
 use Rattle.vdr_durability.specs.Readings.{next_after}
 use Rattle.vdr_durability.specs.Shown.{GoesOnFrom}
 use Rattle.vdr_outside.specs.Disk.{Disk, Image}
@@ -24,7 +24,7 @@ use Rattle.vdr_recorder.proofs.Opened.{keeps_synced}
 use Rattle.vdr_recorder.specs.Headline.{Headline, IsHeard, PlaysBack, RecordingHeadline, ToldHeadline}
 use Rattle.vdr_recorder.specs.Watched.{Watched, nothing_told}
 use Rattle.vdr_recorder.proofs.Ordering.{all_in_order, front_in_order}
-use Rattle.vdr_recorder.proofs.Passing.{passes_first, passes_join, passes_synced}
+use Rattle.vdr_recorder.proofs.Passing.{none_seen, passes_first, passes_join, passes_synced}
 use Rattle.vdr_recorder.proofs.Playing.{plays}
 
 -- What shows the first of some events, in other words
@@ -39,6 +39,9 @@ module _ (shows others : List Event → Image → Type 0) (events : List Event)
     rising = h.rising;
     pending = h.pending;
     prefixes = λ t image start end left. prefix_told _ image (h.prefixes t image start end left);
+    one_more = λ t image start end left. ⊎_elim (λ was. inl was)
+        (λ (m : ShowsAtMost shows events (suc (acknowledged events t)) image). inr (record { first = m.first; rest = m.rest; split = m.split; few = m.few; shown = to m.first m.rest m.split image m.shown }))
+        (h.one_more t image start end left);
     now = λ whole image now. to events [] (sym (append-nil events)) image (h.now whole image now);
   }
 
@@ -61,6 +64,8 @@ told_as opening shows others Told Tells pends may_pend before after hears hears'
   after_entry = h.after_entry;
   before_exit = h.before_exit;
   kept = keeps_told shows others h.events to h.synced after h.kept;
+  none_yet = λ image left. ⊎_elim (λ was. inl was) (λ shown. inr (to [] h.events refl image shown)) (h.none_yet image left);
+  rises = h.rises;
   heard = heard;
 }
 
@@ -124,10 +129,10 @@ module _ (x : Contents) (reads : configuration x.text ≡ Ok x.config) where
     -- These events came after an opening.
     pub after_opening : (t0 : ℕ) (mid new : Disk tells tells_images) → Passes (opening_of x) [] old mid → old.clock ≤ t0 → t0 ≤ mid.clock
         → (events : List Event) → ((m : ℕ) → Contains members m → AreInOrder (all_records (opening_of x) m events)) → IsHistory (opening_of x) events
-        → Keeps (ShowsHistory (opening_of x)) events t0 new
+        → Keeps (ShowsHistory (opening_of x)) events t0 new → RiseFrom t0 new.clock events
         → Passes (opening_of x) events mid new → IsWhole events ⊎ may_pend → Told events → (hears → IsHeard (opening_of x) events t0 old w)
         → ToldHeadline x Told may_pend old new hears w
-    after_opening t0 mid new passes entry exit events order history kept then pending told heard =
+    after_opening t0 mid new passes entry exit events order history kept rises then pending told heard =
         told_as (opening_of x) (ShowsHistory (opening_of x)) (PlaysBack (opening_of x)) Told Told may_pend may_pend old new hears hears w w
         (record {
           events = events;
@@ -140,6 +145,8 @@ module _ (x : Contents) (reads : configuration x.text ≡ Ok x.config) where
           after_entry = entry;
           before_exit = omega (arith, exit, then.later);
           kept = kept;
+          none_yet = λ image left. none_seen (opening_of x) old mid t0 image passes ((then.past t0 image exit).0 left);
+          rises = rises;
           heard = heard;
         })
         (back events order) (λ t. t) (λ p. p) heard
@@ -151,4 +158,4 @@ module _ (x : Contents) (reads : configuration x.text ≡ Ok x.config) where
     only_opened sound new goes told =
         after_opening Told may_pend old ⊥ nothing_told goes.synced new new (passes_synced (opening_of x) old new goes) goes.after_entry goes.before_exit []
         (order_quiet x sound [] refl) (no_event_history (opening_of x))
-        (keeps_synced (ShowsHistory (opening_of x)) goes.synced new goes.before_exit goes.since) (passes_first (opening_of x) [] new) (inl no_event_whole) told (λ none. absurd none)
+        (keeps_synced (ShowsHistory (opening_of x)) goes.synced new goes.before_exit goes.since) goes.before_exit (passes_first (opening_of x) [] new) (inl no_event_whole) told (λ none. absurd none)

@@ -11,12 +11,13 @@ use Rattle.vdr_durability.specs.Playback.{medium_of}
 use Rattle.vdr_durability.specs.Keeping.{IsWhole, Keeps, ShowsEither, ShowsPrefix, moment_of}
 use Rattle.vdr_durability.proofs.Kept.{keeps_after_fault, keeps_done}
 use Rattle.vdr_durability.proofs.Whole.{whole_has_not_failed}
-use Rattle.vdr_outside.specs.Disk.{Disk, Image, Unchanged}
-use Rattle.vdr_outside.specs.Moments.{AtEachMoment}
+use Rattle.vdr_outside.specs.Disk.{Disk, Unchanged}
+use Rattle.vdr_outside.proofs.Moments.{moments_still}
 use Rattle.vdr_config.specs.Configuration.{Configuration}
 use Rattle.vdr_config.specs.Sizes.{sizes_of}
 use Rattle.vdr_durability.specs.Media.{IsMediumOf}
 use Rattle.vdr_durability.proofs.Media.{silent}
+use Rattle.vdr_durability.proofs.Acknowledged.{rises_with}
 use Rattle.vdr_directory.specs.Sequence.{Placed, segments_in}
 use Rattle.vdr_opening.specs.Media.{members}
 use Rattle.vdr_vault.specs.Vaults.{VaultState, ShowsHistory, Stands}
@@ -28,14 +29,6 @@ use Rattle.vdr_recorder.specs.Looks.{HasLooked}
 use Rattle.vdr_recorder.specs.Making.{MakesBy}
 use Rattle.vdr_recorder.specs.Recordings.{HasDone, HasRecorded, IsWorking, RecorderState, TellsLeft, acts_of, start_of_opening}
 use Rattle.vdr_recorder.proofs.Continuing.{acts_with, fails_with, has_moment, left_with, made_looks, told_at_rest, told_without, whole_with}
-
--- What a stop may leave during calls that only read.
-moments_still : {tells tells_images : Type 0} (old new : Disk tells tells_images) (P : Image → Type 0) → Unchanged old new → ((i : Image) → old.now i → P i) → AtEachMoment old new P
-moments_still old new P same now = record {
-  later = omega (arith, same.clock);
-  each = λ i since. now i (old.only_now i ((same.since old.clock i).0 since));
-  before = λ t i early since. inl ((same.since t i).0 since);
-}
 
 module _ {tells tells_images : Type 0} (opening : Opening) (events : List Event) (t0 : ℕ) (r : RecorderState) (old new : Disk tells tells_images) (h : HasRecorded opening events t0 r old)
     (after : VaultState) (same : Unchanged old new) (failed_is : after.failed ≡ r.vault.failed) (config_is : after.config ≡ r.vault.config)
@@ -106,6 +99,7 @@ module _ {tells tells_images : Type 0} (opening : Opening) (events : List Event)
           made = made_looks opening events look h.made refl;
           failed = fails_with after.failed new.clock events look whole refl;
           told = told_after (cases_Bool after.failed);
+          rises = rises_with events t0 old.clock new.clock look after.failed h.rises (let same_clock = same.clock in omega (arith, same_clock)) refl;
           kept = g.1;
           works = working;
         };

@@ -1,5 +1,5 @@
 -- A recorder that was opened has an empty history over its opening.
-use Rattle.std.proofs.Common.{◌≡◌, ◌≢◌, ◌<◌, ◌≤◌, ℕ, List, [], sum_by, zero, suc, false, Option, Some, None, Result, Ok, Err, inl, inr, refl, sym, ap, ◌∙◌, subst, arith, true≢false}
+use Rattle.std.proofs.Common.{◌≡◌, ◌≢◌, ◌<◌, ◌≤◌, ℕ, List, [], sum_by, zero, suc, false, Option, Some, None, Result, Ok, Err, inl, inr, refl, sym, ap, ◌∙◌, subst, arith, true≢false, ⊎_elim}
 use Rattle.std.proofs.lemmas.List.Elements.{All-nil}
 use Rattle.vdr_terms.specs.Needs.{cost, usable}
 use Rattle.vdr_terms.specs.Order.{AreInOrder}
@@ -67,6 +67,7 @@ keeps_synced shows t0 disk low shown = record {
   rising = omega arith;
   pending = tt;
   prefixes = λ t image after end left. record { first = []; rest = []; split = refl; enough = omega arith; shown = shown image (disk.earlier t0 t image after left) };
+  one_more = λ t image after end left. ⊎_elim (λ was. inl was) (λ since. inr (record { first = []; rest = []; split = refl; few = omega arith; shown = shown image since })) (disk.until_or_since t0 (suc t) image low left);
   now = λ whole image now. shown image (disk.counts_now t0 image low now);
 }
 
@@ -104,6 +105,7 @@ module _ {tells tells_images : Type 0} (opening : Opening) (vault : VaultState) 
     made = tt;
     failed = stands.working;
     told = told_at_rest opening [] (All-nil (λ (e : Event). e.moment ≢ None)) vault placed disk stands;
+    rises = low;
     kept = keeps_synced (ShowsHistory opening) t0 disk low shown;
     works = λ works. record {
       standing = record {

@@ -1,10 +1,10 @@
 -- What holds at every moment of one call after another.
-use Rattle.std.proofs.Common.{◌⊎◌, inl, inr, List, [], ◌++◌, Result, ⊎_elim, refl, ap, ◌∙◌, append_assoc, arith}
+use Rattle.std.proofs.Common.{◌≡◌, ◌⊎◌, inl, inr, ℕ, List, [], ◌∷◌, ◌++◌, Result, ⊎_elim, refl, ap, ◌∙◌, subst, append_assoc, arith}
 use Rattle.vdr_core.specs.Histories.{Event, Opening}
 use Rattle.vdr_durability.specs.Keeping.{ShowsPrefix}
 use Rattle.vdr_outside.specs.Disk.{Disk, Image}
 use Rattle.vdr_outside.specs.Moments.{AtEachMoment}
-use Rattle.vdr_outside.proofs.Moments.{moments_join, moments_none, moments_weaken, now_after}
+use Rattle.vdr_outside.proofs.Moments.{in_calls, moments_join, moments_none, moments_weaken, now_after}
 use Rattle.vdr_opening.specs.declared.refused.OpenRefused.{OpenRefused}
 use Rattle.vdr_vault.specs.Openings.{GoesOnSynced, OpensAtEachMoment}
 use Rattle.vdr_vault.specs.Vaults.{ShowsHistory}
@@ -36,6 +36,17 @@ module _ {tells tells_images : Type 0} (opening : Opening) where
       so_far : AtEachMoment old mid Now
       so_far = moments_weaken old mid (λ image. old.now image ⊎ ShowsPrefix (ShowsHistory opening) events 0 image) Now first
           (λ image p. ⊎_elim (λ now. inl now) (λ shown. inr (prefix_more (ShowsHistory opening) events more image shown)) p)
+
+  -- What was left by some moment of calls that are no event was left before them, or shows none.
+  pub none_seen : (old mid : Disk tells tells_images) (t : ℕ) (image : Image) → Passes opening [] old mid → mid.until t image → old.until old.clock image ⊎ ShowsHistory opening [] image
+  none_seen old mid t image passes left = ⊎_elim (λ was. inl was)
+      (λ p. ⊎_elim (λ now. inl (old.counts_until old.clock image (omega arith) now))
+      (λ (k : ShowsPrefix (ShowsHistory opening) [] 0 image). inr (subst (λ (es : List Event). ShowsHistory opening es image) (none_first k.first k.rest k.split) k.shown)) p)
+      (in_calls old mid (λ image. old.now image ⊎ ShowsPrefix (ShowsHistory opening) [] 0 image) passes t image left)
+    where
+      none_first : (first rest : List Event) → [] ≡ first ++ rest → first ≡ []
+      none_first [] rest split = refl
+      none_first (e ∷ first) rest split = let none : ⊥ = cc in absurd none
 
   -- What opening leaves, whatever it answers.
   pub passes_synced : (old new : Disk tells tells_images) → GoesOnSynced old new (ShowsHistory opening []) → Passes opening [] old new

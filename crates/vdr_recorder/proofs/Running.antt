@@ -89,6 +89,7 @@ module _ {tells tells_images : Type 0} (opening : Opening) (events : List Event)
     made = h.made;
     failed = h.failed;
     told = h.told;
+    rises = h.rises;
     kept = h.kept;
     works = λ works. (h.works works).standing;
   }
@@ -114,6 +115,7 @@ module _ {tells tells_images : Type 0} (opening : Opening) (events : List Event)
         made = k.has.made;
         failed = k.has.failed;
         told = k.has.told;
+        rises = k.has.rises;
         kept = k.has.kept;
         works = λ goes. record {
           standing = k.has.works goes;

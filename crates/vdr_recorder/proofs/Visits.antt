@@ -1,7 +1,7 @@
 -- What visits of a recorder leave: one, none, or two.
-use Rattle.std.proofs.Common.{◌≡◌, ℕ, List, Bool, true, Option, Result, Ok, Err, length, inl, inr, refl, sym, ap, ◌∙◌, subst}
+use Rattle.std.proofs.Common.{◌≡◌, ℕ, List, true, Option, Result, Ok, Err, length, inl, inr, refl, sym, ap, subst}
 use Rattle.std.specs.Bool.{⊤}
-use Rattle.vdr_core.specs.Histories.{Event, Incident, Opening}
+use Rattle.vdr_core.specs.Histories.{Incident}
 use Rattle.vdr_durability.specs.Playback.{medium_of, selected}
 use Rattle.vdr_terms.specs.Queries.{Medium, Query}
 use Rattle.vdr_terms.specs.Records.{Record}
@@ -9,8 +9,8 @@ use Rattle.vdr_outside.specs.declared.media.Media.{Ghosts as MediaTells}
 use Rattle.vdr_outside.specs.Disk.{Disk, Unchanged}
 use Rattle.vdr_outside.specs.Writes.{AppendsFront}
 use Rattle.vdr_outside.proofs.Counts.{none_fell}
+use Rattle.vdr_outside.proofs.Moments.{unchanged_none}
 use Rattle.vdr_config.specs.Configuration.{Configuration}
-use Rattle.vdr_directory.specs.Sequence.{Placed}
 use Rattle.vdr_ring.specs.Meets.{AreApart}
 use Rattle.vdr_visit.specs.Refusals.{lacks_channel, lacks_incident}
 use Rattle.vdr_visit.specs.Visits.{AreVisited, HasHanded, ReadEnd, end_of}
@@ -18,7 +18,7 @@ use Rattle.vdr_visit.specs.Visits.ReadEnd.{AllRead, CutOff, ReadDamaged, ReadFau
 use Rattle.vdr_visit.specs.declared.visit_refused.VisitRefused.{VisitRefused}
 use Rattle.vdr_visit.specs.declared.visit_refused.VisitRefused.TheVariants as stops
 use Rattle.vdr_vault.specs.Plays.{ReadsOn, TellsDamageOf}
-use Rattle.vdr_vault.specs.Vaults.{AreJudged, AreRings, IsReadable, VaultState}
+use Rattle.vdr_vault.specs.Vaults.{AreJudged, AreRings, VaultState}
 use Rattle.vdr_vault.specs.Refusals.{HasVisitCause}
 use Rattle.vdr_vault.specs.Visits.{HasOnlyRead, HasVisited}
 use Rattle.vdr_vault.proofs.Reading.{damaged_before, reads_keep}
@@ -44,7 +44,7 @@ still : {tells tells_images : Type 0} (query : Query) (vault : VaultState) (disk
 still query vault disk read rings = record {
   vault = record { vault = refl; count = refl; ring = refl; others = λ k other. refl };
   rings = rings;
-  unchanged = record { sizes = refl; reads = λ told. refl; clock = refl; since = λ t i. (λ h. h, λ h. h) };
+  unchanged = unchanged_none disk;
   counts = λ k other. refl;
   judged = λ judged. judged;
   stands = λ opening events placed h. h;

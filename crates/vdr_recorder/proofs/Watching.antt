@@ -14,6 +14,7 @@ use Rattle.vdr_incident.specs.declared.refused.ReleaseRefused.TheVariants as rel
 use Rattle.vdr_vault.specs.Saves.{save_refusal}
 use Rattle.vdr_vault.specs.declared.refused.SaveRefused.{SaveRefused}
 use Rattle.vdr_vault.specs.declared.refused.SaveRefused.TheVariants as saves
+use Rattle.vdr_vault.specs.Vaults.{ShowsHistory}
 use Rattle.vdr_recorder.specs.declared.run.StartRefused.{StartRefused}
 use Rattle.vdr_recorder.specs.declared.run.StartRefused.TheVariants.{Fault, Place, Tick}
 use Rattle.vdr_recorder.specs.Recordings.{HasDone, HasRecorded, RecorderState}
@@ -23,6 +24,7 @@ use Rattle.vdr_recorder.proofs.Answering.{same_disk}
 use Rattle.vdr_recorder.proofs.Coming.{come_last, save_is}
 use Rattle.vdr_recorder.proofs.Looking.{look_done}
 use Rattle.vdr_recorder.proofs.Telling.{Called, may_tell, still_watched, watched_same}
+use Rattle.vdr_durability.proofs.Kept.{keeps_since}
 
 -- What was answered, and whether it is told
 
@@ -250,7 +252,8 @@ module _ {tells tells_images : Type 0} (old new : Disk tells tells_images) where
         made = h.made;
         failed = h.failed;
         told = h.told;
-        kept = record { rising = h.kept.rising; pending = h.kept.pending; prefixes = λ t image start end left. h.kept.prefixes t image (omega (arith, start, upto)) end left; now = h.kept.now };
+        rises = omega arith;
+        kept = keeps_since (ShowsHistory opening) [] t0 new.clock new upto h.kept;
         works = h.works;
       }
   recorded_now (Err e) opened = tt

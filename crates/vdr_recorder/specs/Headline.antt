@@ -6,7 +6,7 @@ use Rattle.vdr_terms.specs.Order.{AreInOrder}
 use Rattle.vdr_terms.specs.Queries.{Medium, Query}
 use Rattle.vdr_terms.specs.Queries.Medium.{WindowOf, Incident}
 use Rattle.vdr_core.specs.Histories.{Event, Opening, IsHistory, all_records, incidents, live}
-use Rattle.vdr_durability.specs.Keeping.{IsWhole, Keeps, ShowsPrefix}
+use Rattle.vdr_durability.specs.Keeping.{IsWhole, Keeps, RiseFrom, ShowsPrefix}
 use Rattle.vdr_durability.specs.Shown.{Shows}
 use Rattle.vdr_durability.specs.Playback.{selected}
 use Rattle.vdr_outside.specs.Disk.{Disk, Image}
@@ -52,6 +52,9 @@ pub record Headline {tells tells_images : Type 0} (opening : Opening) (shows : L
   pub after_entry : before.clock ≤ synced
   pub before_exit : synced ≤ after.clock
   pub kept : Keeps shows events synced after
+  -- up to then nothing of the recording is to be seen, and none of its events came
+  pub none_yet : (i : Image) → after.until synced i → before.until before.clock i ⊎ shows [] i
+  pub rises : RiseFrom synced after.clock events
   -- this clock and the events that were done are those that an object outside was told
   pub heard : hears → IsHeard opening events synced before w
 

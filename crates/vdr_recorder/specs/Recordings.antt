@@ -5,7 +5,7 @@ use Rattle.vdr_core.specs.Runs.{RunStart}
 use Rattle.vdr_core.specs.Taken.{Captured}
 use Rattle.vdr_core.specs.RunStates.{IsRecorderHistory, has_failed, state_left}
 use Rattle.vdr_durability.specs.Media.{IsMediumOf}
-use Rattle.vdr_durability.specs.Keeping.{Keeps, ShowsPrefix, moment_of}
+use Rattle.vdr_durability.specs.Keeping.{Keeps, RiseFrom, ShowsPrefix, moment_of}
 use Rattle.vdr_outside.specs.Disk.{Disk}
 use Rattle.vdr_outside.specs.Moments.{AtEachMoment}
 use Rattle.vdr_config.specs.Configuration.{IsConfiguration}
@@ -56,13 +56,14 @@ module _ {tells tells_images : Type 0} where
     pub open_is : r.is_open ≡ (state_left opening events).is_open
     pub makes : r.is_open ≡ true → MakesBy r.vault.config (state_left opening events).start (state_left opening events).popped r.maker
 
-  -- The events are a recorder's history, and the media keep it since t0. The vault of this state tells of it, and where no write has failed
+  -- The events are a recorder's history, none of which came before t0, and the media keep it since then. The vault of this state tells of it, and where no write has failed
   -- the state works on it.
   pub record HasHistory {S : Type 0} (vault_of : S → VaultState) (s : S) (opening : Opening) (events : List Event) (t0 : ℕ) (disk : Disk tells tells_images) (works_on : S → Type 0) : Type 0 where
     pub history : IsHistory opening events
     pub made : IsRecorderHistory opening events
     pub failed : (vault_of s).failed ≡ has_failed events
     pub told : TellsLeft opening events (vault_of s)
+    pub rises : RiseFrom t0 disk.clock events
     pub kept : Keeps (ShowsHistory opening) events t0 disk
     pub works : (vault_of s).failed ≡ false → works_on s
 

@@ -1,7 +1,7 @@
 // The calls of a recorder that somebody is told of.
 //
 // Each is the call of its name, told once it is done and before it is answered.
-ghost use Rattle.std.specs.Prelude.{◌≡◌, ◌≤◌, ◌⊎◌, ◌++◌, ℕ, List, [], true, false, length, not, Err, IfOk, OnErr};
+ghost use Rattle.std.specs.Prelude.{◌≡◌, ◌≤◌, ◌⊎◌, ◌++◌, ℕ, List, [], true, false, length, not, Ok, Err, IfOk, OnErr};
 ghost use Rattle.vdr_terms.specs.Records.{Record as Entry};
 ghost use Rattle.vdr_core.specs.Histories.{Event, Incident, Opening, live};
 ghost use Rattle.vdr_core.specs.Histories.Act.{Commit, Look, Release as Releasing};
@@ -17,22 +17,22 @@ ghost use Rattle.vdr_opening.specs.Media.{Contents, HoldsContents, HoldsParts, m
 ghost use Rattle.vdr_run.specs.Making.{CountsItems, Makes, rest_of};
 ghost use Rattle.vdr_vault.specs.Keeps.{FailsWhere, FreesSlot, MeetsDamage, PutsIncident, RefusesRelease, RefusesSave, StopsAtFault, WritesToBoth, WritesToLongTerm};
 ghost use Rattle.vdr_vault.specs.Openings.{OpensAtEachMoment, ReachesLongTerm, RefusesMedia, WritesMissing};
-ghost use Rattle.vdr_vault.specs.Plays.{ReadsNoOther};
+ghost use Rattle.vdr_vault.specs.Plays.{ReadsNoOther, TellsDamageOf};
+ghost use Rattle.vdr_visit.specs.Prints.{whole_text};
 ghost use Rattle.vdr_visit.specs.Refusals.{HasOutputCause, IsAccepted, lacks_channel, lacks_incident};
+ghost use Rattle.vdr_vault.specs.Visits.{HasVisited};
 ghost use Rattle.vdr_vault.specs.Regularity.{AreSound};
 ghost use Rattle.vdr_vault.specs.Vaults.{AreRings, ShowsHistory};
 ghost use Rattle.vdr_vault.specs.declared.refused.SaveRefused.TheVariants.{Fault as AFault};
-ghost use Rattle.vdr_visit.specs.declared.visit_refused.VisitRefused.TheVariants.{Fault as AVisitFault, NoChannel, NoIncident, Output};
+ghost use Rattle.vdr_visit.specs.declared.visit_refused.VisitRefused.TheVariants.{Damaged, Fault as AVisitFault, NoChannel, NoIncident, Output};
 ghost use Rattle.vdr_recorder.specs.Calls.{BeginsRun, EndsRun, FitBatch, FitClose, GoesOnWith, KeepsRecorder, OpensRecorder, RefusesStart, StaysBelowLimits, WritesStart};
 ghost use Rattle.vdr_recorder.specs.Looks.{HasLooked};
-ghost use Rattle.vdr_recorder.specs.Playing.{HasPlayed};
 ghost use Rattle.vdr_recorder.specs.Recordings.{HasRecorded};
 ghost use Rattle.vdr_recorder.specs.Watched.{DoneAndTold, HearsOpening, IsWatched, ReleaseTold, SaveTold, ShowsTold, plain, told_if, turn_of_release, turn_of_save, with_turn};
 ghost use Rattle.vdr_recorder.specs.declared.run.StartRefused.TheVariants.{Place, Tick};
 
 use crate::{Recorder, StartRefused, Turn, Watch};
 use std::alloc::Global;
-use std::convert::Infallible;
 use vdr_entry::Query;
 use vdr_incident::ReleaseRefused;
 use vdr_intake::Captured;
@@ -40,7 +40,7 @@ use vdr_opening::OpenRefused;
 use vdr_outside::{Fault, Media, Sink};
 use vdr_terms::Counts;
 use vdr_vault::SaveRefused;
-use vdr_visit::VisitRefused;
+use vdr_visit::{VisitRefused, Visitor};
 
 // Tells of a turn, where it is to be told.
 fn tell<M: Media, W: Watch<M>>(watch: &mut W, media: &M, told: bool, did: Turn<'_>)
@@ -228,28 +228,32 @@ impl Recorder {
         released
     }
 
-    /// Prints records as `play` does, and tells of the look.
-    pub fn play_watched<M: Media, W: Watch<M>, O: Sink>(
+    /// Hands records to a visitor as `visit` does, and tells of the look.
+    pub fn visit_watched<M: Media, W: Watch<M>, V: Visitor, O: Sink>(
         &mut self,
         media: &mut M,
         watch: &mut W,
         query: &Query,
+        visitor: &mut V,
         out: &mut O,
-    ) -> Result<(), VisitRefused<Infallible>>
+    ) -> Result<(), VisitRefused<V::Reason>>
         requires rings { AreRings self.old.vault (M.disk media.old).sizes }
         requires watched { IsWatched W.hears (W.seen watch.old) self.old (M.disk media.old) }
         ensures accepted { IsAccepted (lacks_channel (length self.old.vault.config.channels) query.now.channel) (lacks_incident self.old.vault.table (asked query.now).medium) result }
-        ensures played { HasPlayed (asked query.now) self.old.vault (M.disk media.old) (O.taken out.old) (O.taken out.new) result }
-        ensures unread { (result ≡ Err NoChannel) ⊎ (result ≡ Err NoIncident) → (self.new ≡ self.old) × (media.new ≡ media.old) × (out.new ≡ out.old) }
+        ensures visited { (first : V) → V.has first [] visitor.old
+            → HasVisited (asked query.now) self.old.vault (M.disk media.old) (λ seen. V.has first seen visitor.new) (V.stops first) (V.line first) (whole_text (V.line first) (V.last first))
+            (O.taken out.old) (O.taken out.new) result }
+        ensures damage { TellsDamageOf (asked query.now) self.old.vault (M.disk media.old) (λ m offset. result ≡ Err (Damaged m offset)) (result ≡ Ok tt) }
+        ensures unread { (result ≡ Err NoChannel) ⊎ (result ≡ Err NoIncident) → (self.new ≡ self.old) × (media.new ≡ media.old) × (visitor.new ≡ visitor.old) × (out.new ≡ out.old) }
         ensures looked { HasLooked (asked query.now) self.old self.new (M.disk media.old) (M.disk media.new) (M.bytes_read media.old) (M.bytes_read media.new) (M.faults media.old) (M.faults media.new) (result ≡ Err AVisitFault) }
         ensures told { (opening : Opening) (events : List Event) (t0 : ℕ) → HasRecorded opening events t0 self.old (M.disk media.old)
             → DoneAndTold W.hears opening events t0 Look self.new (M.disk media.old) (M.disk media.new) (W.seen watch.old) (W.seen watch.new) }
         ensures output { HasOutputCause (O.faults out.old) (O.faults out.new) (result ≡ Err Output) }
         ensures watched { IsWatched W.hears (W.seen watch.new) self.new (M.disk media.new) }
     {
-        let played = self.play(media, query, out);
+        let visited = self.visit(media, query, visitor, out);
         tell(watch, media, !self.failed(), Turn::Look);
-        played
+        visited
     }
 
     /// Tells of a turn in which the recorder was asked, and no call was made on the media.

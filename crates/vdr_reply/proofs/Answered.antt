@@ -1,12 +1,12 @@
 -- What the recorder's answers come to as replies of its history.
-use Rattle.std.proofs.Common.{◌≡◌, ◌⊎◌, inl, inr, ◌&&◌, not, ℕ, Bool, true, false, List, Option, Some, None, Result, Ok, Err, cond, refl, sym, ap, ◌∙◌, subst}
-use Rattle.std.specs.Prelude.{IfOk, count_by, is_none, is_some, option_map, position, suc, ⊤}
+use Rattle.std.proofs.Common.{◌≡◌, ◌⊎◌, inl, inr, ◌&&◌, ◌++◌, not, ℕ, Bool, true, false, List, Option, Some, None, Result, Ok, Err, cond, refl, sym, ap, ◌∙◌, subst}
+use Rattle.std.specs.Prelude.{codes, IfOk, count_by, is_none, is_some, option_map, position, suc, ⊤}
 use Rattle.std.proofs.lemmas.Bool.{cond-false, cond-true}
 use Rattle.vdr_core.specs.Histories.{Act, Event, Incident, MayCome, Opening, incidents, last_stamp, live}
 use Rattle.vdr_core.specs.Histories.Act.{Look, Release, Save}
 use Rattle.vdr_core.specs.Runs.{Stamp, last_tick}
 use Rattle.vdr_durability.specs.Keeping.{moment_of}
-use Rattle.vdr_durability.specs.Replies.{Reply, act_of, answer_before, release_reply, reply, save_of, save_reply}
+use Rattle.vdr_durability.specs.Replies.{act_of, release_reply, reply, save_of, save_reply}
 use Rattle.vdr_durability.specs.Replies as replies
 use Rattle.vdr_durability.specs.Replies.Reply.{Saved, NoLabel, NothingToSave, TableFull, Failed}
 use Rattle.vdr_terms.specs.Texts.{is_label}
@@ -20,28 +20,34 @@ use Rattle.vdr_vault.specs.Vaults.{Stands, of_stamp}
 use Rattle.vdr_vault.specs.declared.refused.SaveRefused.{SaveRefused}
 use Rattle.vdr_vault.specs.declared.refused.SaveRefused.TheVariants as saves
 use Rattle.vdr_control.specs.Orders.{PlainOrder}
-use Rattle.vdr_control.specs.Orders.PlainOrder.{Status as StatusOrder, Save as SaveOrder, Release as ReleaseOrder, Play as PlayOrder}
+use Rattle.vdr_control.specs.Orders.PlainOrder.{Status as StatusOrder, Save as SaveOrder, Release as ReleaseOrder, Incidents as IncidentsOrder, Play as PlayOrder, Tell as TellOrder}
 use Rattle.vdr_recorder.specs.Recordings.{HasRecorded, RecorderState}
 use Rattle.vdr_recorder.specs.Watched.{DoneAndTold, Watched, id_or_0}
 use Rattle.vdr_recorder.specs.Watched.PlainTurn.{Look as ALook}
 use Rattle.vdr_run.specs.Starts.{stamp_of}
 use Rattle.vdr_recorder.proofs.Answering.{same_disk}
 use Rattle.vdr_recorder.proofs.Looking.{look_done}
-use Rattle.vdr_reply.specs.Answers.{HasAnswered, Spells}
-use Rattle.vdr_reply.specs.Orders.{changes, granted_act, is_granted, order_of}
-use Rattle.vdr_reply.specs.Texts.{fault_line, id_line, release_line, save_line, state_line, text_of}
+use Rattle.vdr_reply.specs.Answers.{HasAnswered, LacksMemory, Spells, text_at}
+use Rattle.vdr_reply.specs.Orders.{act_after, changes, granted_act, is_granted, text_after}
+use Rattle.vdr_reply.specs.Texts.{IsTextOr9, done_line, fault_line, id_line, memory_line, page_text, release_line, save_line, state_line, text_of, with_end}
+use Rattle.vdr_teller.specs.Incidents.{incidents_text}
 use Rattle.vdr_recorder.proofs.Coming.{come_last, same_some, save_is}
 use Rattle.vdr_recorder.proofs.Telling.{done_told}
 
 -- a reply, as the media work or have failed by then
-pub said_working : (failed : Bool) (clock : ℕ) (answer : Reply) → failed ≡ false → answer_before (moment_of failed clock) answer ≡ answer
-said_working failed clock answer works = ap (λ (b : Bool). answer_before (moment_of b clock) answer) works
+pub said_working : (failed : Bool) (clock : ℕ) (said : List ℕ) → failed ≡ false → text_at (moment_of failed clock) said ≡ said
+said_working failed clock said works = ap (λ (b : Bool). text_at (moment_of b clock) said) works
 
-pub said_failed : (failed : Bool) (clock : ℕ) (answer : Reply) → failed ≡ true → answer_before (moment_of failed clock) answer ≡ Failed
-said_failed failed clock answer fails = ap (λ (b : Bool). answer_before (moment_of b clock) answer) fails
+pub said_failed : (failed : Bool) (clock : ℕ) (said : List ℕ) → failed ≡ true → text_at (moment_of failed clock) said ≡ fault_line
+said_failed failed clock said fails = ap (λ (b : Bool). text_at (moment_of b clock) said) fails
 
 no_moment : (failed : Bool) (clock : ℕ) → failed ≡ true → moment_of failed clock ≡ None
 no_moment failed clock fails = ap (λ (b : Bool). moment_of b clock) fails
+
+-- a page with its end
+pub page_is : (told : List ℕ) → done_line ++ told ++ codes ".\n" ≡ page_text told
+unfolding page_text
+page_is told = refl
 
 tick_is : (o : Option Stamp) → last_tick (option_map stamp_of (option_map of_stamp o)) ≡ last_tick o
 tick_is None = refl
@@ -67,38 +73,40 @@ module _ {tells tells_images : Type 0} (opening : Opening) (events : List Event)
     (channels : List Selector) (met_fault : Type 0) (text : List ℕ) (hears : Type 0) (was heard : Watched) where
   -- an order that is a look
   pub looked_answer : (order : PlainOrder) (after : RecorderState) (new : Disk tells tells_images) → changes order r.vault ≡ false → DoneAndTold hears opening events t0 Look after old new was heard
-      → (act_of opening events (order_of channels order) (reply members opening events (order_of channels order)) ≡ Look) ⊎ (after.vault.failed ≡ true)
-      → Spells met_fault order (answer_before (moment_of after.vault.failed new.clock) (reply members opening events (order_of channels order))) text
+      → (act_after opening events order ≡ Look) ⊎ (after.vault.failed ≡ true)
+      → Spells met_fault order (text_at (moment_of after.vault.failed new.clock) (text_after channels opening events order)) text
       → HasAnswered channels met_fault opening events t0 order text r after old new hears was heard
   looked_answer order after new none d act is = record { done = subst (λ (act : Act). DoneAndTold hears opening events t0 act after old new was heard) (sym looks) d; answer = record { act_is = acts act; text_is = is } }
     where
       looks : cond (changes order r.vault) (granted_act opening events order) Look ≡ Look
       looks = cond-false (changes order r.vault) (granted_act opening events order) Look none
 
-      acts : (act_of opening events (order_of channels order) (reply members opening events (order_of channels order)) ≡ Look) ⊎ (after.vault.failed ≡ true)
-          → (cond (changes order r.vault) (granted_act opening events order) Look ≡ act_of opening events (order_of channels order) (reply members opening events (order_of channels order)))
+      acts : (act_after opening events order ≡ Look) ⊎ (after.vault.failed ≡ true)
+          → (cond (changes order r.vault) (granted_act opening events order) Look ≡ act_after opening events order)
           ⊎ ((cond (changes order r.vault) (granted_act opening events order) Look ≡ Look) × (moment_of after.vault.failed new.clock ≡ None))
       acts (inl a) = inl (looks ∙ sym a)
       acts (inr fails) = inr (looks, no_moment after.vault.failed new.clock fails)
 
   -- an order that was answered with nothing called
   pub still_answer : (order : PlainOrder) → DoneAndTold hears opening events t0 Look r old old was heard → changes order r.vault ≡ false
-      → (act_of opening events (order_of channels order) (reply members opening events (order_of channels order)) ≡ Look) ⊎ (r.vault.failed ≡ true)
-      → Spells met_fault order (answer_before (moment_of r.vault.failed old.clock) (reply members opening events (order_of channels order))) text
+      → (act_after opening events order ≡ Look) ⊎ (r.vault.failed ≡ true)
+      → Spells met_fault order (text_at (moment_of r.vault.failed old.clock) (text_after channels opening events order)) text
       → HasAnswered channels met_fault opening events t0 order text r r old old hears was heard
   still_answer order d none act is = looked_answer order r old none d act is
 
   -- each order after a fault
   pub failed_answer : (order : PlainOrder) → r.vault.failed ≡ true → text ≡ fault_line → (hears → heard ≡ was) → HasAnswered channels met_fault opening events t0 order text r r old old hears was heard
   failed_answer order fails is untold = still_answer order (done_told opening events t0 Look r old old
-      (look_done opening events t0 r old old h r.vault (same_disk old) refl refl refl refl refl (λ placed stands. stands)) {hears = hears} ALook was heard false (ap not fails) (λ works. refl) untold) (ap (λ (b : Bool). not b && is_granted order r.vault) fails) (inr fails) (spelled order (said_failed r.vault.failed old.clock (reply members opening events (order_of channels order)) fails))
+      (look_done opening events t0 r old old h r.vault (same_disk old) refl refl refl refl refl (λ placed stands. stands)) {hears = hears} ALook was heard false (ap not fails) (λ works. refl) untold) (ap (λ (b : Bool). not b && is_granted order r.vault) fails) (inr fails) (spelled order (said_failed r.vault.failed old.clock (text_after channels opening events order) fails))
     where
-      spelled : (order : PlainOrder) → answer_before (moment_of r.vault.failed old.clock) (reply members opening events (order_of channels order)) ≡ Failed
-          → Spells met_fault order (answer_before (moment_of r.vault.failed old.clock) (reply members opening events (order_of channels order))) text
-      spelled StatusOrder e = is ∙ ap text_of (sym e)
-      spelled (SaveOrder label) e = is ∙ ap text_of (sym e)
-      spelled (ReleaseOrder id) e = is ∙ ap text_of (sym e)
-      spelled (PlayOrder medium name from to) e = inl (is ∙ ap text_of (sym e))
+      spelled : (order : PlainOrder) → text_at (moment_of r.vault.failed old.clock) (text_after channels opening events order) ≡ fault_line
+          → Spells met_fault order (text_at (moment_of r.vault.failed old.clock) (text_after channels opening events order)) text
+      spelled StatusOrder e = is ∙ sym e
+      spelled (SaveOrder label) e = is ∙ sym e
+      spelled (ReleaseOrder id) e = is ∙ sym e
+      spelled IncidentsOrder e = inl (is ∙ sym e)
+      spelled (PlayOrder medium name from to) e = inl (is ∙ sym e)
+      spelled (TellOrder medium telling) e = inl (is ∙ sym e)
 
   module _ (works : r.vault.failed ≡ false) where
     stands : Stands opening events r.vault (h.works works).standing.placed old
@@ -112,13 +120,28 @@ module _ {tells tells_images : Type 0} (opening : Opening) (events : List Event)
 
     pub status_answer : DoneAndTold hears opening events t0 Look r old old was heard → text ≡ state_line r.vault.next_place (last_tick (option_map stamp_of r.vault.last)) (count_by is_some r.vault.table)
         → HasAnswered channels met_fault opening events t0 StatusOrder text r r old old hears was heard
-    status_answer d is = still_answer StatusOrder d (unchanged StatusOrder refl) (inl refl) (is ∙ told ∙ ap text_of (sym (said_working r.vault.failed old.clock (reply members opening events replies.Order.Status) works)))
+    status_answer d is = still_answer StatusOrder d (unchanged StatusOrder refl) (inl refl) (is ∙ told ∙ sym (said_working r.vault.failed old.clock (text_after channels opening events StatusOrder) works))
       where
         tick : last_tick (option_map stamp_of r.vault.last) ≡ last_tick (last_stamp opening events)
         tick = ap (λ (o : Option (ℕ × _)). last_tick (option_map stamp_of o)) stands.newest ∙ tick_is (last_stamp opening events)
 
         told : state_line r.vault.next_place (last_tick (option_map stamp_of r.vault.last)) (count_by is_some r.vault.table) ≡ text_of (reply members opening events replies.Order.Status)
         told = λ i. state_line (stands.goes_on i) (tick i) (count_by is_some (stands.incidents_are i))
+
+    -- the live incidents, and where there was no memory for them
+    pub incidents_answer : (page : List ℕ) → DoneAndTold hears opening events t0 Look r old old was heard → page ≡ done_line ++ incidents_text r.vault.table → IsTextOr9 (with_end page) text
+        → HasAnswered channels met_fault opening events t0 IncidentsOrder text r r old old hears was heard
+    incidents_answer page d made ends = still_answer IncidentsOrder d (unchanged IncidentsOrder refl) (inl refl) (by ends)
+      where
+        said : text_at (moment_of r.vault.failed old.clock) (text_after channels opening events IncidentsOrder) ≡ page_text (incidents_text r.vault.table)
+        said = said_working r.vault.failed old.clock (text_after channels opening events IncidentsOrder) works ∙ ap (λ (t : List (Option Incident)). page_text (incidents_text t)) (sym stands.incidents_are)
+
+        by : IsTextOr9 (with_end page) text → Spells met_fault IncidentsOrder (text_at (moment_of r.vault.failed old.clock) (text_after channels opening events IncidentsOrder)) text
+        by (inl all) = inl (all ∙ ap (λ (l : List ℕ). l ++ codes ".\n") made ∙ page_is (incidents_text r.vault.table) ∙ sym said)
+        by (inr none) = inr (none, incidents_text r.vault.table, said)
+
+    pub no_memory_for_incidents : DoneAndTold hears opening events t0 Look r old old was heard → text ≡ memory_line → HasAnswered channels met_fault opening events t0 IncidentsOrder text r r old old hears was heard
+    no_memory_for_incidents d is = incidents_answer (done_line ++ incidents_text r.vault.table) d refl (inr is)
 
     module _ (after : RecorderState) (new : Disk tells tells_images) where
       pub save_answer : (label : List ℕ) (saved : Result ℕ SaveRefused) → text ≡ save_line saved
@@ -139,16 +162,16 @@ module _ {tells tells_images : Type 0} (opening : Opening) (events : List Event)
           judged = λ i. refusal_from (is_label label) (stands.newest i) (position is_none (stands.incidents_are i))
 
           text_by : (res : Result ℕ SaveRefused) → saved ≡ res → save_refusal label r.vault ≡ None → (id : ℕ) → reply members opening events (replies.Order.Save label) ≡ Saved id → IfOk res (λ told. told ≡ id)
-              → text ≡ text_of (answer_before (moment_of after.vault.failed new.clock) (reply members opening events (replies.Order.Save label)))
+              → text ≡ text_at (moment_of after.vault.failed new.clock) (text_after channels opening events (SaveOrder label))
           text_by (Ok told) e none id answer same =
               is ∙ ap save_line e ∙ ap id_line same ∙ ap text_of (sym answer)
-              ∙ ap text_of (sym (said_working after.vault.failed new.clock (reply members opening events (replies.Order.Save label)) (goes (λ f. let no : ⊥ = cc in no))))
+              ∙ sym (said_working after.vault.failed new.clock (text_after channels opening events (SaveOrder label)) (goes (λ f. let no : ⊥ = cc in no)))
           text_by (Err saves.Label) e none id answer same = let some = reason saves.Label e (inl refl) in let no : ⊥ = cc in absurd no
           text_by (Err saves.Nothing) e none id answer same = let some = reason saves.Nothing e (inr (inl refl)) in let no : ⊥ = cc in absurd no
           text_by (Err saves.TableFull) e none id answer same = let some = reason saves.TableFull e (inr (inr refl)) in let no : ⊥ = cc in absurd no
           text_by (Err (saves.Damaged m offset)) e none id answer same = absurd (undamaged m offset e)
           text_by (Err saves.Fault) e none id answer same =
-              is ∙ ap save_line e ∙ ap text_of (sym (said_failed after.vault.failed new.clock (reply members opening events (replies.Order.Save label)) (fails e)))
+              is ∙ ap save_line e ∙ sym (said_failed after.vault.failed new.clock (text_after channels opening events (SaveOrder label)) (fails e))
 
           by_refusal : (o : Option SaveRefused) → save_refusal label r.vault ≡ o → HasAnswered channels met_fault opening events t0 order text r after old new hears was heard
           by_refusal (Some x) e =
@@ -156,7 +179,7 @@ module _ {tells tells_images : Type 0} (opening : Opening) (events : List Event)
               let same = refused x e in
               let good : after.vault.failed ≡ false = ap (λ (s : RecorderState). s.vault.failed) same.1 ∙ works in
               looked_answer order after new (unchanged order (ap is_none e)) (looked x e) (inl (so.1 opening events label))
-              (is ∙ ap save_line same.0 ∙ sym so.0 ∙ ap text_of (sym (said_working after.vault.failed new.clock (reply members opening events (replies.Order.Save label)) good)))
+              (is ∙ ap save_line same.0 ∙ sym so.0 ∙ sym (said_working after.vault.failed new.clock (text_after channels opening events (SaveOrder label)) good))
           by_refusal None e =
               let s = keeps e undamaged in
               let d = s.4 in
@@ -187,20 +210,20 @@ module _ {tells tells_images : Type 0} (opening : Opening) (events : List Event)
           answer_by o e = ap release_reply (ap (λ (t : List (Option Incident)). live t id) (sym stands.incidents_are) ∙ e)
 
           text_by : (res : Result ⊤ ReleaseRefused) → released ≡ res → (saved : Incident) → live r.vault.table id ≡ Some saved
-              → text ≡ text_of (answer_before (moment_of after.vault.failed new.clock) (reply members opening events (replies.Order.Release id)))
+              → text ≡ text_at (moment_of after.vault.failed new.clock) (text_after channels opening events (ReleaseOrder id))
           text_by (Ok x) e saved some =
               is ∙ ap release_line e ∙ ap text_of (sym (answer_by (Some saved) some))
-              ∙ ap text_of (sym (said_working after.vault.failed new.clock (reply members opening events (replies.Order.Release id)) (goes (λ f. let no : ⊥ = cc in no))))
+              ∙ sym (said_working after.vault.failed new.clock (text_after channels opening events (ReleaseOrder id)) (goes (λ f. let no : ⊥ = cc in no)))
           text_by (Err releases.NoSuch) e saved some = let none = reason e in let no : ⊥ = cc in absurd no
           text_by (Err releases.Fault) e saved some =
-              is ∙ ap release_line e ∙ ap text_of (sym (said_failed after.vault.failed new.clock (reply members opening events (replies.Order.Release id)) (fails e)))
+              is ∙ ap release_line e ∙ sym (said_failed after.vault.failed new.clock (text_after channels opening events (ReleaseOrder id)) (fails e))
 
           by_live : (o : Option Incident) → live r.vault.table id ≡ o → HasAnswered channels met_fault opening events t0 order text r after old new hears was heard
           by_live None e =
               let same = refused e in
               let good : after.vault.failed ≡ false = ap (λ (s : RecorderState). s.vault.failed) same.1 ∙ works in
               looked_answer order after new (unchanged order (ap is_some e)) (looked e) (inl (ap (act_of opening events (replies.Order.Release id)) (answer_by None e)))
-              (is ∙ ap release_line same.0 ∙ ap text_of (sym (answer_by None e)) ∙ ap text_of (sym (said_working after.vault.failed new.clock (reply members opening events (replies.Order.Release id)) good)))
+              (is ∙ ap release_line same.0 ∙ ap text_of (sym (answer_by None e)) ∙ sym (said_working after.vault.failed new.clock (text_after channels opening events (ReleaseOrder id)) good))
           by_live (Some saved) e =
               let act : cond (changes order r.vault) (granted_act opening events order) Look ≡ granted_act opening events order = cond-true (changes order r.vault) (granted_act opening events order) Look (changed order (ap is_some e)) in
               record {

@@ -1,30 +1,40 @@
 -- What an order is answered, and the event that it is (this project's profile).
-use Rattle.std.specs.Prelude.{◌≡◌, ◌⊎◌, ℕ, Bool, true, List, cond, sum, None}
+use Rattle.std.specs.Prelude.{◌≡◌, ◌⊎◌, ℕ, Bool, true, List, cond, sum, Option, Some, None}
 use Rattle.vdr_core.specs.Histories.{Act, Event, Opening}
 use Rattle.vdr_durability.specs.Keeping.{moment_of}
-use Rattle.vdr_durability.specs.Replies.{Reply, act_of, reply, reply_with}
 use Rattle.vdr_outside.specs.Causes.{NoneFalls, Rose}
 use Rattle.vdr_outside.specs.Disk.{Disk}
 use Rattle.vdr_config.specs.Configuration.{Selector}
-use Rattle.vdr_opening.specs.Media.{members}
 use Rattle.vdr_control.specs.Orders.{PlainOrder}
-use Rattle.vdr_control.specs.Orders.PlainOrder.{Status, Save, Release, Play}
+use Rattle.vdr_control.specs.Orders.PlainOrder.{Status, Save, Release, Incidents, Play, Tell}
 use Rattle.vdr_recorder.specs.Recordings.{RecorderState}
 use Rattle.vdr_recorder.specs.Watched.{DoneAndTold, Watched}
-use Rattle.vdr_reply.specs.Orders.{changes, granted_act, order_of}
-use Rattle.vdr_reply.specs.Texts.{fault_line, memory_line, text_of}
+use Rattle.vdr_reply.specs.Orders.{act_after, changes, granted_act, text_after}
+use Rattle.vdr_reply.specs.Texts.{fault_line, memory_line, page_text}
 
--- The order is answered by this reply. A play may be answered otherwise where a read has failed, and for want of memory.
-abbrev pub Spells : (met_fault : Type 0) → PlainOrder → Reply → List ℕ → Type 0
-Spells met_fault Status reply text = text ≡ text_of reply
-Spells met_fault (Save label) reply text = text ≡ text_of reply
-Spells met_fault (Release id) reply text = text ≡ text_of reply
-Spells met_fault (Play medium name from to) reply text = (text ≡ text_of reply) ⊎ (((text ≡ fault_line) × met_fault) ⊎ (text ≡ memory_line))
+-- The text of an order whose event has this moment. One without met a fault, or came after one that did.
+abbrev pub text_at : Option ℕ → (text : List ℕ) → List ℕ
+text_at None text = fault_line
+text_at (Some moment) text = text
+
+-- There was no memory, where a page was to be told: what is refused needs none.
+abbrev pub LacksMemory : (said text : List ℕ) → Type 0
+LacksMemory said text = (text ≡ memory_line) × (told : List ℕ) × (said ≡ page_text told)
+
+-- The order is answered by what is to be said. What reads the records of media may be answered otherwise where a read has failed, and each
+-- page for want of memory.
+abbrev pub Spells : (met_fault : Type 0) → PlainOrder → (said text : List ℕ) → Type 0
+Spells met_fault Status said text = text ≡ said
+Spells met_fault (Save label) said text = text ≡ said
+Spells met_fault (Release id) said text = text ≡ said
+Spells met_fault Incidents said text = (text ≡ said) ⊎ LacksMemory said text
+Spells met_fault (Play medium name from to) said text = (text ≡ said) ⊎ (((text ≡ fault_line) × met_fault) ⊎ LacksMemory said text)
+Spells met_fault (Tell medium telling) said text = (text ≡ said) ⊎ (((text ≡ fault_line) × met_fault) ⊎ LacksMemory said text)
 
 -- This event is the order's, and the text is its reply: both are functions of the events before it. After a fault it is a look.
 pub record IsAnswer (channels : List Selector) (met_fault : Type 0) (opening : Opening) (before : List Event) (own : Event) (order : PlainOrder) (text : List ℕ) : Type 0 where
-  pub act_is : (own.act ≡ act_of opening before (order_of channels order) (reply members opening before (order_of channels order))) ⊎ ((own.act ≡ Act.Look) × (own.moment ≡ None))
-  pub text_is : Spells met_fault order (reply_with members opening before own (order_of channels order)) text
+  pub act_is : (own.act ≡ act_after opening before order) ⊎ ((own.act ≡ Act.Look) × (own.moment ≡ None))
+  pub text_is : Spells met_fault order (text_at own.moment (text_after channels opening before order)) text
 
 module _ {tells tells_images : Type 0} where
   -- The order was one event after these, was told where it was done, and was answered so.

@@ -1,17 +1,24 @@
 -- The orders of lines as the history knows them, and what they change (this project's profile).
-use Rattle.std.specs.Prelude.{ℕ, ℤ, List, Bool, false, ◌&&◌, ◌||◌, not, is_some, is_none, position, bytes_eq, codes, if◌then◌else◌, Option, None}
+use Rattle.std.specs.Prelude.{◌≡◌, ℕ, ℤ, List, Bool, true, false, ◌&&◌, ◌||◌, not, is_some, is_none, position, bytes_eq, codes, if◌then◌else◌, Option, None}
 use Rattle.vdr_terms.specs.Queries.{Query}
-use Rattle.vdr_core.specs.Histories.{Act, Event, Opening, live}
+use Rattle.vdr_terms.specs.Records.{Record}
+use Rattle.vdr_core.specs.Histories.{Act, Event, Opening, incidents, live}
 use Rattle.vdr_durability.specs.Replies as replies
-use Rattle.vdr_durability.specs.Replies.{free_id, save_of}
+use Rattle.vdr_durability.specs.Replies.{act_of, free_id, reply, save_of}
 use Rattle.vdr_config.specs.Configuration.{Selector}
 use Rattle.vdr_entry.specs.Queries.{asked_medium}
 use Rattle.vdr_entry.specs.declared.query.Medium.{Medium}
+use Rattle.vdr_opening.specs.Media.{members}
+use Rattle.vdr_play.specs.Streams.{nothing_seen}
+use Rattle.vdr_play.specs.Texts.{records_text}
 use Rattle.vdr_control.specs.Orders.{PlainOrder}
-use Rattle.vdr_control.specs.Orders.PlainOrder.{Status, Save, Release, Play}
+use Rattle.vdr_control.specs.Orders.PlainOrder.{Status, Save, Release, Incidents, Play, Tell}
 use Rattle.vdr_recorder.specs.Watched.{id_or_0}
+use Rattle.vdr_teller.specs.Incidents.{incidents_text}
+use Rattle.vdr_teller.specs.Tellings.{query_told, told_text}
 use Rattle.vdr_vault.specs.Vaults.{VaultState}
 use Rattle.vdr_vault.specs.Saves.{save_refusal}
+use Rattle.vdr_reply.specs.Texts.{page_text, text_of, text_with}
 
 -- The name that stands for every record. No channel has it.
 abbrev pub is_every : (name : List ℕ) → Bool
@@ -28,19 +35,45 @@ abbrev pub query_of : List Selector → Medium → (name : List ℕ) → (from t
 query_of channels medium name from to =
     record { medium = asked_medium medium; channel = if is_every name then None else channel_in channels name; from = from; to = to }
 
--- The order, where these channels are configured.
-abbrev pub order_of : List Selector → PlainOrder → replies.Order
-order_of channels Status = replies.Order.Status
-order_of channels (Save label) = replies.Order.Save label
-order_of channels (Release id) = replies.Order.Release id
-order_of channels (Play medium name from to) = replies.Order.Play (is_named channels name) (query_of channels medium name from to)
+-- The text that an order is answered after these events, where these channels are configured and the media have not failed. The records of a
+-- medium are told as the command of that name tells them, and the live incidents are those of the history.
+abbrev pub text_after : List Selector → Opening → List Event → PlainOrder → List ℕ
+text_after channels opening events Status = text_of (reply members opening events replies.Order.Status)
+text_after channels opening events (Save label) = text_of (reply members opening events (replies.Order.Save label))
+text_after channels opening events (Release id) = text_of (reply members opening events (replies.Order.Release id))
+text_after channels opening events Incidents = page_text (incidents_text (incidents opening events))
+text_after channels opening events (Play medium name from to) =
+    text_of (reply members opening events (replies.Order.Play (is_named channels name) (query_of channels medium name from to)))
+text_after channels opening events (Tell medium telling) =
+    text_with (told_text telling) (reply members opening events (replies.Order.Play true (query_told medium telling)))
+
+-- Its act. What only reads is a look.
+abbrev pub act_after : Opening → List Event → PlainOrder → Act
+act_after opening events Status = Act.Look
+act_after opening events (Save label) = act_of opening events (replies.Order.Save label) (reply members opening events (replies.Order.Save label))
+act_after opening events (Release id) = act_of opening events (replies.Order.Release id) (reply members opening events (replies.Order.Release id))
+act_after opening events Incidents = Act.Look
+act_after opening events (Play medium name from to) = Act.Look
+act_after opening events (Tell medium telling) = Act.Look
+
+-- After these events the order has the records of this query told by this text.
+abbrev pub AsksToTell : List Selector → Opening → List Event → PlainOrder → Query → (List Record → List ℕ) → Type 0
+AsksToTell channels opening events (Play medium name from to) query told =
+    (is_named channels name ≡ true) × (query ≡ query_of channels medium name from to) × ((records : List Record) → told records ≡ records_text nothing_seen records)
+AsksToTell channels opening events (Tell medium telling) query told = (query ≡ query_told medium telling) × ((records : List Record) → told records ≡ told_text telling records)
+AsksToTell channels opening events Status query told = ⊥
+AsksToTell channels opening events (Save label) query told = ⊥
+AsksToTell channels opening events (Release id) query told = ⊥
+AsksToTell channels opening events Incidents query told = ⊥
 
 -- The order changes what the vault holds: a save that nothing stands in the way of, or a release of a live incident.
 abbrev pub is_granted : PlainOrder → VaultState → Bool
 is_granted Status vault = false
 is_granted (Save label) vault = is_none (save_refusal label vault)
 is_granted (Release id) vault = is_some (live vault.table id)
+is_granted Incidents vault = false
 is_granted (Play medium name from to) vault = false
+is_granted (Tell medium telling) vault = false
 
 abbrev pub changes : PlainOrder → VaultState → Bool
 changes order vault = not vault.failed && is_granted order vault
@@ -50,4 +83,6 @@ abbrev pub granted_act : Opening → List Event → PlainOrder → Act
 granted_act opening events Status = Act.Look
 granted_act opening events (Save label) = save_of opening events label (id_or_0 (free_id opening events))
 granted_act opening events (Release id) = Act.Release id
+granted_act opening events Incidents = Act.Look
 granted_act opening events (Play medium name from to) = Act.Look
+granted_act opening events (Tell medium telling) = Act.Look

@@ -37,22 +37,27 @@ id_line id = codes "OK " ++ decimal id ++ codes "\n"
 abbrev pub done_line : List ℕ
 done_line = codes "OK\n"
 
--- Records as they are played, and a point on a line of its own.
-unfoldable pub page_text : List Record → List ℕ
-page_text records = done_line ++ records_text nothing_seen records ++ codes ".\n"
+-- What is told, and a point on a line of its own behind it.
+unfoldable pub page_text : (told : List ℕ) → List ℕ
+page_text told = done_line ++ told ++ codes ".\n"
 
+-- A reply, where records are told so.
+abbrev pub text_with : (told : List Record → List ℕ) → Reply → List ℕ
+text_with told (State next_place tick incidents) = state_line next_place tick incidents
+text_with told (Saved id) = id_line id
+text_with told Released = done_line
+text_with told (Played records) = page_text (told records)
+text_with told NoLabel = codes "REFUSED 12 label\n"
+text_with told NothingToSave = codes "REFUSED 12 nothing\n"
+text_with told TableFull = codes "REFUSED 12 full\n"
+text_with told NoChannel = not_there_line
+text_with told NoMedium = not_there_line
+text_with told NoIncident = not_there_line
+text_with told Failed = fault_line
+
+-- A reply, where records are played.
 abbrev pub text_of : Reply → List ℕ
-text_of (State next_place tick incidents) = state_line next_place tick incidents
-text_of (Saved id) = id_line id
-text_of Released = done_line
-text_of (Played records) = page_text records
-text_of NoLabel = codes "REFUSED 12 label\n"
-text_of NothingToSave = codes "REFUSED 12 nothing\n"
-text_of TableFull = codes "REFUSED 12 full\n"
-text_of NoChannel = not_there_line
-text_of NoMedium = not_there_line
-text_of NoIncident = not_there_line
-text_of Failed = fault_line
+text_of reply = text_with (λ records. records_text nothing_seen records) reply
 
 -- The line of a save, by what the recorder answered.
 abbrev pub save_line : Result ℕ SaveRefused → List ℕ
@@ -69,13 +74,21 @@ release_line (Ok done) = text_of Released
 release_line (Err releases.NoSuch) = text_of NoIncident
 release_line (Err releases.Fault) = text_of Failed
 
--- What is sent for a play that was answered so, of a page with this text so far: the page with its end, unless there is no memory for it. The
--- page's only failure is want of memory, and a player never stops by itself.
-abbrev pub IsPlayed : {R : Type 0} → Result ⊤ (VisitRefused R) → (page text : List ℕ) → Type 0
-IsPlayed (Ok done) page text = (text ≡ page ++ codes ".\n") ⊎ (text ≡ memory_line)
-IsPlayed (Err visits.NoChannel) page text = text ≡ not_there_line
-IsPlayed (Err visits.NoIncident) page text = text ≡ not_there_line
-IsPlayed (Err visits.Fault) page text = text ≡ fault_line
-IsPlayed (Err (visits.Damaged m offset)) page text = text ≡ damage_line
-IsPlayed (Err visits.Output) page text = text ≡ memory_line
-IsPlayed (Err (visits.Own reason)) page text = ⊥
+-- It is this text, unless there is no memory for it.
+abbrev pub IsTextOr9 : (whole text : List ℕ) → Type 0
+IsTextOr9 whole text = (text ≡ whole) ⊎ (text ≡ memory_line)
+
+-- A page with its end.
+abbrev pub with_end : (page : List ℕ) → List ℕ
+with_end page = page ++ codes ".\n"
+
+-- What is sent for a visit that ended so, where this page is sent as this text. The only failure of a page, and the only reason for which a
+-- visitor stops by itself, is want of memory.
+abbrev pub IsTold : {R : Type 0} → (sent : List ℕ → List ℕ) → Result ⊤ (VisitRefused R) → (page text : List ℕ) → Type 0
+IsTold sent (Ok done) page text = IsTextOr9 (sent page) text
+IsTold sent (Err visits.NoChannel) page text = text ≡ not_there_line
+IsTold sent (Err visits.NoIncident) page text = text ≡ not_there_line
+IsTold sent (Err visits.Fault) page text = text ≡ fault_line
+IsTold sent (Err (visits.Damaged m offset)) page text = text ≡ damage_line
+IsTold sent (Err visits.Output) page text = text ≡ memory_line
+IsTold sent (Err (visits.Own reason)) page text = text ≡ memory_line

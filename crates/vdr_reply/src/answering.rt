@@ -15,7 +15,9 @@ ghost use Rattle.vdr_recorder.specs.Watched.{IsWatched};
 ghost use Rattle.vdr_reply.specs.Answers.{HasAnswered, HasOrderCause, LeavesRest};
 
 use crate::lines::{FAULT, of_release, of_save, of_state};
+use crate::listing::answer_incidents;
 use crate::playing::{Wanted, answer_play};
+use crate::telling::answer_tell;
 use std::alloc::Global;
 use vdr_control::Order;
 use vdr_desk::Reply;
@@ -79,8 +81,9 @@ fn answer_release<M: Media, W: Watch<M>>(
 /// Answers an order. It is one event of the recorder's history: a save or a release that is granted, and else a look. The reply is a function
 /// of the history before that event. The watch is told of it before the reply is made, unless it met a fault.
 ///
-/// Once the media have failed each order is answered `FAULT 5`, as is the one that met the fault. A play reads its page into memory: it is
-/// answered `FAULT 5` too where a read fails, and `FAULT 9` where there is no memory for the page.
+/// Once the media have failed each order is answered `FAULT 5`, as is the one that met the fault. What is played, told or listed is read into
+/// memory: it is answered `FAULT 5` too where a read fails, and `FAULT 9` where there is no memory for its page, or for a table that it tells.
+/// What is refused needs no memory.
 pub fn answer<M: Media, W: Watch<M>>(
     alloc: Global,
     recorder: &mut Recorder,
@@ -107,6 +110,10 @@ pub fn answer<M: Media, W: Watch<M>>(
         Order::Status => answer_status(recorder, media, watch),
         Order::Save(label) => answer_save(recorder, media, watch, label),
         Order::Release(id) => answer_release(recorder, media, watch, id),
+        Order::Incidents => answer_incidents(alloc, recorder, media, watch),
+        Order::Tell { medium, telling } => {
+            answer_tell(alloc, recorder, media, watch, medium, telling)
+        }
         Order::Play {
             medium,
             channel,

@@ -5,7 +5,9 @@
 
 mod answering;
 mod lines;
+mod listing;
 mod page;
 mod playing;
+mod telling;
 
 pub use answering::answer;

@@ -1,8 +1,10 @@
-// The text of a play on its way to a link.
+// A text of several lines on its way to a link.
 ghost use Rattle.std.specs.Prelude.{◌≡◌, ◌++◌, IfOk, Some, codes};
-ghost use Rattle.vdr_reply.specs.Texts.{done_line};
+ghost use Rattle.vdr_reply.specs.Texts.{IsTextOr9, done_line, with_end};
 
+use crate::lines::NO_MEMORY;
 use std::alloc::{AllocError, Global};
+use vdr_desk::Reply;
 use vdr_outside::{Failed, Sink};
 
 /// A page in memory. It fails where there is no memory for it.
@@ -23,8 +25,8 @@ impl Page {
         Ok(Page { bytes, refused: 0 })
     }
 
-    /// The page with its last line.
-    pub(crate) fn end(self) -> Result<Vec<u8>, AllocError>
+    // The page with its last line.
+    fn end(self) -> Result<Vec<u8>, AllocError>
         ensures { IfOk result (λ bytes. bytes.items ≡ self.bytes.items ++ codes ".\n") }
     {
         let Page {
@@ -33,6 +35,16 @@ impl Page {
         } = self;
         bytes.extend_from_slice(b".\n")?;
         Ok(bytes)
+    }
+
+    /// The page with its last line, as the reply. Where there is no memory for it, that is the reply.
+    pub(crate) fn reply(self) -> Reply
+        ensures { IsTextOr9 (with_end self.bytes.items) result }
+    {
+        match self.end() {
+            Ok(bytes) => Reply::of_page(bytes),
+            Err(_) => Reply::of_line(NO_MEMORY),
+        }
     }
 }
 

@@ -1,10 +1,6 @@
 // Playing what was recorded, over a link.
-//
-// The page is made in memory within the turn and goes out after it, so that the latch is not held while a peer
-// reads.
-ghost use Rattle.std.specs.Prelude.{◌≡◌, ℕ, IfSome, IfNone, false, true, sum};
+ghost use Rattle.std.specs.Prelude.{◌≡◌, ℕ, List, IfSome, IfNone, false, true, sum};
 ghost use Rattle.vdr_core.specs.Histories.{Event, Opening};
-ghost use Rattle.std.specs.Prelude.{List};
 ghost use Rattle.vdr_outside.specs.Causes.{Rose};
 ghost use Rattle.vdr_entry.specs.Queries.{asked};
 ghost use Rattle.vdr_vault.specs.Calls.{SameElsewhere};
@@ -14,17 +10,14 @@ ghost use Rattle.vdr_recorder.specs.Recordings.{HasRecorded};
 ghost use Rattle.vdr_recorder.specs.Watched.{IsWatched};
 ghost use Rattle.vdr_reply.specs.Answers.{HasAnswered, HasOrderCause, LeavesRest};
 ghost use Rattle.vdr_reply.specs.Orders.{is_named, query_of};
-ghost use Rattle.vdr_reply.specs.Texts.{IsPlayed};
 
-use crate::lines::{DAMAGED, FAULT, NO_MEMORY, NOT_THERE};
-use crate::page::Page;
+use crate::lines::NOT_THERE;
+use crate::telling::tell;
 use std::alloc::Global;
-use std::convert::Infallible;
 use vdr_desk::Reply;
 use vdr_entry::{Medium, Query};
 use vdr_outside::Media;
-use vdr_recorder::{Recorder, Watch};
-use vdr_visit::VisitRefused;
+use vdr_recorder::{Player, Recorder, Watch};
 
 /// The channel's name that stands for every record.
 const EVERY: &[u8] = b"all";
@@ -62,24 +55,7 @@ fn query_of(recorder: &Recorder, wanted: Wanted<'_>) -> Option<Query>
     Some(query)
 }
 
-// What a play comes to: the page with its end, or the line of a refusal.
-fn of_played(played: Result<(), VisitRefused<Infallible>>, page: Page) -> Reply
-    ensures { IsPlayed played page.bytes.items result }
-{
-    match played {
-        Ok(()) => match page.end() {
-            Ok(bytes) => Reply::of_page(bytes),
-            Err(_) => Reply::of_line(NO_MEMORY),
-        },
-        Err(VisitRefused::NoChannel | VisitRefused::NoIncident) => Reply::of_line(NOT_THERE),
-        Err(VisitRefused::Fault) => Reply::of_line(FAULT),
-        Err(VisitRefused::Damaged { .. }) => Reply::of_line(DAMAGED),
-        Err(VisitRefused::Output) => Reply::of_line(NO_MEMORY),
-        Err(VisitRefused::Own(never)) => match never {},
-    }
-}
-
-/// Answers a play, on media that have not failed. The page is made in memory, so that the recorder is free again before it is sent.
+/// Answers a play, on media that have not failed.
 pub(crate) fn answer_play<M: Media, W: Watch<M>>(
     alloc: Global,
     recorder: &mut Recorder,
@@ -104,10 +80,5 @@ pub(crate) fn answer_play<M: Media, W: Watch<M>>(
         recorder.look_watched(media, watch);
         return Reply::of_line(NOT_THERE);
     };
-    let Ok(mut page) = Page::begin(alloc) else {
-        recorder.look_watched(media, watch);
-        return Reply::of_line(NO_MEMORY);
-    };
-    let played = recorder.play_watched(media, watch, &query, &mut page);
-    of_played(played, page)
+    tell(alloc, recorder, media, watch, &query, &mut Player::new())
 }

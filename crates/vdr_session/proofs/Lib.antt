@@ -18,6 +18,7 @@ pub mod Faults
 pub mod Closes
 pub mod Ends
 pub mod Refused
+pub mod Memoryless
 pub mod SessionHistory
 pub mod Sessions
 pub mod Replied

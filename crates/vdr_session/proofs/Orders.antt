@@ -9,12 +9,11 @@ use Rattle.vdr_core.specs.Histories.{Act, Event, Opening, records_of_act}
 use Rattle.vdr_core.specs.Runs.{base_after}
 use Rattle.vdr_core.specs.RunStates.{RunState, after_act}
 use Rattle.vdr_core.specs.Taken.{Captured}
-use Rattle.vdr_durability.specs.Replies.{Reply}
 use Rattle.vdr_outside.specs.Causes.{Rose}
 use Rattle.vdr_outside.specs.Disk.{Disk}
 use Rattle.vdr_config.specs.Configuration.{Selector}
 use Rattle.vdr_control.specs.Orders.{PlainOrder}
-use Rattle.vdr_control.specs.Orders.PlainOrder.{Status, Save, Release, Play}
+use Rattle.vdr_control.specs.Orders.PlainOrder.{Status, Save, Release, Incidents, Play, Tell}
 use Rattle.vdr_vault.specs.Vaults.{VaultState}
 use Rattle.vdr_run.specs.declared.maker.Maker.{Maker}
 use Rattle.vdr_run.specs.Making.{counted_of}
@@ -25,7 +24,7 @@ use Rattle.vdr_recorder.specs.Watched.{DoneAndTold, IsWatched, Watched}
 use Rattle.vdr_recorder.proofs.Continuing.{has_moment}
 use Rattle.vdr_reply.specs.Answers.{HasAnswered, IsAnswer, LeavesRest, Spells}
 use Rattle.vdr_reply.specs.Orders.{changes, granted_act}
-use Rattle.vdr_reply.proofs.Played.{and_false}
+use Rattle.vdr_reply.proofs.Told.{and_false}
 use Rattle.vdr_session.specs.declared.mark.Did.TheVariants as dids
 use Rattle.vdr_session.specs.declared.mark.Mark.{Mark}
 use Rattle.vdr_session.specs.Answering.{AnswersMark, did_for, order_mark, rose_in}
@@ -42,7 +41,9 @@ begins_none false true order = refl
 begins_none true c Status = refl
 begins_none true c (Save label) = refl
 begins_none true c (Release id) = refl
+begins_none true c Incidents = refl
 begins_none true c (Play medium name from to) = refl
+begins_none true c (Tell medium telling) = refl
 
 takes_none : (b c : Bool) (order : PlainOrder) → taken_by (cond b (did_for order) (cond c dids.Miss dids.Look)) ≡ []
 takes_none false false order = refl
@@ -50,7 +51,9 @@ takes_none false true order = refl
 takes_none true c Status = refl
 takes_none true c (Save label) = refl
 takes_none true c (Release id) = refl
+takes_none true c Incidents = refl
 takes_none true c (Play medium name from to) = refl
+takes_none true c (Tell medium telling) = refl
 
 pub follows : (b c : Bool) (order : PlainOrder) → leads (cond b (did_for order) (cond c dids.Miss dids.Look)) ≡ false
 follows false false order = refl
@@ -58,7 +61,9 @@ follows false true order = refl
 follows true c Status = refl
 follows true c (Save label) = refl
 follows true c (Release id) = refl
+follows true c Incidents = refl
 follows true c (Play medium name from to) = refl
+follows true c (Tell medium telling) = refl
 
 misses_so : (b c : Bool) (order : PlainOrder) → misses (cond b (did_for order) (cond c dids.Miss dids.Look)) ≡ true → c ≡ true
 misses_so false false order e = absurd (true≢false (sym e))
@@ -66,7 +71,9 @@ misses_so false true order e = refl
 misses_so true c Status e = absurd (true≢false (sym e))
 misses_so true c (Save label) e = absurd (true≢false (sym e))
 misses_so true c (Release id) e = absurd (true≢false (sym e))
+misses_so true c Incidents e = absurd (true≢false (sym e))
 misses_so true c (Play medium name from to) e = absurd (true≢false (sym e))
+misses_so true c (Tell medium telling) e = absurd (true≢false (sym e))
 
 missed_so : (b c : Bool) (order : PlainOrder) → b ≡ false → c ≡ true → misses (cond b (did_for order) (cond c dids.Miss dids.Look)) ≡ true
 missed_so false false order none e = absurd (true≢false (sym e))
@@ -81,30 +88,40 @@ act_is opening taken events false true order = refl
 act_is opening taken events true c Status = refl
 act_is opening taken events true c (Save label) = refl
 act_is opening taken events true c (Release id) = refl
+act_is opening taken events true c Incidents = refl
 act_is opening taken events true c (Play medium name from to) = refl
+act_is opening taken events true c (Tell medium telling) = refl
 
 records_none : (opening : Opening) (events : List Event) (b : Bool) (order : PlainOrder) → records_of_act (cond b (granted_act opening events order) Act.Look) ≡ []
 records_none opening events false order = refl
 records_none opening events true Status = refl
 records_none opening events true (Save label) = refl
 records_none opening events true (Release id) = refl
+records_none opening events true Incidents = refl
 records_none opening events true (Play medium name from to) = refl
+records_none opening events true (Tell medium telling) = refl
 
 leaves_state : (opening : Opening) (events : List Event) (b : Bool) (order : PlainOrder) (t : RunState) → after_act t (cond b (granted_act opening events order) Act.Look) ≡ t
 leaves_state opening events false order t = refl
 leaves_state opening events true Status t = refl
 leaves_state opening events true (Save label) t = refl
 leaves_state opening events true (Release id) t = refl
+leaves_state opening events true Incidents t = refl
 leaves_state opening events true (Play medium name from to) t = refl
+leaves_state opening events true (Tell medium telling) t = refl
 
--- with another cause of a fault, which counts for a play alone
-spelled_so : (A B : Type 0) (order : PlainOrder) (vault : VaultState) (reply : Reply) (text : List ℕ) → (changes order vault ≡ false → A → B) → Spells A order reply text → Spells B order reply text
-spelled_so A B Status vault reply text so h = h
-spelled_so A B (Save label) vault reply text so h = h
-spelled_so A B (Release id) vault reply text so h = h
-spelled_so A B (Play medium name from to) vault reply text so (inl h) = inl h
-spelled_so A B (Play medium name from to) vault reply text so (inr (inl h)) = inr (inl (h.0, so (and_false vault.failed) h.1))
-spelled_so A B (Play medium name from to) vault reply text so (inr (inr h)) = inr (inr h)
+-- with another cause of a fault, which counts for what reads media alone
+spelled_so : (A B : Type 0) (order : PlainOrder) (vault : VaultState) (said text : List ℕ) → (changes order vault ≡ false → A → B) → Spells A order said text → Spells B order said text
+spelled_so A B Status vault said text so h = h
+spelled_so A B (Save label) vault said text so h = h
+spelled_so A B (Release id) vault said text so h = h
+spelled_so A B Incidents vault said text so h = h
+spelled_so A B (Play medium name from to) vault said text so (inl h) = inl h
+spelled_so A B (Play medium name from to) vault said text so (inr (inl h)) = inr (inl (h.0, so (and_false vault.failed) h.1))
+spelled_so A B (Play medium name from to) vault said text so (inr (inr h)) = inr (inr h)
+spelled_so A B (Tell medium telling) vault said text so (inl h) = inl h
+spelled_so A B (Tell medium telling) vault said text so (inr (inl h)) = inr (inl (h.0, so (and_false vault.failed) h.1))
+spelled_so A B (Tell medium telling) vault said text so (inr (inr h)) = inr (inr h)
 
 module _ {tells tells_images : Type 0} (before : Before) (began : Opening → ℕ → Type 0) (rates : List (Option Rate)) (room : ℕ) (sizes faults : List ℕ) (marks : List Mark) (w w' : Watched) (r : RecorderState)
     (old : Disk tells tells_images) (was : List ℕ) (k : IsKept before began rates room sizes faults marks w r old was) (desk : ℕ) (order : PlainOrder) (text : List ℕ) (after : RecorderState) (new : Disk tells tells_images) (now : List ℕ)

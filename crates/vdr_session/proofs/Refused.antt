@@ -1,5 +1,5 @@
 -- A run that is refused before the latch is made, and what is told of it.
-use Rattle.std.proofs.Common.{◌≡◌, ◌≢◌, ◌⊎◌, inl, inr, ◌<◌, ◌≤◌, ◌^◌, ℕ, ℤ, Bool, true, false, List, [], Option, None, option_map, refl, sym, ap, ◌∙◌, subst, arith}
+use Rattle.std.proofs.Common.{◌≡◌, ◌≢◌, ◌⊎◌, inl, inr, ◌<◌, ◌≤◌, ◌^◌, ℕ, ℤ, Bool, true, false, List, [], Option, None, option_map, refl, sym, ap, ◌∙◌, subst, arith, ◌↔◌}
 use Rattle.std.specs.Prelude.{sum}
 use Rattle.std.proofs.lemmas.List.Elements.{All-nil}
 use Rattle.vdr_terms.specs.Records.{none_missed}
@@ -49,7 +49,7 @@ fault_told starts.Fault ne unrefused = refl
 module _ {P : Type 0} (port_tells : PortTells P) {tells tells_images : Type 0} (turns : ℕ) (configured : ℕ → Bool) (queues : List (Option QueueId)) (takers : List (Option Taking)) (lanes : List (Lane P)) (before : Before) (opened : Opening → ℕ → Type 0)
     (sizes faults : List ℕ) (beside : Began → List Mark → Type 0) (rests : (began : Began) → (began ≡ starts.Begun → ⊥) → beside began []) (r : RecorderState) (disk : Disk tells tells_images) (now : List ℕ) (w : Watched)
     (sizes_are : disk.sizes ≡ sizes) (faults_are : now ≡ faults) (heard : w ≡ before.heard)
-    (was : (before.clock ≡ disk.clock) × ((i : Image) → disk.now i → before.now i) × ((t : ℕ) (i : Image) → disk.since t i → before.since t i) × (disk.reads ≡ before.reads))
+    (was : (before.clock ≡ disk.clock) × ((i : Image) → disk.now i → before.now i) × ((t : ℕ) (i : Image) → disk.since t i → before.since t i) × (disk.reads ≡ before.reads) × ((t : ℕ) (i : Image) → disk.until t i ↔ before.until t i))
     (has : (opening : Opening) (t0 : ℕ) → opened opening t0 → HasRecorded opening [] t0 r disk) where
   -- no event was made
   ends : (outcome : Outcome) → (outcome ≡ Done → ⊥) → (opening : Opening) (t0 : ℕ) → opened opening t0 → EndsRun before opening [] t0 (λ _. none_missed) outcome r disk w
@@ -62,6 +62,7 @@ module _ {P : Type 0} (port_tells : PortTells P) {tells tells_images : Type 0} (
       later = (let c = was.0 in omega (arith, c));
       each = λ i since. inl (was.1 i (disk.only_now i (subst (λ (t : ℕ). disk.since t i) was.0 since)));
       earlier = λ t i early since. inl (was.2 t i since);
+      past = λ t i early. was.4 t i;
     };
     heard = tells_none (λ _. heard);
     pending = inl (All-nil (λ (e : Event). e.moment ≢ None));

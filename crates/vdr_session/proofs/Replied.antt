@@ -4,13 +4,12 @@ use Rattle.std.proofs.lemmas.List.{length-append}
 use Rattle.vdr_core.specs.Histories.{Event, Opening}
 use Rattle.vdr_core.specs.Taken.{Captured}
 use Rattle.vdr_terms.specs.declared.counts.Counts.{Counts}
-use Rattle.vdr_durability.specs.Replies.{Reply}
 use Rattle.vdr_outside.specs.declared.link.Link.{Ghosts as LinkTells}
 use Rattle.vdr_outside.specs.Disk.{Disk}
 use Rattle.vdr_config.specs.Configuration.{Selector}
 use Rattle.vdr_capture.specs.declared.sums.Outcome.{Outcome}
 use Rattle.vdr_control.specs.Orders.{PlainOrder}
-use Rattle.vdr_control.specs.Orders.PlainOrder.{Status, Save, Release, Play}
+use Rattle.vdr_control.specs.Orders.PlainOrder.{Status, Save, Release, Incidents, Play, Tell}
 use Rattle.vdr_recorder.specs.Recordings.{RecorderState}
 use Rattle.vdr_recorder.specs.Watched.{Watched}
 use Rattle.vdr_desk.specs.declared.desk.Desk.{Desk}
@@ -63,13 +62,17 @@ event_at opening before own behind =
     )
 
 -- with another cause of a fault
-spelled_so : (A B : Type 0) (order : PlainOrder) (reply : Reply) (text : List ℕ) → (A → B) → Spells A order reply text → Spells B order reply text
-spelled_so A B Status reply text so h = h
-spelled_so A B (Save label) reply text so h = h
-spelled_so A B (Release id) reply text so h = h
-spelled_so A B (Play medium name from to) reply text so (inl h) = inl h
-spelled_so A B (Play medium name from to) reply text so (inr (inl h)) = inr (inl (h.0, so h.1))
-spelled_so A B (Play medium name from to) reply text so (inr (inr h)) = inr (inr h)
+spelled_so : (A B : Type 0) (order : PlainOrder) (said text : List ℕ) → (A → B) → Spells A order said text → Spells B order said text
+spelled_so A B Status said text so h = h
+spelled_so A B (Save label) said text so h = h
+spelled_so A B (Release id) said text so h = h
+spelled_so A B Incidents said text so h = h
+spelled_so A B (Play medium name from to) said text so (inl h) = inl h
+spelled_so A B (Play medium name from to) said text so (inr (inl h)) = inr (inl (h.0, so h.1))
+spelled_so A B (Play medium name from to) said text so (inr (inr h)) = inr (inr h)
+spelled_so A B (Tell medium telling) said text so (inl h) = inl h
+spelled_so A B (Tell medium telling) said text so (inr (inl h)) = inr (inl (h.0, so h.1))
+spelled_so A B (Tell medium telling) said text so (inr (inr h)) = inr (inr h)
 
 pub answer_so : {channels : List Selector} {A B : Type 0} {opening : Opening} {before : List Event} {own : Event} {order : PlainOrder} {text : List ℕ} → (A → B) → IsAnswer channels A opening before own order text → IsAnswer channels B opening before own order text
 answer_so {A = A} {B = B} {order = order} {text = text} so a = record { act_is = a.act_is; text_is = spelled_so A B order _ text so a.text_is }

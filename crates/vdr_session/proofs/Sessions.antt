@@ -28,6 +28,7 @@ use Rattle.vdr_recorder.specs.Recordings.{HasRecorded, RecorderState, start_of_o
 use Rattle.vdr_recorder.specs.Watched.{Watched}
 use Rattle.vdr_recorder.proofs.Continuing.{left_place}
 use Rattle.vdr_recorder.proofs.Resting.{stand_reads}
+use Rattle.vdr_recorder.proofs.Passing.{passes_first}
 use Rattle.vdr_desk.proofs.Lists.{no_default}
 use Rattle.vdr_session.specs.declared.mark.Mark.{Mark}
 use Rattle.vdr_session.specs.declared.records.Began.{Began}
@@ -75,7 +76,7 @@ module _ {P : Type 0} (port_tells : PortTells P) {tells tells_images : Type 0} (
     (orig old new : List (Lane P)) (recorder : RecorderState) (at_first : Disk tells tells_images) (sizes faults : List ℕ) (beside : Began → List Mark → Type 0) (outcome : Outcome) (r : RecorderState) (disk : Disk tells tells_images) (now : List ℕ) (hears : Type 0) (heard w : Watched) (end : SessionEnd)
     (conf : (g : ℕ) → g < 16 → get_or configured g false ≡ is_configured (limits_in rates g)) (lengths : (length orig ≡ 16) × (length old ≡ 16) × (length new ≡ 16))
     (set : (g : ℕ) (d : Lane P) → g < 16 → IsSetUp (get_or configured g false) g capacity (get_or queues g None) (get_or first g None) (get_or orig g d) (get_or old g d))
-    (e : HasEnded port_tells turns (λ g. is_configured (limits_in rates g)) queues first last old new (record { clock = at_first.clock; now = at_first.now; since = at_first.since; reads = at_first.reads; channels = recorder.vault.config.channels; hears = hears; heard = heard })
+    (e : HasEnded port_tells turns (λ g. is_configured (limits_in rates g)) queues first last old new (record { clock = at_first.clock; now = at_first.now; since = at_first.since; until = at_first.until; reads = at_first.reads; channels = recorder.vault.config.channels; hears = hears; heard = heard })
     (λ opening t0. HasRecorded opening [] t0 recorder at_first) sizes faults beside outcome r disk now w)
     (ports : IsWithFailures outcome end.outcome)
     (sums : (start : RunStart) (popped : List Captured) → CountsItems start popped r.maker → (g : ℕ) (d : Lane P) → g < 16 → is_some (get_or queues g None) ≡ true
@@ -98,7 +99,7 @@ module _ {P : Type 0} (port_tells : PortTells P) {tells tells_images : Type 0} (
       (closes : e.began ≡ starts.Begun → has_fault e.marks ≡ false → (g : ℕ) (d : Lane P) → g < 16
       → LaneGave port_tells turns g (get_or queues g None) (get_or last g None) (get_or old g d) (get_or new g d) (given g) (e.rest g) × (of_group g items ≡ popped_by (get_or last g None)) × IsDrained (get_or last g None)) where
     module _ (opening : Opening) (t0 : ℕ) (told : tells) (h : HasRecorded opening [] t0 recorder at_first) where
-      run : EndsRun (record { clock = at_first.clock; now = at_first.now; since = at_first.since; reads = at_first.reads; channels = recorder.vault.config.channels; hears = hears; heard = heard }) opening e.marks t0 e.rest outcome r disk w
+      run : EndsRun (record { clock = at_first.clock; now = at_first.now; since = at_first.since; until = at_first.until; reads = at_first.reads; channels = recorder.vault.config.channels; hears = hears; heard = heard }) opening e.marks t0 e.rest outcome r disk w
       run = (e.told told opening t0 h).0
 
       abbrev records : List Record
@@ -167,7 +168,8 @@ module _ {P : Type 0} (port_tells : PortTells P) {tells tells_images : Type 0} (
           history = run.has.history;
           made = run.has.made;
           kept = run.has.kept;
-          passes = record { later = run.passes.later; each = run.passes.each; before = run.passes.earlier };
+          rises = run.has.rises;
+          passes = record { later = run.passes.later; each = run.passes.each; before = run.passes.earlier; past = run.passes.past };
           pending = pending_told outcome end.outcome ports run.pending;
           means = outcome_means opening e.began outcome end.outcome e.told_as ports (e.told told opening t0 h).1;
           reads = λ closed told.
@@ -339,7 +341,8 @@ no_memory_session {P} tells {media_tells} {images} turns capacity rates old new 
           history = h.history;
           made = h.made;
           kept = h.kept;
-          passes = record { later = omega arith; each = λ i since. inl (disk.only_now i since); before = λ t i early since. inl since };
+          rises = h.rises;
+          passes = passes_first opening [] disk;
           pending = inl (All-nil (λ (e : Event). e.moment ≢ None));
           means = subst (OutcomeMeans opening) (sym is) tt;
           reads = λ closed. absurd (true≢false (sym closed ∙ open_));

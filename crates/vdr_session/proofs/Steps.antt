@@ -1,5 +1,5 @@
 -- A recorder under the latch after one more mark.
-use Rattle.std.proofs.Common.{◌≡◌, ◌≢◌, ◌⊎◌, inl, inr, ◌<◌, ◌≤◌, ◌+◌, ◌*◌, ◌^◌, ◌++◌, ◌&&◌, ◌||◌, ℕ, Bool, true, false, true≢false, List, [], ◌∷◌, Option, None, length, filter, is_some, not, if◌then◌else◌, ⊎_elim, refl, sym, ap, ◌∙◌, subst, arith, append-nil}
+use Rattle.std.proofs.Common.{◌≡◌, ◌≢◌, ◌⊎◌, inl, inr, ◌<◌, ◌≤◌, ◌+◌, ◌*◌, ◌^◌, ◌++◌, ◌&&◌, ◌||◌, ℕ, Bool, true, false, true≢false, List, [], ◌∷◌, Option, None, length, filter, is_some, not, if◌then◌else◌, ⊎_elim, refl, sym, ap, ◌∙◌, subst, arith, append-nil, ◌↔◌}
 use Rattle.std.specs.Prelude.{sum}
 use Rattle.std.proofs.lemmas.Bool.{cases_Bool, cond-false, cond-true}
 use Rattle.std.proofs.lemmas.Grind.{flat_map-append}
@@ -61,6 +61,10 @@ module _ {tells tells_images : Type 0} (before : Before) (opening : Opening) whe
         (λ (was : old.since t i). ⊎_elim (λ (h : before.since t i). inl h) (λ (h : Possible before opening events i). inr (weaker i h)) (p.earlier t i early was))
         (λ h. inr (in_call i h))
         (q.before t i (omega (arith, early, p.later)) since);
+    past = λ t i early.
+        let q_past = q.past t i (omega (arith, early, p.later)) in
+        let p_past = p.past t i early in
+        ((λ left. p_past.0 (q_past.0 left)), (λ left. q_past.1 (p_past.1 left)));
   }
     where
       weaker : (i : Image) → Possible before opening events i → Possible before opening (events ++ e ∷ []) i
@@ -397,7 +401,7 @@ module _ {tells tells_images : Type 0} (before : Before) (began : Opening → �
   -- before any turn
   pub first_kept : (r : RecorderState) (disk : Disk tells tells_images) (now : List ℕ) → (r.vault.config.groups ≡ rates) × (r.vault.config.batch ≡ room) × (length rates ≡ 16)
       → r.vault.config.channels ≡ before.channels → AreRings r.vault disk.sizes → (r.is_open ≡ false) × (r.vault.failed ≡ false) → MayStart r.vault → disk.sizes ≡ sizes → now ≡ faults
-      → (before.clock ≡ disk.clock) × ((i : Image) → disk.now i → before.now i) × ((t : ℕ) (i : Image) → disk.since t i → before.since t i) × (disk.reads ≡ before.reads)
+      → (before.clock ≡ disk.clock) × ((i : Image) → disk.now i → before.now i) × ((t : ℕ) (i : Image) → disk.since t i → before.since t i) × (disk.reads ≡ before.reads) × ((t : ℕ) (i : Image) → disk.until t i ↔ before.until t i)
       → ((opening : Opening) (t0 : ℕ) → began opening t0 → HasRecorded opening [] t0 r disk) → IsWatched before.hears before.heard r disk → IsKept before began rates room sizes faults [] before.heard r disk now
   first_kept r disk now config channels rings new may sizes_are faults_are was has watched = record {
     watched = watched;
@@ -421,6 +425,7 @@ module _ {tells tells_images : Type 0} (before : Before) (began : Opening → �
         later = (let c = was.0 in omega (arith, c));
         each = λ i since. inl (was.1 i (disk.only_now i (subst (λ (t : ℕ). disk.since t i) was.0 since)));
         earlier = λ t i early since. inl (was.2 t i since);
+        past = λ t i early. was.4 t i;
       };
       heard = tells_none (λ heard. refl);
     };

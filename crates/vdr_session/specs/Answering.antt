@@ -4,7 +4,7 @@ use Rattle.vdr_core.specs.Histories.{Opening}
 use Rattle.vdr_durability.specs.Keeping.{moment_of}
 use Rattle.vdr_config.specs.Configuration.{Selector}
 use Rattle.vdr_control.specs.Orders.{PlainOrder}
-use Rattle.vdr_control.specs.Orders.PlainOrder.{Status, Save, Release, Play}
+use Rattle.vdr_control.specs.Orders.PlainOrder.{Status, Save, Release, Incidents, Play, Tell}
 use Rattle.vdr_vault.specs.Vaults.{VaultState}
 use Rattle.vdr_reply.specs.Answers.{IsAnswer}
 use Rattle.vdr_reply.specs.Orders.{changes}
@@ -19,7 +19,9 @@ abbrev pub did_for : PlainOrder → Did
 did_for Status = dids.Look
 did_for (Save label) = dids.Save label
 did_for (Release id) = dids.Release id
+did_for Incidents = dids.Look
 did_for (Play medium name from to) = dids.Look
+did_for (Tell medium telling) = dids.Look
 
 -- A count of faults rose.
 abbrev pub rose_in : (before now : ℕ) → Bool

@@ -12,7 +12,7 @@ use Rattle.vdr_core.specs.Recorder.{closed_run, recorder_after}
 use Rattle.vdr_core.specs.RunStates.{IsRecorderHistory}
 use Rattle.vdr_core.specs.Runs.{RunStart, base_after, base_of}
 use Rattle.vdr_core.specs.Taken.{AllFeed, Captured}
-use Rattle.vdr_durability.specs.Keeping.{IsWhole, Keeps}
+use Rattle.vdr_durability.specs.Keeping.{IsWhole, Keeps, RiseFrom}
 use Rattle.vdr_intake.specs.Ends.{QueueId, Taking, full_of}
 use Rattle.vdr_outside.specs.Causes.{NoneFalls, Rose}
 use Rattle.vdr_outside.specs.Disk.{Disk}
@@ -155,6 +155,7 @@ module _ {tells tells_images : Type 0} where
     pub history : IsHistory opening events
     pub made : IsRecorderHistory opening events
     pub kept : Keeps (ShowsHistory opening) events t0 after
+    pub rises : RiseFrom t0 after.clock events
     pub passes : Passes opening events before after
     pub pending : IsWhole events ⊎ (outcome ≡ MediaFault)
     pub means : OutcomeMeans opening outcome

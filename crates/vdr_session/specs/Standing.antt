@@ -1,5 +1,5 @@
 -- A recorder under the latch, after these marks.
-use Rattle.std.specs.Prelude.{◌≡◌, ◌≢◌, ◌≤◌, ◌<◌, ◌⊎◌, ◌+◌, ◌*◌, ◌^◌, ℕ, Bool, true, false, List, [], length, cond, sum, All, option_map, Option, None, ⊤}
+use Rattle.std.specs.Prelude.{◌≡◌, ◌≢◌, ◌≤◌, ◌<◌, ◌⊎◌, ◌↔◌, ◌+◌, ◌*◌, ◌^◌, ℕ, Bool, true, false, List, [], length, cond, sum, All, option_map, Option, None, ⊤}
 use Rattle.vdr_terms.specs.Counting.{next_number}
 use Rattle.vdr_core.specs.Histories.{Event, Opening, recorded}
 use Rattle.vdr_core.specs.RunStates.{next_start, state_left}
@@ -48,6 +48,7 @@ pub record Before : Type 1 where
   pub clock : ℕ
   pub now : Image → Type 0
   pub since : ℕ → Image → Type 0
+  pub until : ℕ → Image → Type 0
   pub reads : Image  -- what the media read as, where that is told
   pub channels : List Selector  -- of the configuration
   pub hears : Type 0  -- an object outside hears of the session
@@ -71,6 +72,7 @@ module _ {tells tells_images : Type 0} where
     pub later : before.clock ≤ disk.clock
     pub each : (i : Image) → disk.since before.clock i → before.now i ⊎ ShowsPrefix (ShowsHistory opening) events 0 i
     pub earlier : (t : ℕ) (i : Image) → t ≤ before.clock → disk.since t i → before.since t i ⊎ (before.now i ⊎ ShowsPrefix (ShowsHistory opening) events 0 i)
+    pub past : (t : ℕ) (i : Image) → t ≤ before.clock → disk.until t i ↔ before.until t i
 
   -- The recorder has made the history that the marks tell: its records are those of the one run.
   pub record HasSession (before : Before) (opening : Opening) (marks : List Mark) (t0 : ℕ) (r : RecorderState) (disk : Disk tells tells_images) (w : Watched) : Type 0 where

@@ -2,7 +2,7 @@
 //
 // The close comes after the latch and asks the recorder whether it has failed, so that a control worker's fault
 // behind the loop's last turn is told too.
-ghost use Rattle.std.specs.Prelude.{◌≡◌, ◌≤◌, ◌<◌, ◌/◌, ◌^◌, ℕ, [], true, false, length, get_or, slice_index_or, None, IfSome};
+ghost use Rattle.std.specs.Prelude.{◌≡◌, ◌≤◌, ◌<◌, ◌/◌, ◌^◌, ℕ, [], true, false, length, get_or, slice_index_or, None, IfSome, ◌↔◌};
 ghost use Rattle.vdr_terms.specs.Rates.{is_configured};
 ghost use Rattle.vdr_config.specs.Sizes.{limits_in};
 ghost use Rattle.vdr_core.specs.Histories.{Opening};
@@ -68,7 +68,7 @@ pub(crate) fn run_lent<
     requires heard { W.seen watch.old ≡ O.heard }
     requires watched { IsWatched W.hears (W.seen watch.old) recorder (M.disk media.old) }
     requires began { (opening : Opening) (t0 : ℕ) → O.began opening t0 → HasRecorded opening [] t0 recorder (M.disk media.old) }
-    requires before { (O.clock ≡ (M.disk media.old).clock) × ((i : Image) → (M.disk media.old).now i → O.now i) × ((t : ℕ) (i : Image) → (M.disk media.old).since t i → O.since t i) × ((M.disk media.old).reads ≡ O.reads) }
+    requires before { (O.clock ≡ (M.disk media.old).clock) × ((i : Image) → (M.disk media.old).now i → O.now i) × ((t : ℕ) (i : Image) → (M.disk media.old).since t i → O.since t i) × ((M.disk media.old).reads ≡ O.reads) × ((t : ℕ) (i : Image) → (M.disk media.old).until t i ↔ O.until t i) }
     requires config { (recorder.vault.config.groups ≡ O.rates) × (recorder.vault.config.batch ≡ O.room) × (length O.rates ≡ 16) }
     requires channels { recorder.vault.config.channels ≡ O.channels }
     requires rings { AreRings recorder.vault (M.disk media.old).sizes }
@@ -84,7 +84,7 @@ pub(crate) fn run_lent<
     ensures same { result.0.ghost_name ≡ media.entry.ghost_name }
     ensures same_watch { result.1.ghost_name ≡ watch.entry.ghost_name }
     ensures ended { IfSome result.2 (λ e. HasEnded P.Port turns (λ g. is_configured (limits_in O.rates g)) memory.old.queues memory.old.takers memory.new.takers lanes.old lanes.new
-        (record { clock = O.clock; now = O.now; since = O.since; reads = O.reads; channels = O.channels; hears = W.hears; heard = O.heard }) O.began O.sizes O.faults (λ began marks. DesksRan L.Link (AnswersMark M.tells O.began O.channels) turns desks.old desks.new began marks) e.outcome e.recorder (M.disk result.0.now) (M.faults result.0.now) (W.seen result.1.now)) }
+        (record { clock = O.clock; now = O.now; since = O.since; until = O.until; reads = O.reads; channels = O.channels; hears = W.hears; heard = O.heard }) O.began O.sizes O.faults (λ began marks. DesksRan L.Link (AnswersMark M.tells O.began O.channels) turns desks.old desks.new began marks) e.outcome e.recorder (M.disk result.0.now) (M.faults result.0.now) (W.seen result.1.now)) }
     ensures unbegun { IfSome result.2 (λ e. IsUnbegun e.outcome → (result.0.now ≡ media.entry.now) × (lanes.new ≡ lanes.old)) }
     ensures decides { IfSome result.2 (λ e. DecidesSession recorder.vault e.outcome) }
     ensures queues { memory.new.queues ≡ memory.old.queues }

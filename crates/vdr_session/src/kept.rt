@@ -33,6 +33,9 @@ pub(crate) trait Lent {
 
     ghost since: { ℕ → Image → Type 0 };
 
+    /// And what up to each moment.
+    ghost until: { ℕ → Image → Type 0 };
+
     /// What the media read as then, where that is told.
     ghost reads: { Image };
 
@@ -69,6 +72,8 @@ impl Lent for Brand {
 
     ghost since = { λ _ _. Unit {0} };
 
+    ghost until = { λ _ _. Unit {0} };
+
     ghost reads = { [] };
 
     ghost heard = { nothing_told };
@@ -100,7 +105,7 @@ impl<'a, 'b, M: Media, W: Watch<M>, O: Lent> Stepped for Kept<'a, 'b, M, W, O> {
 
     type Event = Mark;
 
-    ghost leaves = { λ marks k. IsKept (record { clock = O.clock; now = O.now; since = O.since; reads = O.reads; channels = O.channels; hears = W.hears; heard = O.heard }) O.began O.rates O.room O.sizes O.faults marks (W.seen k.watch.now) k.recorder (M.disk k.media.now) (M.faults k.media.now) × (k.media.ghost_name ≡ O.name) × (k.watch.ghost_name ≡ O.watch_name) };
+    ghost leaves = { λ marks k. IsKept (record { clock = O.clock; now = O.now; since = O.since; until = O.until; reads = O.reads; channels = O.channels; hears = W.hears; heard = O.heard }) O.began O.rates O.room O.sizes O.faults marks (W.seen k.watch.now) k.recorder (M.disk k.media.now) (M.faults k.media.now) × (k.media.ghost_name ≡ O.name) × (k.watch.ghost_name ≡ O.watch_name) };
 
     ghost leading = { is_leading };
 }

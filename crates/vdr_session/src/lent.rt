@@ -1,5 +1,5 @@
 // A session on media that were lent to it, from the making of the latch to its close.
-ghost use Rattle.std.specs.Prelude.{◌≡◌, ◌≤◌, ◌<◌, ◌/◌, ◌^◌, ℕ, List, [], true, false, length, get_or, slice_index_or, None, IfSome};
+ghost use Rattle.std.specs.Prelude.{◌≡◌, ◌≤◌, ◌<◌, ◌/◌, ◌^◌, ℕ, List, [], true, false, length, get_or, slice_index_or, None, IfSome, ◌↔◌};
 ghost use Rattle.vdr_terms.specs.Rates.{is_configured};
 ghost use Rattle.vdr_config.specs.Sizes.{limits_in};
 ghost use Rattle.vdr_core.specs.Histories.{Opening};
@@ -66,7 +66,7 @@ pub(crate) fn record_lent<
     requires heard { W.seen watch.old ≡ O.heard }
     requires watched { IsWatched W.hears (W.seen watch.old) recorder (M.disk media.old) }
     requires began { (opening : Opening) (t0 : ℕ) → O.began opening t0 → HasRecorded opening [] t0 recorder (M.disk media.old) }
-    requires before { (O.clock ≡ (M.disk media.old).clock) × ((i : Image) → (M.disk media.old).now i → O.now i) × ((t : ℕ) (i : Image) → (M.disk media.old).since t i → O.since t i) × ((M.disk media.old).reads ≡ O.reads) }
+    requires before { (O.clock ≡ (M.disk media.old).clock) × ((i : Image) → (M.disk media.old).now i → O.now i) × ((t : ℕ) (i : Image) → (M.disk media.old).since t i → O.since t i) × ((M.disk media.old).reads ≡ O.reads) × ((t : ℕ) (i : Image) → (M.disk media.old).until t i ↔ O.until t i) }
     requires config { (recorder.vault.config.groups ≡ O.rates) × (recorder.vault.config.batch ≡ O.room) × (length O.rates ≡ 16) }
     requires channels { recorder.vault.config.channels ≡ O.channels }
     requires rings { AreRings recorder.vault (M.disk media.old).sizes }
@@ -83,7 +83,7 @@ pub(crate) fn record_lent<
     ensures same { result.0.ghost_name ≡ media.entry.ghost_name }
     ensures same_watch { result.1.ghost_name ≡ watch.entry.ghost_name }
     ensures closed { IfSome result.2 (λ r. (marks : List Marked)
-        × IsKept (record { clock = O.clock; now = O.now; since = O.since; reads = O.reads; channels = O.channels; hears = W.hears; heard = O.heard }) O.began O.rates O.room O.sizes O.faults marks (W.seen result.1.now) r.recorder (M.disk result.0.now) (M.faults result.0.now)
+        × IsKept (record { clock = O.clock; now = O.now; since = O.since; until = O.until; reads = O.reads; channels = O.channels; hears = W.hears; heard = O.heard }) O.began O.rates O.room O.sizes O.faults marks (W.seen result.1.now) r.recorder (M.disk result.0.now) (M.faults result.0.now)
         × HasClosed P.Port turns (λ g. is_configured (limits_in O.rates g)) queues.now takers.old takers.new lanes.old lanes.new r.began marks
         × DesksRan L.Link (AnswersMark M.tells O.began O.channels) turns desks.old desks.new r.began marks
         × IsNoRefusal r.began × (M.tells → (opening : Opening) (t0 : ℕ) → O.began opening t0 → StartMeans opening r.began)) }

@@ -3,6 +3,7 @@ use Rattle.std.specs.Io.KnownBytes.{IsAtEnd}
 use Rattle.std.proofs.Common.{◌≡◌, inl, inr, ℕ, List, Result, Ok, Err, refl, sym, subst, ◌∙◌}
 use Rattle.vdr_outside.specs.declared.media.Media.{Ghosts as MediaTells}
 use Rattle.vdr_outside.specs.declared.source.Source.{Ghosts as SourceTells}
+use Rattle.vdr_outside.proofs.Moments.{unchanged_none}
 use Rattle.vdr_recorder.specs.Watched.{Watched}
 use Rattle.vdr_replay.specs.Replays.{ReplaysFeed}
 use Rattle.vdr_replay.specs.declared.ended.FeedEnd.{FeedEnd}
@@ -82,7 +83,7 @@ tells_run answer run status was next is prints = subst (λ (a : Result Replayed 
 -- What is left alone is so in all that is seen of it.
 pub left_alone : {tells tells_images A : Type 0} (see : A → MediaSeen tells tells_images) (old new : A) → new ≡ old → AreLeftAlone (see old) (see new)
 left_alone see old new same = subst (λ a. AreLeftAlone (see old) (see a)) (sym same) (record {
-  disk = record { sizes = refl; reads = λ t. refl; clock = refl; since = λ t i. (λ s. s, λ s. s) };
+  disk = unchanged_none (see old).disk;
   faults = refl;
   bytes_read = refl;
 })

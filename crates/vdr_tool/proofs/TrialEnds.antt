@@ -377,6 +377,8 @@ output_failed {tells} seed count old new ends = record {
         after_entry = leaves.after_entry;
         before_exit = leaves.before_exit;
         kept = leaves.kept;
+        none_yet = leaves.none_yet;
+        rises = leaves.rises;
         reads = λ done. leaves.reads tt;
       },
     )

@@ -9,10 +9,11 @@ use Rattle.vdr_terms.specs.Records.{FeedItem}
 use Rattle.vdr_core.specs.Histories.{Event, recorded}
 use Rattle.vdr_durability.specs.Keeping.{IsWhole, ShowsOn, ShowsPrefix}
 use Rattle.vdr_durability.proofs.Kept.{keeps_on}
+use Rattle.vdr_durability.proofs.Acknowledged.{rises_on}
 use Rattle.vdr_outside.specs.Causes.{Rose}
 use Rattle.vdr_outside.specs.Disk.{Disk, Image, SameBut, content}
 use Rattle.vdr_outside.specs.Moments.{AtEachMoment, Settled}
-use Rattle.vdr_outside.proofs.Moments.{moments_join, moments_weaken, now_after, settled_image}
+use Rattle.vdr_outside.proofs.Moments.{in_calls, moments_join, moments_weaken, now_after, settled_image}
 use Rattle.vdr_config.specs.declared.media.TooSmall.{TooSmall}
 use Rattle.vdr_config.specs.Configuration.{Configuration}
 use Rattle.vdr_config.specs.Forms.{is_key}
@@ -46,6 +47,7 @@ use Rattle.vdr_tool.specs.TrialParts.{IsBenchStatus}
 use Rattle.vdr_tool.specs.Trials.{LeavesRun, bench, bench_text, first_run, fresh}
 use Rattle.vdr_tool.proofs.FormatLemmas.{one_configuration}
 use Rattle.vdr_recorder.proofs.GoingOn.{played_so}
+use Rattle.vdr_recorder.proofs.Opened.{keeps_synced}
 
 -- The text is that configuration.
 pub bench_reads : configuration bench_text ≡ Ok bench
@@ -150,12 +152,9 @@ module _ {tells tells_images : Type 0} where
     synced = mid.clock;
     after_entry = omega arith;
     before_exit = leaves.later;
-    kept = record {
-      rising = omega arith;
-      pending = tt;
-      prefixes = λ t image start end left. record { first = []; rest = []; split = refl; enough = omega arith; shown = formatted image (empty image (leaves.each image (late.earlier mid.clock t image start left))) };
-      now = λ whole image now. formatted image (empty image (now_after mid late (λ image. mid.now image) leaves image now));
-    };
+    kept = keeps_synced Lives mid.clock late leaves.later (λ image left. formatted image (empty image (leaves.each image left)));
+    none_yet = λ image left. inl ((leaves.past mid.clock image (omega arith)).0 left);
+    rises = leaves.later;
     heard = λ none. absurd none;
   }
 
@@ -194,6 +193,8 @@ module _ {tells tells_images : Type 0} where
       after_entry = r.after_entry;
       before_exit = let exit = r.before_exit in let later = moments.later in omega (arith, exit, later);
       kept = keeps_on Lives r.events r.synced late new all_whole goes_on r.kept;
+      none_yet = λ image left. r.none_yet image ((moments.past r.synced image r.before_exit).0 left);
+      rises = rises_on r.events r.synced late.clock new.clock r.rises moments.later;
       heard = λ none. absurd none;
     }
 
@@ -224,6 +225,11 @@ module _ {tells tells_images : Type 0} where
     after_entry = let early = ends.others_meanwhile.later in let entry = r.after_entry in omega (arith, early, entry);
     before_exit = r.before_exit;
     kept = r.kept;
+    none_yet = λ image left. ⊎_elim
+        (λ was. ⊎_elim (λ early. inl early) (λ p. ⊎_elim (λ now. inl (old.disk.counts_until old.disk.clock image (omega arith) now)) (λ k. ⊎_elim (λ un. inr (inl un)) (λ empty. inr (inr (formatted image empty))) k) p)
+        (in_calls old.disk mid.disk (λ image. old.disk.now image ⊎ (IsUnformatted image ⊎ IsEmpty image)) (formats old mid ends) mid.disk.clock image was))
+        (λ shown. inr (inr shown)) (r.none_yet image left);
+    rises = r.rises;
     reads = reads;
   }
     where

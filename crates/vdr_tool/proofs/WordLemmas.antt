@@ -6,7 +6,7 @@ use Rattle.vdr_terms.specs.Stamps.{last_stamp}
 use Rattle.vdr_entry.specs.declared.query.Medium.{Medium}
 use Rattle.vdr_entry.specs.declared.query.Medium.TheVariants.{Capsule, LongTerm, Incident}
 use Rattle.vdr_control.specs.Orders.{PlainOrder}
-use Rattle.vdr_control.specs.Orders.PlainOrder.{Play as PlayOrder, Status as StatusOrder, Save as SaveOrder, Release as ReleaseOrder}
+use Rattle.vdr_control.specs.Orders.PlainOrder.{Play as PlayOrder, Status as StatusOrder, Save as SaveOrder, Release as ReleaseOrder, Incidents as IncidentsOrder, Tell as TellOrder}
 use Rattle.vdr_control.specs.Plays.{IsMedium, SpellsBound, SpellsPlay, medium_word}
 use Rattle.vdr_readout.specs.Informs.{IsWhole}
 use Rattle.vdr_readout.specs.Readings.{Reading, SpellsReading, plain_reading, reads}
@@ -28,6 +28,8 @@ as_asked : PlainOrder → Option AskedPlay
 as_asked StatusOrder = None
 as_asked (SaveOrder label) = None
 as_asked (ReleaseOrder id) = None
+as_asked IncidentsOrder = None
+as_asked (TellOrder medium telling) = None
 as_asked (PlayOrder medium channel from to) = Some (record { medium = medium; channel = channel; from = from; to = to })
 
 -- The play of all records of a medium.
@@ -42,6 +44,8 @@ medium_in (PlayOrder medium channel from to) = Some medium
 medium_in StatusOrder = None
 medium_in (SaveOrder label) = None
 medium_in (ReleaseOrder id) = None
+medium_in IncidentsOrder = None
+medium_in (TellOrder medium telling) = None
 
 -- One order is one play.
 pub one_asked : (medium : Medium) (channel : List ℕ) (from to : ℤ) (asked : AskedPlay) → PlayOrder medium channel from to ≡ PlayOrder asked.medium asked.channel asked.from asked.to
@@ -63,6 +67,8 @@ last_in (PlayOrder medium channel from to) = Some (medium, to)
 last_in StatusOrder = None
 last_in (SaveOrder label) = None
 last_in (ReleaseOrder id) = None
+last_in IncidentsOrder = None
+last_in (TellOrder medium telling) = None
 
 first_same : (x y : List ℕ) (xs ys : List (List ℕ)) → x ∷ xs ≡ y ∷ ys → x ≡ y
 first_same x y xs ys e = cc

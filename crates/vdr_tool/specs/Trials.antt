@@ -1,7 +1,7 @@
 -- `trial SEED COUNT`: the media are formatted with the bench configuration, the first COUNT items of the generated feed are recorded on
 -- them, they are opened again, and what stands on them is counted (this project's profile; the windows after IEC 61996-1 and
 -- IMO MSC.333(90)).
-use Rattle.std.specs.Prelude.{◌≡◌, ◌≤◌, ◌⊎◌, ◌∷◌, ◌++◌, ℕ, pos, List, [], filter, length, replicate, codes, decimal, Some, None, Ok, Err, ⊤}
+use Rattle.std.specs.Prelude.{◌≡◌, ◌≤◌, ◌⊎◌, ◌∷◌, ◌++◌, ℕ, false, pos, List, [], filter, length, replicate, codes, decimal, Some, None, Ok, Err, ⊤}
 use Rattle.vdr_terms.specs.Queries.{Query, matches}
 use Rattle.vdr_terms.specs.Queries.Medium.{WindowOf}
 use Rattle.vdr_terms.specs.Records.{FeedItem, Record}
@@ -12,8 +12,8 @@ use Rattle.vdr_core.specs.Histories.{Event, IsHistory, recorded}
 use Rattle.vdr_core.specs.Runs.{RunStart}
 use Rattle.vdr_capture.specs.declared.sums.GroupSums.{GroupSums}
 use Rattle.vdr_capture.specs.Sums.{sums_of}
-use Rattle.vdr_durability.specs.Keeping.{IsWhole, Keeps, ShowsPrefix}
-use Rattle.vdr_outside.specs.Disk.{Disk, Unchanged}
+use Rattle.vdr_durability.specs.Keeping.{IsWhole, Keeps, RiseFrom, ShowsPrefix}
+use Rattle.vdr_outside.specs.Disk.{Disk, Image, Unchanged}
 use Rattle.vdr_outside.specs.Moments.{AtEachMoment}
 use Rattle.vdr_feed.specs.Feed.{Reaches, longest_feed}
 use Rattle.vdr_feed.specs.Generated.{generated_feed, items_from}
@@ -48,6 +48,8 @@ bench = record {
   profile = Bench;
   capsule_seconds = 60;
   long_seconds = 600;
+  float_seconds = 60;
+  float_given = false;
   incident_seconds = 30;
   incident_slots = 2;
   segment = 8192;
@@ -171,6 +173,9 @@ module _ {tells tells_images : Type 0} where
     pub after_entry : before.clock ≤ synced
     pub before_exit : synced ≤ after.clock
     pub kept : Keeps (Life bench bench_text) events synced after
+    -- up to then nothing of the run is to be seen, and none of its events came
+    pub none_yet : (image : Image) → after.until synced image → before.until before.clock image ⊎ (IsUnformatted image ⊎ Life bench bench_text [] image)
+    pub rises : RiseFrom synced after.clock events
     -- where all is done the media read as media with the whole history
     pub reads : IsWorkDone status → Life bench bench_text events after.reads
 

@@ -64,6 +64,9 @@ fn text_of(config: &Config) -> ArrayVec<u8, ROOM>
     push_line(&mut text, b"usable", needs.usable);
     push_line(&mut text, b"capsule", needs.capsule_slots);
     push_line(&mut text, b"longterm", needs.long_slots);
+    if config.float_given {
+        push_line(&mut text, b"floatfree", needs.float_slots);
+    }
     text
 }
 

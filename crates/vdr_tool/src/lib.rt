@@ -20,6 +20,8 @@ mod verifying;
 mod words;
 
 pub use command::{run_alone, run_alone_watched};
+pub use readings::{of_block, of_channel, of_medium, of_ships, of_time_line};
 pub use summary::Summary;
 pub use using::{Uses, medium_use};
 pub use vdr_command::{EvidencePart, Outer, SaveCause, Status, World, law_of_openings, report};
+pub use verifying::status_of_verify;

@@ -31,8 +31,8 @@ fn medium_of(word: &str) -> Option<Medium>
     }
 }
 
-// A reading of all records of a medium or of an incident.
-fn of_medium(word: &str, name: &str) -> Option<Reading<'static>>
+/// A reading of all records of a medium or of an incident.
+pub fn of_medium(word: &str, name: &str) -> Option<Reading<'static>>
     ensures found { (reading : AReading) → SpellsReading (word.now ∷ name.now ∷ []) reading → option_map plain_reading result ≡ Some reading }
     ensures only { IfSome result (λ reading. SpellsReading (word.now ∷ name.now ∷ []) (plain_reading reading)) }
 {
@@ -65,8 +65,8 @@ fn last_of(name: &str, bound: &str) -> Option<(Medium, i64)>
     }
 }
 
-// The table of ships up to a stamp.
-fn of_ships(word: &str, name: &str, bound: &str) -> Option<Reading<'static>>
+/// The table of ships up to a stamp.
+pub fn of_ships(word: &str, name: &str, bound: &str) -> Option<Reading<'static>>
     ensures found { (reading : AReading) → SpellsReading (word.now ∷ name.now ∷ bound.now ∷ []) reading → option_map plain_reading result ≡ Some reading }
     ensures only { IfSome result (λ reading. SpellsReading (word.now ∷ name.now ∷ bound.now ∷ []) (plain_reading reading)) }
 {
@@ -132,8 +132,8 @@ fn of_source<'a>(medium: &str, source: &'a str, from: &str, to: &str) -> Option<
     Some(Reading::Track(wanted, source.as_bytes()))
 }
 
-// A reading of a channel, or of a source.
-fn of_channel<'a>(
+/// A reading of a channel, or of a source.
+pub fn of_channel<'a>(
     word: &str,
     medium: &str,
     channel: &'a str,
@@ -165,8 +165,8 @@ fn of_channel<'a>(
     Some(Reading::Pictures(wanted))
 }
 
-// The sound of a channel on its time line.
-fn of_time_line<'a>(
+/// The sound of a channel on its time line.
+pub fn of_time_line<'a>(
     word: &str,
     medium: &str,
     channel: &'a str,
@@ -214,8 +214,8 @@ fn block_of(source: &str, number: &str) -> Option<Block>
     Some(Block { source, number })
 }
 
-// The image of a block.
-fn of_block<'a>(
+/// The image of a block.
+pub fn of_block<'a>(
     word: &str,
     medium: &str,
     channel: &'a str,

@@ -27,8 +27,8 @@ fn part_told(part: Part) -> EvidencePart
     }
 }
 
-// How a file that is read no further ends the command.
-fn status_of(refused: VerifyRefused) -> Status
+/// How a file that is read no further ends a command.
+pub fn status_of_verify(refused: VerifyRefused) -> Status
     ensures { result ≡ status_of_verify refused }
 {
     match refused {
@@ -55,6 +55,6 @@ pub(crate) fn answer_verify<I: Source + Drop, O: Sink + Drop, M: Media + Drop>(
     law_of_verification();
     match verify(alloc, &mut world.input, &mut world.output) {
         Ok(()) => Ok(()),
-        Err(refused) => Err(status_of(refused)),
+        Err(refused) => Err(status_of_verify(refused)),
     }
 }

@@ -48,7 +48,7 @@ impl<M: Media + Drop> Capsule<M> {
     pub(super) fn open(alloc: Global, media: M) -> Option<Capsule<M>> {
         let mut media = media;
         let config = bench(alloc)?;
-        if media.count() != 1 || fits(&config, media.size(0), 712_704).is_err() {
+        if media.count() != 1 || fits(&config, &[media.size(0), 712_704]).is_err() {
             return None;
         }
         match Ring::open(alloc, &mut media, 0, &config) {

@@ -31,8 +31,8 @@ returns-clause-compares g c told rs ss first second =
     w.windows told rs ss
     (gives_on _ _ c.args.capsule.cursor c.into_cursor-first.result rs (λ j. content image (sym medium0 j)) area0 heads0 first)
     (gives_on _ _ c.args.longterm.cursor c.into_cursor-second.result ss (λ j. content image (sym medium1 j)) area1 heads1 second)
-    ∙ (λ j. windows_of ((c.window-capsule_seconds.ensures ∙ ap (λ (x : Configuration). window_of x 0) c.config.ensures) j)
-    ((c.window-longterm_seconds.ensures ∙ ap (λ (x : Configuration). window_of x 1) c.config-2.ensures) j) rs ss) in
+    ∙ (λ j. windows_of ((c.window-capsule_seconds.ensures.window ∙ ap (λ (x : Configuration). window_of x 0) c.config.ensures) j)
+    ((c.window-longterm_seconds.ensures.window ∙ ap (λ (x : Configuration). window_of x 1) c.config-2.ensures) j) rs ss) in
     compares_within c.args.alike c.in_ok-windows.windows (windows_of (window_of c.args.capsule.config 0) (window_of c.args.longterm.config 1) rs ss) (standings rs ss)
     (g.O.Sink.taken c.args.out.now) (g.O.Sink.taken c.print_comparison.new.out) c.print_comparison.result windows
     (c.print_comparison.ensures.compares told rs ss

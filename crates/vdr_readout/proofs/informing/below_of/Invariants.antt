@@ -1,5 +1,5 @@
 use Rattle.std.proofs.Common.{◌≡◌}
-use Rattle.vdr_readout.specs.Incidents.{rows_to}
+use Rattle.vdr_teller.specs.Incidents.{rows_to}
 use Rattle.vdr_readout.proofs.informing.below_of.Given as goal
 
 abbrev pub invariant-loop-before : goal.invariant-loop-before

@@ -34,6 +34,18 @@ returns-in-Release-clause-answered g c = λ opening events t0 told h.
     c.answer_release.result c.args.recorder.now c.answer_release.new.recorder (g.M.Media.disk c.args.media.now) (g.M.Media.disk c.answer_release.new.media) g.W.Watch.hears (g.W.Watch.seen c.args.watch.now) (g.W.Watch.seen c.answer_release.new.watch))
     (sym (ap plain c.in-Release.is)) (c.answer_release.ensures.answered opening events t0 told h)
 
+pub returns-in-Incidents-clause-answered : goal.returns-in-Incidents-clause-answered
+returns-in-Incidents-clause-answered g c = λ opening events t0 told h.
+    subst (λ (order : PlainOrder). HasAnswered c.args.recorder.now.vault.config.channels (Rose (sum (g.M.Media.faults c.args.media.now)) (sum (g.M.Media.faults c.args.media.now))) opening events t0 order
+    c.answer_incidents.result c.args.recorder.now c.args.recorder.now (g.M.Media.disk c.args.media.now) (g.M.Media.disk c.args.media.now) g.W.Watch.hears (g.W.Watch.seen c.args.watch.now) (g.W.Watch.seen c.answer_incidents.new.watch))
+    (sym (ap plain c.in-Incidents.is)) (c.answer_incidents.ensures.answered opening events t0 h)
+
+pub returns-in-Tell-clause-answered : goal.returns-in-Tell-clause-answered
+returns-in-Tell-clause-answered g c = λ opening events t0 told h.
+    subst (λ (order : PlainOrder). HasAnswered c.args.recorder.now.vault.config.channels (Rose (sum (g.M.Media.faults c.args.media.now)) (sum (g.M.Media.faults c.answer_tell.new.media))) opening events t0 order
+    c.answer_tell.result c.args.recorder.now c.answer_tell.new.recorder (g.M.Media.disk c.args.media.now) (g.M.Media.disk c.answer_tell.new.media) g.W.Watch.hears (g.W.Watch.seen c.args.watch.now) (g.W.Watch.seen c.answer_tell.new.watch))
+    (sym (ap plain c.in-Tell.is)) (c.answer_tell.ensures.answered opening events t0 told h)
+
 bound_kept : (unbounded : ℤ) (word : List ℕ) (utc : ℤ) → IsStamp unbounded → SpellsBound unbounded word utc → to_z w64 (of_z w64 utc) ≡ utc
 bound_kept unbounded word utc legal (inl is) = stamp_kept utc (subst IsStamp (sym is.1) legal)
 bound_kept unbounded word utc legal (inr is) = stamp_kept utc is.0

@@ -34,7 +34,7 @@ returns-in_default-began g c =
       same_watch = c.record_lent-media.ensures.same_watch;
       ended = not_begun_ends g.P.Port c.args.turns c.args.memory.now.queues c.args.memory.now.takers c.record_lent-media.new.takers c.args.lanes.now
           c.record_lent-media.new.lanes
-          (record { clock = g.O.Lent.clock; now = g.O.Lent.now; since = g.O.Lent.since; reads = g.O.Lent.reads; channels = g.O.Lent.channels; hears = g.W.Watch.hears; heard = g.O.Lent.heard }) g.O.Lent.began
+          (record { clock = g.O.Lent.clock; now = g.O.Lent.now; since = g.O.Lent.since; until = g.O.Lent.until; reads = g.O.Lent.reads; channels = g.O.Lent.channels; hears = g.W.Watch.hears; heard = g.O.Lent.heard }) g.O.Lent.began
           g.O.Lent.rates g.O.Lent.room g.O.Lent.sizes g.O.Lent.faults p.0 c.in-Some-recorded.field-0.began (g.W.Watch.seen c.record_lent-media.result.1.now) c.in-Some-recorded.field-0.recorder
           (g.M.Media.disk c.record_lent-media.result.0.now) (g.M.Media.faults c.record_lent-media.result.0.now) p.1 p.2 p.5
           (beside_of g.L.Link (AnswersMark g.M.Media.tells g.O.Lent.began g.O.Lent.channels) c.args.turns c.args.desks.now c.record_lent-media.new.desks)
@@ -59,19 +59,19 @@ stop_watched-requires-clause-fits g c =
     record {
       quiet = stop_quiet g.P.Port c.args.turns c.args.memory.now.queues c.args.memory.now.takers c.record_lent-media.new.takers c.args.lanes.now
           c.record_lent-media.new.lanes
-          (record { clock = g.O.Lent.clock; now = g.O.Lent.now; since = g.O.Lent.since; reads = g.O.Lent.reads; channels = g.O.Lent.channels; hears = g.W.Watch.hears; heard = g.O.Lent.heard })
+          (record { clock = g.O.Lent.clock; now = g.O.Lent.now; since = g.O.Lent.since; until = g.O.Lent.until; reads = g.O.Lent.reads; channels = g.O.Lent.channels; hears = g.W.Watch.hears; heard = g.O.Lent.heard })
           g.O.Lent.began g.O.Lent.rates g.O.Lent.room g.O.Lent.sizes g.O.Lent.faults p.0 c.in-Some-recorded.field-0.began (g.W.Watch.seen c.record_lent-media.result.1.now) c.in-Some-recorded.field-0.recorder
           (g.M.Media.disk c.record_lent-media.result.0.now) (g.M.Media.faults c.record_lent-media.result.0.now) p.1 p.2 p.5
           beside p.3 is (rest_of c.rest_of.result) c.rest_of.ensures sixteen c.requires.turns;
       place = stop_place g.P.Port c.args.turns c.args.memory.now.queues c.args.memory.now.takers c.record_lent-media.new.takers c.args.lanes.now
           c.record_lent-media.new.lanes
-          (record { clock = g.O.Lent.clock; now = g.O.Lent.now; since = g.O.Lent.since; reads = g.O.Lent.reads; channels = g.O.Lent.channels; hears = g.W.Watch.hears; heard = g.O.Lent.heard })
+          (record { clock = g.O.Lent.clock; now = g.O.Lent.now; since = g.O.Lent.since; until = g.O.Lent.until; reads = g.O.Lent.reads; channels = g.O.Lent.channels; hears = g.W.Watch.hears; heard = g.O.Lent.heard })
           g.O.Lent.began g.O.Lent.rates g.O.Lent.room g.O.Lent.sizes g.O.Lent.faults p.0 c.in-Some-recorded.field-0.began (g.W.Watch.seen c.record_lent-media.result.1.now) c.in-Some-recorded.field-0.recorder
           (g.M.Media.disk c.record_lent-media.result.0.now) (g.M.Media.faults c.record_lent-media.result.0.now) p.1 p.2 p.5
           beside p.3 is (rest_of c.rest_of.result) c.rest_of.ensures sixteen c.requires.turns;
       numbers = stop_numbers g.P.Port c.args.turns c.args.memory.now.queues c.args.memory.now.takers c.record_lent-media.new.takers c.args.lanes.now
           c.record_lent-media.new.lanes
-          (record { clock = g.O.Lent.clock; now = g.O.Lent.now; since = g.O.Lent.since; reads = g.O.Lent.reads; channels = g.O.Lent.channels; hears = g.W.Watch.hears; heard = g.O.Lent.heard })
+          (record { clock = g.O.Lent.clock; now = g.O.Lent.now; since = g.O.Lent.since; until = g.O.Lent.until; reads = g.O.Lent.reads; channels = g.O.Lent.channels; hears = g.W.Watch.hears; heard = g.O.Lent.heard })
           g.O.Lent.began g.O.Lent.rates g.O.Lent.room g.O.Lent.sizes g.O.Lent.faults p.0 c.in-Some-recorded.field-0.began (g.W.Watch.seen c.record_lent-media.result.1.now) c.in-Some-recorded.field-0.recorder
           (g.M.Media.disk c.record_lent-media.result.0.now) (g.M.Media.faults c.record_lent-media.result.0.now) p.1 p.2 p.5
           beside p.3 is (rest_of c.rest_of.result) c.rest_of.ensures sixteen c.requires.turns;
@@ -84,7 +84,7 @@ returns-clause-ended g c =
     let sixteen : length c.record_lent-media.new.lanes ≡ 16 = search rules in
     let ends : Outcome → Type 0 = λ outcome. HasEnded g.P.Port c.args.turns (λ n. is_configured (limits_in g.O.Lent.rates n)) c.args.memory.now.queues
     c.args.memory.now.takers c.record_lent-media.new.takers c.args.lanes.now c.record_lent-media.new.lanes
-    (record { clock = g.O.Lent.clock; now = g.O.Lent.now; since = g.O.Lent.since; reads = g.O.Lent.reads; channels = g.O.Lent.channels; hears = g.W.Watch.hears; heard = g.O.Lent.heard }) g.O.Lent.began
+    (record { clock = g.O.Lent.clock; now = g.O.Lent.now; since = g.O.Lent.since; until = g.O.Lent.until; reads = g.O.Lent.reads; channels = g.O.Lent.channels; hears = g.W.Watch.hears; heard = g.O.Lent.heard }) g.O.Lent.began
     g.O.Lent.sizes g.O.Lent.faults (beside_of g.L.Link (AnswersMark g.M.Media.tells g.O.Lent.began g.O.Lent.channels) c.args.turns c.args.desks.now
     c.record_lent-media.new.desks) outcome c.stop_watched.new.self (g.M.Media.disk c.stop_watched.new.media) (g.M.Media.faults c.stop_watched.new.media) (g.W.Watch.seen c.stop_watched.new.watch) in
     elim c.match-stop_watched.branch [
@@ -93,7 +93,7 @@ returns-clause-ended g c =
           subst ends (sym w.outcome-is)
           (done_ends g.P.Port c.args.turns c.args.memory.now.queues c.args.memory.now.takers c.record_lent-media.new.takers c.args.lanes.now
           c.record_lent-media.new.lanes
-          (record { clock = g.O.Lent.clock; now = g.O.Lent.now; since = g.O.Lent.since; reads = g.O.Lent.reads; channels = g.O.Lent.channels; hears = g.W.Watch.hears; heard = g.O.Lent.heard }) g.O.Lent.began
+          (record { clock = g.O.Lent.clock; now = g.O.Lent.now; since = g.O.Lent.since; until = g.O.Lent.until; reads = g.O.Lent.reads; channels = g.O.Lent.channels; hears = g.W.Watch.hears; heard = g.O.Lent.heard }) g.O.Lent.began
           g.O.Lent.rates g.O.Lent.room g.O.Lent.sizes g.O.Lent.faults p.0 c.in-Some-recorded.field-0.began (g.W.Watch.seen c.record_lent-media.result.1.now) c.in-Some-recorded.field-0.recorder
           (g.M.Media.disk c.record_lent-media.result.0.now) (g.M.Media.faults c.record_lent-media.result.0.now) p.1 p.2 p.5
           (beside_of g.L.Link (AnswersMark g.M.Media.tells g.O.Lent.began g.O.Lent.channels) c.args.turns c.args.desks.now c.record_lent-media.new.desks)
@@ -106,7 +106,7 @@ returns-clause-ended g c =
           subst ends (sym w.outcome-is)
           (fault_ends g.P.Port c.args.turns c.args.memory.now.queues c.args.memory.now.takers c.record_lent-media.new.takers c.args.lanes.now
           c.record_lent-media.new.lanes
-          (record { clock = g.O.Lent.clock; now = g.O.Lent.now; since = g.O.Lent.since; reads = g.O.Lent.reads; channels = g.O.Lent.channels; hears = g.W.Watch.hears; heard = g.O.Lent.heard }) g.O.Lent.began
+          (record { clock = g.O.Lent.clock; now = g.O.Lent.now; since = g.O.Lent.since; until = g.O.Lent.until; reads = g.O.Lent.reads; channels = g.O.Lent.channels; hears = g.W.Watch.hears; heard = g.O.Lent.heard }) g.O.Lent.began
           g.O.Lent.rates g.O.Lent.room g.O.Lent.sizes g.O.Lent.faults p.0 c.in-Some-recorded.field-0.began (g.W.Watch.seen c.record_lent-media.result.1.now) c.in-Some-recorded.field-0.recorder
           (g.M.Media.disk c.record_lent-media.result.0.now) (g.M.Media.faults c.record_lent-media.result.0.now) p.1 p.2 p.5
           (beside_of g.L.Link (AnswersMark g.M.Media.tells g.O.Lent.began g.O.Lent.channels) c.args.turns c.args.desks.now c.record_lent-media.new.desks)
@@ -119,7 +119,7 @@ returns-clause-ended g c =
 pub returns-in-Some-clause-ended : goal.returns-in-Some-clause-ended
 returns-in-Some-clause-ended g c =
     refused_ends g.P.Port c.args.turns (λ n. is_configured (limits_in g.O.Lent.rates n)) c.args.memory.now.queues c.args.memory.now.takers c.args.lanes.now
-    (record { clock = g.O.Lent.clock; now = g.O.Lent.now; since = g.O.Lent.since; reads = g.O.Lent.reads; channels = g.O.Lent.channels; hears = g.W.Watch.hears; heard = g.O.Lent.heard }) g.O.Lent.began
+    (record { clock = g.O.Lent.clock; now = g.O.Lent.now; since = g.O.Lent.since; until = g.O.Lent.until; reads = g.O.Lent.reads; channels = g.O.Lent.channels; hears = g.W.Watch.hears; heard = g.O.Lent.heard }) g.O.Lent.began
     g.O.Lent.sizes g.O.Lent.faults (beside_of g.L.Link (AnswersMark g.M.Media.tells g.O.Lent.began g.O.Lent.channels) c.args.turns c.args.desks.now c.args.desks.now)
     (λ began never. record { as_many = refl; served = λ is. absurd (never is); rested = λ _. refl })
     c.args.recorder (g.M.Media.disk c.args.media.now) (g.M.Media.faults c.args.media.now) (g.W.Watch.seen c.args.watch.now)

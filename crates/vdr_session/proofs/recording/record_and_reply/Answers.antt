@@ -18,6 +18,7 @@ use Rattle.vdr_session.specs.Answering.{AnswersMark}
 use Rattle.vdr_session.specs.Closed.{DesksRan}
 use Rattle.vdr_session.specs.Desks.{DesksReplied, DesksTold}
 use Rattle.vdr_session.specs.Sessions.{DecidesSession, SessionWith, is_closed}
+use Rattle.vdr_session.proofs.Memoryless.{no_groups, no_memory_cause, session_cause}
 use Rattle.vdr_session.proofs.Refused.{decides_with, unbegun_before}
 use Rattle.vdr_session.proofs.Replied.{desks_replied, desks_rested, desks_told, none_replied}
 use Rattle.vdr_session.proofs.Served.{ready_as}
@@ -149,3 +150,23 @@ pub returns-clause-others : goal.returns-clause-others
 returns-clause-others g c = λ told k ne ne1.
     let e = if_some _ c.run_lent-media.result.2 c.in-Some.field-0 c.in-Some.is c.run_lent-media.ensures.ended in
     (λ i. content (g.M.Media.disk (c.media-1.given.1 (sym c.run_lent-media.ensures.same) i)).reads k) ∙ e.elsewhere told k ne ne1
+
+pub returns-in_default-clause-groups : goal.returns-in_default-clause-groups
+returns-in_default-clause-groups g c = no_groups c.args.recorder.vault.config.groups c.without_memory.result c.without_memory.ensures.outcome c.without_memory.ensures.none
+
+pub returns-in_default-ended-clause-groups : goal.returns-in_default-ended-clause-groups
+returns-in_default-ended-clause-groups g c =
+    no_groups c.args.recorder.vault.config.groups c.without_memory-in_default-ended.result c.without_memory-in_default-ended.ensures.outcome c.without_memory-in_default-ended.ensures.none
+
+pub returns-in_default-ended-clause-cause : goal.returns-in_default-ended-clause-cause
+returns-in_default-ended-clause-cause g c =
+    let none : c.run_lent-media.result.2 ≡ None = search rules in
+    let still = c.run_lent-media.ensures.refused none in
+    let last = c.media-1.given.1 (sym c.run_lent-media.ensures.same) ∙ still.0 in
+    no_memory_cause (g.M.Media.faults c.args.media.now) _ c.without_memory-in_default-ended.result.outcome (λ i. g.M.Media.faults (last i)) c.without_memory-in_default-ended.ensures.outcome
+
+pub returns-clause-cause : goal.returns-clause-cause
+returns-clause-cause g c =
+    let e = if_some _ c.run_lent-media.result.2 c.in-Some.field-0 c.in-Some.is c.run_lent-media.ensures.ended in
+    session_cause (g.M.Media.faults c.args.media.now) (g.M.Media.faults c.run_lent-media.result.0.now) _ c.in-Some.field-0.outcome c.with_failures.result
+    (λ i. g.M.Media.faults (c.media-1.given.1 (sym c.run_lent-media.ensures.same) i)) e.later e.rose c.with_failures.ensures.told

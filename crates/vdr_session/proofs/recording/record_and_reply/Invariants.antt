@@ -10,6 +10,7 @@ ghosts-run_lent g a = record {
   clock = (g.M.Media.disk a.media.now).clock;
   now = (g.M.Media.disk a.media.now).now;
   since = (g.M.Media.disk a.media.now).since;
+  until = (g.M.Media.disk a.media.now).until;
   reads = (g.M.Media.disk a.media.now).reads;
   channels = a.recorder.vault.config.channels;
   heard = g.W.Watch.seen a.watch.now;

@@ -35,14 +35,14 @@ not_tick e = cc
 pub returns-in-Ok-clause-leaves : goal.returns-in-Ok-clause-leaves
 returns-in-Ok-clause-leaves g c = λ history h. (by_failed history h.0 (cases_Bool c.args.self.now.recorder.vault.failed), h.1, h.2)
   where
-    by_failed : (history : List Mark) → IsKept (record { clock = g.O.Lent.clock; now = g.O.Lent.now; since = g.O.Lent.since; reads = g.O.Lent.reads; channels = g.O.Lent.channels; hears = g.W.Watch.hears; heard = g.O.Lent.heard }) g.O.Lent.began g.O.Lent.rates g.O.Lent.room g.O.Lent.sizes g.O.Lent.faults history (g.W.Watch.seen c.args.self.now.watch.now)
+    by_failed : (history : List Mark) → IsKept (record { clock = g.O.Lent.clock; now = g.O.Lent.now; since = g.O.Lent.since; until = g.O.Lent.until; reads = g.O.Lent.reads; channels = g.O.Lent.channels; hears = g.W.Watch.hears; heard = g.O.Lent.heard }) g.O.Lent.began g.O.Lent.rates g.O.Lent.room g.O.Lent.sizes g.O.Lent.faults history (g.W.Watch.seen c.args.self.now.watch.now)
         c.args.self.now.recorder (g.M.Media.disk c.args.self.now.media.now) (g.M.Media.faults c.args.self.now.media.now)
         → (c.args.self.now.recorder.vault.failed ≡ true) ⊎ (c.args.self.now.recorder.vault.failed ≡ false)
-        → IsKept (record { clock = g.O.Lent.clock; now = g.O.Lent.now; since = g.O.Lent.since; reads = g.O.Lent.reads; channels = g.O.Lent.channels; hears = g.W.Watch.hears; heard = g.O.Lent.heard }) g.O.Lent.began g.O.Lent.rates g.O.Lent.room g.O.Lent.sizes g.O.Lent.faults (history ++ start_mark c.args.self.now.recorder c.start_watched.new.self (g.M.Media.disk c.start_watched.new.media).clock ∷ []) (g.W.Watch.seen c.start_watched.new.watch)
+        → IsKept (record { clock = g.O.Lent.clock; now = g.O.Lent.now; since = g.O.Lent.since; until = g.O.Lent.until; reads = g.O.Lent.reads; channels = g.O.Lent.channels; hears = g.W.Watch.hears; heard = g.O.Lent.heard }) g.O.Lent.began g.O.Lent.rates g.O.Lent.room g.O.Lent.sizes g.O.Lent.faults (history ++ start_mark c.args.self.now.recorder c.start_watched.new.self (g.M.Media.disk c.start_watched.new.media).clock ∷ []) (g.W.Watch.seen c.start_watched.new.watch)
         c.start_watched.new.self (g.M.Media.disk c.start_watched.new.media) (g.M.Media.faults c.start_watched.new.media)
     by_failed history k (inl fails) = absurd (ok_no_fault c.in-Ok.field-0 Fault (c.in-Ok.ensures.refuses.failed fails).0)
     by_failed history k (inr works) =
-        start_kept (record { clock = g.O.Lent.clock; now = g.O.Lent.now; since = g.O.Lent.since; reads = g.O.Lent.reads; channels = g.O.Lent.channels; hears = g.W.Watch.hears; heard = g.O.Lent.heard }) g.O.Lent.began g.O.Lent.rates g.O.Lent.room g.O.Lent.sizes g.O.Lent.faults history
+        start_kept (record { clock = g.O.Lent.clock; now = g.O.Lent.now; since = g.O.Lent.since; until = g.O.Lent.until; reads = g.O.Lent.reads; channels = g.O.Lent.channels; hears = g.W.Watch.hears; heard = g.O.Lent.heard }) g.O.Lent.began g.O.Lent.rates g.O.Lent.room g.O.Lent.sizes g.O.Lent.faults history
         (g.W.Watch.seen c.args.self.now.watch.now) c.args.self.now.recorder (g.M.Media.disk c.args.self.now.media.now) (g.M.Media.faults c.args.self.now.media.now) k
         (g.W.Watch.seen c.start_watched.new.watch) c.start_watched.new.self (g.M.Media.disk c.start_watched.new.media) (g.M.Media.faults c.start_watched.new.media) c.in-Ok.ensures.watched
         (record {
@@ -59,7 +59,7 @@ returns-in-Ok-clause-leaves g c = λ history h. (by_failed history h.0 (cases_Bo
 pub returns-in-Err-Place-clause-leaves : goal.returns-in-Err-Place-clause-leaves
 returns-in-Err-Place-clause-leaves g c = λ history h.
     let same = c.in-Err-Place.ensures.refuses.refused (inl (ap Err c.in-Err-Place.field-0-is)) in (
-      start_look_kept (record { clock = g.O.Lent.clock; now = g.O.Lent.now; since = g.O.Lent.since; reads = g.O.Lent.reads; channels = g.O.Lent.channels; hears = g.W.Watch.hears; heard = g.O.Lent.heard }) g.O.Lent.began g.O.Lent.rates g.O.Lent.room g.O.Lent.sizes g.O.Lent.faults history
+      start_look_kept (record { clock = g.O.Lent.clock; now = g.O.Lent.now; since = g.O.Lent.since; until = g.O.Lent.until; reads = g.O.Lent.reads; channels = g.O.Lent.channels; hears = g.W.Watch.hears; heard = g.O.Lent.heard }) g.O.Lent.began g.O.Lent.rates g.O.Lent.room g.O.Lent.sizes g.O.Lent.faults history
           (g.W.Watch.seen c.args.self.now.watch.now) c.args.self.now.recorder (g.M.Media.disk c.args.self.now.media.now) (g.M.Media.faults c.args.self.now.media.now) h.0
           c.requires.closed (g.W.Watch.seen c.look_watched.new.watch) c.start_watched.new.self (g.M.Media.disk c.start_watched.new.media) (g.M.Media.faults c.start_watched.new.media)
           same.0 (ap g.M.Media.disk same.1) (ap g.M.Media.faults same.1) c.look_watched.ensures.watched
@@ -71,7 +71,7 @@ returns-in-Err-Place-clause-leaves g c = λ history h.
 pub returns-in-Err-Tick-clause-leaves : goal.returns-in-Err-Tick-clause-leaves
 returns-in-Err-Tick-clause-leaves g c = λ history h.
     let same = c.in-Err-Tick.ensures.refuses.refused (inr (ap Err c.in-Err-Tick.field-0-is)) in (
-      start_look_kept (record { clock = g.O.Lent.clock; now = g.O.Lent.now; since = g.O.Lent.since; reads = g.O.Lent.reads; channels = g.O.Lent.channels; hears = g.W.Watch.hears; heard = g.O.Lent.heard }) g.O.Lent.began g.O.Lent.rates g.O.Lent.room g.O.Lent.sizes g.O.Lent.faults history
+      start_look_kept (record { clock = g.O.Lent.clock; now = g.O.Lent.now; since = g.O.Lent.since; until = g.O.Lent.until; reads = g.O.Lent.reads; channels = g.O.Lent.channels; hears = g.W.Watch.hears; heard = g.O.Lent.heard }) g.O.Lent.began g.O.Lent.rates g.O.Lent.room g.O.Lent.sizes g.O.Lent.faults history
           (g.W.Watch.seen c.args.self.now.watch.now) c.args.self.now.recorder (g.M.Media.disk c.args.self.now.media.now) (g.M.Media.faults c.args.self.now.media.now) h.0
           c.requires.closed (g.W.Watch.seen c.look_watched-in-Err-Tick.new.watch) c.start_watched.new.self (g.M.Media.disk c.start_watched.new.media) (g.M.Media.faults c.start_watched.new.media)
           same.0 (ap g.M.Media.disk same.1) (ap g.M.Media.faults same.1) c.look_watched-in-Err-Tick.ensures.watched
@@ -83,14 +83,14 @@ returns-in-Err-Tick-clause-leaves g c = λ history h.
 pub returns-in-Err-Fault-clause-leaves : goal.returns-in-Err-Fault-clause-leaves
 returns-in-Err-Fault-clause-leaves g c = λ history h. (by_failed history h.0 (cases_Bool c.args.self.now.recorder.vault.failed), h.1, h.2)
   where
-    by_failed : (history : List Mark) → IsKept (record { clock = g.O.Lent.clock; now = g.O.Lent.now; since = g.O.Lent.since; reads = g.O.Lent.reads; channels = g.O.Lent.channels; hears = g.W.Watch.hears; heard = g.O.Lent.heard }) g.O.Lent.began g.O.Lent.rates g.O.Lent.room g.O.Lent.sizes g.O.Lent.faults history (g.W.Watch.seen c.args.self.now.watch.now)
+    by_failed : (history : List Mark) → IsKept (record { clock = g.O.Lent.clock; now = g.O.Lent.now; since = g.O.Lent.since; until = g.O.Lent.until; reads = g.O.Lent.reads; channels = g.O.Lent.channels; hears = g.W.Watch.hears; heard = g.O.Lent.heard }) g.O.Lent.began g.O.Lent.rates g.O.Lent.room g.O.Lent.sizes g.O.Lent.faults history (g.W.Watch.seen c.args.self.now.watch.now)
         c.args.self.now.recorder (g.M.Media.disk c.args.self.now.media.now) (g.M.Media.faults c.args.self.now.media.now)
         → (c.args.self.now.recorder.vault.failed ≡ true) ⊎ (c.args.self.now.recorder.vault.failed ≡ false)
-        → IsKept (record { clock = g.O.Lent.clock; now = g.O.Lent.now; since = g.O.Lent.since; reads = g.O.Lent.reads; channels = g.O.Lent.channels; hears = g.W.Watch.hears; heard = g.O.Lent.heard }) g.O.Lent.began g.O.Lent.rates g.O.Lent.room g.O.Lent.sizes g.O.Lent.faults (history ++ start_mark c.args.self.now.recorder c.start_watched.new.self (g.M.Media.disk c.start_watched.new.media).clock ∷ []) (g.W.Watch.seen c.start_watched.new.watch)
+        → IsKept (record { clock = g.O.Lent.clock; now = g.O.Lent.now; since = g.O.Lent.since; until = g.O.Lent.until; reads = g.O.Lent.reads; channels = g.O.Lent.channels; hears = g.W.Watch.hears; heard = g.O.Lent.heard }) g.O.Lent.began g.O.Lent.rates g.O.Lent.room g.O.Lent.sizes g.O.Lent.faults (history ++ start_mark c.args.self.now.recorder c.start_watched.new.self (g.M.Media.disk c.start_watched.new.media).clock ∷ []) (g.W.Watch.seen c.start_watched.new.watch)
         c.start_watched.new.self (g.M.Media.disk c.start_watched.new.media) (g.M.Media.faults c.start_watched.new.media)
     by_failed history k (inl fails) =
         let same = c.in-Err-Fault.ensures.refuses.failed fails in
-        start_look_kept (record { clock = g.O.Lent.clock; now = g.O.Lent.now; since = g.O.Lent.since; reads = g.O.Lent.reads; channels = g.O.Lent.channels; hears = g.W.Watch.hears; heard = g.O.Lent.heard }) g.O.Lent.began g.O.Lent.rates g.O.Lent.room g.O.Lent.sizes g.O.Lent.faults history
+        start_look_kept (record { clock = g.O.Lent.clock; now = g.O.Lent.now; since = g.O.Lent.since; until = g.O.Lent.until; reads = g.O.Lent.reads; channels = g.O.Lent.channels; hears = g.W.Watch.hears; heard = g.O.Lent.heard }) g.O.Lent.began g.O.Lent.rates g.O.Lent.room g.O.Lent.sizes g.O.Lent.faults history
         (g.W.Watch.seen c.args.self.now.watch.now) c.args.self.now.recorder (g.M.Media.disk c.args.self.now.media.now) (g.M.Media.faults c.args.self.now.media.now) k
         c.requires.closed (g.W.Watch.seen c.start_watched.new.watch) c.start_watched.new.self (g.M.Media.disk c.start_watched.new.media) (g.M.Media.faults c.start_watched.new.media)
         same.1 (ap g.M.Media.disk same.2) (ap g.M.Media.faults same.2) c.in-Err-Fault.ensures.watched
@@ -98,7 +98,7 @@ returns-in-Err-Fault-clause-leaves g c = λ history h. (by_failed history h.0 (c
     by_failed history k (inr works) =
         let is : Err c.in-Err-Fault.field-0 ≡ Err Fault = ap Err c.in-Err-Fault.field-0-is in
         let fails = c.in-Err-Fault.ensures.begins.fails is in
-        start_kept (record { clock = g.O.Lent.clock; now = g.O.Lent.now; since = g.O.Lent.since; reads = g.O.Lent.reads; channels = g.O.Lent.channels; hears = g.W.Watch.hears; heard = g.O.Lent.heard }) g.O.Lent.began g.O.Lent.rates g.O.Lent.room g.O.Lent.sizes g.O.Lent.faults history
+        start_kept (record { clock = g.O.Lent.clock; now = g.O.Lent.now; since = g.O.Lent.since; until = g.O.Lent.until; reads = g.O.Lent.reads; channels = g.O.Lent.channels; hears = g.W.Watch.hears; heard = g.O.Lent.heard }) g.O.Lent.began g.O.Lent.rates g.O.Lent.room g.O.Lent.sizes g.O.Lent.faults history
         (g.W.Watch.seen c.args.self.now.watch.now) c.args.self.now.recorder (g.M.Media.disk c.args.self.now.media.now) (g.M.Media.faults c.args.self.now.media.now) k
         (g.W.Watch.seen c.start_watched.new.watch) c.start_watched.new.self (g.M.Media.disk c.start_watched.new.media) (g.M.Media.faults c.start_watched.new.media) c.in-Err-Fault.ensures.watched
         (record {

@@ -40,22 +40,22 @@ take_batch_watched-requires-clause-fits g c =
 pub returns-clause-leaves : goal.returns-clause-leaves
 returns-clause-leaves g c = λ history h. (by_failed history h.0 (cases_Bool c.args.self.now.recorder.vault.failed), h.1, h.2)
   where
-    by_failed : (history : List Mark) → (k : IsKept (record { clock = g.O.Lent.clock; now = g.O.Lent.now; since = g.O.Lent.since; reads = g.O.Lent.reads; channels = g.O.Lent.channels; hears = g.W.Watch.hears; heard = g.O.Lent.heard }) g.O.Lent.began g.O.Lent.rates g.O.Lent.room g.O.Lent.sizes g.O.Lent.faults history (g.W.Watch.seen c.args.self.now.watch.now) c.args.self.now.recorder
+    by_failed : (history : List Mark) → (k : IsKept (record { clock = g.O.Lent.clock; now = g.O.Lent.now; since = g.O.Lent.since; until = g.O.Lent.until; reads = g.O.Lent.reads; channels = g.O.Lent.channels; hears = g.W.Watch.hears; heard = g.O.Lent.heard }) g.O.Lent.began g.O.Lent.rates g.O.Lent.room g.O.Lent.sizes g.O.Lent.faults history (g.W.Watch.seen c.args.self.now.watch.now) c.args.self.now.recorder
         (g.M.Media.disk c.args.self.now.media.now) (g.M.Media.faults c.args.self.now.media.now))
         → (c.args.self.now.recorder.vault.failed ≡ true) ⊎ (c.args.self.now.recorder.vault.failed ≡ false)
-        → IsKept (record { clock = g.O.Lent.clock; now = g.O.Lent.now; since = g.O.Lent.since; reads = g.O.Lent.reads; channels = g.O.Lent.channels; hears = g.W.Watch.hears; heard = g.O.Lent.heard }) g.O.Lent.began g.O.Lent.rates g.O.Lent.room g.O.Lent.sizes g.O.Lent.faults
+        → IsKept (record { clock = g.O.Lent.clock; now = g.O.Lent.now; since = g.O.Lent.since; until = g.O.Lent.until; reads = g.O.Lent.reads; channels = g.O.Lent.channels; hears = g.W.Watch.hears; heard = g.O.Lent.heard }) g.O.Lent.began g.O.Lent.rates g.O.Lent.room g.O.Lent.sizes g.O.Lent.faults
         (history ++ batch_mark c.args.self.now.recorder.vault.failed c.args.items.now c.take_batch_watched.new.self.vault.failed (g.M.Media.disk c.take_batch_watched.new.media).clock ∷ []) (g.W.Watch.seen c.take_batch_watched.new.watch) c.take_batch_watched.new.self
         (g.M.Media.disk c.take_batch_watched.new.media) (g.M.Media.faults c.take_batch_watched.new.media)
     by_failed history k (inl fails) =
         let same = c.take_batch_watched.ensures.failing.failed fails in
-        batch_look_kept (record { clock = g.O.Lent.clock; now = g.O.Lent.now; since = g.O.Lent.since; reads = g.O.Lent.reads; channels = g.O.Lent.channels; hears = g.W.Watch.hears; heard = g.O.Lent.heard }) g.O.Lent.began g.O.Lent.rates g.O.Lent.room g.O.Lent.sizes g.O.Lent.faults history (g.W.Watch.seen c.args.self.now.watch.now) c.args.self.now.recorder
+        batch_look_kept (record { clock = g.O.Lent.clock; now = g.O.Lent.now; since = g.O.Lent.since; until = g.O.Lent.until; reads = g.O.Lent.reads; channels = g.O.Lent.channels; hears = g.W.Watch.hears; heard = g.O.Lent.heard }) g.O.Lent.began g.O.Lent.rates g.O.Lent.room g.O.Lent.sizes g.O.Lent.faults history (g.W.Watch.seen c.args.self.now.watch.now) c.args.self.now.recorder
         (g.M.Media.disk c.args.self.now.media.now) (g.M.Media.faults c.args.self.now.media.now) k c.args.items.now fails (g.W.Watch.seen c.take_batch_watched.new.watch) c.take_batch_watched.new.self
         (g.M.Media.disk c.take_batch_watched.new.media) (g.M.Media.faults c.take_batch_watched.new.media)
         same.1 (ap g.M.Media.disk same.2) (ap g.M.Media.faults same.2) c.take_batch_watched.ensures.watched
         (untold_look _ _ _ _ (ap (λ (r : RecorderState). r.vault.failed) same.1 ∙ fails) (untold_err c.take_batch_watched.result same.0 c.take_batch_watched.ensures.untold))
     by_failed history k (inr works) =
         let e = c.take_batch_watched.ensures in
-        batch_kept (record { clock = g.O.Lent.clock; now = g.O.Lent.now; since = g.O.Lent.since; reads = g.O.Lent.reads; channels = g.O.Lent.channels; hears = g.W.Watch.hears; heard = g.O.Lent.heard }) g.O.Lent.began g.O.Lent.rates g.O.Lent.room g.O.Lent.sizes g.O.Lent.faults history (g.W.Watch.seen c.args.self.now.watch.now) c.args.self.now.recorder
+        batch_kept (record { clock = g.O.Lent.clock; now = g.O.Lent.now; since = g.O.Lent.since; until = g.O.Lent.until; reads = g.O.Lent.reads; channels = g.O.Lent.channels; hears = g.W.Watch.hears; heard = g.O.Lent.heard }) g.O.Lent.began g.O.Lent.rates g.O.Lent.room g.O.Lent.sizes g.O.Lent.faults history (g.W.Watch.seen c.args.self.now.watch.now) c.args.self.now.recorder
         (g.M.Media.disk c.args.self.now.media.now) (g.M.Media.faults c.args.self.now.media.now) k (g.W.Watch.seen c.take_batch_watched.new.watch) c.take_batch_watched.new.self
         (g.M.Media.disk c.take_batch_watched.new.media) (g.M.Media.faults c.take_batch_watched.new.media) e.watched
         (record {

@@ -1,7 +1,7 @@
 use Rattle.std.proofs.Common.{◌≤◌}
 use Rattle.std.specs.Io.KnownBytes.{Appends}
-use Rattle.vdr_readout.specs.Incidents.{rows_to}
-use Rattle.vdr_readout.proofs.listing.print_incidents.Given as goal
+use Rattle.vdr_teller.specs.Incidents.{rows_to}
+use Rattle.vdr_teller.proofs.incidents.print_incidents.Given as goal
 
 abbrev pub invariant-loop-before : goal.invariant-loop-before
 invariant-loop-before g l = record {

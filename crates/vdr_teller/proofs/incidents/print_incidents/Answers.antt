@@ -1,6 +1,6 @@
 use Rattle.std.proofs.Common.{◌≡◌, arith}
-use Rattle.vdr_readout.proofs.Rows.{front_of_all, incidents_all, incidents_front}
-use Rattle.vdr_readout.proofs.listing.print_incidents.Goals as goal
+use Rattle.vdr_teller.proofs.Rows.{front_of_all, incidents_all, incidents_front}
+use Rattle.vdr_teller.proofs.incidents.print_incidents.Goals as goal
 
 pub returns-in_err-print_row-clause-front : goal.returns-in_err-print_row-clause-front
 returns-in_err-print_row-clause-front g c =

@@ -1,6 +1,6 @@
 use Rattle.std.proofs.Common.{rules}
-use Rattle.vdr_readout.specs.Incidents.{incident_row}
-use Rattle.vdr_readout.proofs.listing.row_of.Goals as goal
+use Rattle.vdr_teller.specs.Incidents.{incident_row}
+use Rattle.vdr_teller.proofs.incidents.row_of.Goals as goal
 
 pub returns : goal.returns
 unfolding incident_row

@@ -1,0 +1,3 @@
+-- What recorded media tell (this project's profile).
+pub mod Incidents
+pub mod Tellings
