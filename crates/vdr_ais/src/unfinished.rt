@@ -98,6 +98,7 @@ impl Unfinished {
 
     /// Takes the next line, and gives the message that ends at it.
     pub(crate) fn take(&mut self, line: &Line<'_>) -> Result<Option<Message>, AllocError>
+        ensures entries { AreEntries self.new }
         ensures read { (back : List ALine) → HasRead back (begun self.old) → OnOk result (HasRead (line_said line.now ∷ back) (begun self.new)) }
         ensures joined { (back : List ALine) → HasRead back (begun self.old) → IfOk result (λ message. option_map message_of message ≡ message_behind back (line_said line.now)) }
         ensures kept { OnErr result (begun self.new ≡ begun self.old) }
@@ -133,6 +134,27 @@ impl Unfinished {
         match line_in(group, verdict) {
             Some(line) => self.join(&line),
             None => None,
+        }
+    }
+
+    /// Makes room for the message of the next line of a datagram, takes the line, and gives the message that ends at it (IEC 61162-1, VDM and
+    /// VDO). Another line ends none.
+    ///
+    /// `AllocError`: there was no memory. The line isn't taken, and what has begun stays.
+    pub fn try_take_line(
+        &mut self,
+        group: u8,
+        verdict: &LineVerdict<'_>,
+    ) -> Result<Option<Message>, AllocError>
+        ensures read { (back : List ALine) → HasRead back self.old → OnOk result (HasRead (option_to_list (line_in group (verdict_of verdict.now)) ++ back) self.new) }
+        ensures ended { (back : List ALine) → HasRead back self.old
+            → IfOk result (λ message. option_map message_of message ≡ option_and_then (message_behind back) (line_in group (verdict_of verdict.now))) }
+        ensures kept { OnErr result (begun self.new ≡ begun self.old) }
+    {
+        let _ = &self.entries;
+        match line_in(group, verdict) {
+            Some(line) => self.take(&line),
+            None => Ok(None),
         }
     }
 }

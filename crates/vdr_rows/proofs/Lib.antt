@@ -14,3 +14,4 @@ pub mod Reread
 pub mod Degrees
 pub mod Carried
 pub mod Unsaid
+pub mod OneLine

@@ -10,6 +10,7 @@ pub mod Tables
 pub mod Fixes
 pub mod Views
 pub mod Seeking
+pub mod Carriers
 pub mod Held
 pub mod Laws
 pub mod Numbers

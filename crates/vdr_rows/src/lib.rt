@@ -3,6 +3,7 @@
 //! The format, with an example: docs/formats/table.md.
 #![tactic(auto)]
 
+mod carriers;
 mod decimal;
 mod fix;
 mod heading;

@@ -1,5 +1,5 @@
 // The rows of a record.
-ghost use Rattle.std.specs.Prelude.{◌≡◌, All, List, None, OnOk, Some, codes, unwrap_or};
+ghost use Rattle.std.specs.Prelude.{◌≡◌, true, All, List, None, OnOk, Some, codes, option_map, unwrap_or};
 ghost use Rattle.std.specs.Io.KnownBytes.{Appends};
 ghost use Rattle.vdr_tag.specs.Views.{values_of};
 ghost use Rattle.vdr_datagram.specs.Verdicts.{line_spans};
@@ -11,7 +11,7 @@ ghost use Rattle.vdr_outside.specs.Causes.{HasCause};
 ghost use Rattle.vdr_outside.specs.Writes.{AppendsFront};
 ghost use Rattle.vdr_rows.specs.Tables.{back_after, back_by, back_with, ended_at, line_rows, lines_rows, record_rows};
 ghost use Rattle.vdr_rows.specs.Texts.{rows_text};
-ghost use Rattle.vdr_rows.specs.Seeking.{carried_rows};
+ghost use Rattle.vdr_rows.specs.Seeking.{carried_rows, is_carrier};
 
 use crate::heading::Heading;
 use crate::marks::{print_mark, print_missed};
@@ -64,6 +64,24 @@ fn print_ended<O: Sink>(
     print_message(&heading, message, out)
 }
 
+/// Prints the rows of a line that may carry a part of an AIS message, and was taken: those of the message that ended at it.
+pub(crate) fn print_carrier<O: Sink>(
+    item: &Record,
+    verdict: &LineVerdict<'_>,
+    ended: &Option<Message>,
+    out: &mut O,
+) -> Result<(), Failed>
+    requires { is_carrier (verdict_of verdict.now) ≡ true }
+    ensures all { OnOk result (Appends (O.taken out.old) (O.taken out.new) (rows_text (line_rows item.now (verdict_of verdict.now) (option_map message_of ended.now)))) }
+    ensures front { AppendsFront (O.taken out.old) (O.taken out.new) (rows_text (line_rows item.now (verdict_of verdict.now) (option_map message_of ended.now))) }
+    ensures cause { HasCause (O.faults out.old) (O.faults out.new) result }
+{
+    match ended {
+        Some(message) => print_ended(item, verdict, message, out),
+        None => Ok(()),
+    }
+}
+
 // Prints the rows of a line, for whose message there is room, and of the message that ends at it.
 fn print_line<O: Sink>(
     item: &Record,
@@ -83,10 +101,8 @@ fn print_line<O: Sink>(
     if !is_carrier(verdict) {
         return print_said(item, verdict, out);
     }
-    match unfinished.take_line(item.group, verdict) {
-        Some(message) => print_ended(item, verdict, &message, out),
-        None => Ok(()),
-    }
+    let ended = unfinished.take_line(item.group, verdict);
+    print_carrier(item, verdict, &ended, out)
 }
 
 // Prints the rows of a datagram, for whose messages there is room.

@@ -1,4 +1,4 @@
-use Rattle.std.proofs.Common.{◌≡◌, ◌∙◌, ◌∷◌, ◌++◌, [], Option, Some, None, List, option_map, ap, sym, subst}
+use Rattle.std.proofs.Common.{◌∙◌, ◌++◌, Option, option_map, ap, sym, subst}
 use Rattle.std.specs.Prelude.{option_and_then, option_to_list}
 use Rattle.vdr_ais.specs.Lines.{Line}
 use Rattle.vdr_ais.specs.Messages.{message_behind}

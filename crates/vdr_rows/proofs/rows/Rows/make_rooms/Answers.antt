@@ -7,6 +7,6 @@ use Rattle.vdr_rows.proofs.rows.Rows.make_rooms.Goals as goal
 
 pub returns-in-Datagram-clause-rooms : goal.returns-in-Datagram-clause-rooms
 returns-in-Datagram-clause-rooms c =
-    subst (λ (lines : List Line). OnOk c.make_room.result (All (λ line. HasPlace c.make_room.new.self.unfinished line.key) lines))
+    subst (λ (lines : List Line). OnOk c.make_rooms.result (All (λ line. HasPlace c.make_rooms.new.self line.key) lines))
     (ap (λ (r : Record). lines_in r.group c.in-Datagram.payload.now) c.item.view_is ∙ ap (lines_of c.args.item.now.group) c.in-Datagram.ensures.said)
-    c.make_room.ensures.rooms
+    c.make_rooms.ensures.rooms
