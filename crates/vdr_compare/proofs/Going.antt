@@ -1,5 +1,5 @@
 -- Places that were gone over, and what is left of them.
-use Rattle.std.proofs.Common.{◌≡◌, ◌++◌, ℕ, Bool, List, [], ◌∷◌, Option, None, Result, Ok, Err, refl, sym, ap, ◌∙◌, subst, append_assoc, append-nil}
+use Rattle.std.proofs.Common.{◌≡◌, ◌++◌, ℕ, List, [], ◌∷◌, Option, None, Result, Ok, Err, refl, sym, ap, ◌∙◌, subst, append_assoc, append-nil}
 use Rattle.std.specs.Io.KnownBytes.{Appends}
 use Rattle.std.proofs.KnownBytes.{Appends-nil, Appends-trans}
 use Rattle.vdr_outside.specs.Writes.{AppendsFront}
@@ -10,7 +10,8 @@ use Rattle.vdr_compare.specs.declared.standing.Standing.{Standing}
 use Rattle.vdr_compare.specs.declared.standing.Windows.{Windows}
 use Rattle.vdr_compare.specs.declared.tally.Tally.{Tally}
 use Rattle.vdr_compare.specs.Comparisons.{Compares, comparison_text}
-use Rattle.vdr_compare.specs.Differences.{configuration_line, differences, first_verdict, joined, lines_of, same_line, same_places}
+use Rattle.vdr_compare.specs.Conditions.{Condition, condition_text, first_verdict}
+use Rattle.vdr_compare.specs.Differences.{differences, joined, lines_of, same_line, same_places}
 use Rattle.vdr_compare.specs.Sides.{AreAhead, GoesTo, SideState}
 use Rattle.vdr_compare.specs.Tallies.{Tallies, TellsLeft, left_text, left_verdict, tally_with, text_at}
 use Rattle.vdr_compare.proofs.Telling.{text_step, verdict_step}
@@ -75,31 +76,34 @@ tallies_failed {E} was ahead old new r e is front = subst (λ (x : Result Tally 
 pub tells_failed : {E : Type 0} (t : Tally) (ahead : List Standing) (old new : Option (List ℕ)) (r : Result Verdict E) (e : E) → r ≡ Err e → AppendsFront old new (left_text t ahead) → TellsLeft t ahead old new r
 tells_failed {E} t ahead old new r e is front = subst (λ (x : Result Verdict E). TellsLeft t ahead old new x) (sym is) front
 
-pub compares_failed : (alike : Bool) (w : Windows) (places : List Standing) (old new : Option (List ℕ)) (r : Result Verdict CompareRefused) (e : CompareRefused) → r ≡ Err e
-    → AppendsFront old new (comparison_text alike w places) → Compares alike w places old new r
-compares_failed alike w places old new r e is front = subst (λ (x : Result Verdict CompareRefused). Compares alike w places old new x) (sym is) front
+pub compares_failed : (k : Condition) (w : Windows) (places : List Standing) (old new : Option (List ℕ)) (r : Result Verdict CompareRefused) (e : CompareRefused) → r ≡ Err e
+    → AppendsFront old new (comparison_text k w places) → Compares k w places old new r
+compares_failed k w places old new r e is front = subst (λ (x : Result Verdict CompareRefused). Compares k w places old new x) (sym is) front
 
 pub nothing_printed : (out : Option (List ℕ)) (whole : List ℕ) → AppendsFront out out whole
 nothing_printed out whole = ([], whole, refl, Appends-nil out)
 
--- Behind the line of the configurations.
-pub compares_behind : (alike : Bool) (w : Windows) (places : List Standing) (t : Tally) (old mid new : Option (List ℕ)) (r : Result Verdict CompareRefused)
-    → t ≡ record { windows = w; waiting = None; same = None; verdict = first_verdict alike } → Appends old mid (configuration_line alike) → TellsLeft t places mid new r → Compares alike w places old new r
-compares_behind alike w places t old mid new r is printed tells =
+-- Behind what is told before the places.
+abbrev pub tally_before : Condition → Windows → Tally
+tally_before k w = record { windows = w; waiting = None; same = None; verdict = first_verdict k }
+
+pub compares_behind : (k : Condition) (w : Windows) (places : List Standing) (t : Tally) (old mid new : Option (List ℕ)) (r : Result Verdict CompareRefused)
+    → t ≡ tally_before k w → Appends old mid (condition_text k) → TellsLeft t places mid new r → Compares k w places old new r
+compares_behind k w places t old mid new r is printed tells =
     by r (subst (λ (x : Tally). TellsLeft x places mid new r) is tells)
   where
-    by : (r : Result Verdict CompareRefused) → TellsLeft (record { windows = w; waiting = None; same = None; verdict = first_verdict alike }) places mid new r → Compares alike w places old new r
-    by (Ok verdict) x = (Appends-trans old mid new (configuration_line alike) (left_text (record { windows = w; waiting = None; same = None; verdict = first_verdict alike }) places) printed x.0, x.1)
-    by (Err why) x = last_front old mid new (configuration_line alike) (left_text (record { windows = w; waiting = None; same = None; verdict = first_verdict alike }) places) (comparison_text alike w places) refl printed x
+    by : (r : Result Verdict CompareRefused) → TellsLeft (tally_before k w) places mid new r → Compares k w places old new r
+    by (Ok verdict) x = (Appends-trans old mid new (condition_text k) (left_text (tally_before k w) places) printed x.0, x.1)
+    by (Err why) x = last_front old mid new (condition_text k) (left_text (tally_before k w) places) (comparison_text k w places) refl printed x
 
 -- The same where the bytes of the media are named otherwise.
 pub ahead_on : (b0 b1 d0 d1 : List ℕ) (c l : SideState) (ahead : List Standing) → b0 ≡ d0 → b1 ≡ d1 → AreAhead b0 b1 c l ahead → AreAhead d0 d1 c l ahead
 ahead_on b0 b1 d0 d1 c l ahead first second a =
     subst (λ (x : List ℕ). AreAhead d0 x c l ahead) second (subst (λ (x : List ℕ). AreAhead x b1 c l ahead) first a)
 
-pub front_of_configuration : (alike : Bool) (w : Windows) (places : List Standing) (old new : Option (List ℕ)) → AppendsFront old new (configuration_line alike) → AppendsFront old new (comparison_text alike w places)
-front_of_configuration alike w places old new f =
-    first_front old new (configuration_line alike) (lines_of (joined (differences w places)) ++ same_line (same_places places)) (comparison_text alike w places) refl f
+pub front_of_condition : (k : Condition) (w : Windows) (places : List Standing) (old new : Option (List ℕ)) → AppendsFront old new (condition_text k) → AppendsFront old new (comparison_text k w places)
+front_of_condition k w places old new f =
+    first_front old new (condition_text k) (lines_of (joined (differences w places)) ++ same_line (same_places places)) (comparison_text k w places) refl f
 
-pub compares_within : (alike : Bool) (v w : Windows) (places : List Standing) (old new : Option (List ℕ)) (r : Result Verdict CompareRefused) → v ≡ w → Compares alike v places old new r → Compares alike w places old new r
-compares_within alike v w places old new r is c = subst (λ (x : Windows). Compares alike x places old new r) is c
+pub compares_as : (k l : Condition) (v w : Windows) (places : List Standing) (old new : Option (List ℕ)) (r : Result Verdict CompareRefused) → k ≡ l → v ≡ w → Compares k v places old new r → Compares l w places old new r
+compares_as k l v w places old new r same is c = subst (λ (x : Condition). Compares x w places old new r) same (subst (λ (x : Windows). Compares k x places old new r) is c)

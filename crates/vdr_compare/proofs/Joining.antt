@@ -5,7 +5,7 @@ use Rattle.vdr_compare.specs.declared.difference.Difference.{Difference}
 use Rattle.vdr_compare.specs.declared.difference.Difference.TheVariants.{Differs, Lacks}
 use Rattle.vdr_compare.specs.Differences.{goes_on, joined_before, with_next}
 
-false_true : {P : Type 0} → false ≡ true → P
+pub false_true : {P : Type 0} → false ≡ true → P
 false_true e = absurd (true≢false (sym e))
 
 -- What goes on the second goes on both.
@@ -29,10 +29,10 @@ three (Lacks m a b) (Lacks n c d) (Differs p) e f = false_true f
 three (Lacks m a b) (Lacks n c d) (Lacks k h g) e f = refl
 
 -- One before others, where it is known whether the first of them goes on it.
-joins : (x y : Difference) (ys : List Difference) → goes_on x y ≡ true → joined_before x (y ∷ ys) ≡ with_next x y ∷ ys
+pub joins : (x y : Difference) (ys : List Difference) → goes_on x y ≡ true → joined_before x (y ∷ ys) ≡ with_next x y ∷ ys
 joins x y ys e = ap (λ (b : Bool). cond b (with_next x y ∷ ys) (x ∷ y ∷ ys)) e
 
-stays : (x y : Difference) (ys : List Difference) → goes_on x y ≡ false → joined_before x (y ∷ ys) ≡ x ∷ y ∷ ys
+pub stays : (x y : Difference) (ys : List Difference) → goes_on x y ≡ false → joined_before x (y ∷ ys) ≡ x ∷ y ∷ ys
 stays x y ys e = ap (λ (b : Bool). cond b (with_next x y ∷ ys) (x ∷ y ∷ ys)) e
 
 grown_at : (b : Bool) (r x y : Difference) (ys : List Difference) → goes_on x y ≡ b → goes_on r x ≡ true → joined_before r (joined_before x (y ∷ ys)) ≡ joined_before (with_next r x) (y ∷ ys)

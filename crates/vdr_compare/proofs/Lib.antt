@@ -5,6 +5,14 @@ mod Stepping
 mod Causes
 mod Pairs
 mod Going
-mod SameRecords
-mod Opened
+mod Given
 mod SoRecords
+mod Places
+mod Runs
+mod Exact
+mod Histories
+mod SameRecords
+mod Damages
+mod Selecting
+mod Surveyed
+mod Opened

@@ -1,11 +1,10 @@
 -- Media that are opened alone, and what is said of both.
-use Rattle.std.proofs.Common.{◌≡◌, ◌≤◌, ℕ, Bool, List, length, get_or, Option, Result, Ok, Err, sym, ap, ◌∙◌, subst}
+use Rattle.std.proofs.Common.{◌≡◌, ◌≤◌, ℕ, Bool, max, List, length, Option, Result, Ok, Err, sym, ap, ◌∙◌, subst}
 use Rattle.std.specs.Prelude.{sum}
 use Rattle.vdr_terms.specs.Records.{Record}
-use Rattle.vdr_core.specs.Histories.{Incident}
 use Rattle.vdr_config.specs.Configuration.{Configuration}
 use Rattle.vdr_config.specs.Sizes.{window_of}
-use Rattle.vdr_outside.specs.Causes.{NoneFalls, Rose}
+use Rattle.vdr_outside.specs.Causes.{NoneFalls}
 use Rattle.vdr_outside.specs.Disk.{Image, content}
 use Rattle.vdr_outside.specs.declared.fault.PartRefused.{PartRefused}
 use Rattle.vdr_outside.specs.declared.fault.PartRefused.TheVariants as parts
@@ -14,8 +13,7 @@ use Rattle.vdr_directory.specs.Opening.{HasFaultCause}
 use Rattle.vdr_media.specs.Medium.{HoldsText}
 use Rattle.vdr_media.proofs.Rooms.{text_fits}
 use Rattle.vdr_opening.specs.Media.{HoldsConfigText}
-use Rattle.vdr_rescue.specs.Alones.{AloneState, IsAloneOn, IsReadThrough, Rescue, Rescued}
-use Rattle.vdr_rescue.specs.declared.told.Told.{Told}
+use Rattle.vdr_rescue.specs.Alones.{Rescue, Rescued}
 use Rattle.vdr_compare.specs.declared.comparing.CompareRefused.{CompareRefused}
 use Rattle.vdr_compare.specs.declared.comparing.CompareRefused.TheVariants as compares
 use Rattle.vdr_compare.specs.declared.difference.Verdict.{Verdict}
@@ -26,7 +24,8 @@ use Rattle.vdr_compare.specs.Media.{HasMediaCause, OfBoth}
 use Rattle.vdr_compare.specs.Openings.{AreAlike, HasPartCause}
 use Rattle.vdr_compare.specs.Sides.{Gives}
 use Rattle.vdr_compare.specs.Standings.{standings}
-use Rattle.vdr_compare.proofs.Going.{compares_within}
+use Rattle.vdr_compare.specs.Surveys.{IsSurveyOf, SurveyState, surveyed_condition, surveyed_windows}
+use Rattle.vdr_compare.proofs.Going.{compares_as}
 
 pub no_text : {P : Type 0} (c : Configuration) (bytes : List ℕ) → HoldsConfigText c bytes → ((text : List ℕ) → length text ≤ 16380 → HoldsText text bytes → ⊥) → P
 no_text c bytes h none = absurd (none h.text (text_fits h.text c h.reads) h.holds)
@@ -50,24 +49,37 @@ part_failed {T} {U} m before mid now r e out why is ended same earlier cause = r
       (sum_rose mid now m cause.later.same_media cause.later.none_falls (cause.rose (is ∙ ap (λ (x : PartRefused). Err x) here)));
 }
 
--- What is said of what both media give.
-pub of_both : (image : Image) (alike : Bool) (a b : AloneState) (old new : Option (List ℕ)) (r : Result Verdict CompareRefused)
-    → ((m : ℕ) (bytes : List ℕ) (a : AloneState) (x : Rescue) → IsAloneOn m bytes a → Rescued m bytes x → (a.config ≡ x.config) × (a.saves.table ≡ x.table))
-    → ((m : ℕ) (bytes : List ℕ) (a : AloneState) (x : Rescue) → IsAloneOn m bytes a → Rescued m bytes x → (told : List Told) × IsReadThrough bytes a.cursor told x.given)
-    → AreAlike (content image 0) (content image 1) alike → IsAloneOn 0 (content image 0) a → IsAloneOn 1 (content image 1) b
+-- What is said of what both media give, by what was read of each.
+pub of_both : (image : Image) (alike : Bool) (a b : SurveyState) (old new : Option (List ℕ)) (r : Result Verdict CompareRefused)
+    → ((x y : Rescue) → Rescued 0 (content image 0) x → Rescued 1 (content image 1) y → IsSurveyOf 0 (content image 0) x a × IsSurveyOf 1 (content image 1) y b)
+    → AreAlike (content image 0) (content image 1) alike
     → ((rs ss : List Record) → Gives (content image 0) a.cursor rs → Gives (content image 1) b.cursor ss
-    → Compares alike (windows_of (window_of a.config 0) (window_of b.config 1) rs ss) (standings rs ss) old new r)
-    → OfBoth image (λ alike w places. Compares alike w places old new r)
-of_both image alike a b old new r same read are first second compared = (
+    → Compares (surveyed_condition alike a b) (surveyed_windows a b) (standings rs ss) old new r)
+    → OfBoth image (λ k w places. Compares k w places old new r)
+of_both image alike a b old new r surveyed are compared = (
   alike,
   are,
   λ x y h k.
-      let d = (same 0 (content image 0) a x first h).0 in
-      let e = (same 1 (content image 1) b y second k).0 in
-      compares_within alike (windows_of (window_of a.config 0) (window_of b.config 1) x.given y.given) (windows_of (window_of x.config 0) (window_of y.config 1) x.given y.given)
-      (standings x.given y.given) old new r (λ i. windows_of (window_of (d i) 0) (window_of (e i) 1) x.given y.given)
-      (compared x.given y.given (read 0 (content image 0) a x first h) (read 1 (content image 1) b y second k)),
+      let s = surveyed x y h k in
+      let first = s.0 in
+      let second = s.1 in
+      compares_as (surveyed_condition alike a b) (record { alike = alike; capsule = x.findings; longterm = y.findings }) (surveyed_windows a b)
+      (windows_of (window_of x.config 0) (window_of y.config 1) x.given y.given) (standings x.given y.given) old new r
+      (λ i. record { alike = alike; capsule = first.findings i; longterm = second.findings i })
+      (λ i. record { capsule = first.seconds i; longterm = second.seconds i; last_second = max (first.last_second i) (second.last_second i) })
+      (compared x.given y.given first.gives second.gives),
 )
+
+-- The media that were read have these numbers, and read as they did.
+pub on_media : (image now : Image) (alike : Bool) (a b : SurveyState) (old new : Option (List ℕ)) (r : Result Verdict CompareRefused) → now ≡ image → a.cursor.area.medium ≡ 0 → b.cursor.area.medium ≡ 1
+    → ((rs ss : List Record) → Gives (content now a.cursor.area.medium) a.cursor rs → Gives (content now b.cursor.area.medium) b.cursor ss
+    → Compares (surveyed_condition alike a b) (surveyed_windows a b) (standings rs ss) old new r)
+    → (rs ss : List Record) → Gives (content image 0) a.cursor rs → Gives (content image 1) b.cursor ss
+    → Compares (surveyed_condition alike a b) (surveyed_windows a b) (standings rs ss) old new r
+on_media image now alike a b old new r same zero one compared rs ss first second =
+    compared rs ss
+    (subst (λ (bytes : List ℕ). Gives bytes a.cursor rs) (λ i. content (sym same i) (sym zero i)) first)
+    (subst (λ (bytes : List ℕ). Gives bytes b.cursor ss) (λ i. content (sym same i) (sym one i)) second)
 
 comparing_is : {T : Type 0} (why e : CompareRefused) → ◌≡◌ {A = Result T MediaRefused} (Err (Comparing why)) (Err (Comparing e)) → why ≡ e
 comparing_is why e same = cc

@@ -1,16 +1,16 @@
 -- Media that give the same records.
-use Rattle.std.proofs.Common.{◌≡◌, ◌++◌, Bool, true, cond, fold, nat_lt, List, [], ◌∷◌, refl, ap, ◌∙◌}
+use Rattle.std.proofs.Common.{◌≡◌, Bool, true, cond, nat_lt, List, [], ◌∷◌, refl, ap, ◌∙◌}
 use Rattle.std.proofs.lemmas.Bool.{eq-eqb}
 use Rattle.std.proofs.lemmas.Slice.Eq.{bytes_eq-Decides}
 use Rattle.vdr_entry.specs.Spelling.{record_bytes}
 use Rattle.vdr_terms.specs.Records.{Record}
-use Rattle.vdr_compare.specs.declared.difference.Difference.{Difference}
-use Rattle.vdr_compare.specs.declared.difference.Verdict.TheVariants.{Same}
 use Rattle.vdr_compare.specs.declared.standing.Standing.TheVariants.{Both}
 use Rattle.vdr_compare.specs.declared.standing.Windows.{Windows}
-use Rattle.vdr_compare.specs.Differences.{differences, joined, lines_of, same_line, same_places, verdict_with}
-use Rattle.vdr_compare.specs.Laws.{SaysTheSame}
+use Rattle.vdr_compare.specs.Conditions.{Condition}
+use Rattle.vdr_compare.specs.Differences.{differences}
+use Rattle.vdr_compare.specs.Laws.{SaysNothing}
 use Rattle.vdr_compare.specs.Standings.{capsule_alone, is_same, longterm_alone, standings}
+use Rattle.vdr_compare.proofs.Histories.{says_nothing}
 
 on_both : (r : Record) (rs : List Record) → standings (r ∷ rs) (r ∷ rs) ≡ Both r.place true ∷ standings rs rs
 on_both r rs =
@@ -22,8 +22,5 @@ none_differs : (w : Windows) (records : List Record) → differences w (standing
 none_differs w [] = refl
 none_differs w (r ∷ rs) = ap (differences w) (on_both r rs) ∙ none_differs w rs
 
-pub says_the_same : (w : Windows) (records : List Record) → SaysTheSame w records
-says_the_same w records = record {
-  text = ap (λ (ds : List Difference). lines_of (joined ds) ++ same_line (same_places (standings records records))) (none_differs w records);
-  verdict = ap (λ (ds : List Difference). fold verdict_with Same ds) (none_differs w records);
-}
+pub says_the_same : (c : Condition) (w : Windows) (records : List Record) → SaysNothing c w records records
+says_the_same c w records = says_nothing c w records records (none_differs w records)

@@ -15,7 +15,7 @@ use Rattle.vdr_compare.specs.Standings.{capsule_alone, is_same, longterm_alone, 
 none_in : {X P : Type 0} (x : X) → Contains [] x → P
 none_in x h = absurd (omega (arith, h.1))
 
-one_in : {X : Type 0} (x y : X) → Contains (x ∷ []) y → x ≡ y
+pub one_in : {X : Type 0} (x y : X) → Contains (x ∷ []) y → x ≡ y
 one_in x y h = ⊎_elim (λ none. none_in y none) (λ e. e) (Contains-push_cases [] x y h)
 
 in_cons : {X : Type 0} (x : X) (xs : List X) (y : X) → Contains (x ∷ xs) y → (x ≡ y) ⊎ Contains xs y
@@ -53,7 +53,7 @@ both_so r s rs ss a b c false false e x h = ⊎_elim
     (λ more. more_longterm (r ∷ rs) s ss x (c x more))
     (in_cons (longterm_alone s) (standings (r ∷ rs) ss) x h)
 
-places_so : (rs ss : List Record) → Says rs ss
+pub places_so : (rs ss : List Record) → Says rs ss
 places_so [] [] x h = none_in x h
 places_so (r ∷ rs) [] x h = ⊎_elim
     (λ is. subst (IsSo (r ∷ rs) []) is (r, first_in r rs, refl, refl))
@@ -83,7 +83,7 @@ said_so w (Both p false) place h = ap (λ (n : ℕ). Both n false) (same_differs
 said_so w (Capsule p t) place h = lack_said (in_window t w.last_second w.longterm) 1 p place h
 said_so w (LongTerm p t) place h = lack_said (in_window t w.last_second w.capsule) 0 p place h
 
-stands_so : (w : Windows) (places : List Standing) (place : ℕ) → Contains (differences w places) (Differs place) → Contains places (Both place false)
+pub stands_so : (w : Windows) (places : List Standing) (place : ℕ) → Contains (differences w places) (Differs place) → Contains places (Both place false)
 stands_so w [] place h = none_in (Differs place) h
 stands_so w (s ∷ places) place h = ⊎_elim
     (λ here. subst (Contains (s ∷ places)) (said_so w s place here) (first_in s places))

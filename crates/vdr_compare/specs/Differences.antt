@@ -76,16 +76,7 @@ abbrev pub same_line : Option Places → List ℕ
 same_line None = codes "same - -\n"
 same_line (Some span) = codes "same " ++ decimal span.a ++ codes " " ++ decimal span.b ++ codes "\n"
 
--- A line before all others where the texts of the configurations differ.
-abbrev pub configuration_line : (alike : Bool) → List ℕ
-configuration_line true = []
-configuration_line false = codes "differs configuration\n"
-
 -- What a comparison comes to: its first line but the last.
-abbrev pub first_verdict : (alike : Bool) → Verdict
-first_verdict true = verdict.Same
-first_verdict false = verdict.Configuration
-
 abbrev pub verdict_of : Difference → Verdict
 verdict_of (Differs place) = verdict.Differs place
 verdict_of (Lacks m a b) = verdict.Lacks a
@@ -93,5 +84,6 @@ verdict_of (Lacks m a b) = verdict.Lacks a
 abbrev pub verdict_with : Verdict → Difference → Verdict
 verdict_with verdict.Same x = verdict_of x
 verdict_with verdict.Configuration x = verdict.Configuration
+verdict_with (verdict.Damaged m offset) x = verdict.Damaged m offset
 verdict_with (verdict.Differs place) x = verdict.Differs place
 verdict_with (verdict.Lacks place) x = verdict.Lacks place

@@ -12,20 +12,21 @@ use Rattle.vdr_compare.specs.declared.media.MediaRefused.TheVariants.{Opening, C
 use Rattle.vdr_compare.specs.declared.standing.Standing.{Standing}
 use Rattle.vdr_compare.specs.declared.standing.Windows.{Windows}
 use Rattle.vdr_compare.specs.Comparisons.{Compares, windows_of}
+use Rattle.vdr_compare.specs.Conditions.{Condition}
 use Rattle.vdr_compare.specs.Openings.{AreAlike}
 use Rattle.vdr_compare.specs.Standings.{standings}
 
--- P holds of the windows and the places of what the capsule and the long-term medium give, each read alone, and of whether their
--- configurations have the same text.
-abbrev pub OfBoth : Image → (P : Bool → Windows → List Standing → Type 0) → Type 0
+-- P holds of what the capsule and the long-term medium give, each read alone: of whether their configurations have the same text and of what
+-- is found of each one, and of the windows and the places of their records.
+abbrev pub OfBoth : Image → (P : Condition → Windows → List Standing → Type 0) → Type 0
 OfBoth image P = (alike : Bool) × AreAlike (content image 0) (content image 1) alike
     × ((x y : Rescue) → Rescued 0 (content image 0) x → Rescued 1 (content image 1) y
-    → P alike (windows_of (window_of x.config 0) (window_of y.config 1) x.given y.given) (standings x.given y.given))
+    → P (record { alike = alike; capsule = x.findings; longterm = y.findings }) (windows_of (window_of x.config 0) (window_of y.config 1) x.given y.given) (standings x.given y.given))
 
 -- The comparison was printed, or a front of it; or a medium can't be opened alone, and nothing was.
 abbrev pub ComparesMedia : Image → (old new : Option (List ℕ)) → Result Verdict MediaRefused → Type 0
-ComparesMedia image old new (Ok verdict) = OfBoth image (λ alike w places. Compares alike w places old new (Ok verdict))
-ComparesMedia image old new (Err (Comparing why)) = OfBoth image (λ alike w places. Compares alike w places old new (Err why))
+ComparesMedia image old new (Ok verdict) = OfBoth image (λ c w places. Compares c w places old new (Ok verdict))
+ComparesMedia image old new (Err (Comparing why)) = OfBoth image (λ c w places. Compares c w places old new (Err why))
 ComparesMedia image old new (Err (Opening parts.NoMemory)) = new ≡ old
 ComparesMedia image old new (Err (Opening (parts.Damaged m offset))) = (new ≡ old) × RefusesAlone m (content image m) offset
 ComparesMedia image old new (Err (Opening parts.Fault)) = new ≡ old

@@ -1,6 +1,6 @@
 -- A reader of one medium that has its next record at hand, and two of them in step (this project's profile).
-use Rattle.std.specs.Prelude.{◌≡◌, ◌==◌, ℕ, suc, Bool, true, false, nat_lt, if◌then◌else◌, List, [], ◌∷◌, drop, fold, Option, Some, None, sum, Result, OnErr}
-use Rattle.vdr_terms.specs.Records.{Record, second}
+use Rattle.std.specs.Prelude.{◌≡◌, ◌==◌, ℕ, suc, Bool, true, false, nat_lt, if◌then◌else◌, List, [], ◌∷◌, drop, Option, Some, None, sum, Result, OnErr}
+use Rattle.vdr_terms.specs.Records.{Record}
 use Rattle.vdr_outside.specs.Causes.{NoneFalls, Rose}
 use Rattle.vdr_rescue.specs.Cursors.{CursorState, StepsTo, left_of}
 use Rattle.vdr_rescue.specs.Readings.{AreRead}
@@ -18,13 +18,6 @@ pub record SideState : Type 0 where
 -- The segments of a medium with these bytes give these records.
 abbrev pub Gives : List ℕ → CursorState → List Record → Type 0
 Gives bytes c given = (told : List Told) × AreRead c.area.segment bytes None 0 c.heads told given
-
--- The second of the last record, 0 where there is none.
-abbrev pub last_from : ℕ → List Record → ℕ
-last_from n records = fold (λ _ r. second r.tick) n records
-
-abbrev pub last_second : List Record → ℕ
-last_second records = last_from 0 records
 
 -- From there on these records are given.
 abbrev pub IsAhead : List ℕ → SideState → List Record → Type 0

@@ -4,7 +4,7 @@ ghost use Rattle.std.specs.Io.KnownBytes.{Appends};
 ghost use Rattle.arrayvec.specs.ArrayVec.{array_vec_len};
 ghost use Rattle.vdr_outside.specs.Causes.{HasCause};
 ghost use Rattle.vdr_outside.specs.Writes.{AppendsFront};
-ghost use Rattle.vdr_compare.specs.Differences.{configuration_line, first_verdict, goes_on, line_of, medium_name, same_line, verdict_with, with_next};
+ghost use Rattle.vdr_compare.specs.Differences.{goes_on, line_of, medium_name, same_line, verdict_with, with_next};
 
 use arrayvec::ArrayVec;
 use itoa::Buffer;
@@ -28,6 +28,8 @@ pub enum Verdict {
     Same,
     /// The texts of the configurations differ.
     Configuration,
+    /// They are the same, and this medium is damaged at this offset, in bytes: 0 is the capsule, 1 the long-term medium.
+    Damaged { medium: u8, offset: u64 },
     /// Records differ at this place.
     Differs { place: u64 },
     /// A medium lacks this place.
@@ -67,17 +69,6 @@ impl Difference {
 }
 
 impl Verdict {
-    /// Of no difference, of media whose texts are alike or not.
-    pub(crate) fn first(alike: bool) -> Verdict
-        ensures { result ≡ first_verdict alike }
-    {
-        if alike {
-            Verdict::Same
-        } else {
-            Verdict::Configuration
-        }
-    }
-
     /// With one difference more behind those so far.
     pub(crate) fn with(self, difference: Difference) -> Verdict
         ensures { result ≡ verdict_with self difference }
@@ -88,6 +79,7 @@ impl Verdict {
                 Difference::Lacks { a, .. } => Verdict::Lacks { place: a },
             },
             Verdict::Configuration => Verdict::Configuration,
+            Verdict::Damaged { medium, offset } => Verdict::Damaged { medium, offset },
             Verdict::Differs { place } => Verdict::Differs { place },
             Verdict::Lacks { place } => Verdict::Lacks { place },
         }
@@ -97,9 +89,9 @@ impl Verdict {
 // The longest line has 57 bytes.
 const ROOM: usize = 64;
 
-type Line = ArrayVec<u8, ROOM>;
+pub(crate) type Line = ArrayVec<u8, ROOM>;
 
-fn push(line: &mut Line, text: &[u8])
+pub(crate) fn push(line: &mut Line, text: &[u8])
     requires { array_vec_len line.old + length text.now ≤ 64 }
     ensures { line.new.items ≡ line.old.items ++ text.now }
 {
@@ -109,7 +101,7 @@ fn push(line: &mut Line, text: &[u8])
 }
 
 // The name of a medium: 0 is the capsule.
-fn name_of(medium: u8) -> &'static [u8]
+pub(crate) fn name_of(medium: u8) -> &'static [u8]
     ensures name { result.now ≡ medium_name medium }
     ensures short { length result.now ≤ 8 }
 {
@@ -173,16 +165,4 @@ pub(crate) fn print_same<O: Sink>(span: Option<Places>, out: &mut O) -> Result<(
     ensures cause { HasCause (O.faults out.old) (O.faults out.new) result }
 {
     write_all(out, same_line(span).as_slice())
-}
-
-/// Prints the line of configurations that differ, where they do.
-pub(crate) fn print_configuration<O: Sink>(alike: bool, out: &mut O) -> Result<(), Failed>
-    ensures all { OnOk result (Appends (O.taken out.old) (O.taken out.new) (configuration_line alike)) }
-    ensures front { AppendsFront (O.taken out.old) (O.taken out.new) (configuration_line alike) }
-    ensures cause { HasCause (O.faults out.old) (O.faults out.new) result }
-{
-    if alike {
-        return Ok(());
-    }
-    write_all(out, b"differs configuration\n")
 }

@@ -3,16 +3,16 @@ ghost use Rattle.std.specs.Prelude.{◌≡◌, ◌≤◌, length};
 ghost use Rattle.vdr_outside.specs.Disk.{Unchanged};
 ghost use Rattle.vdr_compare.specs.Media.{ComparesMedia, HasMediaCause};
 
-use crate::opening::open_both;
-use crate::{CompareRefused, Verdict, compare};
+use crate::comparing::compare;
+use crate::opening::read_both;
+use crate::{CompareRefused, Verdict};
 use std::alloc::Global;
 use vdr_outside::{Media, PartRefused, Sink};
-use vdr_rescue::law_of_alone;
 
 /// Why two media are not compared to the end.
 #[derive(Clone, Copy, Drop)]
 pub enum MediaRefused {
-    /// A medium can't be opened alone.
+    /// A medium can't be opened alone, or not be read to its end.
     Opening(PartRefused),
     /// A read or a write failed meanwhile.
     Comparing(CompareRefused),
@@ -29,12 +29,16 @@ impl From<PartRefused> for MediaRefused {
     }
 }
 
-/// Opens the capsule and the long-term medium, each alone and whatever their bytes are, and prints where they differ and what one of them
-/// lacks of its window, as `compare` says. Answers the first line but the last. Nothing is written to any medium. Takes the memory of both
-/// openings, and of the texts of their configurations.
+/// Opens the capsule and the long-term medium, each alone and whatever their bytes are, and prints where each is damaged, where they differ
+/// and what one of them lacks of its window. Answers the first line but the last. Both are read twice, and nothing is written to any medium.
+/// Takes the memory of both openings, of the texts of their configurations, and of what is found of each.
 ///
-/// `Opening`: a medium can't be opened alone, the capsule first, and nothing is printed. `Comparing`: a read or a write failed meanwhile,
-/// and a front of the text is printed.
+/// Lines: `differs configuration`; `damaged MEDIUM OFFSET`, in bytes of the medium, of the capsule and then of the long-term medium, by rising
+/// offset; by rising place `differs PLACE` and `lacks MEDIUM A B`, places A to B, both included; and in the end `same A B`, the least and the
+/// greatest place of records that are the same, `same - -` where none is.
+///
+/// `Opening`: a medium can't be opened alone, the capsule first, or there is no memory, or the first reading failed, and nothing is printed.
+/// `Comparing`: a read or a write failed meanwhile, and a front of the text is printed.
 pub fn compare_media<M: Media, O: Sink>(
     alloc: Global,
     media: &mut M,
@@ -45,8 +49,7 @@ pub fn compare_media<M: Media, O: Sink>(
     ensures unchanged { Unchanged (M.disk media.old) (M.disk media.new) }
     ensures cause { HasMediaCause (M.faults media.old) (M.faults media.new) (O.faults out.old) (O.faults out.new) result }
 {
-    law_of_alone();
-    let (capsule, longterm, alike) = open_both(alloc, media)?;
+    let (capsule, longterm, alike) = read_both(alloc, media)?;
     match compare(capsule, longterm, alike, media, out) {
         Ok(verdict) => Ok(verdict),
         Err(why) => Err(MediaRefused::Comparing(why)),

@@ -3,7 +3,7 @@ ghost use Rattle.std.specs.Prelude.{◌≡◌, Some, None, OnOk, IfOk, []};
 ghost use Rattle.std.specs.Io.KnownBytes.{Appends};
 ghost use Rattle.vdr_outside.specs.Causes.{HasCause};
 ghost use Rattle.vdr_outside.specs.Writes.{AppendsFront};
-ghost use Rattle.vdr_compare.specs.Differences.{difference_at, first_verdict, lines_of, said, same_with, spanned};
+ghost use Rattle.vdr_compare.specs.Differences.{difference_at, lines_of, said, same_with, spanned};
 ghost use Rattle.vdr_compare.specs.Tallies.{closed_by, left_text, tally_with, text_at, waiting_with, with_difference, closing_text};
 
 use crate::difference::{print_difference, print_same};
@@ -99,15 +99,15 @@ fn close<O: Sink>(waiting: Option<Difference>, next: Difference, out: &mut O) ->
 }
 
 impl Tally {
-    /// Before the first place, of media whose configurations have the same text or not.
-    pub(crate) fn new(windows: Windows, alike: bool) -> Tally
-        ensures { result ≡ record { windows = windows; waiting = None; same = None; verdict = first_verdict alike } }
+    /// Before the first place, where the lines before come to this.
+    pub(crate) fn new(windows: Windows, verdict: Verdict) -> Tally
+        ensures { result ≡ record { windows = windows; waiting = None; same = None; verdict = verdict } }
     {
         Tally {
             windows,
             waiting: None,
             same: None,
-            verdict: Verdict::first(alike),
+            verdict,
         }
     }
 

@@ -16,6 +16,7 @@ module _ (before now : List ℕ) (printed prints : ℕ) where
   pub read_rose : (r : Result Verdict MediaRefused) → HasMediaCause before now printed prints r → status_of_comparison r ≡ MediaFault → Rose (sum before) (sum now)
   read_rose (Ok verdict.Same) h e = let none : ⊥ = cc in absurd none
   read_rose (Ok verdict.Configuration) h e = let none : ⊥ = cc in absurd none
+  read_rose (Ok (verdict.Damaged m offset)) h e = let none : ⊥ = cc in absurd none
   read_rose (Ok (verdict.Differs place)) h e = let none : ⊥ = cc in absurd none
   read_rose (Ok (verdict.Lacks place)) h e = let none : ⊥ = cc in absurd none
   read_rose (Err (Opening parts.NoMemory)) h e = let none : ⊥ = cc in absurd none
@@ -27,6 +28,7 @@ module _ (before now : List ℕ) (printed prints : ℕ) where
   pub write_rose : (r : Result Verdict MediaRefused) → HasMediaCause before now printed prints r → status_of_comparison r ≡ OutputFault → Rose printed prints
   write_rose (Ok verdict.Same) h e = let none : ⊥ = cc in absurd none
   write_rose (Ok verdict.Configuration) h e = let none : ⊥ = cc in absurd none
+  write_rose (Ok (verdict.Damaged m offset)) h e = let none : ⊥ = cc in absurd none
   write_rose (Ok (verdict.Differs place)) h e = let none : ⊥ = cc in absurd none
   write_rose (Ok (verdict.Lacks place)) h e = let none : ⊥ = cc in absurd none
   write_rose (Err (Opening parts.NoMemory)) h e = let none : ⊥ = cc in absurd none
@@ -38,6 +40,7 @@ module _ (before now : List ℕ) (printed prints : ℕ) where
 pub not_words : (r : Result Verdict MediaRefused) → status_of_comparison r ≡ Words → ⊥
 not_words (Ok verdict.Same) e = cc
 not_words (Ok verdict.Configuration) e = cc
+not_words (Ok (verdict.Damaged m offset)) e = cc
 not_words (Ok (verdict.Differs place)) e = cc
 not_words (Ok (verdict.Lacks place)) e = cc
 not_words (Err (Opening parts.NoMemory)) e = cc

@@ -15,10 +15,11 @@ use Rattle.vdr_command.specs.declared.status.Status.TheVariants.{Done, Damaged, 
 use Rattle.vdr_readout.specs.Telling.{status_of_part}
 
 -- The status of a comparison. Of the first place that differs or that a medium lacks, no record is sure; configurations that differ are told
--- as damage at the long-term medium's one.
+-- as damage at the long-term medium's one, and what is damaged as `rescue` tells it.
 abbrev pub status_of_comparison : Result Verdict MediaRefused → Status
 status_of_comparison (Ok verdict.Same) = Done
 status_of_comparison (Ok verdict.Configuration) = Damaged 1 text_from
+status_of_comparison (Ok (verdict.Damaged m offset)) = Damaged m offset
 status_of_comparison (Ok (verdict.Differs place)) = Missing place
 status_of_comparison (Ok (verdict.Lacks place)) = Missing place
 status_of_comparison (Err (Opening why)) = status_of_part why

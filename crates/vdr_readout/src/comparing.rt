@@ -21,6 +21,7 @@ fn ended_as(ended: Result<Verdict, MediaRefused>) -> Result<(), Status>
             medium: 1,
             offset: TEXT_FROM,
         }),
+        Ok(Verdict::Damaged { medium, offset }) => Err(Status::Damaged { medium, offset }),
         Ok(Verdict::Differs { place }) => Err(Status::Missing(place)),
         Ok(Verdict::Lacks { place }) => Err(Status::Missing(place)),
         Err(MediaRefused::Opening(refused)) => Err(status_of_part(refused)),
@@ -32,8 +33,9 @@ fn ended_as(ended: Result<Verdict, MediaRefused>) -> Result<(), Status>
 /// Compares both media, each opened alone and whatever its bytes are: the lines of `vdr_compare::compare_media`. Nothing is written to any
 /// medium.
 ///
-/// `Missing`: the first place that differs or that one of them lacks. `Damaged`: a medium can't be opened alone; at 12,288 of medium 1 also
-/// where the texts of the configurations differ.
+/// `Damaged`: a medium can't be opened alone; at 12,288 of medium 1 also where the texts of the configurations differ; else the first damage
+/// that is found of them, of the capsule first. `Missing`: nothing is damaged, and this is the first place that differs or that one of them
+/// lacks.
 pub fn answer_compare<I: Source + Drop, O: Sink + Drop, M: Media + Drop>(
     alloc: Global,
     world: &mut World<I, O, M>,

@@ -6,7 +6,7 @@ use Rattle.vdr_terms.specs.Stamps.{last_stamp}
 use Rattle.vdr_entry.specs.declared.query.Medium.{Medium}
 use Rattle.vdr_entry.specs.declared.query.Medium.TheVariants.{Capsule, LongTerm, Incident}
 use Rattle.vdr_control.specs.Orders.{PlainOrder}
-use Rattle.vdr_control.specs.Orders.PlainOrder.{Play as PlayOrder, Status as StatusOrder, Save as SaveOrder, Release as ReleaseOrder, Incidents as IncidentsOrder, Tell as TellOrder}
+use Rattle.vdr_control.specs.Orders.PlainOrder.{Play as PlayOrder, Status as StatusOrder, Save as SaveOrder, Release as ReleaseOrder, Incidents as IncidentsOrder, Evidence as EvidenceOrder, Tell as TellOrder}
 use Rattle.vdr_control.specs.Plays.{IsMedium, SpellsBound, SpellsPlay, medium_word}
 use Rattle.vdr_readout.specs.Informs.{IsWhole}
 use Rattle.vdr_readout.specs.Readings.{Reading, SpellsReading, plain_reading, reads}
@@ -29,6 +29,7 @@ as_asked StatusOrder = None
 as_asked (SaveOrder label) = None
 as_asked (ReleaseOrder id) = None
 as_asked IncidentsOrder = None
+as_asked (EvidenceOrder id) = None
 as_asked (TellOrder medium telling) = None
 as_asked (PlayOrder medium channel from to) = Some (record { medium = medium; channel = channel; from = from; to = to })
 
@@ -45,6 +46,7 @@ medium_in StatusOrder = None
 medium_in (SaveOrder label) = None
 medium_in (ReleaseOrder id) = None
 medium_in IncidentsOrder = None
+medium_in (EvidenceOrder id) = None
 medium_in (TellOrder medium telling) = None
 
 -- One order is one play.
@@ -68,6 +70,7 @@ last_in StatusOrder = None
 last_in (SaveOrder label) = None
 last_in (ReleaseOrder id) = None
 last_in IncidentsOrder = None
+last_in (EvidenceOrder id) = None
 last_in (TellOrder medium telling) = None
 
 first_same : (x y : List ℕ) (xs ys : List (List ℕ)) → x ∷ xs ≡ y ∷ ys → x ≡ y

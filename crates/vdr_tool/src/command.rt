@@ -127,8 +127,10 @@ fn answer<I: Source + Drop, O: Sink + Drop, M: Media + Drop, W: Watch<M>>(
 /// - `rescue info MEDIUM` reads `capsule` or `longterm` so, and prints before these lines what `info` prints of it.
 /// - `compare` reads no input. It reads both media alone, each as `rescue` does, and prints by rising place `differs PLACE` where both have
 ///   a record with other bytes, and `lacks MEDIUM A B` for the longest runs of places that the other medium has and this one lacks of its
-///   window; then `same A B`, the least and the greatest place of records that are the same. `differs configuration` stands before these
-///   where the texts of the configurations differ. It ends with `Missing` at the first such place.
+///   window; then `same A B`, the least and the greatest place of records that are the same. Before these stand `differs configuration`
+///   where the texts of the configurations differ, and `damaged MEDIUM OFFSET` by offset, of the capsule and then of the long-term medium.
+///   It ends with `Damaged` at the long-term medium's configuration where the texts differ, else at the first damage, or else with
+///   `Missing` at the first place.
 ///
 /// Any other words end with `Words`, and nothing is touched. A number is decimal digits without a sign and without a leading zero.
 ///
