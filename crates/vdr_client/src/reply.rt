@@ -4,13 +4,14 @@ use std::alloc::Global;
 use std::io::{BufRead, Write};
 
 /// The orders whose reply is a text, ended by a line `.`.
-const WITH_TEXT: [&[u8]; 6] = [
+const WITH_TEXT: [&[u8]; 7] = [
     b"PLAY ",
     b"INCIDENTS",
     b"SOURCES ",
     b"WATCH ",
     b"TARGETS ",
     b"DIGEST ",
+    b"EVIDENCE ",
 ];
 
 // Reads the next line, without its end.

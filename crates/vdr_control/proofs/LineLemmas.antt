@@ -1,12 +1,12 @@
 -- A line asks for one order at most.
 use Rattle.std.proofs.Common.{◌≡◌, ◌≤◌, ◌<◌, ◌+◌, ◌*◌, ◌==◌, ℕ, ℤ, pos, List, [], ◌∷◌, ◌++◌, length, get_or, drop, codes, decimal, refl, ap, subst, sym, ◌∙◌, arith}
-use Rattle.std.specs.Prelude.{if◌then◌else◌}
+use Rattle.std.specs.Prelude.{if◌then◌else◌, IfNone, Option, None, Some}
 use Rattle.std.proofs.lemmas.Fmt.{decimal_injective}
 use Rattle.vdr_terms.specs.Stamps.{last_stamp}
 use Rattle.vdr_entry.specs.declared.query.Medium.{Medium}
 use Rattle.vdr_control.specs.Lines.{AsksFor, IsPlayLine, IsTargetsLine, words}
 use Rattle.vdr_control.specs.Orders.{PlainOrder}
-use Rattle.vdr_control.specs.Orders.PlainOrder.{Status, Save, Release, Incidents, Play, Tell}
+use Rattle.vdr_control.specs.Orders.PlainOrder.{Status, Save, Release, Incidents, Play, Evidence, Tell}
 use Rattle.vdr_control.specs.Plays.{IsMedium, SpellsBound, SpellsPlay, medium_word}
 use Rattle.vdr_control.specs.declared.order.Telling.{Telling}
 use Rattle.vdr_control.specs.declared.order.Telling.TheVariants.{Sources, Watch, Targets, Digest}
@@ -23,6 +23,7 @@ data Kind : Type 0 where
   OfRelease : Kind
   OfIncidents : Kind
   OfPlay : Kind
+  OfEvidence : Kind
   OfSources : Kind
   OfWatch : Kind
   OfTargets : Kind
@@ -34,6 +35,7 @@ kind (Save label) = OfSave
 kind (Release id) = OfRelease
 kind Incidents = OfIncidents
 kind (Play medium channel from to) = OfPlay
+kind (Evidence id) = OfEvidence
 kind (Tell medium Sources) = OfSources
 kind (Tell medium Watch) = OfWatch
 kind (Tell medium (Targets at)) = OfTargets
@@ -45,7 +47,7 @@ letters line = get_or line 0 0 * 100 + get_or line 2 0
 
 kind_by : ℕ → Kind
 kind_by n =
-    if n == 8365 then OfStatus else if n == 8386 then OfSave else if n == 8276 then OfRelease else if n == 7367 then OfIncidents else if n == 8065 then OfPlay else
+    if n == 8365 then OfStatus else if n == 8386 then OfSave else if n == 8276 then OfRelease else if n == 7367 then OfIncidents else if n == 8065 then OfPlay else if n == 6973 then OfEvidence else
     if n == 8385 then OfSources else if n == 8784 then OfWatch else if n == 8482 then OfTargets else OfDigest
 
 kind_of_line : (line : List ℕ) (a : PlainOrder) → AsksFor line a → kind_by (letters line) ≡ kind a
@@ -55,6 +57,7 @@ kind_of_line line (Save label) asks = ap (λ (l : List ℕ). kind_by (letters l)
 kind_of_line line (Release id) asks = ap (λ (l : List ℕ). kind_by (letters l)) asks.2
 kind_of_line line Incidents asks = ap (λ (l : List ℕ). kind_by (letters l)) asks
 kind_of_line line (Play medium channel from to) asks = ap (λ (l : List ℕ). kind_by (letters l)) asks.begins
+kind_of_line line (Evidence id) asks = ap (λ (l : List ℕ). kind_by (letters l)) asks.2
 kind_of_line line (Tell medium Sources) asks = ap (λ (l : List ℕ). kind_by (letters l)) asks.1
 kind_of_line line (Tell medium Watch) asks = ap (λ (l : List ℕ). kind_by (letters l)) asks.1
 kind_of_line line (Tell medium (Targets at)) asks = ap (λ (l : List ℕ). kind_by (letters l)) asks.1.begins
@@ -67,6 +70,7 @@ Is OfSave b = (label : List ℕ) × (b ≡ Save label)
 Is OfRelease b = (id : ℕ) × (b ≡ Release id)
 Is OfIncidents b = b ≡ Incidents
 Is OfPlay b = (medium : Medium) × (channel : List ℕ) × (from : ℤ) × (to : ℤ) × (b ≡ Play medium channel from to)
+Is OfEvidence b = (id : ℕ) × (b ≡ Evidence id)
 Is OfSources b = (medium : Medium) × (b ≡ Tell medium Sources)
 Is OfWatch b = (medium : Medium) × (b ≡ Tell medium Watch)
 Is OfTargets b = (medium : Medium) × (at : ℤ) × (b ≡ Tell medium (Targets at))
@@ -78,6 +82,7 @@ is (Save label) = (label, refl)
 is (Release id) = (id, refl)
 is Incidents = refl
 is (Play medium channel from to) = (medium, channel, from, to, refl)
+is (Evidence id) = (id, refl)
 is (Tell medium Sources) = (medium, refl)
 is (Tell medium Watch) = (medium, refl)
 is (Tell medium (Targets at)) = (medium, at, refl)
@@ -149,6 +154,10 @@ one_order own texts line (Play m c f t) b x y =
     let o = other line (Play m c f t) b x y in
     let z = asks_so line b (Play o.0 o.1 o.2 o.3) o.4 y in
     one_play_line own line (Play m c f t) (Play o.0 o.1 o.2 o.3) x z ∙ sym o.4
+one_order own texts line (Evidence a) b x y =
+    let o = other line (Evidence a) b x y in
+    let z = asks_so line b (Evidence o.0) o.1 y in
+    ap Evidence (decimal_injective a o.0 (omega (arith, x.1)) (omega (arith, z.1)) (ap (λ (l : List ℕ). drop 18 l) (sym x.2 ∙ z.2))) ∙ sym o.1
 one_order own texts line (Tell m Sources) b x y =
     let o = other line (Tell m Sources) b x y in
     let z = asks_so line b (Tell o.0 Sources) o.1 y in
@@ -165,3 +174,20 @@ one_order own texts line (Tell m (Targets at)) b x y =
     let o = other line (Tell m (Targets at)) b x y in
     let z = asks_so line b (Tell o.0 (Targets o.1)) o.2 y in
     one_targets_line texts line m o.0 at o.1 x.0 z.0 x.1 z.1 ∙ sym o.2
+
+-- ---- a line that asks for none
+
+pub none_so : {A P Q : Type 0} (o : Option A) → (P → Q) → IfNone o P → IfNone o Q
+none_so None f p = f p
+none_so (Some x) f p = tt
+
+pub no_order : (line : List ℕ) → (line ≡ codes "STATUS" → ⊥) → (line ≡ codes "INCIDENTS" → ⊥) → ((label : List ℕ) → line ≡ codes "SAVE " ++ label → ⊥)
+    → ((id : ℕ) → AsksFor line (Release id) → ⊥) → ((id : ℕ) → AsksFor line (Evidence id) → ⊥) → ((order : PlainOrder) → IsPlayLine line order → ⊥)
+    → ((medium : Medium) (telling : Telling) → AsksFor line (Tell medium telling) → ⊥) → (order : PlainOrder) → AsksFor line order → ⊥
+no_order line status list save release evidence play tell Status asks = status asks
+no_order line status list save release evidence play tell (Save label) asks = save label asks
+no_order line status list save release evidence play tell (Release id) asks = release id asks
+no_order line status list save release evidence play tell Incidents asks = list asks
+no_order line status list save release evidence play tell (Play medium channel from to) asks = play (Play medium channel from to) asks
+no_order line status list save release evidence play tell (Evidence id) asks = evidence id asks
+no_order line status list save release evidence play tell (Tell medium telling) asks = tell medium telling asks

@@ -6,7 +6,7 @@ use Rattle.vdr_entry.specs.Utc.{utc_text, date_text, time_text}
 use Rattle.vdr_entry.specs.declared.query.Medium.{Medium}
 use Rattle.vdr_entry.specs.declared.query.Medium.TheVariants.{Capsule, LongTerm, Incident}
 use Rattle.vdr_control.specs.Orders.{PlainOrder}
-use Rattle.vdr_control.specs.Orders.PlainOrder.{Status, Save, Release, Incidents, Play, Tell}
+use Rattle.vdr_control.specs.Orders.PlainOrder.{Status, Save, Release, Incidents, Play, Evidence, Tell}
 use Rattle.vdr_control.specs.Plays.{IsMedium, SpellsBound, SpellsPlay, medium_word}
 
 -- Where a bound is none, there is no play.
@@ -17,6 +17,7 @@ no_from medium channel from to none Status spells = spells
 no_from medium channel from to none (Save label) spells = spells
 no_from medium channel from to none (Release id) spells = spells
 no_from medium channel from to none Incidents spells = spells
+no_from medium channel from to none (Evidence id) spells = spells
 no_from medium channel from to none (Tell asked telling) spells = spells
 
 pub no_to : (medium channel from to : List ℕ) → ((utc : ℤ) → SpellsBound (pos last_stamp) to utc → ⊥) → (order : PlainOrder) → SpellsPlay medium channel from to order → ⊥
@@ -25,6 +26,7 @@ no_to medium channel from to none Status spells = spells
 no_to medium channel from to none (Save label) spells = spells
 no_to medium channel from to none (Release id) spells = spells
 no_to medium channel from to none Incidents spells = spells
+no_to medium channel from to none (Evidence id) spells = spells
 no_to medium channel from to none (Tell asked telling) spells = spells
 
 -- One medium has a word: the first characters are c, l and i.
@@ -72,9 +74,11 @@ one_play own medium channel from to (Play m x f t) Status first second = absurd 
 one_play own medium channel from to (Play m x f t) (Save l) first second = absurd second
 one_play own medium channel from to (Play m x f t) (Release i) first second = absurd second
 one_play own medium channel from to (Play m x f t) Incidents first second = absurd second
+one_play own medium channel from to (Play m x f t) (Evidence i) first second = absurd second
 one_play own medium channel from to (Play m x f t) (Tell n telling) first second = absurd second
 one_play own medium channel from to Status b first second = absurd first
 one_play own medium channel from to (Save l) b first second = absurd first
 one_play own medium channel from to (Release i) b first second = absurd first
 one_play own medium channel from to Incidents b first second = absurd first
+one_play own medium channel from to (Evidence i) b first second = absurd first
 one_play own medium channel from to (Tell n telling) b first second = absurd first

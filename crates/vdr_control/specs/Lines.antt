@@ -4,7 +4,7 @@ use Rattle.std.specs.List.{slice_split}
 use Rattle.vdr_terms.specs.Stamps.{last_stamp}
 use Rattle.vdr_entry.specs.declared.query.Medium.{Medium}
 use Rattle.vdr_control.specs.Orders.{PlainOrder}
-use Rattle.vdr_control.specs.Orders.PlainOrder.{Status, Save, Release, Incidents, Play, Tell}
+use Rattle.vdr_control.specs.Orders.PlainOrder.{Status, Save, Release, Incidents, Play, Evidence, Tell}
 use Rattle.vdr_control.specs.Plays.{IsMedium, SpellsBound, SpellsPlay, medium_word}
 use Rattle.vdr_control.specs.declared.order.Telling.{Telling}
 use Rattle.vdr_control.specs.declared.order.Telling.TheVariants.{Sources, Watch, Targets, Digest}
@@ -47,4 +47,5 @@ AsksFor line (Save label) = line ≡ codes "SAVE " ++ label
 AsksFor line (Release id) = (1 ≤ id) × (id ≤ 32) × (line ≡ codes "RELEASE " ++ decimal id)
 AsksFor line Incidents = line ≡ codes "INCIDENTS"
 AsksFor line (Play medium channel from to) = IsPlayLine line (Play medium channel from to)
+AsksFor line (Evidence id) = (1 ≤ id) × (id ≤ 32) × (line ≡ codes "EVIDENCE incident-" ++ decimal id)
 AsksFor line (Tell medium telling) = IsMedium medium × IsTellingLine line medium telling

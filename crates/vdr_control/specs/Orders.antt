@@ -11,6 +11,7 @@ pub data PlainOrder : Type 0 where
   Release : (id : ℕ) → PlainOrder
   Incidents : PlainOrder
   Play : (medium : Medium) (channel : List ℕ) (from to : ℤ) → PlainOrder
+  Evidence : (id : ℕ) → PlainOrder
   Tell : (medium : Medium) (telling : Telling) → PlainOrder
 
 abbrev pub plain : Order → PlainOrder
@@ -19,4 +20,5 @@ plain (orders.Save label) = Save label.now
 plain (orders.Release id) = Release id
 plain orders.Incidents = Incidents
 plain (orders.Play medium channel from to) = Play medium channel.now from to
+plain (orders.Evidence id) = Evidence id
 plain (orders.Tell medium telling) = Tell medium telling

@@ -3,7 +3,7 @@ ghost use Rattle.std.specs.Prelude.{◌≡◌, ◌==◌, ◌++◌, ◌∷◌, []
 ghost use Rattle.vdr_entry.specs.declared.query.Medium.{Medium as AMedium};
 ghost use Rattle.vdr_control.specs.Lines.{AsksFor, IsPlayLine, IsTargetsLine, words};
 ghost use Rattle.vdr_control.specs.Orders.{PlainOrder, plain};
-ghost use Rattle.vdr_control.specs.Orders.PlainOrder.{Release, Tell};
+ghost use Rattle.vdr_control.specs.Orders.PlainOrder.{Evidence, Release, Tell};
 ghost use Rattle.vdr_control.specs.Plays.{IsMedium, medium_word};
 ghost use Rattle.vdr_control.specs.declared.order.Telling.{Telling as ATelling};
 
@@ -17,6 +17,7 @@ use vdr_entry::Medium;
 /// - `STATUS`, `INCIDENTS`
 /// - `SAVE LABEL`, with the rest of the line as the label, which may be empty: the save tests it
 /// - `RELEASE ID`, with an ID of 1 to 32 in decimal digits without a leading zero
+/// - `EVIDENCE incident-ID`, with such an ID
 /// - `PLAY MEDIUM CHANNEL FROM TO`, with the words of `read_play`, of which the channel has at least one byte
 /// - `SOURCES MEDIUM`, `WATCH MEDIUM`, `DIGEST MEDIUM`, with the MEDIUM of `read_play`
 /// - `TARGETS MEDIUM AT`, with AT as the TO of `read_play`
@@ -38,6 +39,9 @@ pub fn read_order(line: &[u8]) -> Option<Order<'_>>
     if let Some(id) = read_release_line(line) {
         return Some(Order::Release(id));
     }
+    if let Some(id) = read_evidence_line(line) {
+        return Some(Order::Evidence(id));
+    }
     if let Some(play) = read_play_line(line) {
         return Some(play);
     }
@@ -49,6 +53,14 @@ fn read_release_line(line: &[u8]) -> Option<u32>
     ensures none { IfNone result ((id : ℕ) → AsksFor line.now (Release id) → ⊥) }
 {
     let digits = behind(line, b"RELEASE ")?;
+    read_id(digits)
+}
+
+fn read_evidence_line(line: &[u8]) -> Option<u32>
+    ensures found { IfSome result (λ id. AsksFor line.now (Evidence id)) }
+    ensures none { IfNone result ((id : ℕ) → AsksFor line.now (Evidence id) → ⊥) }
+{
+    let digits = behind(line, b"EVIDENCE incident-")?;
     read_id(digits)
 }
 

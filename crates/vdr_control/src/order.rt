@@ -39,6 +39,8 @@ pub enum Order<'a> {
         /// The same; where it is below `from`, no record is asked for.
         to: i64,
     },
+    /// The evidence of the incident of this id, 1 to 32, is written.
+    Evidence(u32),
     /// Something is told of the records of a medium.
     Tell {
         /// An incident's id is 1 to 32.

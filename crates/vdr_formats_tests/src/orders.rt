@@ -45,6 +45,10 @@ pub(crate) fn order(line: &[u8], out: &mut MemorySink) {
             word(out, b"release");
             number(out, u64::from(id));
         }
+        Some(Order::Evidence(id)) => {
+            word(out, b"evidence");
+            number(out, u64::from(id));
+        }
         Some(
             Order::Play {
                 medium,

@@ -20,7 +20,7 @@ use Rattle.vdr_vault.specs.Vaults.{Stands, of_stamp}
 use Rattle.vdr_vault.specs.declared.refused.SaveRefused.{SaveRefused}
 use Rattle.vdr_vault.specs.declared.refused.SaveRefused.TheVariants as saves
 use Rattle.vdr_control.specs.Orders.{PlainOrder}
-use Rattle.vdr_control.specs.Orders.PlainOrder.{Status as StatusOrder, Save as SaveOrder, Release as ReleaseOrder, Incidents as IncidentsOrder, Play as PlayOrder, Tell as TellOrder}
+use Rattle.vdr_control.specs.Orders.PlainOrder.{Status as StatusOrder, Save as SaveOrder, Release as ReleaseOrder, Incidents as IncidentsOrder, Play as PlayOrder, Evidence as EvidenceOrder, Tell as TellOrder}
 use Rattle.vdr_recorder.specs.Recordings.{HasRecorded, RecorderState}
 use Rattle.vdr_recorder.specs.Watched.{DoneAndTold, Watched, id_or_0}
 use Rattle.vdr_recorder.specs.Watched.PlainTurn.{Look as ALook}
@@ -106,6 +106,7 @@ module _ {tells tells_images : Type 0} (opening : Opening) (events : List Event)
       spelled (ReleaseOrder id) e = is ∙ sym e
       spelled IncidentsOrder e = inl (is ∙ sym e)
       spelled (PlayOrder medium name from to) e = inl (is ∙ sym e)
+      spelled (EvidenceOrder id) e = inl (is ∙ sym e)
       spelled (TellOrder medium telling) e = inl (is ∙ sym e)
 
   module _ (works : r.vault.failed ≡ false) where

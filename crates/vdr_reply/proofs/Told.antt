@@ -18,9 +18,10 @@ use Rattle.vdr_entry.specs.declared.query.Medium.{Medium}
 use Rattle.vdr_entry.specs.declared.query.Medium.TheVariants.{Capsule, LongTerm, Incident as AnIncident}
 use Rattle.vdr_opening.specs.Media.{members}
 use Rattle.vdr_control.specs.Orders.{PlainOrder}
-use Rattle.vdr_control.specs.Orders.PlainOrder.{Status as StatusOrder, Save as SaveOrder, Release as ReleaseOrder, Incidents as IncidentsOrder, Play as PlayOrder, Tell as TellOrder}
+use Rattle.vdr_control.specs.Orders.PlainOrder.{Status as StatusOrder, Save as SaveOrder, Release as ReleaseOrder, Incidents as IncidentsOrder, Play as PlayOrder, Evidence as EvidenceOrder, Tell as TellOrder}
 use Rattle.vdr_recorder.specs.Recordings.{HasRecorded, RecorderState}
 use Rattle.vdr_recorder.specs.Watched.{DoneAndTold, Watched}
+use Rattle.vdr_teller.specs.Evidence.{save_query}
 use Rattle.vdr_teller.specs.Tellings.{query_told, told_text}
 use Rattle.vdr_vault.specs.Vaults.{VaultState}
 use Rattle.vdr_vault.specs.Visits.{HasVisited}
@@ -30,7 +31,7 @@ use Rattle.vdr_visit.specs.Visits.{AreVisited, HasMade}
 use Rattle.vdr_visit.specs.declared.visit_refused.VisitRefused.{VisitRefused}
 use Rattle.vdr_visit.specs.declared.visit_refused.VisitRefused.TheVariants as visits
 use Rattle.vdr_reply.specs.Answers.{HasAnswered, LacksMemory, Spells, text_at}
-use Rattle.vdr_reply.specs.Orders.{AsksToTell, act_after, channel_in, is_every, is_granted, is_named, query_of, text_after}
+use Rattle.vdr_reply.specs.Orders.{AsksToTell, act_after, channel_in, evidence_lines, is_every, is_granted, is_named, query_of, text_after}
 use Rattle.vdr_reply.specs.Texts.{IsTold, done_line, fault_line, memory_line, not_there_line, page_text, text_of, text_with}
 use Rattle.vdr_reply.proofs.Answered.{looked_answer, said_working, still_answer}
 
@@ -86,6 +87,7 @@ has_so false true there is all = absurd (true≢false (sym all ∙ is))
 module _ (channels : List Selector) (opening : Opening) (events : List Event) (query : Query) (told : List Record → List ℕ) where
   medium_is : (order : PlainOrder) → AsksToTell channels opening events order query told → (medium : Medium) × (query.medium ≡ asked_medium medium)
   medium_is (PlayOrder medium name from to) a = (medium, ap (λ (q : Query). q.medium) a.1)
+  medium_is (EvidenceOrder id) a = (AnIncident id, ap (λ (q : Query). q.medium) a.0)
   medium_is (TellOrder medium telling) a = (medium, ap (λ (q : Query). q.medium) a.0)
   medium_is StatusOrder a = absurd a
   medium_is (SaveOrder label) a = absurd a
@@ -94,6 +96,7 @@ module _ (channels : List Selector) (opening : Opening) (events : List Event) (q
 
   pub channel_is : (order : PlainOrder) → AsksToTell channels opening events order query told → lacks_channel (length channels) query.channel ≡ false
   channel_is (PlayOrder medium name from to) a = ap (λ (q : Query). lacks_channel (length channels) q.channel) a.1 ∙ asked_within channels medium name from to
+  channel_is (EvidenceOrder id) a = ap (λ (q : Query). lacks_channel (length channels) q.channel) a.0
   channel_is (TellOrder medium telling) a = ap (λ (q : Query). lacks_channel (length channels) q.channel) a.0
   channel_is StatusOrder a = absurd a
   channel_is (SaveOrder label) a = absurd a
@@ -102,6 +105,7 @@ module _ (channels : List Selector) (opening : Opening) (events : List Event) (q
 
   looks : (order : PlainOrder) → AsksToTell channels opening events order query told → act_after opening events order ≡ Look
   looks (PlayOrder medium name from to) a = refl
+  looks (EvidenceOrder id) a = refl
   looks (TellOrder medium telling) a = refl
   looks StatusOrder a = absurd a
   looks (SaveOrder label) a = absurd a
@@ -110,6 +114,7 @@ module _ (channels : List Selector) (opening : Opening) (events : List Event) (q
 
   changes_none : (vault : VaultState) (order : PlainOrder) → AsksToTell channels opening events order query told → (not vault.failed && is_granted order vault) ≡ false
   changes_none vault (PlayOrder medium name from to) a = and_false vault.failed
+  changes_none vault (EvidenceOrder id) a = and_false vault.failed
   changes_none vault (TellOrder medium telling) a = and_false vault.failed
   changes_none vault StatusOrder a = absurd a
   changes_none vault (SaveOrder label) a = absurd a
@@ -119,6 +124,7 @@ module _ (channels : List Selector) (opening : Opening) (events : List Event) (q
   spells_page : (met_fault : Type 0) (said text : List ℕ) (order : PlainOrder) → AsksToTell channels opening events order query told
       → (text ≡ said) ⊎ (((text ≡ fault_line) × met_fault) ⊎ LacksMemory said text) → Spells met_fault order said text
   spells_page met_fault said text (PlayOrder medium name from to) a is = is
+  spells_page met_fault said text (EvidenceOrder id) a is = is
   spells_page met_fault said text (TellOrder medium telling) a is = is
   spells_page met_fault said text StatusOrder a is = absurd a
   spells_page met_fault said text (SaveOrder label) a is = absurd a
@@ -135,6 +141,13 @@ module _ (channels : List Selector) (opening : Opening) (events : List Event) (q
       ∙ ap (λ (b : Bool). text_of (play_reply true b (refusal_of q.medium) (selected opening events q))) here
       ∙ ap (λ (q : Query). page_text (records_text nothing_seen (selected opening events q))) (sym a.1)
       ∙ ap page_text (sym (a.2 (selected opening events query)))
+  paged (EvidenceOrder id) a there =
+      let q = save_query id in
+      let lines = evidence_lines opening events id in
+      let here : is_there members opening events q.medium ≡ true = subst (λ (q : Query). is_there members opening events q.medium ≡ true) a.0 there in
+      ap (λ (b : Bool). text_with lines (play_reply true b (refusal_of q.medium) (selected opening events q))) here
+      ∙ ap (λ (q : Query). page_text (lines (selected opening events q))) (sym a.0)
+      ∙ ap page_text (sym (a.1 (selected opening events query)))
   paged (TellOrder medium telling) a there =
       let q = query_told medium telling in
       let here : is_there members opening events q.medium ≡ true = subst (λ (q : Query). is_there members opening events q.medium ≡ true) a.0 there in
@@ -154,6 +167,11 @@ module _ (channels : List Selector) (opening : Opening) (events : List Event) (q
       ap (λ (b : Bool). text_of (play_reply b (is_there members opening events q.medium) (refusal_of q.medium) (selected opening events q))) a.0
       ∙ ap (λ (b : Bool). text_of (play_reply true b (refusal_of q.medium) (selected opening events q))) (subst (λ (q : Query). is_there members opening events q.medium ≡ false) a.1 none)
       ∙ ap text_of (subst (λ (q : Query). refusal_of q.medium ≡ NoIncident) a.1 refusal)
+  missing (EvidenceOrder id) a none refusal =
+      let q = save_query id in
+      let lines = evidence_lines opening events id in
+      ap (λ (b : Bool). text_with lines (play_reply true b (refusal_of q.medium) (selected opening events q))) (subst (λ (q : Query). is_there members opening events q.medium ≡ false) a.0 none)
+      ∙ ap (text_with lines) (subst (λ (q : Query). refusal_of q.medium ≡ NoIncident) a.0 refusal)
   missing (TellOrder medium telling) a none refusal =
       let q = query_told medium telling in
       ap (λ (b : Bool). text_with (told_text telling) (play_reply true b (refusal_of q.medium) (selected opening events q))) (subst (λ (q : Query). is_there members opening events q.medium ≡ false) a.0 none)

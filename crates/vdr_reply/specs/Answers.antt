@@ -6,7 +6,7 @@ use Rattle.vdr_outside.specs.Causes.{NoneFalls, Rose}
 use Rattle.vdr_outside.specs.Disk.{Disk}
 use Rattle.vdr_config.specs.Configuration.{Selector}
 use Rattle.vdr_control.specs.Orders.{PlainOrder}
-use Rattle.vdr_control.specs.Orders.PlainOrder.{Status, Save, Release, Incidents, Play, Tell}
+use Rattle.vdr_control.specs.Orders.PlainOrder.{Status, Save, Release, Incidents, Play, Evidence, Tell}
 use Rattle.vdr_recorder.specs.Recordings.{RecorderState}
 use Rattle.vdr_recorder.specs.Watched.{DoneAndTold, Watched}
 use Rattle.vdr_reply.specs.Orders.{act_after, changes, granted_act, text_after}
@@ -29,6 +29,7 @@ Spells met_fault (Save label) said text = text ≡ said
 Spells met_fault (Release id) said text = text ≡ said
 Spells met_fault Incidents said text = (text ≡ said) ⊎ LacksMemory said text
 Spells met_fault (Play medium name from to) said text = (text ≡ said) ⊎ (((text ≡ fault_line) × met_fault) ⊎ LacksMemory said text)
+Spells met_fault (Evidence id) said text = (text ≡ said) ⊎ (((text ≡ fault_line) × met_fault) ⊎ LacksMemory said text)
 Spells met_fault (Tell medium telling) said text = (text ≡ said) ⊎ (((text ≡ fault_line) × met_fault) ⊎ LacksMemory said text)
 
 -- This event is the order's, and the text is its reply: both are functions of the events before it. After a fault it is a look.

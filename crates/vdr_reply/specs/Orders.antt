@@ -5,6 +5,7 @@ use Rattle.vdr_terms.specs.Records.{Record}
 use Rattle.vdr_core.specs.Histories.{Act, Event, Opening, incidents, live}
 use Rattle.vdr_durability.specs.Replies as replies
 use Rattle.vdr_durability.specs.Replies.{act_of, free_id, reply, save_of}
+use Rattle.vdr_base64.specs.Lines.{lines_of}
 use Rattle.vdr_config.specs.Configuration.{Selector}
 use Rattle.vdr_entry.specs.Queries.{asked_medium}
 use Rattle.vdr_entry.specs.declared.query.Medium.{Medium}
@@ -12,8 +13,10 @@ use Rattle.vdr_opening.specs.Media.{members}
 use Rattle.vdr_play.specs.Streams.{nothing_seen}
 use Rattle.vdr_play.specs.Texts.{records_text}
 use Rattle.vdr_control.specs.Orders.{PlainOrder}
-use Rattle.vdr_control.specs.Orders.PlainOrder.{Status, Save, Release, Incidents, Play, Tell}
+use Rattle.vdr_control.specs.Orders.PlainOrder.{Status, Save, Release, Incidents, Play, Evidence, Tell}
+use Rattle.vdr_evidence.specs.Files.{evidence_bytes}
 use Rattle.vdr_recorder.specs.Watched.{id_or_0}
+use Rattle.vdr_teller.specs.Evidence.{save_heading, save_query}
 use Rattle.vdr_teller.specs.Incidents.{incidents_text}
 use Rattle.vdr_teller.specs.Tellings.{query_told, told_text}
 use Rattle.vdr_vault.specs.Vaults.{VaultState}
@@ -35,6 +38,10 @@ abbrev pub query_of : List Selector → Medium → (name : List ℕ) → (from t
 query_of channels medium name from to =
     record { medium = asked_medium medium; channel = if is_every name then None else channel_in channels name; from = from; to = to }
 
+-- The evidence of an incident that is live after these events, as lines of base64: the file that `evidence` writes of all its records.
+abbrev pub evidence_lines : Opening → List Event → (id : ℕ) → List Record → List ℕ
+evidence_lines opening events id records = lines_of (evidence_bytes (save_heading opening.settings.text (incidents opening events) id) records)
+
 -- The text that an order is answered after these events, where these channels are configured and the media have not failed. The records of a
 -- medium are told as the command of that name tells them, and the live incidents are those of the history.
 abbrev pub text_after : List Selector → Opening → List Event → PlainOrder → List ℕ
@@ -44,6 +51,7 @@ text_after channels opening events (Release id) = text_of (reply members opening
 text_after channels opening events Incidents = page_text (incidents_text (incidents opening events))
 text_after channels opening events (Play medium name from to) =
     text_of (reply members opening events (replies.Order.Play (is_named channels name) (query_of channels medium name from to)))
+text_after channels opening events (Evidence id) = text_with (evidence_lines opening events id) (reply members opening events (replies.Order.Play true (save_query id)))
 text_after channels opening events (Tell medium telling) =
     text_with (told_text telling) (reply members opening events (replies.Order.Play true (query_told medium telling)))
 
@@ -54,12 +62,14 @@ act_after opening events (Save label) = act_of opening events (replies.Order.Sav
 act_after opening events (Release id) = act_of opening events (replies.Order.Release id) (reply members opening events (replies.Order.Release id))
 act_after opening events Incidents = Act.Look
 act_after opening events (Play medium name from to) = Act.Look
+act_after opening events (Evidence id) = Act.Look
 act_after opening events (Tell medium telling) = Act.Look
 
 -- After these events the order has the records of this query told by this text.
 abbrev pub AsksToTell : List Selector → Opening → List Event → PlainOrder → Query → (List Record → List ℕ) → Type 0
 AsksToTell channels opening events (Play medium name from to) query told =
     (is_named channels name ≡ true) × (query ≡ query_of channels medium name from to) × ((records : List Record) → told records ≡ records_text nothing_seen records)
+AsksToTell channels opening events (Evidence id) query told = (query ≡ save_query id) × ((records : List Record) → told records ≡ evidence_lines opening events id records)
 AsksToTell channels opening events (Tell medium telling) query told = (query ≡ query_told medium telling) × ((records : List Record) → told records ≡ told_text telling records)
 AsksToTell channels opening events Status query told = ⊥
 AsksToTell channels opening events (Save label) query told = ⊥
@@ -73,6 +83,7 @@ is_granted (Save label) vault = is_none (save_refusal label vault)
 is_granted (Release id) vault = is_some (live vault.table id)
 is_granted Incidents vault = false
 is_granted (Play medium name from to) vault = false
+is_granted (Evidence id) vault = false
 is_granted (Tell medium telling) vault = false
 
 abbrev pub changes : PlainOrder → VaultState → Bool
@@ -85,4 +96,5 @@ granted_act opening events (Save label) = save_of opening events label (id_or_0 
 granted_act opening events (Release id) = Act.Release id
 granted_act opening events Incidents = Act.Look
 granted_act opening events (Play medium name from to) = Act.Look
+granted_act opening events (Evidence id) = Act.Look
 granted_act opening events (Tell medium telling) = Act.Look

@@ -3,6 +3,8 @@ use Rattle.std.specs.Prelude.{◌≡◌, ◌⊎◌, ℕ, List, ◌++◌, codes, 
 use Rattle.vdr_terms.specs.Records.{Record}
 use Rattle.vdr_durability.specs.Replies.{Reply}
 use Rattle.vdr_durability.specs.Replies.Reply.{State, Saved, Released, Played, NoLabel, NothingToSave, TableFull, NoChannel, NoMedium, NoIncident, Failed}
+use Rattle.vdr_outside.specs.declared.fault.PartRefused.{PartRefused}
+use Rattle.vdr_outside.specs.declared.fault.PartRefused.TheVariants as parts
 use Rattle.vdr_play.specs.Streams.{nothing_seen}
 use Rattle.vdr_play.specs.Texts.{records_text}
 use Rattle.vdr_incident.specs.declared.refused.ReleaseRefused.{ReleaseRefused}
@@ -73,6 +75,12 @@ abbrev pub release_line : Result ⊤ ReleaseRefused → List ℕ
 release_line (Ok done) = text_of Released
 release_line (Err releases.NoSuch) = text_of NoIncident
 release_line (Err releases.Fault) = text_of Failed
+
+-- The line of an order for which a part of a medium could not be read.
+abbrev pub part_line : PartRefused → List ℕ
+part_line parts.NoMemory = memory_line
+part_line (parts.Damaged m offset) = damage_line
+part_line parts.Fault = fault_line
 
 -- It is this text, unless there is no memory for it.
 abbrev pub IsTextOr9 : (whole text : List ℕ) → Type 0

@@ -14,6 +14,7 @@ ghost use Rattle.vdr_recorder.specs.Recordings.{HasRecorded};
 ghost use Rattle.vdr_recorder.specs.Watched.{IsWatched};
 ghost use Rattle.vdr_reply.specs.Answers.{HasAnswered, HasOrderCause, LeavesRest};
 
+use crate::evidencing::answer_evidence;
 use crate::lines::{FAULT, of_release, of_save, of_state};
 use crate::listing::answer_incidents;
 use crate::playing::{Wanted, answer_play};
@@ -81,8 +82,8 @@ fn answer_release<M: Media, W: Watch<M>>(
 /// Answers an order. It is one event of the recorder's history: a save or a release that is granted, and else a look. The reply is a function
 /// of the history before that event. The watch is told of it before the reply is made, unless it met a fault.
 ///
-/// Once the media have failed each order is answered `FAULT 5`, as is the one that met the fault. What is played, told or listed is read into
-/// memory: it is answered `FAULT 5` too where a read fails, and `FAULT 9` where there is no memory for its page, or for a table that it tells.
+/// Once the media have failed each order is answered `FAULT 5`, as is the one that met the fault. What is played, told, listed or given as
+/// evidence is read into memory: it is answered `FAULT 5` too where a read fails, and `FAULT 9` where there is no memory for its page, or for a table that it tells.
 /// What is refused needs no memory.
 pub fn answer<M: Media, W: Watch<M>>(
     alloc: Global,
@@ -111,6 +112,7 @@ pub fn answer<M: Media, W: Watch<M>>(
         Order::Save(label) => answer_save(recorder, media, watch, label),
         Order::Release(id) => answer_release(recorder, media, watch, id),
         Order::Incidents => answer_incidents(alloc, recorder, media, watch),
+        Order::Evidence(id) => answer_evidence(alloc, recorder, media, watch, id),
         Order::Tell { medium, telling } => {
             answer_tell(alloc, recorder, media, watch, medium, telling)
         }

@@ -4,6 +4,7 @@
 #![tactic(auto)]
 
 mod answering;
+mod evidencing;
 mod lines;
 mod listing;
 mod page;

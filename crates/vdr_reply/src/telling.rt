@@ -34,8 +34,8 @@ use vdr_teller::{Lookout, Watcher};
 use vdr_terms::LAST_STAMP;
 use vdr_visit::{VisitRefused, Visitor};
 
-// Whether a query asks for a channel that is configured and for an incident that is live, where it asks for one.
-fn is_there(recorder: &Recorder, query: &Query) -> bool
+/// Whether a query asks for a channel that is configured and for an incident that is live, where it asks for one.
+pub(crate) fn is_there(recorder: &Recorder, query: &Query) -> bool
     ensures { result ≡ not (lacks_channel (length recorder.now.vault.config.channels) query.now.channel) && not (lacks_incident recorder.now.vault.table (asked query.now).medium) }
 {
     recorder.accept::<Infallible>(query).is_ok()

@@ -13,7 +13,7 @@ use Rattle.vdr_outside.specs.Causes.{Rose}
 use Rattle.vdr_outside.specs.Disk.{Disk}
 use Rattle.vdr_config.specs.Configuration.{Selector}
 use Rattle.vdr_control.specs.Orders.{PlainOrder}
-use Rattle.vdr_control.specs.Orders.PlainOrder.{Status, Save, Release, Incidents, Play, Tell}
+use Rattle.vdr_control.specs.Orders.PlainOrder.{Status, Save, Release, Incidents, Play, Evidence, Tell}
 use Rattle.vdr_vault.specs.Vaults.{VaultState}
 use Rattle.vdr_run.specs.declared.maker.Maker.{Maker}
 use Rattle.vdr_run.specs.Making.{counted_of}
@@ -43,6 +43,7 @@ begins_none true c (Save label) = refl
 begins_none true c (Release id) = refl
 begins_none true c Incidents = refl
 begins_none true c (Play medium name from to) = refl
+begins_none true c (Evidence id) = refl
 begins_none true c (Tell medium telling) = refl
 
 takes_none : (b c : Bool) (order : PlainOrder) → taken_by (cond b (did_for order) (cond c dids.Miss dids.Look)) ≡ []
@@ -53,6 +54,7 @@ takes_none true c (Save label) = refl
 takes_none true c (Release id) = refl
 takes_none true c Incidents = refl
 takes_none true c (Play medium name from to) = refl
+takes_none true c (Evidence id) = refl
 takes_none true c (Tell medium telling) = refl
 
 pub follows : (b c : Bool) (order : PlainOrder) → leads (cond b (did_for order) (cond c dids.Miss dids.Look)) ≡ false
@@ -63,6 +65,7 @@ follows true c (Save label) = refl
 follows true c (Release id) = refl
 follows true c Incidents = refl
 follows true c (Play medium name from to) = refl
+follows true c (Evidence id) = refl
 follows true c (Tell medium telling) = refl
 
 misses_so : (b c : Bool) (order : PlainOrder) → misses (cond b (did_for order) (cond c dids.Miss dids.Look)) ≡ true → c ≡ true
@@ -73,6 +76,7 @@ misses_so true c (Save label) e = absurd (true≢false (sym e))
 misses_so true c (Release id) e = absurd (true≢false (sym e))
 misses_so true c Incidents e = absurd (true≢false (sym e))
 misses_so true c (Play medium name from to) e = absurd (true≢false (sym e))
+misses_so true c (Evidence id) e = absurd (true≢false (sym e))
 misses_so true c (Tell medium telling) e = absurd (true≢false (sym e))
 
 missed_so : (b c : Bool) (order : PlainOrder) → b ≡ false → c ≡ true → misses (cond b (did_for order) (cond c dids.Miss dids.Look)) ≡ true
@@ -90,6 +94,7 @@ act_is opening taken events true c (Save label) = refl
 act_is opening taken events true c (Release id) = refl
 act_is opening taken events true c Incidents = refl
 act_is opening taken events true c (Play medium name from to) = refl
+act_is opening taken events true c (Evidence id) = refl
 act_is opening taken events true c (Tell medium telling) = refl
 
 records_none : (opening : Opening) (events : List Event) (b : Bool) (order : PlainOrder) → records_of_act (cond b (granted_act opening events order) Act.Look) ≡ []
@@ -99,6 +104,7 @@ records_none opening events true (Save label) = refl
 records_none opening events true (Release id) = refl
 records_none opening events true Incidents = refl
 records_none opening events true (Play medium name from to) = refl
+records_none opening events true (Evidence id) = refl
 records_none opening events true (Tell medium telling) = refl
 
 leaves_state : (opening : Opening) (events : List Event) (b : Bool) (order : PlainOrder) (t : RunState) → after_act t (cond b (granted_act opening events order) Act.Look) ≡ t
@@ -108,6 +114,7 @@ leaves_state opening events true (Save label) t = refl
 leaves_state opening events true (Release id) t = refl
 leaves_state opening events true Incidents t = refl
 leaves_state opening events true (Play medium name from to) t = refl
+leaves_state opening events true (Evidence id) t = refl
 leaves_state opening events true (Tell medium telling) t = refl
 
 -- with another cause of a fault, which counts for what reads media alone
@@ -119,6 +126,9 @@ spelled_so A B Incidents vault said text so h = h
 spelled_so A B (Play medium name from to) vault said text so (inl h) = inl h
 spelled_so A B (Play medium name from to) vault said text so (inr (inl h)) = inr (inl (h.0, so (and_false vault.failed) h.1))
 spelled_so A B (Play medium name from to) vault said text so (inr (inr h)) = inr (inr h)
+spelled_so A B (Evidence id) vault said text so (inl h) = inl h
+spelled_so A B (Evidence id) vault said text so (inr (inl h)) = inr (inl (h.0, so (and_false vault.failed) h.1))
+spelled_so A B (Evidence id) vault said text so (inr (inr h)) = inr (inr h)
 spelled_so A B (Tell medium telling) vault said text so (inl h) = inl h
 spelled_so A B (Tell medium telling) vault said text so (inr (inl h)) = inr (inl (h.0, so (and_false vault.failed) h.1))
 spelled_so A B (Tell medium telling) vault said text so (inr (inr h)) = inr (inr h)

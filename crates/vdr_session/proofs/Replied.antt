@@ -9,7 +9,7 @@ use Rattle.vdr_outside.specs.Disk.{Disk}
 use Rattle.vdr_config.specs.Configuration.{Selector}
 use Rattle.vdr_capture.specs.declared.sums.Outcome.{Outcome}
 use Rattle.vdr_control.specs.Orders.{PlainOrder}
-use Rattle.vdr_control.specs.Orders.PlainOrder.{Status, Save, Release, Incidents, Play, Tell}
+use Rattle.vdr_control.specs.Orders.PlainOrder.{Status, Save, Release, Incidents, Play, Evidence, Tell}
 use Rattle.vdr_recorder.specs.Recordings.{RecorderState}
 use Rattle.vdr_recorder.specs.Watched.{Watched}
 use Rattle.vdr_desk.specs.declared.desk.Desk.{Desk}
@@ -70,6 +70,9 @@ spelled_so A B Incidents said text so h = h
 spelled_so A B (Play medium name from to) said text so (inl h) = inl h
 spelled_so A B (Play medium name from to) said text so (inr (inl h)) = inr (inl (h.0, so h.1))
 spelled_so A B (Play medium name from to) said text so (inr (inr h)) = inr (inr h)
+spelled_so A B (Evidence id) said text so (inl h) = inl h
+spelled_so A B (Evidence id) said text so (inr (inl h)) = inr (inl (h.0, so h.1))
+spelled_so A B (Evidence id) said text so (inr (inr h)) = inr (inr h)
 spelled_so A B (Tell medium telling) said text so (inl h) = inl h
 spelled_so A B (Tell medium telling) said text so (inr (inl h)) = inr (inl (h.0, so h.1))
 spelled_so A B (Tell medium telling) said text so (inr (inr h)) = inr (inr h)

@@ -4,7 +4,7 @@ use Rattle.vdr_core.specs.Histories.{Opening}
 use Rattle.vdr_durability.specs.Keeping.{moment_of}
 use Rattle.vdr_config.specs.Configuration.{Selector}
 use Rattle.vdr_control.specs.Orders.{PlainOrder}
-use Rattle.vdr_control.specs.Orders.PlainOrder.{Status, Save, Release, Incidents, Play, Tell}
+use Rattle.vdr_control.specs.Orders.PlainOrder.{Status, Save, Release, Incidents, Play, Evidence, Tell}
 use Rattle.vdr_vault.specs.Vaults.{VaultState}
 use Rattle.vdr_reply.specs.Answers.{IsAnswer}
 use Rattle.vdr_reply.specs.Orders.{changes}
@@ -21,6 +21,7 @@ did_for (Save label) = dids.Save label
 did_for (Release id) = dids.Release id
 did_for Incidents = dids.Look
 did_for (Play medium name from to) = dids.Look
+did_for (Evidence id) = dids.Look
 did_for (Tell medium telling) = dids.Look
 
 -- A count of faults rose.

@@ -40,6 +40,12 @@ returns-in-Incidents-clause-answered g c = λ opening events t0 told h.
     c.answer_incidents.result c.args.recorder.now c.args.recorder.now (g.M.Media.disk c.args.media.now) (g.M.Media.disk c.args.media.now) g.W.Watch.hears (g.W.Watch.seen c.args.watch.now) (g.W.Watch.seen c.answer_incidents.new.watch))
     (sym (ap plain c.in-Incidents.is)) (c.answer_incidents.ensures.answered opening events t0 h)
 
+pub returns-in-Evidence-clause-answered : goal.returns-in-Evidence-clause-answered
+returns-in-Evidence-clause-answered g c = λ opening events t0 told h.
+    subst (λ (order : PlainOrder). HasAnswered c.args.recorder.now.vault.config.channels (Rose (sum (g.M.Media.faults c.args.media.now)) (sum (g.M.Media.faults c.answer_evidence.new.media))) opening events t0 order
+    c.answer_evidence.result c.args.recorder.now c.answer_evidence.new.recorder (g.M.Media.disk c.args.media.now) (g.M.Media.disk c.answer_evidence.new.media) g.W.Watch.hears (g.W.Watch.seen c.args.watch.now) (g.W.Watch.seen c.answer_evidence.new.watch))
+    (sym (ap plain c.in-Evidence.is)) (c.answer_evidence.ensures.answered opening events t0 told h)
+
 pub returns-in-Tell-clause-answered : goal.returns-in-Tell-clause-answered
 returns-in-Tell-clause-answered g c = λ opening events t0 told h.
     subst (λ (order : PlainOrder). HasAnswered c.args.recorder.now.vault.config.channels (Rose (sum (g.M.Media.faults c.args.media.now)) (sum (g.M.Media.faults c.answer_tell.new.media))) opening events t0 order
