@@ -7,6 +7,7 @@ pub(crate) const HELP: &str =
 
 Usage:
   vdr FOLDER COMMAND
+  vdr FILE from COMMAND WORDS
   vdr --help (or -h)
   vdr --version
 
@@ -35,6 +36,12 @@ Commands:
             stamps of the first and the last record, how many records of each kind there are,
             what the gaps count, and the SHA-256 of the file. One that is no evidence ends with
             its first part that is not legal, and where that begins.
+  from COMMAND WORDS
+            Reads FILE, an evidence file in the place of FOLDER, and prints what COMMAND prints of its
+            records: `play`, `values`, `track`, `sources`, `watch`, `runs`, `digest`, `targets`, `wav`,
+            `picture` or `pictures`, with its WORDS but MEDIUM. The file is read to its end first, and
+            one that is no evidence ends as by `verify`, with nothing printed. It is read again for
+            its records, so that it has to be a file, and where it has changed since, that is told.
   check     Reads a configuration from standard input and prints what it needs: the
             number of groups, the cost of a second and the usable bytes of a segment,
             and the slots of the capsule and of the long-term medium. A medium of N
@@ -62,9 +69,10 @@ Commands:
             fails is told at the end, and the others go on.
             Meanwhile an operator's orders are answered on 127.0.0.1, TCP port 61450, line by line:
             `STATUS`, `SAVE LABEL`, `RELEASE ID`, and with the words of their commands `PLAY`,
-            `INCIDENTS`, `SOURCES`, `WATCH`, `TARGETS` and `DIGEST`. This link is asked for a line
-            TURNS times at most, and waits as a port does. `STOP` ends the recording: what waits is
-            recorded, and the run is closed.
+            `INCIDENTS`, `SOURCES`, `WATCH`, `TARGETS` and `DIGEST`; `EVIDENCE incident-ID` gives the
+            evidence of an incident as lines of base64. This link is asked for a line TURNS times at
+            most, and waits as a port does. `STOP` ends the recording: what waits is recorded, and the
+            run is closed.
   order WORDS
             Sends such a line to the recorder of this host, with the first word in capitals, prints
             what is replied behind its `OK`, and ends with the status of a refusal. FOLDER may be any.
@@ -168,8 +176,9 @@ Commands:
   compare   Reads both media, each of them alone, and prints by rising place `differs PLACE` where both
             have a record, with other bytes, and `lacks MEDIUM A B` for the longest runs of places that
             the other medium has and this one lacks of its window; then `same A B`, the least and the
-            greatest place of records that are the same. `differs configuration` stands before these
-            where the texts of the configurations differ. Nothing is written.
+            greatest place of records that are the same. Before these stand `differs configuration`
+            where the texts of the configurations differ, and `damaged MEDIUM OFFSET` for each part that
+            is not legal, of `capsule` and then of `longterm`. Nothing is written.
   save LABEL
             Saves an incident: keeps the records of the long-term medium, from the first one
             of the last `incident_seconds` of recorder time to the last one, until the
@@ -196,6 +205,7 @@ Examples:
   vdr . packets < bridge.pcapng
   vdr . import < bridge.pcapng | vdr voyage replay
   vdr . verify < night.evidence
+  vdr night.evidence from play all - -
 
 A voyage on bench media, of which the capsule keeps a minute:
   mkdir voyage
@@ -242,7 +252,7 @@ Exit status, with the line that ends the output:
   4   `status 4 damaged MEDIUM OFFSET`: a part of this medium, 0 the capsule or 1 the
       long-term medium, is not legal; it begins at OFFSET, in bytes
   4   `status 4 missing PLACE`: by `rescue`: nothing is damaged, and records lack from PLACE on;
-      by `compare`: the first place that differs or lacks
+      by `compare`: nothing is damaged, and this is the first place that differs or lacks
   5   `status 5 media`: a medium is in use by another process, may not be opened or
       written, or could not be read, written or synced; what was recorded before stays.
       `play`, `sources`, `targets` and `incidents` need no leave to write. Behind a write or a sync
@@ -273,4 +283,6 @@ Exit status, with the line that ends the output:
       begins at OFFSET: 1 no capture, 2 cut off, 3 another version or order of bytes, 4 a
       length, 5 no such interface, 6 too many interfaces, 7 too many items. `import` has
       written the items before it
+  16  `status 16 evidence PART at OFFSET`: by `verify` and `from`: the file is no evidence, and
+      PART, which begins at OFFSET, is its first that is not legal
 ";

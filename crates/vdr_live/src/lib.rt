@@ -21,6 +21,7 @@ mod making;
 mod making_files;
 mod ports;
 mod program;
+mod reading_files;
 mod recording;
 mod session;
 mod sizes;

@@ -6,6 +6,7 @@ use crate::help::{HELP, VERSION};
 use crate::helping::tell_command;
 use crate::making::is_make;
 use crate::making_files::{ended, make_files};
+use crate::reading_files::read_file;
 use crate::{Line, line_of, medium_use, run};
 use std::alloc::AllocError;
 use std::io;
@@ -16,6 +17,7 @@ use std::thread::Threads;
 use vdr_adapters::{FileMedia, StandardStreams, StdIn, StdOut, SystemFile};
 use vdr_capture::Lane;
 use vdr_client::order;
+use vdr_from::is_from;
 use vdr_outside::{Link, Port};
 use vdr_session::{Desk, Mark};
 use vdr_sockets::Alarm;
@@ -94,11 +96,27 @@ fn make_beside<I: Read + Drop, O: Write + Drop, E: Eprint>(
     make_files(host, errors, folder, input, output)
 }
 
+// Reads a stored file out, but beside a standard stream that could not be filled.
+fn read_beside<O: Write + Drop, E: Eprint>(
+    host: &HostRuntime,
+    errors: &E,
+    filled: &io::Result<StandardStreams>,
+    path: &str,
+    words: &[String],
+    output: O,
+) -> Status {
+    if let Err(error) = filled {
+        let _ = eprintln!(errors; "vdr: /dev/null: {error}");
+        return ended(output, Status::InputFault);
+    }
+    read_file(host, errors, path, words, output)
+}
+
 /// Does what the words of the program ask for, over these streams, the media of the folder that the first word names, the ports
 /// of these lanes and the links of these desks, and tells the exit status.
 ///
 /// `--help`, `-h` and `--version`, as the only word, print what the program says of itself, and `--help` with a command what it says of that.
-/// `make` makes the media and formats them. Where something went wrong, one line for a person says what, or the way on (docs/formats/hints.md). Standard streams that are closed
+/// `make` makes the media and formats them. `from` reads the stored file that the first word names. Where something went wrong, one line for a person says what, or the way on (docs/formats/hints.md). Standard streams that are closed
 /// are filled before any medium is opened, and before any port or link is asked. An order goes to the recorder of this host, and its reply to
 /// the standard output. The alarm is raised where a medium can't be written or synced; ports and links that were made for it then end. Files
 /// are those of `host`, and threads and waiting those of `rt`: in `main` both are its one parameter.
@@ -136,6 +154,9 @@ pub fn command_line<
         Line::Order { words } => return order(rt, words),
         Line::Command { folder, command } => (folder, command),
     };
+    if is_from(command) {
+        return read_beside(host, errors, &filled, folder, command, output).code();
+    }
     let Ok(input) = BufReader::with_capacity(host.alloc(), READ_AHEAD, input) else {
         return Status::NoMemory.code();
     };

@@ -4,6 +4,7 @@ use crate::media::Shelf;
 use crate::ran::Ran;
 use crate::running::{MemoryWorld, answered, contents_of, ran_in, words_of, world_of};
 use crate::setting::Setting;
+use crate::stored::ran_from;
 use crate::texts::Texts;
 use anyhow::{Result, bail, ensure};
 use std::alloc::Global;
@@ -11,6 +12,7 @@ use std::mem;
 use std::sync::Wait;
 use std::thread::Threads;
 use std::time::Clock;
+use vdr_from::is_from;
 use vdr_memory::MemoryMedia;
 
 #[derive(Drop)]
@@ -66,6 +68,29 @@ impl Bench {
             self.shelf.hold(media);
         }
         Ok(())
+    }
+
+    // Runs the command of a line over a stored file, which is the text that stands as its input.
+    fn run_from(&mut self, words: &[String], name: &str, setting: &Setting) -> Result<()> {
+        let later = match &setting.later {
+            Some(name) => Some(self.texts.get(name.as_str())?),
+            None => None,
+        };
+        let ran = ran_from(self.alloc, words, self.input(name)?, later, setting)?;
+        self.ran = ran;
+        Ok(())
+    }
+
+    // Runs the command of a line over the media, or over a stored file where its words ask for one.
+    fn run_line<R: Threads + Wait + Sync>(&mut self, rt: &R, rest: &str) -> Result<()> {
+        let (words, name) = rest.rsplit_once(" < ").unwrap_or((rest, ""));
+        let words = words_of(self.alloc, words)?;
+        if !is_from(words.as_slice()) {
+            return self.run(rt, rest);
+        }
+        self.ran.end()?;
+        let setting = mem::replace(&mut self.setting, Setting::new(self.alloc));
+        self.run_from(words.as_slice(), name, &setting)
     }
 
     // Runs the command of a line.
@@ -153,7 +178,7 @@ impl Bench {
         rest: &str,
     ) -> Result<()> {
         match verb {
-            "$" => self.run(rt, rest),
+            "$" => self.run_line(rt, rest),
             "is" => self.is(rest),
             "front" => self.is_front(rest),
             "take" => self.take(rest),

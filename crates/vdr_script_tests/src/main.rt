@@ -11,6 +11,7 @@ mod media;
 mod ran;
 mod running;
 mod setting;
+mod stored;
 mod texts;
 
 use anyhow::Result;

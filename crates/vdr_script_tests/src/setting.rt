@@ -15,6 +15,8 @@ pub(crate) struct Setting {
     pub(crate) failing: Vec<u64>,
     pub(crate) failing_reads: Vec<u64>,
     pub(crate) failing_writes: Vec<u64>,
+    /// The text that a stored file is once it was read, where that is another one.
+    pub(crate) later: Option<String>,
     given: Vec<Given>,
     // The groups of ports, and the takes that fail and that find none.
     failing_takes: Vec<(u8, u64)>,
@@ -70,6 +72,7 @@ impl Setting {
             failing: Vec::new(alloc),
             failing_reads: Vec::new(alloc),
             failing_writes: Vec::new(alloc),
+            later: None,
             given: Vec::new(alloc),
             failing_takes: Vec::new(alloc),
             quiet_takes: Vec::new(alloc),
@@ -161,6 +164,11 @@ impl Setting {
         Ok(())
     }
 
+    fn change_later(&mut self, name: &str) -> Result<()> {
+        self.later = Some(String::from_str(self.alloc, name)?);
+        Ok(())
+    }
+
     fn fail_line(&mut self, rest: &str) -> Result<()> {
         push_number(&mut self.link()?.failing, rest)
     }
@@ -191,6 +199,7 @@ impl Setting {
             "fail" => push_number(&mut self.failing, rest),
             "fail-read" => push_number(&mut self.failing_reads, rest),
             "fail-write" => push_number(&mut self.failing_writes, rest),
+            "later" => self.change_later(rest),
             _ => return self.follow_lanes(verb, rest),
         };
         Some(done)

@@ -1,0 +1,5 @@
+pub mod HeldLemmas
+pub mod TellLemmas
+pub mod WriteLemmas
+pub mod OwedLemmas
+pub mod WordCounts
