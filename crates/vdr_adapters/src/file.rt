@@ -224,6 +224,11 @@ impl<F: MediumFile + Drop> FileMedium<F> {
         self.state == State::Shut
     }
 
+    /// How long the longest sync of the last minute took, in milliseconds, where that is told.
+    pub(crate) fn longest_sync(&self) -> Option<u64> {
+        self.file.as_ref()?.longest_sync()
+    }
+
     /// What stood in the way as it was opened, or at the last call that failed.
     pub(crate) fn trouble(&self) -> Option<&Trouble> {
         self.trouble.as_ref()

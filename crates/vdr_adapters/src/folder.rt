@@ -55,6 +55,9 @@ pub trait MediumFile {
     fn sync_data(&mut self) -> io::Result<()>
         ensures call { Makes (seen self.old) (seen self.new) (Sync ∷ []) };
 
+    /// How long its longest sync of the last minute took, in milliseconds. None where there was none, or none is told.
+    fn longest_sync(&self) -> Option<u64>;
+
     /// Leaves its mark beside it, which says that it is not to be trusted, and syncs the folder. Where that fails, it is told
     /// on the standard error.
     fn leave_mark(&mut self, why: &io::Error)

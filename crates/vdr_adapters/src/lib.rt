@@ -14,6 +14,7 @@ mod making;
 mod media;
 mod standard;
 mod streams;
+mod syncs;
 mod system;
 mod trouble;
 

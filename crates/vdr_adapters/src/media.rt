@@ -16,6 +16,7 @@ use crate::folder::{Access, MediaFolder, MediumFile};
 use crate::system::{SystemFile, SystemFolder};
 use std::alloc::AllocError;
 use std::fs::{File, Files};
+use std::time::Clock;
 use vdr_outside::{Failed, Media};
 use vdr_sockets::Alarm;
 
@@ -45,7 +46,7 @@ pub struct FileMedia<'a, F: MediumFile + Drop> {
     long_term: FileMedium<F>,
 }
 
-impl<'a, R: AllocGlobal + Files<File = File> + Eprint + Copy> FileMedia<'a, SystemFile<R>> {
+impl<'a, R: AllocGlobal + Files<File = File> + Clock + Eprint + Copy> FileMedia<'a, SystemFile<R>> {
     /// The media in this folder. No file is made, and none is changed before the first write.
     pub fn open(rt: R, folder: &str) -> Result<FileMedia<'a, SystemFile<R>>, AllocError> {
         FileMedia::open_in(&SystemFolder::new(rt, folder))
@@ -134,6 +135,12 @@ impl<'a, F: MediumFile + Drop> FileMedia<'a, F> {
     /// From now on the alarm is raised where one of the media can't be written or synced.
     pub fn tell(&mut self, alarm: &'a Alarm) {
         self.alarm = Some(alarm);
+    }
+
+    /// How long the longest sync of the last minute took, of the capsule and of the long-term medium, in milliseconds. None where there was
+    /// none, or none is told.
+    pub fn longest_syncs(&self) -> (Option<u64>, Option<u64>) {
+        (self.capsule.longest_sync(), self.long_term.longest_sync())
     }
 
     // Raises the alarm where a write or a sync failed, and hands on what it answered.

@@ -3,29 +3,32 @@
 // What is neither a file nor a block device is refused before it is opened: to open a pipe waits for its other end.
 use crate::Trouble;
 use crate::folder::{Access, MediaFolder, MediumFile, NewMedia, Unopened};
+use crate::syncs::SyncTimes;
 use std::fs::{File, FileType, Files, OpenOptions, TryLockError};
 use std::io::{ErrorKind, Seek, SeekFrom, Write};
 use std::os::unix::fs::{FileExt, FileTypeExt, OpenOptionsExt};
+use std::time::{Clock, Duration};
 use std::{fs, io};
 
 /// A folder of the file system.
 #[derive(Drop)]
-pub struct SystemFolder<'a, R: AllocGlobal + Files<File = File> + Eprint + Copy> {
+pub struct SystemFolder<'a, R: AllocGlobal + Files<File = File> + Clock + Eprint + Copy> {
     rt: R,
     path: &'a str,
 }
 
 /// A file of such a folder. The system drops its lock with it.
 #[derive(Drop)]
-pub struct SystemFile<R: AllocGlobal + Files<File = File> + Eprint + Copy> {
+pub struct SystemFile<R: AllocGlobal + Files<File = File> + Clock + Eprint + Copy> {
     rt: R,
     file: File,
     // The paths of its folder and of its mark, made beforehand, so that leaving it needs no memory.
     folder: String,
     mark: String,
+    syncs: SyncTimes,
 }
 
-impl<'a, R: AllocGlobal + Files<File = File> + Eprint + Copy> SystemFolder<'a, R> {
+impl<'a, R: AllocGlobal + Files<File = File> + Clock + Eprint + Copy> SystemFolder<'a, R> {
     /// The folder at this path.
     pub fn new(rt: R, path: &'a str) -> SystemFolder<'a, R> {
         SystemFolder { rt, path }
@@ -59,7 +62,8 @@ fn may_be_medium(kind: FileType) -> bool {
     kind.is_file() || kind.is_block_device()
 }
 
-impl<'a, R: AllocGlobal + Files<File = File> + Eprint + Copy> MediaFolder for SystemFolder<'a, R> {
+impl<'a, R: AllocGlobal + Files<File = File> + Clock + Eprint + Copy> MediaFolder
+    for SystemFolder<'a, R> {
     type File = SystemFile<R>;
 
     fn trouble(&self) -> Option<Trouble> {
@@ -121,7 +125,7 @@ impl<'a, R: AllocGlobal + Files<File = File> + Eprint + Copy> MediaFolder for Sy
 // The owner alone reads and writes a medium that was made.
 const OWNER_ALONE: u32 = 0o600;
 
-impl<'a, R: AllocGlobal + Files<File = File> + Eprint + Copy> SystemFolder<'a, R> {
+impl<'a, R: AllocGlobal + Files<File = File> + Clock + Eprint + Copy> SystemFolder<'a, R> {
     // Makes the file at this path.
     fn create_at(&self, path: &str) -> Result<File, Unopened> {
         let created = OpenOptions::new()
@@ -145,7 +149,8 @@ impl<'a, R: AllocGlobal + Files<File = File> + Eprint + Copy> SystemFolder<'a, R
     }
 }
 
-impl<'a, R: AllocGlobal + Files<File = File> + Eprint + Copy> NewMedia for SystemFolder<'a, R> {
+impl<'a, R: AllocGlobal + Files<File = File> + Clock + Eprint + Copy> NewMedia
+    for SystemFolder<'a, R> {
     type File = SystemFile<R>;
 
     ghost stands = { λ s part. ⊥ };
@@ -194,7 +199,7 @@ impl<'a, R: AllocGlobal + Files<File = File> + Eprint + Copy> NewMedia for Syste
     }
 }
 
-impl<R: AllocGlobal + Files<File = File> + Eprint + Copy> SystemFile<R> {
+impl<R: AllocGlobal + Files<File = File> + Clock + Eprint + Copy> SystemFile<R> {
     /// A file that is open already, with the folder that it stands in, and the path of its mark.
     pub fn over(rt: R, file: File, folder: String, mark: String) -> SystemFile<R> {
         SystemFile {
@@ -202,7 +207,13 @@ impl<R: AllocGlobal + Files<File = File> + Eprint + Copy> SystemFile<R> {
             file,
             folder,
             mark,
+            syncs: SyncTimes::new(),
         }
+    }
+
+    // The monotonic clock, at its beginning where it can't be read.
+    fn now(&self) -> Duration {
+        self.rt.monotonic().unwrap_or(Duration::ZERO)
     }
 
     // Makes the mark, with what it is left for, and syncs both it and the folder.
@@ -214,7 +225,7 @@ impl<R: AllocGlobal + Files<File = File> + Eprint + Copy> SystemFile<R> {
     }
 }
 
-impl<R: AllocGlobal + Files<File = File> + Eprint + Copy> MediumFile for SystemFile<R> {
+impl<R: AllocGlobal + Files<File = File> + Clock + Eprint + Copy> MediumFile for SystemFile<R> {
     ghost use Rattle.std.specs.Prelude.{None};
 
     ghost seen = { λ _. None };
@@ -245,7 +256,15 @@ impl<R: AllocGlobal + Files<File = File> + Eprint + Copy> MediumFile for SystemF
     }
 
     fn sync_data(&mut self) -> io::Result<()> {
-        self.file.sync_data()
+        let began = self.now();
+        let synced = self.file.sync_data();
+        let ended = self.now();
+        self.syncs.note(began, ended);
+        synced
+    }
+
+    fn longest_sync(&self) -> Option<u64> {
+        self.syncs.longest(self.now())
     }
 
     fn leave_mark(&mut self, why: &io::Error) {

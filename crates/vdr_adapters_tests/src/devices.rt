@@ -2,18 +2,20 @@
 use anyhow::{Result, bail, ensure};
 use std::fs::{File, Files, OpenOptions};
 use std::io;
+use std::time::Clock;
 use vdr_adapters::{Access, MediaFolder, MediumFile, SystemFile, SystemFolder, Trouble, Unopened};
 
 /// A folder in which the medium of this name is a device.
 #[derive(Drop)]
-pub(crate) struct WithDevice<'a, 'w, R: AllocGlobal + Files<File = File> + Eprint> {
+pub(crate) struct WithDevice<'a, 'w, R: AllocGlobal + Files<File = File> + Clock + Eprint> {
     pub(crate) rt: &'a R,
     pub(crate) folder: &'w str,
     pub(crate) name: &'w str,
     pub(crate) device: &'w str,
 }
 
-impl<'a, 'w, R: AllocGlobal + Files<File = File> + Eprint> MediaFolder for WithDevice<'a, 'w, R> {
+impl<'a, 'w, R: AllocGlobal + Files<File = File> + Clock + Eprint> MediaFolder
+    for WithDevice<'a, 'w, R> {
     type File = SystemFile<&'a R>;
 
     fn trouble(&self) -> Option<Trouble> {
@@ -38,7 +40,7 @@ impl<'a, 'w, R: AllocGlobal + Files<File = File> + Eprint> MediaFolder for WithD
 }
 
 // The device, as a file of this folder with this mark.
-fn open_device<'a, R: AllocGlobal + Files<File = File> + Eprint>(
+fn open_device<'a, R: AllocGlobal + Files<File = File> + Clock + Eprint>(
     rt: &'a R,
     folder: &str,
     mark: &str,
@@ -63,7 +65,7 @@ fn fails<F: MediumFile>(file: &mut F) -> Result<()> {
 }
 
 // The capsule of this folder, on a full device.
-fn full<'a, R: AllocGlobal + Files<File = File> + Eprint>(
+fn full<'a, R: AllocGlobal + Files<File = File> + Clock + Eprint>(
     rt: &'a R,
     folder: &str,
 ) -> Result<SystemFile<&'a R>> {
@@ -74,7 +76,7 @@ fn full<'a, R: AllocGlobal + Files<File = File> + Eprint>(
 }
 
 /// A write to a full device fails.
-pub(crate) fn fail_when_full<R: AllocGlobal + Files<File = File> + Eprint>(
+pub(crate) fn fail_when_full<R: AllocGlobal + Files<File = File> + Clock + Eprint>(
     rt: &R,
     folder: &str,
 ) -> Result<()> {
@@ -82,7 +84,7 @@ pub(crate) fn fail_when_full<R: AllocGlobal + Files<File = File> + Eprint>(
 }
 
 /// Leaves the mark of a full device.
-pub(crate) fn leave_mark<R: AllocGlobal + Files<File = File> + Eprint>(
+pub(crate) fn leave_mark<R: AllocGlobal + Files<File = File> + Clock + Eprint>(
     rt: &R,
     folder: &str,
 ) -> Result<()> {

@@ -2,6 +2,7 @@
 use crate::sockets::{hear_of, take, take_of};
 use crate::words::{first_word, number, port_number, run_of, small_number};
 use anyhow::{Result, ensure};
+use std::fs::{File, Files};
 use std::net::{Ipv4Addr, Net, SocketAddr, TcpListener, TcpStream, UdpSocket};
 use std::time::{Clock, Duration};
 use vdr_outside::Port;
@@ -34,7 +35,7 @@ fn gives<R: Net, P: Port>(rt: &R, port: &mut P, number: u16) -> Result<()> {
 }
 
 // That what is sent to 60,001 + g comes to the port of group g.
-fn is_group<R: Net + Clock + Eprint>(rt: &R, word: &str) -> Result<()> {
+fn is_group<R: Net + Files<File = File> + Clock + Eprint>(rt: &R, word: &str) -> Result<()> {
     let group = small_number(word)?;
     ensure!(group < 16, "no group");
     let now = rt.monotonic()?;
@@ -51,7 +52,7 @@ fn link_fails<R: AllocGlobal + Net<Listener = TcpListener, Stream = TcpStream> +
 }
 
 // That a port which another one has can't be bound.
-fn port_fails<R: Net + Clock + Eprint>(rt: &R, word: &str) -> Result<()> {
+fn port_fails<R: Net + Files<File = File> + Clock + Eprint>(rt: &R, word: &str) -> Result<()> {
     let number = port_number(word)?;
     let now = rt.monotonic()?;
     take_of(&mut UdpPort::with_number(rt, number, now), "failed")
@@ -65,7 +66,11 @@ fn is_closed<R: Net<Listener = TcpListener, Stream = TcpStream>>(rt: &R, at: &st
 
 /// Follows a line of a script that is about this host. None where there is no such line.
 pub(crate) fn follow<
-    R: AllocGlobal + Net<Listener = TcpListener, Stream = TcpStream> + Clock + Eprint,
+    R: AllocGlobal
+        + Files<File = File>
+        + Net<Listener = TcpListener, Stream = TcpStream>
+        + Clock
+        + Eprint,
 >(rt: &R, link: u16, verb: &str, rest: &str) -> Option<Result<()>> {
     let done = match verb {
         "group" => is_group(rt, rest),

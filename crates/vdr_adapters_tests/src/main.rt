@@ -5,6 +5,7 @@
 
 mod client;
 mod devices;
+mod gauges;
 mod hosts;
 mod media;
 mod paths;
@@ -89,6 +90,9 @@ fn follow<
         return done;
     }
     if let Some(done) = wires.follow(rt, verb, rest) {
+        return done;
+    }
+    if let Some(done) = gauges::follow(verb, rest) {
         return done;
     }
     follow_beside(rt, verb, rest)

@@ -131,3 +131,16 @@ pub(crate) fn tells<F: MediumFile + Drop>(
     );
     Ok(())
 }
+
+/// That a sync of the capsule and of the long-term medium in the last minute is told, or none, as the words say: `yes` or `no`.
+pub(crate) fn timed<F: MediumFile + Drop>(media: &FileMedia<F>, words: &str) -> Result<()> {
+    let (capsule, long_term) = media.longest_syncs();
+    let said = match (capsule.is_some(), long_term.is_some()) {
+        (true, true) => "yes yes",
+        (true, false) => "yes no",
+        (false, true) => "no yes",
+        (false, false) => "no no",
+    };
+    ensure!(said == words, "it says {said}");
+    Ok(())
+}

@@ -7,6 +7,7 @@ use anyhow::Result;
 use std::alloc::Global;
 use std::fs::{File, Files};
 use std::mem;
+use std::time::Clock;
 use vdr_adapters::{FileMedia, MediumFile, SystemFile};
 use vdr_sockets::Alarm;
 
@@ -73,6 +74,7 @@ impl<'a, F: MediumFile + Drop> Shelf<'a, F> {
                 Some(Ok(()))
             }
             "tells" | "tells-locked" => Some(self.tells(alloc, verb, rest)),
+            "timed" => Some(media::timed(&self.media, rest)),
             "sync" | "read" | "write" | "size" | "has" | "put" | "fill" => {
                 let may_write = self.may_write;
                 Some(media::follow(alloc, &mut self.media, may_write, verb, rest))
@@ -83,7 +85,7 @@ impl<'a, F: MediumFile + Drop> Shelf<'a, F> {
 }
 
 // Opens media in which a medium is a device.
-fn open_device<'a, R: AllocGlobal + Files<File = File> + Eprint>(
+fn open_device<'a, R: AllocGlobal + Files<File = File> + Clock + Eprint>(
     rt: &'a R,
     rest: &str,
 ) -> Result<FileMedia<'a, SystemFile<&'a R>>> {
@@ -98,7 +100,7 @@ fn open_device<'a, R: AllocGlobal + Files<File = File> + Eprint>(
 }
 
 // Opens the media of a folder.
-fn open<'a, R: AllocGlobal + Files<File = File> + Eprint>(
+fn open<'a, R: AllocGlobal + Files<File = File> + Clock + Eprint>(
     rt: &'a R,
     shelf: &mut Shelf<'a, SystemFile<&'a R>>,
     folder: &str,
@@ -108,7 +110,7 @@ fn open<'a, R: AllocGlobal + Files<File = File> + Eprint>(
 }
 
 // Opens media in which a medium is a device.
-fn open_with<'a, R: AllocGlobal + Files<File = File> + Eprint>(
+fn open_with<'a, R: AllocGlobal + Files<File = File> + Clock + Eprint>(
     rt: &'a R,
     shelf: &mut Shelf<'a, SystemFile<&'a R>>,
     rest: &str,
@@ -118,7 +120,7 @@ fn open_with<'a, R: AllocGlobal + Files<File = File> + Eprint>(
 }
 
 // Makes a file read-only.
-fn lock<'a, R: AllocGlobal + Files<File = File> + Eprint>(
+fn lock<'a, R: AllocGlobal + Files<File = File> + Clock + Eprint>(
     rt: &'a R,
     shelf: &mut Shelf<'a, SystemFile<&'a R>>,
     path: &str,
@@ -128,7 +130,7 @@ fn lock<'a, R: AllocGlobal + Files<File = File> + Eprint>(
 }
 
 /// Follows a line of a script that opens files. None where there is no such line.
-pub(crate) fn follow<'a, R: AllocGlobal + Files<File = File> + Eprint>(
+pub(crate) fn follow<'a, R: AllocGlobal + Files<File = File> + Clock + Eprint>(
     rt: &'a R,
     shelf: &mut Shelf<'a, SystemFile<&'a R>>,
     verb: &str,

@@ -4,6 +4,7 @@ use crate::sockets::{follow_link, take, take_of};
 use crate::{hosts, peers};
 use anyhow::Result;
 use std::alloc::Global;
+use std::fs::{File, Files};
 use std::net::{Net, TcpListener, TcpStream};
 use std::time::{Clock, Duration};
 use vdr_outside::{Link, Port};
@@ -54,7 +55,11 @@ impl<L: Link + Drop, P: Port + Drop> Wires<L, P> {
 
     /// Follows a line of a script that is about the host and about time. None where there is no such line.
     pub(crate) fn follow<
-        R: AllocGlobal + Net<Listener = TcpListener, Stream = TcpStream> + Clock + Eprint,
+        R: AllocGlobal
+            + Files<File = File>
+            + Net<Listener = TcpListener, Stream = TcpStream>
+            + Clock
+            + Eprint,
     >(&mut self, rt: &R, verb: &str, rest: &str) -> Option<Result<()>> {
         match verb {
             "connect" => Some(connect(rt, self.number, &mut self.peers)),

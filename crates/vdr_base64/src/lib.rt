@@ -9,4 +9,5 @@ mod pending;
 mod printer;
 
 pub use laws::{law_of_lines, law_of_printing};
+pub use lines::print_lines;
 pub use printer::{Base64Printer, PrinterStop};

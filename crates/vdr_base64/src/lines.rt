@@ -82,8 +82,8 @@ fn print_last<O: Sink>(rest: &[u8], out: &mut O) -> Result<(), Failed>
     print_line(rest, out)
 }
 
-/// Prints the lines of bytes that are all.
-pub(crate) fn print_lines<O: Sink>(bytes: &[u8], out: &mut O) -> Result<(), Failed>
+/// Prints bytes as lines of base64: each of 4,095 bytes, and the last one of what is left. Where the output fails, a front of the lines stands in it.
+pub fn print_lines<O: Sink>(bytes: &[u8], out: &mut O) -> Result<(), Failed>
     ensures all { OnOk result (Appends (O.taken out.old) (O.taken out.new) (lines_of bytes.now)) }
     ensures front { AppendsFront (O.taken out.old) (O.taken out.new) (lines_of bytes.now) }
     ensures cause { HasCause (O.faults out.old) (O.faults out.new) result }

@@ -26,6 +26,10 @@ refusal Label = codes "REFUSED 12 label"
 refusal Nothing = codes "REFUSED 12 nothing"
 refusal Full = codes "REFUSED 12 full"
 
+-- The line in which it tells why there is no such file, without its LF.
+abbrev pub no_file_line : (why : List ℕ) → List ℕ
+no_file_line why = codes "REFUSED 14 " ++ why
+
 -- The status line for it.
 abbrev pub status_line : Told → List ℕ
 status_line Words = codes "status 2 words\n"

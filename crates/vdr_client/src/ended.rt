@@ -14,6 +14,8 @@ pub enum Ended {
     NoMemory,
     /// What the recorder told.
     Told(Told),
+    /// There is no such file. The status line that says why is printed.
+    NoFile,
 }
 
 impl Ended {
@@ -25,15 +27,16 @@ impl Ended {
             Ended::Output => 8,
             Ended::NoMemory => 9,
             Ended::Told(told) => told.code(),
+            Ended::NoFile => 14,
         }
     }
 
-    /// The status line, which ends the output.
+    /// The status line, which ends the output. It is empty where it can't be printed, or was.
     pub fn line(self) -> &'static str {
         match self {
             Ended::NoWords => "status 2 words\n",
             Ended::NoLink => "status 6 link 0\n",
-            Ended::Output => "",
+            Ended::Output | Ended::NoFile => "",
             Ended::NoMemory => "status 9 memory\n",
             Ended::Told(told) => told.line(),
         }

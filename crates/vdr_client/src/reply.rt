@@ -1,17 +1,20 @@
 // The reply to a line, as a command tells it.
-use crate::{Ended, told_of};
+use crate::{Ended, no_file, told_of};
 use std::alloc::Global;
 use std::io::{BufRead, Write};
 
 /// The orders whose reply is a text, ended by a line `.`.
-const WITH_TEXT: [&[u8]; 7] = [
+const WITH_TEXT: [&[u8]; 10] = [
     b"PLAY ",
     b"INCIDENTS",
+    b"HEALTH",
     b"SOURCES ",
     b"WATCH ",
     b"TARGETS ",
     b"DIGEST ",
     b"EVIDENCE ",
+    b"WAV ",
+    b"PICTURE ",
 ];
 
 // Reads the next line, without its end.
@@ -37,6 +40,15 @@ fn print_line<W: Write>(output: &mut W, line: &[u8]) -> Result<(), Ended> {
     }
 }
 
+// Prints the status line for a file that there is not.
+fn print_no_file<W: Write>(output: &mut W, why: &[u8]) -> Result<(), Ended> {
+    if output.write_all(b"status 14 ").is_err() {
+        return Err(Ended::Output);
+    }
+    print_line(output, why)?;
+    Err(Ended::NoFile)
+}
+
 // Prints the lines up to the one that ends them.
 fn print_text<I: BufRead, W: Write>(
     input: &mut I,
@@ -53,7 +65,8 @@ fn print_text<I: BufRead, W: Write>(
     Err(Ended::NoLink)
 }
 
-/// Prints the reply to a line: what stands behind its `OK`, or its text, without the line that ends it.
+/// Prints the reply to a line: what stands behind its `OK`, or its text, without the line that ends it; or the status line of a file that
+/// there is not.
 pub fn print_reply<I: BufRead, W: Write>(
     alloc: Global,
     asked: &[u8],
@@ -64,6 +77,9 @@ pub fn print_reply<I: BufRead, W: Write>(
     next_line(input, &mut line)?;
     if let Some(told) = told_of(line.as_slice()) {
         return Err(Ended::Told(told));
+    }
+    if let Some(why) = no_file(line.as_slice()) {
+        return print_no_file(output, why);
     }
     match line.as_slice() {
         b"OK" => {}

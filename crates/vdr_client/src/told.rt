@@ -1,6 +1,6 @@
 // How a recorder refuses an order, and the status for it.
-ghost use Rattle.std.specs.Prelude.{◌≡◌, ◌≢◌, ◌⊎◌, IfSome, IsNone};
-ghost use Rattle.vdr_client.specs.Orders.{refusal, status_code, status_line};
+ghost use Rattle.std.specs.Prelude.{◌≡◌, ◌≢◌, ◌⊎◌, ℕ, List, IfNone, IfSome, IsNone};
+ghost use Rattle.vdr_client.specs.Orders.{no_file_line, refusal, status_code, status_line};
 ghost use Rattle.vdr_client.specs.declared.told.Told.TheVariants.{Words, Damaged, Media, Memory};
 
 /// What a recorder tells of an order that it did not do.
@@ -62,6 +62,15 @@ fn refused_of(line: &[u8]) -> Option<Told>
         return Some(Told::Full);
     }
     None
+}
+
+/// Why there is no such file, in the words behind `REFUSED 14 `, which is how a command ends with status 14. None where the first line of a
+/// reply, without its LF, begins otherwise.
+pub fn no_file(line: &[u8]) -> Option<&[u8]>
+    ensures told { IfSome result (λ why. line.now ≡ no_file_line why.now) }
+    ensures none { IfNone result ((why : List ℕ) → line.now ≢ no_file_line why) }
+{
+    line.strip_prefix(b"REFUSED 14 ")
 }
 
 impl Told {

@@ -2,3 +2,4 @@
 pub mod Answers
 pub mod Peers
 pub mod Sockets
+pub mod Silences

@@ -30,6 +30,9 @@ pub trait HasPorts {
     /// Binds the UDP port of this number on all addresses of the host. A call on the socket waits for a datagram at most so long.
     fn bind_port(&self, number: u16, wait: Duration) -> io::Result<Self::Socket>
         ensures { IfOk result (λ socket. IsSocket (Self.Socket.seen socket) (record { number = number; received = [] })) };
+
+    /// How many datagrams it dropped for the socket that is bound to this port on all its addresses, None where it tells none.
+    fn dropped(&self, number: u16) -> Option<u64>;
 }
 
 /// The other end of a connection.

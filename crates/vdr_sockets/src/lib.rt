@@ -7,16 +7,22 @@
 mod alarm;
 mod calls;
 mod client;
+mod dropped;
+mod heard;
 mod hosts;
+mod journal;
 mod patience;
 mod peers;
 mod pending;
 mod sending;
+mod silence;
 mod system;
 mod tcp;
 mod udp;
 
 pub use alarm::Alarm;
+pub use dropped::drops_in;
+pub use heard::LastHeard;
 pub use hosts::{DatagramSocket, HasPorts, HasStreams, Peer};
 pub use tcp::{LOOPBACK, ORDERS, TcpLink};
-pub use udp::UdpPort;
+pub use udp::{UdpPort, port_of};

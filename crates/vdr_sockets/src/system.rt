@@ -1,5 +1,7 @@
 // The sockets of the operating system. They tell nothing of what goes over them.
+use crate::dropped::{TABLE, dropped_in};
 use crate::hosts::{DatagramSocket, HasPorts, HasStreams, Peer};
+use std::fs::{File, Files};
 use std::io;
 use std::io::{Read, Write};
 use std::net::{Ipv4Addr, Net, SocketAddr, TcpListener, TcpStream, UdpSocket};
@@ -15,13 +17,17 @@ impl DatagramSocket for UdpSocket {
     }
 }
 
-impl<R: Net> HasPorts for R {
+impl<R: Net + Files<File = File>> HasPorts for R {
     type Socket = UdpSocket;
 
     fn bind_port(&self, number: u16, wait: Duration) -> io::Result<UdpSocket> {
         let socket = UdpSocket::bind(self, SocketAddr::from((Ipv4Addr::UNSPECIFIED, number)))?;
         socket.set_read_timeout(Some(wait))?;
         Ok(socket)
+    }
+
+    fn dropped(&self, number: u16) -> Option<u64> {
+        dropped_in(File::open(self, TABLE).ok()?, number)
     }
 }
 

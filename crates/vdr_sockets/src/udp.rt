@@ -10,7 +10,9 @@ ghost use Rattle.vdr_sockets.specs.declared.udp.Came.TheVariants.{Datagram};
 
 use crate::alarm::Alarm;
 use crate::calls::Calls;
+use crate::heard::LastHeard;
 use crate::hosts::{DatagramSocket, HasPorts};
+use crate::journal::Journal;
 use arrayvec::ArrayVec;
 use std::io;
 use std::io::ErrorKind;
@@ -26,6 +28,14 @@ const WAIT: u64 = 50;
 
 /// The greatest `received`.
 const LAST_RECEIVED: u64 = (1 << 48) - 1;
+
+/// The UDP port of a group, 0 to 15.
+pub fn port_of(group: u8) -> u16
+    requires { group < 16 }
+    ensures { result ≡ 60001 + group }
+{
+    FIRST_PORT + u16::from(group)
+}
 
 // What came to a port.
 #[derive(Clone, Copy, Drop)]
@@ -44,6 +54,8 @@ enum Came {
 pub struct UdpPort<'a, R: HasPorts + Clock + Eprint + Drop> {
     rt: R,
     alarm: Option<&'a Alarm>,
+    heard: Option<&'a LastHeard>,
+    journal: Journal,
     number: u16,
     // The reading of the monotonic clock as capture began.
     began: Duration,
@@ -62,7 +74,7 @@ impl<'a, R: HasPorts + Clock + Eprint + Drop> UdpPort<'a, R> {
         requires { group < 16 }
         ensures { result.number ≡ 60001 + group }
     {
-        UdpPort::with_number(rt, FIRST_PORT + u16::from(group), began)
+        UdpPort::with_number(rt, port_of(group), began)
     }
 
     /// A port of this number.
@@ -72,6 +84,8 @@ impl<'a, R: HasPorts + Clock + Eprint + Drop> UdpPort<'a, R> {
         UdpPort {
             rt,
             alarm: None,
+            heard: None,
+            journal: Journal::new(),
             number,
             began,
             socket: None,
@@ -85,6 +99,30 @@ impl<'a, R: HasPorts + Clock + Eprint + Drop> UdpPort<'a, R> {
     pub fn until(mut self, alarm: &'a Alarm) -> UdpPort<'a, R> {
         self.alarm = Some(alarm);
         self
+    }
+
+    /// The same port, which tells this object when it was last heard.
+    pub fn telling(mut self, heard: &'a LastHeard) -> UdpPort<'a, R> {
+        self.heard = Some(heard);
+        self
+    }
+
+    // The number of its transmission group.
+    fn group(&self) -> u16 {
+        self.number.saturating_sub(FIRST_PORT)
+    }
+
+    // Tells that a datagram came, or that none did.
+    fn tell(&mut self, came: bool, now: u64)
+        ensures socket { self.new.socket ≡ self.old.socket }
+        ensures number { self.new.number ≡ self.old.number }
+        ensures floor { self.new.floor ≡ self.old.floor }
+        ensures calls { self.new.calls ≡ self.old.calls }
+        ensures faults { self.new.faults ≡ self.old.faults }
+    {
+        let (group, number) = (self.group(), self.number);
+        self.journal.tell(&self.rt, came, group, number, now);
+        note(self.heard, came, group, now);
     }
 
     // Whether the alarm is raised.
@@ -166,6 +204,15 @@ fn milliseconds(time: Duration, most: u64) -> u64
     u64::try_from(time.as_millis()).unwrap_or(most).min(most)
 }
 
+// Notes for whoever asks that a datagram of the group came.
+fn note(heard: Option<&LastHeard>, came: bool, group: u16, now: u64) {
+    if let Some(heard) = heard
+        && came
+    {
+        heard.note(group, now);
+    }
+}
+
 // Whether a wait ended without a datagram: in vain, or by a signal.
 pub(crate) fn is_no_fault(error: &io::Error) -> bool {
     matches!(
@@ -196,12 +243,15 @@ impl<'a, R: HasPorts + Clock + Eprint + Drop> Port for UdpPort<'a, R> {
                 Taken::Ended
             }
             Ok(Came::Nothing) => {
+                let now = self.received();
+                self.tell(false, now);
                 self.calls.count();
                 Taken::Quiet
             }
             Ok(Came::Datagram) => {
                 let received = self.received();
                 let utc = self.utc();
+                self.tell(true, received);
                 self.floor = received;
                 self.calls.count();
                 Taken::Datagram { received, utc }
