@@ -3,7 +3,7 @@
 
 use std::process::ExitCode;
 use std::{env, io};
-use vdr_live::{Alarm, Streams, command_line, tcp_desk, udp_lanes};
+use vdr_live::{Alarm, Streams, command_line, last_heard, tcp_desk, udp_lanes};
 use vdr_tool::Status;
 
 fn main(rt: HostRuntime) -> ExitCode {
@@ -18,7 +18,8 @@ fn main(rt: HostRuntime) -> ExitCode {
     }
     // Once a medium has failed nothing more can be recorded: the ports and the link end.
     let alarm = Alarm::new();
-    let Ok(mut lanes) = udp_lanes(&rt, rt.alloc(), &alarm) else {
+    let heard = last_heard(&rt);
+    let Ok(mut lanes) = udp_lanes(&rt, rt.alloc(), &alarm, &heard) else {
         return ExitCode::from(Status::NoMemory.code());
     };
     let mut desks = [tcp_desk(&rt, &alarm)];
@@ -34,6 +35,7 @@ fn main(rt: HostRuntime) -> ExitCode {
         lanes.as_mut_slice(),
         &mut desks,
         &alarm,
+        &heard,
     );
     ExitCode::from(code)
 }

@@ -8,7 +8,7 @@ use Rattle.std.proofs.lemmas.Option.{cond_some}
 use Rattle.std.proofs.lemmas.Str.Parse.{IsNumeralModel, numerals_by_fold}
 use Rattle.vdr_bytes.specs.Digits.{are_digits, decimal_value, is_digit, number}
 
-own : IsNumeralModel (λ ds. list_all is_digit ds ≡ true) decimal_value
+pub own : IsNumeralModel (λ ds. list_all is_digit ds ≡ true) decimal_value
 own = numerals_by_fold _ (search rules) (λ n ds. fold (λ k b. 10 * k + (b - 48)) n ds) (search rules)
 
 pub if_none : {A : Type 0} {P : Type 0} (o : Option A) → P → IfNone o P

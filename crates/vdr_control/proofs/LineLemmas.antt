@@ -1,12 +1,19 @@
 -- A line asks for one order at most.
-use Rattle.std.proofs.Common.{◌≡◌, ◌≤◌, ◌<◌, ◌+◌, ◌*◌, ◌==◌, ℕ, ℤ, pos, List, [], ◌∷◌, ◌++◌, length, get_or, drop, codes, decimal, refl, ap, subst, sym, ◌∙◌, arith}
+use Rattle.std.proofs.Common.{◌≡◌, ◌≤◌, ◌<◌, ◌+◌, ◌*◌, ◌==◌, ℕ, ℤ, Bool, pos, List, [], ◌∷◌, ◌++◌, length, get_or, drop, codes, decimal, refl, ap, subst, sym, ◌∙◌, arith}
 use Rattle.std.specs.Prelude.{if◌then◌else◌, IfNone, Option, None, Some}
 use Rattle.std.proofs.lemmas.Fmt.{decimal_injective}
 use Rattle.vdr_terms.specs.Stamps.{last_stamp}
 use Rattle.vdr_entry.specs.declared.query.Medium.{Medium}
-use Rattle.vdr_control.specs.Lines.{AsksFor, IsPlayLine, IsTargetsLine, words}
+use Rattle.vdr_control.specs.Lines.{AsksFor, IsPlayLine, IsTargetsLine}
+use Rattle.vdr_control.specs.Words.{words}
 use Rattle.vdr_control.specs.Orders.{PlainOrder}
 use Rattle.vdr_control.specs.Orders.PlainOrder.{Status, Save, Release, Incidents, Play, Evidence, Tell}
+use Rattle.vdr_control.specs.Orders.PlainOrder.{Health}
+use Rattle.vdr_control.specs.Orders.PlainOrder.{Export}
+use Rattle.vdr_control.specs.Exports.{IsExportLine}
+use Rattle.vdr_control.specs.declared.export.Exporting.{Exporting}
+use Rattle.vdr_control.specs.declared.export.Exporting.TheVariants.{Picture, Sound}
+use Rattle.vdr_control.proofs.ExportLemmas.{one_picture_line, one_sound_line}
 use Rattle.vdr_control.specs.Plays.{IsMedium, SpellsBound, SpellsPlay, medium_word}
 use Rattle.vdr_control.specs.declared.order.Telling.{Telling}
 use Rattle.vdr_control.specs.declared.order.Telling.TheVariants.{Sources, Watch, Targets, Digest}
@@ -22,24 +29,30 @@ data Kind : Type 0 where
   OfSave : Kind
   OfRelease : Kind
   OfIncidents : Kind
+  OfHealth : Kind
   OfPlay : Kind
   OfEvidence : Kind
   OfSources : Kind
   OfWatch : Kind
   OfTargets : Kind
   OfDigest : Kind
+  OfSound : Kind
+  OfPicture : Kind
 
 abbrev kind : PlainOrder → Kind
 kind Status = OfStatus
 kind (Save label) = OfSave
 kind (Release id) = OfRelease
 kind Incidents = OfIncidents
+kind Health = OfHealth
 kind (Play medium channel from to) = OfPlay
 kind (Evidence id) = OfEvidence
 kind (Tell medium Sources) = OfSources
 kind (Tell medium Watch) = OfWatch
 kind (Tell medium (Targets at)) = OfTargets
 kind (Tell medium Digest) = OfDigest
+kind (Export medium channel from to (Sound timed)) = OfSound
+kind (Export medium channel from to (Picture source block)) = OfPicture
 
 -- The first and the third letter of a line tell which it is.
 letters : List ℕ → ℕ
@@ -48,7 +61,9 @@ letters line = get_or line 0 0 * 100 + get_or line 2 0
 kind_by : ℕ → Kind
 kind_by n =
     if n == 8365 then OfStatus else if n == 8386 then OfSave else if n == 8276 then OfRelease else if n == 7367 then OfIncidents else if n == 8065 then OfPlay else if n == 6973 then OfEvidence else
-    if n == 8385 then OfSources else if n == 8784 then OfWatch else if n == 8482 then OfTargets else OfDigest
+    if n == 7265 then OfHealth else
+    if n == 8385 then OfSources else if n == 8784 then OfWatch else if n == 8482 then OfTargets else
+    if n == 8786 then OfSound else if n == 8067 then OfPicture else OfDigest
 
 kind_of_line : (line : List ℕ) (a : PlainOrder) → AsksFor line a → kind_by (letters line) ≡ kind a
 unfolding letters kind_by
@@ -56,12 +71,15 @@ kind_of_line line Status asks = ap (λ (l : List ℕ). kind_by (letters l)) asks
 kind_of_line line (Save label) asks = ap (λ (l : List ℕ). kind_by (letters l)) asks
 kind_of_line line (Release id) asks = ap (λ (l : List ℕ). kind_by (letters l)) asks.2
 kind_of_line line Incidents asks = ap (λ (l : List ℕ). kind_by (letters l)) asks
+kind_of_line line Health asks = ap (λ (l : List ℕ). kind_by (letters l)) asks
 kind_of_line line (Play medium channel from to) asks = ap (λ (l : List ℕ). kind_by (letters l)) asks.begins
 kind_of_line line (Evidence id) asks = ap (λ (l : List ℕ). kind_by (letters l)) asks.2
 kind_of_line line (Tell medium Sources) asks = ap (λ (l : List ℕ). kind_by (letters l)) asks.1
 kind_of_line line (Tell medium Watch) asks = ap (λ (l : List ℕ). kind_by (letters l)) asks.1
 kind_of_line line (Tell medium (Targets at)) asks = ap (λ (l : List ℕ). kind_by (letters l)) asks.1.begins
 kind_of_line line (Tell medium Digest) asks = ap (λ (l : List ℕ). kind_by (letters l)) asks.1
+kind_of_line line (Export medium channel from to (Sound timed)) asks = ap (λ (l : List ℕ). kind_by (letters l)) asks.begins
+kind_of_line line (Export medium channel from to (Picture source block)) asks = ap (λ (l : List ℕ). kind_by (letters l)) asks.begins
 
 -- It is an order of this kind.
 abbrev Is : Kind → PlainOrder → Type 0
@@ -69,24 +87,30 @@ Is OfStatus b = b ≡ Status
 Is OfSave b = (label : List ℕ) × (b ≡ Save label)
 Is OfRelease b = (id : ℕ) × (b ≡ Release id)
 Is OfIncidents b = b ≡ Incidents
+Is OfHealth b = b ≡ Health
 Is OfPlay b = (medium : Medium) × (channel : List ℕ) × (from : ℤ) × (to : ℤ) × (b ≡ Play medium channel from to)
 Is OfEvidence b = (id : ℕ) × (b ≡ Evidence id)
 Is OfSources b = (medium : Medium) × (b ≡ Tell medium Sources)
 Is OfWatch b = (medium : Medium) × (b ≡ Tell medium Watch)
 Is OfTargets b = (medium : Medium) × (at : ℤ) × (b ≡ Tell medium (Targets at))
 Is OfDigest b = (medium : Medium) × (b ≡ Tell medium Digest)
+Is OfSound b = (medium : Medium) × (channel : List ℕ) × (from : ℤ) × (to : ℤ) × (timed : Bool) × (b ≡ Export medium channel from to (Sound timed))
+Is OfPicture b = (medium : Medium) × (channel : List ℕ) × (from : ℤ) × (to : ℤ) × (source : List ℕ) × (block : ℕ) × (b ≡ Export medium channel from to (Picture source block))
 
 is : (b : PlainOrder) → Is (kind b) b
 is Status = refl
 is (Save label) = (label, refl)
 is (Release id) = (id, refl)
 is Incidents = refl
+is Health = refl
 is (Play medium channel from to) = (medium, channel, from, to, refl)
 is (Evidence id) = (id, refl)
 is (Tell medium Sources) = (medium, refl)
 is (Tell medium Watch) = (medium, refl)
 is (Tell medium (Targets at)) = (medium, at, refl)
 is (Tell medium Digest) = (medium, refl)
+is (Export medium channel from to (Sound timed)) = (medium, channel, from, to, timed, refl)
+is (Export medium channel from to (Picture source block)) = (medium, channel, from, to, source, block, refl)
 
 other : (line : List ℕ) (a b : PlainOrder) → AsksFor line a → AsksFor line b → Is (kind a) b
 other line a b x y = subst (λ (k : Kind). Is k b) (sym (kind_of_line line b y) ∙ kind_of_line line a x) (is b)
@@ -144,6 +168,7 @@ one_tell n front line telling a b behind of_a of_b x y =
 pub one_order : OnePlay → HaveOwnTexts → (line : List ℕ) (a b : PlainOrder) → AsksFor line a → AsksFor line b → a ≡ b
 one_order own texts line Status b x y = sym (other line Status b x y)
 one_order own texts line Incidents b x y = sym (other line Incidents b x y)
+one_order own texts line Health b x y = sym (other line Health b x y)
 one_order own texts line (Save a) b x y =
     let o = other line (Save a) b x y in let z = asks_so line b (Save o.0) o.1 y in ap Save (ap (λ (l : List ℕ). drop 5 l) (sym x ∙ z)) ∙ sym o.1
 one_order own texts line (Release a) b x y =
@@ -174,6 +199,14 @@ one_order own texts line (Tell m (Targets at)) b x y =
     let o = other line (Tell m (Targets at)) b x y in
     let z = asks_so line b (Tell o.0 (Targets o.1)) o.2 y in
     one_targets_line texts line m o.0 at o.1 x.0 z.0 x.1 z.1 ∙ sym o.2
+one_order own texts line (Export m c f t (Sound timed)) b x y =
+    let o = other line (Export m c f t (Sound timed)) b x y in
+    let z = asks_so line b (Export o.0 o.1 o.2 o.3 (Sound o.4)) o.5 y in
+    one_sound_line texts line m o.0 c o.1 f o.2 t o.3 timed o.4 x z ∙ sym o.5
+one_order own texts line (Export m c f t (Picture source block)) b x y =
+    let o = other line (Export m c f t (Picture source block)) b x y in
+    let z = asks_so line b (Export o.0 o.1 o.2 o.3 (Picture o.4 o.5)) o.6 y in
+    one_picture_line texts line m o.0 c o.1 f o.2 t o.3 source o.4 block o.5 x z ∙ sym o.6
 
 -- ---- a line that asks for none
 
@@ -181,13 +214,16 @@ pub none_so : {A P Q : Type 0} (o : Option A) → (P → Q) → IfNone o P → I
 none_so None f p = f p
 none_so (Some x) f p = tt
 
-pub no_order : (line : List ℕ) → (line ≡ codes "STATUS" → ⊥) → (line ≡ codes "INCIDENTS" → ⊥) → ((label : List ℕ) → line ≡ codes "SAVE " ++ label → ⊥)
+pub no_order : (line : List ℕ) → (line ≡ codes "STATUS" → ⊥) → (line ≡ codes "INCIDENTS" → ⊥) → (line ≡ codes "HEALTH" → ⊥) → ((label : List ℕ) → line ≡ codes "SAVE " ++ label → ⊥)
     → ((id : ℕ) → AsksFor line (Release id) → ⊥) → ((id : ℕ) → AsksFor line (Evidence id) → ⊥) → ((order : PlainOrder) → IsPlayLine line order → ⊥)
+    → ((medium : Medium) (channel : List ℕ) (from to : ℤ) (exporting : Exporting) → IsExportLine line medium channel from to exporting → ⊥)
     → ((medium : Medium) (telling : Telling) → AsksFor line (Tell medium telling) → ⊥) → (order : PlainOrder) → AsksFor line order → ⊥
-no_order line status list save release evidence play tell Status asks = status asks
-no_order line status list save release evidence play tell (Save label) asks = save label asks
-no_order line status list save release evidence play tell (Release id) asks = release id asks
-no_order line status list save release evidence play tell Incidents asks = list asks
-no_order line status list save release evidence play tell (Play medium channel from to) asks = play (Play medium channel from to) asks
-no_order line status list save release evidence play tell (Evidence id) asks = evidence id asks
-no_order line status list save release evidence play tell (Tell medium telling) asks = tell medium telling asks
+no_order line status list health save release evidence play export tell Status asks = status asks
+no_order line status list health save release evidence play export tell (Save label) asks = save label asks
+no_order line status list health save release evidence play export tell (Release id) asks = release id asks
+no_order line status list health save release evidence play export tell Incidents asks = list asks
+no_order line status list health save release evidence play export tell Health asks = health asks
+no_order line status list health save release evidence play export tell (Play medium channel from to) asks = play (Play medium channel from to) asks
+no_order line status list health save release evidence play export tell (Evidence id) asks = evidence id asks
+no_order line status list health save release evidence play export tell (Tell medium telling) asks = tell medium telling asks
+no_order line status list health save release evidence play export tell (Export medium channel from to exporting) asks = export medium channel from to exporting asks

@@ -7,27 +7,24 @@ use Rattle.vdr_entry.specs.declared.query.Medium.{Medium}
 use Rattle.vdr_entry.specs.declared.query.Medium.TheVariants.{Capsule, LongTerm, Incident}
 use Rattle.vdr_control.specs.Orders.{PlainOrder}
 use Rattle.vdr_control.specs.Orders.PlainOrder.{Status, Save, Release, Incidents, Play, Evidence, Tell}
+use Rattle.vdr_control.specs.Orders.PlainOrder.{Health}
+use Rattle.vdr_control.specs.Orders.PlainOrder.{Export}
 use Rattle.vdr_control.specs.Plays.{IsMedium, SpellsBound, SpellsPlay, medium_word}
 
--- Where a bound is none, there is no play.
+-- Words that spell no such medium and bounds spell no play.
 
-pub no_from : (medium channel from to : List ℕ) → ((utc : ℤ) → SpellsBound (pos 0) from utc → ⊥) → (order : PlainOrder) → SpellsPlay medium channel from to order → ⊥
-no_from medium channel from to none (Play asked name since until) spells = none since spells.2
-no_from medium channel from to none Status spells = spells
-no_from medium channel from to none (Save label) spells = spells
-no_from medium channel from to none (Release id) spells = spells
-no_from medium channel from to none Incidents spells = spells
-no_from medium channel from to none (Evidence id) spells = spells
-no_from medium channel from to none (Tell asked telling) spells = spells
-
-pub no_to : (medium channel from to : List ℕ) → ((utc : ℤ) → SpellsBound (pos last_stamp) to utc → ⊥) → (order : PlainOrder) → SpellsPlay medium channel from to order → ⊥
-no_to medium channel from to none (Play asked name since until) spells = none until spells.3
-no_to medium channel from to none Status spells = spells
-no_to medium channel from to none (Save label) spells = spells
-no_to medium channel from to none (Release id) spells = spells
-no_to medium channel from to none Incidents spells = spells
-no_to medium channel from to none (Evidence id) spells = spells
-no_to medium channel from to none (Tell asked telling) spells = spells
+pub no_play : (medium channel from to : List ℕ)
+    → ((asked : Medium) (since until : ℤ) → IsMedium asked × (medium ≡ medium_word asked) → SpellsBound (pos 0) from since → SpellsBound (pos last_stamp) to until → ⊥)
+    → (order : PlainOrder) → SpellsPlay medium channel from to order → ⊥
+no_play medium channel from to none (Play asked name since until) spells = none asked since until spells.0 spells.2 spells.3
+no_play medium channel from to none Status spells = spells
+no_play medium channel from to none (Save label) spells = spells
+no_play medium channel from to none (Release id) spells = spells
+no_play medium channel from to none Incidents spells = spells
+no_play medium channel from to none Health spells = spells
+no_play medium channel from to none (Evidence id) spells = spells
+no_play medium channel from to none (Tell asked telling) spells = spells
+no_play medium channel from to none (Export asked name since until exporting) spells = spells
 
 -- One medium has a word: the first characters are c, l and i.
 
@@ -74,11 +71,15 @@ one_play own medium channel from to (Play m x f t) Status first second = absurd 
 one_play own medium channel from to (Play m x f t) (Save l) first second = absurd second
 one_play own medium channel from to (Play m x f t) (Release i) first second = absurd second
 one_play own medium channel from to (Play m x f t) Incidents first second = absurd second
+one_play own medium channel from to (Play m x f t) Health first second = absurd second
 one_play own medium channel from to (Play m x f t) (Evidence i) first second = absurd second
 one_play own medium channel from to (Play m x f t) (Tell n telling) first second = absurd second
+one_play own medium channel from to (Play m x f t) (Export n y g u exporting) first second = absurd second
 one_play own medium channel from to Status b first second = absurd first
 one_play own medium channel from to (Save l) b first second = absurd first
 one_play own medium channel from to (Release i) b first second = absurd first
 one_play own medium channel from to Incidents b first second = absurd first
+one_play own medium channel from to Health b first second = absurd first
 one_play own medium channel from to (Evidence i) b first second = absurd first
 one_play own medium channel from to (Tell n telling) b first second = absurd first
+one_play own medium channel from to (Export n y g u exporting) b first second = absurd first

@@ -5,7 +5,7 @@ use Rattle.std.specs.List.{before_first, after_first, position_or_len}
 use Rattle.std.proofs.lemmas.List.{take_all}
 use Rattle.std.proofs.lemmas.List.Sums.{fails_before_first}
 use Rattle.std.proofs.lemmas.List.Splits.{length-slice_split, slice_split_first, slice_split_none}
-use Rattle.vdr_control.specs.Lines.{words}
+use Rattle.vdr_control.specs.Words.{words}
 
 -- The place of the first space, where there is one.
 record IsPlace (text : List ℕ) (place : ℕ) : Type 0 where

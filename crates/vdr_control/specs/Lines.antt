@@ -1,17 +1,16 @@
 -- The lines in which a link asks for an order (this project's profile).
-use Rattle.std.specs.Prelude.{◌≡◌, ◌≤◌, ◌<◌, ◌==◌, ℕ, ℤ, pos, List, [], ◌∷◌, ◌++◌, length, codes, decimal}
-use Rattle.std.specs.List.{slice_split}
+use Rattle.std.specs.Prelude.{◌≡◌, ◌≤◌, ◌<◌, ℕ, ℤ, pos, List, [], ◌∷◌, ◌++◌, length, codes, decimal}
 use Rattle.vdr_terms.specs.Stamps.{last_stamp}
 use Rattle.vdr_entry.specs.declared.query.Medium.{Medium}
+use Rattle.vdr_control.specs.Exports.{IsExportLine}
 use Rattle.vdr_control.specs.Orders.{PlainOrder}
 use Rattle.vdr_control.specs.Orders.PlainOrder.{Status, Save, Release, Incidents, Play, Evidence, Tell}
+use Rattle.vdr_control.specs.Orders.PlainOrder.{Health}
+use Rattle.vdr_control.specs.Orders.PlainOrder.{Export}
 use Rattle.vdr_control.specs.Plays.{IsMedium, SpellsBound, SpellsPlay, medium_word}
+use Rattle.vdr_control.specs.Words.{words}
 use Rattle.vdr_control.specs.declared.order.Telling.{Telling}
 use Rattle.vdr_control.specs.declared.order.Telling.TheVariants.{Sources, Watch, Targets, Digest}
-
--- The words of a text: what stands between its spaces. Two spaces that stand together have an empty word between them.
-abbrev pub words : List ℕ → List (List ℕ)
-words text = slice_split (λ b. b == 32) text
 
 -- `PLAY`, and the words of the play, of which the channel is not empty.
 pub record IsPlayLine (line : List ℕ) (order : PlainOrder) : Type 0 where
@@ -46,6 +45,8 @@ AsksFor line Status = line ≡ codes "STATUS"
 AsksFor line (Save label) = line ≡ codes "SAVE " ++ label
 AsksFor line (Release id) = (1 ≤ id) × (id ≤ 32) × (line ≡ codes "RELEASE " ++ decimal id)
 AsksFor line Incidents = line ≡ codes "INCIDENTS"
+AsksFor line Health = line ≡ codes "HEALTH"
 AsksFor line (Play medium channel from to) = IsPlayLine line (Play medium channel from to)
 AsksFor line (Evidence id) = (1 ≤ id) × (id ≤ 32) × (line ≡ codes "EVIDENCE incident-" ++ decimal id)
 AsksFor line (Tell medium telling) = IsMedium medium × IsTellingLine line medium telling
+AsksFor line (Export medium channel from to exporting) = IsExportLine line medium channel from to exporting

@@ -3,11 +3,14 @@
 //! The format, with an example: docs/formats/words.md.
 #![tactic(auto)]
 
+mod export;
 mod laws;
 mod line;
 mod order;
 mod play;
+mod word;
 
+pub use export::Exporting;
 pub use laws::{law_of_lines, law_of_plays};
 pub use line::read_order;
 pub use order::{Order, Telling};

@@ -1,13 +1,15 @@
 // Reading an order from a line of a link.
-ghost use Rattle.std.specs.Prelude.{◌≡◌, ◌==◌, ◌++◌, ◌∷◌, [], ℕ, ℤ, List, codes, position, IfSome, IfNone};
+ghost use Rattle.std.specs.Prelude.{◌≡◌, ◌++◌, ℕ, ℤ, IfSome, IfNone};
 ghost use Rattle.vdr_entry.specs.declared.query.Medium.{Medium as AMedium};
-ghost use Rattle.vdr_control.specs.Lines.{AsksFor, IsPlayLine, IsTargetsLine, words};
+ghost use Rattle.vdr_control.specs.Lines.{AsksFor, IsPlayLine, IsTargetsLine};
 ghost use Rattle.vdr_control.specs.Orders.{PlainOrder, plain};
 ghost use Rattle.vdr_control.specs.Orders.PlainOrder.{Evidence, Release, Tell};
 ghost use Rattle.vdr_control.specs.Plays.{IsMedium, medium_word};
 ghost use Rattle.vdr_control.specs.declared.order.Telling.{Telling as ATelling};
 
+use crate::export::read_export_line;
 use crate::play::{read_id, read_medium, read_play, read_until};
+use crate::word::{behind, four_words, two_words};
 use crate::{Order, Telling};
 use vdr_entry::Medium;
 
@@ -15,12 +17,16 @@ use vdr_entry::Medium;
 /// and one of:
 ///
 /// - `STATUS`, `INCIDENTS`
+/// - `HEALTH`
 /// - `SAVE LABEL`, with the rest of the line as the label, which may be empty: the save tests it
 /// - `RELEASE ID`, with an ID of 1 to 32 in decimal digits without a leading zero
 /// - `EVIDENCE incident-ID`, with such an ID
 /// - `PLAY MEDIUM CHANNEL FROM TO`, with the words of `read_play`, of which the channel has at least one byte
 /// - `SOURCES MEDIUM`, `WATCH MEDIUM`, `DIGEST MEDIUM`, with the MEDIUM of `read_play`
 /// - `TARGETS MEDIUM AT`, with AT as the TO of `read_play`
+/// - `WAV MEDIUM CHANNEL FROM TO` with the words of a `PLAY`, and `WAV MEDIUM CHANNEL FROM TO timed`
+/// - `PICTURE MEDIUM CHANNEL SOURCE BLOCK FROM TO`, where SOURCE has six bytes of 0x21 to 0x7E, and BLOCK is a number of four bytes in decimal
+///   digits without a leading zero
 ///
 /// Words are separated by one space.
 pub fn read_order(line: &[u8]) -> Option<Order<'_>>
@@ -33,6 +39,9 @@ pub fn read_order(line: &[u8]) -> Option<Order<'_>>
     if line == b"INCIDENTS".as_slice() {
         return Some(Order::Incidents);
     }
+    if line == b"HEALTH".as_slice() {
+        return Some(Order::Health);
+    }
     if let Some(label) = behind(line, b"SAVE ") {
         return Some(Order::Save(label));
     }
@@ -44,6 +53,9 @@ pub fn read_order(line: &[u8]) -> Option<Order<'_>>
     }
     if let Some(play) = read_play_line(line) {
         return Some(play);
+    }
+    if let Some(asked) = read_export_line(line) {
+        return Some(asked.order());
     }
     read_tell_line(line)
 }
@@ -109,53 +121,4 @@ fn medium_behind(line: &[u8], front: &[u8]) -> Option<Medium>
 {
     let rest = behind(line, front)?;
     read_medium(rest)
-}
-
-// What stands behind the front of a line.
-fn behind<'a>(line: &'a [u8], front: &[u8]) -> Option<&'a [u8]>
-    ensures found { IfSome result (λ rest. line.now ≡ front.now ++ rest.now) }
-    ensures none { IfNone result ((rest : List ℕ) → line.now ≡ front.now ++ rest → ⊥) }
-{
-    line.strip_prefix(front)
-}
-
-// The words of a text that has four.
-fn four_words(text: &[u8]) -> Option<(&[u8], &[u8], &[u8], &[u8])>
-    ensures found { IfSome result (λ four. words text.now ≡ four.0.now ∷ four.1.now ∷ four.2.now ∷ four.3.now ∷ []) }
-    ensures none { IfNone result ((a b c d : List ℕ) → words text.now ≡ a ∷ b ∷ c ∷ d ∷ [] → ⊥) }
-{
-    let (first, rest) = cut_word(text)?;
-    let (second, rest) = cut_word(rest)?;
-    let (third, fourth) = cut_word(rest)?;
-    match cut_word(fourth) {
-        None => Some((first, second, third, fourth)),
-        Some(_) => None,
-    }
-}
-
-// The words of a text that has two.
-fn two_words(text: &[u8]) -> Option<(&[u8], &[u8])>
-    ensures found { IfSome result (λ two. words text.now ≡ two.0.now ∷ two.1.now ∷ []) }
-    ensures none { IfNone result ((a b : List ℕ) → words text.now ≡ a ∷ b ∷ [] → ⊥) }
-{
-    let (first, second) = cut_word(text)?;
-    match cut_word(second) {
-        None => Some((first, second)),
-        Some(_) => None,
-    }
-}
-
-// The first word of a text, and what stands behind the space after it. None where the text is one word.
-fn cut_word(text: &[u8]) -> Option<(&[u8], &[u8])>
-    ensures found { IfSome result (λ cut. words text.now ≡ cut.0.now ∷ words cut.1.now) }
-    ensures none { IfNone result (words text.now ≡ text.now ∷ []) }
-{
-    let place = space_in(text)?;
-    Some((&text[..place], &text[place + 1..]))
-}
-
-fn space_in(text: &[u8]) -> Option<usize>
-    ensures { result ≡ position (λ b. b == 32) text.now }
-{
-    text.iter().position(|byte| *byte == b' ')
 }

@@ -1,4 +1,5 @@
 // The orders that a recorder in use takes.
+use crate::Exporting;
 use vdr_entry::Medium;
 
 /// What is told of all records of a medium, or of an incident (this project's profile). Each has the text of the command of its name.
@@ -28,6 +29,8 @@ pub enum Order<'a> {
     Release(u32),
     /// The live incidents are listed.
     Incidents,
+    /// How the recording fares: what became of each group's datagrams, what the host tells of them, and how long the media took.
+    Health,
     /// Records are played: those of a channel, whose UTC stamps are from `from` to `to`, both included.
     Play {
         /// An incident's id is 1 to 32.
@@ -46,5 +49,17 @@ pub enum Order<'a> {
         /// An incident's id is 1 to 32.
         medium: Medium,
         telling: Telling,
+    },
+    /// A file is made of the records of a channel, whose UTC stamps are from `from` to `to`, both included.
+    Export {
+        /// An incident's id is 1 to 32.
+        medium: Medium,
+        /// The name of the channel, which is any bytes; `all`, which stands for every record, has no file.
+        channel: &'a [u8],
+        /// Milliseconds since 1970, up to the end of the year 9999.
+        from: i64,
+        /// The same; where it is below `from`, no record is asked for.
+        to: i64,
+        exporting: Exporting,
     },
 }

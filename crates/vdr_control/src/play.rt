@@ -26,15 +26,25 @@ pub fn read_play<'a>(medium: &[u8], channel: &'a [u8], from: &[u8], to: &[u8]) -
     ensures found { IfSome result (λ order. SpellsPlay medium.now channel.now from.now to.now (plain order)) }
     ensures none { IfNone result ((order : PlainOrder) → SpellsPlay medium.now channel.now from.now to.now order → ⊥) }
 {
-    let medium = read_medium(medium)?;
-    let from = read_bound(from, FIRST_STAMP)?;
-    let to = read_bound(to, LAST_STAMP)?;
+    let (medium, from, to) = read_span(medium, from, to)?;
     Some(Order::Play {
         medium,
         channel,
         from,
         to,
     })
+}
+
+/// The medium, and the first and the last stamp, that these words spell, `-` for no bound.
+pub(crate) fn read_span(medium: &[u8], from: &[u8], to: &[u8]) -> Option<(Medium, i64, i64)>
+    ensures found { IfSome result (λ span. (IsMedium span.0 × (medium.now ≡ medium_word span.0)) × SpellsBound (pos 0) from.now span.1 × SpellsBound (pos last_stamp) to.now span.2) }
+    ensures none { IfNone result ((asked : AMedium) (since until : ℤ) → IsMedium asked × (medium.now ≡ medium_word asked) → SpellsBound (pos 0) from.now since
+        → SpellsBound (pos last_stamp) to.now until → ⊥) }
+{
+    let medium = read_medium(medium)?;
+    let from = read_bound(from, FIRST_STAMP)?;
+    let to = read_bound(to, LAST_STAMP)?;
+    Some((medium, from, to))
 }
 
 /// The medium that a word names.

@@ -5,8 +5,8 @@ ghost use Rattle.vdr_desk.specs.Exchanges.{no_order_line};
 use arrayvec::ArrayVec;
 use std::marker::Model;
 
-/// Room for the longest reply of one line, in bytes.
-const ROOM: usize = 100;
+/// Room for the longest reply that needs no memory, in bytes.
+pub const ROOM: usize = 4_096;
 
 /// What goes back over a link in answer to a line: whole lines, each with its LF. Contracts see its bytes.
 #[derive(Drop)]
@@ -45,6 +45,16 @@ impl Reply {
             line.push(*byte);
         }
         Reply { line, page: None }
+    }
+
+    /// A reply of lines that need no memory.
+    pub fn of_lines(lines: ArrayVec<u8, ROOM>) -> Reply
+        ensures { result ≡ lines.items }
+    {
+        Reply {
+            line: lines,
+            page: None,
+        }
     }
 
     /// A reply of several lines.

@@ -14,3 +14,4 @@ pub mod Collected
 pub mod Kept
 pub mod Paged
 pub mod Laws
+pub mod Wishes

@@ -21,6 +21,7 @@ mod timing;
 mod track;
 mod wave;
 mod waves;
+mod wish;
 mod writing;
 
 pub use block::Block;
@@ -33,3 +34,4 @@ pub use refused::ExportRefused;
 pub use timing::Timing;
 pub use wave::WaveSize;
 pub use waves::{wave_size, write_wave};
+pub use wish::{Wish, file_of, timed_from};

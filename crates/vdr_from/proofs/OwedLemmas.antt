@@ -24,13 +24,13 @@ use Rattle.vdr_command.specs.Endings.{WritesLine, ending}
 use Rattle.vdr_command.specs.Outside.{OutputSeen}
 use Rattle.vdr_command.specs.declared.status.Status.{Status}
 use Rattle.vdr_command.specs.declared.status.Status.TheVariants.{Done, Words}
-use Rattle.vdr_readout.specs.Exports.{timed_from}
+use Rattle.vdr_export.specs.Wishes.{timed_from}
 use Rattle.vdr_readout.specs.Readings.{Reading}
 use Rattle.vdr_readout.specs.Readings.Reading.{Play, Values, Track, Sources, Watch, Runs, Digest, Targets, Wav, TimedWav, Picture, Pictures}
 use Rattle.vdr_readout.specs.Reads.{AskedPlay}
 use Rattle.vdr_readout.specs.Sources.{whole_of}
 use Rattle.vdr_readout.specs.Targets.{up_to}
-use Rattle.vdr_readout.specs.declared.exporting.Wish.TheVariants as wishes
+use Rattle.vdr_export.specs.declared.wish.Wish.TheVariants as wishes
 use Rattle.vdr_readout.proofs.TableLemmas.{sources_last}
 use Rattle.vdr_tool.specs.Verifying.{status_of_verify}
 use Rattle.vdr_from.specs.Readings.{EndsFrom, OwesFrom, RunsFrom}

@@ -26,9 +26,10 @@ use Rattle.vdr_verify.specs.declared.refused.VerifyRefused.TheVariants as refusa
 use Rattle.vdr_command.specs.Outside.{OutputFailed, OutputSeen, Prints, Writes}
 use Rattle.vdr_command.specs.StatusLine.{channel_line}
 use Rattle.vdr_command.specs.declared.status.Status.TheVariants.{ExportKind, NoChannel}
-use Rattle.vdr_readout.specs.Exports.{file_in, kind_at, wished}
+use Rattle.vdr_export.specs.Wishes.{kind_at, wished}
+use Rattle.vdr_readout.specs.Exports.{file_in}
 use Rattle.vdr_readout.specs.Reads.{AskedPlay, LacksChannel, query_of}
-use Rattle.vdr_readout.specs.declared.exporting.Wish.{Wish}
+use Rattle.vdr_export.specs.declared.wish.Wish.{Wish}
 use Rattle.vdr_tool.specs.Verifying.{status_of_verify}
 use Rattle.vdr_from.specs.Held.{IsKept, records_held}
 use Rattle.vdr_from.specs.Stops.{status_of_file}

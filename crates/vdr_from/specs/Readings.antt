@@ -16,12 +16,12 @@ use Rattle.vdr_command.specs.Endings.{WritesLine}
 use Rattle.vdr_command.specs.Outside.{OutputSeen}
 use Rattle.vdr_command.specs.declared.status.Status.{Status}
 use Rattle.vdr_command.specs.declared.status.Status.TheVariants.{Words}
-use Rattle.vdr_readout.specs.Exports.{timed_from}
+use Rattle.vdr_export.specs.Wishes.{timed_from}
 use Rattle.vdr_readout.specs.Readings.{Reading}
 use Rattle.vdr_readout.specs.Readings.Reading.{Play, Values, Track, Sources, Watch, Runs, Digest, Targets, Wav, TimedWav, Picture, Pictures}
 use Rattle.vdr_readout.specs.Sources.{whole_of}
 use Rattle.vdr_readout.specs.Targets.{up_to}
-use Rattle.vdr_readout.specs.declared.exporting.Wish.TheVariants as wishes
+use Rattle.vdr_export.specs.declared.wish.Wish.TheVariants as wishes
 use Rattle.vdr_from.specs.Tellings.{TellsHeld}
 use Rattle.vdr_from.specs.Words.{SpellsFrom}
 use Rattle.vdr_from.specs.Writings.{WritesHeld}

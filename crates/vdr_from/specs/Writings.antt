@@ -12,7 +12,7 @@ use Rattle.vdr_command.specs.declared.status.Status.{Status}
 use Rattle.vdr_command.specs.declared.status.Status.TheVariants.{Done, InputFault, OutputFault, NoMemory, NoChannel, ExportKind, ExportNothing, ExportMixed, ExportLong, ExportPart, NoEvidence}
 use Rattle.vdr_readout.specs.Exports.{file_in}
 use Rattle.vdr_readout.specs.Reads.{AskedPlay, LacksChannel}
-use Rattle.vdr_readout.specs.declared.exporting.Wish.{Wish}
+use Rattle.vdr_export.specs.declared.wish.Wish.{Wish}
 use Rattle.vdr_from.specs.Held.{Held, IsAnother, IsNoEvidence, OfHeld, records_held}
 
 module _ (whole : Option (List ℕ)) (wish : Wish) (asked : AskedPlay) (was next : OutputSeen) where

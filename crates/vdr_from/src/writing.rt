@@ -10,9 +10,9 @@ ghost use Rattle.vdr_from.specs.Writings.{WritesHeld};
 use crate::stops::refused_as;
 use std::alloc::Global;
 use vdr_command::{Status, report_channel};
-use vdr_export::export_file;
+use vdr_export::{Wish, export_file, file_of};
 use vdr_outside::{Media, Sink};
-use vdr_readout::{Wanted, Wish, file_of, query_in};
+use vdr_readout::{Wanted, query_in};
 use vdr_verify::{EvidenceReader, StoredFile};
 
 /// Finds what is wanted of a file that was read to its end, and writes what is wished of it. The media are left alone. Memory is taken for

@@ -1,11 +1,13 @@
 // A command behind its words, `record` among them.
-ghost use Rattle.std.specs.Prelude.{◌≤◌, ◌<◌, ◌^◌, length};
+ghost use Rattle.std.specs.Prelude.{◌≤◌, ◌<◌, ◌^◌, ℕ, length};
 ghost use Rattle.vdr_recorder.specs.Watched.{nothing_told};
 ghost use Rattle.vdr_session.specs.Calls.{AreByGroup};
+ghost use Rattle.vdr_tool.specs.Answers.{Answers, Completes};
 ghost use Rattle.vdr_tool.specs.Lives.{KeepsLife};
 ghost use Rattle.vdr_tool.specs.Runs.{Asks, TouchesAsked};
 ghost use Rattle.vdr_live.specs.Links.{seen_links};
 ghost use Rattle.vdr_live.specs.Ports.{seen_ports};
+ghost use Rattle.vdr_live.specs.Recordings.{AsksRecord};
 ghost use Rattle.vdr_live.specs.Runs.{RecordsAlone, RunsAll};
 
 use crate::recording::answer_record;
@@ -16,6 +18,7 @@ use std::thread::Threads;
 use vdr_capture::Lane;
 use vdr_outside::{Link, Media, Port, Sink, Source};
 use vdr_recorder::{Nobody, Watch};
+use vdr_reply::Gauge;
 use vdr_session::{Desk, Mark};
 use vdr_tool::{Outer, Status, World, report, run_alone_watched};
 
@@ -33,12 +36,13 @@ use vdr_tool::{Outer, Status, World, report, run_alone_watched};
 /// printed, and the media have to be opened again. For each status but `Done` and `OutputFault` the output ends with a status line.
 ///
 /// The watch is told while media are recorded on: of their opening, and of each turn of the recorder that met no fault, behind it and before
-/// anybody is answered. What it was told is on the media by then, whether the call returns or not.
+/// anybody is answered. What it was told is on the media by then, whether the call returns or not. It gauges what an operator is told of the
+/// ports and media, of which nothing is promised.
 pub fn run_watched<
     I: Source + Drop,
     O: Sink + Drop,
     M: Media + Send + Drop,
-    W: Watch<M> + Send,
+    W: Watch<M> + Gauge<M> + Send,
     P: Port + Send,
     L: Link + Send,
     R: Threads + Wait + Sync,
@@ -66,6 +70,10 @@ pub fn run_watched<
 
     // Media of this product stay so at every moment, and where nothing is formatted their life goes on.
     ensures lives { KeepsLife (Asks words.now) (M.disk world.old.media) (M.disk world.new.media) }
+
+    // Over all words but `record`: each status comes only with its cause, and where nothing stands in the way, all is done.
+    ensures answers { let at = ⟦<World<I, O, M> as Outer>⟧.outside in ((turns : ℕ) → AsksRecord words.now turns → ⊥) → Answers words.now (at world.old) (at world.new) W.hears (W.seen watch.new) result }
+    ensures completes { let at = ⟦<World<I, O, M> as Outer>⟧.outside in ((turns : ℕ) → AsksRecord words.now turns → ⊥) → Completes words.now (at world.old) (at world.new) result }
 {
     let Some(turns) = turns_of(words) else {
         return run_alone_watched(alloc, words, world, watch);
@@ -102,6 +110,8 @@ pub fn run<
     ensures touches { TouchesAsked words.now world.old.input world.new.input world.old.media world.new.media result }
     ensures alone { RecordsAlone words.now world.old.input world.new.input lanes.old lanes.new desks.old desks.new result }
     ensures lives { KeepsLife (Asks words.now) (M.disk world.old.media) (M.disk world.new.media) }
+    ensures answers { let at = ⟦<World<I, O, M> as Outer>⟧.outside in ((turns : ℕ) → AsksRecord words.now turns → ⊥) → Answers words.now (at world.old) (at world.new) ⊥ nothing_told result }
+    ensures completes { let at = ⟦<World<I, O, M> as Outer>⟧.outside in ((turns : ℕ) → AsksRecord words.now turns → ⊥) → Completes words.now (at world.old) (at world.new) result }
 {
     run_watched(rt, alloc, words, world, &mut Nobody {}, lanes, desks)
 }

@@ -81,6 +81,21 @@ pub(crate) fn explain<R: Read + Drop, W: Write + Drop, F: MediumFile + Drop>(
     }
 }
 
+// The order for evidence is of an incident, so that other records are saved as one first.
+fn advise_evidence(errors: &impl Eprint, folder: &str, command: &[String]) {
+    let _ = match command {
+        [_, medium, ..] if medium.as_str().starts_with("incident-") => {
+            let medium = medium.as_str();
+            eprintln!(errors; "vdr: in use by a recorder: vdr {folder} order EVIDENCE {medium}")
+        }
+        _ => {
+            eprintln!(errors;
+                "vdr: in use by a recorder: vdr {folder} order SAVE LABEL, and then vdr {folder} order EVIDENCE incident-ID"
+            )
+        }
+    };
+}
+
 /// Where a recorder uses the media, tells in a line how it is asked for what these words ask for.
 pub(crate) fn advise<R: AllocGlobal + Net<Stream = TcpStream>, E: Eprint, F: MediumFile + Drop>(
     rt: &R,
@@ -94,10 +109,24 @@ pub(crate) fn advise<R: AllocGlobal + Net<Stream = TcpStream>, E: Eprint, F: Med
     };
     let is_order = matches!(
         word.as_str(),
-        "play" | "save" | "release" | "incidents" | "sources" | "watch" | "targets" | "digest"
+        "play"
+            | "save"
+            | "release"
+            | "incidents"
+            | "sources"
+            | "watch"
+            | "targets"
+            | "digest"
+            | "wav"
+            | "picture"
+            | "evidence"
     );
     let is_in_use = matches!(media.trouble(), Some((_, Trouble::InUse)));
     if !is_order || !is_in_use || !recorder_listens(rt) {
+        return;
+    }
+    if word.as_str() == "evidence" {
+        advise_evidence(errors, folder, command);
         return;
     }
     if let Ok(line) = line_of(rt.alloc(), command) {

@@ -69,10 +69,10 @@ Commands:
             fails is told at the end, and the others go on.
             Meanwhile an operator's orders are answered on 127.0.0.1, TCP port 61450, line by line:
             `STATUS`, `SAVE LABEL`, `RELEASE ID`, and with the words of their commands `PLAY`,
-            `INCIDENTS`, `SOURCES`, `WATCH`, `TARGETS` and `DIGEST`; `EVIDENCE incident-ID` gives the
-            evidence of an incident as lines of base64. This link is asked for a line TURNS times at
-            most, and waits as a port does. `STOP` ends the recording: what waits is recorded, and the
-            run is closed.
+            `INCIDENTS`, `SOURCES`, `WATCH`, `TARGETS` and `DIGEST`; as lines of base64 `WAV` and
+            `PICTURE`, and `EVIDENCE incident-ID` the evidence of an incident. This link is asked for
+            a line TURNS times at most, and waits as a port does. `STOP` ends the recording: what waits
+            is recorded, and the run is closed.
   order WORDS
             Sends such a line to the recorder of this host, with the first word in capitals, prints
             what is replied behind its `OK`, and ends with the status of a refusal. FOLDER may be any.
@@ -279,6 +279,14 @@ Exit status, with the line that ends the output:
       has to be released first
   13  `status 13 place`: the next place is 2^62 or more; nothing was recorded
   13  `status 13 tick`: a run would begin at a tick of 2^62 or more; nothing was recorded
+  14  `status 14 kind`: `wav` takes a channel of kind `pcm`, `picture` and `pictures` one of kind
+      `image`
+  14  `status 14 none`: no record that is asked for has a frame of the sound, or a part of the image
+  14  `status 14 mixed PLACE`: from the record at PLACE on the rate of the sound, or the number of
+      the image's parts, is another
+  14  `status 14 long`: the sound has more bytes than a WAVE file can tell
+  14  `status 14 part NUMBER`: no record that is asked for has this part of the image, the first
+      that is missing
   16  `status 16 capture N at OFFSET`: the capture is refused at the packet or block that
       begins at OFFSET: 1 no capture, 2 cut off, 3 another version or order of bytes, 4 a
       length, 5 no such interface, 6 too many interfaces, 7 too many items. `import` has

@@ -37,6 +37,12 @@ fn are_of_info_alone(words: &[String]) -> bool {
 
 /// Which word asks for nothing, and what it may be.
 pub(crate) fn hint_words(rt: &impl Eprint, folder: &str, words: &[String]) {
+    if folder == "from" {
+        let _ = eprintln!(rt;
+            "vdr: the evidence file comes first: vdr FILE from COMMAND WORDS; `vdr --help from` teaches them"
+        );
+        return;
+    }
     if are_of_info_alone(words) {
         let _ = eprintln!(rt;
             "vdr: the words are: vdr FOLDER rescue info MEDIUM, and MEDIUM is `capsule` or `longterm`"

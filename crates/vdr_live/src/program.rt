@@ -2,12 +2,13 @@
 ghost use Rattle.std.specs.Prelude.{◌≡◌, ◌<◌, ◌^◌, ℕ, length, slice_index_or};
 
 use crate::explaining::{advise, explain};
+use crate::gauging::HostGauge;
 use crate::help::{HELP, VERSION};
 use crate::helping::tell_command;
 use crate::making::is_make;
 use crate::making_files::{ended, make_files};
 use crate::reading_files::read_file;
-use crate::{Line, line_of, medium_use, run};
+use crate::{Line, line_of, medium_use, run_watched};
 use std::alloc::AllocError;
 use std::io;
 use std::io::{BufReader, Read, Write};
@@ -18,9 +19,9 @@ use vdr_adapters::{FileMedia, StandardStreams, StdIn, StdOut, SystemFile};
 use vdr_capture::Lane;
 use vdr_client::order;
 use vdr_from::is_from;
-use vdr_outside::{Link, Port};
+use vdr_outside::{Link, Port, Sink, Source};
 use vdr_session::{Desk, Mark};
-use vdr_sockets::Alarm;
+use vdr_sockets::{Alarm, LastHeard};
 use vdr_tool::{Status, Uses, World};
 
 /// How many bytes the input is read ahead.
@@ -112,13 +113,44 @@ fn read_beside<O: Write + Drop, E: Eprint>(
     read_file(host, errors, path, words, output)
 }
 
+// Runs a command, and gauges the host meanwhile for whoever asks how a recording fares.
+fn run_gauged<
+    R: Threads + Wait + Sync,
+    I: Source + Drop,
+    O: Sink + Drop,
+    P: Port + Send,
+    L: Link + Send,
+>(
+    rt: &R,
+    host: &HostRuntime,
+    folder: &str,
+    command: &[String],
+    world: &mut World<I, O, FileMedia<'_, SystemFile<HostRuntime>>>,
+    lanes: &mut [Lane<P>],
+    desks: &mut [Desk<L, Mark>],
+    heard: &LastHeard,
+) -> Status
+    requires sixteen { length lanes.old ≡ 16 }
+    requires groups { (g : ℕ) (d : _) → g < 16 → (slice_index_or lanes.old g d).group ≡ g }
+    requires desks { length desks.old < 2 ^ 32 }
+{
+    let mut gauge = HostGauge {
+        host,
+        heard,
+        folder,
+    };
+    let alloc = host.alloc();
+    run_watched(rt, alloc, command, world, &mut gauge, lanes, desks)
+}
+
 /// Does what the words of the program ask for, over these streams, the media of the folder that the first word names, the ports
 /// of these lanes and the links of these desks, and tells the exit status.
 ///
 /// `--help`, `-h` and `--version`, as the only word, print what the program says of itself, and `--help` with a command what it says of that.
 /// `make` makes the media and formats them. `from` reads the stored file that the first word names. Where something went wrong, one line for a person says what, or the way on (docs/formats/hints.md). Standard streams that are closed
 /// are filled before any medium is opened, and before any port or link is asked. An order goes to the recorder of this host, and its reply to
-/// the standard output. The alarm is raised where a medium can't be written or synced; ports and links that were made for it then end. Files
+/// the standard output. The alarm is raised where a medium can't be written or synced; ports and links that were made for it then end, and `heard` is told
+/// when the ports were last heard. Files
 /// are those of `host`, and threads and waiting those of `rt`: in `main` both are its one parameter.
 pub fn command_line<
     R: AllocGlobal + Net<Stream = TcpStream> + Print + Eprint + Threads + Wait + Sync,
@@ -135,6 +167,7 @@ pub fn command_line<
     lanes: &mut [Lane<P>],
     desks: &mut [Desk<L, Mark>],
     alarm: &Alarm,
+    heard: &LastHeard,
 ) -> u8
     requires sixteen { length lanes.old ≡ 16 }
     requires groups { (g : ℕ) (d : _) → g < 16 → (slice_index_or lanes.old g d).group ≡ g }
@@ -172,7 +205,7 @@ pub fn command_line<
         output: StdOut::new(output),
         media,
     };
-    let status = run(rt, host.alloc(), command, &mut world, lanes, desks);
+    let status = run_gauged(rt, host, folder, command, &mut world, lanes, desks, heard);
     explain(errors, folder, command, status, uses, &world);
     advise(rt, errors, folder, command, &world.media);
     status.code()

@@ -15,6 +15,7 @@ use std::thread::Threads;
 use vdr_capture::{Lane, Outcome};
 use vdr_outside::{Link, Media, Port, Sink, Source, print_buffered};
 use vdr_recorder::Watch;
+use vdr_reply::Gauge;
 use vdr_session::{Desk, Mark, SessionEnd};
 use vdr_tool::{Outer, Status, Summary, World, law_of_openings};
 
@@ -58,7 +59,7 @@ pub(crate) fn answer_record<
     I: Source + Drop,
     O: Sink + Drop,
     M: Media + Send + Drop,
-    W: Watch<M> + Send,
+    W: Watch<M> + Gauge<M> + Send,
     P: Port + Send,
     L: Link + Send,
     R: Threads + Wait + Sync,

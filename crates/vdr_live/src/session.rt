@@ -14,13 +14,14 @@ use vdr_capture::Lane;
 use vdr_opening::OpenRefused;
 use vdr_outside::{Link, Media, Port};
 use vdr_recorder::{Recorder, Watch};
+use vdr_reply::Gauge;
 use vdr_session::{Desk, Mark, SessionEnd, record_at_desks};
 
 /// Opens the media, and records what the ports of the lanes give as one run, with at most so many takes of each. The orders of the desks are
 /// answered, with at most so many calls of each link for a line.
 pub(crate) fn record_ports<
     M: Media + Send,
-    W: Watch<M> + Send,
+    W: Watch<M> + Gauge<M> + Send,
     P: Port + Send,
     L: Link + Send,
     R: Threads + Wait + Sync,
@@ -44,5 +45,6 @@ pub(crate) fn record_ports<
     ensures sizes { (M.disk media.new).sizes ≡ (M.disk media.old).sizes }
 {
     let recorder = Recorder::open_watched(alloc, media, watch)?;
+    watch.begins(recorder.config(), recorder.status().records);
     Ok(record_at_desks(rt, alloc, recorder, media, watch, lanes, desks, turns))
 }

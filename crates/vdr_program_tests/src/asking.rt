@@ -7,7 +7,7 @@ use std::net::{Net, TcpListener, TcpStream};
 use std::sync::Wait;
 use std::thread::Threads;
 use std::time::Clock;
-use vdr_live::{Alarm, Streams, command_line, tcp_desk, udp_lanes};
+use vdr_live::{Alarm, Streams, command_line, last_heard, tcp_desk, udp_lanes};
 
 /// What a command left.
 #[derive(Drop)]
@@ -40,7 +40,8 @@ fn run<
         + Sync,
 >(rt: &R, host: &HostRuntime, words: &[String], input: &str) -> Result<Ran> {
     let alarm = Alarm::new();
-    let mut lanes = udp_lanes(rt, rt.alloc(), &alarm)?;
+    let heard = last_heard(host);
+    let mut lanes = udp_lanes(host, host.alloc(), &alarm, &heard)?;
     let mut desks = [tcp_desk(rt, &alarm)];
     let told = Told::new(rt.alloc());
     let mut printed = Vec::new(rt.alloc());
@@ -57,6 +58,7 @@ fn run<
         lanes.as_mut_slice(),
         &mut desks,
         &alarm,
+        &heard,
     );
     Ok(Ran {
         code,

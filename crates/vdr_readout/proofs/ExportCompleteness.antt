@@ -12,7 +12,7 @@ use Rattle.vdr_command.specs.declared.status.Status.TheVariants.{Done, Words, Co
 use Rattle.vdr_command.proofs.OpenedCompleteness.{damaged_refused, memory_refused, opened_refused, unformatted_refused}
 use Rattle.vdr_readout.specs.Exports.{ExportEnds, ExportsAll, IfRefusal, IsJudged, file_in, made_of, status_of_export}
 use Rattle.vdr_readout.specs.Reads.{AskedPlay, LacksChannel, LacksIncident}
-use Rattle.vdr_readout.specs.declared.exporting.Wish.{Wish}
+use Rattle.vdr_export.specs.declared.wish.Wish.{Wish}
 use Rattle.vdr_readout.proofs.PlayCompleteness.{not_live, one_id}
 
 some_none : {A : Type 0} (o : Option A) (a : A) → o ≡ Some a → o ≡ None → ⊥

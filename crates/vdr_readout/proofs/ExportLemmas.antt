@@ -35,10 +35,11 @@ use Rattle.vdr_command.specs.Statuses.{status_of_opening}
 use Rattle.vdr_command.specs.declared.status.Status.{Status}
 use Rattle.vdr_command.specs.declared.status.Status.TheVariants as ends
 use Rattle.vdr_command.proofs.OpenedLemmas.{OpenedOn, TellsOn, opened_by, opened_so}
-use Rattle.vdr_readout.specs.Exports.{CanExport, ExportEnds, IfRefusal, IsJudged, IsExportStatus, WritesFile, file_in, kind_at, made_of, status_of_export, wished}
+use Rattle.vdr_export.specs.Wishes.{kind_at, wished}
+use Rattle.vdr_readout.specs.Exports.{CanExport, ExportEnds, IfRefusal, IsJudged, IsExportStatus, WritesFile, file_in, made_of, status_of_export}
 use Rattle.vdr_readout.specs.Reads.{AskedPlay, CanBeRead, CanPlay, IfItself, IsMetDamage, IsOwnStatus, LacksChannel, LacksIncident, MetUnreadable, PlayEnds, all_records, channel_in, id_of, query_of, records_asked, status_by}
-use Rattle.vdr_readout.specs.declared.exporting.Wish.{Wish}
-use Rattle.vdr_readout.specs.declared.exporting.Wish.TheVariants.{Sound, Picture, Listing}
+use Rattle.vdr_export.specs.declared.wish.Wish.{Wish}
+use Rattle.vdr_export.specs.declared.wish.Wish.TheVariants.{Sound, Picture, Listing}
 use Rattle.vdr_readout.proofs.DamageLemmas.{IsTold}
 use Rattle.vdr_readout.proofs.FileLemmas.{as_visit, damage_as, done_as, fault_as, may_write, not_asked, of_damage, output_as, own_status, undamaged, writes_so}
 use Rattle.vdr_readout.proofs.ReadLemmas.{Wants, read_ends}

@@ -23,9 +23,10 @@ use Rattle.vdr_command.specs.Opened.{IfDamaged}
 use Rattle.vdr_command.specs.Outside.{OutputSeen}
 use Rattle.vdr_command.specs.declared.status.Status.{Status}
 use Rattle.vdr_command.specs.declared.status.Status.TheVariants as ends
-use Rattle.vdr_readout.specs.Exports.{IsExportStatus, MayWrite, WritesFile, status_of_export, wished}
-use Rattle.vdr_readout.specs.declared.exporting.Wish.{Wish}
-use Rattle.vdr_readout.specs.declared.exporting.Wish.TheVariants.{Sound, Picture, Listing}
+use Rattle.vdr_export.specs.Wishes.{wished}
+use Rattle.vdr_readout.specs.Exports.{IsExportStatus, MayWrite, WritesFile, status_of_export}
+use Rattle.vdr_export.specs.declared.wish.Wish.{Wish}
+use Rattle.vdr_export.specs.declared.wish.Wish.TheVariants.{Sound, Picture, Listing}
 
 -- The same as the end of a visit, whose own reason is a status.
 abbrev pub as_visit : Result ⊤ ExportRefused → Result ⊤ (VisitRefused Status)

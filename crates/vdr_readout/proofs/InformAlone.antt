@@ -16,7 +16,7 @@ use Rattle.vdr_readout.specs.Rescues.{Rescues}
 use Rattle.vdr_readout.specs.Sources.{whole_of}
 use Rattle.vdr_readout.specs.Telling.{status_of_part}
 use Rattle.vdr_readout.proofs.AloneInfoLemmas.{one_told}
-use Rattle.vdr_readout.proofs.ReadingLemmas.{rescue_known}
+use Rattle.vdr_readout.proofs.ReadingLemmas.{rescue_ends, rescue_known, rescue_output}
 use Rattle.vdr_readout.proofs.RescueLemmas.{LawsOfAlone, refused_rescues}
 
 module _ {tells tells_images : Type 0} (medium : Medium) (old new : Outside tells tells_images) where
@@ -34,6 +34,8 @@ module _ {tells tells_images : Type 0} (medium : Medium) (old new : Outside tell
       let r : Rescues (whole_of medium) no_line (λ seen. []) old new (status_of_part part) = refused_rescues laws (whole_of medium) no_line (λ seen. []) old new same unchanged others part damaged fault in
       record {
         own = rescue_known old new (status_of_part part) (whole_of medium) no_line (λ seen. []) r;
+        ends = rescue_ends old new (whole_of medium) no_line (λ seen. []) (status_of_part part) r;
+        output = rescue_output old new (status_of_part part) (whole_of medium) no_line (λ seen. []) r;
         told = λ t first is. refused_rescues laws (whole_of medium) no_line (λ seen. told_behind first seen) old new same unchanged others part damaged fault;
         media = r.media;
       }
@@ -43,6 +45,8 @@ module _ {tells tells_images : Type 0} (medium : Medium) (old new : Outside tell
       → Rescues (whole_of medium) no_line (λ seen. told_behind first seen) old new status → RescuesInfo medium old new status
   informs_alone first is status r = record {
     own = rescue_known old new status (whole_of medium) no_line (λ seen. told_behind first seen) r;
+    ends = rescue_ends old new (whole_of medium) no_line (λ seen. told_behind first seen) status r;
+    output = rescue_output old new status (whole_of medium) no_line (λ seen. told_behind first seen) r;
     told = λ t other told.
         subst (λ (x : TellerState). Rescues (whole_of medium) no_line (λ seen. told_behind x seen) old new status) (one_told number (content old.media.disk.reads number) first other (is t) told) r;
     media = r.media;

@@ -27,13 +27,14 @@ use Rattle.vdr_visit.specs.declared.visit_refused.VisitRefused.{VisitRefused}
 use Rattle.vdr_command.specs.Outside.{MediaFailed, OutputFailed, OutputSeen, Outside, Prints, PrintsFront, Writes}
 use Rattle.vdr_command.specs.StatusLine.{channel_line}
 use Rattle.vdr_command.specs.declared.status.Status.TheVariants.{Damaged, MediaFault, NoMemory, NoChannel, NoIncident, ExportKind}
-use Rattle.vdr_readout.specs.Exports.{file_in, kind_at, status_of_export, wished}
+use Rattle.vdr_export.specs.Wishes.{kind_at, wished}
+use Rattle.vdr_readout.specs.Exports.{file_in, status_of_export}
 use Rattle.vdr_rescue.specs.Findings.{found_in}
 use Rattle.vdr_readout.specs.Reads.{AskedPlay, LacksChannel, LacksIncident, id_of, number_asked}
 use Rattle.vdr_readout.specs.Rescues.{CanRescue, records_rescued, status_found}
 use Rattle.vdr_readout.specs.RescuedFiles.{IsBegun, IsNone, IsWritten, RescuesAllFiles, RescuesFile, ShowsFile}
 use Rattle.vdr_readout.specs.Telling.{status_of_part}
-use Rattle.vdr_readout.specs.declared.exporting.Wish.{Wish}
+use Rattle.vdr_export.specs.declared.wish.Wish.{Wish}
 use Rattle.vdr_readout.proofs.PlayCompleteness.{one_id}
 use Rattle.vdr_readout.proofs.ReadLemmas.{Wants}
 use Rattle.vdr_readout.proofs.RefusedLemmas.{asked_within, lacks_from, lacks_is, medium_is}

@@ -1,20 +1,20 @@
 -- What `wav`, `picture` and `pictures` write and answer: a file out of what was recorded, or why there is none (this project's profile).
-use Rattle.std.specs.Prelude.{◌≡◌, ◌⊎◌, ◌∷◌, ◌<◌, ◌^◌, ◌==◌, if◌then◌else◌, ℕ, ℤ, true, List, [], codes, decimal, slice_get, option_map, unsigned_abs, Option, Some, None, Result, Ok, Err, ⊤}
+use Rattle.std.specs.Prelude.{◌≡◌, ◌⊎◌, ◌∷◌, ◌<◌, ◌^◌, ℕ, true, List, [], codes, decimal, Option, Some, None, Result, Ok, Err, ⊤}
 use Rattle.vdr_core.specs.Histories.{live}
 use Rattle.vdr_durability.specs.Readings.{EndsMeet}
 use Rattle.vdr_outside.specs.Disk.{Image}
 use Rattle.vdr_image.specs.Headers.{is_identifier}
-use Rattle.vdr_config.specs.Configuration.{Configuration, Selection, Selector}
-use Rattle.vdr_config.specs.Configuration.Selection.{Sentence, Image as Images, Pcm, Opaque}
+use Rattle.vdr_config.specs.Configuration.{Configuration}
 use Rattle.vdr_entry.specs.declared.query.Medium.TheVariants.{Incident}
 use Rattle.vdr_export.specs.Answers.{file_of}
 use Rattle.vdr_export.specs.declared.block.Block.{Block}
 use Rattle.vdr_export.specs.declared.file.File.{File}
-use Rattle.vdr_export.specs.declared.file.File.TheVariants as files
 use Rattle.vdr_export.specs.declared.refused.ExportRefused.{ExportRefused}
 use Rattle.vdr_export.specs.declared.refused.ExportRefused.TheVariants as exports
-use Rattle.vdr_export.specs.declared.timing.Timing.{Timing}
-use Rattle.vdr_export.specs.declared.timing.Timing.TheVariants.{Numbered, Stamped}
+use Rattle.vdr_export.specs.Wishes.{kind_at, timed_from, wished}
+use Rattle.vdr_export.specs.declared.timing.Timing.TheVariants.{Numbered}
+use Rattle.vdr_export.specs.declared.wish.Wish.{Wish}
+use Rattle.vdr_export.specs.declared.wish.Wish.TheVariants.{Sound, Picture, Listing}
 use Rattle.vdr_opening.specs.Media.{members, Contents, HoldsContents, reading_of}
 use Rattle.vdr_control.specs.Orders.PlainOrder.{Play as PlayOrder}
 use Rattle.vdr_control.specs.Plays.{SpellsPlay}
@@ -26,41 +26,8 @@ use Rattle.vdr_command.specs.StatusLine.{IsNoChannel, channel_line}
 use Rattle.vdr_command.specs.declared.status.Status.{Status}
 use Rattle.vdr_command.specs.declared.status.Status.TheVariants.{Done, Unformatted, Damaged, MediaFault, OutputFault, NoMemory, NoChannel, NoIncident, ExportKind, ExportNothing, ExportMixed, ExportLong, ExportPart}
 use Rattle.vdr_readout.specs.Reads.{AskedPlay, CanBeRead, CanPlay, LacksChannel, MetUnreadable, PlayEnds, channel_asked, records_asked}
-use Rattle.vdr_readout.specs.declared.exporting.Wish.{Wish}
-use Rattle.vdr_readout.specs.declared.exporting.Wish.TheVariants.{Sound, Picture, Listing}
 
--- What the channel of this number selects, None where there is none.
-abbrev pub kind_at : List Selector → Option ℕ → Option Selection
-kind_at channels None = None
-kind_at channels (Some k) = option_map (λ channel. channel.kind) (slice_get channels k)
-
--- The file that is to be made of a channel, None where its kind is another, and of all records.
-abbrev pub sound_of : Timing → Option Selection → Option File
-sound_of timing None = None
-sound_of timing (Some (Sentence formatter source)) = None
-sound_of timing (Some (Images source)) = None
-sound_of timing (Some (Pcm microphone)) = Some (files.Sound microphone timing)
-sound_of timing (Some Opaque) = None
-
-abbrev pub picture_in : Block → Option Selection → Option File
-picture_in block None = None
-picture_in block (Some (Sentence formatter source)) = None
-picture_in block (Some (Images source)) = Some (files.Picture block)
-picture_in block (Some (Pcm microphone)) = None
-picture_in block (Some Opaque) = None
-
-abbrev pub listing_in : Option Selection → Option File
-listing_in None = None
-listing_in (Some (Sentence formatter source)) = None
-listing_in (Some (Images source)) = Some files.Listing
-listing_in (Some (Pcm microphone)) = None
-listing_in (Some Opaque) = None
-
-abbrev pub wished : Wish → Option Selection → Option File
-wished (Sound timing) kind = sound_of timing kind
-wished (Picture block) kind = picture_in block kind
-wished Listing kind = listing_in kind
-
+-- The file that is to be made of a channel of this name.
 abbrev pub file_in : Wish → Configuration → (name : List ℕ) → Option File
 file_in wish c name = wished wish (kind_at c.channels (channel_asked c name))
 
@@ -205,10 +172,6 @@ sounding asked = record {
   uses_media = ⊤;
   owes = λ old new hears w status. Exports (Sound Numbered) asked old new status;
 }
-
--- A sound on its time line begins at FROM, or with its first frame where that is no bound, which is 0.
-abbrev pub timed_from : (from : ℤ) → Timing
-timed_from from = Stamped (if unsigned_abs from == 0 then None else Some (unsigned_abs from))
 
 -- `wav` with `timed` behind its words.
 pub record AreTimedWords (texts : List (List ℕ)) (asked : AskedPlay) : Type 0 where

@@ -27,7 +27,7 @@ use Rattle.vdr_command.specs.declared.status.Status.TheVariants.{Unformatted, Me
 use Rattle.vdr_teller.specs.Incidents.{incidents_text}
 use Rattle.vdr_readout.specs.Incidents.{IsListStatus}
 use Rattle.vdr_readout.specs.Reads.{number_asked}
-use Rattle.vdr_readout.specs.Rescues.{LeavesRescued, Rescues}
+use Rattle.vdr_readout.specs.Rescues.{IsRescueStatus, LeavesRescued, Rescues}
 use Rattle.vdr_readout.specs.Sources.{whole_of}
 
 -- Below the lines of media: the rows of the live incidents, and the configuration.
@@ -94,6 +94,9 @@ pub record IsToldAlone (m : ℕ) (bytes : List ℕ) (first : TellerState) : Type
 -- was found.
 pub record RescuesInfo {tells tells_images : Type 0} (medium : Medium) (old new : Outside tells tells_images) (status : Status) : Type 0 where
   pub own : status ≡ Words → ⊥
+  pub ends : IsRescueStatus status
+  -- a failure comes only with its cause, whatever is told
+  pub output : status ≡ OutputFault → OutputFailed old.output new.output
   pub told : tells → (first : TellerState) → IsToldAlone (number_asked (whole_of medium)) (content old.media.disk.reads (number_asked (whole_of medium))) first
       → Rescues (whole_of medium) (λ seen r. []) (λ seen. told_behind first seen) old new status
   pub media : LeavesRescued (whole_of medium) old.media new.media status

@@ -18,7 +18,8 @@ use Rattle.vdr_runs.specs.Runs.{last_lines as runs_last, line_at as runs_line}
 use Rattle.vdr_command.specs.Outside.{Outside}
 use Rattle.vdr_command.specs.Promises.{Promise}
 use Rattle.vdr_command.specs.declared.status.Status.{Status}
-use Rattle.vdr_readout.specs.Exports.{Exports, listing, picturing, sounding, sounding_in_time, timed_from}
+use Rattle.vdr_export.specs.Wishes.{timed_from}
+use Rattle.vdr_readout.specs.Exports.{Exports, listing, picturing, sounding, sounding_in_time}
 use Rattle.vdr_readout.specs.Lines.{TellsLines, telling}
 use Rattle.vdr_readout.specs.Plays.{Plays, playing}
 use Rattle.vdr_readout.specs.Reads.{AskedPlay, plain_play}
@@ -30,7 +31,7 @@ use Rattle.vdr_readout.specs.Targets.{TellsTargets, targeting, up_to}
 use Rattle.vdr_readout.specs.Watches.{TellsWatch, watching}
 use Rattle.vdr_readout.specs.declared.answering.Reading.{Reading as Told}
 use Rattle.vdr_readout.specs.declared.answering.Reading.TheVariants as told
-use Rattle.vdr_readout.specs.declared.exporting.Wish.TheVariants as wishes
+use Rattle.vdr_export.specs.declared.wish.Wish.TheVariants as wishes
 
 pub data Reading : Type 0 where
   Play : (asked : AskedPlay) → Reading

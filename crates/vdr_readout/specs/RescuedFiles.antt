@@ -1,5 +1,5 @@
 -- What is said of a command that writes a file out of one medium alone (this project's profile).
-use Rattle.std.specs.Prelude.{◌≡◌, ◌⊎◌, ℕ, List, Some, None, Ok, Err}
+use Rattle.std.specs.Prelude.{◌≡◌, ◌⊎◌, ℕ, List, Some, None, Ok, Err, ⊤}
 use Rattle.vdr_outside.specs.Disk.{content}
 use Rattle.vdr_export.specs.Answers.{file_of}
 use Rattle.vdr_export.specs.declared.file.File.{File}
@@ -16,8 +16,17 @@ use Rattle.vdr_entry.specs.declared.query.Medium.TheVariants.{Incident}
 use Rattle.vdr_readout.specs.Exports.{file_in, status_of_export}
 use Rattle.vdr_rescue.specs.Findings.{found_in}
 use Rattle.vdr_readout.specs.Reads.{AskedPlay, LacksChannel, LacksIncident, number_asked}
-use Rattle.vdr_readout.specs.Rescues.{CanRescue, LeavesRescued, records_rescued, status_found}
-use Rattle.vdr_readout.specs.declared.exporting.Wish.{Wish}
+use Rattle.vdr_readout.specs.Rescues.{CanRescue, IsRescueStatus, LeavesRescued, records_rescued, status_found}
+use Rattle.vdr_export.specs.declared.wish.Wish.{Wish}
+
+-- A rescue that writes a file ends so, and in no other way.
+abbrev pub IsRescuedFileStatus : Status → Type 0
+IsRescuedFileStatus ExportKind = ⊤
+IsRescuedFileStatus ExportNothing = ⊤
+IsRescuedFileStatus (ExportMixed place) = ⊤
+IsRescuedFileStatus ExportLong = ⊤
+IsRescuedFileStatus (ExportPart number) = ⊤
+IsRescuedFileStatus status = IsRescueStatus status
 
 module _ (told : Type 0) (wish : Wish) (asked : AskedPlay) (bytes : List ℕ) (was next : OutputSeen) where
   -- P holds of what the medium gives.

@@ -1,5 +1,5 @@
 -- What is said of a command that reads one medium alone, as `rescue` asks for it (this project's profile).
-use Rattle.std.specs.Prelude.{◌≡◌, ◌⊎◌, ◌++◌, ℕ, List}
+use Rattle.std.specs.Prelude.{◌≡◌, ◌⊎◌, ◌++◌, ℕ, List, ⊤}
 use Rattle.vdr_terms.specs.Records.{Record}
 use Rattle.vdr_outside.specs.Causes.{NoneFalls}
 use Rattle.vdr_outside.specs.Disk.{Unchanged, content}
@@ -26,6 +26,18 @@ abbrev pub status_found : (m : ℕ) → Found → Status
 status_found m found.Whole = Done
 status_found m (found.Damaged offset) = Damaged m offset
 status_found m (found.Missing place) = Missing place
+
+-- A rescue that prints ends so, and in no other way.
+abbrev pub IsRescueStatus : Status → Type 0
+IsRescueStatus Done = ⊤
+IsRescueStatus (Damaged m offset) = ⊤
+IsRescueStatus (Missing place) = ⊤
+IsRescueStatus MediaFault = ⊤
+IsRescueStatus OutputFault = ⊤
+IsRescueStatus NoMemory = ⊤
+IsRescueStatus NoChannel = ⊤
+IsRescueStatus (NoIncident id) = ⊤
+IsRescueStatus status = ⊥
 
 -- Channel and incident are there.
 pub record CanRescue (x : Rescue) (asked : AskedPlay) : Type 0 where

@@ -3,12 +3,11 @@ ghost use Rattle.std.specs.Prelude.{◌≡◌, ◌<◌, ◌≤◌, length};
 ghost use Rattle.vdr_command.specs.Endings.{ending};
 ghost use Rattle.vdr_command.specs.declared.status.Status.TheVariants.{Words};
 ghost use Rattle.vdr_readout.specs.Readings.{OwesReading, RescuesReading, number_read, plain_reading};
-ghost use Rattle.vdr_readout.specs.Exports.{timed_from};
 ghost use Rattle.vdr_readout.specs.Readings.Reading.{Targets};
 ghost use Rattle.vdr_readout.specs.Reads.{plain_play};
 ghost use Rattle.vdr_readout.specs.Targets.{up_to};
 
-use crate::exporting::{Wish, answer_export};
+use crate::exporting::answer_export;
 use crate::playing::{Printer, answer_play};
 use crate::reading::{ALL, Wanted};
 use crate::rescuing::{number_of, rescue_out};
@@ -22,7 +21,7 @@ use std::alloc::Global;
 use vdr_command::{Outer, Status, World};
 use vdr_digest::Digester;
 use vdr_entry::Medium;
-use vdr_export::{Block, Timing};
+use vdr_export::{Block, Timing, Wish, timed_from};
 use vdr_outside::{Media, Sink, Source};
 use vdr_recorder::SourceCounter;
 use vdr_rows::Rows;
@@ -93,16 +92,6 @@ pub fn up_to(medium: Medium, at: i64) -> Wanted<'static>
         channel: ALL,
         from: 0,
         to: at,
-    }
-}
-
-/// A sound on its time line from this stamp on; from its first frame on where that is no bound.
-pub fn timed_from(from: i64) -> Timing
-    ensures { result ≡ timed_from from }
-{
-    match from.unsigned_abs() {
-        0 => Timing::Stamped { from: None },
-        from => Timing::Stamped { from: Some(from) },
     }
 }
 

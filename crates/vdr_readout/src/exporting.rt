@@ -2,50 +2,17 @@
 ghost use Rattle.std.specs.Prelude.{◌≡◌, ◌≤◌, length, Err};
 ghost use Rattle.vdr_command.specs.Endings.{ending};
 ghost use Rattle.vdr_command.specs.declared.status.Status.TheVariants.{Words};
-ghost use Rattle.vdr_readout.specs.Exports.{ExportEnds, Exports, kind_at, status_of_export, wished};
+ghost use Rattle.vdr_readout.specs.Exports.{ExportEnds, Exports, status_of_export};
 ghost use Rattle.vdr_readout.specs.Reads.{plain_play};
 
 use crate::reading::{Wanted, id_of, query_of};
 use std::alloc::Global;
 use std::convert::Infallible;
 use vdr_command::{Outer, Status, World, law_of_openings, report_channel};
-use vdr_config::{ChannelKind, Config};
-use vdr_export::{Block, ExportRefused, File, Timing, export_file};
+use vdr_export::{ExportRefused, Wish, export_file, file_of};
 use vdr_outside::{Media, Sink, Source};
 use vdr_recorder::Recorder;
 use vdr_vault::law_of_meeting;
-
-/// What file is asked for.
-#[derive(Clone, Copy, Drop)]
-pub enum Wish {
-    /// The sound of a channel of PCM frames, which stand where the timing says.
-    Sound(Timing),
-    /// The image of this block, out of a channel of images.
-    Picture(Block),
-    /// The list of the images, out of a channel of images.
-    Listing,
-}
-
-/// The file that is to be made of a channel, None where its kind is another.
-pub fn file_of(config: &Config, channel: Option<u8>, wish: Wish) -> Option<File>
-    ensures { result ≡ wished wish (kind_at config.now.channels channel) }
-{
-    let Some(number) = channel else {
-        return None;
-    };
-    let Some(channel) = config.channels.get(number as usize) else {
-        return None;
-    };
-    match (wish, &channel.kind) {
-        (Wish::Sound(timing), ChannelKind::Pcm { microphone }) => Some(File::Sound {
-            microphone: *microphone,
-            timing,
-        }),
-        (Wish::Picture(block), ChannelKind::Image { .. }) => Some(File::Picture(block)),
-        (Wish::Listing, ChannelKind::Image { .. }) => Some(File::Listing),
-        _ => None,
-    }
-}
 
 /// How a file that is refused ends the command.
 pub(crate) fn refused_as(refused: ExportRefused) -> Status

@@ -20,10 +20,9 @@ mod targeting;
 mod telling;
 mod watching;
 
-pub use answering::{Reading, answer_reading, answer_rescue, timed_from, up_to};
+pub use answering::{Reading, answer_reading, answer_rescue, up_to};
 pub use comparing::answer_compare;
 pub use evidencing::answer_evidence;
-pub use exporting::{Wish, file_of};
 pub use informing::answer_info;
 pub use informing_alone::answer_rescue_info;
 pub use listing::answer_incidents;

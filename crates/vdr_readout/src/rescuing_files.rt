@@ -4,13 +4,13 @@ ghost use Rattle.vdr_command.specs.Endings.{ending};
 ghost use Rattle.vdr_readout.specs.Reads.{plain_play};
 ghost use Rattle.vdr_readout.specs.RescuedFiles.{RescuesFile};
 
-use crate::exporting::{Wish, file_of, refused_as};
+use crate::exporting::refused_as;
 use crate::reading::{Wanted, id_of, query_in};
 use crate::rescuing::{ended_as, number_of, status_of_part};
 use std::alloc::Global;
 use std::convert::Infallible;
 use vdr_command::{Outer, Status, World, report_channel};
-use vdr_export::export_file;
+use vdr_export::{Wish, export_file, file_of};
 use vdr_outside::{Media, Sink, Source};
 use vdr_rescue::{Alone, found_of, law_of_alone};
 use vdr_visit::Reader;

@@ -100,7 +100,7 @@ module _ {tells tells_images : Type 0} (old mid : Disk tells tells_images) (same
       let h = watched heard told x holds sound in
       record { events = h.events; has = recorded_still _ h.events w.synced r h.has; told = h.told }
 
-  done_before : {hears : Type 0} (opening : Opening) (events : List Event) (t0 : ℕ) (act : Act) (r : RecorderState) (new : Disk tells tells_images) (was now : Watched)
+  pub done_before : {hears : Type 0} (opening : Opening) (events : List Event) (t0 : ℕ) (act : Act) (r : RecorderState) (new : Disk tells tells_images) (was now : Watched)
       → DoneAndTold hears opening events t0 act r mid new was now → DoneAndTold hears opening events t0 act r old new was now
   done_before opening events t0 act r new was now d =
       let shown : Image → Type 0 = λ image. ShowsPrefix (ShowsHistory opening) (events ++ d.done.event ∷ []) 0 image in
@@ -122,7 +122,7 @@ module _ {tells tells_images : Type 0} (old mid : Disk tells tells_images) (same
       → HasAnswered channels B opening events t0 (EvidenceOrder id) text r after old new hears was now
   answered_before channels A B opening events t0 id text r after new was now so a = record {
     done = done_before opening events t0 _ after new was now a.done;
-    answer = record { act_is = a.answer.act_is; text_is = spelled_so A B id _ text so a.answer.text_is };
+    answer = record { act_is = a.answer.act_is; gauged = a.answer.gauged; text_is = spelled_so A B id _ text so a.answer.text_is };
   }
 
 -- ---- the causes

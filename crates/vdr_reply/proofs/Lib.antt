@@ -1,3 +1,5 @@
 pub mod Answered
 pub mod Told
 pub mod Before
+pub mod Exported
+pub mod Healths

@@ -1,24 +1,27 @@
 -- What records that are told come to as a reply of the history.
-use Rattle.std.proofs.Common.{◌≡◌, ◌⊎◌, inl, inr, ◌↔◌, ◌++◌, ◌&&◌, not, ℕ, ℤ, Bool, true, false, true≢false, List, Option, Some, None, Result, Ok, Err, length, refl, sym, ap, ◌∙◌, subst}
-use Rattle.std.specs.Prelude.{bytes_eq, codes, is_none, is_ok, is_some, ⊤}
+use Rattle.std.proofs.Common.{◌≡◌, ◌⊎◌, inl, inr, ◌++◌, ◌&&◌, not, ℕ, ℤ, Bool, true, false, true≢false, List, Option, Some, None, Result, Ok, Err, length, refl, sym, ap, ◌∙◌, subst}
+use Rattle.std.specs.Prelude.{bytes_eq, is_none, is_ok, is_some, ⊤}
 use Rattle.vdr_terms.specs.Queries.{Medium as Read, Query}
 use Rattle.vdr_terms.specs.Records.{Record}
 use Rattle.vdr_core.specs.Histories.{Event, Incident, Opening, incidents, live}
 use Rattle.vdr_core.specs.Histories.Act.{Look}
 use Rattle.vdr_durability.specs.Keeping.{moment_of}
 use Rattle.vdr_durability.specs.Playback.{selected}
-use Rattle.vdr_durability.specs.Replies.{Reply, is_there, play_reply, refusal_of}
+use Rattle.vdr_durability.specs.Replies.{is_there, play_reply, refusal_of}
 use Rattle.vdr_durability.specs.Replies.Reply.{NoIncident}
 use Rattle.vdr_play.specs.Streams.{nothing_seen}
 use Rattle.vdr_play.specs.Texts.{records_text}
 use Rattle.vdr_outside.specs.Disk.{Disk}
 use Rattle.vdr_config.specs.Configuration.{Selector}
+use Rattle.vdr_health.specs.Health.{nothing_gauged}
 use Rattle.vdr_entry.specs.Queries.{asked_medium}
 use Rattle.vdr_entry.specs.declared.query.Medium.{Medium}
 use Rattle.vdr_entry.specs.declared.query.Medium.TheVariants.{Capsule, LongTerm, Incident as AnIncident}
 use Rattle.vdr_opening.specs.Media.{members}
 use Rattle.vdr_control.specs.Orders.{PlainOrder}
 use Rattle.vdr_control.specs.Orders.PlainOrder.{Status as StatusOrder, Save as SaveOrder, Release as ReleaseOrder, Incidents as IncidentsOrder, Play as PlayOrder, Evidence as EvidenceOrder, Tell as TellOrder}
+use Rattle.vdr_control.specs.Orders.PlainOrder.{Health as HealthOrder}
+use Rattle.vdr_control.specs.Orders.PlainOrder.{Export as ExportOrder}
 use Rattle.vdr_recorder.specs.Recordings.{HasRecorded, RecorderState}
 use Rattle.vdr_recorder.specs.Watched.{DoneAndTold, Watched}
 use Rattle.vdr_teller.specs.Evidence.{save_query}
@@ -32,7 +35,7 @@ use Rattle.vdr_visit.specs.declared.visit_refused.VisitRefused.{VisitRefused}
 use Rattle.vdr_visit.specs.declared.visit_refused.VisitRefused.TheVariants as visits
 use Rattle.vdr_reply.specs.Answers.{HasAnswered, LacksMemory, Spells, text_at}
 use Rattle.vdr_reply.specs.Orders.{AsksToTell, act_after, channel_in, evidence_lines, is_every, is_granted, is_named, query_of, text_after}
-use Rattle.vdr_reply.specs.Texts.{IsTold, done_line, fault_line, memory_line, not_there_line, page_text, text_of, text_with}
+use Rattle.vdr_reply.specs.Texts.{IsTold, fault_line, memory_line, not_there_line, page_text, text_of, text_with}
 use Rattle.vdr_reply.proofs.Answered.{looked_answer, said_working, still_answer}
 
 pub and_false : (b : Bool) → (not b && false) ≡ false
@@ -40,12 +43,12 @@ and_false true = refl
 and_false false = refl
 
 -- a channel that is asked for by its name is configured
-asked_within : (channels : List Selector) (medium : Medium) (name : List ℕ) (from to : ℤ) → lacks_channel (length channels) (query_of channels medium name from to).channel ≡ false
+pub asked_within : (channels : List Selector) (medium : Medium) (name : List ℕ) (from to : ℤ) → lacks_channel (length channels) (query_of channels medium name from to).channel ≡ false
 asked_within channels medium name from to = has_number (length channels) (query_of channels medium name from to).channel
     (λ k is. position_within (λ channel. bytes_eq channel.name name) channels k (number_if (is_every name) (channel_in channels name) k is))
 
 -- what is asked for is there, or it is an incident that is not live
-there_or_not : (opening : Opening) (events : List Event) (table : List (Option Incident)) (medium : Medium) → table ≡ incidents opening events
+pub there_or_not : (opening : Opening) (events : List Event) (table : List (Option Incident)) (medium : Medium) → table ≡ incidents opening events
     → (is_there members opening events (asked_medium medium) ≡ true)
     ⊎ ((is_there members opening events (asked_medium medium) ≡ false) × (lacks_incident table (asked_medium medium) ≡ true) × (refusal_of (asked_medium medium) ≡ NoIncident))
 there_or_not opening events table Capsule e = inl refl
@@ -58,7 +61,7 @@ there_or_not opening events table (AnIncident id) e = by_live (live (incidents o
     by_live (Some x) same is = inl (ap is_some is)
 
 -- the same of what it lacks
-lacks_not : (opening : Opening) (events : List Event) (table : List (Option Incident)) (medium : Medium) → table ≡ incidents opening events → lacks_incident table (asked_medium medium) ≡ true
+pub lacks_not : (opening : Opening) (events : List Event) (table : List (Option Incident)) (medium : Medium) → table ≡ incidents opening events → lacks_incident table (asked_medium medium) ≡ true
     → is_there members opening events (asked_medium medium) ≡ true → ⊥
 lacks_not opening events table Capsule e lacks there = true≢false (sym lacks)
 lacks_not opening events table LongTerm e lacks there = true≢false (sym lacks)
@@ -93,6 +96,8 @@ module _ (channels : List Selector) (opening : Opening) (events : List Event) (q
   medium_is (SaveOrder label) a = absurd a
   medium_is (ReleaseOrder id) a = absurd a
   medium_is IncidentsOrder a = absurd a
+  medium_is HealthOrder a = absurd a
+  medium_is (ExportOrder medium name from to exporting) a = absurd a
 
   pub channel_is : (order : PlainOrder) → AsksToTell channels opening events order query told → lacks_channel (length channels) query.channel ≡ false
   channel_is (PlayOrder medium name from to) a = ap (λ (q : Query). lacks_channel (length channels) q.channel) a.1 ∙ asked_within channels medium name from to
@@ -102,6 +107,8 @@ module _ (channels : List Selector) (opening : Opening) (events : List Event) (q
   channel_is (SaveOrder label) a = absurd a
   channel_is (ReleaseOrder id) a = absurd a
   channel_is IncidentsOrder a = absurd a
+  channel_is HealthOrder a = absurd a
+  channel_is (ExportOrder medium name from to exporting) a = absurd a
 
   looks : (order : PlainOrder) → AsksToTell channels opening events order query told → act_after opening events order ≡ Look
   looks (PlayOrder medium name from to) a = refl
@@ -111,6 +118,8 @@ module _ (channels : List Selector) (opening : Opening) (events : List Event) (q
   looks (SaveOrder label) a = absurd a
   looks (ReleaseOrder id) a = absurd a
   looks IncidentsOrder a = absurd a
+  looks HealthOrder a = absurd a
+  looks (ExportOrder medium name from to exporting) a = absurd a
 
   changes_none : (vault : VaultState) (order : PlainOrder) → AsksToTell channels opening events order query told → (not vault.failed && is_granted order vault) ≡ false
   changes_none vault (PlayOrder medium name from to) a = and_false vault.failed
@@ -120,6 +129,8 @@ module _ (channels : List Selector) (opening : Opening) (events : List Event) (q
   changes_none vault (SaveOrder label) a = absurd a
   changes_none vault (ReleaseOrder id) a = absurd a
   changes_none vault IncidentsOrder a = absurd a
+  changes_none vault HealthOrder a = absurd a
+  changes_none vault (ExportOrder medium name from to exporting) a = absurd a
 
   spells_page : (met_fault : Type 0) (said text : List ℕ) (order : PlainOrder) → AsksToTell channels opening events order query told
       → (text ≡ said) ⊎ (((text ≡ fault_line) × met_fault) ⊎ LacksMemory said text) → Spells met_fault order said text
@@ -130,10 +141,12 @@ module _ (channels : List Selector) (opening : Opening) (events : List Event) (q
   spells_page met_fault said text (SaveOrder label) a is = absurd a
   spells_page met_fault said text (ReleaseOrder id) a is = absurd a
   spells_page met_fault said text IncidentsOrder a is = absurd a
+  spells_page met_fault said text HealthOrder a is = absurd a
+  spells_page met_fault said text (ExportOrder medium name from to exporting) a is = absurd a
 
   -- the text where what is asked for is there
   paged : (order : PlainOrder) → AsksToTell channels opening events order query told → is_there members opening events query.medium ≡ true
-      → text_after channels opening events order ≡ page_text (told (selected opening events query))
+      → text_after nothing_gauged channels opening events order ≡ page_text (told (selected opening events query))
   paged (PlayOrder medium name from to) a there =
       let q = query_of channels medium name from to in
       let here : is_there members opening events q.medium ≡ true = subst (λ (q : Query). is_there members opening events q.medium ≡ true) a.1 there in
@@ -158,10 +171,12 @@ module _ (channels : List Selector) (opening : Opening) (events : List Event) (q
   paged (SaveOrder label) a there = absurd a
   paged (ReleaseOrder id) a there = absurd a
   paged IncidentsOrder a there = absurd a
+  paged HealthOrder a there = absurd a
+  paged (ExportOrder medium name from to exporting) a there = absurd a
 
   -- and where it is an incident that is not live
   missing : (order : PlainOrder) → AsksToTell channels opening events order query told → is_there members opening events query.medium ≡ false → refusal_of query.medium ≡ NoIncident
-      → text_after channels opening events order ≡ not_there_line
+      → text_after nothing_gauged channels opening events order ≡ not_there_line
   missing (PlayOrder medium name from to) a none refusal =
       let q = query_of channels medium name from to in
       ap (λ (b : Bool). text_of (play_reply b (is_there members opening events q.medium) (refusal_of q.medium) (selected opening events q))) a.0
@@ -180,6 +195,8 @@ module _ (channels : List Selector) (opening : Opening) (events : List Event) (q
   missing (SaveOrder label) a none refusal = absurd a
   missing (ReleaseOrder id) a none refusal = absurd a
   missing IncidentsOrder a none refusal = absurd a
+  missing (ExportOrder medium name from to exporting) a none refusal = absurd a
+  missing HealthOrder a none refusal = absurd a
 
 module _ {tells tells_images : Type 0} (opening : Opening) (events : List Event) (t0 : ℕ) (r : RecorderState) (old : Disk tells tells_images) (h : HasRecorded opening events t0 r old)
     (met_fault : Type 0) (text : List ℕ) (hears : Type 0) (was heard : Watched) (works : r.vault.failed ≡ false) where
@@ -193,11 +210,11 @@ module _ {tells tells_images : Type 0} (opening : Opening) (events : List Event)
   pub unnamed_answer : (medium : Medium) (name : List ℕ) (from to : ℤ) → DoneAndTold hears opening events t0 Look r old old was heard → is_named channels name ≡ false → text ≡ not_there_line
       → HasAnswered channels met_fault opening events t0 (PlayOrder medium name from to) text r r old old hears was heard
   unnamed_answer medium name from to d none is = still_answer opening events t0 r old h channels met_fault text hears was heard (PlayOrder medium name from to) d (and_false r.vault.failed) (inl refl)
-      (inl (is ∙ sym (said_working r.vault.failed old.clock (text_after channels opening events (PlayOrder medium name from to)) works ∙ ap (λ (b : Bool). text_of (play_reply b (is_there members opening events (asked_medium medium)) (refusal_of (asked_medium medium)) (selected opening events (query_of channels medium name from to)))) none)))
+      (inl (is ∙ sym (said_working r.vault.failed old.clock (text_after nothing_gauged channels opening events (PlayOrder medium name from to)) works ∙ ap (λ (b : Bool). text_of (play_reply b (is_there members opening events (asked_medium medium)) (refusal_of (asked_medium medium)) (selected opening events (query_of channels medium name from to)))) none)))
 
   module _ (order : PlainOrder) (query : Query) (told : List Record → List ℕ) (asks : AsksToTell channels opening events order query told) where
     abbrev said : List ℕ
-    said = text_after channels opening events order
+    said = text_after nothing_gauged channels opening events order
 
     kind_of_medium : (is_there members opening events query.medium ≡ true) ⊎ ((is_there members opening events query.medium ≡ false) × (lacks_incident r.vault.table query.medium ≡ true) × (refusal_of query.medium ≡ NoIncident))
     kind_of_medium =

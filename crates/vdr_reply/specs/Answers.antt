@@ -7,8 +7,12 @@ use Rattle.vdr_outside.specs.Disk.{Disk}
 use Rattle.vdr_config.specs.Configuration.{Selector}
 use Rattle.vdr_control.specs.Orders.{PlainOrder}
 use Rattle.vdr_control.specs.Orders.PlainOrder.{Status, Save, Release, Incidents, Play, Evidence, Tell}
+use Rattle.vdr_control.specs.Orders.PlainOrder.{Health}
+use Rattle.vdr_health.specs.declared.gauged.Gauged.{Gauged}
+use Rattle.vdr_control.specs.Orders.PlainOrder.{Export}
 use Rattle.vdr_recorder.specs.Recordings.{RecorderState}
 use Rattle.vdr_recorder.specs.Watched.{DoneAndTold, Watched}
+use Rattle.vdr_reply.specs.Exports.{LacksMemoryToExport}
 use Rattle.vdr_reply.specs.Orders.{act_after, changes, granted_act, text_after}
 use Rattle.vdr_reply.specs.Texts.{fault_line, memory_line, page_text}
 
@@ -22,20 +26,24 @@ abbrev pub LacksMemory : (said text : List ℕ) → Type 0
 LacksMemory said text = (text ≡ memory_line) × (told : List ℕ) × (said ≡ page_text told)
 
 -- The order is answered by what is to be said. What reads the records of media may be answered otherwise where a read has failed, and each
--- page for want of memory.
+-- page and each file for want of memory.
 abbrev pub Spells : (met_fault : Type 0) → PlainOrder → (said text : List ℕ) → Type 0
 Spells met_fault Status said text = text ≡ said
 Spells met_fault (Save label) said text = text ≡ said
 Spells met_fault (Release id) said text = text ≡ said
 Spells met_fault Incidents said text = (text ≡ said) ⊎ LacksMemory said text
+Spells met_fault Health said text = text ≡ said
 Spells met_fault (Play medium name from to) said text = (text ≡ said) ⊎ (((text ≡ fault_line) × met_fault) ⊎ LacksMemory said text)
 Spells met_fault (Evidence id) said text = (text ≡ said) ⊎ (((text ≡ fault_line) × met_fault) ⊎ LacksMemory said text)
 Spells met_fault (Tell medium telling) said text = (text ≡ said) ⊎ (((text ≡ fault_line) × met_fault) ⊎ LacksMemory said text)
+Spells met_fault (Export medium name from to exporting) said text = (text ≡ said) ⊎ (((text ≡ fault_line) × met_fault) ⊎ LacksMemoryToExport said text)
 
--- This event is the order's, and the text is its reply: both are functions of the events before it. After a fault it is a look.
+-- This event is the order's, and the text is its reply: both are functions of the events before it, and of what was gauged outside where the order
+-- asks for that. After a fault it is a look.
 pub record IsAnswer (channels : List Selector) (met_fault : Type 0) (opening : Opening) (before : List Event) (own : Event) (order : PlainOrder) (text : List ℕ) : Type 0 where
   pub act_is : (own.act ≡ act_after opening before order) ⊎ ((own.act ≡ Act.Look) × (own.moment ≡ None))
-  pub text_is : Spells met_fault order (text_at own.moment (text_after channels opening before order)) text
+  pub gauged : Gauged
+  pub text_is : Spells met_fault order (text_at own.moment (text_after gauged channels opening before order)) text
 
 module _ {tells tells_images : Type 0} where
   -- The order was one event after these, was told where it was done, and was answered so.

@@ -1,4 +1,5 @@
 -- What the operator's orders are answered over a link (this project's profile).
 pub mod Texts
+pub mod Exports
 pub mod Orders
 pub mod Answers

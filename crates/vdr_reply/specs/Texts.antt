@@ -43,19 +43,23 @@ done_line = codes "OK\n"
 unfoldable pub page_text : (told : List ℕ) → List ℕ
 page_text told = done_line ++ told ++ codes ".\n"
 
+-- A reply, where this is said of the records that are asked for.
+abbrev pub text_by : (said : List Record → List ℕ) → Reply → List ℕ
+text_by said (State next_place tick incidents) = state_line next_place tick incidents
+text_by said (Saved id) = id_line id
+text_by said Released = done_line
+text_by said (Played records) = said records
+text_by said NoLabel = codes "REFUSED 12 label\n"
+text_by said NothingToSave = codes "REFUSED 12 nothing\n"
+text_by said TableFull = codes "REFUSED 12 full\n"
+text_by said NoChannel = not_there_line
+text_by said NoMedium = not_there_line
+text_by said NoIncident = not_there_line
+text_by said Failed = fault_line
+
 -- A reply, where records are told so.
 abbrev pub text_with : (told : List Record → List ℕ) → Reply → List ℕ
-text_with told (State next_place tick incidents) = state_line next_place tick incidents
-text_with told (Saved id) = id_line id
-text_with told Released = done_line
-text_with told (Played records) = page_text (told records)
-text_with told NoLabel = codes "REFUSED 12 label\n"
-text_with told NothingToSave = codes "REFUSED 12 nothing\n"
-text_with told TableFull = codes "REFUSED 12 full\n"
-text_with told NoChannel = not_there_line
-text_with told NoMedium = not_there_line
-text_with told NoIncident = not_there_line
-text_with told Failed = fault_line
+text_with told reply = text_by (λ records. page_text (told records)) reply
 
 -- A reply, where records are played.
 abbrev pub text_of : Reply → List ℕ

@@ -4,6 +4,8 @@
 // would refuse first.
 ghost use Rattle.std.specs.Prelude.{◌≡◌, ℕ, List, false, sum};
 ghost use Rattle.vdr_core.specs.Histories.{Event, Opening};
+ghost use Rattle.vdr_core.specs.RunStates.{state_left};
+ghost use Rattle.vdr_health.specs.Tallies.{KnowsRun};
 ghost use Rattle.vdr_outside.specs.Causes.{Rose};
 ghost use Rattle.vdr_vault.specs.Calls.{SameElsewhere};
 ghost use Rattle.vdr_vault.specs.Vaults.{AreRings};
@@ -14,7 +16,10 @@ ghost use Rattle.vdr_recorder.specs.Recordings.{HasRecorded};
 ghost use Rattle.vdr_recorder.specs.Watched.{IsWatched};
 ghost use Rattle.vdr_reply.specs.Answers.{HasAnswered, HasOrderCause, LeavesRest};
 
+use crate::Gauge;
 use crate::evidencing::answer_evidence;
+use crate::exporting::answer_export;
+use crate::health::answer_health;
 use crate::lines::{FAULT, of_release, of_save, of_state};
 use crate::listing::answer_incidents;
 use crate::playing::{Wanted, answer_play};
@@ -22,6 +27,7 @@ use crate::telling::answer_tell;
 use std::alloc::Global;
 use vdr_control::Order;
 use vdr_desk::Reply;
+use vdr_health::RunTally;
 use vdr_outside::Media;
 use vdr_recorder::{Recorder, Watch};
 
@@ -84,18 +90,21 @@ fn answer_release<M: Media, W: Watch<M>>(
 ///
 /// Once the media have failed each order is answered `FAULT 5`, as is the one that met the fault. What is played, told, listed or given as
 /// evidence is read into memory: it is answered `FAULT 5` too where a read fails, and `FAULT 9` where there is no memory for its page, or for a table that it tells.
-/// What is refused needs no memory.
-pub fn answer<M: Media, W: Watch<M>>(
+/// So is a file, which has its bytes in memory beside its page. What is refused needs no memory, but for the parts of an image. How the recording
+/// fares needs none either: it is told by the tally of the run, and by what the watch gauges, of which nothing is promised.
+pub fn answer<M: Media, W: Watch<M> + Gauge<M>>(
     alloc: Global,
     recorder: &mut Recorder,
     media: &mut M,
     watch: &mut W,
+    tally: &RunTally,
     order: Order<'_>,
 ) -> Reply
     requires rings { AreRings recorder.old.vault (M.disk media.old).sizes }
     requires watched { IsWatched W.hears (W.seen watch.old) recorder.old (M.disk media.old) }
     requires asked { (line : List ℕ) × AsksFor line (plain order) }
     ensures answered { (opening : Opening) (events : List Event) (t0 : ℕ) → M.tells → HasRecorded opening events t0 recorder.old (M.disk media.old)
+        → (recorder.old.vault.failed ≡ false → KnowsRun (state_left opening events) tally.now)
         → HasAnswered recorder.old.vault.config.channels (Rose (sum (M.faults media.old)) (sum (M.faults media.new))) opening events t0 (plain order.entry) result recorder.old recorder.new (M.disk media.old) (M.disk media.new) W.hears (W.seen watch.old) (W.seen watch.new) }
     ensures rest { LeavesRest recorder.old recorder.new }
     ensures rings { AreRings recorder.new.vault (M.disk media.new).sizes }
@@ -112,6 +121,7 @@ pub fn answer<M: Media, W: Watch<M>>(
         Order::Save(label) => answer_save(recorder, media, watch, label),
         Order::Release(id) => answer_release(recorder, media, watch, id),
         Order::Incidents => answer_incidents(alloc, recorder, media, watch),
+        Order::Health => answer_health(recorder, media, watch, tally),
         Order::Evidence(id) => answer_evidence(alloc, recorder, media, watch, id),
         Order::Tell { medium, telling } => {
             answer_tell(alloc, recorder, media, watch, medium, telling)
@@ -129,6 +139,21 @@ pub fn answer<M: Media, W: Watch<M>>(
                 to,
             };
             answer_play(alloc, recorder, media, watch, wanted)
+        }
+        Order::Export {
+            medium,
+            channel,
+            from,
+            to,
+            exporting,
+        } => {
+            let wanted = Wanted {
+                medium,
+                name: channel,
+                from,
+                to,
+            };
+            answer_export(alloc, recorder, media, watch, wanted, exporting)
         }
     }
 }

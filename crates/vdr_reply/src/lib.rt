@@ -5,10 +5,15 @@
 
 mod answering;
 mod evidencing;
+mod exporting;
+mod gauge;
+mod health;
 mod lines;
 mod listing;
 mod page;
 mod playing;
+mod refusing;
 mod telling;
 
 pub use answering::answer;
+pub use gauge::Gauge;

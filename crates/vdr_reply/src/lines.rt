@@ -23,8 +23,8 @@ pub(crate) const NOT_THERE: &[u8] = b"REFUSED 11\n";
 // Room for the longest line, in bytes.
 const ROOM: usize = 100;
 
-// Appends a text, for which there is room.
-fn push_text(line: &mut ArrayVec<u8, ROOM>, text: &[u8])
+/// Appends a text, for which there is room.
+pub(crate) fn push_text(line: &mut ArrayVec<u8, ROOM>, text: &[u8])
     requires { array_vec_len line.old + length text.now ≤ 100 }
     ensures { line.new.items ≡ line.old.items ++ text.now }
 {

@@ -1,5 +1,5 @@
 // A text of several lines on its way to a link.
-ghost use Rattle.std.specs.Prelude.{◌≡◌, ◌++◌, IfOk, Some, codes};
+ghost use Rattle.std.specs.Prelude.{◌≡◌, ◌++◌, [], IfOk, Some, codes};
 ghost use Rattle.vdr_reply.specs.Texts.{IsTextOr9, done_line, with_end};
 
 use crate::lines::NO_MEMORY;
@@ -23,6 +23,23 @@ impl Page {
         let mut bytes = Vec::new(alloc);
         bytes.extend_from_slice(b"OK\n")?;
         Ok(Page { bytes, refused: 0 })
+    }
+
+    /// A page with no line.
+    pub(crate) fn empty(alloc: Global) -> Page
+        ensures { result.bytes.items ≡ [] }
+    {
+        Page {
+            bytes: Vec::new(alloc),
+            refused: 0,
+        }
+    }
+
+    /// What it has so far.
+    pub(crate) fn as_slice(&self) -> &[u8]
+        ensures { result.now ≡ self.now.bytes.items }
+    {
+        self.bytes.as_slice()
     }
 
     // The page with its last line.

@@ -33,8 +33,8 @@ pub(crate) struct Wanted<'a> {
     pub to: i64,
 }
 
-// The query of what is wanted, None where no channel of this name is configured.
-fn query_of(recorder: &Recorder, wanted: Wanted<'_>) -> Option<Query>
+/// The query of what is wanted, None where no channel of this name is configured.
+pub(crate) fn query_of(recorder: &Recorder, wanted: Wanted<'_>) -> Option<Query>
     ensures found { IfSome result (λ query. (asked query ≡ query_of recorder.now.vault.config.channels wanted.entry.medium wanted.entry.name.now wanted.entry.from wanted.entry.to)
         × (is_named recorder.now.vault.config.channels wanted.entry.name.now ≡ true)) }
     ensures none { IfNone result (is_named recorder.now.vault.config.channels wanted.entry.name.now ≡ false) }

@@ -11,6 +11,7 @@ pub mod LanesRan
 pub mod LanesFed
 pub mod Numbered
 pub mod MarkLemmas
+pub mod Tallied
 pub mod Steps
 pub mod Orders
 pub mod Starts

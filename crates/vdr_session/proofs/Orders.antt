@@ -7,17 +7,21 @@ use Rattle.vdr_terms.specs.declared.rate.Rate.{Rate}
 use Rattle.std.specs.Prelude.{Option}
 use Rattle.vdr_core.specs.Histories.{Act, Event, Opening, records_of_act}
 use Rattle.vdr_core.specs.Runs.{base_after}
-use Rattle.vdr_core.specs.RunStates.{RunState, after_act}
+use Rattle.vdr_core.specs.RunStates.{RunState, after_act, state_left}
 use Rattle.vdr_core.specs.Taken.{Captured}
 use Rattle.vdr_outside.specs.Causes.{Rose}
 use Rattle.vdr_outside.specs.Disk.{Disk}
 use Rattle.vdr_config.specs.Configuration.{Selector}
 use Rattle.vdr_control.specs.Orders.{PlainOrder}
 use Rattle.vdr_control.specs.Orders.PlainOrder.{Status, Save, Release, Incidents, Play, Evidence, Tell}
+use Rattle.vdr_control.specs.Orders.PlainOrder.{Health}
+use Rattle.vdr_control.specs.Orders.PlainOrder.{Export}
 use Rattle.vdr_vault.specs.Vaults.{VaultState}
 use Rattle.vdr_run.specs.declared.maker.Maker.{Maker}
 use Rattle.vdr_run.specs.Making.{counted_of}
 use Rattle.vdr_run.specs.Starts.{stamp_of}
+use Rattle.vdr_health.specs.Tallies.{KnowsRun}
+use Rattle.vdr_health.specs.declared.tallied.RunTally.{RunTally}
 use Rattle.vdr_recorder.specs.Making.{numbers_of}
 use Rattle.vdr_recorder.specs.Recordings.{HasRecorded, RecorderState}
 use Rattle.vdr_recorder.specs.Watched.{DoneAndTold, IsWatched, Watched}
@@ -32,6 +36,8 @@ use Rattle.vdr_session.specs.Events.{act_of, event_of, events_of}
 use Rattle.vdr_session.specs.Marks.{begins, leads, misses, taken_by, taken_in}
 use Rattle.vdr_session.specs.Standing.{Before, IsKept}
 use Rattle.vdr_session.proofs.MarkLemmas.{all_more, begun_none, started_same, taken_same_by}
+use Rattle.vdr_session.specs.Tallied.{IsTallied}
+use Rattle.vdr_session.proofs.Tallied.{knows_run, tallied_same}
 use Rattle.vdr_session.proofs.Steps.{StaysHome, kept_by, still_session}
 
 -- an order begins nothing, takes nothing and doesn't lead
@@ -42,9 +48,11 @@ begins_none true c Status = refl
 begins_none true c (Save label) = refl
 begins_none true c (Release id) = refl
 begins_none true c Incidents = refl
+begins_none true c Health = refl
 begins_none true c (Play medium name from to) = refl
 begins_none true c (Evidence id) = refl
 begins_none true c (Tell medium telling) = refl
+begins_none true c (Export medium name from to exporting) = refl
 
 takes_none : (b c : Bool) (order : PlainOrder) → taken_by (cond b (did_for order) (cond c dids.Miss dids.Look)) ≡ []
 takes_none false false order = refl
@@ -53,9 +61,11 @@ takes_none true c Status = refl
 takes_none true c (Save label) = refl
 takes_none true c (Release id) = refl
 takes_none true c Incidents = refl
+takes_none true c Health = refl
 takes_none true c (Play medium name from to) = refl
 takes_none true c (Evidence id) = refl
 takes_none true c (Tell medium telling) = refl
+takes_none true c (Export medium name from to exporting) = refl
 
 pub follows : (b c : Bool) (order : PlainOrder) → leads (cond b (did_for order) (cond c dids.Miss dids.Look)) ≡ false
 follows false false order = refl
@@ -64,9 +74,11 @@ follows true c Status = refl
 follows true c (Save label) = refl
 follows true c (Release id) = refl
 follows true c Incidents = refl
+follows true c Health = refl
 follows true c (Play medium name from to) = refl
 follows true c (Evidence id) = refl
 follows true c (Tell medium telling) = refl
+follows true c (Export medium name from to exporting) = refl
 
 misses_so : (b c : Bool) (order : PlainOrder) → misses (cond b (did_for order) (cond c dids.Miss dids.Look)) ≡ true → c ≡ true
 misses_so false false order e = absurd (true≢false (sym e))
@@ -75,9 +87,11 @@ misses_so true c Status e = absurd (true≢false (sym e))
 misses_so true c (Save label) e = absurd (true≢false (sym e))
 misses_so true c (Release id) e = absurd (true≢false (sym e))
 misses_so true c Incidents e = absurd (true≢false (sym e))
+misses_so true c Health e = absurd (true≢false (sym e))
 misses_so true c (Play medium name from to) e = absurd (true≢false (sym e))
 misses_so true c (Evidence id) e = absurd (true≢false (sym e))
 misses_so true c (Tell medium telling) e = absurd (true≢false (sym e))
+misses_so true c (Export medium name from to exporting) e = absurd (true≢false (sym e))
 
 missed_so : (b c : Bool) (order : PlainOrder) → b ≡ false → c ≡ true → misses (cond b (did_for order) (cond c dids.Miss dids.Look)) ≡ true
 missed_so false false order none e = absurd (true≢false (sym e))
@@ -93,9 +107,11 @@ act_is opening taken events true c Status = refl
 act_is opening taken events true c (Save label) = refl
 act_is opening taken events true c (Release id) = refl
 act_is opening taken events true c Incidents = refl
+act_is opening taken events true c Health = refl
 act_is opening taken events true c (Play medium name from to) = refl
 act_is opening taken events true c (Evidence id) = refl
 act_is opening taken events true c (Tell medium telling) = refl
+act_is opening taken events true c (Export medium name from to exporting) = refl
 
 records_none : (opening : Opening) (events : List Event) (b : Bool) (order : PlainOrder) → records_of_act (cond b (granted_act opening events order) Act.Look) ≡ []
 records_none opening events false order = refl
@@ -103,9 +119,11 @@ records_none opening events true Status = refl
 records_none opening events true (Save label) = refl
 records_none opening events true (Release id) = refl
 records_none opening events true Incidents = refl
+records_none opening events true Health = refl
 records_none opening events true (Play medium name from to) = refl
 records_none opening events true (Evidence id) = refl
 records_none opening events true (Tell medium telling) = refl
+records_none opening events true (Export medium name from to exporting) = refl
 
 leaves_state : (opening : Opening) (events : List Event) (b : Bool) (order : PlainOrder) (t : RunState) → after_act t (cond b (granted_act opening events order) Act.Look) ≡ t
 leaves_state opening events false order t = refl
@@ -113,9 +131,11 @@ leaves_state opening events true Status t = refl
 leaves_state opening events true (Save label) t = refl
 leaves_state opening events true (Release id) t = refl
 leaves_state opening events true Incidents t = refl
+leaves_state opening events true Health t = refl
 leaves_state opening events true (Play medium name from to) t = refl
 leaves_state opening events true (Evidence id) t = refl
 leaves_state opening events true (Tell medium telling) t = refl
+leaves_state opening events true (Export medium name from to exporting) t = refl
 
 -- with another cause of a fault, which counts for what reads media alone
 spelled_so : (A B : Type 0) (order : PlainOrder) (vault : VaultState) (said text : List ℕ) → (changes order vault ≡ false → A → B) → Spells A order said text → Spells B order said text
@@ -123,6 +143,7 @@ spelled_so A B Status vault said text so h = h
 spelled_so A B (Save label) vault said text so h = h
 spelled_so A B (Release id) vault said text so h = h
 spelled_so A B Incidents vault said text so h = h
+spelled_so A B Health vault said text so h = h
 spelled_so A B (Play medium name from to) vault said text so (inl h) = inl h
 spelled_so A B (Play medium name from to) vault said text so (inr (inl h)) = inr (inl (h.0, so (and_false vault.failed) h.1))
 spelled_so A B (Play medium name from to) vault said text so (inr (inr h)) = inr (inr h)
@@ -132,11 +153,15 @@ spelled_so A B (Evidence id) vault said text so (inr (inr h)) = inr (inr h)
 spelled_so A B (Tell medium telling) vault said text so (inl h) = inl h
 spelled_so A B (Tell medium telling) vault said text so (inr (inl h)) = inr (inl (h.0, so (and_false vault.failed) h.1))
 spelled_so A B (Tell medium telling) vault said text so (inr (inr h)) = inr (inr h)
+spelled_so A B (Export medium name from to exporting) vault said text so (inl h) = inl h
+spelled_so A B (Export medium name from to exporting) vault said text so (inr (inl h)) = inr (inl (h.0, so (and_false vault.failed) h.1))
+spelled_so A B (Export medium name from to exporting) vault said text so (inr (inr h)) = inr (inr h)
 
 module _ {tells tells_images : Type 0} (before : Before) (began : Opening → ℕ → Type 0) (rates : List (Option Rate)) (room : ℕ) (sizes faults : List ℕ) (marks : List Mark) (w w' : Watched) (r : RecorderState)
     (old : Disk tells tells_images) (was : List ℕ) (k : IsKept before began rates room sizes faults marks w r old was) (desk : ℕ) (order : PlainOrder) (text : List ℕ) (after : RecorderState) (new : Disk tells tells_images) (now : List ℕ)
     (watched : IsWatched before.hears w' after new) (home : StaysHome r old was after new now) (rest : LeavesRest r after) (stays : r.vault.failed ≡ true → after.vault.failed ≡ true)
-    (answered : (opening : Opening) (events : List Event) (t0 : ℕ) → tells → HasRecorded opening events t0 r old → HasAnswered r.vault.config.channels (Rose (sum was) (sum now)) opening events t0 order text r after old new before.hears w w') where
+    (tally : RunTally) (tallied : IsTallied marks tally)
+    (answered : (opening : Opening) (events : List Event) (t0 : ℕ) → tells → HasRecorded opening events t0 r old → (r.vault.failed ≡ false → KnowsRun (state_left opening events) tally) → HasAnswered r.vault.config.channels (Rose (sum was) (sum now)) opening events t0 order text r after old new before.hears w w') where
   abbrev mark : Mark
   mark = order_mark desk order r.vault after.vault.failed new.clock (sum was) (sum now)
 
@@ -176,7 +201,7 @@ module _ {tells tells_images : Type 0} (before : Before) (began : Opening → �
       })
       (λ told opening t0 b.
       let s = k.told told opening t0 b in
-      let a = answered opening (events_of opening marks) t0 told s.has in
+      let a = answered opening (events_of opening marks) t0 told s.has (knows_run before opening marks t0 r old w tally s k.stage tallied) in
       let act = act_is opening (taken_in marks) (events_of opening marks) granted rose order in
       still_session before opening marks t0 r old w w' s mark after new
       (subst (λ (act : Act). DoneAndTold before.hears opening (events_of opening marks) t0 act after old new w w') (sym act) a.done)
@@ -189,13 +214,17 @@ module _ {tells tells_images : Type 0} (before : Before) (began : Opening → �
     refl,
     λ told opening t0 b.
         let s = k.told told opening t0 b in
-        let a = answered opening (events_of opening marks) t0 told s.has in
+        let a = answered opening (events_of opening marks) t0 told s.has (knows_run before opening marks t0 r old w tally s k.stage tallied) in
         let act = act_is opening (taken_in marks) (events_of opening marks) granted rose order in
         let own : event_of opening (taken_in marks) (events_of opening marks) mark ≡ record { act = cond granted (granted_act opening (events_of opening marks) order) Act.Look; moment = mark.moment } =
         λ i. record { act = act i; moment = mark.moment } in
         subst (λ (x : List Selector × Event). IsAnswer x.0 (misses mark.did ≡ true) opening (events_of opening marks) x.1 order text) (λ i. (k.channels_are i, sym own i))
         (record {
           act_is = a.answer.act_is;
+          gauged = a.answer.gauged;
           text_is = spelled_so (Rose (sum was) (sum now)) (misses mark.did ≡ true) order r.vault _ text (λ none rose_now. missed_so granted rose order none (le-leb (min (sum was + 1) (2 ^ 64 - 1)) (sum now) rose_now)) a.answer.text_is;
         }),
   )
+
+  pub order_tallied : IsTallied (marks ++ mark ∷ []) tally
+  order_tallied = tallied_same marks mark tally (ap (λ (b : Bool). b && is_some mark.moment) (begins_none granted rose order)) (takes_none granted rose order) tallied

@@ -10,6 +10,8 @@ use Rattle.vdr_config.specs.Configuration.{Selector}
 use Rattle.vdr_capture.specs.declared.sums.Outcome.{Outcome}
 use Rattle.vdr_control.specs.Orders.{PlainOrder}
 use Rattle.vdr_control.specs.Orders.PlainOrder.{Status, Save, Release, Incidents, Play, Evidence, Tell}
+use Rattle.vdr_control.specs.Orders.PlainOrder.{Health}
+use Rattle.vdr_control.specs.Orders.PlainOrder.{Export}
 use Rattle.vdr_recorder.specs.Recordings.{RecorderState}
 use Rattle.vdr_recorder.specs.Watched.{Watched}
 use Rattle.vdr_desk.specs.declared.desk.Desk.{Desk}
@@ -67,6 +69,7 @@ spelled_so A B Status said text so h = h
 spelled_so A B (Save label) said text so h = h
 spelled_so A B (Release id) said text so h = h
 spelled_so A B Incidents said text so h = h
+spelled_so A B Health said text so h = h
 spelled_so A B (Play medium name from to) said text so (inl h) = inl h
 spelled_so A B (Play medium name from to) said text so (inr (inl h)) = inr (inl (h.0, so h.1))
 spelled_so A B (Play medium name from to) said text so (inr (inr h)) = inr (inr h)
@@ -76,9 +79,12 @@ spelled_so A B (Evidence id) said text so (inr (inr h)) = inr (inr h)
 spelled_so A B (Tell medium telling) said text so (inl h) = inl h
 spelled_so A B (Tell medium telling) said text so (inr (inl h)) = inr (inl (h.0, so h.1))
 spelled_so A B (Tell medium telling) said text so (inr (inr h)) = inr (inr h)
+spelled_so A B (Export medium name from to exporting) said text so (inl h) = inl h
+spelled_so A B (Export medium name from to exporting) said text so (inr (inl h)) = inr (inl (h.0, so h.1))
+spelled_so A B (Export medium name from to exporting) said text so (inr (inr h)) = inr (inr h)
 
 pub answer_so : {channels : List Selector} {A B : Type 0} {opening : Opening} {before : List Event} {own : Event} {order : PlainOrder} {text : List ℕ} → (A → B) → IsAnswer channels A opening before own order text → IsAnswer channels B opening before own order text
-answer_so {A = A} {B = B} {order = order} {text = text} so a = record { act_is = a.act_is; text_is = spelled_so A B order _ text so a.text_is }
+answer_so {A = A} {B = B} {order = order} {text = text} so a = record { act_is = a.act_is; gauged = a.gauged; text_is = spelled_so A B order _ text so a.text_is }
 
 begun_or_not : (began : Began) → (began ≡ starts.Begun) ⊎ (began ≡ starts.Begun → ⊥)
 begun_or_not starts.Begun = inl refl

@@ -5,6 +5,8 @@ use Rattle.vdr_durability.specs.Keeping.{moment_of}
 use Rattle.vdr_config.specs.Configuration.{Selector}
 use Rattle.vdr_control.specs.Orders.{PlainOrder}
 use Rattle.vdr_control.specs.Orders.PlainOrder.{Status, Save, Release, Incidents, Play, Evidence, Tell}
+use Rattle.vdr_control.specs.Orders.PlainOrder.{Health}
+use Rattle.vdr_control.specs.Orders.PlainOrder.{Export}
 use Rattle.vdr_vault.specs.Vaults.{VaultState}
 use Rattle.vdr_reply.specs.Answers.{IsAnswer}
 use Rattle.vdr_reply.specs.Orders.{changes}
@@ -20,9 +22,11 @@ did_for Status = dids.Look
 did_for (Save label) = dids.Save label
 did_for (Release id) = dids.Release id
 did_for Incidents = dids.Look
+did_for Health = dids.Look
 did_for (Play medium name from to) = dids.Look
 did_for (Evidence id) = dids.Look
 did_for (Tell medium telling) = dids.Look
+did_for (Export medium name from to exporting) = dids.Look
 
 -- A count of faults rose.
 abbrev pub rose_in : (before now : ℕ) → Bool

@@ -8,6 +8,7 @@ pub mod Feeding
 pub mod Ran
 pub mod Closed
 pub mod Standing
+pub mod Tallied
 pub mod Closing
 pub mod Answering
 pub mod Summing

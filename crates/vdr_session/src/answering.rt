@@ -5,9 +5,9 @@ use vdr_control::Order;
 use vdr_desk::{Answers, Reply};
 use vdr_outside::Media;
 use vdr_recorder::Watch;
-use vdr_reply::answer;
+use vdr_reply::{Gauge, answer};
 
-impl<'a, 'b, M: Media, W: Watch<M>, O: Lent> Answers for Kept<'a, 'b, M, W, O> {
+impl<'a, 'b, M: Media, W: Watch<M> + Gauge<M>, O: Lent> Answers for Kept<'a, 'b, M, W, O> {
     ghost use Rattle.std.specs.Prelude.{sum};
     ghost use Rattle.vdr_session.specs.Answering.{AnswersMark, order_mark};
 
@@ -16,6 +16,14 @@ impl<'a, 'b, M: Media, W: Watch<M>, O: Lent> Answers for Kept<'a, 'b, M, W, O> {
     ghost answers = { λ desk history own order text. AnswersMark M.tells O.began O.channels desk history own order text };
 
     fn answer(&mut self, alloc: Global, order: Order<'_>) -> Reply {
-        answer(alloc, &mut self.recorder, self.media, self.watch, order)
+        let tally = &self.tally;
+        answer(
+            alloc,
+            &mut self.recorder,
+            self.media,
+            self.watch,
+            tally,
+            order,
+        )
     }
 }

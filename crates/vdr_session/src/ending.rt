@@ -32,6 +32,7 @@ use vdr_capture::{Lane, Outcome};
 use vdr_desk::Desk;
 use vdr_outside::{Link, Media, Port};
 use vdr_recorder::{Recorder, Watch};
+use vdr_reply::Gauge;
 
 /// The recorder after a session, and how the session ended, but for its ports.
 #[derive(Drop)]
@@ -46,7 +47,7 @@ pub(crate) fn run_lent<
     'a,
     'b,
     M: Media + Send,
-    W: Watch<M> + Send,
+    W: Watch<M> + Gauge<M> + Send,
     P: Port + Send,
     L: Link + Send,
     O: Lent + Send + Sync,

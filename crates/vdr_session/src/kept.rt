@@ -2,6 +2,7 @@
 use crate::mark::Mark;
 use crate::records::{Began, Records};
 use std::marker::{Brand, PhantomData};
+use vdr_health::RunTally;
 use vdr_intake::Captured;
 use vdr_latch::Stepped;
 use vdr_outside::Media;
@@ -95,6 +96,8 @@ pub(crate) struct Kept<'a, 'b, M: Media, W: Watch<M>, O: Lent> {
     pub recorder: Recorder,
     pub media: &'a mut M,
     pub watch: &'b mut W,
+    /// What the run tallies of the items that were taken.
+    pub tally: RunTally,
     pub of: PhantomData<O>,
 }
 
@@ -102,10 +105,11 @@ impl<'a, 'b, M: Media, W: Watch<M>, O: Lent> Stepped for Kept<'a, 'b, M, W, O> {
     ghost use Rattle.std.specs.Prelude.{◌≡◌};
     ghost use Rattle.vdr_session.specs.Marks.{is_leading};
     ghost use Rattle.vdr_session.specs.Standing.{IsKept};
+    ghost use Rattle.vdr_session.specs.Tallied.{IsTallied};
 
     type Event = Mark;
 
-    ghost leaves = { λ marks k. IsKept (record { clock = O.clock; now = O.now; since = O.since; until = O.until; reads = O.reads; channels = O.channels; hears = W.hears; heard = O.heard }) O.began O.rates O.room O.sizes O.faults marks (W.seen k.watch.now) k.recorder (M.disk k.media.now) (M.faults k.media.now) × (k.media.ghost_name ≡ O.name) × (k.watch.ghost_name ≡ O.watch_name) };
+    ghost leaves = { λ marks k. IsKept (record { clock = O.clock; now = O.now; since = O.since; until = O.until; reads = O.reads; channels = O.channels; hears = W.hears; heard = O.heard }) O.began O.rates O.room O.sizes O.faults marks (W.seen k.watch.now) k.recorder (M.disk k.media.now) (M.faults k.media.now) × (k.media.ghost_name ≡ O.name) × (k.watch.ghost_name ≡ O.watch_name) × IsTallied marks k.tally };
 
     ghost leading = { is_leading };
 }
@@ -133,7 +137,10 @@ impl<'a, 'b, M: Media, W: Watch<M>, O: Lent> Records for Kept<'a, 'b, M, W, O> {
 
     fn begin(&mut self) -> Began {
         match self.recorder.start_watched(self.media, self.watch) {
-            Ok(()) => Began::Begun,
+            Ok(()) => {
+                self.tally.begin();
+                Began::Begun
+            }
             Err(StartRefused::Place) => {
                 self.recorder.look_watched(&*self.media, self.watch);
                 Began::Place
@@ -147,6 +154,7 @@ impl<'a, 'b, M: Media, W: Watch<M>, O: Lent> Records for Kept<'a, 'b, M, W, O> {
     }
 
     fn take_batch(&mut self, items: &[Captured]) -> bool {
+        self.tally.take_unless(self.recorder.failed(), items);
         self.recorder
             .take_batch_watched(self.media, self.watch, items)
             .is_ok()

@@ -26,9 +26,11 @@ use std::sync::Wait;
 use std::thread::Threads;
 use vdr_capture::Lane;
 use vdr_desk::Desk;
+use vdr_health::RunTally;
 use vdr_intake::{Intake, Taker};
 use vdr_outside::{Link, Media, Port};
 use vdr_recorder::{Recorder, Watch};
+use vdr_reply::Gauge;
 
 /// The recorder after a session, and how its run began.
 #[derive(Drop)]
@@ -42,7 +44,7 @@ pub(crate) fn record_lent<
     'a,
     'b,
     M: Media + Send,
-    W: Watch<M> + Send,
+    W: Watch<M> + Gauge<M> + Send,
     P: Port + Send,
     L: Link + Send,
     O: Lent + Send + Sync,
@@ -93,6 +95,7 @@ pub(crate) fn record_lent<
         recorder,
         media,
         watch,
+        tally: RunTally::new(),
         of: PhantomData,
     };
     match under_latch(
@@ -103,6 +106,7 @@ pub(crate) fn record_lent<
                 recorder,
                 media,
                 watch,
+                tally: _,
                 of: _,
             } = value;
             (media, watch, Some(Recorded { recorder, began }))
@@ -112,6 +116,7 @@ pub(crate) fn record_lent<
                 recorder: _,
                 media,
                 watch,
+                tally: _,
                 of: _,
             } = refused.value;
             (media, watch, None)

@@ -25,6 +25,7 @@ use vdr_capture::{Lane, Outcome};
 use vdr_desk::{Desk, failed_link};
 use vdr_outside::{Link, Media, Port};
 use vdr_recorder::{Recorder, Watch};
+use vdr_reply::Gauge;
 
 // There was no memory, and nothing was recorded.
 fn without_memory() -> SessionEnd
@@ -72,7 +73,7 @@ fn reset<L>(desks: &mut [Desk<L, Mark>])
 // Records as `record_at_desks` does. Each clause is proved on each way out.
 fn record_and_reply<
     M: Media + Send,
-    W: Watch<M> + Send,
+    W: Watch<M> + Gauge<M> + Send,
     P: Port + Send,
     L: Link + Send,
     R: Threads + Wait + Sync,
@@ -151,7 +152,7 @@ fn record_and_reply<
 /// port failed, and the link of this desk did, the least where several did.
 pub fn record_at_desks<
     M: Media + Send,
-    W: Watch<M> + Send,
+    W: Watch<M> + Gauge<M> + Send,
     P: Port + Send,
     L: Link + Send,
     R: Threads + Wait + Sync,

@@ -1,5 +1,6 @@
 use Rattle.std.proofs.Common.{◌≡◌, ◌<◌, ℕ, List, [], ◌∷◌, ◌++◌, length, codes, Option, None, Some, IfSome, rules, arith}
-use Rattle.vdr_control.specs.Lines.{IsPlayLine, words}
+use Rattle.vdr_control.specs.Lines.{IsPlayLine}
+use Rattle.vdr_control.specs.Words.{words}
 use Rattle.vdr_control.specs.Orders.{plain}
 use Rattle.vdr_control.specs.Plays.{SpellsPlay}
 use Rattle.vdr_control.specs.declared.order.Order.{Order}

@@ -1,7 +1,8 @@
 use Rattle.std.proofs.Common.{◌≡◌, ◌++◌, ◌∷◌, [], ℕ, ℤ, List, Option, None, Some, IfSome, IfNone, pos, codes}
 use Rattle.vdr_terms.specs.Stamps.{last_stamp}
 use Rattle.vdr_entry.specs.declared.query.Medium.{Medium}
-use Rattle.vdr_control.specs.Lines.{IsTargetsLine, words}
+use Rattle.vdr_control.specs.Lines.{IsTargetsLine}
+use Rattle.vdr_control.specs.Words.{words}
 use Rattle.vdr_control.specs.Plays.{IsMedium, SpellsBound, medium_word}
 use Rattle.vdr_control.proofs.IdLemmas.{if_none}
 use Rattle.vdr_control.proofs.LineLemmas.{targets_line, targets_rest, targets_words}

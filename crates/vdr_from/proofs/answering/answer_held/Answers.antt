@@ -1,5 +1,5 @@
 use Rattle.std.proofs.Common.{rules, ◌≡◌, ◌∙◌, to_z, of_z, w64, ap, refl}
-use Rattle.vdr_readout.specs.Exports.{timed_from}
+use Rattle.vdr_export.specs.Wishes.{timed_from}
 use Rattle.vdr_readout.proofs.TrackLemmas.{nothing_drawn}
 use Rattle.vdr_from.proofs.OwedLemmas.{play_told, same_sound, same_stamp, same_told, sources_told, track_told}
 use Rattle.vdr_from.proofs.answering.answer_held.Goals as goal

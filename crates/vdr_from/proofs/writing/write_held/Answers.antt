@@ -2,7 +2,7 @@ use Rattle.std.proofs.Common.{◌≡◌, ◌∙◌, Ok, Err, refl, sym, ap, subs
 use Rattle.vdr_config.specs.Configuration.{Configuration}
 use Rattle.vdr_entry.specs.Queries.{asked}
 use Rattle.vdr_export.specs.Answers.{MayBeBegun}
-use Rattle.vdr_readout.specs.Exports.{kind_at, wished}
+use Rattle.vdr_export.specs.Wishes.{kind_at, wished}
 use Rattle.vdr_readout.specs.Reads.{LacksChannel, plain_play, query_of}
 use Rattle.vdr_from.proofs.WriteLemmas.{channel_writes, file_writes, kind_writes, silent_so}
 use Rattle.vdr_from.proofs.writing.write_held.Goals as goal

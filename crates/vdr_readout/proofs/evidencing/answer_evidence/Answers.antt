@@ -10,7 +10,7 @@ use Rattle.vdr_command.proofs.OpenedLemmas.{missing_looked, no_looks, refused_en
 use Rattle.vdr_recorder.proofs.Visits.{looked_nothing}
 use Rattle.vdr_readout.specs.Reads.{AskedPlay, plain_play}
 use Rattle.vdr_export.specs.declared.timing.Timing.TheVariants.{Numbered}
-use Rattle.vdr_readout.specs.declared.exporting.Wish.TheVariants.{Sound}
+use Rattle.vdr_export.specs.declared.wish.Wish.TheVariants.{Sound}
 use Rattle.vdr_readout.proofs.DamageLemmas.{told_so}
 use Rattle.vdr_readout.proofs.EvidenceLemmas.{channel_evidence, evidence_known, evidence_owed, heading_is, incident_evidence, part_evidence, refused_evidence}
 use Rattle.vdr_readout.proofs.EvidenceReads.{both_looked, damage_before, part_ends, room_before, text_held, visited_before}

@@ -7,7 +7,7 @@ use Rattle.vdr_command.specs.Opened.{AreLooks}
 use Rattle.vdr_command.specs.Outside.{Outside}
 use Rattle.vdr_command.proofs.OpenedLemmas.{missing_looked, no_looks, refused_ends}
 use Rattle.vdr_config.specs.Configuration.{Configuration}
-use Rattle.vdr_readout.specs.Exports.{kind_at, wished}
+use Rattle.vdr_export.specs.Wishes.{kind_at, wished}
 use Rattle.vdr_readout.specs.Reads.{plain_play}
 use Rattle.vdr_export.specs.declared.refused.ExportRefused.TheVariants.{Damaged, Fault}
 use Rattle.vdr_export.specs.Answers.{file_end}

@@ -14,7 +14,7 @@ use Rattle.vdr_recorder.proofs.Visits.{looked_as, looked_nothing, told_as}
 use Rattle.vdr_export.specs.declared.timing.Timing.TheVariants.{Numbered}
 use Rattle.vdr_readout.specs.Paged.{saves_in}
 use Rattle.vdr_readout.specs.Reads.{AskedPlay, plain_play}
-use Rattle.vdr_readout.specs.declared.exporting.Wish.TheVariants.{Sound}
+use Rattle.vdr_export.specs.declared.wish.Wish.TheVariants.{Sound}
 use Rattle.vdr_readout.proofs.DamageLemmas.{told_so}
 use Rattle.vdr_readout.proofs.ExportLemmas.{both_there, incident_exports}
 use Rattle.vdr_readout.proofs.PageLemmas.{accepted_so, asked_are, channel_page, incident_page, page_owed, refused_page}

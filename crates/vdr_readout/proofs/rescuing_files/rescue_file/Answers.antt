@@ -7,7 +7,7 @@ use Rattle.vdr_export.specs.Answers.{file_end}
 use Rattle.vdr_rescue.specs.Alones.{IsAloneOn, RefusesAlone}
 use Rattle.vdr_segment.specs.Areas.{HasRoom}
 use Rattle.vdr_rescue.specs.Costs.{ReadsNoOther}
-use Rattle.vdr_readout.specs.Exports.{kind_at, wished}
+use Rattle.vdr_export.specs.Wishes.{kind_at, wished}
 use Rattle.vdr_readout.specs.Reads.{LacksChannel, number_asked, plain_play, query_of}
 use Rattle.vdr_readout.proofs.ExportLemmas.{both_there, still_output}
 use Rattle.vdr_readout.proofs.ReadLemmas.{wanted_so}

@@ -1,4 +1,4 @@
-use Rattle.std.proofs.Common.{◌≡◌, ◌++◌, Bool, true, false, length, List, ℕ, sym, ap, ◌∙◌}
+use Rattle.std.proofs.Common.{◌++◌, length, List, ℕ, ap, ◌∙◌}
 use Rattle.std.specs.Prelude.{sum}
 use Rattle.vdr_entry.specs.Queries.{asked}
 use Rattle.vdr_outside.specs.Causes.{Rose}

@@ -13,6 +13,7 @@ under_latch-requires-clause-leaves g c = λ _ _. (
       (subst (λ (w : Watched). IsWatched g.W.Watch.hears w c.args.recorder (g.M.Media.disk c.args.media.now)) c.requires.heard c.requires.watched)),
   sym c.requires.name,
   sym c.requires.watch_name,
+  c.new.ensures,
 )
 
 pub under_latch-requires-clause-fresh : goal.under_latch-requires-clause-fresh

@@ -14,6 +14,9 @@ use Rattle.vdr_session.proofs.Starts.{may_begin}
 use Rattle.vdr_session.specs.declared.mark.Mark.{Mark}
 use Rattle.vdr_recorder.specs.Recordings.{RecorderState}
 use Rattle.vdr_recorder.proofs.Telling.{look_from}
+use Rattle.vdr_session.specs.Marks.{is_begun, taken_in}
+use Rattle.vdr_session.specs.Tallied.{IsTallied}
+use Rattle.vdr_session.proofs.Tallied.{tallied_fault, tallied_refused, tallied_start}
 use Rattle.vdr_session.proofs.Steps.{start_kept, start_look_kept, untold_look}
 use Rattle.vdr_session.proofs.kept.KeptRecords.begin.Goals as goal
 
@@ -33,7 +36,7 @@ not_tick : Fault ≡ Tick → ⊥
 not_tick e = cc
 
 pub returns-in-Ok-clause-leaves : goal.returns-in-Ok-clause-leaves
-returns-in-Ok-clause-leaves g c = λ history h. (by_failed history h.0 (cases_Bool c.args.self.now.recorder.vault.failed), h.1, h.2)
+returns-in-Ok-clause-leaves g c = λ history h. (by_failed history h.0 (cases_Bool c.args.self.now.recorder.vault.failed), h.1, h.2, tallied history h.3 (cases_Bool c.args.self.now.recorder.vault.failed))
   where
     by_failed : (history : List Mark) → IsKept (record { clock = g.O.Lent.clock; now = g.O.Lent.now; since = g.O.Lent.since; until = g.O.Lent.until; reads = g.O.Lent.reads; channels = g.O.Lent.channels; hears = g.W.Watch.hears; heard = g.O.Lent.heard }) g.O.Lent.began g.O.Lent.rates g.O.Lent.room g.O.Lent.sizes g.O.Lent.faults history (g.W.Watch.seen c.args.self.now.watch.now)
         c.args.self.now.recorder (g.M.Media.disk c.args.self.now.media.now) (g.M.Media.faults c.args.self.now.media.now)
@@ -56,6 +59,12 @@ returns-in-Ok-clause-leaves g c = λ history h. (by_failed history h.0 (cases_Bo
         works c.requires.closed (inl c.in-Ok.ensures.begins.opens) (λ goes. (c.in-Ok.ensures.begins.opens, c.in-Ok.ensures.begins.numbers.0, c.in-Ok.ensures.begins.numbers.1))
         (λ opening events t0 told has. c.in-Ok.ensures.started opening events t0 told works has (ok_no_fault c.in-Ok.field-0 Place) (ok_no_fault c.in-Ok.field-0 Tick))
 
+    tallied : (history : List Mark) → IsTallied history c.args.self.now.tally → (c.args.self.now.recorder.vault.failed ≡ true) ⊎ (c.args.self.now.recorder.vault.failed ≡ false)
+        → IsTallied (history ++ start_mark c.args.self.now.recorder c.start_watched.new.self (g.M.Media.disk c.start_watched.new.media).clock ∷ []) c.begin.new.self
+    tallied history t (inl fails) = absurd (ok_no_fault c.in-Ok.field-0 Fault (c.in-Ok.ensures.refuses.failed fails).0)
+    tallied history t (inr works) = tallied_start history c.args.self.now.recorder c.start_watched.new.self _ c.begin.new.self works c.in-Ok.ensures.begins.opens c.in-Ok.ensures.begins.works
+        (c.begin.ensures (is_begun history) (taken_in history) t)
+
 pub returns-in-Err-Place-clause-leaves : goal.returns-in-Err-Place-clause-leaves
 returns-in-Err-Place-clause-leaves g c = λ history h.
     let same = c.in-Err-Place.ensures.refuses.refused (inl (ap Err c.in-Err-Place.field-0-is)) in (
@@ -66,6 +75,7 @@ returns-in-Err-Place-clause-leaves g c = λ history h.
           (λ opening events t0 h. look_from (c.in-Err-Place.ensures.untold) (c.look_watched.ensures.told opening events t0 h)),
       h.1,
       h.2,
+      tallied_refused history c.args.self.now.recorder c.start_watched.new.self _ c.args.self.now.tally same.0 c.requires.closed h.3,
     )
 
 pub returns-in-Err-Tick-clause-leaves : goal.returns-in-Err-Tick-clause-leaves
@@ -78,10 +88,11 @@ returns-in-Err-Tick-clause-leaves g c = λ history h.
           (λ opening events t0 h. look_from (c.in-Err-Tick.ensures.untold) (c.look_watched-in-Err-Tick.ensures.told opening events t0 h)),
       h.1,
       h.2,
+      tallied_refused history c.args.self.now.recorder c.start_watched.new.self _ c.args.self.now.tally same.0 c.requires.closed h.3,
     )
 
 pub returns-in-Err-Fault-clause-leaves : goal.returns-in-Err-Fault-clause-leaves
-returns-in-Err-Fault-clause-leaves g c = λ history h. (by_failed history h.0 (cases_Bool c.args.self.now.recorder.vault.failed), h.1, h.2)
+returns-in-Err-Fault-clause-leaves g c = λ history h. (by_failed history h.0 (cases_Bool c.args.self.now.recorder.vault.failed), h.1, h.2, tallied_fault history c.args.self.now.recorder c.start_watched.new.self _ c.args.self.now.tally (fails_after (cases_Bool c.args.self.now.recorder.vault.failed)) h.3)
   where
     by_failed : (history : List Mark) → IsKept (record { clock = g.O.Lent.clock; now = g.O.Lent.now; since = g.O.Lent.since; until = g.O.Lent.until; reads = g.O.Lent.reads; channels = g.O.Lent.channels; hears = g.W.Watch.hears; heard = g.O.Lent.heard }) g.O.Lent.began g.O.Lent.rates g.O.Lent.room g.O.Lent.sizes g.O.Lent.faults history (g.W.Watch.seen c.args.self.now.watch.now)
         c.args.self.now.recorder (g.M.Media.disk c.args.self.now.media.now) (g.M.Media.faults c.args.self.now.media.now)
@@ -111,6 +122,10 @@ returns-in-Err-Fault-clause-leaves g c = λ history h. (by_failed history h.0 (c
         })
         works c.requires.closed (inr fails) (λ goes. absurd (true≢false (sym fails ∙ goes)))
         (λ opening events t0 told has. c.in-Err-Fault.ensures.started opening events t0 told works has (fault_is_not c.in-Err-Fault.field-0 Place c.in-Err-Fault.field-0-is not_place) (fault_is_not c.in-Err-Fault.field-0 Tick c.in-Err-Fault.field-0-is not_tick))
+
+    fails_after : (c.args.self.now.recorder.vault.failed ≡ true) ⊎ (c.args.self.now.recorder.vault.failed ≡ false) → c.start_watched.new.self.vault.failed ≡ true
+    fails_after (inl fails) = ap (λ (r : RecorderState). r.vault.failed) (c.in-Err-Fault.ensures.refuses.failed fails).1 ∙ fails
+    fails_after (inr works) = c.in-Err-Fault.ensures.begins.fails (ap Err c.in-Err-Fault.field-0-is)
 
 -- a start that was answered otherwise than by a fault found no fault before it
 works_before : (failed : Bool) (e : StartRefused) (P : Type 0) → (failed ≡ true → ◌≡◌ {A = Result (Unit {0}) StartRefused} (Err e) (Err Fault)) → (Fault ≡ e → ⊥) → (failed ≡ false → P) → P

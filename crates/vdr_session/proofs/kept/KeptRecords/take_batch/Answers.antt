@@ -15,6 +15,8 @@ use Rattle.vdr_session.specs.declared.mark.Mark.{Mark}
 use Rattle.vdr_session.proofs.MarkLemmas.{mark_is, rose_of}
 use Rattle.vdr_recorder.specs.Recordings.{RecorderState}
 use Rattle.vdr_recorder.proofs.Telling.{untold_err}
+use Rattle.vdr_session.specs.Marks.{is_begun, taken_in}
+use Rattle.vdr_session.proofs.Tallied.{tallied_batch}
 use Rattle.vdr_session.proofs.Steps.{batch_kept, batch_look_kept, untold_look}
 use Rattle.vdr_session.proofs.kept.KeptRecords.take_batch.Goals as goal
 
@@ -38,7 +40,7 @@ take_batch_watched-requires-clause-fits g c =
     }
 
 pub returns-clause-leaves : goal.returns-clause-leaves
-returns-clause-leaves g c = λ history h. (by_failed history h.0 (cases_Bool c.args.self.now.recorder.vault.failed), h.1, h.2)
+returns-clause-leaves g c = λ history h. (by_failed history h.0 (cases_Bool c.args.self.now.recorder.vault.failed), h.1, h.2, tallied_batch history c.args.self.now.recorder.vault.failed c.failed.result c.args.items.now _ _ c.take_unless.new.self c.failed.ensures (c.take_unless.ensures (is_begun history) (taken_in history) h.3))
   where
     by_failed : (history : List Mark) → (k : IsKept (record { clock = g.O.Lent.clock; now = g.O.Lent.now; since = g.O.Lent.since; until = g.O.Lent.until; reads = g.O.Lent.reads; channels = g.O.Lent.channels; hears = g.W.Watch.hears; heard = g.O.Lent.heard }) g.O.Lent.began g.O.Lent.rates g.O.Lent.room g.O.Lent.sizes g.O.Lent.faults history (g.W.Watch.seen c.args.self.now.watch.now) c.args.self.now.recorder
         (g.M.Media.disk c.args.self.now.media.now) (g.M.Media.faults c.args.self.now.media.now))

@@ -1,0 +1,30 @@
+use Rattle.std.proofs.Common.{◌≡◌, ◌+◌, ℕ, true, false, List, ◌++◌, length, take, drop, Option, None, Some, IfSome, IfNone, Bor, ap, sym, ◌∙◌}
+use Rattle.std.specs.Cmp.Lexicographic.{pointwise}
+use Rattle.std.specs.Option.{MatchOption}
+use Rattle.std.specs.Prelude.{nat_eq}
+use Rattle.std.proofs.lemmas.Bool.{true≢false}
+use Rattle.std.proofs.lemmas.List.{take-append-drop}
+use Rattle.std.proofs.lemmas.Slice.Eq.{bytes_eq-Decides}
+use Rattle.std.proofs.Math.Seq.{take-append_seam}
+use Rattle.vdr_control.proofs.word.behind.Goals as goal
+
+-- What the call tells.
+abbrev Stripped : List ℕ → List ℕ → Option (Bor (List ℕ)) → Type 0
+Stripped line front r =
+    MatchOption r (pointwise nat_eq (take (length front) line) front ≡ false) (λ x. (pointwise nat_eq (take (length front) line) front ≡ true) × (x.now ≡ drop (length front) line) × (length x.now + length front ≡ length line))
+
+found : (line front : List ℕ) (r : Option (Bor (List ℕ))) → Stripped line front r → IfSome r (λ rest. line ≡ front ++ rest.now)
+found line front None told = tt
+found line front (Some x) told =
+    sym (take-append-drop (length front) line) ∙ ap (λ (l : List ℕ). l ++ drop (length front) line) ((bytes_eq-Decides (take (length front) line) front).0 told.0) ∙ ap (λ (l : List ℕ). front ++ l) (sym told.1)
+
+none : (line front : List ℕ) (r : Option (Bor (List ℕ))) → Stripped line front r → IfNone r ((rest : List ℕ) → line ≡ front ++ rest → ⊥)
+none line front None told = λ rest e.
+    true≢false (sym ((bytes_eq-Decides (take (length front) line) front).1 (ap (λ (l : List ℕ). take (length front) l) e ∙ take-append_seam front rest)) ∙ told)
+none line front (Some x) told = tt
+
+pub returns-clause-found : goal.returns-clause-found
+returns-clause-found c = found c.args.line.now c.args.front.now c.strip_prefix.result c.strip_prefix.ensures.cases
+
+pub returns-clause-none : goal.returns-clause-none
+returns-clause-none c = none c.args.line.now c.args.front.now c.strip_prefix.result c.strip_prefix.ensures.cases
