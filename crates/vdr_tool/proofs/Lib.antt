@@ -7,6 +7,9 @@ pub mod FormatLemmas
 pub mod LifeGoesOn
 pub mod Lives
 pub mod ReplayEndings
+pub mod AnswerStatuses
+pub mod AnswerFailures
+pub mod ReplayStatuses
 pub mod ReplayLemmas
 pub mod SaveCompleteness
 pub mod SaveLemmas
@@ -18,3 +21,9 @@ pub mod TrialLemmas
 pub mod TrialRuns
 pub mod WordLemmas
 pub mod Heard
+pub mod AnswerCauses
+pub mod AnswerParts
+pub mod AnswerOwn
+pub mod AnswerFiles
+pub mod AnswerDone
+pub mod AllCommands

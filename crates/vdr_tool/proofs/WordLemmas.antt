@@ -7,6 +7,8 @@ use Rattle.vdr_entry.specs.declared.query.Medium.{Medium}
 use Rattle.vdr_entry.specs.declared.query.Medium.TheVariants.{Capsule, LongTerm, Incident}
 use Rattle.vdr_control.specs.Orders.{PlainOrder}
 use Rattle.vdr_control.specs.Orders.PlainOrder.{Play as PlayOrder, Status as StatusOrder, Save as SaveOrder, Release as ReleaseOrder, Incidents as IncidentsOrder, Evidence as EvidenceOrder, Tell as TellOrder}
+use Rattle.vdr_control.specs.Orders.PlainOrder.{Export as ExportOrder}
+use Rattle.vdr_control.specs.Orders.PlainOrder.{Health as HealthOrder}
 use Rattle.vdr_control.specs.Plays.{IsMedium, SpellsBound, SpellsPlay, medium_word}
 use Rattle.vdr_readout.specs.Informs.{IsWhole}
 use Rattle.vdr_readout.specs.Readings.{Reading, SpellsReading, plain_reading, reads}
@@ -29,8 +31,10 @@ as_asked StatusOrder = None
 as_asked (SaveOrder label) = None
 as_asked (ReleaseOrder id) = None
 as_asked IncidentsOrder = None
+as_asked HealthOrder = None
 as_asked (EvidenceOrder id) = None
 as_asked (TellOrder medium telling) = None
+as_asked (ExportOrder medium name from to exporting) = None
 as_asked (PlayOrder medium channel from to) = Some (record { medium = medium; channel = channel; from = from; to = to })
 
 -- The play of all records of a medium.
@@ -46,8 +50,10 @@ medium_in StatusOrder = None
 medium_in (SaveOrder label) = None
 medium_in (ReleaseOrder id) = None
 medium_in IncidentsOrder = None
+medium_in HealthOrder = None
 medium_in (EvidenceOrder id) = None
 medium_in (TellOrder medium telling) = None
+medium_in (ExportOrder medium name from to exporting) = None
 
 -- One order is one play.
 pub one_asked : (medium : Medium) (channel : List ℕ) (from to : ℤ) (asked : AskedPlay) → PlayOrder medium channel from to ≡ PlayOrder asked.medium asked.channel asked.from asked.to
@@ -70,8 +76,10 @@ last_in StatusOrder = None
 last_in (SaveOrder label) = None
 last_in (ReleaseOrder id) = None
 last_in IncidentsOrder = None
+last_in HealthOrder = None
 last_in (EvidenceOrder id) = None
 last_in (TellOrder medium telling) = None
+last_in (ExportOrder medium name from to exporting) = None
 
 first_same : (x y : List ℕ) (xs ys : List (List ℕ)) → x ∷ xs ≡ y ∷ ys → x ≡ y
 first_same x y xs ys e = cc

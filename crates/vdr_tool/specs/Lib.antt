@@ -16,3 +16,7 @@ pub mod Saves
 pub mod Summaries
 pub mod TrialParts
 pub mod Trials
+pub mod Possible
+pub mod Own
+pub mod Permits
+pub mod Answers

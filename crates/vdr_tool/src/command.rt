@@ -4,6 +4,7 @@ ghost use Rattle.vdr_tool.specs.Commands.{plain};
 ghost use Rattle.vdr_command.specs.Endings.{ending};
 ghost use Rattle.vdr_recorder.specs.Watched.{nothing_told};
 ghost use Rattle.vdr_tool.specs.Lives.{KeepsLife};
+ghost use Rattle.vdr_tool.specs.Answers.{Answers, Completes};
 ghost use Rattle.vdr_tool.specs.Runs.{Asks, Runs, TouchesAsked, page};
 ghost use Rattle.vdr_command.specs.declared.status.Status.TheVariants.{Words};
 
@@ -156,6 +157,10 @@ pub fn run_alone_watched<I: Source + Drop, O: Sink + Drop, M: Media + Drop, W: W
 
     // Media of this product stay so at every moment, and where nothing is formatted their life goes on.
     ensures lives { KeepsLife (Asks words.now) (M.disk world.old.media) (M.disk world.new.media) }
+
+    // Over all commands: each status comes only with its cause, and where nothing stands in the way, all is done.
+    ensures answers { let at = ⟦<World<I, O, M> as Outer>⟧.outside in Answers words.now (at world.old) (at world.new) W.hears (W.seen watch.new) result }
+    ensures completes { let at = ⟦<World<I, O, M> as Outer>⟧.outside in Completes words.now (at world.old) (at world.new) result }
 {
     let Some(command) = command_of(words) else {
         report(Status::Words, &mut world.output);
@@ -179,6 +184,8 @@ pub fn run_alone<I: Source + Drop, O: Sink + Drop, M: Media + Drop>(
     ensures runs { let at = ⟦<World<I, O, M> as Outer>⟧.outside in Runs words.now (at world.old) (at world.new) ⊥ nothing_told result }
     ensures touches { TouchesAsked words.now world.old.input world.new.input world.old.media world.new.media result }
     ensures lives { KeepsLife (Asks words.now) (M.disk world.old.media) (M.disk world.new.media) }
+    ensures answers { let at = ⟦<World<I, O, M> as Outer>⟧.outside in Answers words.now (at world.old) (at world.new) ⊥ nothing_told result }
+    ensures completes { let at = ⟦<World<I, O, M> as Outer>⟧.outside in Completes words.now (at world.old) (at world.new) result }
 {
     run_alone_watched(alloc, words, world, &mut Nobody {})
 }
